@@ -1,0 +1,2 @@
+//! bgp_attr.
+#![tactic(auto)]

@@ -1,0 +1,2 @@
+//! bgp_conf.
+#![tactic(auto)]

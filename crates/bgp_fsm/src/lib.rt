@@ -1,0 +1,2 @@
+//! bgp_fsm.
+#![tactic(auto)]

@@ -1,0 +1,2 @@
+//! bgp_msg.
+#![tactic(auto)]

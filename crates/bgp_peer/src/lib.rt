@@ -1,0 +1,2 @@
+//! bgp_peer.
+#![tactic(auto)]

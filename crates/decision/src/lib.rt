@@ -1,0 +1,2 @@
+//! decision.
+#![tactic(auto)]

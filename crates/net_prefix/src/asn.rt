@@ -1,0 +1,14 @@
+//! AS numbers of four octets (RFC 6793).
+
+use std::fmt;
+
+/// An AS number.
+#[derive(Clone, Copy, Debug, PartialEq, Eq, PartialOrd, Ord)]
+pub struct Asn(pub u32);
+
+impl fmt::Display for Asn {
+    fn fmt<W: fmt::Write>(&self, f: &mut fmt::Formatter<W>) -> fmt::Result {
+        let number = self.0;
+        write!(f, "AS{number}")
+    }
+}

@@ -1,0 +1,4 @@
+//! Plays scenario lines.
+#![tactic(auto)]
+
+fn main() {}

@@ -1,0 +1,2 @@
+//! rib_in.
+#![tactic(auto)]

@@ -1,0 +1,2 @@
+//! rib_out.
+#![tactic(auto)]

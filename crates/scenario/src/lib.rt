@@ -1,0 +1,2 @@
+//! scenario.
+#![tactic(auto)]

@@ -1,0 +1,2 @@
+//! speaker.
+#![tactic(auto)]
