@@ -12,5 +12,5 @@ mod transport;
 
 pub use asn::Asn;
 pub use fault::PrefixFault;
-pub use prefix::Prefix;
+pub use prefix::{Prefix, read_prefix};
 pub use transport::Transport;
