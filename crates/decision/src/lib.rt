@@ -1,2 +1,14 @@
-//! decision.
+//! The selection of the best route of a prefix (RFC 4271 section 9.1).
+//!
+//! `choose` answers the one candidate that the selection leaves: those of the greatest degree of preference, then
+//! step by step those that no other one left beats. `one_best` says that candidates which differ in degree or
+//! address always leave one. The policies, and what makes a route a candidate, stand above. No call takes memory.
 #![tactic(auto)]
+
+mod candidate;
+mod meter;
+mod selection;
+
+pub use candidate::{Candidate, LOCAL_SLOT, MAX_CANDIDATES};
+pub use meter::Meter;
+pub use selection::{choose, one_best};

@@ -1,0 +1,65 @@
+-- The selection of a prefix's best route (RFC 4271 sections 9.1.1 and 9.1.2.2).
+use Rattle.std.specs.Prelude.{◌≡◌, ◌≢◌, ℕ, Bool, nat_lt, not, ◌&&◌, List, [], ◌∷◌, filter, fold, AllPairs}
+use Rattle.std.specs.List.{list_any}
+use Rattle.bgp_attr.specs.declared.Origin.{Origin}
+use Rattle.bgp_attr.specs.declared.Origin.TheVariants.{Igp, Egp, Incomplete}
+use Rattle.decision.specs.declared.Candidate.{Candidate}
+
+-- the members that no member beats
+unfoldable pub unbeaten : (Candidate → Candidate → Bool) → List Candidate → List Candidate
+unbeaten beats cs = filter (λ c. not (list_any (λ d. beats d c) cs)) cs
+
+-- the degree of preference is greater
+abbrev pub has_greater_degree : Candidate → Candidate → Bool
+has_greater_degree d c = nat_lt c.degree d.degree
+
+-- (a) the path has fewer ASes
+abbrev pub has_fewer_ases : Candidate → Candidate → Bool
+has_fewer_ases d c = nat_lt d.path_length c.path_length
+
+-- the number of an ORIGIN
+abbrev pub origin_rank : Origin → ℕ
+origin_rank Igp = 0
+origin_rank Egp = 1
+origin_rank Incomplete = 2
+
+-- (b) the ORIGIN is lower
+abbrev pub has_lower_origin : Candidate → Candidate → Bool
+has_lower_origin d c = nat_lt (origin_rank d.origin) (origin_rank c.origin)
+
+-- (d) an external peer announced the one, and none the other
+abbrev pub is_external_alone : Candidate → Candidate → Bool
+is_external_alone d c = d.external && not c.external
+
+-- (e) the interior cost of the next hop is lower
+abbrev pub has_lower_cost : Candidate → Candidate → Bool
+has_lower_cost d c = nat_lt d.cost c.cost
+
+-- (f) the BGP Identifier of the peer is lower
+abbrev pub has_lower_identifier : Candidate → Candidate → Bool
+has_lower_identifier d c = nat_lt d.identifier c.identifier
+
+-- (g) the address of the peer is lower
+abbrev pub has_lower_address : Candidate → Candidate → Bool
+has_lower_address d c = nat_lt d.address c.address
+
+-- what the degrees of preference leave, and then each of the steps in turn
+abbrev pub selection : List Candidate → List Candidate
+selection cs =
+    fold (λ left beats. unbeaten beats left) cs
+        (has_greater_degree
+        ∷ has_fewer_ases
+        ∷ has_lower_origin
+        ∷ is_external_alone
+        ∷ has_lower_cost
+        ∷ has_lower_identifier
+        ∷ has_lower_address
+        ∷ [])
+
+-- the selection leaves c, and no other one
+abbrev pub IsSelected : List Candidate → Candidate → Type 0
+IsSelected cs c = selection cs ≡ c ∷ []
+
+-- any two of them differ in degree or in address
+abbrev pub AreDistinct : List Candidate → Type 0
+AreDistinct cs = AllPairs (λ c d. c.degree ≡ d.degree → c.address ≢ d.address) cs
