@@ -1,0 +1,158 @@
+//! One peer's Adj-RIB-Out.
+ghost use Rattle.std.specs.Prelude.{◌≡◌, [], ℕ, List, Option, None, Some, OnOk, OnErr, IfSome, IfNone, IsSome, IsTrue, ◌↔◌, if◌then◌else◌};
+ghost use Rattle.std.specs.Option.{option_copied};
+ghost use Rattle.net_prefix.specs.declared.prefix.Prefix.{Prefix};
+ghost use Rattle.rib_out.specs.Held.{held_at, is_prefix};
+
+use net_prefix::Prefix;
+use std::alloc::{AllocError, Allocator, Global};
+use std::collections::BTreeMap;
+use std::collections::btree_map;
+use std::marker::Model;
+use std::ops::Bound;
+
+/// The octets of a route's attributes.
+#[derive(Drop)]
+struct Octets<A: Allocator> {
+    octets: Vec<u8, A>,
+}
+
+impl<A: Allocator> Model for Octets<A> {
+    ghost use Rattle.std.specs.Prelude.{List, ℕ};
+
+    ghost Value = { List ℕ };
+
+    ghost view = { λ s. s.octets.items };
+}
+
+impl<A: Allocator> Octets<A> {
+    fn of(alloc: A, octets: &[u8]) -> Result<Self, AllocError>
+        ensures { IfOk result (λ copy. copy ≡ octets.now) }
+    {
+        Ok(Octets {
+            octets: Vec::from_slice(alloc, octets)?,
+        })
+    }
+
+    fn as_slice(&self) -> &[u8]
+        ensures { result.now ≡ self.now }
+    {
+        self.octets.as_slice()
+    }
+}
+
+/// What one peer was sent: the octets of the attributes of each prefix that it holds.
+#[derive(Drop)]
+pub struct AdjOut<A: Allocator = Global> {
+    alloc: A,
+    routes: BTreeMap<Prefix, Octets<A>, A>,
+}
+
+impl<A: Allocator> Model for AdjOut<A> {
+    ghost use Rattle.std.specs.Prelude.{List, ℕ};
+    ghost use Rattle.net_prefix.specs.declared.prefix.Prefix.{Prefix};
+
+    ghost Value = { List (Prefix × List ℕ) };
+
+    ghost view = { λ t. t.routes.entries };
+}
+
+impl<A: Allocator + Clone> AdjOut<A> {
+    /// A peer that holds nothing.
+    pub fn new(alloc: A) -> Result<Self, AllocError>
+        ensures { IfOk result (λ table. table ≡ []) }
+    {
+        let routes = BTreeMap::new(alloc.clone()?);
+        Ok(AdjOut { alloc, routes })
+    }
+
+    /// The octets that the peer holds of a prefix.
+    pub fn get(&self, prefix: Prefix) -> Option<&[u8]>
+        ensures { option_copied result ≡ held_at self.now prefix }
+    {
+        match self.routes.get(&prefix) {
+            Some(held) => Some(held.as_slice()),
+            None => None,
+        }
+    }
+
+    /// Whether the peer holds just these octets of a prefix.
+    pub fn holds(&self, prefix: Prefix, octets: &[u8]) -> bool
+        ensures { IsTrue result ↔ (held_at self.now prefix ≡ Some octets.now) }
+    {
+        match self.get(prefix) {
+            Some(held) => held == octets,
+            None => false,
+        }
+    }
+
+    /// The peer was sent a route with these attributes.
+    pub fn announce(&mut self, prefix: Prefix, octets: &[u8]) -> Result<(), AllocError>
+        ensures ok { OnOk result ((q : Prefix) → held_at self.new q ≡ (if is_prefix prefix q then Some octets.now else held_at self.old q)) }
+        ensures err { OnErr result (self.new ≡ self.old) }
+    {
+        let held = Octets::of(self.alloc.clone()?, octets)?;
+        match self.routes.insert(prefix, held) {
+            Ok(_) => Ok(()),
+            Err(_) => Err(AllocError),
+        }
+    }
+
+    /// The peer was sent a withdrawal of the prefix.
+    pub fn withdraw(&mut self, prefix: Prefix)
+        ensures { (q : Prefix) → held_at self.new q ≡ (if is_prefix prefix q then None else held_at self.old q) }
+    {
+        self.routes.remove(&prefix);
+    }
+
+    /// The peer holds nothing any more: its session has ended.
+    pub fn clear(&mut self)
+        ensures { self.new ≡ [] }
+    {
+        self.routes.clear();
+    }
+
+    /// The least prefix that the peer holds above the given one, or the least of all.
+    pub fn prefix_after(&self, after: Option<Prefix>) -> Option<Prefix>
+    {
+        let above = match &after {
+            Some(prefix) => Bound::Excluded(prefix),
+            None => Bound::Unbounded,
+        };
+        match self.routes.range((above, Bound::Unbounded)).next() {
+            Some((prefix, _)) => Some(*prefix),
+            None => None,
+        }
+    }
+
+    /// What the peer holds, in rising order of the prefixes.
+    pub fn held(&self) -> HeldRoutes<'_, A>
+    {
+        HeldRoutes {
+            rest: self.routes.iter(),
+        }
+    }
+}
+
+/// The prefixes that a peer holds, with the octets of their attributes.
+#[derive(Drop)]
+pub struct HeldRoutes<'a, A: Allocator = Global> {
+    rest: btree_map::Iter<'a, Prefix, Octets<A>>,
+}
+
+impl<'a, A: Allocator> Iterator for HeldRoutes<'a, A> {
+    type Item = (Prefix, &'a [u8]);
+
+    ghost use Rattle.std.specs.Iterator.{YieldsFirstBy, item_count};
+
+    ghost next_gives = { YieldsFirstBy (λ item. (item.0, item.1.now)) (λ held. held.rest) };
+
+    ghost remaining = { item_count (λ held. held.rest) };
+
+    fn next(&mut self) -> Option<(Prefix, &'a [u8])> {
+        match self.rest.next() {
+            Some((prefix, octets)) => Some((*prefix, octets.as_slice())),
+            None => None,
+        }
+    }
+}
