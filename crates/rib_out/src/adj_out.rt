@@ -1,5 +1,5 @@
 //! One peer's Adj-RIB-Out.
-ghost use Rattle.std.specs.Prelude.{◌≡◌, [], ℕ, List, Option, None, Some, OnOk, OnErr, IfSome, IfNone, IsSome, IsTrue, ◌↔◌, if◌then◌else◌};
+ghost use Rattle.std.specs.Prelude.{◌≡◌, [], ℕ, List, Option, None, Some, OnOk, OnErr, IfOk, IfSome, IfNone, IsSome, IsTrue, ◌↔◌, if◌then◌else◌};
 ghost use Rattle.std.specs.Option.{option_copied};
 ghost use Rattle.net_prefix.specs.declared.prefix.Prefix.{Prefix};
 ghost use Rattle.rib_out.specs.Held.{held_at, is_prefix};
