@@ -1,0 +1,34 @@
+//! What an operator commands.
+
+use bgp_attr::Mode;
+use net_prefix::{Asn, Prefix};
+
+/// What an operator sets for a peer.
+#[derive(Clone, Copy, Debug, PartialEq, Eq)]
+pub struct PeerConf<'a> {
+    /// The peer's AS.
+    pub asn: Asn,
+    /// The peer's address.
+    pub address: u32,
+    /// This speaker's address on that connection.
+    pub local: u32,
+    /// Which side connects.
+    pub mode: Mode,
+    /// The hold time to offer, in seconds (RFC 4271 section 4.2).
+    pub hold: u16,
+    /// The name of the import policy.
+    pub import: &'a str,
+    /// The name of the export policy.
+    pub export: &'a str,
+}
+
+/// A command to the speaker.
+#[derive(Clone, Copy, Debug, PartialEq, Eq)]
+pub enum Command<'a> {
+    /// Configures the peer of a slot.
+    AddPeer(u8, PeerConf<'a>),
+    /// Starts the session of a slot's peer.
+    Enable(u8),
+    /// Gives the next hops under a prefix their interior cost.
+    Reach(Prefix, u32),
+}
