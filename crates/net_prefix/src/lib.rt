@@ -8,9 +8,12 @@
 mod asn;
 mod fault;
 mod prefix;
+mod spelling;
+mod text;
 mod transport;
 
 pub use asn::Asn;
 pub use fault::PrefixFault;
-pub use prefix::{Prefix, read_prefix};
+pub use prefix::Prefix;
+pub use spelling::read_prefix;
 pub use transport::Transport;
