@@ -1,2 +1,26 @@
-//! speaker.
+//! The speaker: octets, losses of connection and commands in; the octets for each session and the tables out.
+//!
+//! One call of `Speaker::step` judges its event, updates the tables, chooses the routes of Loc-RIB again
+//! (RFC 4271 section 9.1) and queues to each Established peer the UPDATEs that it is owed. `Speaker::take`
+//! hands a peer's octets out. There is no clock and no socket in here: a list of calls is all that happens.
 #![tactic(auto)]
+
+mod choosing;
+mod config;
+mod event;
+mod link;
+mod queueing;
+mod receiving;
+mod runs;
+mod step;
+mod views;
+
+pub use bgp_attr::{Attrs, Mode};
+pub use bgp_conf::{Command, PeerConf, Refusal};
+pub use bgp_fsm::State;
+pub use config::Config;
+pub use event::{Event, Report};
+pub use net_prefix::Transport;
+pub use runs::{Trace, run};
+pub use step::Speaker;
+pub use views::{AdjRibIn, BestRoute, HeldRoutes, LocRib, WaitingPrefixes};

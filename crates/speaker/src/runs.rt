@@ -1,0 +1,31 @@
+//! A list of events, played on a new speaker.
+
+use crate::config::Config;
+use crate::event::{Event, Report};
+use crate::step::Speaker;
+use bgp_conf::Refusal;
+use std::alloc::{Allocator, Global};
+
+/// The answers to a list of events, and the speaker after them.
+#[derive(Drop)]
+pub struct Trace<A: Allocator = Global> {
+    /// The answer to each event, in order.
+    pub answers: Vec<Result<Report, Refusal>, A>,
+    pub speaker: Speaker<A>,
+}
+
+/// Plays events on a new speaker. Refused as `Speaker::new` is, and by 44.
+pub fn run<A: Allocator + Clone>(alloc: A, config: Config, events: &[Event<'_>]) -> Result<Trace<A>, Refusal> {
+    let Ok(for_speaker) = alloc.clone() else {
+        return Err(Refusal::NoMemory);
+    };
+    let mut speaker = Speaker::new(for_speaker, config)?;
+    let mut answers = Vec::new(alloc);
+    for event in events {
+        let answer = speaker.step(*event);
+        if answers.push(answer).is_err() {
+            return Err(Refusal::NoMemory);
+        }
+    }
+    Ok(Trace { answers, speaker })
+}
