@@ -1,2 +1,17 @@
-//! bgp_fsm.
+//! The session table: what one input makes of a session (RFC 4271 section 8.2.2, in this profile).
+//!
+//! A session is a value, and `Session::input` is one row of the table: the contract is one equation, `row_at` of
+//! `specs/SessionTable.antt`. Above the table stand laws in the words of the RFC. A peer has one connection, so there
+//! is no collision, no delayed open and no damping. Sessions close silently: no NOTIFICATION is sent, and no timer
+//! runs. No call takes memory.
 #![tactic(auto)]
+
+mod input;
+mod laws;
+mod session;
+mod state;
+
+pub use input::Input;
+pub use laws::{closes_what_is_open, entered_tells, established_begins, left_tells, open_answers_up};
+pub use session::{Effects, Outgoing, Session};
+pub use state::State;

@@ -1,0 +1,3 @@
+pub mod SessionTable
+pub mod Transports
+pub mod Laws
