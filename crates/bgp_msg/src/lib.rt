@@ -1,2 +1,21 @@
-//! bgp_msg.
+//! BGP-4 messages: cut out of a stream of octets, read and written (RFC 4271 sections 4 and 6).
+//!
+//! `read` judges the header at the front of a stream and answers the first message, the first fault of its
+//! header, or that more octets are needed. `read_open` and `read_update` read a body to a value or to its first
+//! fault; the writers give the octets of a message. Nothing here keeps a state, and nothing here sends.
 #![tactic(auto)]
+
+mod fault;
+mod frame;
+mod open_message;
+mod update;
+mod writing;
+
+pub use fault::{Fault, HeaderFault, OpenFault};
+pub use frame::{Frame, HEADER_OCTETS, MAX_MESSAGE, MessageType, Step, needed, read};
+pub use open_message::{Expected, Open, read_open};
+pub use update::{Prefixes, Update, read_update};
+pub use writing::{write_announcement, write_keepalive, write_open, write_withdrawal};
+
+#[cfg(test)]
+mod tests;

@@ -1,0 +1,3 @@
+pub mod MessageSpelling
+pub mod MessageFaults
+pub mod MessageStream

@@ -1,0 +1,2 @@
+//! Messages in octets, as a peer sends them.
+use super::*;

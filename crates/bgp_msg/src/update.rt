@@ -1,0 +1,102 @@
+//! The UPDATE message (RFC 4271 section 4.3).
+
+use bgp_attr::{Attrs, PeerKind, UpdateFault, read_attrs};
+use net_prefix::{Prefix, read_prefix};
+use std::alloc::Allocator;
+
+/// What an UPDATE says. Its prefixes are read again where they are asked for.
+#[derive(Drop)]
+pub struct Update<'a, A: Allocator> {
+    withdrawn: &'a [u8],
+    announced: &'a [u8],
+    attrs: Attrs<A>,
+}
+
+/// Prefixes in their wire form, one after another.
+#[derive(Clone, Copy, Debug)]
+pub struct Prefixes<'a> {
+    octets: &'a [u8],
+}
+
+impl<'a, A: Allocator> Update<'a, A> {
+    /// The prefixes that are withdrawn.
+    pub fn withdrawn(&self) -> Prefixes<'a> {
+        Prefixes { octets: self.withdrawn }
+    }
+
+    /// The prefixes that are announced: the network layer reachability information.
+    pub fn announced(&self) -> Prefixes<'a> {
+        Prefixes { octets: self.announced }
+    }
+
+    /// The path attributes.
+    pub fn attrs(&self) -> &Attrs<A> {
+        &self.attrs
+    }
+
+    /// The path attributes, to keep.
+    pub fn into_attrs(self) -> Attrs<A> {
+        let Update { withdrawn: _, announced: _, attrs } = self;
+        attrs
+    }
+}
+
+impl Iterator for Prefixes<'_> {
+    type Item = Prefix;
+
+    ghost remaining = { λ s. at_most (length s.octets.now) };
+
+    fn next(&mut self) -> Option<Prefix> {
+        let (prefix, used) = read_prefix(self.octets).ok()?;
+        let rest = self.octets.get(used..)?;
+        self.octets = rest;
+        Some(prefix)
+    }
+}
+
+/// The UPDATE of this body, or its first fault (RFC 4271 section 6.3). Own choice: the order of the checks,
+/// which is the order of the lines.
+pub fn read_update<'a, A: Allocator + Clone>(
+    alloc: A,
+    body: &'a [u8],
+    kind: PeerKind,
+) -> Result<Update<'a, A>, UpdateFault<'a>> {
+    let Some((withdrawn, attributes, announced)) = split_body(body) else {
+        return Err(UpdateFault::MalformedAttributeList);
+    };
+    if !are_prefixes(withdrawn) {
+        return Err(UpdateFault::InvalidNetworkField);
+    }
+    let attrs = read_attrs(alloc, attributes, kind)?;
+    if !announced.is_empty() {
+        if let Some(missing) = attrs.missing() {
+            return Err(UpdateFault::MissingWellKnown(missing));
+        }
+    }
+    if !are_prefixes(announced) {
+        return Err(UpdateFault::InvalidNetworkField);
+    }
+    Ok(Update { withdrawn, announced, attrs })
+}
+
+// The withdrawn routes, the path attributes and the octets behind them, where both lengths fit.
+fn split_body(body: &[u8]) -> Option<(&[u8], &[u8], &[u8])> {
+    let (withdrawn, rest) = split_counted(body)?;
+    let (attributes, announced) = split_counted(rest)?;
+    Some((withdrawn, attributes, announced))
+}
+
+// As many octets as the two at the front tell, and those behind them.
+fn split_counted(octets: &[u8]) -> Option<(&[u8], &[u8])> {
+    let [high, low, rest @ ..] = octets else {
+        return None;
+    };
+    rest.split_at_checked(usize::from(u16::from_be_bytes([*high, *low])))
+}
+
+// Whether the octets are prefixes in their wire form to the end.
+fn are_prefixes(octets: &[u8]) -> bool {
+    let mut prefixes = Prefixes { octets };
+    while prefixes.next().is_some() {}
+    prefixes.octets.is_empty()
+}
