@@ -1,2 +1,28 @@
-//! bgp_attr.
+//! Path attributes of an UPDATE: ORIGIN, AS_PATH and NEXT_HOP, how they are read, what is wrong with them, and how
+//! they are written.
+//!
+//! The first fault of an attribute list is looked for from left to right. Origin AS, neighbor AS, length and
+//! prepending are functions of the segments of a path (RFC 4271 sections 4.3, 5.1 and 6.3, RFC 6793 for AS numbers
+//! of four octets). Missing attributes are told apart from faulty ones, since only an UPDATE with routes needs them.
 #![tactic(auto)]
+
+mod as_path;
+mod attribute_type;
+mod attrs;
+mod fault;
+mod header;
+mod path_reading;
+mod path_writing;
+mod peer;
+mod prepending;
+mod reading;
+mod writing;
+
+pub use as_path::{AsPath, Segment, SegmentKind, neighbor_as, origin_as};
+pub use attribute_type::{AttributeType, Class};
+pub use attrs::{Attrs, Origin};
+pub use fault::UpdateFault;
+pub use peer::{Mode, PeerKind};
+pub use prepending::{PrependedPath, prepend};
+pub use reading::read_attrs;
+pub use writing::{AttrsToWrite, write_attrs};

@@ -1,0 +1,4 @@
+pub mod AsPath
+pub mod AttributeFaults
+pub mod AttributeTable
+pub mod PathAttributes

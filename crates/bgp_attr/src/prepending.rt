@@ -1,0 +1,59 @@
+//! Paths with an AS put in front (RFC 4271 section 5.1.2).
+ghost use Rattle.std.specs.Prelude.{◌≡◌};
+
+use crate::as_path::{AsPath, SegmentKind};
+use net_prefix::Asn;
+use std::alloc::{Allocator, Global};
+
+/// A path with an AS in front, some number of times. It borrows the path and takes no memory.
+#[derive_where(Clone, Copy)]
+pub struct PrependedPath<'a, A: Allocator = Global> {
+    pub(crate) path: &'a AsPath<A>,
+    pub(crate) asn: Asn,
+    pub(crate) times: u16,
+}
+
+/// The path with the AS put in front so many times; none leaves the path as it is. The AS joins a first AS_SEQUENCE of
+/// fewer than 255 ASes, and else begins a new one.
+pub fn prepend<A: Allocator>(path: &AsPath<A>, asn: Asn, times: u16) -> PrependedPath<'_, A> {
+    PrependedPath { path, asn, times }
+}
+
+// How the ASes in front are spread over segments: a new one of fewer than 255, then new ones of 255, and the rest in
+// the first segment of the path.
+#[derive(Clone, Copy)]
+pub(crate) struct Spread {
+    pub part: u8,
+    pub full: u16,
+    pub joining: u8,
+}
+
+impl<A: Allocator> PrependedPath<'_, A> {
+    // How many ASes the first segment of the path can still take.
+    fn room(&self) -> u8 {
+        match self.path.segments() {
+            [first, ..] => match first.kind() {
+                SegmentKind::Set => 0,
+                SegmentKind::Sequence => 255 - first.asns().len() as u8,
+            },
+            [] => 0,
+        }
+    }
+
+    pub(crate) fn spread(&self) -> Spread {
+        let joining = self.times.min(u16::from(self.room()));
+        let new = self.times - joining;
+        Spread {
+            part: (new % 255) as u8,
+            full: new / 255,
+            joining: joining as u8,
+        }
+    }
+
+    // The octets that the path takes.
+    pub(crate) fn octets(&self) -> usize {
+        let spread = self.spread();
+        let new = usize::from(spread.full) + usize::from(spread.part != 0);
+        self.path.octets() + 4 * usize::from(self.times) + 2 * new
+    }
+}
