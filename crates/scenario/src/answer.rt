@@ -1,0 +1,79 @@
+//! The answers of a script.
+
+use bgp_conf::PEER_SLOTS;
+use bgp_fsm::State;
+use net_prefix::Prefix;
+use speaker::BestRoute;
+use std::fmt;
+
+/// One line of what a script answers.
+#[derive(Clone, Copy, Debug, PartialEq, Eq)]
+pub enum Answer<'a> {
+    /// `ok`, and the slots that were closed for want of memory (a bit for each).
+    Done(u64),
+    /// `refused NUMBER`
+    Refused(u8),
+    /// `out HEX`, or `out -` where there is nothing, and the slots that were closed for want of memory.
+    Out(&'a [u8], u64),
+    /// `SLOT STATE`
+    Session(u8, State),
+    /// `PREFIX SLOT NotFound DEGREE`: without payloads each route is NotFound (RFC 6811 section 2).
+    Best(BestRoute),
+    /// `PREFIX HEX`, a route with its attributes.
+    Route(Prefix, &'a [u8]),
+    /// `PREFIX`, which waits.
+    Waiting(Prefix),
+    /// `end` of a table.
+    End,
+}
+
+impl fmt::Display for Answer<'_> {
+    fn fmt<W: fmt::Write>(&self, f: &mut fmt::Formatter<W>) -> fmt::Result {
+        match self {
+            Answer::Done(starved) => {
+                write!(f, "ok")?;
+                write_starved(f, *starved)
+            }
+            Answer::Refused(number) => write!(f, "refused {number}"),
+            Answer::Out(octets, starved) => {
+                write!(f, "out ")?;
+                if octets.is_empty() {
+                    write!(f, "-")?;
+                }
+                write_octets(f, octets)?;
+                write_starved(f, *starved)
+            }
+            Answer::Session(slot, state) => write!(f, "{slot} {state}"),
+            Answer::Best(route) => {
+                let (prefix, slot, degree) = (route.prefix, route.slot, route.degree);
+                write!(f, "{prefix} {slot} NotFound {degree}")
+            }
+            Answer::Route(prefix, octets) => {
+                write!(f, "{prefix} ")?;
+                write_octets(f, octets)
+            }
+            Answer::Waiting(prefix) => write!(f, "{prefix}"),
+            Answer::End => write!(f, "end"),
+        }
+    }
+}
+
+fn write_octets<W: fmt::Write>(f: &mut fmt::Formatter<W>, octets: &[u8]) -> fmt::Result {
+    for octet in octets {
+        write!(f, "{octet:02X}")?;
+    }
+    Ok(())
+}
+
+fn write_starved<W: fmt::Write>(f: &mut fmt::Formatter<W>, starved: u64) -> fmt::Result {
+    if starved == 0 {
+        return Ok(());
+    }
+    write!(f, " starved")?;
+    for slot in 0..PEER_SLOTS {
+        if (starved >> slot) & 1 == 1 {
+            write!(f, " {slot}")?;
+        }
+    }
+    Ok(())
+}

@@ -1,0 +1,246 @@
+//! Playing a script.
+
+use crate::answer::Answer;
+use crate::line::{Line, LineFault, Table};
+use arrayvec::ArrayVec;
+use bgp_attr::write_attrs;
+use bgp_conf::{Command, PEER_SLOTS};
+use speaker::{Config, Event, Speaker};
+use std::alloc::{AllocError, Global};
+use std::io::{self, BufRead, ErrorKind, Write};
+use thiserror::Error;
+
+/// The most octets that one `take` hands out: as many as a peer's ring holds.
+const MAX_TAKE: usize = 65_536;
+
+/// What ends a run before the end of its script.
+#[derive(Clone, Copy, Debug, PartialEq, Eq, Error)]
+pub enum PlayFault {
+    /// The line of this number, counted from 1, is no line of the language or comes before the line that it needs.
+    #[error("line {0}: bad line")]
+    BadLine(u64),
+    /// The script can't be read, or the answers can't be written.
+    #[error("device")]
+    Device,
+    /// There is no memory for a line.
+    #[error("no memory")]
+    NoMemory,
+}
+
+impl From<AllocError> for PlayFault {
+    fn from(_error: AllocError) -> PlayFault {
+        PlayFault::NoMemory
+    }
+}
+
+impl From<io::Error> for PlayFault {
+    fn from(error: io::Error) -> PlayFault {
+        if error.kind() == ErrorKind::OutOfMemory {
+            PlayFault::NoMemory
+        } else {
+            PlayFault::Device
+        }
+    }
+}
+
+/// Plays a script: answers each line before the next one is read.
+pub fn play<R: BufRead + Drop, W: Write>(
+    alloc: Global,
+    mut reader: R,
+    writer: &mut W,
+) -> Result<(), PlayFault> {
+    let mut stage = Stage::new(alloc)?;
+    let mut text = Vec::new(alloc);
+    for number in 1..u64::MAX {
+        text.clear();
+        if reader.read_until(b'\n', &mut text)? == 0 {
+            return Ok(());
+        }
+        stage.play_line(number, without_line_end(text.as_slice()), writer)?;
+    }
+    Err(PlayFault::Device)
+}
+
+// A line without its line feed and the carriage return before that.
+fn without_line_end(text: &[u8]) -> &[u8] {
+    match text {
+        [text @ .., b'\r', b'\n'] | [text @ .., b'\n'] => text,
+        _ => text,
+    }
+}
+
+// What a script has made so far: its speaker, and room for what that hands out.
+#[derive(Drop)]
+struct Stage {
+    alloc: Global,
+    speaker: Option<Speaker>,
+    taken: Vec<u8>,
+}
+
+impl Stage {
+    fn new(alloc: Global) -> Result<Stage, AllocError> {
+        let taken = vec![in alloc; 0; MAX_TAKE]?;
+        Ok(Stage {
+            alloc,
+            speaker: None,
+            taken,
+        })
+    }
+
+    fn play_line<W: Write>(
+        &mut self,
+        number: u64,
+        text: &[u8],
+        writer: &mut W,
+    ) -> Result<(), PlayFault> {
+        if text.is_empty() || text.starts_with(b"#") {
+            return Ok(());
+        }
+        let bad_line = PlayFault::BadLine(number);
+        if !text.is_ascii() {
+            return Err(bad_line);
+        }
+        let text = std::str::from_utf8(text).map_err(|_| bad_line)?;
+        match Line::parse(self.alloc, text) {
+            Ok(Line::Speaker(config)) => self.begin(config, bad_line, writer),
+            Ok(line) => self.drive(line, bad_line, writer),
+            Err(LineFault::BadLine) => Err(bad_line),
+            Err(LineFault::NoMemory) => Err(PlayFault::NoMemory),
+        }
+    }
+
+    fn begin<W: Write>(
+        &mut self,
+        config: Config,
+        bad_line: PlayFault,
+        writer: &mut W,
+    ) -> Result<(), PlayFault> {
+        if self.speaker.is_some() {
+            return Err(bad_line);
+        }
+        match Speaker::new(self.alloc, config) {
+            Ok(speaker) => {
+                self.speaker = Some(speaker);
+                write_answer(writer, Answer::Done(0))
+            }
+            Err(refusal) => write_answer(writer, Answer::Refused(refusal.number())),
+        }
+    }
+
+    fn drive<W: Write>(
+        &mut self,
+        line: Line<'_>,
+        bad_line: PlayFault,
+        writer: &mut W,
+    ) -> Result<(), PlayFault> {
+        let Some(speaker) = &mut self.speaker else {
+            return Err(bad_line);
+        };
+        let room = self.taken.as_mut_slice();
+        match line {
+            Line::Speaker(_) => Err(bad_line),
+            Line::Peer(slot, conf) => command(speaker, Command::AddPeer(slot, conf), writer),
+            Line::Enable(slot) => command(speaker, Command::Enable(slot), writer),
+            Line::Reach(prefix, cost) => command(speaker, Command::Reach(prefix, cost), writer),
+            Line::Up(slot) => step(speaker, Event::Up(slot), writer),
+            Line::Fail(slot) => step(speaker, Event::Fail(slot), writer),
+            Line::Bytes(slot, octets) => {
+                step(speaker, Event::Bytes(slot, octets.as_slice()), writer)
+            }
+            Line::Take(slot, max) => take(speaker, slot, max, room, writer),
+            Line::Show(table) => show(speaker, table, writer),
+        }
+    }
+}
+
+fn write_answer<W: Write>(writer: &mut W, answer: Answer<'_>) -> Result<(), PlayFault> {
+    writeln!(writer, "{answer}")?;
+    Ok(())
+}
+
+fn command<W: Write>(
+    speaker: &mut Speaker,
+    command: Command<'_>,
+    writer: &mut W,
+) -> Result<(), PlayFault> {
+    step(speaker, Event::Command(command), writer)
+}
+
+fn step<W: Write>(
+    speaker: &mut Speaker,
+    event: Event<'_>,
+    writer: &mut W,
+) -> Result<(), PlayFault> {
+    match speaker.step(event) {
+        Ok(report) => write_answer(writer, Answer::Done(report.starved)),
+        Err(refusal) => write_answer(writer, Answer::Refused(refusal.number())),
+    }
+}
+
+// Hands out at most `max` octets, and no more than there is room for.
+fn take<W: Write>(
+    speaker: &mut Speaker,
+    slot: u8,
+    max: u32,
+    room: &mut [u8],
+    writer: &mut W,
+) -> Result<(), PlayFault> {
+    let most = room.len().min(max as usize);
+    match speaker.take(slot, &mut room[..most]) {
+        Ok((count, report)) => {
+            let octets = &room[..count.min(room.len())];
+            write_answer(writer, Answer::Out(octets, report.starved))
+        }
+        Err(refusal) => write_answer(writer, Answer::Refused(refusal.number())),
+    }
+}
+
+fn show<W: Write>(speaker: &Speaker, table: Table, writer: &mut W) -> Result<(), PlayFault> {
+    match table {
+        Table::Sessions => show_sessions(speaker, writer)?,
+        Table::Rib => show_rib(speaker, writer)?,
+        Table::In(slot) => show_in(speaker, slot, writer)?,
+        Table::Held(slot) => show_held(speaker, slot, writer)?,
+        Table::Waiting(slot) => show_waiting(speaker, slot, writer)?,
+    }
+    write_answer(writer, Answer::End)
+}
+
+fn show_sessions<W: Write>(speaker: &Speaker, writer: &mut W) -> Result<(), PlayFault> {
+    for slot in 0..PEER_SLOTS {
+        if let Some(state) = speaker.session(slot) {
+            write_answer(writer, Answer::Session(slot, state))?;
+        }
+    }
+    Ok(())
+}
+
+fn show_rib<W: Write>(speaker: &Speaker, writer: &mut W) -> Result<(), PlayFault> {
+    for route in speaker.loc_rib() {
+        write_answer(writer, Answer::Best(route))?;
+    }
+    Ok(())
+}
+
+fn show_in<W: Write>(speaker: &Speaker, slot: u8, writer: &mut W) -> Result<(), PlayFault> {
+    let mut octets = ArrayVec::new();
+    for (prefix, attrs) in speaker.adj_in(slot) {
+        write_attrs(&attrs.as_received(), &mut octets);
+        write_answer(writer, Answer::Route(prefix, octets.as_slice()))?;
+    }
+    Ok(())
+}
+
+fn show_held<W: Write>(speaker: &Speaker, slot: u8, writer: &mut W) -> Result<(), PlayFault> {
+    for (prefix, octets) in speaker.held(slot) {
+        write_answer(writer, Answer::Route(prefix, octets))?;
+    }
+    Ok(())
+}
+
+fn show_waiting<W: Write>(speaker: &Speaker, slot: u8, writer: &mut W) -> Result<(), PlayFault> {
+    for prefix in speaker.waiting(slot) {
+        write_answer(writer, Answer::Waiting(prefix))?;
+    }
+    Ok(())
+}
