@@ -1,0 +1,2 @@
+pub mod LatestRoutes
+pub mod RibNumbers

@@ -1,0 +1,153 @@
+//! The routes by prefix and slot.
+ghost use Rattle.std.specs.Prelude.{◌≡◌, [], ℕ, List, Option, None, Some, OnOk, OnErr, IfSome, IfNone, IsSome, ◌==◌, false, if◌then◌else◌};
+ghost use Rattle.std.specs.Option.{option_copied};
+ghost use Rattle.std.specs.Ordering.{is_gt};
+ghost use Rattle.net_prefix.specs.declared.prefix.Prefix.{Prefix};
+ghost use Rattle.rib_in.specs.LatestRoutes.{route_at, is_route, prefix_cmp, IsAbove, HasRoute};
+
+use crate::fault::RibFault;
+use bgp_attr::Attrs;
+use net_prefix::Prefix;
+use std::alloc::{Allocator, Global};
+use std::collections::BTreeMap;
+use std::collections::btree_map;
+use std::marker::Model;
+use std::ops::Bound;
+use std::rc::Rc;
+
+/// Of which prefix and slot a route is. Routes are ordered by prefix, then by slot.
+#[derive(Clone, Copy, Debug, PartialEq, Eq, PartialOrd, Ord)]
+pub struct RouteKey {
+    pub prefix: Prefix,
+    pub slot: u8,
+}
+
+// Attributes that the routes of one UPDATE share.
+#[derive(Drop)]
+struct SharedAttrs<A: Allocator> {
+    attrs: Rc<Attrs<A>, A>,
+}
+
+impl<A: Allocator> Model for SharedAttrs<A> {
+    ghost use Rattle.bgp_attr.specs.PathAttributes.{PathAttributes};
+
+    ghost Value = { PathAttributes };
+
+    ghost view = { λ s. s.attrs.value };
+}
+
+impl<A: Allocator> SharedAttrs<A> {
+    fn attrs(&self) -> &Attrs<A>
+        ensures { result.now ≡ self.now }
+    {
+        &self.attrs
+    }
+}
+
+/// The latest route of each slot and prefix.
+#[derive(Drop)]
+pub struct AdjIn<A: Allocator = Global> {
+    routes: BTreeMap<RouteKey, SharedAttrs<A>, A>,
+}
+
+impl<A: Allocator> Model for AdjIn<A> {
+    ghost use Rattle.std.specs.Prelude.{List};
+    ghost use Rattle.bgp_attr.specs.PathAttributes.{PathAttributes};
+    ghost use Rattle.rib_in.specs.declared.adj_in.RouteKey.{RouteKey};
+
+    ghost Value = { List (RouteKey × PathAttributes) };
+
+    ghost view = { λ t. t.routes.entries };
+}
+
+impl<A: Allocator + Clone> AdjIn<A> {
+    /// No routes.
+    pub fn new(alloc: A) -> Self
+        ensures { result ≡ [] }
+    {
+        AdjIn {
+            routes: BTreeMap::new(alloc),
+        }
+    }
+
+    /// The attributes of the latest route of the slot to the prefix.
+    pub fn get(&self, slot: u8, prefix: Prefix) -> Option<&Attrs<A>>
+        ensures { option_copied result ≡ route_at self.now slot prefix }
+    {
+        match self.routes.get(&RouteKey { prefix, slot }) {
+            Some(shared) => Some(shared.attrs()),
+            None => None,
+        }
+    }
+
+    /// The slot announced a route to the prefix, which replaces the one before it (RFC 4271 section 3.1).
+    pub fn announce(&mut self, slot: u8, prefix: Prefix, attrs: Rc<Attrs<A>, A>) -> Result<(), RibFault>
+        ensures ok { OnOk result ((s : ℕ) (p : Prefix) → route_at self.new s p ≡ (if is_route slot prefix s p then Some attrs.value else route_at self.old s p)) }
+        ensures err { OnErr result (self.new ≡ self.old) }
+    {
+        match self.routes.insert(RouteKey { prefix, slot }, SharedAttrs { attrs }) {
+            Ok(_) => Ok(()),
+            Err(_) => Err(RibFault::NoMemory),
+        }
+    }
+
+    /// The slot withdrew its route to the prefix.
+    pub fn withdraw(&mut self, slot: u8, prefix: Prefix)
+        ensures { (s : ℕ) (p : Prefix) → route_at self.new s p ≡ (if is_route slot prefix s p then None else route_at self.old s p) }
+    {
+        self.routes.remove(&RouteKey { prefix, slot });
+    }
+
+    /// The slot's session has ended: none of its routes is kept.
+    pub fn drop_slot(&mut self, slot: u8)
+        ensures { (s : ℕ) (p : Prefix) → route_at self.new s p ≡ (if s == slot then None else route_at self.old s p) }
+    {
+        self.routes.retain(|key, _| key.slot != slot);
+    }
+
+    /// The least prefix above the given one to which a slot has a route, or the least of all.
+    pub fn prefix_after(&self, after: Option<Prefix>) -> Option<Prefix>
+    {
+        let above = match after {
+            Some(prefix) => Bound::Excluded(RouteKey { prefix, slot: u8::MAX }),
+            None => Bound::Unbounded,
+        };
+        match self.routes.range((above, Bound::Unbounded)).next() {
+            Some((key, _)) => Some(key.prefix),
+            None => None,
+        }
+    }
+
+    /// The routes, in rising order of prefix, then slot.
+    pub fn routes(&self) -> Routes<'_, A>
+    {
+        Routes {
+            rest: self.routes.iter(),
+        }
+    }
+}
+
+/// Routes in rising order: the prefix, the slot and the attributes of each.
+#[derive(Drop)]
+pub struct Routes<'a, A: Allocator = Global> {
+    rest: btree_map::Iter<'a, RouteKey, SharedAttrs<A>>,
+}
+
+impl<'a, A: Allocator> Iterator for Routes<'a, A> {
+    type Item = (Prefix, u8, &'a Attrs<A>);
+
+    ghost use Rattle.std.specs.Iterator.{YieldsFirstBy, item_count};
+    ghost use Rattle.rib_in.specs.declared.adj_in.RouteKey.{RouteKey};
+    ghost use Rattle.rib_in.specs.LatestRoutes.{entry_of};
+
+    ghost next_gives = { YieldsFirstBy (λ item. entry_of item.0 item.1 item.2.now) (λ routes. routes.rest) };
+
+    ghost remaining = { item_count (λ routes. routes.rest) };
+
+    fn next(&mut self) -> Option<(Prefix, u8, &'a Attrs<A>)> {
+        match self.rest.next() {
+            Some((key, shared)) => Some((key.prefix, key.slot, shared.attrs())),
+            None => None,
+        }
+    }
+}
