@@ -2,7 +2,8 @@ use Rattle.std.specs.Prelude.{◌≡◌, ℕ, Bool, List, Option, Some, None, Is
 use Rattle.std.specs.declared.cmp.Ordering.{Ordering}
 use Rattle.std.specs.declared.cmp.Ordering.TheVariants.{Less}
 use Rattle.std.specs.Ordering.{nat_cmp, ordering_then, is_eq}
-use Rattle.std.specs.Map.{lookup}
+use Rattle.std.specs.List.Sorted.{IsStrictlySortedBy}
+use Rattle.std.specs.Map.{lookup, keys_of}
 use Rattle.net_prefix.specs.declared.prefix.Prefix.{Prefix}
 use Rattle.bgp_attr.specs.PathAttributes.{PathAttributes}
 use Rattle.rib_in.specs.declared.adj_in.RouteKey.{RouteKey}
@@ -13,6 +14,10 @@ use Rattle.rib_in.specs.declared.adj_in.RouteKey.{RouteKey}
 -- the order of prefixes: by address, then by length
 abbrev pub prefix_cmp : Prefix → Prefix → Ordering
 prefix_cmp p q = ordering_then (nat_cmp p.bits q.bits) (nat_cmp p.len q.len)
+
+-- the order of routes: by prefix, then by slot
+abbrev pub key_cmp : RouteKey → RouteKey → Ordering
+key_cmp a b = ordering_then (prefix_cmp a.prefix b.prefix) (nat_cmp a.slot b.slot)
 
 -- whether both name one route: the same prefix and the same slot
 abbrev pub is_route : ℕ → Prefix → ℕ → Prefix → Bool
@@ -25,6 +30,10 @@ route_at table slot prefix = lookup (λ key. is_route slot prefix key.slot key.p
 -- a route as the table's entry
 abbrev pub entry_of : Prefix → ℕ → PathAttributes → RouteKey × PathAttributes
 entry_of prefix slot attrs = (record { prefix = prefix; slot = slot }, attrs)
+
+-- the routes rise by prefix, then by slot
+abbrev pub IsRising : List (RouteKey × PathAttributes) → Type 0
+IsRising table = IsStrictlySortedBy key_cmp (keys_of table)
 
 -- a prefix stands above the given one, where one is given
 abbrev pub IsAbove : Option Prefix → Prefix → Type 0

@@ -1,9 +1,11 @@
 //! The routes by prefix and slot.
-ghost use Rattle.std.specs.Prelude.{◌≡◌, [], ℕ, List, Option, None, Some, OnOk, OnErr, IfSome, IfNone, IsSome, ◌==◌, false, if◌then◌else◌};
+ghost use Rattle.std.specs.Prelude.{◌≡◌, [], ℕ, None, Some, OnOk, OnErr, IfSome, IfNone, IsSome, ◌==◌, false, if◌then◌else◌};
 ghost use Rattle.std.specs.Option.{option_copied};
 ghost use Rattle.std.specs.Ordering.{is_gt};
+ghost use Rattle.std.specs.declared.cmp.Ordering.TheVariants.{Less};
+ghost use Rattle.std.specs.Iterator.{YieldsFirstBy, item_count};
 ghost use Rattle.net_prefix.specs.declared.prefix.Prefix.{Prefix};
-ghost use Rattle.rib_in.specs.LatestRoutes.{route_at, is_route, prefix_cmp, IsAbove, HasRoute};
+ghost use Rattle.rib_in.specs.LatestRoutes.{route_at, is_route, prefix_cmp, entry_of, IsAbove, HasRoute, IsRising};
 
 use crate::fault::RibFault;
 use bgp_attr::Attrs;
@@ -107,12 +109,41 @@ impl<A: Allocator + Clone> AdjIn<A> {
 
     /// The least prefix above the given one to which a slot has a route, or the least of all.
     pub fn prefix_after(&self, after: Option<Prefix>) -> Option<Prefix>
+        ensures has { IfSome result (λ p. HasRoute self.now p) }
+        ensures above { IfSome result (λ p. IsAbove after p) }
+        ensures least { IfSome result (λ p. (s : ℕ) (q : Prefix) → IsAbove after q → IsSome (route_at self.now s q) → is_gt (prefix_cmp p q) ≡ false) }
+        ensures none { IfNone result ((s : ℕ) (q : Prefix) → IsAbove after q → route_at self.now s q ≡ None) }
     {
-        let above = match after {
-            Some(prefix) => Bound::Excluded(RouteKey { prefix, slot: u8::MAX }),
-            None => Bound::Unbounded,
+        match after {
+            Some(prefix) => self.prefix_above(prefix),
+            None => self.first_prefix(),
+        }
+    }
+
+    fn prefix_above(&self, after: Prefix) -> Option<Prefix>
+        ensures has { IfSome result (λ p. HasRoute self.now p) }
+        ensures above { IfSome result (λ p. prefix_cmp after p ≡ Less) }
+        ensures least { IfSome result (λ p. (s : ℕ) (q : Prefix) → prefix_cmp after q ≡ Less → IsSome (route_at self.now s q) → is_gt (prefix_cmp p q) ≡ false) }
+        ensures none { IfNone result ((s : ℕ) (q : Prefix) → prefix_cmp after q ≡ Less → route_at self.now s q ≡ None) }
+    {
+        // No slot is above 255, so that this key is above each route to the prefix.
+        let last = RouteKey {
+            prefix: after,
+            slot: u8::MAX,
         };
-        match self.routes.range((above, Bound::Unbounded)).next() {
+        let mut above = self.routes.range((Bound::Excluded(last), Bound::Unbounded));
+        match above.next() {
+            Some((key, _)) => Some(key.prefix),
+            None => None,
+        }
+    }
+
+    fn first_prefix(&self) -> Option<Prefix>
+        ensures has { IfSome result (λ p. HasRoute self.now p) }
+        ensures least { IfSome result (λ p. (s : ℕ) (q : Prefix) → IsSome (route_at self.now s q) → is_gt (prefix_cmp p q) ≡ false) }
+        ensures none { IfNone result ((s : ℕ) (q : Prefix) → route_at self.now s q ≡ None) }
+    {
+        match self.routes.first_key_value() {
             Some((key, _)) => Some(key.prefix),
             None => None,
         }
@@ -120,6 +151,8 @@ impl<A: Allocator + Clone> AdjIn<A> {
 
     /// The routes, in rising order of prefix, then slot.
     pub fn routes(&self) -> Routes<'_, A>
+        ensures all { result ≡ self.now }
+        ensures rising { IsRising self.now }
     {
         Routes {
             rest: self.routes.iter(),
@@ -133,16 +166,22 @@ pub struct Routes<'a, A: Allocator = Global> {
     rest: btree_map::Iter<'a, RouteKey, SharedAttrs<A>>,
 }
 
+impl<'a, A: Allocator> Model for Routes<'a, A> {
+    ghost use Rattle.std.specs.Prelude.{List};
+    ghost use Rattle.bgp_attr.specs.PathAttributes.{PathAttributes};
+    ghost use Rattle.rib_in.specs.declared.adj_in.RouteKey.{RouteKey};
+
+    ghost Value = { List (RouteKey × PathAttributes) };
+
+    ghost view = { λ routes. routes.rest };
+}
+
 impl<'a, A: Allocator> Iterator for Routes<'a, A> {
     type Item = (Prefix, u8, &'a Attrs<A>);
 
-    ghost use Rattle.std.specs.Iterator.{YieldsFirstBy, item_count};
-    ghost use Rattle.rib_in.specs.declared.adj_in.RouteKey.{RouteKey};
-    ghost use Rattle.rib_in.specs.LatestRoutes.{entry_of};
+    ghost next_gives = { YieldsFirstBy (λ item. entry_of item.0 item.1 item.2.now) (λ rest. rest) };
 
-    ghost next_gives = { YieldsFirstBy (λ item. entry_of item.0 item.1 item.2.now) (λ routes. routes.rest) };
-
-    ghost remaining = { item_count (λ routes. routes.rest) };
+    ghost remaining = { item_count (λ rest. rest) };
 
     fn next(&mut self) -> Option<(Prefix, u8, &'a Attrs<A>)> {
         match self.rest.next() {

@@ -1,8 +1,11 @@
 //! One peer's Adj-RIB-Out.
-ghost use Rattle.std.specs.Prelude.{◌≡◌, [], ℕ, List, Option, None, Some, OnOk, OnErr, IfOk, IfSome, IfNone, IsSome, IsTrue, ◌↔◌, if◌then◌else◌};
+ghost use Rattle.std.specs.Prelude.{◌≡◌, [], None, Some, OnOk, OnErr, IfOk, IfSome, IfNone, IsSome, IsTrue, ◌↔◌, false, if◌then◌else◌};
 ghost use Rattle.std.specs.Option.{option_copied};
+ghost use Rattle.std.specs.Ordering.{is_gt};
+ghost use Rattle.std.specs.declared.cmp.Ordering.TheVariants.{Less};
+ghost use Rattle.std.specs.Iterator.{YieldsFirstBy, item_count};
 ghost use Rattle.net_prefix.specs.declared.prefix.Prefix.{Prefix};
-ghost use Rattle.rib_out.specs.Held.{held_at, is_prefix};
+ghost use Rattle.rib_out.specs.Held.{held_at, is_prefix, prefix_cmp, IsAbove, IsRising};
 
 use net_prefix::Prefix;
 use std::alloc::{AllocError, Allocator, Global};
@@ -114,12 +117,36 @@ impl<A: Allocator + Clone> AdjOut<A> {
 
     /// The least prefix that the peer holds above the given one, or the least of all.
     pub fn prefix_after(&self, after: Option<Prefix>) -> Option<Prefix>
+        ensures held { IfSome result (λ p. IsSome (held_at self.now p)) }
+        ensures above { IfSome result (λ p. IsAbove after p) }
+        ensures least { IfSome result (λ p. (q : Prefix) → IsAbove after q → IsSome (held_at self.now q) → is_gt (prefix_cmp p q) ≡ false) }
+        ensures none { IfNone result ((q : Prefix) → IsAbove after q → held_at self.now q ≡ None) }
     {
-        let above = match &after {
-            Some(prefix) => Bound::Excluded(prefix),
-            None => Bound::Unbounded,
-        };
-        match self.routes.range((above, Bound::Unbounded)).next() {
+        match after {
+            Some(prefix) => self.prefix_above(prefix),
+            None => self.first_prefix(),
+        }
+    }
+
+    fn prefix_above(&self, after: Prefix) -> Option<Prefix>
+        ensures held { IfSome result (λ p. IsSome (held_at self.now p)) }
+        ensures above { IfSome result (λ p. prefix_cmp after p ≡ Less) }
+        ensures least { IfSome result (λ p. (q : Prefix) → prefix_cmp after q ≡ Less → IsSome (held_at self.now q) → is_gt (prefix_cmp p q) ≡ false) }
+        ensures none { IfNone result ((q : Prefix) → prefix_cmp after q ≡ Less → held_at self.now q ≡ None) }
+    {
+        let mut above = self.routes.range((Bound::Excluded(after), Bound::Unbounded));
+        match above.next() {
+            Some((prefix, _)) => Some(*prefix),
+            None => None,
+        }
+    }
+
+    fn first_prefix(&self) -> Option<Prefix>
+        ensures held { IfSome result (λ p. IsSome (held_at self.now p)) }
+        ensures least { IfSome result (λ p. (q : Prefix) → IsSome (held_at self.now q) → is_gt (prefix_cmp p q) ≡ false) }
+        ensures none { IfNone result ((q : Prefix) → held_at self.now q ≡ None) }
+    {
+        match self.routes.first_key_value() {
             Some((prefix, _)) => Some(*prefix),
             None => None,
         }
@@ -127,6 +154,8 @@ impl<A: Allocator + Clone> AdjOut<A> {
 
     /// What the peer holds, in rising order of the prefixes.
     pub fn held(&self) -> HeldRoutes<'_, A>
+        ensures all { result ≡ self.now }
+        ensures rising { IsRising self.now }
     {
         HeldRoutes {
             rest: self.routes.iter(),
@@ -140,14 +169,21 @@ pub struct HeldRoutes<'a, A: Allocator = Global> {
     rest: btree_map::Iter<'a, Prefix, Octets<A>>,
 }
 
+impl<'a, A: Allocator> Model for HeldRoutes<'a, A> {
+    ghost use Rattle.std.specs.Prelude.{List, ℕ};
+    ghost use Rattle.net_prefix.specs.declared.prefix.Prefix.{Prefix};
+
+    ghost Value = { List (Prefix × List ℕ) };
+
+    ghost view = { λ routes. routes.rest };
+}
+
 impl<'a, A: Allocator> Iterator for HeldRoutes<'a, A> {
     type Item = (Prefix, &'a [u8]);
 
-    ghost use Rattle.std.specs.Iterator.{YieldsFirstBy, item_count};
+    ghost next_gives = { YieldsFirstBy (λ item. (item.0, item.1.now)) (λ rest. rest) };
 
-    ghost next_gives = { YieldsFirstBy (λ item. (item.0, item.1.now)) (λ held. held.rest) };
-
-    ghost remaining = { item_count (λ held. held.rest) };
+    ghost remaining = { item_count (λ rest. rest) };
 
     fn next(&mut self) -> Option<(Prefix, &'a [u8])> {
         match self.rest.next() {
