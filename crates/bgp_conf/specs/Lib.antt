@@ -1,1 +1,5 @@
 pub mod RefusalNumbers
+pub mod Configuration
+pub mod FirstRefusal
+pub mod ConfAfter
+pub mod Reach

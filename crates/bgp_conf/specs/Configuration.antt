@@ -1,0 +1,32 @@
+use Rattle.std.specs.Prelude.{ℕ, List, Option}
+use Rattle.std.specs.Map.{lookup}
+use Rattle.std.specs.Ordering.{nat_cmp, ordering_then}
+use Rattle.std.specs.declared.cmp.Ordering.{Ordering}
+use Rattle.std.specs.BTreeMap.{is_at}
+use Rattle.net_prefix.specs.declared.asn.Asn.{Asn}
+use Rattle.net_prefix.specs.declared.prefix.Prefix.{Prefix}
+use Rattle.bgp_conf.specs.declared.conf.ConfiguredPeer.{ConfiguredPeer}
+
+-- The tables that commands fill.
+
+-- the own AS, the peers by their slots, and the costs of the `reach` entries, both tables rising
+pub record Configuration : Type 0 where
+  pub own : Asn
+  pub peers : List (ℕ × ConfiguredPeer)
+  pub reach : List (Prefix × ℕ)
+
+-- the peer of a slot
+abbrev pub peer_at : Configuration → ℕ → Option ConfiguredPeer
+peer_at configuration slot = lookup (is_at (nat_cmp slot)) configuration.peers
+
+-- how an address and a length stand to a prefix: by address, then by length
+abbrev pub address_cmp : ℕ → ℕ → Prefix → Ordering
+address_cmp bits len prefix = ordering_then (nat_cmp bits prefix.bits) (nat_cmp len prefix.len)
+
+-- the order of prefixes
+abbrev pub prefix_cmp : Prefix → Prefix → Ordering
+prefix_cmp prefix = address_cmp prefix.bits prefix.len
+
+-- the cost of a prefix's entry
+abbrev pub entry_at : List (Prefix × ℕ) → Prefix → Option ℕ
+entry_at reach prefix = lookup (is_at (prefix_cmp prefix)) reach
