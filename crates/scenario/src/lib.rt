@@ -10,6 +10,8 @@ mod answer;
 mod fields;
 mod line;
 mod script;
+#[cfg(test)]
+mod tests;
 
 pub use answer::Answer;
 pub use line::{Line, LineFault, Table};

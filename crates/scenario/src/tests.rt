@@ -1,0 +1,8 @@
+//! Transcripts of scripts and their answers, a file for a subject.
+
+mod commands;
+mod export;
+mod selection;
+mod sessions;
+mod transcript;
+mod updates;
