@@ -3,8 +3,8 @@ use Rattle.std.specs.List.{list_all, list_any}
 use Rattle.std.specs.Map.{values_of}
 use Rattle.std.specs.Str.{bytes_eq}
 use Rattle.net_prefix.specs.declared.asn.Asn.{Asn}
-use Rattle.bgp_attr.specs.declared.Mode.{Mode}
-use Rattle.bgp_attr.specs.declared.Mode.TheVariants.{Active, Passive}
+use Rattle.bgp_attr.specs.declared.peer.Mode.{Mode}
+use Rattle.bgp_attr.specs.declared.peer.Mode.TheVariants.{Active, Passive}
 use Rattle.bgp_conf.specs.declared.conf.ConfiguredPeer.{ConfiguredPeer}
 use Rattle.bgp_conf.specs.declared.conf.TheConstants.{PEER_SLOTS, MAX_REACH, MAX_NAME}
 use Rattle.bgp_conf.specs.declared.command.PeerConf.{PeerConf}
