@@ -38,8 +38,8 @@ abbrev pub fresh : OpenMessage → Mode → Session
 fresh own mode = record { state = Idle; enabled = false; closing = false; identifier = 0; own = own; mode = mode }
 
 -- the peer is enabled, and nothing else changes
-abbrev pub enabled : Session → Session
-enabled s = record { state = s.state; enabled = true; closing = s.closing; identifier = s.identifier; own = s.own; mode = s.mode }
+abbrev pub marked : Session → Session
+marked s = record { state = s.state; enabled = true; closing = s.closing; identifier = s.identifier; own = s.own; mode = s.mode }
 
 -- another state on the same connection, or on none, before the peer's OPEN
 abbrev pub waiting_in : State → Session → Session
@@ -59,8 +59,8 @@ established s = record { state = Established; enabled = s.enabled; closing = s.c
 
 -- an enabled peer without a connection begins: it opens the connection or listens for it
 abbrev pub begun : Mode → Session → Session × Effects
-begun Opener s = (waiting_in Connect (enabled s), begins)
-begun Passive s = (waiting_in Active (enabled s), nothing)
+begun Opener s = (waiting_in Connect (marked s), begins)
+begun Passive s = (waiting_in Active (marked s), nothing)
 
 -- a connection comes, which only a passive peer awaits
 abbrev pub connected : Mode → Session → Session × Effects
@@ -69,26 +69,26 @@ connected Passive s = (waiting_in OpenSent s, says (OwnOpen s.own))
 
 -- the table
 abbrev pub row_at : State → Input → Session → Session × Effects
-row_at Idle Start s = if s.closing then (enabled s, nothing) else begun s.mode s
+row_at Idle Start s = if s.closing then (marked s, nothing) else begun s.mode s
 row_at Idle Fail s = (waiting_in Idle s, nothing)
-row_at Connect Start s = (enabled s, nothing)
-row_at Active Start s = (enabled s, nothing)
+row_at Connect Start s = (marked s, nothing)
+row_at Active Start s = (marked s, nothing)
 row_at Active Up s = connected s.mode s
-row_at OpenSent Start s = (enabled s, nothing)
+row_at OpenSent Start s = (marked s, nothing)
 row_at OpenSent (Open message) s = (confirmed message.identifier s, says OwnKeepalive)
 row_at OpenSent Fail s = (waiting_in Active s, nothing)
 row_at OpenSent Keepalive s = (closed s, nothing)
 row_at OpenSent Update s = (closed s, nothing)
 row_at OpenSent Notification s = (closed s, nothing)
 row_at OpenSent Fault s = (closed s, nothing)
-row_at OpenConfirm Start s = (enabled s, nothing)
+row_at OpenConfirm Start s = (marked s, nothing)
 row_at OpenConfirm Keepalive s = (established s, enters)
 row_at OpenConfirm Fail s = (waiting_in Idle s, nothing)
 row_at OpenConfirm (Open message) s = (closed s, nothing)
 row_at OpenConfirm Update s = (closed s, nothing)
 row_at OpenConfirm Notification s = (closed s, nothing)
 row_at OpenConfirm Fault s = (closed s, nothing)
-row_at Established Start s = (enabled s, nothing)
+row_at Established Start s = (marked s, nothing)
 row_at Established Keepalive s = (s, nothing)
 row_at Established Update s = (s, nothing)
 row_at Established Fail s = (waiting_in Idle s, leaves)

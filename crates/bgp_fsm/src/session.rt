@@ -3,7 +3,7 @@ ghost use Rattle.std.specs.Prelude.{◌≡◌, if◌then◌else◌};
 ghost use Rattle.bgp_fsm.specs.Transports.{transport_of};
 ghost use Rattle.bgp_fsm.specs.declared.state.State.TheVariants.{Idle};
 ghost use Rattle.bgp_fsm.specs.declared.session.Outgoing.TheVariants.{Keepalive as OwnKeepalive};
-ghost use Rattle.bgp_fsm.specs.SessionTable.{row_at, fresh, enabled, waiting_in, begun, connected, confirmed, established, closed, nothing, says, enters, leaves};
+ghost use Rattle.bgp_fsm.specs.SessionTable.{row_at, fresh, marked, waiting_in, begun, connected, confirmed, established, closed, nothing, says, enters, leaves};
 
 use crate::input::Input;
 use crate::state::State;
@@ -122,7 +122,7 @@ impl Session {
             (State::Established, Input::Open(_)) => self.close_established(),
             (State::OpenSent | State::OpenConfirm, Input::Notification | Input::Fault) => self.close(),
             (State::Established, Input::Notification | Input::Fault) => self.close_established(),
-            (_, Input::Start) => self.enable(),
+            (_, Input::Start) => self.mark(),
             // Any other pair of state and input is ignored.
             _ => Effects::NONE,
         }
@@ -130,7 +130,7 @@ impl Session {
 
     // An enabled peer without a connection begins; one whose connection is still to be closed is marked alone.
     fn start(&mut self) -> Effects
-        ensures { (self.new, result) ≡ (if self.old.closing then (enabled self.old, nothing) else begun self.old.mode self.old) }
+        ensures { (self.new, result) ≡ (if self.old.closing then (marked self.old, nothing) else begun self.old.mode self.old) }
     {
         self.enabled = true;
         if self.closing {
@@ -152,8 +152,8 @@ impl Session {
         }
     }
 
-    fn enable(&mut self) -> Effects
-        ensures session { self.new ≡ enabled self.old }
+    fn mark(&mut self) -> Effects
+        ensures session { self.new ≡ marked self.old }
         ensures effects { result ≡ nothing }
     {
         self.enabled = true;

@@ -1,0 +1,74 @@
+-- What others see of a slot, and what each thing that happens makes of it.
+use Rattle.std.specs.Prelude.{◌≡◌, ℕ, ◌+◌, ◌≤◌, nat_le, if◌then◌else◌, List, [], ◌++◌, length, drop, Option, Some, None}
+use Rattle.bgp_attr.specs.declared.peer.Mode.{Mode}
+use Rattle.bgp_msg.specs.declared.open_message.Open.{Open as OpenMessage}
+use Rattle.bgp_msg.specs.declared.frame.Step.{Step}
+use Rattle.bgp_msg.specs.declared.frame.Step.TheVariants.{Need, Message, Faulty}
+use Rattle.bgp_msg.specs.MessageSpelling.{told_length, written_open, written_keepalive}
+use Rattle.bgp_msg.specs.MessageFaults.{header_fault}
+use Rattle.bgp_fsm.specs.declared.input.Input.{Input}
+use Rattle.bgp_fsm.specs.declared.input.Input.TheVariants.{Start, Up, Fail}
+use Rattle.bgp_fsm.specs.declared.session.Session.{Session}
+use Rattle.bgp_fsm.specs.declared.session.Outgoing.{Outgoing}
+use Rattle.bgp_fsm.specs.declared.session.Outgoing.TheVariants.{Open, Keepalive}
+use Rattle.bgp_fsm.specs.SessionTable.{fresh, session_after, effects_of}
+
+-- the session, what has come of the message that is being received, and what is queued and not yet taken
+pub record Slot : Type 0 where
+  pub session : Session
+  pub rest : List ℕ
+  pub ring : List ℕ
+
+-- the rest doesn't go beyond the message at its front, and the ring holds 65,536 octets
+pub record IsInOrder (rest ring : List ℕ) (capacity : ℕ) : Type 0 where
+  pub capacity_is : capacity ≡ 65536
+  pub fits : length ring ≤ 65536
+  pub one_message : 19 ≤ length rest → header_fault rest ≡ None → length rest ≤ told_length rest
+
+-- a message at the front is all of the rest
+abbrev pub IsWholeRest : List ℕ → Step → Type 0
+IsWholeRest rest Need = Unit {0}
+IsWholeRest rest (Message frame used) = used ≡ length rest
+IsWholeRest rest (Faulty fault) = Unit {0}
+
+-- the octets of what a row queues (RFC 4271 section 4)
+abbrev pub octets_of : Option Outgoing → List ℕ
+octets_of None = []
+octets_of (Some (Open own)) = written_open own
+octets_of (Some Keepalive) = written_keepalive
+
+-- what a row adds to this ring: its message, where 8,192 octets are free
+abbrev pub said : Option Outgoing → List ℕ → List ℕ
+said message ring = if nat_le (length ring + 8192) 65536 then octets_of message else []
+
+-- a slot whose peer is configured and not enabled
+abbrev pub configured : OpenMessage → Mode → Slot
+configured own mode = record { session = fresh own mode; rest = []; ring = [] }
+
+-- the operator enables the peer
+abbrev pub enabled : Slot → Slot
+enabled s = record { session = session_after Start s.session; rest = s.rest; ring = s.ring }
+
+-- the connection stands: what was queued or came before is dropped, and the row's OPEN is queued
+abbrev pub opened : Slot → Slot
+opened s = record { session = session_after Up s.session; rest = []; ring = said (effects_of Up s.session).message [] }
+
+-- the connection, or the attempt, has failed: what was queued or came is dropped
+abbrev pub failed : Slot → Slot
+failed s = record { session = session_after Fail s.session; rest = []; ring = [] }
+
+-- these octets have come
+abbrev pub pushed : Slot → List ℕ → Slot
+pushed s octets = record { session = s.session; rest = s.rest ++ octets; ring = s.ring }
+
+-- the message in the rest is this input: it is dropped, and what its row says is queued
+abbrev pub taken_input : Slot → Input → Slot
+taken_input s input = record { session = session_after input s.session; rest = []; ring = s.ring ++ said (effects_of input s.session).message s.ring }
+
+-- a message is queued
+abbrev pub queued : Slot → List ℕ → Slot
+queued s message = record { session = s.session; rest = s.rest; ring = s.ring ++ message }
+
+-- so many of the first octets of the ring are handed out
+abbrev pub handed : Slot → ℕ → Slot
+handed s count = record { session = s.session; rest = s.rest; ring = drop count s.ring }

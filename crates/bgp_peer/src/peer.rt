@@ -1,0 +1,192 @@
+//! A slot: its session, the rest and the ring.
+ghost use Rattle.std.specs.Prelude.{◌≡◌, ◌+◌, ◌≤◌, ◌<◌, length, take, drop, min, ◌++◌, IfOk, []};
+ghost use Rattle.bgp_fsm.specs.SessionTable.{effects_of};
+ghost use Rattle.bgp_fsm.specs.Transports.{transport_of};
+ghost use Rattle.bgp_fsm.specs.declared.state.State.{State};
+ghost use Rattle.bgp_fsm.specs.declared.input.Input.TheVariants.{Start, Up, Fail};
+ghost use Rattle.bgp_msg.specs.MessageStream.{Tells, Wants, needed_of};
+ghost use Rattle.bgp_peer.specs.Slot.{Slot, configured, enabled, opened, failed, pushed, taken_input, said, queued, handed, IsWholeRest};
+
+use arrayvec::ArrayVec;
+use bgp_attr::Mode;
+use bgp_fsm::{Effects, Input, Outgoing, Session, State};
+use bgp_msg::{Open, Step, needed, read, write_keepalive, write_open};
+use circular_buffer::HeapCircularBuffer;
+use net_prefix::Transport;
+use std::alloc::{AllocError, Allocator, Global};
+use std::cmp::min;
+use std::marker::Model;
+
+/// The octets that the ring of a slot holds.
+pub const RING_OCTETS: usize = 65_536;
+
+/// The free octets of the ring without which nothing is queued.
+pub const ROOM_FOR_UPDATE: usize = 8_192;
+
+/// One slot.
+#[derive(Drop)]
+pub struct Peer<A: Allocator = Global> {
+    session: Session,
+    // What has come of the message that is being received.
+    rest: ArrayVec<u8, 4096>,
+    // What is queued and not yet taken.
+    ring: HeapCircularBuffer<u8, A>,
+}
+
+impl<A: Allocator> Model for Peer<A> {
+    ghost use Rattle.bgp_peer.specs.Slot.{Slot, IsInOrder};
+
+    ghost Value = { Slot };
+
+    ghost view = { λ p. record { session = p.session; rest = p.rest.items; ring = p.ring.items } };
+
+    ghost invariant = { λ p. IsInOrder p.rest.items p.ring.items p.ring.capacity };
+}
+
+impl<A: Allocator> Peer<A> {
+    /// A slot whose peer is configured and not enabled. `own` is the OPEN that this side sends.
+    pub fn new(alloc: A, own: Open, mode: Mode) -> Result<Self, AllocError>
+        ensures { IfOk result (λ p. p ≡ configured own mode) }
+    {
+        let ring = HeapCircularBuffer::with_capacity(alloc, RING_OCTETS)?;
+        Ok(Peer {
+            session: Session::new(own, mode),
+            rest: ArrayVec::new(),
+            ring,
+        })
+    }
+
+    /// The state of the session.
+    pub fn state(&self) -> State
+        ensures { result ≡ self.now.session.state }
+    {
+        self.session.state()
+    }
+
+    /// What stands between the session and its connection.
+    pub fn transport(&self) -> Transport
+        ensures { result ≡ transport_of self.now.session }
+    {
+        self.session.transport()
+    }
+
+    /// The BGP Identifier that the peer's OPEN has told on this connection, 0 before it.
+    pub fn identifier(&self) -> u32
+        ensures { result ≡ self.now.session.identifier }
+    {
+        self.session.identifier()
+    }
+
+    /// How many octets may still be queued.
+    pub fn free(&self) -> usize
+        ensures { result + length self.now.ring ≡ 65536 }
+    {
+        RING_OCTETS - self.ring.len()
+    }
+
+    /// Takes octets that come, up to the end of the message at the front, and answers how many.
+    pub fn push(&mut self, octets: &[u8]) -> usize
+        ensures count { result ≡ min (needed_of self.old.rest) (length octets.now) }
+        ensures exact { self.new ≡ pushed self.old (take result octets.now) }
+        ensures goes_on { Wants self.old.rest → 0 < length octets.now → 0 < result }
+        ensures short { length self.new.rest ≤ 4096 }
+    {
+        let count = min(needed(self.rest.as_slice()), octets.len());
+        let _fits = self.rest.try_extend_from_slice(&octets[..count]);
+        count
+    }
+
+    /// What stands at the front of what has come. A message is all of it.
+    pub fn front(&self) -> Step<'_>
+        ensures tells { Tells self.now.rest result }
+        ensures whole { IsWholeRest self.now.rest result }
+    {
+        read(self.rest.as_slice())
+    }
+
+    /// The operator enables the peer.
+    pub fn enable(&mut self, now: u64) -> Effects
+        ensures exact { self.new ≡ enabled self.old }
+        ensures effects { result ≡ effects_of Start self.old.session }
+    {
+        self.session.input(Input::Start, now)
+    }
+
+    /// The connection stands. What was queued or came before is dropped.
+    pub fn up(&mut self, now: u64) -> Effects
+        ensures exact { self.new ≡ opened self.old }
+        ensures effects { result ≡ effects_of Up self.old.session }
+    {
+        self.clear();
+        let effects = self.session.input(Input::Up, now);
+        self.say(effects.message);
+        effects
+    }
+
+    /// The connection, or the attempt, has failed. What was queued or came is dropped.
+    pub fn fail(&mut self, now: u64) -> Effects
+        ensures exact { self.new ≡ failed self.old }
+        ensures effects { result ≡ effects_of Fail self.old.session }
+    {
+        self.clear();
+        self.session.input(Input::Fail, now)
+    }
+
+    /// The message at the front is this input. The message is dropped, and what its row says is queued.
+    pub fn input(&mut self, input: Input, now: u64) -> Effects
+        ensures exact { self.new ≡ taken_input self.old input }
+        ensures effects { result ≡ effects_of input self.old.session }
+    {
+        self.rest.clear();
+        let effects = self.session.input(input, now);
+        self.say(effects.message);
+        effects
+    }
+
+    /// Queues a message of an Established session.
+    pub fn queue(&mut self, message: &[u8])
+        requires established { self.old.session.state ≡ State.Established }
+        requires free { length self.old.ring + length message.now ≤ 65536 }
+        ensures { self.new ≡ queued self.old message.now }
+    {
+        self.ring.fill_from_slice(message);
+    }
+
+    /// Hands out the first octets of the ring, as many as there are and fit, and answers how many.
+    pub fn take(&mut self, buf: &mut [u8]) -> usize
+        ensures count { result ≡ min (length buf.old) (length self.old.ring) }
+        ensures octets { buf.new ≡ take result self.old.ring ++ drop result buf.old }
+        ensures exact { self.new ≡ handed self.old result }
+    {
+        self.ring.read_into(buf)
+    }
+
+    fn clear(&mut self)
+        ensures { self.new ≡ record { session = self.old.session; rest = []; ring = [] } }
+    {
+        self.rest.clear();
+        self.ring.clear();
+    }
+
+    // Queues what a row says, where an UPDATE would find room.
+    fn say(&mut self, message: Option<Outgoing>)
+        ensures { self.new ≡ queued self.old (said message self.old.ring) }
+    {
+        if self.free() < ROOM_FOR_UPDATE {
+            return;
+        }
+        match message {
+            Some(Outgoing::Open(own)) => {
+                let mut octets = ArrayVec::new();
+                write_open(&own, &mut octets);
+                self.ring.fill_from_slice(octets.as_slice());
+            }
+            Some(Outgoing::Keepalive) => {
+                let mut octets = ArrayVec::new();
+                write_keepalive(&mut octets);
+                self.ring.fill_from_slice(octets.as_slice());
+            }
+            None => {}
+        }
+    }
+}
