@@ -133,7 +133,11 @@ impl<A: Allocator + Clone> AdjIn<A> {
         };
         let mut above = self.routes.range((Bound::Excluded(last), Bound::Unbounded));
         match above.next() {
-            Some((key, _)) => Some(key.prefix),
+            Some((key, _)) => {
+                // Reading the slot tells its range.
+                let _slot = key.slot;
+                Some(key.prefix)
+            }
             None => None,
         }
     }
