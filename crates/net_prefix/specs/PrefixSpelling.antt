@@ -45,3 +45,10 @@ Reads octets answer =
     MatchResult answer
     (λ found. BeginsWith octets found.0.bits found.0.len found.1)
     (λ fault. BeginsWithNone octets fault)
+
+-- the answer is the prefix of this address and length, with as many octets as it is spelled in
+abbrev pub FindsAgain : ℕ → ℕ → Result (Prefix × ℕ) PrefixFault → Type 0
+FindsAgain bits len answer =
+    MatchResult answer
+    (λ found. (found.0.bits ≡ bits) × (found.0.len ≡ len) × (found.1 ≡ length (spelling_of bits len)))
+    (λ fault. ⊥)

@@ -9,11 +9,14 @@ mod asn;
 mod fault;
 mod prefix;
 mod spelling;
+#[cfg(test)]
+mod tests;
 mod text;
 mod transport;
 
 pub use asn::Asn;
 pub use fault::PrefixFault;
 pub use prefix::Prefix;
-pub use spelling::read_prefix;
+pub use spelling::{read_prefix, written_is_read};
+pub use text::printed_is_parsed;
 pub use transport::Transport;

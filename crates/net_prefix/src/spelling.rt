@@ -1,7 +1,10 @@
 //! The octets of a prefix (RFC 4271 section 4.3).
-ghost use Rattle.std.specs.Prelude.{◌≡◌, ◌≤◌, IfOk, length};
+ghost use Rattle.std.specs.Prelude.{◌≡◌, ◌≤◌, ◌<◌, ◌^◌, ◌++◌, IfOk, length, ℕ, List, Result};
 ghost use Rattle.arrayvec.specs.ArrayVec.{array_vec_len};
-ghost use Rattle.net_prefix.specs.PrefixSpelling.{Reads, address_from, octets_for, spelling_of};
+ghost use Rattle.net_prefix.specs.PrefixSpelling.{FindsAgain, Reads, address_from, octets_for, spelling_of};
+ghost use Rattle.net_prefix.specs.PrefixFaults.{IsPrefix};
+ghost use Rattle.net_prefix.specs.declared.prefix.Prefix.{Prefix};
+ghost use Rattle.net_prefix.specs.declared.fault.PrefixFault.{PrefixFault};
 
 use crate::fault::PrefixFault;
 use crate::prefix::{ADDRESS_BITS, Prefix};
@@ -44,6 +47,11 @@ pub fn read_prefix(octets: &[u8]) -> Result<(Prefix, usize), PrefixFault>
     let prefix = Prefix::masked(address_from(address), *len)?;
     Ok((prefix, 1 + count))
 }
+
+/// What a prefix is written as is read again as the same prefix, whatever follows it.
+pub fn written_is_read()
+    ensures { (bits len : ℕ) (rest : List ℕ) (answer : Result (Prefix × ℕ) PrefixFault) → bits < 2 ^ 32 → IsPrefix bits len → Reads (spelling_of bits len ++ rest) answer → FindsAgain bits len answer }
+{}
 
 // The fewest octets that hold so many bits.
 fn octets_for(len: u8) -> usize

@@ -1,0 +1,4 @@
+pub mod Decimals
+pub mod Spellings
+pub mod Texts
+pub mod Unique

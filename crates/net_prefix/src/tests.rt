@@ -1,0 +1,99 @@
+//! Prefixes from outside, in each of their three forms.
+
+use crate::{Asn, Prefix, PrefixFault, read_prefix};
+use std::test::Fail;
+
+// A text, the address and length that it names, and the octets of these.
+#[rattlefmt::skip]
+const PREFIXES: [(&str, u32, u8, &[u8]); 5] = [
+    ("0.0.0.0/0",          0,           0,  &[0]),
+    ("10.0.0.0/9",         0x0A00_0000, 9,  &[9, 10, 0]),
+    ("10.0.1.0/24",        0x0A00_0100, 24, &[24, 10, 0, 1]),
+    ("192.0.2.128/25",     0xC000_0280, 25, &[25, 192, 0, 2, 128]),
+    ("255.255.255.255/32", 0xFFFF_FFFF, 32, &[32, 255, 255, 255, 255]),
+];
+
+#[rattlefmt::skip]
+const FAULTY_TEXTS: [(&str, PrefixFault); 9] = [
+    ("10.0.0.1/16",   PrefixFault::HostBits),
+    ("10.0.0.0/33",   PrefixFault::LenOver32),
+    ("10.0.0.1/99",   PrefixFault::LenOver32),
+    ("10.0.0.0/100",  PrefixFault::Text),
+    ("10.0.0.0/08",   PrefixFault::Text),
+    ("010.0.0.0/8",   PrefixFault::Text),
+    ("10.0.0.256/32", PrefixFault::Text),
+    ("10.0.0.0",      PrefixFault::Text),
+    ("10.0.0/16",     PrefixFault::Text),
+];
+
+#[rattlefmt::skip]
+const FAULTY_OCTETS: [(&[u8], PrefixFault); 4] = [
+    (&[],          PrefixFault::Cut),
+    (&[24, 10, 0], PrefixFault::Cut),
+    (&[33],        PrefixFault::LenOver32),
+    (&[33, 1, 2],  PrefixFault::LenOver32),
+];
+
+#[test]
+fn each_form_names_the_prefix(rt: HostRuntime) -> Result<(), Fail> {
+    for (text, bits, len, octets) in PREFIXES {
+        let prefix = Prefix::new(bits, len)?;
+        assert_eq!(rt; Prefix::parse(text)?, prefix);
+        assert_eq!(rt; prefix.to_string(rt.alloc())?.as_str(), text);
+        assert_eq!(rt; prefix.to_octets().as_slice(), octets);
+        assert_eq!(rt; read_prefix(octets)?, (prefix, octets.len()));
+    }
+    Ok(())
+}
+
+#[test]
+fn faulty_texts_are_told_apart(rt: HostRuntime) {
+    for (text, fault) in FAULTY_TEXTS {
+        assert_eq!(rt; Prefix::parse(text), Err(fault));
+    }
+}
+
+#[test]
+fn faulty_octets_are_told_apart(rt: HostRuntime) {
+    for (octets, fault) in FAULTY_OCTETS {
+        assert_eq!(rt; read_prefix(octets), Err(fault));
+    }
+}
+
+#[test]
+fn bits_behind_the_length_are_masked(rt: HostRuntime) -> Result<(), Fail> {
+    let prefix = Prefix::new(0x0A40_0000, 10)?;
+    assert_eq!(rt; read_prefix(&[10, 10, 127, 1])?, (prefix, 3));
+    assert_eq!(rt; Prefix::masked(0x0A7F_FFFF, 10)?, prefix);
+    assert_eq!(rt; Prefix::new(0x0A7F_FFFF, 10), Err(PrefixFault::HostBits));
+    Ok(())
+}
+
+#[test]
+fn a_prefix_covers_its_own_addresses(rt: HostRuntime) -> Result<(), Fail> {
+    let wide = Prefix::parse("10.0.0.0/16")?;
+    assert!(rt; wide.covers(&wide));
+    assert!(rt; wide.covers(&Prefix::parse("10.0.1.0/24")?));
+    assert!(rt; !wide.covers(&Prefix::parse("10.1.0.0/24")?));
+    assert!(rt; !wide.covers(&Prefix::parse("10.0.0.0/15")?));
+    assert!(rt; wide.covers_address(0x0A00_FFFF));
+    assert!(rt; !wide.covers_address(0x0A01_0000));
+    Ok(())
+}
+
+#[test]
+fn prefixes_are_ordered_by_address_then_length(rt: HostRuntime) -> Result<(), Fail> {
+    assert!(rt; Prefix::parse("10.0.0.0/8")? < Prefix::parse("10.0.0.0/16")?);
+    assert!(rt; Prefix::parse("10.0.0.0/16")? < Prefix::parse("10.0.1.0/24")?);
+    Ok(())
+}
+
+#[test]
+fn numbers_are_printed(rt: HostRuntime) -> Result<(), Fail> {
+    assert_eq!(rt; Asn(65001).to_string(rt.alloc())?.as_str(), "AS65001");
+    assert_eq!(rt; PrefixFault::LenOver32.number(), 1);
+    assert_eq!(rt; PrefixFault::HostBits.number(), 2);
+    assert_eq!(rt; PrefixFault::Text.number(), 3);
+    assert_eq!(rt; PrefixFault::Cut.number(), 9);
+    Ok(())
+}
