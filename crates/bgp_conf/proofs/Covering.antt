@@ -1,11 +1,11 @@
-use Rattle.std.proofs.Common.{◌≡◌, ◌≢◌, ◌≤◌, ℕ, ◌/◌, ◌*◌, List, Option, Some, None, IsSome, sym, ◌∙◌, add-zero}
+use Rattle.std.proofs.Common.{◌≡◌, ◌≢◌, ◌≤◌, ℕ, ◌/◌, ◌*◌, List, Option, Some, None, IsSome, refl, sym, ◌∙◌, add-zero, arith}
 use Rattle.std.proofs.Math.Nat.{mul-div_cancel}
 use Rattle.std.proofs.lemmas.Nat.{pow_pos, div-add-mod'}
 use Rattle.std.proofs.lemmas.Bool.{false≢true}
 use Rattle.net_prefix.specs.Cover.{Covers, masked_bits, block_size}
 use Rattle.net_prefix.specs.declared.prefix.Prefix.{Prefix}
 use Rattle.bgp_conf.specs.Configuration.{entry_at}
-use Rattle.bgp_conf.specs.Reach.{IsCovering, IsCostAt}
+use Rattle.bgp_conf.specs.Reach.{IsCovering, IsCost, IsCostAt}
 
 -- Which prefix of a length covers an address.
 
@@ -19,6 +19,10 @@ bits-from_covering prefix address covers =
     let whole = div-add-mod' prefix.bits (block_size prefix.len) in
     sym (rw (prefix.no_host_bits, covers.1, add-zero) at whole)
 
+-- an entry that was found, and covers
+pub IsCovering-from_entry : (reach : List (Prefix × ℕ)) (address : ℕ) (prefix : Prefix) (cost : ℕ) → entry_at reach prefix ≡ Some cost → Covers prefix.bits prefix.len address 32 → IsCovering reach address prefix
+IsCovering-from_entry reach address prefix cost is covers = (rw is refl, covers)
+
 -- so an address without those bits finds the entry of that length that covers it
 pub IsCostAt-entry_at : (reach : List (Prefix × ℕ)) (address len : ℕ) (masked : Prefix) (found : Option ℕ) → masked.bits ≡ masked_bits address len → masked.len ≡ len → found ≡ entry_at reach masked → IsCostAt reach address len found
 IsCostAt-entry_at reach address len masked None bits length is =
@@ -31,3 +35,16 @@ IsCostAt-entry_at reach address len masked None bits length is =
 IsCostAt-entry_at reach address len masked (Some cost) bits length is =
     let short : len ≤ 32 = rw (← length) masked.short in
     (masked, sym is, rw (bits, length) (Covers-masked address len short), length)
+
+-- two answers to one question are the same
+pub IsCost-unique : (reach : List (Prefix × ℕ)) (next_hop : ℕ) (a b : Option ℕ) → IsCost reach next_hop a → IsCost reach next_hop b → a ≡ b
+IsCost-unique reach next_hop None None h k = refl
+IsCost-unique reach next_hop None (Some d) h k = absurd (h k.0 (IsCovering-from_entry reach next_hop k.0 d k.1 k.2))
+IsCost-unique reach next_hop (Some c) None h k = absurd (k h.0 (IsCovering-from_entry reach next_hop h.0 c h.1 h.2))
+IsCost-unique reach next_hop (Some c) (Some d) h k =
+    let same_length : h.0.len ≡ k.0.len =
+        omega (arith, k.3 h.0 (IsCovering-from_entry reach next_hop h.0 c h.1 h.2), h.3 k.0 (IsCovering-from_entry reach next_hop k.0 d k.1 k.2)) in
+    let same_bits : h.0.bits ≡ k.0.bits =
+        bits-from_covering h.0 next_hop h.2 ∙ rw same_length (sym (bits-from_covering k.0 next_hop k.2)) in
+    let same_entry : entry_at reach h.0 ≡ entry_at reach k.0 = rw (same_bits, same_length) refl in
+    sym h.1 ∙ same_entry ∙ k.1

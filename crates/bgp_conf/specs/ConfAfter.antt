@@ -1,11 +1,12 @@
-use Rattle.std.specs.Prelude.{ℕ, List}
+use Rattle.std.specs.Prelude.{◌≡◌, ℕ, ◌==◌, ◌&&◌, Option, Some, None, if◌then◌else◌}
 use Rattle.std.specs.Ordering.{nat_cmp}
 use Rattle.std.specs.BTreeMap.{insert_entry}
+use Rattle.net_prefix.specs.declared.prefix.Prefix.{Prefix}
 use Rattle.bgp_conf.specs.declared.conf.ConfiguredPeer.{ConfiguredPeer}
 use Rattle.bgp_conf.specs.declared.command.PeerConf.{PeerConf}
 use Rattle.bgp_conf.specs.declared.command.Command.{Command}
 use Rattle.bgp_conf.specs.declared.command.Command.TheVariants.{AddPeer, Enable, Reach}
-use Rattle.bgp_conf.specs.Configuration.{Configuration, prefix_cmp}
+use Rattle.bgp_conf.specs.Configuration.{Configuration, prefix_cmp, peer_at, entry_at}
 
 -- The tables after a command.
 
@@ -20,3 +21,23 @@ conf_after configuration (AddPeer slot peer) =
 conf_after configuration (Enable slot) = configuration
 conf_after configuration (Reach prefix cost) =
     record configuration { reach = insert_entry prefix_cmp configuration.reach prefix cost }
+
+-- a slot's peer after a command: its own AddPeer sets it, and every other command leaves it
+abbrev pub peer_after : Configuration → Command → ℕ → Option ConfiguredPeer
+peer_after configuration (AddPeer slot peer) other =
+    if other == slot then Some (configured_of peer) else peer_at configuration other
+peer_after configuration (Enable slot) other = peer_at configuration other
+peer_after configuration (Reach prefix cost) other = peer_at configuration other
+
+-- a prefix's entry after a command: its own Reach sets it, and every other command leaves it
+abbrev pub entry_after : Configuration → Command → Prefix → Option ℕ
+entry_after configuration (AddPeer slot peer) other = entry_at configuration.reach other
+entry_after configuration (Enable slot) other = entry_at configuration.reach other
+entry_after configuration (Reach prefix cost) other =
+    if other.bits == prefix.bits && other.len == prefix.len then Some cost else entry_at configuration.reach other
+
+-- the command adds a slot or a prefix that was not there, and so takes memory
+abbrev pub TakesMemory : Configuration → Command → Type 0
+TakesMemory configuration (AddPeer slot peer) = peer_at configuration slot ≡ None
+TakesMemory configuration (Enable slot) = ⊥
+TakesMemory configuration (Reach prefix cost) = entry_at configuration.reach prefix ≡ None

@@ -1,9 +1,10 @@
 //! The tables that commands fill.
-ghost use Rattle.std.specs.Prelude.{◌≡◌, ◌≤◌, [], Some, None, IfOk, OnOk, OnErr, MatchResult, is_some};
+ghost use Rattle.std.specs.Prelude.{◌≡◌, ◌≤◌, ℕ, [], Some, None, IfOk, OnOk, OnErr, MatchResult, is_some};
 ghost use Rattle.std.specs.List.{list_all};
-ghost use Rattle.bgp_conf.specs.Configuration.{peer_at};
+ghost use Rattle.net_prefix.specs.declared.prefix.Prefix.{Prefix};
+ghost use Rattle.bgp_conf.specs.Configuration.{entry_at, peer_at};
 ghost use Rattle.bgp_conf.specs.FirstRefusal.{first_refusal, has_address, is_in_range, is_known, is_name_octet, is_policy_name};
-ghost use Rattle.bgp_conf.specs.ConfAfter.{conf_after, configured_of};
+ghost use Rattle.bgp_conf.specs.ConfAfter.{TakesMemory, conf_after, configured_of, entry_after, peer_after};
 ghost use Rattle.bgp_conf.specs.Reach.{IsCost, IsCostAt};
 
 use crate::command::{Command, PeerConf};
@@ -108,7 +109,10 @@ impl<A: Allocator + Clone> Conf<A> {
     /// Makes the tables after a command. Where memory is refused they stay as they were.
     pub fn apply(&mut self, command: &Command<'_>) -> Result<(), AllocError>
         ensures ok { OnOk result (self.new ≡ conf_after self.old command.now) }
+        ensures peers { OnOk result ((slot : ℕ) → peer_at self.new slot ≡ peer_after self.old command.now slot) }
+        ensures reach { OnOk result ((prefix : Prefix) → entry_at self.new.reach prefix ≡ entry_after self.old command.now prefix) }
         ensures err { OnErr result (self.new ≡ self.old) }
+        ensures memory { OnErr result (TakesMemory self.old command.now) }
     {
         match command {
             Command::AddPeer(slot, peer) => {
