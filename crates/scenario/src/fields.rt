@@ -1,14 +1,26 @@
 //! Numbers, addresses and octets as words of a line.
+ghost use Rattle.std.specs.Prelude.{Ok, Err, IsTrue, ◌↔◌, IsSome, IsNone, IfSome};
+ghost use Rattle.std.specs.List.{AllPass};
+ghost use Rattle.std.specs.Char.{is_ascii_digit};
 
 use std::net::Ipv4Addr;
 use std::str::FromStr;
+
+// Whether a text has digits alone.
+fn is_digits(text: &str) -> bool
+    ensures { IsTrue result ↔ AllPass is_ascii_digit text.now }
+{
+    text.as_bytes().iter().all(|octet| octet.is_ascii_digit())
+}
 
 /// The number that digits alone write, where it is in the range of its type. Leading zeros pass.
 pub fn number<N: FromStr>(text: &str) -> Option<N>
 where
     N::Err: Drop,
+    ensures digits { IsSome result → AllPass is_ascii_digit text.now }
+    ensures value { IfSome result (λ n. N.from_str_gives text.now (Ok n)) }
 {
-    if !text.bytes().all(|octet| octet.is_ascii_digit()) {
+    if !is_digits(text) {
         return None;
     }
     text.parse().ok()

@@ -1,4 +1,6 @@
 //! Playing a script.
+ghost use Rattle.std.specs.Prelude.{IfErr};
+ghost use Rattle.scenario.specs.LineNumbers.{IsOutside, NamesLine, CountsFromOne};
 
 use crate::answer::Answer;
 use crate::line::{Line, LineFault, Table};
@@ -28,12 +30,16 @@ pub enum PlayFault {
 }
 
 impl From<AllocError> for PlayFault {
+    ghost from_gives = { λ _ fault. IsOutside fault };
+
     fn from(_error: AllocError) -> PlayFault {
         PlayFault::NoMemory
     }
 }
 
 impl From<io::Error> for PlayFault {
+    ghost from_gives = { λ _ fault. IsOutside fault };
+
     fn from(error: io::Error) -> PlayFault {
         if error.kind() == ErrorKind::OutOfMemory {
             PlayFault::NoMemory
@@ -48,7 +54,9 @@ pub fn play<R: BufRead + Drop, W: Write>(
     alloc: Global,
     mut reader: R,
     writer: &mut W,
-) -> Result<(), PlayFault> {
+) -> Result<(), PlayFault>
+    ensures { IfErr result CountsFromOne }
+{
     let mut stage = Stage::new(alloc)?;
     let mut text = Vec::new(alloc);
     for number in 1..u64::MAX {
@@ -67,6 +75,14 @@ fn without_line_end(text: &[u8]) -> &[u8] {
         [text @ .., b'\r', b'\n'] | [text @ .., b'\n'] => text,
         _ => text,
     }
+}
+
+// The text of ASCII octets.
+fn ascii_text(octets: &[u8]) -> Option<&str> {
+    if !octets.is_ascii() {
+        return None;
+    }
+    std::str::from_utf8(octets).ok()
 }
 
 // What a script has made so far: its speaker, and room for what that hands out.
@@ -92,19 +108,19 @@ impl Stage {
         number: u64,
         text: &[u8],
         writer: &mut W,
-    ) -> Result<(), PlayFault> {
+    ) -> Result<(), PlayFault>
+        ensures { IfErr result (NamesLine number) }
+    {
         if text.is_empty() || text.starts_with(b"#") {
             return Ok(());
         }
-        let bad_line = PlayFault::BadLine(number);
-        if !text.is_ascii() {
-            return Err(bad_line);
-        }
-        let text = std::str::from_utf8(text).map_err(|_| bad_line)?;
+        let Some(text) = ascii_text(text) else {
+            return Err(PlayFault::BadLine(number));
+        };
         match Line::parse(self.alloc, text) {
-            Ok(Line::Speaker(config)) => self.begin(config, bad_line, writer),
-            Ok(line) => self.drive(line, bad_line, writer),
-            Err(LineFault::BadLine) => Err(bad_line),
+            Ok(Line::Speaker(config)) => self.begin(config, number, writer),
+            Ok(line) => self.drive(line, number, writer),
+            Err(LineFault::BadLine) => Err(PlayFault::BadLine(number)),
             Err(LineFault::NoMemory) => Err(PlayFault::NoMemory),
         }
     }
@@ -112,65 +128,66 @@ impl Stage {
     fn begin<W: Write>(
         &mut self,
         config: Config,
-        bad_line: PlayFault,
+        number: u64,
         writer: &mut W,
-    ) -> Result<(), PlayFault> {
+    ) -> Result<(), PlayFault>
+        ensures { IfErr result (NamesLine number) }
+    {
         if self.speaker.is_some() {
-            return Err(bad_line);
+            return Err(PlayFault::BadLine(number));
         }
         match Speaker::new(self.alloc, config) {
             Ok(speaker) => {
                 self.speaker = Some(speaker);
-                write_answer(writer, Answer::Done(0))
+                write_answer(writer, Answer::Done(0))?;
             }
-            Err(refusal) => write_answer(writer, Answer::Refused(refusal.number())),
+            Err(refusal) => write_answer(writer, Answer::Refused(refusal.number()))?,
         }
+        Ok(())
     }
 
     fn drive<W: Write>(
         &mut self,
         line: Line<'_>,
-        bad_line: PlayFault,
+        number: u64,
         writer: &mut W,
-    ) -> Result<(), PlayFault> {
+    ) -> Result<(), PlayFault>
+        ensures { IfErr result (NamesLine number) }
+    {
         let Some(speaker) = &mut self.speaker else {
-            return Err(bad_line);
+            return Err(PlayFault::BadLine(number));
         };
         let room = self.taken.as_mut_slice();
         match line {
-            Line::Speaker(_) => Err(bad_line),
-            Line::Peer(slot, conf) => command(speaker, Command::AddPeer(slot, conf), writer),
-            Line::Enable(slot) => command(speaker, Command::Enable(slot), writer),
-            Line::Reach(prefix, cost) => command(speaker, Command::Reach(prefix, cost), writer),
-            Line::Up(slot) => step(speaker, Event::Up(slot), writer),
-            Line::Fail(slot) => step(speaker, Event::Fail(slot), writer),
+            Line::Speaker(_) => return Err(PlayFault::BadLine(number)),
+            Line::Peer(slot, conf) => command(speaker, Command::AddPeer(slot, conf), writer)?,
+            Line::Enable(slot) => command(speaker, Command::Enable(slot), writer)?,
+            Line::Reach(prefix, cost) => command(speaker, Command::Reach(prefix, cost), writer)?,
+            Line::Up(slot) => step(speaker, Event::Up(slot), writer)?,
+            Line::Fail(slot) => step(speaker, Event::Fail(slot), writer)?,
             Line::Bytes(slot, octets) => {
-                step(speaker, Event::Bytes(slot, octets.as_slice()), writer)
+                step(speaker, Event::Bytes(slot, octets.as_slice()), writer)?
             }
-            Line::Take(slot, max) => take(speaker, slot, max, room, writer),
-            Line::Show(table) => show(speaker, table, writer),
+            Line::Take(slot, max) => take(speaker, slot, max, room, writer)?,
+            Line::Show(table) => show(speaker, table, writer)?,
         }
+        Ok(())
     }
 }
 
-fn write_answer<W: Write>(writer: &mut W, answer: Answer<'_>) -> Result<(), PlayFault> {
-    writeln!(writer, "{answer}")?;
-    Ok(())
+fn write_answer<W: Write>(writer: &mut W, answer: Answer<'_>) -> io::Result<()> {
+    writeln!(writer, "{answer}")
 }
 
 fn command<W: Write>(
     speaker: &mut Speaker,
     command: Command<'_>,
     writer: &mut W,
-) -> Result<(), PlayFault> {
+) -> io::Result<()> {
     step(speaker, Event::Command(command), writer)
 }
 
-fn step<W: Write>(
-    speaker: &mut Speaker,
-    event: Event<'_>,
-    writer: &mut W,
-) -> Result<(), PlayFault> {
+fn step<W: Write>(speaker: &mut Speaker, event: Event<'_>, writer: &mut W) -> io::Result<()> {
     match speaker.step(event) {
         Ok(report) => write_answer(writer, Answer::Done(report.starved)),
         Err(refusal) => write_answer(writer, Answer::Refused(refusal.number())),
@@ -184,7 +201,7 @@ fn take<W: Write>(
     max: u32,
     room: &mut [u8],
     writer: &mut W,
-) -> Result<(), PlayFault> {
+) -> io::Result<()> {
     let most = room.len().min(max as usize);
     match speaker.take(slot, &mut room[..most]) {
         Ok((count, report)) => {
@@ -195,7 +212,7 @@ fn take<W: Write>(
     }
 }
 
-fn show<W: Write>(speaker: &Speaker, table: Table, writer: &mut W) -> Result<(), PlayFault> {
+fn show<W: Write>(speaker: &Speaker, table: Table, writer: &mut W) -> io::Result<()> {
     match table {
         Table::Sessions => show_sessions(speaker, writer)?,
         Table::Rib => show_rib(speaker, writer)?,
@@ -206,7 +223,7 @@ fn show<W: Write>(speaker: &Speaker, table: Table, writer: &mut W) -> Result<(),
     write_answer(writer, Answer::End)
 }
 
-fn show_sessions<W: Write>(speaker: &Speaker, writer: &mut W) -> Result<(), PlayFault> {
+fn show_sessions<W: Write>(speaker: &Speaker, writer: &mut W) -> io::Result<()> {
     for slot in 0..PEER_SLOTS {
         if let Some(state) = speaker.session(slot) {
             write_answer(writer, Answer::Session(slot, state))?;
@@ -215,14 +232,14 @@ fn show_sessions<W: Write>(speaker: &Speaker, writer: &mut W) -> Result<(), Play
     Ok(())
 }
 
-fn show_rib<W: Write>(speaker: &Speaker, writer: &mut W) -> Result<(), PlayFault> {
+fn show_rib<W: Write>(speaker: &Speaker, writer: &mut W) -> io::Result<()> {
     for route in speaker.loc_rib() {
         write_answer(writer, Answer::Best(route))?;
     }
     Ok(())
 }
 
-fn show_in<W: Write>(speaker: &Speaker, slot: u8, writer: &mut W) -> Result<(), PlayFault> {
+fn show_in<W: Write>(speaker: &Speaker, slot: u8, writer: &mut W) -> io::Result<()> {
     let mut octets = ArrayVec::new();
     for (prefix, attrs) in speaker.adj_in(slot) {
         write_attrs(&attrs.as_received(), &mut octets);
@@ -231,14 +248,14 @@ fn show_in<W: Write>(speaker: &Speaker, slot: u8, writer: &mut W) -> Result<(), 
     Ok(())
 }
 
-fn show_held<W: Write>(speaker: &Speaker, slot: u8, writer: &mut W) -> Result<(), PlayFault> {
+fn show_held<W: Write>(speaker: &Speaker, slot: u8, writer: &mut W) -> io::Result<()> {
     for (prefix, octets) in speaker.held(slot) {
         write_answer(writer, Answer::Route(prefix, octets))?;
     }
     Ok(())
 }
 
-fn show_waiting<W: Write>(speaker: &Speaker, slot: u8, writer: &mut W) -> Result<(), PlayFault> {
+fn show_waiting<W: Write>(speaker: &Speaker, slot: u8, writer: &mut W) -> io::Result<()> {
     for prefix in speaker.waiting(slot) {
         write_answer(writer, Answer::Waiting(prefix))?;
     }
