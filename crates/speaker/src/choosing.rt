@@ -15,7 +15,7 @@ const DEFAULT_DEGREE: u64 = 100;
 
 /// A route as a candidate: its next hop resolves and is not this session's own address, and its path does
 /// not hold the own AS.
-pub fn candidate<A: Allocator>(conf: &Conf<A>, slot: u8, identifier: u32, attrs: &Attrs<A>) -> Option<Candidate> {
+pub fn candidate<A: Allocator + Clone>(conf: &Conf<A>, slot: u8, identifier: u32, attrs: &Attrs<A>) -> Option<Candidate> {
     let peer = conf.peer(slot)?;
     let origin = attrs.origin()?;
     let as_path = attrs.as_path()?;

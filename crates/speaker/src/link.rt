@@ -16,7 +16,7 @@ pub struct Link<A: Allocator = Global> {
 impl<A: Allocator + Clone> Link<A> {
     /// A slot in Idle, disabled. Takes the memory of its ring.
     pub fn new(alloc: A, own: Open, mode: Mode) -> Result<Self, AllocError> {
-        let adj_out = AdjOut::new(alloc.clone()?);
+        let adj_out = AdjOut::new(alloc.clone()?)?;
         let peer = Peer::new(alloc, own, mode)?;
         Ok(Link { peer, adj_out })
     }

@@ -21,10 +21,10 @@ use std::collections::BTreeMap;
 pub struct Speaker<A: Allocator = Global> {
     alloc: A,
     config: Config,
-    conf: Conf<A>,
-    links: BTreeMap<u8, Link<A>, A>,
-    adj_in: AdjIn<A>,
-    loc_rib: BTreeMap<Prefix, Candidate, A>,
+    pub(crate) conf: Conf<A>,
+    pub(crate) links: BTreeMap<u8, Link<A>, A>,
+    pub(crate) adj_in: AdjIn<A>,
+    pub(crate) loc_rib: BTreeMap<Prefix, Candidate, A>,
     meter: Meter,
     // Whether memory was refused to a call other than a command: nothing is answered from then on.
     stopped: bool,

@@ -10,6 +10,7 @@ use export_rules::ExportPeer;
 use net_prefix::{Prefix, Transport};
 use std::alloc::{Allocator, Global};
 use std::collections::btree_map;
+use std::ops::Bound;
 
 /// A row of Loc-RIB: a prefix, the slot of its best route, and that route's degree of preference.
 #[derive(Clone, Copy, Debug, PartialEq, Eq)]
@@ -77,6 +78,82 @@ impl<'a, A: Allocator> Iterator for HeldRoutes<'a, A> {
     }
 }
 
+/// The prefixes of which a slot's peer doesn't hold just what is exported to it, in rising order.
+#[derive(Drop)]
+pub struct WaitingPrefixes<'a, A: Allocator = Global> {
+    waiting: Option<Waiting<'a, A>>,
+}
+
+impl<A: Allocator + Clone> Iterator for WaitingPrefixes<'_, A> {
+    type Item = Prefix;
+
+    fn next(&mut self) -> Option<Prefix> {
+        match &mut self.waiting {
+            Some(waiting) => waiting.next_waiting(),
+            None => None,
+        }
+    }
+}
+
+// A walk over the prefixes of Loc-RIB and of what an Established peer holds.
+#[derive(Drop)]
+struct Waiting<'a, A: Allocator> {
+    speaker: &'a Speaker<A>,
+    link: &'a Link<A>,
+    peer: ExportPeer,
+    after: Option<Prefix>,
+    // At most how many prefixes are still to be looked at.
+    left: u64,
+}
+
+impl<'a, A: Allocator + Clone> Waiting<'a, A> {
+    fn new(speaker: &'a Speaker<A>, link: &'a Link<A>, peer: ExportPeer) -> Self {
+        Waiting {
+            speaker,
+            link,
+            peer,
+            after: None,
+            left: u64::MAX,
+        }
+    }
+
+    fn next_waiting(&mut self) -> Option<Prefix> {
+        let mut octets = Octets::new();
+        while self.left > 0 {
+            self.left -= 1;
+            let prefix = self.next_known()?;
+            self.after = Some(prefix);
+            if self.is_waiting(prefix, &mut octets) {
+                return Some(prefix);
+            }
+        }
+        None
+    }
+
+    // The least prefix above that Loc-RIB or the peer has.
+    fn next_known(&self) -> Option<Prefix> {
+        let above = match &self.after {
+            Some(prefix) => Bound::Excluded(prefix),
+            None => Bound::Unbounded,
+        };
+        let best = self.speaker.loc_rib.range((above, Bound::Unbounded)).next();
+        let held = self.link.adj_out.prefix_after(self.after);
+        match (best, held) {
+            (Some((best, _)), Some(held)) => Some(held.min(*best)),
+            (Some((best, _)), None) => Some(*best),
+            (None, held) => held,
+        }
+    }
+
+    fn is_waiting(&self, prefix: Prefix, octets: &mut Octets) -> bool {
+        if export(&self.speaker.loc_rib, &self.speaker.adj_in, &self.peer, prefix, octets) {
+            !self.link.adj_out.holds(prefix, octets.as_slice())
+        } else {
+            self.link.adj_out.get(prefix).is_some()
+        }
+    }
+}
+
 impl<A: Allocator + Clone> Speaker<A> {
     /// The state of a slot's session; none where the slot isn't configured.
     pub fn session(&self, slot: u8) -> Option<State> {
@@ -97,5 +174,37 @@ impl<A: Allocator + Clone> Speaker<A> {
         LocRib {
             routes: self.loc_rib.iter(),
         }
+    }
+
+    /// The routes that a slot's peer has announced and not taken back, in rising order; none where the slot
+    /// isn't configured.
+    pub fn adj_in(&self, slot: u8) -> AdjRibIn<'_, A> {
+        AdjRibIn {
+            routes: self.adj_in.routes(),
+            slot,
+        }
+    }
+
+    /// What a slot's peer holds of what it was sent, in rising order; nothing where the slot isn't configured.
+    pub fn held(&self, slot: u8) -> HeldRoutes<'_, A> {
+        HeldRoutes {
+            held: match self.links.get(&slot) {
+                Some(link) => Some(link.adj_out.held()),
+                None => None,
+            },
+        }
+    }
+
+    /// The prefixes of which a slot's peer doesn't hold just what is exported to it, in rising order; none
+    /// where its session isn't Established.
+    pub fn waiting(&self, slot: u8) -> WaitingPrefixes<'_, A> {
+        let waiting = match self.links.get(&slot) {
+            Some(link) if link.peer.state() == State::Established => match self.export_peer(slot) {
+                Some(peer) => Some(Waiting::new(self, link, peer)),
+                None => None,
+            },
+            _ => None,
+        };
+        WaitingPrefixes { waiting }
     }
 }
