@@ -12,6 +12,8 @@ pub const MAX_MESSAGE: usize = 4096;
 /// The octets of a header: 16 of the marker, 2 of the length, 1 of the type.
 pub const HEADER_OCTETS: usize = 19;
 
+const MARKER_OCTETS: usize = 16;
+
 /// What a message is (RFC 4271 section 4.1).
 #[derive(Clone, Copy, Debug, PartialEq, Eq)]
 pub enum MessageType {
@@ -121,6 +123,7 @@ pub fn needed(octets: &[u8]) -> usize
 }
 
 // The header at the front, or its first fault.
+#[tactic(auto, unfolding(crate::specs::MessageFaults::header_fault))]
 fn read_header(octets: &[u8]) -> Result<Header, HeaderFault>
     requires { 19 ≤ length octets.now }
     ensures fault { MatchResult result (λ _. header_fault octets.now ≡ None) (λ fault. header_fault octets.now ≡ Some fault) }
@@ -145,9 +148,15 @@ fn read_header(octets: &[u8]) -> Result<Header, HeaderFault>
 }
 
 // Whether all bits of the first 16 octets are set.
+#[tactic(auto, using(std::proofs::lemmas::List::Folds::list_all_kept), unfolding(crate::specs::MessageSpelling::has_marker))]
 fn begins_with_marker(octets: &[u8]) -> bool
     requires { 16 ≤ length octets.now }
     ensures { result ≡ has_marker octets.now }
 {
-    octets[..16].iter().all(|octet| *octet == 255)
+    for octet in &octets[..MARKER_OCTETS] {
+        if *octet != 255 {
+            return false;
+        }
+    }
+    true
 }

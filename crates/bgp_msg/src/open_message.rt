@@ -1,5 +1,5 @@
 //! The OPEN message (RFC 4271 section 4.2) with the capability of AS numbers of four octets (RFC 6793).
-ghost use Rattle.std.specs.Prelude.{◌≡◌};
+ghost use Rattle.std.specs.Prelude.{◌≡◌, ◌<◌, IfSome, length};
 ghost use Rattle.bgp_msg.specs.MessageSpelling.{four_octet_as_capability};
 
 use crate::fault::OpenFault;
@@ -129,7 +129,9 @@ fn asn_of(value: &[u8]) -> Option<Asn> {
 }
 
 // A parameter or capability at the front: its type, its value, and the octets behind it.
-fn split_part(octets: &[u8]) -> Option<(u8, &[u8], &[u8])> {
+fn split_part(octets: &[u8]) -> Option<(u8, &[u8], &[u8])>
+    ensures { IfSome result (λ part. length part.2.now < length octets.now) }
+{
     let [kind, length, rest @ ..] = octets else {
         return None;
     };

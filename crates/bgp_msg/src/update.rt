@@ -1,4 +1,6 @@
 //! The UPDATE message (RFC 4271 section 4.3).
+ghost use Rattle.std.specs.Prelude.{length};
+ghost use Rattle.std.specs.Iterator.{at_most};
 
 use bgp_attr::{Attrs, PeerKind, UpdateFault, read_attrs};
 use net_prefix::{Prefix, read_prefix};

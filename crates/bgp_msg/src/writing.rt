@@ -1,5 +1,6 @@
 //! Messages written (RFC 4271 section 4).
-ghost use Rattle.std.specs.Prelude.{◌≡◌, ◌≤◌, ◌<◌, ◌+◌, ◌*◌, ◌++◌, length};
+ghost use Rattle.std.specs.Prelude.{◌≡◌, ◌≤◌, ◌<◌, ◌+◌, ◌*◌, ◌^◌, ◌++◌, [], length};
+ghost use Rattle.bgp_msg.specs.MessageSpelling.{header_of, open_of, two_octet_as_of, wire_form, update_of};
 
 use crate::frame::MessageType;
 use crate::open_message::{BGP_VERSION, CAPABILITIES, Open, four_octet_as};
@@ -12,8 +13,10 @@ const AS_TRANS: u16 = 23456;
 const MARKER: [u8; 16] = [255; 16];
 
 /// Writes an OPEN with one optional parameter, the capability of AS numbers of four octets.
+#[tactic(auto, unfolding(crate::specs::MessageSpelling::open_of))]
 pub fn write_open(message: &Open, out: &mut ArrayVec<u8, 4096>)
-    ensures { length out.new.items ≡ 37 }
+    ensures octets { out.new.items ≡ open_of message.now.asn.0 message.now.hold_time message.now.identifier }
+    ensures len { length out.new.items ≡ 37 }
 {
     begin(MessageType::Open, 37, out);
     append(&[BGP_VERSION], out);
@@ -26,14 +29,18 @@ pub fn write_open(message: &Open, out: &mut ArrayVec<u8, 4096>)
 
 /// Writes a KEEPALIVE.
 pub fn write_keepalive(out: &mut ArrayVec<u8, 4096>)
-    ensures { length out.new.items ≡ 19 }
+    ensures octets { out.new.items ≡ header_of MessageType.Keepalive 19 }
+    ensures len { length out.new.items ≡ 19 }
 {
     begin(MessageType::Keepalive, 19, out);
 }
 
 /// Writes an UPDATE that withdraws these prefixes.
+#[tactic(auto, unfolding(crate::specs::MessageSpelling::update_of))]
 pub fn write_withdrawal(prefixes: &[Prefix], out: &mut ArrayVec<u8, 4096>)
     requires { 5 * length prefixes.now ≤ 4073 }
+    ensures octets { out.new.items ≡ update_of (wire_form prefixes.now) [] [] }
+    ensures len { length out.new.items ≡ 23 + length (wire_form prefixes.now) }
     ensures least { 23 ≤ length out.new.items }
     ensures most { length out.new.items ≤ 4096 }
 {
@@ -45,8 +52,11 @@ pub fn write_withdrawal(prefixes: &[Prefix], out: &mut ArrayVec<u8, 4096>)
 }
 
 /// Writes an UPDATE that announces these prefixes with these octets of path attributes.
+#[tactic(auto, unfolding(crate::specs::MessageSpelling::update_of))]
 pub fn write_announcement(attrs: &[u8], prefixes: &[Prefix], out: &mut ArrayVec<u8, 4096>)
     requires { length attrs.now + 5 * length prefixes.now ≤ 4073 }
+    ensures octets { out.new.items ≡ update_of [] attrs.now (wire_form prefixes.now) }
+    ensures len { length out.new.items ≡ 23 + length attrs.now + length (wire_form prefixes.now) }
     ensures least { 23 ≤ length out.new.items }
     ensures most { length out.new.items ≤ 4096 }
 {
@@ -59,33 +69,49 @@ pub fn write_announcement(attrs: &[u8], prefixes: &[Prefix], out: &mut ArrayVec<
 }
 
 // The AS as a field of two octets shows it.
-fn two_octet_as(asn: Asn) -> u16 {
+fn two_octet_as(asn: Asn) -> u16
+    ensures { result ≡ two_octet_as_of asn.0 }
+{
     u16::try_from(asn.0).unwrap_or(AS_TRANS)
 }
 
 // Begins a message anew by its header.
-fn begin(kind: MessageType, length: u16, out: &mut ArrayVec<u8, 4096>) {
+#[tactic(auto, unfolding(crate::specs::MessageSpelling::header_of, crate::specs::MessageSpelling::marker))]
+fn begin(kind: MessageType, told: u16, out: &mut ArrayVec<u8, 4096>)
+    ensures octets { out.new.items ≡ header_of kind told }
+    ensures len { length out.new.items ≡ 19 }
+{
     out.clear();
     append(&MARKER, out);
-    append(&length.to_be_bytes(), out);
+    append(&told.to_be_bytes(), out);
     append(&[kind.octet()], out);
 }
 
 fn append(octets: &[u8], out: &mut ArrayVec<u8, 4096>)
     requires { length out.old.items + length octets.now ≤ 4096 }
-    ensures { out.new.items ≡ out.old.items ++ octets.now }
+    ensures octets { out.new.items ≡ out.old.items ++ octets.now }
+    ensures len { length out.new.items ≡ length out.old.items + length octets.now }
 {
     let _fits = out.try_extend_from_slice(octets);
 }
 
-fn append_prefixes(prefixes: &[Prefix], out: &mut ArrayVec<u8, 4096>) {
+fn append_prefixes(prefixes: &[Prefix], out: &mut ArrayVec<u8, 4096>)
+    requires { length out.old.items + 5 * length prefixes.now ≤ 4096 }
+    ensures octets { out.new.items ≡ out.old.items ++ wire_form prefixes.now }
+    ensures len { length out.new.items ≡ length out.old.items + length (wire_form prefixes.now) }
+    ensures most { length (wire_form prefixes.now) ≤ 5 * length prefixes.now }
+{
     for prefix in prefixes {
         append(prefix.to_octets().as_slice(), out);
     }
 }
 
 // How many octets the prefixes take in their wire form.
-fn wire_length(prefixes: &[Prefix]) -> u16 {
+fn wire_length(prefixes: &[Prefix]) -> u16
+    requires { 5 * length prefixes.now ≤ 4096 }
+    ensures value { result ≡ length (wire_form prefixes.now) }
+    ensures most { result ≤ 5 * length prefixes.now }
+{
     let mut total = 0;
     for prefix in prefixes {
         total += prefix.to_octets().len() as u16;
