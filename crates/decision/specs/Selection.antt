@@ -3,7 +3,7 @@ use Rattle.std.specs.Prelude.{◌≡◌, ◌≢◌, ℕ, Bool, nat_lt, not, ◌&
 use Rattle.std.specs.List.{list_any}
 use Rattle.bgp_attr.specs.declared.Origin.{Origin}
 use Rattle.bgp_attr.specs.declared.Origin.TheVariants.{Igp, Egp, Incomplete}
-use Rattle.decision.specs.declared.Candidate.{Candidate}
+use Rattle.decision.specs.declared.candidate.Candidate.{Candidate}
 
 -- the members that no member beats
 unfoldable pub unbeaten : (Candidate → Candidate → Bool) → List Candidate → List Candidate

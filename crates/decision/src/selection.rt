@@ -1,8 +1,8 @@
 //! The steps of the selection.
-ghost use Rattle.std.specs.Prelude.{◌≡◌, ◌≢◌, ◌≤◌, ◌+◌, ◌-◌, ◌^◌, [], length, min, MatchOption, filter, ◌==◌};
-ghost use Rattle.decision.specs.Selection.{AreDistinct, IsSelected, unbeaten};
-ghost use Rattle.decision.specs.Steps.{beats, key_of};
-ghost use Rattle.decision.specs.declared.Candidate.{Candidate as Route};
+ghost use Rattle.std.specs.Prelude.{◌≡◌, ◌≢◌, ◌≤◌, ◌+◌, ◌-◌, ◌^◌, [], length, min, MatchOption, slice_get};
+ghost use Rattle.decision.specs.Selection.{AreDistinct, IsSelected, has_greater_degree, selection, unbeaten};
+ghost use Rattle.decision.specs.Steps.{beats, greatest_of, key_of, lowest_of};
+ghost use Rattle.decision.specs.declared.candidate.Candidate.{Candidate as Route};
 
 use crate::candidate::{Candidate, MAX_CANDIDATES};
 use crate::meter::Meter;
@@ -12,10 +12,9 @@ use bgp_attr::Origin;
 // The candidates that are left.
 type Left = ArrayVec<Candidate, MAX_CANDIDATES>;
 
-// The steps that follow the degree of preference (RFC 4271 section 9.1.2.2), and the degree itself.
+// The steps that break ties (RFC 4271 section 9.1.2.2).
 #[derive(Clone, Copy)]
 enum Step {
-    HighestDegree,
     FewestAses,
     LowestOrigin,
     ExternalFirst,
@@ -26,21 +25,20 @@ enum Step {
 
 impl Step {
     // The number by which the step goes: the lowest one stays.
-    fn key(self, candidate: &Candidate) -> u64
+    fn key(self, candidate: &Candidate) -> u32
         ensures { result ≡ key_of self candidate.now }
     {
         match self {
-            Step::HighestDegree => u64::MAX - candidate.degree,
-            Step::FewestAses => u64::from(candidate.path_length),
+            Step::FewestAses => candidate.path_length,
             Step::LowestOrigin => match candidate.origin {
                 Origin::Igp => 0,
                 Origin::Egp => 1,
                 Origin::Incomplete => 2,
             },
-            Step::ExternalFirst => u64::from(!candidate.external),
-            Step::LowestCost => u64::from(candidate.cost),
-            Step::LowestIdentifier => u64::from(candidate.identifier),
-            Step::LowestAddress => u64::from(candidate.address),
+            Step::ExternalFirst => u32::from(!candidate.external),
+            Step::LowestCost => candidate.cost,
+            Step::LowestIdentifier => candidate.identifier,
+            Step::LowestAddress => candidate.address,
         }
     }
 }
@@ -60,12 +58,15 @@ pub fn choose(meter: &mut Meter, candidates: &[Candidate]) -> Option<Candidate>
 }
 
 // What the selection leaves of more than one candidate.
-fn selected(candidates: &[Candidate]) -> Option<Candidate> {
+fn selected(candidates: &[Candidate]) -> Option<Candidate>
+    requires few { length candidates.now ≤ MAX_CANDIDATES }
+    ensures { result ≡ slice_get (selection candidates.now) 0 }
+{
     let mut left = Left::new();
-    for candidate in candidates {
-        left.push(*candidate);
+    if left.try_extend_from_slice(candidates).is_err() {
+        return None;
     }
-    keep_lowest(&mut left, Step::HighestDegree);
+    keep_preferred(&mut left);
     keep_lowest(&mut left, Step::FewestAses); // (a)
     keep_lowest(&mut left, Step::LowestOrigin); // (b)
     keep_lowest(&mut left, Step::ExternalFirst); // (d)
@@ -75,21 +76,36 @@ fn selected(candidates: &[Candidate]) -> Option<Candidate> {
     left.first().copied()
 }
 
+// Keeps the candidates of the greatest degree of preference.
+fn keep_preferred(left: &mut Left)
+    ensures { left.new.items ≡ unbeaten has_greater_degree left.old.items }
+{
+    let greatest = greatest_degree(left.as_slice());
+    left.retain(|candidate| greatest <= candidate.degree);
+}
+
+// The greatest degree of preference of the candidates.
+fn greatest_degree(candidates: &[Candidate]) -> u64
+    ensures { result ≡ greatest_of candidates.now }
+{
+    candidates.iter().fold(0, |greatest, candidate| candidate.degree.max(greatest))
+}
+
 // Keeps the candidates whose key is the lowest.
 fn keep_lowest(left: &mut Left, step: Step)
     ensures { left.new.items ≡ unbeaten (beats step) left.old.items }
 {
-    let lowest = lowest_key(left.as_slice(), step);
-    left.retain(|candidate| step.key(candidate) == lowest);
+    if let Some(lowest) = lowest_key(left.as_slice(), step) {
+        left.retain(|candidate| step.key(candidate) <= lowest);
+    }
 }
 
 // The lowest key of the candidates.
-fn lowest_key(candidates: &[Candidate], step: Step) -> u64 {
-    let mut lowest = u64::MAX;
-    for candidate in candidates {
-        lowest = lowest.min(step.key(candidate));
-    }
-    lowest
+fn lowest_key(candidates: &[Candidate], step: Step) -> Option<u32>
+    ensures { result ≡ lowest_of (key_of step) candidates.now }
+{
+    let (first, rest) = candidates.split_first()?;
+    Some(rest.iter().fold(step.key(first), |lowest, candidate| step.key(candidate).min(lowest)))
 }
 
 /// Distinct candidates, of which there is one at least, leave one.

@@ -1,0 +1,64 @@
+-- What a step keeps is what no member beats.
+use Rattle.std.proofs.Common.{◌≡◌, ℕ, Bool, true, false, not, ◌||◌, nat_lt, nat_le, min, max, List, [], ◌∷◌, fold, filter, Some, None, Option, refl, sym, ◌∙◌, ap, rules, arith}
+use Rattle.std.specs.List.{list_any}
+use Rattle.std.proofs.lemmas.List.Elements.{filter_agree}
+use Rattle.std.proofs.lemmas.Bool.Decides.{nat_tests}
+use Rattle.decision.specs.declared.candidate.Candidate.{Candidate}
+use Rattle.decision.specs.declared.selection.Step.{Step}
+use Rattle.decision.specs.Selection.{unbeaten, has_greater_degree}
+use Rattle.decision.specs.Steps.{beats, key_of, greatest_of, lowest_of}
+
+or_turn : (a b c : Bool) → ((a || b) || c) ≡ (b || (a || c))
+or_turn true true c = refl
+or_turn true false c = refl
+or_turn false true c = refl
+or_turn false false c = refl
+
+min_below : (k m n : ℕ) → (nat_lt m k || nat_lt n k) ≡ nat_lt (min m n) k
+min_below k m n = grind (arith, nat_tests)
+
+max_above : (k m n : ℕ) → (nat_lt k m || nat_lt k n) ≡ nat_lt k (max m n)
+max_above k m n = grind (arith, nat_tests)
+
+le_not_lt : (m n : ℕ) → nat_le m n ≡ not (nat_lt n m)
+le_not_lt m n = grind (arith, nat_tests)
+
+-- a number below k stands among them or is m, if the least of all is below k
+any_below : (key : Candidate → ℕ) (k m : ℕ) (cs : List Candidate) → (list_any (λ d. nat_lt (key d) k) cs || nat_lt m k) ≡ nat_lt (fold (λ lowest d. min (key d) lowest) m cs) k
+any_below key k m [] = refl
+any_below key k m (c ∷ cs) =
+    or_turn (nat_lt (key c) k) (list_any (λ d. nat_lt (key d) k) cs) (nat_lt m k)
+    ∙ ap (λ b. list_any (λ d. nat_lt (key d) k) cs || b) (min_below k (key c) m)
+    ∙ any_below key k (min (key c) m) cs
+
+-- a degree above k stands among them, or m is above k, if the greatest of all is above k
+any_above : (k m : ℕ) (cs : List Candidate) → (list_any (λ d. nat_lt k d.degree) cs || nat_lt k m) ≡ nat_lt k (fold (λ greatest d. max d.degree greatest) m cs)
+any_above k m [] = refl
+any_above k m (c ∷ cs) =
+    or_turn (nat_lt k c.degree) (list_any (λ d. nat_lt k d.degree) cs) (nat_lt k m)
+    ∙ ap (λ b. list_any (λ d. nat_lt k d.degree) cs || b) (max_above k c.degree m)
+    ∙ any_above k (max c.degree m) cs
+
+or_comm : (a b : Bool) → (a || b) ≡ (b || a)
+or_comm true true = refl
+or_comm true false = refl
+or_comm false true = refl
+or_comm false false = refl
+
+none_below_zero : (n : ℕ) → nat_lt n 0 ≡ false
+none_below_zero n = grind (arith, nat_tests)
+
+or_false : (a : Bool) → a ≡ (a || false)
+or_false true = refl
+or_false false = refl
+
+-- the candidates of the lowest number are those that none has a lower one than
+lowest_unbeaten : (key : Candidate → ℕ) (c : Candidate) (cs : List Candidate) →
+    filter (λ x. nat_le (key x) (fold (λ lowest d. min (key d) lowest) (key c) cs)) (c ∷ cs) ≡ unbeaten (λ d x. nat_lt (key d) (key x)) (c ∷ cs)
+unfolding unbeaten
+lowest_unbeaten key c cs = filter_agree _ _ (λ x. le_not_lt (key x) (fold (λ lowest d. min (key d) lowest) (key c) cs) ∙ ap not (sym (or_comm (nat_lt (key c) (key x)) (list_any (λ d. nat_lt (key d) (key x)) cs) ∙ any_below key (key x) (key c) cs))) (c ∷ cs)
+
+-- the candidates of the greatest degree are those that none has a greater one than
+pub greatest_unbeaten : (cs : List Candidate) → filter (λ x. nat_le (greatest_of cs) x.degree) cs ≡ unbeaten has_greater_degree cs
+unfolding unbeaten
+greatest_unbeaten cs = filter_agree _ _ (λ x. le_not_lt (greatest_of cs) x.degree ∙ ap not (sym (or_false (list_any (λ d. nat_lt x.degree d.degree) cs) ∙ ap (λ b. list_any (λ d. nat_lt x.degree d.degree) cs || b) (sym (none_below_zero x.degree)) ∙ any_above x.degree 0 cs))) cs
