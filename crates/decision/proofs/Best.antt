@@ -1,10 +1,12 @@
 -- What a step keeps is what no member beats.
-use Rattle.std.proofs.Common.{◌≡◌, ℕ, Bool, true, false, not, ◌||◌, nat_lt, nat_le, min, max, List, [], ◌∷◌, fold, filter, Some, None, Option, refl, sym, ◌∙◌, ap, rules, arith}
+use Rattle.std.proofs.Common.{◌≡◌, ℕ, Bool, true, false, not, ◌||◌, ◌&&◌, if◌then◌else◌, nat_lt, nat_le, min, max, List, [], ◌∷◌, fold, filter, Some, None, Option, refl, sym, ◌∙◌, ap, rules, arith}
 use Rattle.std.specs.List.{list_any}
 use Rattle.std.proofs.lemmas.List.Elements.{filter_agree}
 use Rattle.std.proofs.lemmas.Bool.Decides.{nat_tests}
 use Rattle.decision.specs.declared.candidate.Candidate.{Candidate}
+use Rattle.std.proofs.Math.Path.{fun_ext}
 use Rattle.decision.specs.declared.selection.Step.{Step}
+use Rattle.decision.specs.declared.selection.Step.TheVariants.{FewestAses, LowestOrigin, ExternalFirst, LowestCost, LowestIdentifier, LowestAddress}
 use Rattle.decision.specs.Selection.{unbeaten, has_greater_degree}
 use Rattle.decision.specs.Steps.{beats, key_of, greatest_of, lowest_of}
 
@@ -62,3 +64,34 @@ lowest_unbeaten key c cs = filter_agree _ _ (λ x. le_not_lt (key x) (fold (λ l
 pub greatest_unbeaten : (cs : List Candidate) → filter (λ x. nat_le (greatest_of cs) x.degree) cs ≡ unbeaten has_greater_degree cs
 unfolding unbeaten
 greatest_unbeaten cs = filter_agree _ _ (λ x. le_not_lt (greatest_of cs) x.degree ∙ ap not (sym (or_false (list_any (λ d. nat_lt x.degree d.degree) cs) ∙ ap (λ b. list_any (λ d. nat_lt x.degree d.degree) cs || b) (sym (none_below_zero x.degree)) ∙ any_above x.degree 0 cs))) cs
+
+none_unbeaten : (beats : Candidate → Candidate → Bool) → [] ≡ unbeaten beats []
+unfolding unbeaten
+none_unbeaten beats = refl
+
+external_lower : (a b : Bool) → nat_lt (if a then 0 else 1) (if b then 0 else 1) ≡ (a && not b)
+external_lower true true = refl
+external_lower true false = refl
+external_lower false true = refl
+external_lower false false = refl
+
+-- what a step compares is its number
+pub beats-key : (step : Step) → (λ d x. nat_lt (key_of step d) (key_of step x)) ≡ beats step
+beats-key FewestAses = refl
+beats-key LowestOrigin = refl
+beats-key ExternalFirst = fun_ext (λ d. fun_ext (λ x. external_lower d.external x.external))
+beats-key LowestCost = refl
+beats-key LowestIdentifier = refl
+beats-key LowestAddress = refl
+
+-- what a step keeps, where there is a lowest number and where there is none
+pub step_keeps : (step : Step) (cs : List Candidate) (key : ℕ) → lowest_of (key_of step) cs ≡ Some key →
+    filter (λ x. nat_le (key_of step x) key) cs ≡ unbeaten (beats step) cs
+step_keeps step [] key e = cc
+step_keeps step (c ∷ cs) key e =
+    let is : fold (λ lowest d. min (key_of step d) lowest) (key_of step c) cs ≡ key = cc in
+    ap (λ k. filter (λ x. nat_le (key_of step x) k) (c ∷ cs)) (sym is) ∙ lowest_unbeaten (key_of step) c cs ∙ ap (λ b. unbeaten b (c ∷ cs)) (beats-key step)
+
+pub step_keeps_none : (step : Step) (cs : List Candidate) → lowest_of (key_of step) cs ≡ None → [] ≡ unbeaten (beats step) cs
+step_keeps_none step [] e = none_unbeaten (beats step)
+step_keeps_none step (c ∷ cs) e = cc

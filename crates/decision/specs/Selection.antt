@@ -1,8 +1,7 @@
 -- The selection of a prefix's best route (RFC 4271 sections 9.1.1 and 9.1.2.2).
 use Rattle.std.specs.Prelude.{◌≡◌, ◌≢◌, ℕ, Bool, nat_lt, not, ◌&&◌, List, [], ◌∷◌, filter, fold, AllPairs}
 use Rattle.std.specs.List.{list_any}
-use Rattle.bgp_attr.specs.declared.Origin.{Origin}
-use Rattle.bgp_attr.specs.declared.Origin.TheVariants.{Igp, Egp, Incomplete}
+use Rattle.bgp_attr.specs.PathAttributes.{origin_octet}
 use Rattle.decision.specs.declared.candidate.Candidate.{Candidate}
 
 -- the members that no member beats
@@ -17,15 +16,9 @@ has_greater_degree d c = nat_lt c.degree d.degree
 abbrev pub has_fewer_ases : Candidate → Candidate → Bool
 has_fewer_ases d c = nat_lt d.path_length c.path_length
 
--- the number of an ORIGIN
-abbrev pub origin_rank : Origin → ℕ
-origin_rank Igp = 0
-origin_rank Egp = 1
-origin_rank Incomplete = 2
-
 -- (b) the ORIGIN is lower
 abbrev pub has_lower_origin : Candidate → Candidate → Bool
-has_lower_origin d c = nat_lt (origin_rank d.origin) (origin_rank c.origin)
+has_lower_origin d c = nat_lt (origin_octet d.origin) (origin_octet c.origin)
 
 -- (d) an external peer announced the one, and none the other
 abbrev pub is_external_alone : Candidate → Candidate → Bool
@@ -60,6 +53,10 @@ selection cs =
 abbrev pub IsSelected : List Candidate → Candidate → Type 0
 IsSelected cs c = selection cs ≡ c ∷ []
 
+-- two of one degree have different addresses
+abbrev pub DifferInRank : Candidate → Candidate → Type 0
+DifferInRank c d = c.degree ≡ d.degree → c.address ≢ d.address
+
 -- any two of them differ in degree or in address
 abbrev pub AreDistinct : List Candidate → Type 0
-AreDistinct cs = AllPairs (λ c d. c.degree ≡ d.degree → c.address ≢ d.address) cs
+AreDistinct cs = AllPairs DifferInRank cs

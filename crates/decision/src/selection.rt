@@ -1,5 +1,5 @@
 //! The steps of the selection.
-ghost use Rattle.std.specs.Prelude.{◌≡◌, ◌≢◌, ◌≤◌, ◌+◌, ◌-◌, ◌^◌, [], length, min, MatchOption, slice_get};
+ghost use Rattle.std.specs.Prelude.{◌≡◌, ◌≢◌, ◌≤◌, ◌+◌, ◌-◌, ◌^◌, [], filter, length, min, nat_le, MatchOption, slice_get};
 ghost use Rattle.decision.specs.Selection.{AreDistinct, IsSelected, has_greater_degree, selection, unbeaten};
 ghost use Rattle.decision.specs.Steps.{beats, greatest_of, key_of, lowest_of};
 ghost use Rattle.decision.specs.declared.candidate.Candidate.{Candidate as Route};
@@ -7,7 +7,6 @@ ghost use Rattle.decision.specs.declared.candidate.Candidate.{Candidate as Route
 use crate::candidate::{Candidate, MAX_CANDIDATES};
 use crate::meter::Meter;
 use arrayvec::ArrayVec;
-use bgp_attr::Origin;
 
 // The candidates that are left.
 type Left = ArrayVec<Candidate, MAX_CANDIDATES>;
@@ -30,11 +29,7 @@ impl Step {
     {
         match self {
             Step::FewestAses => candidate.path_length,
-            Step::LowestOrigin => match candidate.origin {
-                Origin::Igp => 0,
-                Origin::Egp => 1,
-                Origin::Incomplete => 2,
-            },
+            Step::LowestOrigin => u32::from(candidate.origin.octet()),
             Step::ExternalFirst => u32::from(!candidate.external),
             Step::LowestCost => candidate.cost,
             Step::LowestIdentifier => candidate.identifier,
@@ -62,26 +57,23 @@ fn selected(candidates: &[Candidate]) -> Option<Candidate>
     requires few { length candidates.now ≤ MAX_CANDIDATES }
     ensures { result ≡ slice_get (selection candidates.now) 0 }
 {
-    let mut left = Left::new();
-    if left.try_extend_from_slice(candidates).is_err() {
-        return None;
-    }
-    keep_preferred(&mut left);
-    keep_lowest(&mut left, Step::FewestAses); // (a)
-    keep_lowest(&mut left, Step::LowestOrigin); // (b)
-    keep_lowest(&mut left, Step::ExternalFirst); // (d)
-    keep_lowest(&mut left, Step::LowestCost); // (e)
-    keep_lowest(&mut left, Step::LowestIdentifier); // (f)
-    keep_lowest(&mut left, Step::LowestAddress); // (g)
+    let left = preferred(candidates);
+    let left = lowest(left.as_slice(), Step::FewestAses); // (a)
+    let left = lowest(left.as_slice(), Step::LowestOrigin); // (b)
+    let left = lowest(left.as_slice(), Step::ExternalFirst); // (d)
+    let left = lowest(left.as_slice(), Step::LowestCost); // (e)
+    let left = lowest(left.as_slice(), Step::LowestIdentifier); // (f)
+    let left = lowest(left.as_slice(), Step::LowestAddress); // (g)
     left.first().copied()
 }
 
-// Keeps the candidates of the greatest degree of preference.
-fn keep_preferred(left: &mut Left)
-    ensures { left.new.items ≡ unbeaten has_greater_degree left.old.items }
+// The candidates of the greatest degree of preference.
+fn preferred(candidates: &[Candidate]) -> Left
+    requires { length candidates.now ≤ MAX_CANDIDATES }
+    ensures { result.items ≡ unbeaten has_greater_degree candidates.now }
 {
-    let greatest = greatest_degree(left.as_slice());
-    left.retain(|candidate| greatest <= candidate.degree);
+    let greatest = greatest_degree(candidates);
+    from_degree(candidates, greatest)
 }
 
 // The greatest degree of preference of the candidates.
@@ -91,12 +83,28 @@ fn greatest_degree(candidates: &[Candidate]) -> u64
     candidates.iter().fold(0, |greatest, candidate| candidate.degree.max(greatest))
 }
 
-// Keeps the candidates whose key is the lowest.
-fn keep_lowest(left: &mut Left, step: Step)
-    ensures { left.new.items ≡ unbeaten (beats step) left.old.items }
+// The candidates of this degree of preference and above.
+fn from_degree(candidates: &[Candidate], degree: u64) -> Left
+    requires { length candidates.now ≤ MAX_CANDIDATES }
+    ensures { result.items ≡ filter (λ c. nat_le degree c.degree) candidates.now }
 {
-    if let Some(lowest) = lowest_key(left.as_slice(), step) {
-        left.retain(|candidate| step.key(candidate) <= lowest);
+    let mut kept = Left::new();
+    for candidate in candidates {
+        if degree <= candidate.degree {
+            kept.push(*candidate);
+        }
+    }
+    kept
+}
+
+// The candidates of the lowest key.
+fn lowest(candidates: &[Candidate], step: Step) -> Left
+    requires { length candidates.now ≤ MAX_CANDIDATES }
+    ensures { result.items ≡ unbeaten (beats step) candidates.now }
+{
+    match lowest_key(candidates, step) {
+        Some(key) => up_to_key(candidates, step, key),
+        None => Left::new(),
     }
 }
 
@@ -106,6 +114,20 @@ fn lowest_key(candidates: &[Candidate], step: Step) -> Option<u32>
 {
     let (first, rest) = candidates.split_first()?;
     Some(rest.iter().fold(step.key(first), |lowest, candidate| step.key(candidate).min(lowest)))
+}
+
+// The candidates of this key and below.
+fn up_to_key(candidates: &[Candidate], step: Step, key: u32) -> Left
+    requires { length candidates.now ≤ MAX_CANDIDATES }
+    ensures { result.items ≡ filter (λ c. nat_le (key_of step c) key) candidates.now }
+{
+    let mut kept = Left::new();
+    for candidate in candidates {
+        if step.key(candidate) <= key {
+            kept.push(*candidate);
+        }
+    }
+    kept
 }
 
 /// Distinct candidates, of which there is one at least, leave one.

@@ -1,5 +1,0 @@
-use Rattle.decision.proofs.selection.keep_lowest.Goals as goal
-pub returns-in-Some : goal.returns-in-Some
-returns-in-Some c = ?
-pub returns-in_default : goal.returns-in_default
-returns-in_default c = ?
