@@ -1,4 +1,4 @@
-use Rattle.std.specs.Prelude.{◌≡◌, ◌+◌, ◌*◌, ◌<◌, ◌≤◌, ◌&&◌, ◌||◌, ◌==◌, nat_lt, if◌then◌else◌, Bool, true, false, ℕ, suc, zero, List, [], ◌∷◌, ◌++◌, length, sum_by, Option, Some, None}
+use Rattle.std.specs.Prelude.{◌+◌, ◌-◌, ◌*◌, ◌==◌, nat_lt, if◌then◌else◌, Bool, ℕ, suc, zero, List, [], ◌∷◌, length, slice_get, Option, Some, None}
 use Rattle.std.specs.List.{list_any}
 use Rattle.net_prefix.specs.declared.asn.Asn.{Asn}
 use Rattle.bgp_attr.specs.declared.as_path.SegmentKind.{SegmentKind}
@@ -10,11 +10,6 @@ use Rattle.bgp_attr.specs.declared.as_path.SegmentKind.TheVariants.{Set, Sequenc
 pub record PathSegment : Type 0 where
   pub kind : SegmentKind
   pub asns : List Asn
-
--- a segment has 1 to 255 ASes
-pub record IsCounted (segment : PathSegment) : Type 0 where
-  pub some : 0 < length segment.asns
-  pub few : length segment.asns ≤ 255
 
 -- the octets that a segment takes: its type, its count, and four for each AS
 abbrev pub segment_octets : PathSegment → ℕ
@@ -39,22 +34,19 @@ path_length_of (segment ∷ more) = counted segment.kind (length segment.asns) +
 abbrev pub has_as : List PathSegment → Asn → Bool
 has_as path asn = list_any (λ segment. list_any (λ a. a.0 == asn.0) segment.asns) path
 
--- the last AS of a list
-abbrev pub last_of : List Asn → Option Asn
-last_of [] = None
-last_of (asn ∷ []) = Some asn
-last_of (asn ∷ next ∷ more) = last_of (next ∷ more)
-
 -- the AS that a final segment names as the origin: none where it is a set
 abbrev pub last_as : SegmentKind → List Asn → Option Asn
 last_as Set asns = None
-last_as Sequence asns = last_of asns
+last_as Sequence asns = slice_get asns (length asns - 1)
+
+-- the origin AS that a final segment tells, or one's own AS where there is none
+abbrev pub origin_at_end : Option PathSegment → Asn → Option Asn
+origin_at_end None own = Some own
+origin_at_end (Some segment) own = last_as segment.kind segment.asns
 
 -- the origin AS (RFC 6811 section 2): that of the final segment, or one's own AS where the path is empty
 abbrev pub origin_as_of : List PathSegment → Asn → Option Asn
-origin_as_of [] own = Some own
-origin_as_of (segment ∷ []) own = last_as segment.kind segment.asns
-origin_as_of (segment ∷ next ∷ more) own = origin_as_of (next ∷ more) own
+origin_as_of path own = origin_at_end (slice_get path (length path - 1)) own
 
 -- the first AS of a list, or another one where there is none
 abbrev pub first_of : List Asn → Asn → Asn

@@ -75,6 +75,16 @@ impl<A: Allocator> Segment<A> {
     {
         self.asns.as_slice()
     }
+
+    // What the segment counts for in the length of a path.
+    fn counted(&self) -> u32
+        ensures { result ≡ counted self.now.kind (length self.now.asns) }
+    {
+        match self.kind {
+            SegmentKind::Set => 1,
+            SegmentKind::Sequence => self.asns.len() as u32,
+        }
+    }
 }
 
 /// A path of at most 65,535 octets.
@@ -103,16 +113,19 @@ impl<A: Allocator> AsPath<A> {
     }
 
     /// The segments, the latest first.
+    #[tactic(auto, using(crate::proofs::PathLemmas::path_length_le))]
     pub fn segments(&self) -> &[Segment<A>]
         ensures value { result.now ≡ self.now }
         ensures short { path_octets result.now ≤ 65535 }
+        ensures few { path_length_of result.now ≤ 65535 }
     {
         self.segments.as_slice()
     }
 
     // The octets that the path takes.
     pub(crate) fn octets(&self) -> usize
-        ensures { result ≡ path_octets self.now }
+        ensures value { result ≡ path_octets self.now }
+        ensures short { result ≤ 65535 }
     {
         let mut total = 0;
         for segment in self.segments() {
@@ -127,10 +140,7 @@ impl<A: Allocator> AsPath<A> {
     {
         let mut total = 0;
         for segment in self.segments() {
-            total += match segment.kind() {
-                SegmentKind::Set => 1,
-                SegmentKind::Sequence => segment.asns().len() as u32,
-            };
+            total += segment.counted();
         }
         total
     }
@@ -154,9 +164,9 @@ fn names(asns: &[Asn], asn: Asn) -> bool
 pub fn origin_as<A: Allocator>(path: &AsPath<A>, own: Asn) -> Option<Asn>
     ensures { result ≡ origin_as_of path.now own }
 {
-    match path.segments() {
-        [] => Some(own),
-        [.., last] => match last.kind() {
+    match path.segments().last() {
+        None => Some(own),
+        Some(last) => match last.kind() {
             SegmentKind::Set => None,
             SegmentKind::Sequence => last.asns().last().copied(),
         },

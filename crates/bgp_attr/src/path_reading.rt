@@ -27,6 +27,7 @@ fn begins_with<A: Allocator>(segments: &[Segment<A>], asn: Asn) -> bool {
     }
 }
 
+#[tactic(auto, using(crate::proofs::PathLemmas::path_octets_append))]
 fn read_segments<'a, A: Allocator + Clone>(alloc: A, octets: &'a [u8]) -> Result<Vec<Segment<A>, A>, UpdateFault<'a>>
     ensures { IfOk result (λ segments. path_octets segments.items ≡ length octets.now) }
 {
