@@ -1,3 +1,4 @@
+pub mod StateNames
 pub mod SessionTable
 pub mod Transports
 pub mod Laws

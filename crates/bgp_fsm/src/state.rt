@@ -1,4 +1,6 @@
 //! The states of a session.
+ghost use Rattle.std.specs.Prelude.{Some};
+ghost use Rattle.bgp_fsm.specs.StateNames.{name_of};
 
 use std::fmt;
 
@@ -14,6 +16,8 @@ pub enum State {
 }
 
 impl fmt::Display for State {
+    ghost output = { λ state. Some (name_of state) };
+
     fn fmt<W: fmt::Write>(&self, f: &mut fmt::Formatter<W>) -> fmt::Result {
         f.write_str(match self {
             State::Idle => "Idle",

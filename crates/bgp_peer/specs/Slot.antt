@@ -4,7 +4,8 @@ use Rattle.bgp_attr.specs.declared.peer.Mode.{Mode}
 use Rattle.bgp_msg.specs.declared.open_message.Open.{Open as OpenMessage}
 use Rattle.bgp_msg.specs.declared.frame.Step.{Step}
 use Rattle.bgp_msg.specs.declared.frame.Step.TheVariants.{Need, Message, Faulty}
-use Rattle.bgp_msg.specs.MessageSpelling.{told_length, written_open, written_keepalive}
+use Rattle.bgp_msg.specs.MessageSpelling.{told_length, open_of, header_of}
+use Rattle.bgp_msg.specs.declared.frame.MessageType.TheVariants.{Keepalive as KeepaliveMessage}
 use Rattle.bgp_msg.specs.MessageFaults.{header_fault}
 use Rattle.bgp_fsm.specs.declared.input.Input.{Input}
 use Rattle.bgp_fsm.specs.declared.input.Input.TheVariants.{Start, Up, Fail}
@@ -34,8 +35,8 @@ IsWholeRest rest (Faulty fault) = Unit {0}
 -- the octets of what a row queues (RFC 4271 section 4)
 abbrev pub octets_of : Option Outgoing → List ℕ
 octets_of None = []
-octets_of (Some (Open own)) = written_open own
-octets_of (Some Keepalive) = written_keepalive
+octets_of (Some (Open own)) = open_of own.asn.0 own.hold_time own.identifier
+octets_of (Some Keepalive) = header_of KeepaliveMessage 19
 
 -- what a row adds to this ring: its message, where 8,192 octets are free
 abbrev pub said : Option Outgoing → List ℕ → List ℕ

@@ -9,3 +9,6 @@
 mod peer;
 
 pub use peer::{Peer, RING_OCTETS, ROOM_FOR_UPDATE};
+
+#[cfg(test)]
+mod tests;

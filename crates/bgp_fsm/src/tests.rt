@@ -1,0 +1,89 @@
+//! Sessions along their rows, and each row once.
+use crate::{Input, Outgoing, Session, State};
+use bgp_attr::Mode;
+use bgp_msg::Open;
+use net_prefix::{Asn, Transport};
+use std::test::Fail;
+
+const OWN: Open = Open {
+    asn: Asn(65000),
+    hold_time: 180,
+    identifier: 0xC000_0201,
+};
+
+const PEER: Open = Open {
+    asn: Asn(65001),
+    hold_time: 90,
+    identifier: 0x0101_0101,
+};
+
+// The state before, the input, the state and the transport after, and what is queued; the peer is passive.
+#[rattlefmt::skip]
+const ROWS: [(State, Input, State, Transport, Option<Outgoing>); 24] = [
+    (State::Idle,        Input::Start,        State::Active,      Transport::Listening, None),
+    (State::Idle,        Input::Fail,         State::Idle,        Transport::None,      None),
+    (State::Idle,        Input::Up,           State::Idle,        Transport::None,      None),
+    (State::Active,      Input::Start,        State::Active,      Transport::Listening, None),
+    (State::Active,      Input::Up,           State::OpenSent,    Transport::Open,      Some(Outgoing::Open(OWN))),
+    (State::OpenSent,    Input::Open(PEER),   State::OpenConfirm, Transport::Open,      Some(Outgoing::Keepalive)),
+    (State::OpenSent,    Input::Fail,         State::Active,      Transport::Listening, None),
+    (State::OpenSent,    Input::Keepalive,    State::Idle,        Transport::Closing,   None),
+    (State::OpenSent,    Input::Update,       State::Idle,        Transport::Closing,   None),
+    (State::OpenSent,    Input::Notification, State::Idle,        Transport::Closing,   None),
+    (State::OpenSent,    Input::Fault,        State::Idle,        Transport::Closing,   None),
+    (State::OpenConfirm, Input::Keepalive,    State::Established, Transport::Open,      None),
+    (State::OpenConfirm, Input::Fail,         State::Idle,        Transport::None,      None),
+    (State::OpenConfirm, Input::Open(PEER),   State::Idle,        Transport::Closing,   None),
+    (State::OpenConfirm, Input::Update,       State::Idle,        Transport::Closing,   None),
+    (State::OpenConfirm, Input::Notification, State::Idle,        Transport::Closing,   None),
+    (State::OpenConfirm, Input::Fault,        State::Idle,        Transport::Closing,   None),
+    (State::Established, Input::Start,        State::Established, Transport::Open,      None),
+    (State::Established, Input::Keepalive,    State::Established, Transport::Open,      None),
+    (State::Established, Input::Update,       State::Established, Transport::Open,      None),
+    (State::Established, Input::Fail,         State::Idle,        Transport::None,      None),
+    (State::Established, Input::Open(PEER),   State::Idle,        Transport::Closing,   None),
+    (State::Established, Input::Notification, State::Idle,        Transport::Closing,   None),
+    (State::Established, Input::Fault,        State::Idle,        Transport::Closing,   None),
+];
+
+#[test]
+fn each_row_is_as_the_table_says(rt: HostRuntime) -> Result<(), Fail> {
+    for (before, input, after, transport, message) in ROWS {
+        let mut session = Session {
+            state: before,
+            ..Session::new(OWN, Mode::Passive)
+        };
+        let effects = session.input(input, 0);
+        assert_eq!(rt; session.state(), after, "{before} {input:?}");
+        assert_eq!(rt; session.transport(), transport, "{before} {input:?}");
+        assert_eq!(rt; effects.message, message, "{before} {input:?}");
+    }
+    Ok(())
+}
+
+#[test]
+fn a_closed_session_waits_for_the_loss_of_its_connection(rt: HostRuntime) -> Result<(), Fail> {
+    let mut session = Session {
+        state: State::Established,
+        ..Session::new(OWN, Mode::Passive)
+    };
+    assert!(rt; session.input(Input::Fault, 0).left);
+    assert_eq!(rt; session.input(Input::Start, 0).message, None);
+    assert_eq!(rt; session.transport(), Transport::Closing);
+    let _ = session.input(Input::Fail, 0);
+    assert_eq!(rt; session.transport(), Transport::None);
+    let _ = session.input(Input::Start, 0);
+    assert_eq!(rt; session.transport(), Transport::Listening);
+    Ok(())
+}
+
+#[test]
+fn the_identifier_is_that_of_the_peers_open(rt: HostRuntime) -> Result<(), Fail> {
+    let mut session = Session::new(OWN, Mode::Passive);
+    for input in [Input::Start, Input::Up, Input::Open(PEER)] {
+        let _ = session.input(input, 0);
+    }
+    assert_eq!(rt; session.identifier(), 0x0101_0101);
+    assert!(rt; session.input(Input::Keepalive, 0).entered);
+    Ok(())
+}
