@@ -39,7 +39,7 @@ not_true true e = cc
 not_true false e = refl
 
 -- what is left is a member, and no member beats it
-among_unbeaten : (beats : Candidate → Candidate → Bool) (cs : List Candidate) (x : Candidate) → Among x (unbeaten beats cs) → Among x cs × ((y : Candidate) → Among y cs → beats y x ≡ false)
+pub among_unbeaten : (beats : Candidate → Candidate → Bool) (cs : List Candidate) (x : Candidate) → Among x (unbeaten beats cs) → Among x cs × ((y : Candidate) → Among y cs → beats y x ≡ false)
 unfolding unbeaten
 among_unbeaten beats cs x at =
     let kept : Among x cs × (not (list_any (λ d. beats d x) cs) ≡ true) = among_filter (λ c. not (list_any (λ d. beats d c) cs)) cs x at in
@@ -119,7 +119,7 @@ unfolding unbeaten
 distinct_unbeaten beats cs distinct = AllPairs-filter DifferInRank (λ c. not (list_any (λ d. beats d c) cs)) cs distinct
 
 -- what all steps but the last leave
-abbrev before_address : List Candidate → List Candidate
+abbrev pub before_address : List Candidate → List Candidate
 before_address cs = unbeaten has_lower_identifier (unbeaten has_lower_cost (unbeaten is_external_alone (unbeaten has_lower_origin (unbeaten has_fewer_ases (unbeaten has_greater_degree cs)))))
 
 selection_some : (cs : List Candidate) → cs ≢ [] → selection cs ≢ []
@@ -142,7 +142,7 @@ distinct_selection cs distinct =
     (distinct_unbeaten has_fewer_ases _
     (distinct_unbeaten has_greater_degree cs distinct))))))
 
-among_before : (cs : List Candidate) (x : Candidate) → Among x (before_address cs) → Among x (unbeaten has_greater_degree cs)
+pub among_before : (cs : List Candidate) (x : Candidate) → Among x (before_address cs) → Among x (unbeaten has_greater_degree cs)
 among_before cs x at =
     (among_unbeaten has_fewer_ases _ x
     (among_unbeaten has_lower_origin _ x

@@ -1,5 +1,5 @@
 //! The steps of the selection.
-ghost use Rattle.std.specs.Prelude.{◌≡◌, ◌≢◌, ◌≤◌, ◌+◌, ◌-◌, ◌^◌, [], filter, length, min, nat_le, MatchOption, slice_get};
+ghost use Rattle.std.specs.Prelude.{◌≡◌, ◌≢◌, ◌≤◌, ◌+◌, ◌-◌, ◌^◌, [], filter, length, min, nat_le, All, Contains, IfSome, MatchOption, slice_get};
 ghost use Rattle.decision.specs.Selection.{AreDistinct, IsSelected, has_greater_degree, selection, unbeaten};
 ghost use Rattle.decision.specs.Steps.{beats, greatest_of, key_of, lowest_of};
 ghost use Rattle.decision.specs.declared.candidate.Candidate.{Candidate as Route};
@@ -44,8 +44,22 @@ pub fn choose(meter: &mut Meter, candidates: &[Candidate]) -> Option<Candidate>
     requires distinct { AreDistinct candidates.now }
     ensures counted { meter.new.count ≡ min (meter.old.count + 1) (2 ^ 64 - 1) }
     ensures selected { MatchOption result (candidates.now ≡ []) (λ c. IsSelected candidates.now c) }
+
+    // It is a candidate of the greatest degree of preference, and of these one of the fewest ASes.
+    ensures member { IfSome result (λ c. Contains candidates.now c) }
+    ensures preferred { IfSome result (λ c. All (λ d. d.degree ≤ c.degree) candidates.now) }
+    ensures shortest { IfSome result (λ c. All (λ d. d.degree ≡ c.degree → c.path_length ≤ d.path_length) candidates.now) }
 {
     meter.add();
+    best_of(candidates)
+}
+
+// A candidate alone needs no steps.
+fn best_of(candidates: &[Candidate]) -> Option<Candidate>
+    requires few { length candidates.now ≤ MAX_CANDIDATES }
+    requires distinct { AreDistinct candidates.now }
+    ensures { MatchOption result (candidates.now ≡ []) (λ c. IsSelected candidates.now c) }
+{
     if candidates.len() <= 1 {
         return candidates.first().copied();
     }

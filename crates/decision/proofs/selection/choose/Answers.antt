@@ -1,10 +1,11 @@
-use Rattle.std.proofs.Common.{◌∙◌}
-use Rattle.decision.proofs.One.{first_selected, front_selected}
+use Rattle.decision.proofs.Laws.{selected_member, selected_preferred, selected_shortest}
 use Rattle.decision.proofs.selection.choose.Goals as goal
 
-pub returns-then-candidates-le1-clause-selected : goal.returns-then-candidates-le1-clause-selected
-returns-then-candidates-le1-clause-selected c =
-    first_selected c.args.candidates.now c.if-candidates-le1.true c.requires.distinct c.copied.result (c.copied.ensures ∙ c.first.ensures.value)
+pub returns-clause-member : goal.returns-clause-member
+returns-clause-member c = selected_member c.args.candidates.now c.best_of.result c.best_of.ensures
 
-pub returns-clause-selected : goal.returns-clause-selected
-returns-clause-selected c = front_selected c.args.candidates.now c.if-candidates-le1.false c.requires.distinct c.selected.result c.selected.ensures
+pub returns-clause-preferred : goal.returns-clause-preferred
+returns-clause-preferred c = selected_preferred c.args.candidates.now c.best_of.result c.best_of.ensures
+
+pub returns-clause-shortest : goal.returns-clause-shortest
+returns-clause-shortest c = selected_shortest c.args.candidates.now c.best_of.result c.best_of.ensures
