@@ -1,11 +1,12 @@
 //! The routes by prefix and slot.
-ghost use Rattle.std.specs.Prelude.{◌≡◌, [], ℕ, None, Some, OnOk, OnErr, IfSome, IfNone, IsSome, ◌==◌, false, if◌then◌else◌};
+ghost use Rattle.std.specs.Prelude.{◌≡◌, [], ℕ, None, Some, OnOk, OnErr, IfSome, IfNone, IsSome, ◌==◌, ◌<◌, false, if◌then◌else◌};
 ghost use Rattle.std.specs.Option.{option_copied};
 ghost use Rattle.std.specs.Ordering.{is_gt};
 ghost use Rattle.std.specs.declared.cmp.Ordering.TheVariants.{Less};
 ghost use Rattle.std.specs.Iterator.{YieldsFirstBy, item_count};
 ghost use Rattle.net_prefix.specs.declared.prefix.Prefix.{Prefix};
-ghost use Rattle.rib_in.specs.LatestRoutes.{route_at, is_route, prefix_cmp, entry_of, IsAbove, HasRoute, IsRising};
+ghost use Rattle.rib_in.specs.declared.adj_in.RouteKey.{RouteKey};
+ghost use Rattle.rib_in.specs.LatestRoutes.{route_at, is_route, prefix_cmp, entry_of, key_cmp, IsAbove, HasRoute, IsRising};
 
 use crate::fault::RibFault;
 use bgp_attr::Attrs;
@@ -22,6 +23,12 @@ use std::rc::Rc;
 pub struct RouteKey {
     pub prefix: Prefix,
     pub slot: u8,
+}
+
+fn slot_of(key: &RouteKey) -> u8
+    ensures { result ≡ key.now.slot }
+{
+    key.slot
 }
 
 // Attributes that the routes of one UPDATE share.
@@ -131,13 +138,25 @@ impl<A: Allocator + Clone> AdjIn<A> {
             prefix: after,
             slot: u8::MAX,
         };
-        let mut above = self.routes.range((Bound::Excluded(last), Bound::Unbounded));
+        match self.key_above(last) {
+            Some(key) => Some(key.prefix),
+            None => None,
+        }
+    }
+
+    fn key_above(&self, after: RouteKey) -> Option<RouteKey>
+        ensures has { IfSome result (λ key. IsSome (route_at self.now key.slot key.prefix)) }
+        ensures above { IfSome result (λ key. key_cmp after key ≡ Less) }
+        ensures octet { IfSome result (λ key. key.slot < 256) }
+        ensures least { IfSome result (λ key. (q : RouteKey) → key_cmp after q ≡ Less → IsSome (route_at self.now q.slot q.prefix) → is_gt (key_cmp key q) ≡ false) }
+        ensures none { IfNone result ((q : RouteKey) → key_cmp after q ≡ Less → route_at self.now q.slot q.prefix ≡ None) }
+    {
+        let mut above = self.routes.range((Bound::Excluded(after), Bound::Unbounded));
         match above.next() {
-            Some((key, _)) => {
-                // Reading the slot tells its range.
-                let _slot = key.slot;
-                Some(key.prefix)
-            }
+            Some((key, _)) => Some(RouteKey {
+                prefix: key.prefix,
+                slot: slot_of(key),
+            }),
             None => None,
         }
     }
