@@ -11,6 +11,7 @@ mod event;
 mod link;
 mod queueing;
 mod receiving;
+mod ribs;
 mod runs;
 mod step;
 mod views;

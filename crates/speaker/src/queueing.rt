@@ -1,16 +1,14 @@
 //! What the peers are owed: the UPDATEs that make what each was sent its export of Loc-RIB.
 
 use crate::link::Link;
+use crate::ribs::Ribs;
 use arrayvec::ArrayVec;
 use bgp_msg::{MAX_MESSAGE, write_announcement, write_withdrawal};
 use bgp_peer::ROOM_FOR_UPDATE;
-use decision::Candidate;
 use export_rules::{ExportPeer, export_of};
 use net_prefix::Prefix;
-use rib_in::AdjIn;
 use rib_out::AdjOut;
 use std::alloc::{AllocError, Allocator};
-use std::collections::BTreeMap;
 
 /// The octets of one message, or of its attributes.
 pub type Octets = ArrayVec<u8, MAX_MESSAGE>;
@@ -18,17 +16,16 @@ pub type Octets = ArrayVec<u8, MAX_MESSAGE>;
 /// What is exported of a prefix: the best route, where there is one and it is exported to this peer. Answers
 /// false where nothing is; `octets` are then empty.
 pub fn export<A: Allocator + Clone>(
-    loc_rib: &BTreeMap<Prefix, Candidate, A>,
-    adj_in: &AdjIn<A>,
+    ribs: &Ribs<A>,
     peer: &ExportPeer,
     prefix: Prefix,
     octets: &mut Octets,
 ) -> bool {
     octets.clear();
-    let Some(route) = loc_rib.get(&prefix) else {
+    let Some(route) = ribs.loc_rib.get(&prefix) else {
         return false;
     };
-    let Some(attrs) = adj_in.get(route.slot, prefix) else {
+    let Some(attrs) = ribs.adj_in.get(route.slot, prefix) else {
         return false;
     };
     export_of(route, attrs, peer, octets)
@@ -36,14 +33,13 @@ pub fn export<A: Allocator + Clone>(
 
 // The least prefix that the peer holds and that isn't exported to it.
 fn first_withdrawal<A: Allocator + Clone>(
-    loc_rib: &BTreeMap<Prefix, Candidate, A>,
-    adj_in: &AdjIn<A>,
+    ribs: &Ribs<A>,
     adj_out: &AdjOut<A>,
     peer: &ExportPeer,
     octets: &mut Octets,
 ) -> Option<Prefix> {
     for (prefix, _) in adj_out.held() {
-        if !export(loc_rib, adj_in, peer, prefix, octets) {
+        if !export(ribs, peer, prefix, octets) {
             return Some(prefix);
         }
     }
@@ -52,14 +48,13 @@ fn first_withdrawal<A: Allocator + Clone>(
 
 // The least prefix that is exported to the peer and of which it doesn't hold just that.
 fn first_announcement<A: Allocator + Clone>(
-    loc_rib: &BTreeMap<Prefix, Candidate, A>,
-    adj_in: &AdjIn<A>,
+    ribs: &Ribs<A>,
     adj_out: &AdjOut<A>,
     peer: &ExportPeer,
     octets: &mut Octets,
 ) -> Option<Prefix> {
-    for (prefix, _) in loc_rib {
-        if export(loc_rib, adj_in, peer, *prefix, octets) && !adj_out.holds(*prefix, octets.as_slice()) {
+    for (prefix, _) in &ribs.loc_rib {
+        if export(ribs, peer, *prefix, octets) && !adj_out.holds(*prefix, octets.as_slice()) {
             return Some(*prefix);
         }
     }
@@ -69,20 +64,19 @@ fn first_announcement<A: Allocator + Clone>(
 // Queues one UPDATE that the peer is owed, withdrawals before announcements, and answers whether there was
 // one.
 fn queue_one<A: Allocator + Clone>(
-    loc_rib: &BTreeMap<Prefix, Candidate, A>,
-    adj_in: &AdjIn<A>,
+    ribs: &Ribs<A>,
     link: &mut Link<A>,
     peer: &ExportPeer,
     octets: &mut Octets,
     message: &mut Octets,
 ) -> Result<bool, AllocError> {
-    if let Some(prefix) = first_withdrawal(loc_rib, adj_in, &link.adj_out, peer, octets) {
+    if let Some(prefix) = first_withdrawal(ribs, &link.adj_out, peer, octets) {
         link.adj_out.withdraw(prefix);
         write_withdrawal(&[prefix], message);
         link.peer.queue(message.as_slice());
         return Ok(true);
     }
-    if let Some(prefix) = first_announcement(loc_rib, adj_in, &link.adj_out, peer, octets) {
+    if let Some(prefix) = first_announcement(ribs, &link.adj_out, peer, octets) {
         link.adj_out.announce(prefix, octets.as_slice())?;
         write_announcement(octets.as_slice(), &[prefix], message);
         link.peer.queue(message.as_slice());
@@ -93,15 +87,14 @@ fn queue_one<A: Allocator + Clone>(
 
 /// Queues what an Established peer is owed, while its ring has room for an UPDATE.
 pub fn serve<A: Allocator + Clone>(
-    loc_rib: &BTreeMap<Prefix, Candidate, A>,
-    adj_in: &AdjIn<A>,
+    ribs: &Ribs<A>,
     link: &mut Link<A>,
     peer: &ExportPeer,
 ) -> Result<(), AllocError> {
     let mut octets = Octets::new();
     let mut message = Octets::new();
     while link.peer.free() >= ROOM_FOR_UPDATE {
-        if !queue_one(loc_rib, adj_in, link, peer, &mut octets, &mut message)? {
+        if !queue_one(ribs, link, peer, &mut octets, &mut message)? {
             return Ok(());
         }
     }

@@ -1,18 +1,16 @@
 //! The speaker and its calls.
 
-use crate::choosing;
 use crate::config::Config;
 use crate::event::{Event, Report};
 use crate::link::Link;
 use crate::queueing::serve;
-use crate::receiving::judge;
+use crate::receiving::take_front;
+use crate::ribs::Ribs;
 use bgp_conf::{Command, Conf, PEER_SLOTS, PeerConf, Refusal};
 use bgp_fsm::{Effects, Input, State};
-use bgp_msg::{Expected, Open, Step};
-use decision::{Candidate, Meter};
+use bgp_msg::{Expected, Open};
 use export_rules::ExportPeer;
-use net_prefix::{Asn, Prefix, Transport};
-use rib_in::AdjIn;
+use net_prefix::{Asn, Transport};
 use std::alloc::{AllocError, Allocator, Global};
 use std::collections::BTreeMap;
 
@@ -23,9 +21,7 @@ pub struct Speaker<A: Allocator = Global> {
     config: Config,
     pub(crate) conf: Conf<A>,
     pub(crate) links: BTreeMap<u8, Link<A>, A>,
-    pub(crate) adj_in: AdjIn<A>,
-    pub(crate) loc_rib: BTreeMap<Prefix, Candidate, A>,
-    meter: Meter,
+    pub(crate) ribs: Ribs<A>,
     // Whether memory was refused to a call other than a command: nothing is answered from then on.
     stopped: bool,
 }
@@ -46,16 +42,13 @@ impl<A: Allocator + Clone> Speaker<A> {
     fn empty(alloc: A, config: Config) -> Result<Self, AllocError> {
         let conf = Conf::new(alloc.clone()?, config.asn)?;
         let links = BTreeMap::new(alloc.clone()?);
-        let adj_in = AdjIn::new(alloc.clone()?);
-        let loc_rib = BTreeMap::new(alloc.clone()?);
+        let ribs = Ribs::new(alloc.clone()?)?;
         Ok(Speaker {
             alloc,
             config,
             conf,
             links,
-            adj_in,
-            loc_rib,
-            meter: Meter::new(),
+            ribs,
             stopped: false,
         })
     }
@@ -178,7 +171,7 @@ impl<A: Allocator + Clone> Speaker<A> {
     // Leaving Established removes all routes of the session; entering it begins with nothing sent.
     fn follow(&mut self, slot: u8, effects: Effects) {
         if effects.left {
-            self.adj_in.drop_slot(slot);
+            self.ribs.adj_in.drop_slot(slot);
         }
         if effects.left || effects.entered {
             if let Some(link) = self.links.get_mut(&slot) {
@@ -203,10 +196,13 @@ impl<A: Allocator + Clone> Speaker<A> {
 
     // Takes octets up to the end of the message at the front of an open connection, and answers how many.
     fn push(&mut self, slot: u8, octets: &[u8]) -> usize {
-        match self.links.get_mut(&slot) {
-            Some(link) if link.peer.transport() == Transport::Open => link.peer.push(octets),
-            _ => 0,
+        let Some(link) = self.links.get_mut(&slot) else {
+            return 0;
+        };
+        if link.peer.transport() != Transport::Open {
+            return 0;
         }
+        link.peer.push(octets)
     }
 
     // Takes the message at the front of the slot's rest, if it is whole or its header is faulty.
@@ -219,24 +215,27 @@ impl<A: Allocator + Clone> Speaker<A> {
             own_asn: self.config.asn,
             own_identifier: self.config.identifier,
         };
-        let Some(link) = self.links.get_mut(&slot) else {
+        let Some(link) = self.links.get(&slot) else {
             return Ok(());
         };
-        let input = match link.peer.front() {
-            Step::Need => return Ok(()),
-            Step::Faulty(_) => Input::Fault,
-            Step::Message(frame, _) => {
-                judge(&self.alloc, &mut self.adj_in, slot, &peer, expected, link.peer.state(), frame)?
-            }
-        };
-        let effects = link.peer.input(input, 0);
-        self.follow(slot, effects);
+        let heard = take_front(&self.alloc, &mut self.ribs.adj_in, slot, &peer, expected, link)?;
+        if let Some(input) = heard {
+            self.input(slot, input);
+        }
         Ok(())
     }
 
-    // The end of each step: Loc-RIB is chosen again, and the peers are queued what they are owed.
+    // The message at the front of the slot's rest is this input.
+    fn input(&mut self, slot: u8, input: Input) {
+        if let Some(link) = self.links.get_mut(&slot) {
+            let effects = link.peer.input(input, 0);
+            self.follow(slot, effects);
+        }
+    }
+
+    // The end of each step: Loc-RIB is chosen, and the peers are queued what they are owed.
     fn settle(&mut self) -> Result<(), AllocError> {
-        self.loc_rib = choosing::loc_rib(&self.alloc, &self.conf, &self.links, &self.adj_in, &mut self.meter)?;
+        self.ribs.choose_all(self.alloc.clone()?, &self.conf, &self.links)?;
         self.queue_updates()
     }
 
@@ -252,10 +251,13 @@ impl<A: Allocator + Clone> Speaker<A> {
         let Some(peer) = self.export_peer(slot) else {
             return Ok(());
         };
-        match self.links.get_mut(&slot) {
-            Some(link) if link.peer.state() == State::Established => serve(&self.loc_rib, &self.adj_in, link, &peer),
-            _ => Ok(()),
+        let Some(link) = self.links.get_mut(&slot) else {
+            return Ok(());
+        };
+        if link.peer.state() != State::Established {
+            return Ok(());
         }
+        serve(&self.ribs, link, &peer)
     }
 
     /// What the export to a slot's peer asks of it.

@@ -136,8 +136,10 @@ impl<'a, A: Allocator + Clone> Waiting<'a, A> {
             Some(prefix) => Bound::Excluded(prefix),
             None => Bound::Unbounded,
         };
-        let best = self.speaker.loc_rib.range((above, Bound::Unbounded)).next();
-        let held = self.link.adj_out.prefix_after(self.after);
+        let speaker = self.speaker;
+        let link = self.link;
+        let best = speaker.ribs.loc_rib.range((above, Bound::Unbounded)).next();
+        let held = link.adj_out.prefix_after(self.after);
         match (best, held) {
             (Some((best, _)), Some(held)) => Some(held.min(*best)),
             (Some((best, _)), None) => Some(*best),
@@ -146,10 +148,12 @@ impl<'a, A: Allocator + Clone> Waiting<'a, A> {
     }
 
     fn is_waiting(&self, prefix: Prefix, octets: &mut Octets) -> bool {
-        if export(&self.speaker.loc_rib, &self.speaker.adj_in, &self.peer, prefix, octets) {
-            !self.link.adj_out.holds(prefix, octets.as_slice())
+        let speaker = self.speaker;
+        let link = self.link;
+        if export(&speaker.ribs, &self.peer, prefix, octets) {
+            !link.adj_out.holds(prefix, octets.as_slice())
         } else {
-            self.link.adj_out.get(prefix).is_some()
+            link.adj_out.get(prefix).is_some()
         }
     }
 }
@@ -172,7 +176,7 @@ impl<A: Allocator + Clone> Speaker<A> {
     /// Loc-RIB in rising order.
     pub fn loc_rib(&self) -> LocRib<'_> {
         LocRib {
-            routes: self.loc_rib.iter(),
+            routes: self.ribs.loc_rib.iter(),
         }
     }
 
@@ -180,7 +184,7 @@ impl<A: Allocator + Clone> Speaker<A> {
     /// isn't configured.
     pub fn adj_in(&self, slot: u8) -> AdjRibIn<'_, A> {
         AdjRibIn {
-            routes: self.adj_in.routes(),
+            routes: self.ribs.adj_in.routes(),
             slot,
         }
     }
@@ -198,13 +202,17 @@ impl<A: Allocator + Clone> Speaker<A> {
     /// The prefixes of which a slot's peer doesn't hold just what is exported to it, in rising order; none
     /// where its session isn't Established.
     pub fn waiting(&self, slot: u8) -> WaitingPrefixes<'_, A> {
-        let waiting = match self.links.get(&slot) {
-            Some(link) if link.peer.state() == State::Established => match self.export_peer(slot) {
-                Some(peer) => Some(Waiting::new(self, link, peer)),
-                None => None,
-            },
-            _ => None,
-        };
-        WaitingPrefixes { waiting }
+        WaitingPrefixes {
+            waiting: self.waiting_of(slot),
+        }
+    }
+
+    fn waiting_of(&self, slot: u8) -> Option<Waiting<'_, A>> {
+        let peer = self.export_peer(slot)?;
+        let link = self.links.get(&slot)?;
+        if link.peer.state() != State::Established {
+            return None;
+        }
+        Some(Waiting::new(self, link, peer))
     }
 }

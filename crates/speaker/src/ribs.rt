@@ -1,0 +1,43 @@
+//! Adj-RIB-In and Loc-RIB (RFC 4271 section 3.2): the peers' latest routes, and the best route of each prefix.
+
+use crate::choosing::best;
+use crate::link::Link;
+use bgp_conf::Conf;
+use decision::{Candidate, Meter};
+use net_prefix::Prefix;
+use rib_in::AdjIn;
+use std::alloc::{AllocError, Allocator};
+use std::collections::BTreeMap;
+
+/// The routes that came, and the best of each prefix.
+#[derive(Drop)]
+pub struct Ribs<A: Allocator> {
+    pub adj_in: AdjIn<A>,
+    pub loc_rib: BTreeMap<Prefix, Candidate, A>,
+    pub meter: Meter,
+}
+
+impl<A: Allocator + Clone> Ribs<A> {
+    /// No routes.
+    pub fn new(alloc: A) -> Result<Self, AllocError> {
+        let adj_in = AdjIn::new(alloc.clone()?);
+        let loc_rib = BTreeMap::new(alloc);
+        Ok(Ribs {
+            adj_in,
+            loc_rib,
+            meter: Meter::new(),
+        })
+    }
+
+    /// Chooses the best route of each prefix again.
+    pub fn choose_all(&mut self, alloc: A, conf: &Conf<A>, links: &BTreeMap<u8, Link<A>, A>) -> Result<(), AllocError> {
+        let mut chosen = BTreeMap::new(alloc);
+        for (prefix, _, _) in self.adj_in.routes() {
+            if let Some(route) = best(conf, links, &self.adj_in, &mut self.meter, prefix) {
+                chosen.insert(prefix, route)?;
+            }
+        }
+        self.loc_rib = chosen;
+        Ok(())
+    }
+}
