@@ -1,5 +1,5 @@
 -- What the selected one is among the candidates.
-use Rattle.std.proofs.Common.{◌≡◌, ℕ, zero, suc, ◌+◌, ◌<◌, ◌≤◌, Bool, true, false, not, cond, ◌||◌, inl, inr, nat_lt, List, [], ◌∷◌, filter, Some, None, Option, MatchOption, IfSome, All, Contains, slice_index_or, length, refl, sym, ◌∙◌, ap, subst, arith}
+use Rattle.std.proofs.Common.{◌≡◌, ℕ, zero, suc, ◌<◌, ◌≤◌, Bool, true, false, not, cond, ◌||◌, inl, inr, nat_lt, List, [], ◌∷◌, filter, Some, None, Option, MatchOption, IfSome, All, Contains, slice_index_or, length, refl, sym, ◌∙◌, ap, subst, arith}
 use Rattle.std.specs.List.{list_any}
 use Rattle.std.proofs.lemmas.Bool.Decides.{nat_tests}
 use Rattle.decision.specs.declared.candidate.Candidate.{Candidate}
@@ -59,7 +59,7 @@ shortest_of cs x y at_x at_y same =
     let best : Among x cs × ((z : Candidate) → Among z cs → has_greater_degree z x ≡ false) = among_selection cs x at_x in
     let left : Among y (unbeaten has_greater_degree cs) = unbeaten_among has_greater_degree cs y at_y (λ z at. ap (λ n. nat_lt n z.degree) same ∙ best.1 z at) in
     let fewest : Among x (unbeaten has_greater_degree cs) × ((z : Candidate) → Among z (unbeaten has_greater_degree cs) → has_fewer_ases z x ≡ false) =
-        among_unbeaten has_fewer_ases (unbeaten has_greater_degree cs) x (among_fewest cs x (among_unbeaten has_lower_address (before_address cs) x at_x).0) in
+    among_unbeaten has_fewer_ases (unbeaten has_greater_degree cs) x (among_fewest cs x (among_unbeaten has_lower_address (before_address cs) x at_x).0) in
     not_lt_le y.path_length x.path_length (fewest.1 y left)
 
 pub selected_member : (cs : List Candidate) (r : Option Candidate) → MatchOption r (cs ≡ []) (λ c. IsSelected cs c) → IfSome r (λ c. Contains cs c)

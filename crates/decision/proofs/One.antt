@@ -1,6 +1,6 @@
 -- Of distinct candidates the selection leaves one.
-use Rattle.std.proofs.Common.{◌≡◌, ◌≢◌, ℕ, ◌<◌, ◌≤◌, Bool, true, false, not, cond, ◌||◌, ◌⊎◌, inl, inr, nat_lt, List, [], ◌∷◌, filter, Some, Option, MatchOption, slice_get, length, refl, sym, ◌∙◌, ap, subst, rules, arith}
-use Rattle.std.specs.List.{list_any, AllPairs}
+use Rattle.std.proofs.Common.{◌≡◌, ◌≢◌, ℕ, ◌<◌, ◌≤◌, Bool, true, false, not, cond, ◌||◌, ◌⊎◌, inl, inr, nat_lt, List, [], ◌∷◌, filter, Option, MatchOption, slice_get, length, refl, sym, ◌∙◌, ap, subst, arith}
+use Rattle.std.specs.List.{list_any}
 use Rattle.std.proofs.lemmas.Bool.Decides.{nat_tests}
 use Rattle.std.proofs.lemmas.List.Kept.{AllPairs-filter}
 use Rattle.decision.specs.declared.candidate.Candidate.{Candidate}

@@ -1,5 +1,5 @@
 -- The selection of a prefix's best route (RFC 4271 sections 9.1.1 and 9.1.2.2).
-use Rattle.std.specs.Prelude.{◌≡◌, ◌≢◌, ℕ, Bool, nat_lt, not, ◌&&◌, List, [], ◌∷◌, filter, fold, AllPairs}
+use Rattle.std.specs.Prelude.{◌≡◌, ◌≢◌, Bool, nat_lt, not, ◌&&◌, List, [], ◌∷◌, filter, fold, AllPairs}
 use Rattle.std.specs.List.{list_any}
 use Rattle.bgp_attr.specs.PathAttributes.{origin_octet}
 use Rattle.decision.specs.declared.candidate.Candidate.{Candidate}
@@ -40,14 +40,14 @@ has_lower_address d c = nat_lt d.address c.address
 abbrev pub selection : List Candidate → List Candidate
 selection cs =
     fold (λ left beats. unbeaten beats left) cs
-        (has_greater_degree
-        ∷ has_fewer_ases
-        ∷ has_lower_origin
-        ∷ is_external_alone
-        ∷ has_lower_cost
-        ∷ has_lower_identifier
-        ∷ has_lower_address
-        ∷ [])
+    (has_greater_degree
+    ∷ has_fewer_ases
+    ∷ has_lower_origin
+    ∷ is_external_alone
+    ∷ has_lower_cost
+    ∷ has_lower_identifier
+    ∷ has_lower_address
+    ∷ [])
 
 -- the selection leaves c, and no other one
 abbrev pub IsSelected : List Candidate → Candidate → Type 0

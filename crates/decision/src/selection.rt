@@ -94,7 +94,9 @@ fn preferred(candidates: &[Candidate]) -> Left
 fn greatest_degree(candidates: &[Candidate]) -> u64
     ensures { result ≡ greatest_of candidates.now }
 {
-    candidates.iter().fold(0, |greatest, candidate| candidate.degree.max(greatest))
+    candidates
+        .iter()
+        .fold(0, |greatest, candidate| candidate.degree.max(greatest))
 }
 
 // The candidates of this degree of preference and above.
@@ -127,7 +129,12 @@ fn lowest_key(candidates: &[Candidate], step: Step) -> Option<u32>
     ensures { result ≡ lowest_of (key_of step) candidates.now }
 {
     let (first, rest) = candidates.split_first()?;
-    Some(rest.iter().fold(step.key(first), |lowest, candidate| step.key(candidate).min(lowest)))
+    Some(
+        rest.iter().fold(
+            step.key(first),
+            |lowest, candidate| step.key(candidate).min(lowest),
+        ),
+    )
 }
 
 // The candidates of this key and below.
@@ -149,5 +156,4 @@ pub fn one_best(candidates: &[Candidate])
     requires some { candidates.now ≢ [] }
     requires distinct { AreDistinct candidates.now }
     ensures { (c : Route) × IsSelected candidates.now c }
-{
-}
+{}

@@ -38,13 +38,46 @@ fn slot_of_best(first: Candidate, second: Candidate) -> Option<u8> {
 #[test]
 fn each_step_decides(rt: HostRuntime) {
     let better = [
-        Candidate { degree: 101, ..WORST },
-        Candidate { path_length: 1, ..WORST },
-        Candidate { path_length: 2, origin: Origin::Igp, ..WORST },
-        Candidate { path_length: 2, origin: Origin::Egp, external: true, ..WORST },
-        Candidate { path_length: 2, origin: Origin::Egp, cost: 9, ..WORST },
-        Candidate { path_length: 2, origin: Origin::Egp, cost: 10, identifier: 19, ..WORST },
-        Candidate { path_length: 2, origin: Origin::Egp, cost: 10, identifier: 20, address: 29, ..WORST },
+        Candidate {
+            degree: 101,
+            ..WORST
+        },
+        Candidate {
+            path_length: 1,
+            ..WORST
+        },
+        Candidate {
+            path_length: 2,
+            origin: Origin::Igp,
+            ..WORST
+        },
+        Candidate {
+            path_length: 2,
+            origin: Origin::Egp,
+            external: true,
+            ..WORST
+        },
+        Candidate {
+            path_length: 2,
+            origin: Origin::Egp,
+            cost: 9,
+            ..WORST
+        },
+        Candidate {
+            path_length: 2,
+            origin: Origin::Egp,
+            cost: 10,
+            identifier: 19,
+            ..WORST
+        },
+        Candidate {
+            path_length: 2,
+            origin: Origin::Egp,
+            cost: 10,
+            identifier: 20,
+            address: 29,
+            ..WORST
+        },
     ];
     for candidate in better {
         assert_eq!(rt; slot_of_best(candidate, ORDINARY), Some(2));
