@@ -1,4 +1,4 @@
-use Rattle.std.specs.Prelude.{ℕ, List, Option}
+use Rattle.std.specs.Prelude.{◌≡◌, ℕ, List, Option, Some}
 use Rattle.std.specs.Map.{lookup}
 use Rattle.std.specs.Ordering.{nat_cmp, ordering_then}
 use Rattle.std.specs.declared.cmp.Ordering.{Ordering}
@@ -30,3 +30,9 @@ prefix_cmp prefix = address_cmp prefix.bits prefix.len
 -- the cost of a prefix's entry
 abbrev pub entry_at : List (Prefix × ℕ) → Prefix → Option ℕ
 entry_at reach prefix = lookup (is_at (prefix_cmp prefix)) reach
+
+-- the peers of two slots have different addresses
+abbrev pub AddressesDiffer : List (ℕ × ConfiguredPeer) → Type 0
+AddressesDiffer peers =
+    (s t : ℕ) (p q : ConfiguredPeer) → lookup (is_at (nat_cmp s)) peers ≡ Some p → lookup (is_at (nat_cmp t)) peers ≡ Some q
+    → p.address ≡ q.address → s ≡ t
