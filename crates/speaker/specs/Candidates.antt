@@ -1,0 +1,59 @@
+use Rattle.std.specs.Prelude.{◌≡◌, ◌≢◌, ◌<◌, ◌↔◌, ℕ, List, Option, Some, true, false, Contains}
+use Rattle.bgp_attr.specs.PathAttributes.{PathAttributes}
+use Rattle.bgp_attr.specs.AsPath.{PathSegment, has_as, path_length_of}
+use Rattle.bgp_conf.specs.Configuration.{Configuration, peer_at}
+use Rattle.bgp_conf.specs.Reach.{IsCost}
+use Rattle.bgp_conf.specs.declared.conf.ConfiguredPeer.{ConfiguredPeer}
+use Rattle.decision.specs.declared.candidate.Candidate.{Candidate}
+use Rattle.net_prefix.specs.declared.prefix.Prefix.{Prefix}
+use Rattle.rib_in.specs.LatestRoutes.{route_at}
+use Rattle.speaker.specs.Linked.{Linked}
+use Rattle.speaker.specs.Tables.{Tables, link_at}
+
+-- The routes among which the selection chooses (RFC 4271 section 9.1.2).
+
+-- these attributes of the route of a slot make this candidate: the next hop resolves and isn't the session's own
+-- address, and the path doesn't hold the own AS
+pub record IsCandidateOf (conf : Configuration) (identifier : ℕ) (attrs : PathAttributes) (c : Candidate) : Type 0 where
+  pub peer : ConfiguredPeer
+  pub path : List PathSegment
+  pub next_hop : ℕ
+  pub configured : peer_at conf c.slot ≡ Some peer
+  pub origin_is : attrs.origin ≡ Some c.origin
+  pub path_is : attrs.as_path ≡ Some path
+  pub next_hop_is : attrs.next_hop ≡ Some next_hop
+  pub without_own_as : has_as path conf.own ≡ false
+  pub not_own_address : next_hop ≢ peer.local
+  pub resolves : IsCost conf.reach next_hop (Some c.cost)
+  pub degree_is : c.degree ≡ 100
+  pub length_is : c.path_length ≡ path_length_of path
+  pub external_is : c.external ≡ true
+  pub identifier_is : c.identifier ≡ identifier
+  pub address_is : c.address ≡ peer.address
+
+-- the latest route of the candidate's slot to the prefix makes it
+pub record IsCandidate (t : Tables) (prefix : Prefix) (c : Candidate) : Type 0 where
+  pub link : Linked
+  pub attrs : PathAttributes
+  pub slot_is : c.slot < 64
+  pub linked : link_at t.links c.slot ≡ Some link
+  pub route : route_at t.adj_in c.slot prefix ≡ Some attrs
+  pub made : IsCandidateOf t.conf link.peer.session.identifier attrs c
+
+-- the list has the candidates of the prefix, and nothing else
+abbrev pub AreCandidates : Tables → Prefix → List Candidate → Type 0
+AreCandidates t prefix cs = (c : Candidate) → Contains cs c ↔ IsCandidate t prefix c
+
+-- these attributes make no candidate of the slot
+abbrev pub MakesNone : Configuration → ℕ → ℕ → PathAttributes → Type 0
+MakesNone conf slot identifier attrs = (c : Candidate) → c.slot ≡ slot → IsCandidateOf conf identifier attrs c → ⊥
+
+-- the slot's route makes no candidate of the prefix
+abbrev pub HasNoneAt : Tables → Prefix → ℕ → Type 0
+HasNoneAt t prefix slot = (c : Candidate) → c.slot ≡ slot → IsCandidate t prefix c → ⊥
+
+-- the slot's route makes this candidate of the prefix, and no other one
+pub record IsOnlyCandidateAt (t : Tables) (prefix : Prefix) (slot : ℕ) (c : Candidate) : Type 0 where
+  pub at_slot : c.slot ≡ slot
+  pub is_one : IsCandidate t prefix c
+  pub alone : (d : Candidate) → d.slot ≡ slot → IsCandidate t prefix d → d ≡ c

@@ -1,0 +1,4 @@
+pub mod Linked
+pub mod Tables
+pub mod Candidates
+pub mod LocRib
