@@ -1,7 +1,70 @@
 //! The table on its happy path, and a refused growth.
-use crate::RibFault;
+use crate::{AdjIn, RibFault};
+use bgp_attr::{Attrs, PeerKind, read_attrs};
+use linked_list_allocator::LocalHeap;
+use net_prefix::{Asn, Prefix};
+use std::alloc::Allocator;
+use std::process::Abort;
+use std::rc::Rc;
+use std::test::Fail;
+
+// ORIGIN IGP, AS_PATH 65001, and NEXT_HOP 192.0.2.1.
+const ATTRIBUTES: [u8; 20] = [0x40, 1, 1, 0, 0x40, 2, 6, 2, 1, 0, 0, 0xfd, 0xe9, 0x40, 3, 4, 192, 0, 2, 1];
+
+fn shared<A: Allocator + Clone>(rt: &impl Abort, alloc: A) -> Result<Rc<Attrs<A>, A>, Fail> {
+    let Ok(attrs) = read_attrs(alloc.clone()?, &ATTRIBUTES, PeerKind::External(Asn(65001))) else {
+        panic!(rt; "the attributes are good");
+    };
+    Ok(Rc::new(alloc, attrs)?)
+}
 
 #[test]
-fn want_of_memory_has_number_20(rt: HostRuntime) {
-    assert_eq!(rt; RibFault::NoMemory.number(), 20);
+fn the_latest_route_of_each_slot_is_kept(rt: HostRuntime) -> Result<(), Fail> {
+    let low = Prefix::new(0x0a00_0000, 16)?;
+    let high = Prefix::new(0x0a00_0000, 24)?;
+    let attrs = shared(&rt, rt.alloc())?;
+    let mut table = AdjIn::new(rt.alloc());
+    table.announce(1, high, attrs.clone()?)?;
+    table.announce(0, low, attrs.clone()?)?;
+    table.announce(1, low, attrs)?;
+    assert!(rt; table.get(1, low).is_some());
+    assert!(rt; table.get(0, high).is_none());
+    assert_eq!(rt; table.prefix_after(None), Some(low));
+    assert_eq!(rt; table.prefix_after(Some(low)), Some(high));
+    table.withdraw(1, high);
+    assert!(rt; table.get(1, high).is_none());
+    table.drop_slot(1);
+    for (prefix, slot, attrs) in table.routes() {
+        assert_eq!(rt; prefix, low);
+        assert_eq!(rt; slot, 0);
+        assert_eq!(rt; attrs.next_hop(), Some(0xc000_0201));
+    }
+    table.drop_slot(0);
+    assert_eq!(rt; table.prefix_after(None), None);
+    Ok(())
+}
+
+// Fills the table until a growth is refused. Answers whether one was.
+fn fill<A: Allocator + Clone>(rt: &impl Abort, mut table: AdjIn<A>, attrs: &Rc<Attrs<A>, A>) -> Result<bool, Fail> {
+    let first = Prefix::new(0, 24)?;
+    for number in 0..64u32 {
+        let prefix = Prefix::new(number * 256, 24)?;
+        if let Err(fault) = table.announce(0, prefix, attrs.clone()?) {
+            assert_eq!(rt; fault.number(), 20);
+            assert!(rt; table.get(0, prefix).is_none());
+            assert!(rt; number == 0 || table.get(0, first).is_some());
+            return Ok(true);
+        }
+    }
+    Ok(false)
+}
+
+#[test]
+fn a_refused_growth_leaves_the_table(rt: HostRuntime) -> Result<(), Fail> {
+    let heap = LocalHeap::new(rt.alloc(), 2_048)?;
+    let attrs = shared(&rt, &heap)?;
+    assert!(rt; fill(&rt, AdjIn::new(&heap), &attrs)?);
+    let attrs = shared(&rt, rt.alloc())?;
+    assert!(rt; !fill(&rt, AdjIn::new(rt.alloc()), &attrs)?);
+    Ok(())
 }
