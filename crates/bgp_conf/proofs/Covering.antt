@@ -1,4 +1,4 @@
-use Rattle.std.proofs.Common.{◌≡◌, ◌≢◌, ◌≤◌, ℕ, ◌/◌, ◌*◌, List, Option, Some, None, IsSome, refl, sym, ◌∙◌, add-zero, arith}
+use Rattle.std.proofs.Common.{◌≡◌, ◌≤◌, ℕ, ◌/◌, List, Option, Some, None, refl, sym, ◌∙◌, add-zero, arith}
 use Rattle.std.proofs.Math.Nat.{mul-div_cancel}
 use Rattle.std.proofs.lemmas.Nat.{pow_pos, div-add-mod'}
 use Rattle.std.proofs.lemmas.Bool.{false≢true}
@@ -27,11 +27,11 @@ IsCovering-from_entry reach address prefix cost is covers = (rw is refl, covers)
 pub IsCostAt-entry_at : (reach : List (Prefix × ℕ)) (address len : ℕ) (masked : Prefix) (found : Option ℕ) → masked.bits ≡ masked_bits address len → masked.len ≡ len → found ≡ entry_at reach masked → IsCostAt reach address len found
 IsCostAt-entry_at reach address len masked None bits length is =
     λ prefix covering same.
-        let at = bits-from_covering prefix address covering.1 in
-        let bits_same : prefix.bits ≡ masked.bits = rw same at at ∙ sym bits in
-        let length_same : prefix.len ≡ masked.len = same ∙ sym length in
-        let nothing : entry_at reach prefix ≡ None = rw (bits_same, length_same) (sym is) in
-        absurd (false≢true (rw nothing at covering.0))
+    let at = bits-from_covering prefix address covering.1 in
+    let bits_same : prefix.bits ≡ masked.bits = rw same at at ∙ sym bits in
+    let length_same : prefix.len ≡ masked.len = same ∙ sym length in
+    let nothing : entry_at reach prefix ≡ None = rw (bits_same, length_same) (sym is) in
+    absurd (false≢true (rw nothing at covering.0))
 IsCostAt-entry_at reach address len masked (Some cost) bits length is =
     let short : len ≤ 32 = rw (← length) masked.short in
     (masked, sym is, rw (bits, length) (Covers-masked address len short), length)
@@ -43,8 +43,8 @@ IsCost-unique reach next_hop None (Some d) h k = absurd (h k.0 (IsCovering-from_
 IsCost-unique reach next_hop (Some c) None h k = absurd (k h.0 (IsCovering-from_entry reach next_hop h.0 c h.1 h.2))
 IsCost-unique reach next_hop (Some c) (Some d) h k =
     let same_length : h.0.len ≡ k.0.len =
-        omega (arith, k.3 h.0 (IsCovering-from_entry reach next_hop h.0 c h.1 h.2), h.3 k.0 (IsCovering-from_entry reach next_hop k.0 d k.1 k.2)) in
+    omega (arith, k.3 h.0 (IsCovering-from_entry reach next_hop h.0 c h.1 h.2), h.3 k.0 (IsCovering-from_entry reach next_hop k.0 d k.1 k.2)) in
     let same_bits : h.0.bits ≡ k.0.bits =
-        bits-from_covering h.0 next_hop h.2 ∙ rw same_length (sym (bits-from_covering k.0 next_hop k.2)) in
+    bits-from_covering h.0 next_hop h.2 ∙ rw same_length (sym (bits-from_covering k.0 next_hop k.2)) in
     let same_entry : entry_at reach h.0 ≡ entry_at reach k.0 = rw (same_bits, same_length) refl in
     sym h.1 ∙ same_entry ∙ k.1

@@ -12,7 +12,8 @@ use Rattle.bgp_conf.specs.Configuration.{Configuration, prefix_cmp, peer_at, ent
 
 -- what is kept of a peer's settings
 abbrev pub configured_of : PeerConf → ConfiguredPeer
-configured_of peer = record { asn = peer.asn; address = peer.address; local = peer.local; mode = peer.mode; hold = peer.hold }
+configured_of peer =
+    record { asn = peer.asn; address = peer.address; local = peer.local; mode = peer.mode; hold = peer.hold }
 
 -- AddPeer sets the peer of its slot, Reach the cost of its prefix, each in place of what was there
 abbrev pub conf_after : Configuration → Command → Configuration

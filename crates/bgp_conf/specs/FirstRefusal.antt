@@ -1,4 +1,4 @@
-use Rattle.std.specs.Prelude.{ℕ, ◌==◌, ◌/◌, ◌%◌, ◌^◌, ◌||◌, ◌&&◌, not, Bool, true, false, List, [], ◌∷◌, Option, Some, None, is_some, is_none, nat_lt, nat_le, length, codes, if◌then◌else◌}
+use Rattle.std.specs.Prelude.{ℕ, ◌==◌, ◌/◌, ◌%◌, ◌^◌, ◌||◌, ◌&&◌, not, Bool, true, false, List, [], ◌∷◌, Option, Some, None, is_some, is_none, nat_le, length, codes, if◌then◌else◌}
 use Rattle.std.specs.List.{list_all, list_any}
 use Rattle.std.specs.Map.{values_of}
 use Rattle.std.specs.Str.{bytes_eq}
@@ -41,7 +41,13 @@ is_passive Active = false
 -- an external peer that connects, a hold time that RFC 4271 section 4.2 allows, and names
 abbrev pub is_in_range : Asn → PeerConf → Bool
 is_in_range own peer =
-    not (peer.asn.0 == 0) && not (peer.asn.0 == own.0) && is_passive peer.mode && not (peer.hold == 1) && not (peer.hold == 2) && is_policy_name peer.import.now && is_policy_name peer.export.now
+    not (peer.asn.0 == 0)
+    && not (peer.asn.0 == own.0)
+    && is_passive peer.mode
+    && not (peer.hold == 1)
+    && not (peer.hold == 2)
+    && is_policy_name peer.import.now
+    && is_policy_name peer.export.now
 
 -- some peer has the address
 abbrev pub has_address : List (ℕ × ConfiguredPeer) → ℕ → Bool
@@ -55,12 +61,12 @@ has_bit slots slot = (slots / 2 ^ slot) % 2 == 1
 abbrev pub first_refusal : Configuration → ℕ → Command → Option Refusal
 first_refusal configuration closing (AddPeer slot peer) =
     first
-        ((nat_le PEER_SLOTS slot, BadSlot)
-        ∷ (is_some (peer_at configuration slot) || has_bit closing slot, SlotTaken)
-        ∷ (has_address configuration.peers peer.address, AddressTaken)
-        ∷ (not (is_in_range configuration.own peer), Range)
-        ∷ (not (is_known peer.import.now) || not (is_known peer.export.now), UnknownName)
-        ∷ [])
+    ((nat_le PEER_SLOTS slot, BadSlot)
+    ∷ (is_some (peer_at configuration slot) || has_bit closing slot, SlotTaken)
+    ∷ (has_address configuration.peers peer.address, AddressTaken)
+    ∷ (not (is_in_range configuration.own peer), Range)
+    ∷ (not (is_known peer.import.now) || not (is_known peer.export.now), UnknownName)
+    ∷ [])
 first_refusal configuration closing (Enable slot) =
     first ((nat_le PEER_SLOTS slot || is_none (peer_at configuration slot), BadSlot) ∷ [])
 first_refusal configuration closing (Reach prefix cost) =

@@ -97,7 +97,9 @@ impl<A: Allocator + Clone> Conf<A> {
     /// The first refusal of a command, in the order 40, 43, 45, 33, 30, 31. `closing` has a bit for each slot
     /// whose last connection is still closing.
     pub fn check(&self, command: &Command<'_>, closing: u64) -> Result<(), Refusal>
-        ensures { MatchResult result (λ _. first_refusal self.now closing command.now ≡ None) (λ refusal. first_refusal self.now closing command.now ≡ Some refusal) }
+        ensures { MatchResult result
+            (λ _. first_refusal self.now closing command.now ≡ None)
+            (λ refusal. first_refusal self.now closing command.now ≡ Some refusal) }
     {
         match command {
             Command::AddPeer(slot, peer) => self.check_add_peer(*slot, peer, closing),
@@ -109,8 +111,10 @@ impl<A: Allocator + Clone> Conf<A> {
     /// Makes the tables after a command. Where memory is refused they stay as they were.
     pub fn apply(&mut self, command: &Command<'_>) -> Result<(), AllocError>
         ensures ok { OnOk result (self.new ≡ conf_after self.old command.now) }
-        ensures peers { OnOk result ((slot : ℕ) → peer_at self.new slot ≡ peer_after self.old command.now slot) }
-        ensures reach { OnOk result ((prefix : Prefix) → entry_at self.new.reach prefix ≡ entry_after self.old command.now prefix) }
+        ensures peers { OnOk result
+            ((slot : ℕ) → peer_at self.new slot ≡ peer_after self.old command.now slot) }
+        ensures reach { OnOk result
+            ((prefix : Prefix) → entry_at self.new.reach prefix ≡ entry_after self.old command.now prefix) }
         ensures err { OnErr result (self.new ≡ self.old) }
         ensures memory { OnErr result (TakesMemory self.old command.now) }
     {
@@ -138,7 +142,9 @@ impl<A: Allocator + Clone> Conf<A> {
     }
 
     fn check_add_peer(&self, slot: u8, peer: &PeerConf<'_>, closing: u64) -> Result<(), Refusal>
-        ensures { MatchResult result (λ _. first_refusal self.now closing (Command.AddPeer slot peer.now) ≡ None) (λ refusal. first_refusal self.now closing (Command.AddPeer slot peer.now) ≡ Some refusal) }
+        ensures { MatchResult result
+            (λ _. first_refusal self.now closing (Command.AddPeer slot peer.now) ≡ None)
+            (λ refusal. first_refusal self.now closing (Command.AddPeer slot peer.now) ≡ Some refusal) }
     {
         if slot >= PEER_SLOTS {
             return Err(Refusal::BadSlot);
@@ -159,7 +165,9 @@ impl<A: Allocator + Clone> Conf<A> {
     }
 
     fn check_enable(&self, slot: u8) -> Result<(), Refusal>
-        ensures { MatchResult result (λ _. first_refusal self.now 0 (Command.Enable slot) ≡ None) (λ refusal. first_refusal self.now 0 (Command.Enable slot) ≡ Some refusal) }
+        ensures { MatchResult result
+            (λ _. first_refusal self.now 0 (Command.Enable slot) ≡ None)
+            (λ refusal. first_refusal self.now 0 (Command.Enable slot) ≡ Some refusal) }
     {
         if slot >= PEER_SLOTS || !self.is_configured(slot) {
             return Err(Refusal::BadSlot);
@@ -168,7 +176,9 @@ impl<A: Allocator + Clone> Conf<A> {
     }
 
     fn check_reach(&self, prefix: &Prefix) -> Result<(), Refusal>
-        ensures { MatchResult result (λ _. first_refusal self.now 0 (Command.Reach prefix.now 0) ≡ None) (λ refusal. first_refusal self.now 0 (Command.Reach prefix.now 0) ≡ Some refusal) }
+        ensures { MatchResult result
+            (λ _. first_refusal self.now 0 (Command.Reach prefix.now 0) ≡ None)
+            (λ refusal. first_refusal self.now 0 (Command.Reach prefix.now 0) ≡ Some refusal) }
     {
         if !self.reach.contains_key(prefix) && self.reach.len() >= MAX_REACH {
             return Err(Refusal::TooMany);

@@ -52,26 +52,32 @@ fn a_peer_is_configured_once(rt: HostRuntime) -> Result<(), Fail> {
     assert_eq!(rt; conf.peer(1), None);
     assert_eq!(rt; conf.check(&Command::Enable(0), 0), Ok(()));
     assert_eq!(rt; conf.check(&command, 0), Err(Refusal::SlotTaken));
-    assert_eq!(rt; conf.check(&Command::AddPeer(1, PEER), 0), Err(Refusal::AddressTaken));
+    assert_eq!(rt;
+        conf.check(&Command::AddPeer(1, PEER), 0),
+        Err(Refusal::AddressTaken)
+    );
     Ok(())
 }
+
+#[rattlefmt::skip]
+const ROWS: [(u8, PeerConf<'static>, Refusal); 11] = [
+    (64, PEER, Refusal::BadSlot),
+    (63, PeerConf { asn: Asn(0), ..PEER }, Refusal::Range),
+    (63, PeerConf { asn: Asn(65000), ..PEER }, Refusal::Range),
+    (63, PeerConf { mode: Mode::Active, ..PEER }, Refusal::Range),
+    (63, PeerConf { hold: 1, ..PEER }, Refusal::Range),
+    (63, PeerConf { hold: 2, ..PEER }, Refusal::Range),
+    (63, PeerConf { import: "", ..PEER }, Refusal::Range),
+    (63, PeerConf { export: "All", ..PEER }, Refusal::Range),
+    (63, PeerConf { import: "a-name-of-33-octets-is-too-long-x", ..PEER }, Refusal::Range),
+    (63, PeerConf { import: "a-name-of-32-octets-isnt-too-lon", ..PEER }, Refusal::UnknownName),
+    (63, PeerConf { export: "transit-1", ..PEER }, Refusal::UnknownName),
+];
 
 #[test]
 fn settings_out_of_range_are_refused(rt: HostRuntime) -> Result<(), Fail> {
     let conf = Conf::new(rt.alloc(), Asn(65000))?;
-    for (slot, peer, refusal) in [
-        (64, PEER, Refusal::BadSlot),
-        (63, PeerConf { asn: Asn(0), ..PEER }, Refusal::Range),
-        (63, PeerConf { asn: Asn(65000), ..PEER }, Refusal::Range),
-        (63, PeerConf { mode: Mode::Active, ..PEER }, Refusal::Range),
-        (63, PeerConf { hold: 1, ..PEER }, Refusal::Range),
-        (63, PeerConf { hold: 2, ..PEER }, Refusal::Range),
-        (63, PeerConf { import: "", ..PEER }, Refusal::Range),
-        (63, PeerConf { export: "All", ..PEER }, Refusal::Range),
-        (63, PeerConf { import: "a-name-of-32-octets-is-not-too-lo", ..PEER }, Refusal::Range),
-        (63, PeerConf { import: "a-name-of-32-octets-isnt-too-lon", ..PEER }, Refusal::UnknownName),
-        (63, PeerConf { export: "transit-1", ..PEER }, Refusal::UnknownName),
-    ] {
+    for (slot, peer, refusal) in ROWS {
         assert_eq!(rt; conf.check(&Command::AddPeer(slot, peer), 0), Err(refusal));
     }
     Ok(())
@@ -81,7 +87,12 @@ fn settings_out_of_range_are_refused(rt: HostRuntime) -> Result<(), Fail> {
 fn the_longest_entry_tells_the_cost(rt: HostRuntime) -> Result<(), Fail> {
     let mut conf = Conf::new(rt.alloc(), Asn(65000))?;
     assert_eq!(rt; conf.cost(0x0a01_0203), None);
-    for (bits, len, cost) in [(0x0a00_0000, 8, 5), (0x0a01_0000, 16, 7), (0x0a01_0000, 16, 9), (0x0a01_0203, 32, 1)] {
+    for (bits, len, cost) in [
+        (0x0a00_0000, 8, 5),
+        (0x0a01_0000, 16, 7),
+        (0x0a01_0000, 16, 9),
+        (0x0a01_0203, 32, 1),
+    ] {
         let command = Command::Reach(Prefix::new(bits, len)?, cost);
         assert_eq!(rt; conf.check(&command, 0), Ok(()));
         conf.apply(&command)?;

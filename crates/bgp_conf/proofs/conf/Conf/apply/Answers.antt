@@ -11,5 +11,5 @@ returns-in_err-insert-in-Reach-clause-memory g c =
 pub returns-in_ok-insert-in-Reach-clause-reach : goal.returns-in_ok-insert-in-Reach-clause-reach
 returns-in_ok-insert-in-Reach-clause-reach g c =
     λ other.
-        let same = is_at-prefix_cmp c.in-Reach.prefix other in
-        rw (c.in-Reach.is, ← c.self.view_is, ← same) (c.in_ok-insert-in-Reach.ensures.updates.0 other)
+    let same = is_at-prefix_cmp c.in-Reach.prefix other in
+    rw (c.in-Reach.is, ← c.self.view_is, ← same) (c.in_ok-insert-in-Reach.ensures.updates.0 other)
