@@ -12,8 +12,7 @@ use crate::fault::RibFault;
 use bgp_attr::Attrs;
 use net_prefix::Prefix;
 use std::alloc::{Allocator, Global};
-use std::collections::BTreeMap;
-use std::collections::btree_map;
+use std::collections::{BTreeMap, btree_map};
 use std::marker::Model;
 use std::ops::Bound;
 use std::rc::Rc;
@@ -90,11 +89,19 @@ impl<A: Allocator + Clone> AdjIn<A> {
     }
 
     /// The slot announced a route to the prefix, which replaces the one before it (RFC 4271 section 3.1).
-    pub fn announce(&mut self, slot: u8, prefix: Prefix, attrs: Rc<Attrs<A>, A>) -> Result<(), RibFault>
+    pub fn announce(
+        &mut self,
+        slot: u8,
+        prefix: Prefix,
+        attrs: Rc<Attrs<A>, A>,
+    ) -> Result<(), RibFault>
         ensures ok { OnOk result ((s : ℕ) (p : Prefix) → route_at self.new s p ≡ (if is_route slot prefix s p then Some attrs.value else route_at self.old s p)) }
         ensures err { OnErr result (self.new ≡ self.old) }
     {
-        match self.routes.insert(RouteKey { prefix, slot }, SharedAttrs { attrs }) {
+        match self
+            .routes
+            .insert(RouteKey { prefix, slot }, SharedAttrs { attrs })
+        {
             Ok(_) => Ok(()),
             Err(_) => Err(RibFault::NoMemory),
         }
@@ -151,7 +158,9 @@ impl<A: Allocator + Clone> AdjIn<A> {
         ensures least { IfSome result (λ key. (q : RouteKey) → key_cmp after q ≡ Less → IsSome (route_at self.now q.slot q.prefix) → is_gt (key_cmp key q) ≡ false) }
         ensures none { IfNone result ((q : RouteKey) → key_cmp after q ≡ Less → route_at self.now q.slot q.prefix ≡ None) }
     {
-        let mut above = self.routes.range((Bound::Excluded(after), Bound::Unbounded));
+        let mut above = self
+            .routes
+            .range((Bound::Excluded(after), Bound::Unbounded));
         match above.next() {
             Some((key, _)) => Some(RouteKey {
                 prefix: key.prefix,

@@ -9,7 +9,9 @@ use std::rc::Rc;
 use std::test::Fail;
 
 // ORIGIN IGP, AS_PATH 65001, and NEXT_HOP 192.0.2.1.
-const ATTRIBUTES: [u8; 20] = [0x40, 1, 1, 0, 0x40, 2, 6, 2, 1, 0, 0, 0xfd, 0xe9, 0x40, 3, 4, 192, 0, 2, 1];
+const ATTRIBUTES: [u8; 20] = [
+    0x40, 1, 1, 0, 0x40, 2, 6, 2, 1, 0, 0, 0xfd, 0xe9, 0x40, 3, 4, 192, 0, 2, 1,
+];
 
 fn shared<A: Allocator + Clone>(rt: &impl Abort, alloc: A) -> Result<Rc<Attrs<A>, A>, Fail> {
     let Ok(attrs) = read_attrs(alloc.clone()?, &ATTRIBUTES, PeerKind::External(Asn(65001))) else {
@@ -45,7 +47,11 @@ fn the_latest_route_of_each_slot_is_kept(rt: HostRuntime) -> Result<(), Fail> {
 }
 
 // Fills the table until a growth is refused. Answers whether one was.
-fn fill<A: Allocator + Clone>(rt: &impl Abort, mut table: AdjIn<A>, attrs: &Rc<Attrs<A>, A>) -> Result<bool, Fail> {
+fn fill<A: Allocator + Clone>(
+    rt: &impl Abort,
+    mut table: AdjIn<A>,
+    attrs: &Rc<Attrs<A>, A>,
+) -> Result<bool, Fail> {
     let first = Prefix::new(0, 24)?;
     for number in 0..64u32 {
         let prefix = Prefix::new(number * 256, 24)?;

@@ -9,8 +9,7 @@ ghost use Rattle.rib_out.specs.Held.{held_at, is_prefix, prefix_cmp, IsAbove, Is
 
 use net_prefix::Prefix;
 use std::alloc::{AllocError, Allocator, Global};
-use std::collections::BTreeMap;
-use std::collections::btree_map;
+use std::collections::{BTreeMap, btree_map};
 use std::marker::Model;
 use std::ops::Bound;
 
@@ -134,7 +133,9 @@ impl<A: Allocator + Clone> AdjOut<A> {
         ensures least { IfSome result (λ p. (q : Prefix) → prefix_cmp after q ≡ Less → IsSome (held_at self.now q) → is_gt (prefix_cmp p q) ≡ false) }
         ensures none { IfNone result ((q : Prefix) → prefix_cmp after q ≡ Less → held_at self.now q ≡ None) }
     {
-        let mut above = self.routes.range((Bound::Excluded(after), Bound::Unbounded));
+        let mut above = self
+            .routes
+            .range((Bound::Excluded(after), Bound::Unbounded));
         match above.next() {
             Some((prefix, _)) => Some(*prefix),
             None => None,

@@ -1,4 +1,3 @@
-use Rattle.std.proofs.Common.{◌≡◌}
 use Rattle.rib_in.proofs.RouteKeys.{IsSome-from, le_from_key}
 use Rattle.rib_in.proofs.adj_in.AdjIn.first_prefix.Goals as goal
 

@@ -1,4 +1,4 @@
-use Rattle.std.proofs.Common.{◌≡◌, arith}
+use Rattle.std.proofs.Common.{arith}
 use Rattle.rib_in.proofs.RouteKeys.{IsSome-from}
 use Rattle.rib_in.proofs.adj_in.AdjIn.key_above.Goals as goal
 

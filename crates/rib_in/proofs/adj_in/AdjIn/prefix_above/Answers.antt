@@ -1,4 +1,3 @@
-use Rattle.std.proofs.Common.{◌≡◌, arith}
 use Rattle.rib_in.proofs.RouteKeys.{above_from_key, key_from_above, le_from_key}
 use Rattle.rib_in.proofs.adj_in.AdjIn.prefix_above.Goals as goal
 

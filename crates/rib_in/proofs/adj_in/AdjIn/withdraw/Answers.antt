@@ -1,4 +1,3 @@
-use Rattle.std.proofs.Common.{◌≡◌}
 use Rattle.rib_in.proofs.adj_in.AdjIn.withdraw.Goals as goal
 
 pub returns : goal.returns

@@ -1,4 +1,3 @@
-use Rattle.std.proofs.Common.{◌≡◌}
 use Rattle.rib_out.proofs.adj_out.AdjOut.first_prefix.Goals as goal
 
 pub returns-in-Some-clause-least : goal.returns-in-Some-clause-least

@@ -1,4 +1,3 @@
-use Rattle.std.proofs.Common.{◌≡◌}
 use Rattle.rib_out.proofs.adj_out.AdjOut.prefix_above.Goals as goal
 
 pub returns-in-Some-clause-least : goal.returns-in-Some-clause-least

@@ -1,4 +1,3 @@
-use Rattle.std.proofs.Common.{◌≡◌}
 use Rattle.rib_out.proofs.adj_out.AdjOut.withdraw.Goals as goal
 
 pub returns : goal.returns
