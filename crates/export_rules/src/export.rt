@@ -1,5 +1,6 @@
 //! The attributes that an external peer is sent.
-ghost use Rattle.std.specs.Prelude.{◌≡◌, ◌<◌, ◌≤◌, [], OnTrue, OnFalse};
+ghost use Rattle.std.specs.Prelude.{◌≡◌, ◌≤◌, [], false};
+ghost use Rattle.std.specs.Bool.{OnFalse, OnTrue};
 ghost use Rattle.arrayvec.specs.ArrayVec.{array_vec_len};
 
 use arrayvec::ArrayVec;
@@ -23,30 +24,31 @@ pub struct ExportPeer {
     pub local: u32,
 }
 
-/// Writes the attributes with which the route goes to the peer, and answers whether it goes there. Nothing goes to
-/// the peer that it came from (own choice; RFC 4271 section 9.1.3 leaves it to the policy), nor what is too long
-/// for a message.
+/// Writes the attributes with which the route goes to the peer, and answers whether it goes there. `out` is empty
+/// where it doesn't.
+// Own choice: nothing goes to the peer that the route came from, nor what would be too long for a message.
 pub fn export_of<A: Allocator>(
     route: &Candidate,
     attrs: &Attrs<A>,
     peer: &ExportPeer,
     out: &mut ArrayVec<u8, 4096>,
-) -> bool {
-    out.clear();
-    if route.slot == peer.slot {
-        return false;
+) -> bool
+    ensures back { route.now.slot ≡ peer.now.slot → result ≡ false }
+    ensures small { OnTrue result (array_vec_len out.new ≤ MAX_EXPORTED_ATTRIBUTES) }
+    ensures nothing { OnFalse result (out.new.items ≡ []) }
+{
+    if route.slot != peer.slot && write_attrs(&exported(attrs, peer), out) && out.len() <= MAX_EXPORTED_ATTRIBUTES {
+        return true;
     }
-    let exported = AttrsToWrite {
+    out.clear();
+    false
+}
+
+// The attributes as they go on to an external peer (RFC 4271 sections 5.1.2 and 5.1.3).
+fn exported<'a, A: Allocator>(attrs: &'a Attrs<A>, peer: &ExportPeer) -> AttrsToWrite<'a, A> {
+    AttrsToWrite {
         origin: attrs.origin(),
         as_path: attrs.as_path().map(|path| prepend(path, peer.own, 1)),
         next_hop: Some(peer.local),
-    };
-    if !write_attrs(&exported, out) {
-        return false;
     }
-    if out.len() > MAX_EXPORTED_ATTRIBUTES {
-        out.clear();
-        return false;
-    }
-    true
 }
