@@ -2,7 +2,9 @@ use Rattle.std.specs.Prelude.{ℕ}
 use Rattle.net_prefix.specs.declared.fault.PrefixFault.{PrefixFault}
 use Rattle.net_prefix.specs.declared.fault.PrefixFault.TheVariants.{LenOver32, HostBits, Text, Cut}
 
--- the numbers by which operators know the faults
+-- The numbers of the faults (our own).
+
+-- the number by which operators know the fault
 abbrev pub number_of : PrefixFault → ℕ
 number_of LenOver32 = 1
 number_of HostBits = 2

@@ -1,8 +1,9 @@
-//! IPv4 prefixes and AS numbers: their order, their cover, their wire form and their text.
+//! IPv4 prefixes and AS numbers: their order, their cover, their octets and their text.
 //!
 //! One prefix covers another where it is no longer and both addresses, divided by 2^(32 - length), give one
-//! quotient. The wire form (RFC 4271 section 4.3) and the text are read and written both ways. No call takes
-//! memory.
+//! quotient (RFC 6811 section 2). `read_prefix` reads the octets of RFC 4271 section 4.3 and `Prefix::parse` the
+//! text of RFC 4632 section 3.1; each says exactly which fault comes when, and reads back what `to_octets` and
+//! `Display` write. No call takes memory, and there are no IPv6 prefixes.
 #![tactic(auto)]
 
 mod asn;
