@@ -1,4 +1,5 @@
 //! What the selection compares of a route.
+ghost use Rattle.std.specs.Prelude.{◌≡◌, false};
 
 use bgp_attr::Origin;
 
@@ -30,17 +31,21 @@ pub struct Candidate {
 }
 
 impl Default for Candidate {
-    /// A route that any other one beats: what fills a list's places that are not in use.
+    ghost use Rattle.bgp_attr.specs.declared.attrs.Origin.TheVariants.{Igp};
+
+    ghost is_default = { λ c. c ≡ record { slot = 0; degree = 0; path_length = 0; origin = Igp; external = false; cost = 0; identifier = 0; address = 0 } };
+
+    /// What fills the places of a list that are not in use.
     fn default() -> Candidate {
         Candidate {
-            slot: LOCAL_SLOT,
+            slot: 0,
             degree: 0,
-            path_length: u32::MAX,
-            origin: Origin::Incomplete,
+            path_length: 0,
+            origin: Origin::Igp,
             external: false,
-            cost: u32::MAX,
-            identifier: u32::MAX,
-            address: u32::MAX,
+            cost: 0,
+            identifier: 0,
+            address: 0,
         }
     }
 }
