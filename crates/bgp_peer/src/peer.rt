@@ -91,8 +91,8 @@ impl<A: Allocator> Peer<A> {
         ensures goes_on { Wants self.old.rest → 0 < length octets.now → 0 < result }
         ensures short { length self.new.rest ≤ 4096 }
     {
-        let count = min(needed(self.rest.as_slice()), octets.len());
-        let _fits = self.rest.try_extend_from_slice(&octets[..count]);
+        let count = wanted(self.rest.as_slice(), octets.len());
+        append(&octets[..count], &mut self.rest);
         count
     }
 
@@ -189,4 +189,22 @@ impl<A: Allocator> Peer<A> {
             None => {}
         }
     }
+}
+
+// How many of so many octets belong to the message at the front.
+fn wanted(rest: &[u8], available: usize) -> usize
+    requires { length rest.now ≤ 4096 }
+    ensures count { result ≡ min (needed_of rest.now) available }
+    ensures few { result ≤ needed_of rest.now }
+    ensures within { result ≤ available }
+    ensures fits { length rest.now + result ≤ 4096 }
+{
+    min(needed(rest), available)
+}
+
+fn append(octets: &[u8], rest: &mut ArrayVec<u8, 4096>)
+    requires { length rest.old.items + length octets.now ≤ 4096 }
+    ensures { rest.new.items ≡ rest.old.items ++ octets.now }
+{
+    let _fits = rest.try_extend_from_slice(octets);
 }
