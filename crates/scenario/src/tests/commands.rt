@@ -1,6 +1,7 @@
 //! Lines that are none, and commands that are refused.
 
 use super::transcript::{BOTH_COME_UP, TWO_PEERS, answers, plays};
+use crate::script::{PlayFault, play};
 use std::test::Fail;
 
 // Lines that the language doesn't have.
@@ -151,4 +152,16 @@ end
 #[test]
 fn events_are_refused_where_they_do_not_fit(rt: HostRuntime) -> Result<(), Fail> {
     plays(&rt, rt.alloc(), &[TWO_PEERS, BOTH_COME_UP, REFUSED_EVENTS])
+}
+
+// The answer is `ok` and a line feed.
+#[test]
+fn a_writer_without_room_is_a_device_fault(rt: HostRuntime) {
+    let script: &[u8] = b"speaker 65000 192.0.2.1 nocache";
+    let mut octets = [0u8; 2];
+    let mut room = octets.as_mut_slice();
+    assert_eq!(rt; play(rt.alloc(), script, &mut room), Err(PlayFault::Device));
+    let mut octets = [0u8; 3];
+    let mut room = octets.as_mut_slice();
+    assert_eq!(rt; play(rt.alloc(), script, &mut room), Ok(()));
 }
