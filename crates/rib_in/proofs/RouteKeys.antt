@@ -4,6 +4,8 @@ use Rattle.std.specs.declared.cmp.Ordering.{Ordering}
 use Rattle.std.specs.declared.cmp.Ordering.TheVariants.{Less, Equal, Greater}
 use Rattle.std.specs.Ordering.{nat_cmp, ordering_then, is_eq, is_gt}
 use Rattle.std.proofs.lemmas.Bool.Decides.{nat_tests}
+use Rattle.net_prefix.specs.declared.prefix.Prefix.{Prefix}
+use Rattle.rib_in.specs.LatestRoutes.{is_route}
 
 -- one route is of one slot
 pub slot_from_route : (o : Ordering) (s t : ℕ) → is_eq (ordering_then o (nat_cmp s t)) ≡ true → s ≡ t
@@ -37,3 +39,22 @@ IsSome-from o x h = rw h refl
 pub keep_others : {X : Type 0} (b : Bool) (x y : X) → (if not b then x else y) ≡ (if b then y else x)
 keep_others true x y = refl
 keep_others false x y = refl
+
+-- a route is itself
+pub is_route-refl : (s : ℕ) (p : Prefix) → is_route s p s p ≡ true
+is_route-refl s p = grind (arith, nat_tests)
+
+same_from_cmp : (a b : ℕ) → is_eq (nat_cmp a b) ≡ true → a ≡ b
+same_from_cmp a b h = grind (arith, nat_tests)
+
+same_from_pair : (o p : Ordering) → is_eq (ordering_then o p) ≡ true → (is_eq o ≡ true) × (is_eq p ≡ true)
+same_from_pair Less p h = (h, absurd cc)
+same_from_pair Equal p h = (refl, h)
+same_from_pair Greater p h = (h, absurd cc)
+
+-- one route has one prefix
+pub prefix_from_route : (slot : ℕ) (prefix : Prefix) (s : ℕ) (p : Prefix) → is_route slot prefix s p ≡ true → (prefix.bits ≡ p.bits) × (prefix.len ≡ p.len)
+prefix_from_route slot prefix s p h =
+    let of_prefix = (same_from_pair (ordering_then (nat_cmp prefix.bits p.bits) (nat_cmp prefix.len p.len)) (nat_cmp slot s) h).0 in
+    let parts = same_from_pair (nat_cmp prefix.bits p.bits) (nat_cmp prefix.len p.len) of_prefix in
+    (same_from_cmp prefix.bits p.bits parts.0, same_from_cmp prefix.len p.len parts.1)
