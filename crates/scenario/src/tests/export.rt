@@ -1,5 +1,7 @@
 //! What is announced, and what waits.
 
+ghost use Rattle.std.specs.Prelude.{◌<◌};
+
 use super::transcript::{BOTH_COME_UP, MARKER, TWO_PEERS, Transcript, plays};
 use std::alloc::{AllocError, Global};
 use std::test::Fail;
@@ -30,37 +32,59 @@ fn a_full_segment_is_prepended_by_a_new_one(rt: HostRuntime) -> Result<(), Fail>
     )
 }
 
-// Of 2,000 prefixes, each announced alone, 1,125 UPDATEs of 51 octets leave fewer than 8,192 octets free.
+// Of 2,000 prefixes that slot 0 announces, 1,125 UPDATEs of 51 octets are queued: 8,161 octets are free then.
 const ANNOUNCED: u16 = 2000;
 
 const QUEUED: u16 = 1125;
+
+const IN_ONE_UPDATE: u16 = 125;
+
+fn announce(transcript: &mut Transcript, update: u16) -> Result<(), AllocError>
+    requires { update < 16 }
+{
+    let attributes = "4001010040020602010000FDE9400304C000020B";
+    write!(
+        transcript.script,
+        "bytes 0 {MARKER}021F0200000014{attributes}"
+    )?;
+    let first = update * IN_ONE_UPDATE;
+    for index in first..first + IN_ONE_UPDATE {
+        write!(transcript.script, "180A{index:04X}")?;
+    }
+    writeln!(transcript.script, "")?;
+    writeln!(transcript.told, "ok")
+}
+
+fn show_waiting(transcript: &mut Transcript, queued: u16) -> Result<(), AllocError> {
+    writeln!(transcript.script, "show waiting 1")?;
+    for index in queued..ANNOUNCED {
+        let (high, low) = (index / 256, index % 256);
+        writeln!(transcript.told, "10.{high}.{low}.0/24")?;
+    }
+    writeln!(transcript.told, "end")
+}
+
+fn take_some(transcript: &mut Transcript, count: u16, octets: &str) -> Result<(), AllocError> {
+    writeln!(transcript.script, "take 1 {count}")?;
+    writeln!(transcript.told, "out {octets}")
+}
 
 #[test]
 fn a_full_ring_lets_prefixes_wait(rt: HostRuntime) -> Result<(), Fail> {
     let alloc = rt.alloc();
     let mut transcript = Transcript::read(alloc, &[TWO_PEERS, BOTH_COME_UP])?;
-    for index in 0..ANNOUNCED {
-        let attributes = "4001010040020602010000FDE9400304C000020B";
-        writeln!(
-            transcript.script,
-            "bytes 0 {MARKER}002F0200000014{attributes}180A{index:04X}"
-        )?;
-        writeln!(transcript.told, "ok")?;
+    for update in 0..16 {
+        announce(&mut transcript, update)?;
     }
-    writeln!(transcript.script, "show waiting 1")?;
-    for index in QUEUED..ANNOUNCED {
-        let (high, low) = (index / 256, index % 256);
-        writeln!(transcript.told, "10.{high}.{low}.0/24")?;
-    }
-    writeln!(transcript.script, "take 1 57375")?;
-    write!(transcript.told, "end\nout ")?;
-    for index in 0..QUEUED {
-        let attributes = "4001010040020A02020000FDE80000FDE9400304C0000201";
-        write!(
-            transcript.told,
-            "{MARKER}00330200000018{attributes}180A{index:04X}"
-        )?;
-    }
-    writeln!(transcript.told, "")?;
+    show_waiting(&mut transcript, QUEUED)?;
+    // 30 octets taken leave 8,191 free: nothing is queued. One more makes room for the next UPDATE.
+    take_some(
+        &mut transcript,
+        30,
+        "FFFFFFFFFFFFFFFFFFFFFFFFFFFFFFFF003302000000184001010040020A",
+    )?;
+    show_waiting(&mut transcript, QUEUED)?;
+    take_some(&mut transcript, 1, "02")?;
+    show_waiting(&mut transcript, QUEUED + 1)?;
     transcript.play(&rt, alloc)
 }
