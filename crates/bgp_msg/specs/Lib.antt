@@ -1,3 +1,4 @@
 pub mod MessageSpelling
 pub mod MessageFaults
 pub mod MessageStream
+pub mod OpenParts

@@ -1,11 +1,15 @@
-use Rattle.std.specs.Prelude.{ℕ, ◌==◌, nat_lt, if◌then◌else◌, Bool, true, false, not, ◌||◌, List, [], ◌∷◌, Option, Some, None, slice_index}
+use Rattle.std.specs.Prelude.{ℕ, ◌+◌, ◌*◌, ◌^◌, ◌==◌, nat_lt, if◌then◌else◌, Bool, true, false, not, ◌||◌, List, [], ◌∷◌, Option, Some, None, is_none, length, drop, slice_index}
 use Rattle.std.specs.Int.{w16, to_be_bytes}
 use Rattle.bgp_msg.specs.declared.frame.MessageType.{MessageType}
 use Rattle.bgp_msg.specs.declared.fault.HeaderFault.{HeaderFault}
 use Rattle.bgp_msg.specs.declared.fault.HeaderFault.TheVariants.{ConnectionNotSynchronized, BadMessageLength, BadMessageType}
 use Rattle.bgp_msg.specs.declared.fault.OpenFault.{OpenFault}
 use Rattle.bgp_msg.specs.declared.fault.OpenFault.TheVariants.{MalformedParameters, UnsupportedVersion, BadPeerAs, BadIdentifier, UnsupportedParameter, UnacceptableHoldTime, UnsupportedCapability}
-use Rattle.bgp_msg.specs.MessageSpelling.{kind_at, is_lawful_length, told_length, has_marker, four_octet_as_capability}
+use Rattle.bgp_msg.specs.declared.fault.Fault.{Fault}
+use Rattle.bgp_msg.specs.declared.fault.Fault.TheVariants.{Header, Open, Update}
+use Rattle.bgp_attr.specs.AttributeFaults.{code_of, subcode_of, data_of}
+use Rattle.bgp_msg.specs.MessageSpelling.{kind_at, is_lawful_length, told_length, has_marker, four_octet_as_capability, parameters_of}
+use Rattle.bgp_msg.specs.declared.open_message.Expected.{Expected}
 
 -- What is wrong with a message, in the order in which it is looked for (RFC 4271 section 6; the order is our own).
 
@@ -34,6 +38,42 @@ header_fault octets =
         ∷ (is_unlawful (kind_at (slice_index octets 18)) (told_length octets), BadMessageLength (told_length octets))
         ∷ [])
 
+-- the AS number isn't this one
+abbrev pub is_other : Option ℕ → ℕ → Bool
+is_other None asn = true
+is_other (Some told) asn = not (told == asn)
+
+-- the hold time and the identifier of an OPEN (RFC 4271 section 4.2)
+abbrev pub hold_time_at : List ℕ → ℕ
+hold_time_at body = slice_index body 3 * 256 + slice_index body 4
+
+abbrev pub identifier_at : List ℕ → ℕ
+identifier_at body = slice_index body 5 * 2 ^ 24 + slice_index body 6 * 2 ^ 16 + slice_index body 7 * 2 ^ 8 + slice_index body 8
+
+-- the faults of what an OPEN proposes, where its optional parameters can be read (RFC 4271 section 6.2, RFC 5492 section 5)
+unfoldable pub proposal_fault : Bool × Option ℕ → ℕ → ℕ → Expected → Option OpenFault
+proposal_fault told hold_time identifier expected =
+    first_fault
+        ((not told.0, UnsupportedParameter)
+        ∷ (is_none told.1, UnsupportedCapability expected.own_asn)
+        ∷ (is_other told.1 expected.peer_asn.0, BadPeerAs)
+        ∷ (identifier == 0 || identifier == expected.own_identifier, BadIdentifier)
+        ∷ (hold_time == 1 || hold_time == 2, UnacceptableHoldTime)
+        ∷ [])
+
+-- the same where they may be malformed
+abbrev pub told_fault : Option (Bool × Option ℕ) → ℕ → ℕ → Expected → Option OpenFault
+told_fault None hold_time identifier expected = Some MalformedParameters
+told_fault (Some told) hold_time identifier expected = proposal_fault told hold_time identifier expected
+
+-- the faults of an OPEN: its version, its optional parameters, what it proposes
+unfoldable pub open_fault : List ℕ → Expected → Option OpenFault
+open_fault body expected =
+    if nat_lt (length body) 10 then Some MalformedParameters
+    else (if not (slice_index body 0 == 4) then Some UnsupportedVersion
+    else (if not (slice_index body 9 + 10 == length body) then Some MalformedParameters
+    else told_fault (parameters_of (drop 10 body)) (hold_time_at body) (identifier_at body) expected))
+
 -- the error subcodes of RFC 4271 section 6.1
 abbrev pub header_subcode : HeaderFault → ℕ
 header_subcode ConnectionNotSynchronized = 1
@@ -61,3 +101,19 @@ abbrev pub open_data : OpenFault → List ℕ
 open_data UnsupportedVersion = 0 ∷ 4 ∷ []
 open_data (UnsupportedCapability own) = four_octet_as_capability own.0
 open_data other = []
+
+-- the error code, subcode and data of any fault; none where no NOTIFICATION tells it
+abbrev pub fault_code : Fault → Option ℕ
+fault_code (Header fault) = Some 1
+fault_code (Open fault) = Some 2
+fault_code (Update fault) = code_of fault
+
+abbrev pub fault_subcode : Fault → Option ℕ
+fault_subcode (Header fault) = Some (header_subcode fault)
+fault_subcode (Open fault) = Some (open_subcode fault)
+fault_subcode (Update fault) = subcode_of fault
+
+abbrev pub fault_data : Fault → List ℕ
+fault_data (Header fault) = header_data fault
+fault_data (Open fault) = open_data fault
+fault_data (Update fault) = data_of fault

@@ -1,5 +1,6 @@
-use Rattle.std.specs.Prelude.{ℕ, ◌+◌, ◌*◌, ◌==◌, nat_lt, nat_le, if◌then◌else◌, Bool, List, [], ◌∷◌, ◌++◌, Option, Some, None, take, length, slice_index}
-use Rattle.std.specs.Int.{w16, w32, to_be_bytes}
+use Rattle.std.specs.Prelude.{ℕ, zero, suc, ◌+◌, ◌*◌, ◌==◌, nat_lt, nat_le, if◌then◌else◌, Bool, true, false, List, [], ◌∷◌, ◌++◌, Option, Some, None, take, drop, length, slice_index}
+use Rattle.std.specs.Option.{option_map, option_and_then}
+use Rattle.std.specs.Int.{w16, w32, to_be_bytes, from_be_bytes}
 use Rattle.std.specs.List.{list_all, flat_map}
 use Rattle.net_prefix.specs.declared.prefix.Prefix.{Prefix}
 use Rattle.net_prefix.specs.PrefixSpelling.{spelling_of}
@@ -71,3 +72,88 @@ update_of withdrawn attributes announced =
     header_of Update (23 + length withdrawn + length attributes + length announced)
     ++ to_be_bytes w16 (length withdrawn) ++ withdrawn
     ++ to_be_bytes w16 (length attributes) ++ attributes ++ announced
+
+-- a field of two octets that counts those behind it: the counted ones, and the octets behind them; none where they are cut off
+abbrev pub counted_at : List ℕ → Option (List ℕ × List ℕ)
+counted_at [] = None
+counted_at (high ∷ []) = None
+counted_at (high ∷ low ∷ rest) =
+    if nat_lt (length rest) (high * 256 + low) then None
+    else Some (take (high * 256 + low) rest, drop (high * 256 + low) rest)
+
+-- the path attributes and what is announced, behind the withdrawn routes
+abbrev pub update_parts_behind : Option (List ℕ × List ℕ) → Option (List ℕ × List ℕ × List ℕ)
+update_parts_behind None = None
+update_parts_behind (Some found) = option_map (λ rest. (found.0, rest.0, rest.1)) (counted_at found.1)
+
+-- the withdrawn routes, the path attributes and what is announced
+abbrev pub update_parts : List ℕ → Option (List ℕ × List ℕ × List ℕ)
+update_parts body = update_parts_behind (counted_at body)
+
+-- an optional parameter or a capability: its type or code, and its value (RFC 4271 section 4.2, RFC 5492 section 4)
+pub record Part : Type 0 where
+  pub kind : ℕ
+  pub value : List ℕ
+
+-- the part at the front, and the octets behind it; none where it is cut off
+abbrev pub part_at : List ℕ → Option (Part × List ℕ)
+part_at [] = None
+part_at (kind ∷ []) = None
+part_at (kind ∷ told ∷ rest) =
+    if nat_lt (length rest) told then None
+    else Some (record { kind = kind; value = take told rest }, drop told rest)
+
+-- a part, and those behind it
+abbrev pub before : Part → Option (List Part) → Option (List Part)
+before part None = None
+before part (Some parts) = Some (part ∷ parts)
+
+-- the parts that octets are, at most so many; none where one is cut off
+unfoldable pub parts_within : ℕ → List ℕ → Option (List Part)
+parts_within most [] = Some []
+parts_within zero (octet ∷ octets) = None
+parts_within (suc most) (octet ∷ octets) =
+    option_and_then (λ found. before found.0 (parts_within most found.1)) (part_at (octet ∷ octets))
+
+-- the parts that octets are, none where one is cut off
+abbrev pub parts_of : List ℕ → Option (List Part)
+parts_of octets = parts_within (length octets) octets
+
+-- the one, or else the other
+abbrev pub or_else : Option ℕ → Option ℕ → Option ℕ
+or_else None other = other
+or_else (Some asn) other = Some asn
+
+-- the AS number that four octets are
+abbrev pub asn_in : List ℕ → Option ℕ
+asn_in value = if length value == 4 then Some (from_be_bytes w32 value) else None
+
+-- the AS number that a capability tells (RFC 6793 section 3)
+abbrev pub asn_told : Part → Option ℕ
+asn_told capability = if capability.kind == 65 then asn_in capability.value else None
+
+-- the AS number that capabilities tell first
+abbrev pub first_asn : List Part → Option ℕ
+first_asn [] = None
+first_asn (capability ∷ capabilities) = or_else (asn_told capability) (first_asn capabilities)
+
+-- what capabilities tell behind others; none where they are malformed
+abbrev pub asn_behind : Option ℕ → Option (List Part) → Option (Option ℕ)
+asn_behind asn None = None
+asn_behind asn (Some capabilities) = Some (or_else asn (first_asn capabilities))
+
+-- what an optional parameter tells behind others: whether all hold capabilities, and the AS number that these tell first
+abbrev pub parameter_behind : Bool × Option ℕ → Part → Option (Bool × Option ℕ)
+parameter_behind told parameter =
+    if parameter.kind == 2 then option_map (λ asn. (told.0, asn)) (asn_behind told.1 (parts_of parameter.value))
+    else Some (false, told.1)
+
+-- the same of several parameters, in their order
+abbrev pub parameters_behind : Bool × Option ℕ → List Part → Option (Bool × Option ℕ)
+parameters_behind told [] = Some told
+parameters_behind told (parameter ∷ parameters) =
+    option_and_then (λ more. parameters_behind more parameters) (parameter_behind told parameter)
+
+-- what the optional parameters of an OPEN tell; none where a parameter is cut off or holds malformed capabilities
+unfoldable pub parameters_of : List ℕ → Option (Bool × Option ℕ)
+parameters_of octets = option_and_then (parameters_behind (true, None)) (parts_of octets)

@@ -1,4 +1,6 @@
-use Rattle.std.specs.Prelude.{◌≡◌, ◌⊎◌, ◌<◌, ◌≤◌, ℕ, ◌+◌, ◌-◌, nat_lt, if◌then◌else◌, List, Option, Some, None, length, slice_index, slice_range}
+use Rattle.std.specs.Prelude.{◌≡◌, ◌⊎◌, ◌<◌, ◌≤◌, ℕ, ◌+◌, ◌-◌, nat_lt, if◌then◌else◌, List, Option, Some, None, length, drop, slice_index, slice_range}
+use Rattle.net_prefix.specs.declared.prefix.Prefix.{Prefix}
+use Rattle.net_prefix.specs.PrefixSpelling.{BeginsWith, octets_for}
 use Rattle.bgp_msg.specs.declared.fault.HeaderFault.{HeaderFault}
 use Rattle.bgp_msg.specs.declared.frame.Step.{Step}
 use Rattle.bgp_msg.specs.declared.frame.Step.TheVariants.{Need, Message, Faulty}
@@ -28,3 +30,9 @@ missing_of (Some fault) told have = 0
 -- how many more octets are wanted before an answer
 abbrev pub needed_of : List ℕ → ℕ
 needed_of octets = if nat_lt (length octets) 19 then 19 - length octets else missing_of (header_fault octets) (told_length octets) (length octets)
+
+-- the prefix at the front of prefixes in their wire form, and what is left behind it (RFC 4271 section 4.3)
+abbrev pub NextPrefix : List ℕ → Option Prefix → List ℕ → Type 0
+NextPrefix octets None rest = rest ≡ octets
+NextPrefix octets (Some prefix) rest =
+    BeginsWith octets prefix.bits prefix.len (1 + octets_for prefix.len) × (rest ≡ drop (1 + octets_for prefix.len) octets)

@@ -1,6 +1,6 @@
 //! What is wrong with a message, and what a NOTIFICATION says of it (RFC 4271 section 6).
-ghost use Rattle.std.specs.Prelude.{◌≡◌};
-ghost use Rattle.bgp_msg.specs.MessageFaults.{header_subcode, header_data, open_subcode, open_data};
+ghost use Rattle.std.specs.Prelude.{◌≡◌, ◌≤◌, length};
+ghost use Rattle.bgp_msg.specs.MessageFaults.{header_subcode, header_data, open_subcode, open_data, fault_code, fault_subcode, fault_data};
 
 use crate::open_message::four_octet_as;
 use arrayvec::ArrayVec;
@@ -133,7 +133,9 @@ impl OpenFault {
 
 impl Fault<'_> {
     /// The error code; none where memory or a part of this program is wanting.
-    pub fn code(&self) -> Option<u8> {
+    pub fn code(&self) -> Option<u8>
+        ensures { result ≡ fault_code self.now }
+    {
         match self {
             Fault::Header(fault) => Some(fault.code()),
             Fault::Open(fault) => Some(fault.code()),
@@ -142,11 +144,25 @@ impl Fault<'_> {
     }
 
     /// The error subcode; none where there is no code.
-    pub fn subcode(&self) -> Option<u8> {
+    pub fn subcode(&self) -> Option<u8>
+        ensures { result ≡ fault_subcode self.now }
+    {
         match self {
             Fault::Header(fault) => Some(fault.subcode()),
             Fault::Open(fault) => Some(fault.subcode()),
             Fault::Update(fault) => fault.subcode(),
         }
+    }
+
+    /// Writes the data that a NOTIFICATION carries, where a message has room for it.
+    pub fn write_data(&self, out: &mut ArrayVec<u8, 4096>)
+        ensures { length (fault_data self.now) ≤ 4096 → out.new.items ≡ fault_data self.now }
+    {
+        out.clear();
+        let _fits = match self {
+            Fault::Header(fault) => out.try_extend_from_slice(fault.data().as_slice()),
+            Fault::Open(fault) => out.try_extend_from_slice(fault.data().as_slice()),
+            Fault::Update(fault) => out.try_extend_from_slice(fault.data()),
+        };
     }
 }

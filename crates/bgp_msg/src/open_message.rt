@@ -1,6 +1,9 @@
 //! The OPEN message (RFC 4271 section 4.2) with the capability of AS numbers of four octets (RFC 6793).
-ghost use Rattle.std.specs.Prelude.{◌≡◌, ◌<◌, IfSome, length};
-ghost use Rattle.bgp_msg.specs.MessageSpelling.{four_octet_as_capability};
+ghost use Rattle.std.specs.Prelude.{◌≡◌, ◌<◌, IfOk, IfSome, MatchResult, Some, None, length};
+ghost use Rattle.std.specs.Option.{option_map};
+ghost use Rattle.bgp_msg.specs.MessageSpelling.{four_octet_as_capability, part_at, parts_of, asn_in, asn_told, asn_behind, or_else, parameter_behind, parameters_of};
+ghost use Rattle.bgp_msg.specs.OpenParts.{number, seen};
+ghost use Rattle.bgp_msg.specs.MessageFaults.{open_fault, proposal_fault, hold_time_at, identifier_at};
 
 use crate::fault::OpenFault;
 use net_prefix::Asn;
@@ -43,19 +46,50 @@ struct Parameters {
 
 /// The OPEN of this body, or its first fault (RFC 4271 section 6.2). Own choice: the order of the checks, which
 /// is the order of the lines; and a body that ends within its fixed fields is malformed.
-pub fn read_open(body: &[u8], expected: Expected) -> Result<Open, OpenFault> {
+#[tactic(auto, unfolding(crate::specs::MessageFaults::open_fault))]
+pub fn read_open(body: &[u8], expected: Expected) -> Result<Open, OpenFault>
+    ensures fault { MatchResult result (λ _. open_fault body.now expected ≡ None) (λ fault. open_fault body.now expected ≡ Some fault) }
+    ensures hold_time { IfOk result (λ message. message.hold_time ≡ hold_time_at body.now) }
+    ensures identifier { IfOk result (λ message. message.identifier ≡ identifier_at body.now) }
+    ensures asn { IfOk result (λ message. message.asn ≡ expected.peer_asn) }
+{
     let [version, _, _, hold_high, hold_low, a, b, c, d, length, octets @ ..] = body else {
         return Err(OpenFault::MalformedParameters);
     };
-    let hold_time = u16::from_be_bytes([*hold_high, *hold_low]);
-    let identifier = u32::from_be_bytes([*a, *b, *c, *d]);
     if *version != BGP_VERSION {
         return Err(OpenFault::UnsupportedVersion);
     }
     if octets.len() != usize::from(*length) {
         return Err(OpenFault::MalformedParameters);
     }
-    let asn = read_asn(octets, expected.own_asn)?;
+    let Some(told) = read_parameters(octets) else {
+        return Err(OpenFault::MalformedParameters);
+    };
+    let hold_time = u16::from_be_bytes([*hold_high, *hold_low]);
+    let identifier = u32::from_be_bytes([*a, *b, *c, *d]);
+    judge_proposal(told, hold_time, identifier, expected)
+}
+
+/// The octets of the capability that tells an AS number of four octets (RFC 6793 section 3).
+pub(crate) fn four_octet_as(asn: Asn) -> [u8; 6]
+    ensures { result ≡ four_octet_as_capability asn.0 }
+{
+    let [a, b, c, d] = asn.0.to_be_bytes();
+    [FOUR_OCTET_AS, 4, a, b, c, d]
+}
+
+// The OPEN that proposes this, or its first fault.
+#[tactic(auto, unfolding(crate::specs::MessageFaults::proposal_fault))]
+fn judge_proposal(told: Parameters, hold_time: u16, identifier: u32, expected: Expected) -> Result<Open, OpenFault>
+    ensures fault { MatchResult result (λ _. proposal_fault (seen told) hold_time identifier expected ≡ None) (λ fault. proposal_fault (seen told) hold_time identifier expected ≡ Some fault) }
+    ensures value { IfOk result (λ message. (message.hold_time ≡ hold_time) × (message.identifier ≡ identifier) × (message.asn ≡ expected.peer_asn)) }
+{
+    if !told.only_capabilities {
+        return Err(OpenFault::UnsupportedParameter);
+    }
+    let Some(asn) = told.asn else {
+        return Err(OpenFault::UnsupportedCapability(expected.own_asn));
+    };
     if asn != expected.peer_asn {
         return Err(OpenFault::BadPeerAs);
     }
@@ -68,60 +102,60 @@ pub fn read_open(body: &[u8], expected: Expected) -> Result<Open, OpenFault> {
     Ok(Open { asn, hold_time, identifier })
 }
 
-/// The octets of the capability that tells an AS number of four octets (RFC 6793 section 3).
-pub(crate) fn four_octet_as(asn: Asn) -> [u8; 6]
-    ensures { result ≡ four_octet_as_capability asn.0 }
-{
-    let [a, b, c, d] = asn.0.to_be_bytes();
-    [FOUR_OCTET_AS, 4, a, b, c, d]
-}
-
-// The AS that the optional parameters tell, or their first fault.
-fn read_asn(octets: &[u8], own_asn: Asn) -> Result<Asn, OpenFault> {
-    let Some(parameters) = read_parameters(octets) else {
-        return Err(OpenFault::MalformedParameters);
-    };
-    if !parameters.only_capabilities {
-        return Err(OpenFault::UnsupportedParameter);
-    }
-    match parameters.asn {
-        Some(asn) => Ok(asn),
-        None => Err(OpenFault::UnsupportedCapability(own_asn)),
-    }
-}
-
 // The optional parameters; none where one is cut off or holds a malformed list of capabilities.
-fn read_parameters(octets: &[u8]) -> Option<Parameters> {
-    let mut found = Parameters { only_capabilities: true, asn: None };
+#[tactic(auto, unfolding(crate::specs::MessageSpelling::parameters_of))]
+fn read_parameters(octets: &[u8]) -> Option<Parameters>
+    ensures { option_map seen result ≡ parameters_of octets.now }
+{
+    let mut told = Parameters { only_capabilities: true, asn: None };
     let mut rest = octets;
     while !rest.is_empty() {
         let (kind, value, behind) = split_part(rest)?;
-        if kind == CAPABILITIES {
-            found.asn = read_capabilities(value, found.asn)?;
-        } else {
-            found.only_capabilities = false;
-        }
+        told = read_parameter(told, kind, value)?;
         rest = behind;
     }
-    Some(found)
+    Some(told)
+}
+
+// What the parameters tell with one more.
+fn read_parameter(told: Parameters, kind: u8, value: &[u8]) -> Option<Parameters>
+    ensures { option_map seen result ≡ parameter_behind (seen told) (record { kind = kind; value = value.now }) }
+{
+    if kind != CAPABILITIES {
+        return Some(Parameters { only_capabilities: false, asn: told.asn });
+    }
+    let asn = read_capabilities(value, told.asn)?;
+    Some(Parameters { only_capabilities: told.only_capabilities, asn })
 }
 
 // The AS that was found before, or else the one that the capabilities tell first; none where one is cut off.
-fn read_capabilities(octets: &[u8], before: Option<Asn>) -> Option<Option<Asn>> {
-    let mut found = before;
+fn read_capabilities(octets: &[u8], known: Option<Asn>) -> Option<Option<Asn>>
+    ensures { option_map (option_map number) result ≡ asn_behind (option_map number known) (parts_of octets.now) }
+{
+    let mut found = known;
     let mut rest = octets;
     while !rest.is_empty() {
         let (code, value, behind) = split_part(rest)?;
-        if found.is_none() && code == FOUR_OCTET_AS {
-            found = asn_of(value);
-        }
+        found = first_asn_of(found, code, value);
         rest = behind;
     }
     Some(found)
 }
 
+// The AS that was found before, or else the one that the capability tells.
+fn first_asn_of(known: Option<Asn>, code: u8, value: &[u8]) -> Option<Asn>
+    ensures { option_map number result ≡ or_else (option_map number known) (asn_told (record { kind = code; value = value.now })) }
+{
+    if known.is_some() || code != FOUR_OCTET_AS {
+        return known;
+    }
+    asn_of(value)
+}
+
 // The AS number that four octets tell.
-fn asn_of(value: &[u8]) -> Option<Asn> {
+fn asn_of(value: &[u8]) -> Option<Asn>
+    ensures { option_map number result ≡ asn_in value.now }
+{
     match value {
         [a, b, c, d] => Some(Asn(u32::from_be_bytes([*a, *b, *c, *d]))),
         _ => None,
@@ -130,7 +164,8 @@ fn asn_of(value: &[u8]) -> Option<Asn> {
 
 // A parameter or capability at the front: its type, its value, and the octets behind it.
 fn split_part(octets: &[u8]) -> Option<(u8, &[u8], &[u8])>
-    ensures { IfSome result (λ part. length part.2.now < length octets.now) }
+    ensures part { part_at octets.now ≡ option_map (λ part. (record { kind = part.0; value = part.1.now }, part.2.now)) result }
+    ensures shorter { IfSome result (λ part. length part.2.now < length octets.now) }
 {
     let [kind, length, rest @ ..] = octets else {
         return None;

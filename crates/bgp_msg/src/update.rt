@@ -1,5 +1,8 @@
 //! The UPDATE message (RFC 4271 section 4.3).
-ghost use Rattle.std.specs.Prelude.{length};
+ghost use Rattle.std.specs.Prelude.{◌≡◌, IfOk, Err, Some, None, length};
+ghost use Rattle.std.specs.Option.{option_map};
+ghost use Rattle.bgp_msg.specs.MessageSpelling.{counted_at, update_parts};
+ghost use Rattle.bgp_msg.specs.MessageStream.{NextPrefix};
 ghost use Rattle.std.specs.Iterator.{at_most};
 
 use bgp_attr::{Attrs, PeerKind, UpdateFault, read_attrs};
@@ -22,12 +25,16 @@ pub struct Prefixes<'a> {
 
 impl<'a, A: Allocator> Update<'a, A> {
     /// The prefixes that are withdrawn.
-    pub fn withdrawn(&self) -> Prefixes<'a> {
+    pub fn withdrawn(&self) -> Prefixes<'a>
+        ensures { result.octets.now ≡ self.now.withdrawn.now }
+    {
         Prefixes { octets: self.withdrawn }
     }
 
     /// The prefixes that are announced: the network layer reachability information.
-    pub fn announced(&self) -> Prefixes<'a> {
+    pub fn announced(&self) -> Prefixes<'a>
+        ensures { result.octets.now ≡ self.now.announced.now }
+    {
         Prefixes { octets: self.announced }
     }
 
@@ -45,6 +52,8 @@ impl<'a, A: Allocator> Update<'a, A> {
 
 impl Iterator for Prefixes<'_> {
     type Item = Prefix;
+
+    ghost next_gives = { λ s r t. NextPrefix s.octets.now r t.octets.now };
 
     ghost remaining = { λ s. at_most (length s.octets.now) };
 
@@ -82,14 +91,18 @@ pub fn read_update<'a, A: Allocator + Clone>(
 }
 
 // The withdrawn routes, the path attributes and the octets behind them, where both lengths fit.
-fn split_body(body: &[u8]) -> Option<(&[u8], &[u8], &[u8])> {
+fn split_body(body: &[u8]) -> Option<(&[u8], &[u8], &[u8])>
+    ensures { option_map (λ parts. (parts.0.now, parts.1.now, parts.2.now)) result ≡ update_parts body.now }
+{
     let (withdrawn, rest) = split_counted(body)?;
     let (attributes, announced) = split_counted(rest)?;
     Some((withdrawn, attributes, announced))
 }
 
 // As many octets as the two at the front tell, and those behind them.
-fn split_counted(octets: &[u8]) -> Option<(&[u8], &[u8])> {
+fn split_counted(octets: &[u8]) -> Option<(&[u8], &[u8])>
+    ensures { option_map (λ parts. (parts.0.now, parts.1.now)) result ≡ counted_at octets.now }
+{
     let [high, low, rest @ ..] = octets else {
         return None;
     };

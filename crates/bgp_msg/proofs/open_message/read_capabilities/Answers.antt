@@ -1,0 +1,12 @@
+use Rattle.std.proofs.Common.{rules, ◌≡◌, ◌<◌, length, arith}
+use Rattle.bgp_msg.proofs.OpenParts.{asn-goes_on, asn-cut, asn-done}
+use Rattle.bgp_msg.proofs.open_message.read_capabilities.Goals as goal
+
+pub returns-in_err-code : goal.returns-in_err-code
+returns-in_err-code c = ?
+
+pub loop-rest-preserved : goal.loop-rest-preserved
+loop-rest-preserved c = asn-goes_on _ _ _ _ _ _ c.in_ok-code.ensures.part c.first_asn_of-found.ensures c.loop-rest.invariant
+
+pub returns : goal.returns
+returns c = ?
