@@ -1,1 +1,2 @@
 pub mod OpenParts
+pub mod PrefixLists

@@ -1,6 +1,7 @@
-use Rattle.std.proofs.Common.{◌≡◌, ℕ, zero, suc, ◌+◌, ◌-◌, ◌≤◌, ◌<◌, Bool, true, false, if◌then◌else◌, List, [], ◌∷◌, length, drop, take, Option, Some, None, refl, sym, ◌∙◌, ap, arith, nat_lt, length-drop}
-use Rattle.std.specs.Option.{option_map, option_and_then}
-use Rattle.bgp_msg.specs.MessageSpelling.{Part, part_at, before, parts_within, parts_of, or_else, asn_told, first_asn, asn_behind, parameter_behind, parameters_behind, parameters_of}
+use Rattle.std.proofs.Common.{◌≡◌, ℕ, zero, suc, ◌-◌, ◌≤◌, ◌<◌, Bool, true, false, if◌then◌else◌, List, [], ◌∷◌, length, drop, take, Option, Some, None, refl, sym, ◌∙◌, ap, arith, nat_lt, nat_eq, length-drop}
+use Rattle.std.proofs.lemmas.Bool.{eqb-true}
+use Rattle.std.specs.Option.{option_and_then}
+use Rattle.bgp_msg.specs.MessageSpelling.{Part, part_at, before, parts_within, parts_of, or_else, asn_told, first_asn, asn_behind, parameter_behind, parameters_behind}
 
 -- Parts read one after another, as a loop does.
 
@@ -32,8 +33,8 @@ parts_within-more zero m (o ∷ os) p q = absurd (omega (arith, p))
 parts_within-more (suc n) zero (o ∷ os) p q = absurd (omega (arith, q))
 parts_within-more (suc n) (suc m) (o ∷ os) p q =
     same_behind (part_at (o ∷ os)) n m (λ x e.
-        let s : length x.1 < length (o ∷ os) = shorter (o ∷ os) x e in
-        parts_within-more n m x.1 (omega (arith, p, s)) (omega (arith, q, s)))
+    let s : length x.1 < length (o ∷ os) = shorter (o ∷ os) x e in
+    parts_within-more n m x.1 (omega (arith, p, s)) (omega (arith, q, s)))
 
 -- the parts from one on
 pub parts_of-step : (octets : List ℕ) (part : Part) (behind : List ℕ) → part_at octets ≡ Some (part, behind) → parts_of octets ≡ before part (parts_of behind)
@@ -45,15 +46,17 @@ parts_of-step (o ∷ os) part behind h =
     ∙ ap (before part) (parts_within-more (length os) (length behind) behind (omega (arith, s)) (omega arith))
 
 -- octets that begin with a part that is cut off are no parts
-pub parts_of-cut : (octets : List ℕ) → 0 < length octets → part_at octets ≡ None → parts_of octets ≡ None
+pub parts_of-cut : (octets : List ℕ) → false ≡ nat_eq (length octets) 0 → part_at octets ≡ None → parts_of octets ≡ None
 unfolding parts_within
-parts_of-cut [] some h = absurd (omega (arith, some))
+parts_of-cut [] some h = cc
 parts_of-cut (o ∷ os) some h = ap (option_and_then (λ (x : Part × List ℕ). before x.0 (parts_within (length os) x.1))) h
 
-pub parts_of-nil : (octets : List ℕ) → length octets ≡ 0 → parts_of octets ≡ Some []
+pub parts_of-nil : (octets : List ℕ) → true ≡ nat_eq (length octets) 0 → parts_of octets ≡ Some []
 unfolding parts_within
 parts_of-nil [] h = refl
-parts_of-nil (o ∷ os) h = absurd (omega (arith, h))
+parts_of-nil (o ∷ os) h =
+    let k : length (o ∷ os) ≡ 0 = eqb-true _ _ (sym h) in
+    absurd (omega (arith, k))
 
 or_else-assoc : (a b c : Option ℕ) → or_else (or_else a b) c ≡ or_else a (or_else b c)
 or_else-assoc None b c = refl
@@ -73,10 +76,10 @@ pub asn-goes_on : (asn next : Option ℕ) (octets behind : List ℕ) (part : Par
 asn-goes_on asn next octets behind part total h k so_far =
     ap (λ (x : Option ℕ). asn_behind x (parts_of behind)) k ∙ sym (asn_behind-step asn part (parts_of behind)) ∙ ap (asn_behind asn) (sym (parts_of-step octets part behind h)) ∙ so_far
 
-pub asn-cut : (asn : Option ℕ) (octets : List ℕ) (total : Option (Option ℕ)) → 0 < length octets → part_at octets ≡ None → asn_behind asn (parts_of octets) ≡ total → total ≡ None
+pub asn-cut : (asn : Option ℕ) (octets : List ℕ) (total : Option (Option ℕ)) → false ≡ nat_eq (length octets) 0 → part_at octets ≡ None → asn_behind asn (parts_of octets) ≡ total → total ≡ None
 asn-cut asn octets total some h so_far = sym so_far ∙ ap (asn_behind asn) (parts_of-cut octets some h)
 
-pub asn-done : (asn : Option ℕ) (octets : List ℕ) (total : Option (Option ℕ)) → length octets ≡ 0 → asn_behind asn (parts_of octets) ≡ total → total ≡ Some asn
+pub asn-done : (asn : Option ℕ) (octets : List ℕ) (total : Option (Option ℕ)) → true ≡ nat_eq (length octets) 0 → asn_behind asn (parts_of octets) ≡ total → total ≡ Some asn
 asn-done asn octets total h so_far = sym so_far ∙ ap (asn_behind asn) (parts_of-nil octets h) ∙ ap Some (or_else-none asn)
 
 none_behind : (told : Option (Bool × Option ℕ)) → None ≡ option_and_then {U = Bool × Option ℕ} (λ next. None) told
@@ -100,8 +103,8 @@ parameters-malformed told octets behind part total h k so_far =
     sym so_far ∙ ap (option_and_then (parameters_behind told)) (parts_of-step octets part behind h) ∙ parameters-step told part (parts_of behind)
     ∙ ap (option_and_then (λ (x : Bool × Option ℕ). option_and_then (parameters_behind x) (parts_of behind))) k
 
-pub parameters-cut : (told : Bool × Option ℕ) (octets : List ℕ) (total : Option (Bool × Option ℕ)) → 0 < length octets → part_at octets ≡ None → option_and_then (parameters_behind told) (parts_of octets) ≡ total → total ≡ None
+pub parameters-cut : (told : Bool × Option ℕ) (octets : List ℕ) (total : Option (Bool × Option ℕ)) → false ≡ nat_eq (length octets) 0 → part_at octets ≡ None → option_and_then (parameters_behind told) (parts_of octets) ≡ total → total ≡ None
 parameters-cut told octets total some h so_far = sym so_far ∙ ap (option_and_then (parameters_behind told)) (parts_of-cut octets some h)
 
-pub parameters-done : (told : Bool × Option ℕ) (octets : List ℕ) (total : Option (Bool × Option ℕ)) → length octets ≡ 0 → option_and_then (parameters_behind told) (parts_of octets) ≡ total → total ≡ Some told
+pub parameters-done : (told : Bool × Option ℕ) (octets : List ℕ) (total : Option (Bool × Option ℕ)) → true ≡ nat_eq (length octets) 0 → option_and_then (parameters_behind told) (parts_of octets) ≡ total → total ≡ Some told
 parameters-done told octets total h so_far = sym so_far ∙ ap (option_and_then (parameters_behind told)) (parts_of-nil octets h)

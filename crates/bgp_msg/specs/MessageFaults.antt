@@ -32,11 +32,11 @@ is_unlawful (Some kind) told = not (is_lawful_length kind told)
 unfoldable pub header_fault : List ℕ → Option HeaderFault
 header_fault octets =
     first_fault
-        ((not (has_marker octets), ConnectionNotSynchronized)
-        ∷ (nat_lt (told_length octets) 19 || nat_lt 4096 (told_length octets), BadMessageLength (told_length octets))
-        ∷ (is_unknown (kind_at (slice_index octets 18)), BadMessageType (slice_index octets 18))
-        ∷ (is_unlawful (kind_at (slice_index octets 18)) (told_length octets), BadMessageLength (told_length octets))
-        ∷ [])
+    ((not (has_marker octets), ConnectionNotSynchronized)
+    ∷ (nat_lt (told_length octets) 19 || nat_lt 4096 (told_length octets), BadMessageLength (told_length octets))
+    ∷ (is_unknown (kind_at (slice_index octets 18)), BadMessageType (slice_index octets 18))
+    ∷ (is_unlawful (kind_at (slice_index octets 18)) (told_length octets), BadMessageLength (told_length octets))
+    ∷ [])
 
 -- the AS number isn't this one
 abbrev pub is_other : Option ℕ → ℕ → Bool
@@ -54,12 +54,12 @@ identifier_at body = slice_index body 5 * 2 ^ 24 + slice_index body 6 * 2 ^ 16 +
 unfoldable pub proposal_fault : Bool × Option ℕ → ℕ → ℕ → Expected → Option OpenFault
 proposal_fault told hold_time identifier expected =
     first_fault
-        ((not told.0, UnsupportedParameter)
-        ∷ (is_none told.1, UnsupportedCapability expected.own_asn)
-        ∷ (is_other told.1 expected.peer_asn.0, BadPeerAs)
-        ∷ (identifier == 0 || identifier == expected.own_identifier, BadIdentifier)
-        ∷ (hold_time == 1 || hold_time == 2, UnacceptableHoldTime)
-        ∷ [])
+    ((not told.0, UnsupportedParameter)
+    ∷ (is_none told.1, UnsupportedCapability expected.own_asn)
+    ∷ (is_other told.1 expected.peer_asn.0, BadPeerAs)
+    ∷ (identifier == 0 || identifier == expected.own_identifier, BadIdentifier)
+    ∷ (hold_time == 1 || hold_time == 2, UnacceptableHoldTime)
+    ∷ [])
 
 -- the same where they may be malformed
 abbrev pub told_fault : Option (Bool × Option ℕ) → ℕ → ℕ → Expected → Option OpenFault

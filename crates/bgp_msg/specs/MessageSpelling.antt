@@ -1,9 +1,9 @@
-use Rattle.std.specs.Prelude.{ℕ, zero, suc, ◌+◌, ◌*◌, ◌==◌, nat_lt, nat_le, if◌then◌else◌, Bool, true, false, List, [], ◌∷◌, ◌++◌, Option, Some, None, take, drop, length, slice_index}
+use Rattle.std.specs.Prelude.{ℕ, zero, suc, ◌+◌, ◌*◌, ◌==◌, ◌||◌, nat_lt, nat_le, if◌then◌else◌, Bool, true, false, List, [], ◌∷◌, ◌++◌, Option, Some, None, take, drop, length, slice_index}
 use Rattle.std.specs.Option.{option_map, option_and_then}
 use Rattle.std.specs.Int.{w16, w32, to_be_bytes, from_be_bytes}
 use Rattle.std.specs.List.{list_all, flat_map}
 use Rattle.net_prefix.specs.declared.prefix.Prefix.{Prefix}
-use Rattle.net_prefix.specs.PrefixSpelling.{spelling_of}
+use Rattle.net_prefix.specs.PrefixSpelling.{spelling_of, octets_for}
 use Rattle.bgp_msg.specs.declared.frame.MessageType.{MessageType}
 use Rattle.bgp_msg.specs.declared.frame.MessageType.TheVariants.{Open, Update, Notification, Keepalive}
 
@@ -65,6 +65,28 @@ open_of asn hold_time identifier =
 -- prefixes one after another (RFC 4271 section 4.3)
 abbrev pub wire_form : List Prefix → List ℕ
 wire_form prefixes = flat_map (λ prefix. spelling_of prefix.bits prefix.len) prefixes
+
+-- the octets behind the prefix at the front; none where it is longer than 32 bits or cut off
+abbrev pub behind_prefix : List ℕ → Option (List ℕ)
+behind_prefix [] = None
+behind_prefix (len ∷ rest) =
+    if nat_lt 32 len || nat_lt (length rest) (octets_for len) then None
+    else Some (drop (octets_for len) rest)
+
+-- the test holds of what is there
+abbrev pub holds_of : (List ℕ → Bool) → Option (List ℕ) → Bool
+holds_of test None = false
+holds_of test (Some octets) = test octets
+
+-- the octets are prefixes to the end, at most so many
+unfoldable pub are_prefixes_within : ℕ → List ℕ → Bool
+are_prefixes_within most [] = true
+are_prefixes_within zero (octet ∷ octets) = false
+are_prefixes_within (suc most) (octet ∷ octets) = holds_of (are_prefixes_within most) (behind_prefix (octet ∷ octets))
+
+-- the octets are prefixes to the end
+abbrev pub are_prefixes_in : List ℕ → Bool
+are_prefixes_in octets = are_prefixes_within (length octets) octets
 
 -- an UPDATE: the withdrawn routes and the path attributes, each behind its length, then what is announced
 unfoldable pub update_of : List ℕ → List ℕ → List ℕ → List ℕ

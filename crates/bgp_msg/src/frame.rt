@@ -103,7 +103,13 @@ pub fn read(octets: &[u8]) -> Step<'_>
         return Step::Need;
     }
     let body = &octets[HEADER_OCTETS..header.length];
-    Step::Message(Frame { kind: header.kind, body }, header.length)
+    Step::Message(
+        Frame {
+            kind: header.kind,
+            body,
+        },
+        header.length,
+    )
 }
 
 /// How many more octets the message at the front wants before `read` answers anything but `Need`: up to the

@@ -53,7 +53,20 @@ pub fn read_open(body: &[u8], expected: Expected) -> Result<Open, OpenFault>
     ensures identifier { IfOk result (λ message. message.identifier ≡ identifier_at body.now) }
     ensures asn { IfOk result (λ message. message.asn ≡ expected.peer_asn) }
 {
-    let [version, _, _, hold_high, hold_low, a, b, c, d, length, octets @ ..] = body else {
+    let [
+        version,
+        _,
+        _,
+        hold_high,
+        hold_low,
+        a,
+        b,
+        c,
+        d,
+        length,
+        octets @ ..,
+    ] = body
+    else {
         return Err(OpenFault::MalformedParameters);
     };
     if *version != BGP_VERSION {
@@ -80,7 +93,12 @@ pub(crate) fn four_octet_as(asn: Asn) -> [u8; 6]
 
 // The OPEN that proposes this, or its first fault.
 #[tactic(auto, unfolding(crate::specs::MessageFaults::proposal_fault))]
-fn judge_proposal(told: Parameters, hold_time: u16, identifier: u32, expected: Expected) -> Result<Open, OpenFault>
+fn judge_proposal(
+    told: Parameters,
+    hold_time: u16,
+    identifier: u32,
+    expected: Expected,
+) -> Result<Open, OpenFault>
     ensures fault { MatchResult result (λ _. proposal_fault (seen told) hold_time identifier expected ≡ None) (λ fault. proposal_fault (seen told) hold_time identifier expected ≡ Some fault) }
     ensures value { IfOk result (λ message. (message.hold_time ≡ hold_time) × (message.identifier ≡ identifier) × (message.asn ≡ expected.peer_asn)) }
 {
@@ -99,7 +117,11 @@ fn judge_proposal(told: Parameters, hold_time: u16, identifier: u32, expected: E
     if hold_time == 1 || hold_time == 2 {
         return Err(OpenFault::UnacceptableHoldTime);
     }
-    Ok(Open { asn, hold_time, identifier })
+    Ok(Open {
+        asn,
+        hold_time,
+        identifier,
+    })
 }
 
 // The optional parameters; none where one is cut off or holds a malformed list of capabilities.
@@ -107,7 +129,10 @@ fn judge_proposal(told: Parameters, hold_time: u16, identifier: u32, expected: E
 fn read_parameters(octets: &[u8]) -> Option<Parameters>
     ensures { option_map seen result ≡ parameters_of octets.now }
 {
-    let mut told = Parameters { only_capabilities: true, asn: None };
+    let mut told = Parameters {
+        only_capabilities: true,
+        asn: None,
+    };
     let mut rest = octets;
     while !rest.is_empty() {
         let (kind, value, behind) = split_part(rest)?;
@@ -122,10 +147,16 @@ fn read_parameter(told: Parameters, kind: u8, value: &[u8]) -> Option<Parameters
     ensures { option_map seen result ≡ parameter_behind (seen told) (record { kind = kind; value = value.now }) }
 {
     if kind != CAPABILITIES {
-        return Some(Parameters { only_capabilities: false, asn: told.asn });
+        return Some(Parameters {
+            only_capabilities: false,
+            asn: told.asn,
+        });
     }
     let asn = read_capabilities(value, told.asn)?;
-    Some(Parameters { only_capabilities: told.only_capabilities, asn })
+    Some(Parameters {
+        only_capabilities: told.only_capabilities,
+        asn,
+    })
 }
 
 // The AS that was found before, or else the one that the capabilities tell first; none where one is cut off.

@@ -1,11 +1,168 @@
-//! Messages in octets, as a peer sends them.
+//! Messages in octets, as peers send them.
 use super::*;
+use arrayvec::ArrayVec;
+use bgp_attr::{PeerKind, UpdateFault};
+use net_prefix::{Asn, Prefix};
 use std::test::Fail;
 
+// ORIGIN IGP, AS_PATH 65001, NEXT_HOP 192.0.2.11.
+const ATTRIBUTES: [u8; 20] = [
+    0x40, 1, 1, 0, 0x40, 2, 6, 2, 1, 0, 0, 0xFD, 0xE9, 0x40, 3, 4, 0xC0, 0, 2, 0x0B,
+];
+
+const OWN_OPEN: [u8; 21] = [
+    0, 0x25, 1, 4, 0xFD, 0xE8, 0, 0xB4, 0xC0, 0, 2, 1, 8, 2, 6, 0x41, 4, 0, 0, 0xFD, 0xE8,
+];
+
+// The octets behind a marker.
+fn marked(octets: &[u8]) -> ArrayVec<u8, 4096> {
+    let mut message = ArrayVec::new();
+    let _marker = message.try_extend_from_slice(&[255; 16]);
+    let _fits = message.try_extend_from_slice(octets);
+    message
+}
+
+// The body of an UPDATE.
+fn update_body(withdrawn: &[u8], attributes: &[u8], announced: &[u8]) -> ArrayVec<u8, 4096> {
+    let mut body = ArrayVec::new();
+    for octets in [
+        &[0, (withdrawn.len() % 256) as u8],
+        withdrawn,
+        &[0, (attributes.len() % 256) as u8],
+        attributes,
+        announced,
+    ] {
+        let _fits = body.try_extend_from_slice(octets);
+    }
+    body
+}
+
 #[test]
-fn a_keepalive_is_a_header(rt: HostRuntime) -> Result<(), Fail> {
-    let mut out = arrayvec::ArrayVec::new();
-    write_keepalive(&mut out);
-    assert!(rt; matches!(read(out.as_slice()), Step::Message(_, 19)));
+fn headers_are_judged_in_order(rt: HostRuntime) {
+    let told_18 = HeaderFault::BadMessageLength(18);
+    assert!(rt; read(marked(&[0, 0x12, 4]).as_slice()) == Step::Faulty(told_18));
+    assert!(rt;
+        read(marked(&[0x10, 1, 2]).as_slice()) == Step::Faulty(HeaderFault::BadMessageLength(4097))
+    );
+    assert!(rt;
+        read(marked(&[0, 0x14, 4]).as_slice()) == Step::Faulty(HeaderFault::BadMessageLength(20))
+    );
+    assert!(rt;
+        read(marked(&[0, 0x13, 5]).as_slice()) == Step::Faulty(HeaderFault::BadMessageType(5))
+    );
+    assert!(rt; read(&[0; 19]) == Step::Faulty(HeaderFault::ConnectionNotSynchronized));
+    let fault = Fault::Header(told_18);
+    let mut octets = ArrayVec::new();
+    fault.write_data(&mut octets);
+    assert!(rt; octets.as_slice() == [0, 0x12].as_slice());
+    assert!(rt; fault.code() == Some(1) && fault.subcode() == Some(2));
+}
+
+#[test]
+fn a_keepalive_is_whole_with_its_19th_octet(rt: HostRuntime) {
+    let mut message = ArrayVec::new();
+    write_keepalive(&mut message);
+    assert!(rt; message.as_slice() == marked(&[0, 0x13, 4]).as_slice());
+    assert!(rt;
+        matches!(
+            read(message.as_slice()),
+            Step::Message(
+                Frame {
+                    kind: MessageType::Keepalive,
+                    ..
+                },
+                19
+            )
+        )
+    );
+    assert!(rt; needed(message.as_slice()) == 0);
+    let cut = marked(&[0, 0x13]);
+    assert!(rt; read(cut.as_slice()) == Step::Need);
+    assert!(rt; needed(cut.as_slice()) == 1);
+    assert!(rt; needed(marked(&[0, 0x25, 1]).as_slice()) == 18);
+}
+
+#[test]
+fn opens_are_written_and_read(rt: HostRuntime) {
+    let own = Open {
+        asn: Asn(65000),
+        hold_time: 180,
+        identifier: 0xC0000201,
+    };
+    let mut message = ArrayVec::new();
+    write_open(&own, &mut message);
+    assert!(rt; message.as_slice() == marked(&OWN_OPEN).as_slice());
+    let expected = Expected {
+        peer_asn: Asn(65000),
+        own_asn: Asn(65001),
+        own_identifier: 0x01010101,
+    };
+    assert!(rt; read_open(&OWN_OPEN[3..], expected) == Ok(own));
+    let other = Expected {
+        peer_asn: Asn(65002),
+        own_asn: Asn(65001),
+        own_identifier: 0x01010101,
+    };
+    assert!(rt; read_open(&OWN_OPEN[3..], other) == Err(OpenFault::BadPeerAs));
+    let none = [4, 0xFD, 0xE8, 0, 0xB4, 0xC0, 0, 2, 1, 0];
+    let fault = OpenFault::UnsupportedCapability(Asn(65001));
+    assert!(rt; read_open(&none, expected) == Err(fault));
+    assert!(rt; fault.data().as_slice() == [0x41, 4, 0, 0, 0xFD, 0xE9].as_slice());
+    assert!(rt; fault.code() == 2 && fault.subcode() == 7);
+}
+
+#[test]
+fn updates_name_their_prefixes(rt: HostRuntime) -> Result<(), Fail> {
+    let kind = PeerKind::External(Asn(65001));
+    let body = update_body(
+        &[0x18, 10, 0, 1],
+        &ATTRIBUTES,
+        &[0x18, 10, 0, 0, 0x17, 10, 0, 1],
+    );
+    let update = read_update(rt.alloc(), body.as_slice(), kind)
+        .ok()
+        .ok_or("an UPDATE")?;
+    let mut withdrawn = update.withdrawn();
+    assert!(rt; withdrawn.next() == Prefix::new(0x0A000100, 24).ok());
+    assert!(rt; withdrawn.next() == None);
+    let mut announced = update.announced();
+    assert!(rt; announced.next() == Prefix::new(0x0A000000, 24).ok());
+    assert!(rt; announced.next() == Prefix::new(0x0A000000, 23).ok());
+    assert!(rt; announced.next() == None);
+    assert!(rt; update.attrs().next_hop() == Some(0xC000020B));
+    assert!(rt; update.into_attrs().next_hop() == Some(0xC000020B));
+    let nothing = read_update(rt.alloc(), &[0, 0, 0, 0], kind)
+        .ok()
+        .ok_or("an UPDATE")?;
+    assert!(rt; nothing.announced().next() == None);
+    Ok(())
+}
+
+#[test]
+fn faulty_updates_are_refused(rt: HostRuntime) {
+    let kind = PeerKind::External(Asn(65001));
+    let long = update_body(&[], &ATTRIBUTES, &[0x21, 10, 0, 0, 0, 0]);
+    let fault = read_update(rt.alloc(), long.as_slice(), kind).err();
+    assert!(rt; fault == Some(UpdateFault::InvalidNetworkField));
+    let bare = update_body(&[], &[], &[0x18, 10, 0, 1]);
+    let fault = read_update(rt.alloc(), bare.as_slice(), kind).err();
+    assert!(rt; matches!(fault, Some(UpdateFault::MissingWellKnown(_))));
+    assert!(rt;
+        read_update(rt.alloc(), &[0, 1, 0, 0], kind).err()
+            == Some(UpdateFault::MalformedAttributeList)
+    );
+}
+
+#[test]
+fn updates_are_written(rt: HostRuntime) -> Result<(), Fail> {
+    let prefix = Prefix::new(0x0A000100, 24).ok().ok_or("a prefix")?;
+    let mut message = ArrayVec::new();
+    write_withdrawal(&[prefix], &mut message);
+    assert!(rt; message.as_slice() == marked(&[0, 0x1B, 2, 0, 4, 0x18, 10, 0, 1, 0, 0]).as_slice());
+    write_announcement(&ATTRIBUTES, &[prefix], &mut message);
+    let mut wanted = marked(&[0, 0x2F, 2, 0, 0, 0, 0x14]);
+    let _fits = wanted.try_extend_from_slice(&ATTRIBUTES);
+    let _fits = wanted.try_extend_from_slice(&[0x18, 10, 0, 1]);
+    assert!(rt; message.as_slice() == wanted.as_slice());
     Ok(())
 }

@@ -1,13 +1,15 @@
 //! The UPDATE message (RFC 4271 section 4.3).
-ghost use Rattle.std.specs.Prelude.{◌≡◌, IfOk, Err, Some, None, length};
+ghost use Rattle.std.specs.Prelude.{◌≡◌, ◌<◌, ◌+◌, IfOk, IfSome, MatchOption, Err, Some, None, length};
+ghost use Rattle.net_prefix.specs.PrefixSpelling.{BeginsWith, octets_for};
 ghost use Rattle.std.specs.Option.{option_map};
-ghost use Rattle.bgp_msg.specs.MessageSpelling.{counted_at, update_parts};
-ghost use Rattle.bgp_msg.specs.MessageStream.{NextPrefix};
+ghost use Rattle.bgp_msg.specs.MessageSpelling.{counted_at, update_parts, behind_prefix, are_prefixes_in};
+ghost use Rattle.bgp_msg.specs.MessageStream.{NextPrefix, IsUpdate, fault_before_attributes};
 ghost use Rattle.std.specs.Iterator.{at_most};
 
 use bgp_attr::{Attrs, PeerKind, UpdateFault, read_attrs};
 use net_prefix::{Prefix, read_prefix};
 use std::alloc::Allocator;
+use std::marker::Model;
 
 /// What an UPDATE says. Its prefixes are read again where they are asked for.
 #[derive(Drop)]
@@ -15,6 +17,14 @@ pub struct Update<'a, A: Allocator> {
     withdrawn: &'a [u8],
     announced: &'a [u8],
     attrs: Attrs<A>,
+}
+
+impl<'a, A: Allocator> Model for Update<'a, A> {
+    ghost use Rattle.bgp_msg.specs.MessageStream.{UpdateBody};
+
+    ghost Value = { UpdateBody };
+
+    ghost view = { λ u. record { withdrawn = u.withdrawn.now; attrs = u.attrs; announced = u.announced.now } };
 }
 
 /// Prefixes in their wire form, one after another.
@@ -26,26 +36,38 @@ pub struct Prefixes<'a> {
 impl<'a, A: Allocator> Update<'a, A> {
     /// The prefixes that are withdrawn.
     pub fn withdrawn(&self) -> Prefixes<'a>
-        ensures { result.octets.now ≡ self.now.withdrawn.now }
+        ensures { result.octets.now ≡ self.now.withdrawn }
     {
-        Prefixes { octets: self.withdrawn }
+        Prefixes {
+            octets: self.withdrawn,
+        }
     }
 
     /// The prefixes that are announced: the network layer reachability information.
     pub fn announced(&self) -> Prefixes<'a>
-        ensures { result.octets.now ≡ self.now.announced.now }
+        ensures { result.octets.now ≡ self.now.announced }
     {
-        Prefixes { octets: self.announced }
+        Prefixes {
+            octets: self.announced,
+        }
     }
 
     /// The path attributes.
-    pub fn attrs(&self) -> &Attrs<A> {
+    pub fn attrs(&self) -> &Attrs<A>
+        ensures { result.now ≡ self.now.attrs }
+    {
         &self.attrs
     }
 
     /// The path attributes, to keep.
-    pub fn into_attrs(self) -> Attrs<A> {
-        let Update { withdrawn: _, announced: _, attrs } = self;
+    pub fn into_attrs(self) -> Attrs<A>
+        ensures { result ≡ self.entry.attrs }
+    {
+        let Update {
+            withdrawn: _,
+            announced: _,
+            attrs,
+        } = self;
         attrs
     }
 }
@@ -58,9 +80,8 @@ impl Iterator for Prefixes<'_> {
     ghost remaining = { λ s. at_most (length s.octets.now) };
 
     fn next(&mut self) -> Option<Prefix> {
-        let (prefix, used) = read_prefix(self.octets).ok()?;
-        let rest = self.octets.get(used..)?;
-        self.octets = rest;
+        let (prefix, behind) = split_prefix(self.octets)?;
+        self.octets = behind;
         Some(prefix)
     }
 }
@@ -71,7 +92,10 @@ pub fn read_update<'a, A: Allocator + Clone>(
     alloc: A,
     body: &'a [u8],
     kind: PeerKind,
-) -> Result<Update<'a, A>, UpdateFault<'a>> {
+) -> Result<Update<'a, A>, UpdateFault<'a>>
+    ensures value { IfOk result (λ update. IsUpdate body.now update) }
+    ensures first { IfSome (fault_before_attributes (update_parts body.now)) (λ fault. result ≡ Err fault) }
+{
     let Some((withdrawn, attributes, announced)) = split_body(body) else {
         return Err(UpdateFault::MalformedAttributeList);
     };
@@ -87,7 +111,11 @@ pub fn read_update<'a, A: Allocator + Clone>(
     if !are_prefixes(announced) {
         return Err(UpdateFault::InvalidNetworkField);
     }
-    Ok(Update { withdrawn, announced, attrs })
+    Ok(Update {
+        withdrawn,
+        announced,
+        attrs,
+    })
 }
 
 // The withdrawn routes, the path attributes and the octets behind them, where both lengths fit.
@@ -110,8 +138,30 @@ fn split_counted(octets: &[u8]) -> Option<(&[u8], &[u8])>
 }
 
 // Whether the octets are prefixes in their wire form to the end.
-fn are_prefixes(octets: &[u8]) -> bool {
-    let mut prefixes = Prefixes { octets };
-    while prefixes.next().is_some() {}
-    prefixes.octets.is_empty()
+fn are_prefixes(octets: &[u8]) -> bool
+    ensures { result ≡ are_prefixes_in octets.now }
+{
+    let mut rest = octets;
+    while !rest.is_empty() {
+        let Some((_, behind)) = split_prefix(rest) else {
+            return false;
+        };
+        rest = behind;
+    }
+    true
+}
+
+// The prefix at the front, and the octets behind it.
+fn split_prefix(octets: &[u8]) -> Option<(Prefix, &[u8])>
+    ensures behind { behind_prefix octets.now ≡ option_map (λ found. found.1.now) result }
+    ensures prefix { IfSome result (λ found. BeginsWith octets.now found.0.bits found.0.len (1 + octets_for found.0.len)) }
+    ensures shorter { IfSome result (λ found. length found.1.now < length octets.now) }
+{
+    match read_prefix(octets) {
+        Ok((prefix, used)) => {
+            let (_, behind) = octets.split_at(used);
+            Some((prefix, behind))
+        }
+        Err(_) => None,
+    }
 }

@@ -61,7 +61,11 @@ pub fn write_announcement(attrs: &[u8], prefixes: &[Prefix], out: &mut ArrayVec<
     ensures most { length out.new.items ≤ 4096 }
 {
     let attributes = attrs.len() as u16;
-    begin(MessageType::Update, 23 + attributes + wire_length(prefixes), out);
+    begin(
+        MessageType::Update,
+        23 + attributes + wire_length(prefixes),
+        out,
+    );
     append(&[0, 0], out);
     append(&attributes.to_be_bytes(), out);
     append(attrs, out);

@@ -1,4 +1,4 @@
-use Rattle.std.proofs.Common.{◌≡◌, ◌≤◌, ◌+◌, ◌*◌, ◌++◌, length, take}
+use Rattle.std.proofs.Common.{◌≡◌, ◌≤◌, ◌*◌, ◌++◌, length, take}
 use Rattle.bgp_msg.specs.MessageSpelling.{wire_form}
 use Rattle.bgp_msg.proofs.writing.append_prefixes.Given as goal
 
