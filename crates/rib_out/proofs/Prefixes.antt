@@ -1,5 +1,5 @@
 -- Laws of `is_prefix`, for those who follow one prefix through a table.
-use Rattle.std.proofs.Common.{◌≡◌, ℕ, ◌<◌, Bool, true, false, refl, arith, rules, sym, ◌∙◌}
+use Rattle.std.proofs.Common.{◌≡◌, ℕ, true, refl, arith}
 use Rattle.std.specs.declared.cmp.Ordering.{Ordering}
 use Rattle.std.specs.declared.cmp.Ordering.TheVariants.{Less, Equal, Greater}
 use Rattle.std.specs.Ordering.{nat_cmp, ordering_then, is_eq}
