@@ -1,4 +1,8 @@
+pub mod Appending
 pub mod AsPath
 pub mod AttributeFaults
+pub mod AttributeSpelling
 pub mod AttributeTable
 pub mod PathAttributes
+pub mod Spread
+pub mod Written

@@ -2,6 +2,7 @@
 ghost use Rattle.std.specs.Prelude.{◌≡◌};
 ghost use Rattle.std.specs.Option.{option_copied};
 ghost use Rattle.bgp_attr.specs.PathAttributes.{PathAttributes, origin_at, origin_octet, missing_of};
+ghost use Rattle.bgp_attr.specs.Written.{attributes_of};
 
 use crate::as_path::AsPath;
 use crate::attribute_type::AttributeType;
@@ -108,7 +109,9 @@ impl<A: Allocator> Attrs<A> {
     }
 
     /// The attributes as they came, to be written.
-    pub fn as_received(&self) -> AttrsToWrite<'_, A> {
+    pub fn as_received(&self) -> AttrsToWrite<'_, A>
+        ensures { attributes_of result ≡ self.now }
+    {
         AttrsToWrite {
             origin: self.origin,
             as_path: match &self.as_path {

@@ -1,5 +1,8 @@
 //! Paths with an AS put in front (RFC 4271 section 5.1.2).
-ghost use Rattle.std.specs.Prelude.{◌≡◌};
+ghost use Rattle.std.specs.Prelude.{◌≡◌, ◌≤◌, ◌-◌, ◌/◌, ◌%◌};
+ghost use Rattle.bgp_attr.specs.AsPath.{prepended, path_octets};
+ghost use Rattle.bgp_attr.specs.Spread.{room_of, new_of, part_count};
+ghost use Rattle.bgp_attr.specs.Written.{segments_of};
 
 use crate::as_path::{AsPath, SegmentKind};
 use net_prefix::Asn;
@@ -15,7 +18,9 @@ pub struct PrependedPath<'a, A: Allocator = Global> {
 
 /// The path with the AS put in front so many times; none leaves the path as it is. The AS joins a first AS_SEQUENCE of
 /// fewer than 255 ASes, and else begins a new one.
-pub fn prepend<A: Allocator>(path: &AsPath<A>, asn: Asn, times: u16) -> PrependedPath<'_, A> {
+pub fn prepend<A: Allocator>(path: &AsPath<A>, asn: Asn, times: u16) -> PrependedPath<'_, A>
+    ensures { segments_of result ≡ prepended path.now asn times }
+{
     PrependedPath { path, asn, times }
 }
 
@@ -30,7 +35,9 @@ pub(crate) struct Spread {
 
 impl<A: Allocator> PrependedPath<'_, A> {
     // How many ASes the first segment of the path can still take.
-    fn room(&self) -> u8 {
+    fn room(&self) -> u8
+        ensures { result ≡ room_of self.now.path.now }
+    {
         match self.path.segments() {
             [first, ..] => match first.kind() {
                 SegmentKind::Set => 0,
@@ -40,20 +47,34 @@ impl<A: Allocator> PrependedPath<'_, A> {
         }
     }
 
-    pub(crate) fn spread(&self) -> Spread {
-        let joining = self.times.min(u16::from(self.room()));
-        let new = self.times - joining;
+    pub(crate) fn spread(&self) -> Spread
+        ensures joining { result.joining ≡ self.now.times - new_of self.now.path.now self.now.times }
+        ensures part { result.part ≡ new_of self.now.path.now self.now.times % 255 }
+        ensures full { result.full ≡ new_of self.now.path.now self.now.times / 255 }
+    {
+        let room = self.room();
+        let new = self.times.saturating_sub(u16::from(room));
         Spread {
             part: (new % 255) as u8,
             full: new / 255,
-            joining: joining as u8,
+            joining: (self.times - new) as u8,
         }
     }
 
     // The octets that the path takes.
-    pub(crate) fn octets(&self) -> usize {
+    #[tactic(auto, using(crate::proofs::Spreading::prepended_octets))]
+    pub(crate) fn octets(&self) -> usize
+        ensures { result ≡ path_octets (segments_of self.now) }
+    {
         let spread = self.spread();
-        let new = usize::from(spread.full) + usize::from(spread.part != 0);
+        let new = usize::from(spread.full) + count_of(spread.part);
         self.path.octets() + 4 * usize::from(self.times) + 2 * new
     }
+}
+
+fn count_of(part: u8) -> usize
+    ensures value { result ≡ part_count part }
+    ensures few { result ≤ 1 }
+{
+    if part == 0 { 0 } else { 1 }
 }
