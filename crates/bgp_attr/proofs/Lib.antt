@@ -1,2 +1,3 @@
+mod Appendings
 mod PathLemmas
 mod Spreading

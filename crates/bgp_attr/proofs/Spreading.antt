@@ -38,17 +38,20 @@ joins (segment ∷ more) asn (suc n) h =
 -- an AS begins a new segment where there is no room
 begin_in : (kind : SegmentKind) (asns : List Asn) (more : List PathSegment) (asn : Asn) → room_in kind (length asns) ≡ 0
     → put_in_front asn (record { kind = kind; asns = asns } ∷ more) ≡ run asn 1 ∷ record { kind = kind; asns = asns } ∷ more
+unfolding run
 begin_in Set asns more asn h = refl
 begin_in Sequence asns more asn h =
     let many : 255 ≤ length asns = omega arith in
     grind (arith, many)
 
 begin : (path : List PathSegment) (asn : Asn) → room_of path ≡ 0 → put_in_front asn path ≡ run asn 1 ∷ path
+unfolding run
 begin [] asn h = refl
 begin (segment ∷ more) asn h = begin_in segment.kind segment.asns more asn h
 
 -- up to 255 ASes are one new segment
 new_part : (path : List PathSegment) (asn : Asn) (n : ℕ) → room_of path ≡ 0 → n ≤ 255 → prepended path asn n ≡ part_of asn n ++ path
+unfolding run
 new_part path asn zero full h = refl
 new_part path asn (suc zero) full h = begin path asn full
 new_part path asn (suc (suc n)) full h =
@@ -59,10 +62,12 @@ new_part path asn (suc (suc n)) full h =
 
 -- whole new segments leave no room
 room_of-full : (path : List PathSegment) (asn : Asn) (full : ℕ) → room_of path ≡ 0 → room_of (replicate full (run asn 255) ++ path) ≡ 0
+unfolding run
 room_of-full path asn zero h = h
 room_of-full path asn (suc full) h = omega (arith, length-replicate 255 asn)
 
 new_full : (path : List PathSegment) (asn : Asn) (full : ℕ) → room_of path ≡ 0 → prepended path asn (255 * full) ≡ replicate full (run asn 255) ++ path
+unfolding run
 new_full path asn zero h = refl
 new_full path asn (suc full) h =
     let e : 255 * suc full ≡ 255 + 255 * full = omega arith in
@@ -110,10 +115,12 @@ path_octets-append [] ys = omega arith
 path_octets-append (x ∷ xs) ys = omega (arith, path_octets-append xs ys)
 
 path_octets-part_of : (asn : Asn) (n : ℕ) → path_octets (part_of asn n) ≡ 4 * n + 2 * part_count n
+unfolding run
 path_octets-part_of asn zero = refl
 path_octets-part_of asn (suc n) = omega (arith, length-replicate (suc n) asn)
 
 path_octets-full : (asn : Asn) (full : ℕ) → path_octets (replicate full (run asn 255)) ≡ 1022 * full
+unfolding run
 path_octets-full asn zero = refl
 path_octets-full asn (suc full) = omega (arith, path_octets-full asn full, length-replicate 255 asn)
 
@@ -126,6 +133,11 @@ pub prepended_octets : (path : List PathSegment) (asn : Asn) (times : ℕ)
 prepended_octets path asn times =
     let small : times - new_of path times ≤ room_of path = omega arith in
     ap path_octets (prepended_spread path asn times)
-    ∙ omega (arith, path_octets-append (part_of asn (new_of path times % 255)) (replicate (new_of path times / 255) (run asn 255) ++ joining_of path asn (times - new_of path times)),
-        path_octets-append (replicate (new_of path times / 255) (run asn 255)) (joining_of path asn (times - new_of path times)),
-        path_octets-part_of asn (new_of path times % 255), path_octets-full asn (new_of path times / 255), path_octets-joining_of path asn (times - new_of path times) small)
+    ∙ omega (
+      arith,
+      path_octets-append (part_of asn (new_of path times % 255)) (replicate (new_of path times / 255) (run asn 255) ++ joining_of path asn (times - new_of path times)),
+      path_octets-append (replicate (new_of path times / 255) (run asn 255)) (joining_of path asn (times - new_of path times)),
+      path_octets-part_of asn (new_of path times % 255),
+      path_octets-full asn (new_of path times / 255),
+      path_octets-joining_of path asn (times - new_of path times) small,
+    )

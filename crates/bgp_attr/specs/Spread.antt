@@ -7,7 +7,7 @@ use Rattle.bgp_attr.specs.declared.as_path.SegmentKind.TheVariants.{Set, Sequenc
 -- How an AS that is put in front many times is spread over segments.
 
 -- a segment that has one AS so many times
-abbrev pub run : Asn → ℕ → PathSegment
+unfoldable pub run : Asn → ℕ → PathSegment
 run asn n = record { kind = Sequence; asns = replicate n asn }
 
 -- a new segment, none for no AS

@@ -2,6 +2,7 @@
 ghost use Rattle.std.specs.Prelude.{◌≡◌, ◌≤◌, ◌<◌, ◌==◌, length};
 ghost use Rattle.std.specs.List.{list_any};
 ghost use Rattle.bgp_attr.specs.AsPath.{PathSegment, path_octets, path_length_of, counted, has_as, last_as, origin_as_of, neighbor_as_of, first_as};
+ghost use Rattle.bgp_attr.specs.AttributeSpelling.{kind_octet};
 
 use net_prefix::Asn;
 use std::alloc::{Allocator, Global};
@@ -26,7 +27,9 @@ impl SegmentKind {
         }
     }
 
-    pub(crate) fn octet(self) -> u8 {
+    pub(crate) fn octet(self) -> u8
+        ensures { result ≡ kind_octet self }
+    {
         match self {
             SegmentKind::Set => 1,
             SegmentKind::Sequence => 2,
@@ -149,7 +152,9 @@ impl<A: Allocator> AsPath<A> {
     pub fn contains(&self, asn: Asn) -> bool
         ensures { result ≡ has_as self.now asn }
     {
-        self.segments().iter().any(|segment| names(segment.asns(), asn))
+        self.segments()
+            .iter()
+            .any(|segment| names(segment.asns(), asn))
     }
 }
 

@@ -3,10 +3,13 @@ ghost use Rattle.std.specs.Prelude.{◌≡◌, [], ◌∷◌};
 ghost use Rattle.bgp_attr.specs.AttributeTable.{type_of, octet_of, class_of, length_of, written_flags_of, class_flags_of};
 
 const ORIGIN: u8 = 1;
+
 const AS_PATH: u8 = 2;
+
 const NEXT_HOP: u8 = 3;
 
 const TRANSITIVE: u8 = 0x40;
+
 const OPTIONAL: u8 = 0x80;
 
 /// An attribute that this speaker knows.
@@ -65,7 +68,8 @@ impl AttributeType {
         ensures { result ≡ class_of self }
     {
         match self {
-            AttributeType::Origin | AttributeType::AsPath | AttributeType::NextHop => Class::WellKnown,
+            AttributeType::Origin | AttributeType::AsPath | AttributeType::NextHop =>
+                Class::WellKnown,
         }
     }
 

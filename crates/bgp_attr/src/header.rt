@@ -4,6 +4,7 @@ ghost use Rattle.std.specs.Prelude.{◌≡◌, ◌<◌, ◌≤◌, ◌+◌, ◌^
 use crate::fault::UpdateFault;
 
 const EXTENDED_LENGTH: u8 = 0x10;
+
 const CLASS_FLAGS: u8 = 0xC0;
 
 // An attribute whose end is known.
@@ -18,7 +19,9 @@ pub(crate) struct Attribute<'a> {
 }
 
 // The attribute at the front, and the octets behind it.
-pub(crate) fn split_attribute<'a>(octets: &'a [u8]) -> Result<(Attribute<'a>, &'a [u8]), UpdateFault<'a>>
+pub(crate) fn split_attribute<'a>(
+    octets: &'a [u8],
+) -> Result<(Attribute<'a>, &'a [u8]), UpdateFault<'a>>
     ensures { IfOk result (λ found. (length found.1.now + length found.0.value.now < length octets.now) × (length found.0.value.now < 2 ^ 16)) }
 {
     let [flags, code, more @ ..] = octets else {

@@ -9,11 +9,17 @@ use net_prefix::Asn;
 use std::alloc::Allocator;
 
 // The path that these octets are, from a peer of this kind.
-pub(crate) fn read_as_path<'a, A: Allocator + Clone>(alloc: A, octets: &'a [u8], kind: PeerKind) -> Result<AsPath<A>, UpdateFault<'a>>
+pub(crate) fn read_as_path<'a, A: Allocator + Clone>(
+    alloc: A,
+    octets: &'a [u8],
+    kind: PeerKind,
+) -> Result<AsPath<A>, UpdateFault<'a>>
     requires { length octets.now < 2 ^ 16 }
 {
     let segments = read_segments(alloc, octets)?;
-    if let PeerKind::External(peer) = kind && !begins_with(segments.as_slice(), peer) {
+    if let PeerKind::External(peer) = kind
+        && !begins_with(segments.as_slice(), peer)
+    {
         return Err(UpdateFault::MalformedAsPath);
     }
     Ok(AsPath::new(segments))
@@ -28,7 +34,10 @@ fn begins_with<A: Allocator>(segments: &[Segment<A>], asn: Asn) -> bool {
 }
 
 #[tactic(auto, using(crate::proofs::PathLemmas::path_octets_append))]
-fn read_segments<'a, A: Allocator + Clone>(alloc: A, octets: &'a [u8]) -> Result<Vec<Segment<A>, A>, UpdateFault<'a>>
+fn read_segments<'a, A: Allocator + Clone>(
+    alloc: A,
+    octets: &'a [u8],
+) -> Result<Vec<Segment<A>, A>, UpdateFault<'a>>
     ensures { IfOk result (λ segments. path_octets segments.items ≡ length octets.now) }
 {
     let mut segments = Vec::new(alloc.clone()?);
@@ -42,7 +51,10 @@ fn read_segments<'a, A: Allocator + Clone>(alloc: A, octets: &'a [u8]) -> Result
 }
 
 // The segment at the front, and the octets behind it.
-fn read_segment<'a, A: Allocator>(alloc: A, octets: &'a [u8]) -> Result<(Segment<A>, &'a [u8]), UpdateFault<'a>>
+fn read_segment<'a, A: Allocator>(
+    alloc: A,
+    octets: &'a [u8],
+) -> Result<(Segment<A>, &'a [u8]), UpdateFault<'a>>
     ensures { IfOk result (λ found. segment_octets found.0 + length found.1.now ≡ length octets.now) }
 {
     let [kind, count, more @ ..] = octets else {
@@ -59,7 +71,11 @@ fn read_segment<'a, A: Allocator>(alloc: A, octets: &'a [u8]) -> Result<(Segment
 }
 
 // So many ASes at the front, none of them 0, and the octets behind them.
-fn read_asns<'a, A: Allocator>(alloc: A, count: u8, octets: &'a [u8]) -> Result<(Vec<Asn, A>, &'a [u8]), UpdateFault<'a>>
+fn read_asns<'a, A: Allocator>(
+    alloc: A,
+    count: u8,
+    octets: &'a [u8],
+) -> Result<(Vec<Asn, A>, &'a [u8]), UpdateFault<'a>>
     ensures count { IfOk result (λ found. length found.0.items ≡ count) }
     ensures octets { IfOk result (λ found. 4 * count + length found.1.now ≡ length octets.now) }
 {

@@ -11,7 +11,11 @@ use std::alloc::Allocator;
 
 /// The attributes that these octets are, from a peer of this kind; or the first fault, from left to right. Which
 /// attributes are missing is told by [`Attrs::missing`].
-pub fn read_attrs<'a, A: Allocator + Clone>(alloc: A, octets: &'a [u8], kind: PeerKind) -> Result<Attrs<A>, UpdateFault<'a>> {
+pub fn read_attrs<'a, A: Allocator + Clone>(
+    alloc: A,
+    octets: &'a [u8],
+    kind: PeerKind,
+) -> Result<Attrs<A>, UpdateFault<'a>> {
     let mut attrs = Attrs::none();
     let mut rest = octets;
     while !rest.is_empty() {
@@ -23,7 +27,12 @@ pub fn read_attrs<'a, A: Allocator + Clone>(alloc: A, octets: &'a [u8], kind: Pe
 }
 
 // Takes one attribute up.
-fn read_attribute<'a, A: Allocator + Clone>(alloc: A, attrs: &mut Attrs<A>, attribute: Attribute<'a>, kind: PeerKind) -> Result<(), UpdateFault<'a>>
+fn read_attribute<'a, A: Allocator + Clone>(
+    alloc: A,
+    attrs: &mut Attrs<A>,
+    attribute: Attribute<'a>,
+    kind: PeerKind,
+) -> Result<(), UpdateFault<'a>>
     requires { length attribute.value.now < 2 ^ 16 }
 {
     let known = known_type(attrs, attribute)?;
@@ -36,7 +45,10 @@ fn read_attribute<'a, A: Allocator + Clone>(alloc: A, attrs: &mut Attrs<A>, attr
 }
 
 // The type of an attribute whose code, flags and length are right.
-fn known_type<'a, A: Allocator>(attrs: &Attrs<A>, attribute: Attribute<'a>) -> Result<AttributeType, UpdateFault<'a>> {
+fn known_type<'a, A: Allocator>(
+    attrs: &Attrs<A>,
+    attribute: Attribute<'a>,
+) -> Result<AttributeType, UpdateFault<'a>> {
     let Some(known) = AttributeType::from_octet(attribute.code) else {
         return Err(UpdateFault::UnsupportedAttribute(attribute.whole));
     };
@@ -49,7 +61,9 @@ fn known_type<'a, A: Allocator>(attrs: &Attrs<A>, attribute: Attribute<'a>) -> R
         return Err(UpdateFault::AttributeFlags(attribute.whole));
     }
     // 3/5
-    if let Some(length) = known.length() && attribute.value.len() != usize::from(length) {
+    if let Some(length) = known.length()
+        && attribute.value.len() != usize::from(length)
+    {
         return Err(UpdateFault::AttributeLength(attribute.whole));
     }
     Ok(known)
