@@ -1,5 +1,4 @@
-use Rattle.std.proofs.Common.{◌≡◌, ◌≤◌, ◌+◌, ◌*◌, ◌<◌, ℕ, List, [], ◌∷◌, ◌++◌, length, drop, arith, Option, Some, None, refl}
-use Rattle.net_prefix.specs.declared.asn.Asn.{Asn}
+use Rattle.std.proofs.Common.{◌≡◌, ◌≤◌, ◌+◌, ◌*◌, ℕ, List, [], ◌∷◌, ◌++◌, length, arith}
 use Rattle.bgp_attr.specs.declared.as_path.SegmentKind.{SegmentKind}
 use Rattle.bgp_attr.specs.declared.as_path.SegmentKind.TheVariants.{Set, Sequence}
 use Rattle.bgp_attr.specs.AsPath.{PathSegment, segment_octets, path_octets, counted, path_length_of}

@@ -1,10 +1,10 @@
-use Rattle.std.proofs.Common.{◌≡◌, ◌≤◌, ◌<◌, ◌+◌, ◌-◌, ◌*◌, ◌/◌, ◌%◌, ℕ, zero, suc, List, [], ◌∷◌, ◌++◌, length, replicate, arith, refl, sym, ap, ◌∙◌, append_assoc, length-append}
+use Rattle.std.proofs.Common.{◌≡◌, ◌≤◌, ◌<◌, ◌+◌, ◌-◌, ◌*◌, ◌/◌, ◌%◌, ℕ, zero, suc, List, [], ◌∷◌, ◌++◌, length, replicate, arith, refl, sym, ap, ◌∙◌, length-append}
 use Rattle.std.proofs.lemmas.List.{length-replicate}
 use Rattle.net_prefix.specs.declared.asn.Asn.{Asn}
 use Rattle.bgp_attr.specs.declared.as_path.SegmentKind.{SegmentKind}
 use Rattle.bgp_attr.specs.declared.as_path.SegmentKind.TheVariants.{Set, Sequence}
-use Rattle.bgp_attr.specs.AsPath.{PathSegment, put_in_front, prepended, path_octets, segment_octets}
-use Rattle.bgp_attr.specs.Spread.{run, part_of, joining_of, room_in, room_of, new_of, part_count, spread_path, spread_of}
+use Rattle.bgp_attr.specs.AsPath.{PathSegment, put_in_front, prepended, path_octets}
+use Rattle.bgp_attr.specs.Spread.{run, part_of, joining_of, room_in, room_of, new_of, part_count, spread_of}
 
 -- Putting an AS in front one at a time is spreading it over segments.
 

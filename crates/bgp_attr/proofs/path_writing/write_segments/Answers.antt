@@ -1,4 +1,4 @@
-use Rattle.std.proofs.Common.{◌≡◌, ◌+◌, ◌*◌, ◌<◌, arith, ap, length, drop, get_or}
+use Rattle.std.proofs.Common.{◌≡◌, ◌+◌, ◌*◌, arith, ap, length, drop, get_or}
 use Rattle.bgp_attr.specs.AttributeSpelling.{path_spelling}
 use Rattle.bgp_attr.proofs.Appendings.{stops, segment_in_rest, length-asns_spelling}
 use Rattle.bgp_attr.proofs.path_writing.write_segments.Goals as goal
