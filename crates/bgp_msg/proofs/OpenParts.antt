@@ -5,7 +5,8 @@ use Rattle.bgp_msg.specs.MessageSpelling.{Part, part_at, before, parts_within, p
 
 -- Parts read one after another, as a loop does.
 
-cond_some : {X : Type 0} (b : Bool) (x y : X) → (if b then None else Some x) ≡ Some y → x ≡ y
+-- what a choice with `None` has
+pub cond_some : {X : Type 0} (b : Bool) (x y : X) → (if b then None else Some x) ≡ Some y → x ≡ y
 cond_some true x y h = cc
 cond_some false x y h = cc
 

@@ -3,13 +3,10 @@ use Rattle.std.proofs.lemmas.Bool.{eqb-true, le-ltb, lt-ltb}
 use Rattle.net_prefix.specs.declared.fault.PrefixFault.{PrefixFault}
 use Rattle.net_prefix.specs.declared.fault.PrefixFault.TheVariants.{LenOver32, HostBits, Text, Cut}
 use Rattle.net_prefix.specs.PrefixSpelling.{BeginsWith, BeginsWithNone, octets_for}
+use Rattle.bgp_msg.proofs.OpenParts.{cond_some}
 use Rattle.bgp_msg.specs.MessageSpelling.{behind_prefix, holds_of, are_prefixes_within, are_prefixes_in}
 
 -- Prefixes read one after another, as a loop does.
-
-cond_some : {X : Type 0} (b : Bool) (x y : X) → (if b then None else Some x) ≡ Some y → x ≡ y
-cond_some true x y h = cc
-cond_some false x y h = cc
 
 -- what is behind a prefix is shorter
 shorter : (octets rest : List ℕ) → behind_prefix octets ≡ Some rest → length rest < length octets

@@ -22,18 +22,12 @@ fn marked(octets: &[u8]) -> ArrayVec<u8, 4096> {
     message
 }
 
-// The body of an UPDATE.
-fn update_body(withdrawn: &[u8], attributes: &[u8], announced: &[u8]) -> ArrayVec<u8, 4096> {
+// The body of an UPDATE that withdraws 10.0.1.0/24 and announces what is handed in.
+fn body_with(announced: &[u8]) -> ArrayVec<u8, 4096> {
     let mut body = ArrayVec::new();
-    for octets in [
-        &[0, (withdrawn.len() % 256) as u8],
-        withdrawn,
-        &[0, (attributes.len() % 256) as u8],
-        attributes,
-        announced,
-    ] {
-        let _fits = body.try_extend_from_slice(octets);
-    }
+    let _withdrawn = body.try_extend_from_slice(&[0, 4, 0x18, 10, 0, 1, 0, 0x14]);
+    let _attributes = body.try_extend_from_slice(&ATTRIBUTES);
+    let _announced = body.try_extend_from_slice(announced);
     body
 }
 
@@ -114,11 +108,7 @@ fn opens_are_written_and_read(rt: HostRuntime) {
 #[test]
 fn updates_name_their_prefixes(rt: HostRuntime) -> Result<(), Fail> {
     let kind = PeerKind::External(Asn(65001));
-    let body = update_body(
-        &[0x18, 10, 0, 1],
-        &ATTRIBUTES,
-        &[0x18, 10, 0, 0, 0x17, 10, 0, 1],
-    );
+    let body = body_with(&[0x18, 10, 0, 0, 0x17, 10, 0, 1]);
     let update = read_update(rt.alloc(), body.as_slice(), kind)
         .ok()
         .ok_or("an UPDATE")?;
@@ -141,11 +131,10 @@ fn updates_name_their_prefixes(rt: HostRuntime) -> Result<(), Fail> {
 #[test]
 fn faulty_updates_are_refused(rt: HostRuntime) {
     let kind = PeerKind::External(Asn(65001));
-    let long = update_body(&[], &ATTRIBUTES, &[0x21, 10, 0, 0, 0, 0]);
+    let long = body_with(&[0x21, 10, 0, 0, 0, 0]);
     let fault = read_update(rt.alloc(), long.as_slice(), kind).err();
     assert!(rt; fault == Some(UpdateFault::InvalidNetworkField));
-    let bare = update_body(&[], &[], &[0x18, 10, 0, 1]);
-    let fault = read_update(rt.alloc(), bare.as_slice(), kind).err();
+    let fault = read_update(rt.alloc(), &[0, 0, 0, 0, 0x18, 10, 0, 1], kind).err();
     assert!(rt; matches!(fault, Some(UpdateFault::MissingWellKnown(_))));
     assert!(rt;
         read_update(rt.alloc(), &[0, 1, 0, 0], kind).err()
