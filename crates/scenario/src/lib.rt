@@ -2,8 +2,9 @@
 //!
 //! `play` reads a script line by line, hands each line's event to the speaker, and writes the answer before the
 //! next line is read. A line that the language doesn't have ends the run with its number; what the lines before
-//! it answered has been written by then. Each function is proved safe on every script; what a script answers is
-//! shown by the transcripts in `tests`. No sockets and no clock are here: octets and commands stand in the script.
+//! it answered has been written by then. Proved is that no script makes a function go wrong, that a number is digits
+//! alone, and that a fault names its own line, counted from 1; what a script answers is shown by the transcripts in
+//! `tests`. No sockets and no clock are here: octets and commands stand in the script.
 #![tactic(auto)]
 
 mod answer;
