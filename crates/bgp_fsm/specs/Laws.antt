@@ -1,5 +1,5 @@
 -- Laws of the session table, in the words of RFC 4271 section 8.2.2.
-use Rattle.std.specs.Prelude.{◌≡◌, ◌≢◌, ◌↔◌, true, ◌⊎◌, Some}
+use Rattle.std.specs.Prelude.{◌≡◌, ◌≢◌, ◌↔◌, true, Some}
 use Rattle.net_prefix.specs.declared.transport.Transport.TheVariants.{Open as Connected, Closing}
 use Rattle.bgp_msg.specs.declared.open_message.Open.{Open as OpenMessage}
 use Rattle.bgp_fsm.specs.declared.state.State.TheVariants.{Active, OpenSent, OpenConfirm, Established}

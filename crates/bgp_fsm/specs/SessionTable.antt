@@ -1,5 +1,5 @@
 -- The session table (RFC 4271 section 8.2.2, in this profile): what a row leaves of the session, and what it does.
-use Rattle.std.specs.Prelude.{ℕ, Bool, true, false, Option, Some, None, if◌then◌else◌}
+use Rattle.std.specs.Prelude.{ℕ, true, false, Some, None, if◌then◌else◌}
 use Rattle.bgp_attr.specs.declared.peer.Mode.{Mode}
 use Rattle.bgp_attr.specs.declared.peer.Mode.TheVariants.{Passive}
 use Rattle.bgp_attr.specs.declared.peer.Mode.TheVariants.{Active as Opener}

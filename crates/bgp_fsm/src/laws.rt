@@ -4,29 +4,24 @@ ghost use Rattle.bgp_fsm.specs.Laws.{EstablishedBegins, EnteredTells, LeftTells,
 /// Established is entered only from OpenConfirm, by a KEEPALIVE.
 pub fn established_begins()
     ensures { EstablishedBegins }
-{
-}
+{}
 
 /// `entered` tells exactly that Established begins.
 pub fn entered_tells()
     ensures { EnteredTells }
-{
-}
+{}
 
 /// `left` tells exactly that Established ends.
 pub fn left_tells()
     ensures { LeftTells }
-{
-}
+{}
 
 /// An OPEN is queued only when the connection stands, and it is our own.
 pub fn open_answers_up()
     ensures { OpenAnswersUp }
-{
-}
+{}
 
 /// Only a session whose connection stands begins to close it.
 pub fn closes_what_is_open()
     ensures { ClosesWhatIsOpen }
-{
-}
+{}

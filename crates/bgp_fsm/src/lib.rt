@@ -12,7 +12,9 @@ mod session;
 mod state;
 
 pub use input::Input;
-pub use laws::{closes_what_is_open, entered_tells, established_begins, left_tells, open_answers_up};
+pub use laws::{
+    closes_what_is_open, entered_tells, established_begins, left_tells, open_answers_up,
+};
 pub use session::{Effects, Outgoing, Session};
 pub use state::State;
 

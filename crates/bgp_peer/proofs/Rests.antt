@@ -1,11 +1,11 @@
 -- The rest never goes beyond the message at its front.
-use Rattle.std.proofs.Common.{◌≡◌, ◌+◌, ◌-◌, ◌*◌, ◌≤◌, ◌<◌, ℕ, Bool, true, false, ◌||◌, nat_lt, List, [], ◌∷◌, ◌++◌, Option, Some, None, length, get_or, arith, length-append, refl, sym, ap, ◌∙◌, if◌then◌else◌, not}
+use Rattle.std.proofs.Common.{◌≡◌, ◌+◌, ◌-◌, ◌≤◌, ◌<◌, ℕ, Bool, true, false, ◌||◌, nat_lt, List, [], ◌++◌, Option, Some, None, length, get_or, arith, length-append, refl, sym, ap, ◌∙◌, if◌then◌else◌, not}
 use Rattle.std.proofs.lemmas.Grind.{common_steps}
 use Rattle.std.proofs.lemmas.List.{get_or_append_left, append-nil}
 use Rattle.bgp_msg.specs.declared.fault.HeaderFault.{HeaderFault}
 use Rattle.bgp_msg.specs.MessageSpelling.{told_length, has_marker}
-use Rattle.bgp_msg.specs.MessageFaults.{header_fault, first_fault}
-use Rattle.bgp_msg.specs.MessageStream.{needed_of, missing_of}
+use Rattle.bgp_msg.specs.MessageFaults.{header_fault}
+use Rattle.bgp_msg.specs.MessageStream.{needed_of}
 
 -- where no row holds, the second doesn't
 second-passes :
@@ -24,7 +24,7 @@ told-least : (octets : List ℕ) → header_fault octets ≡ None → 19 ≤ tol
 unfolding header_fault
 told-least octets none =
     let passes : nat_lt (told_length octets) 19 || nat_lt 4096 (told_length octets) ≡ false =
-        second-passes (not (has_marker octets)) (nat_lt (told_length octets) 19 || nat_lt 4096 (told_length octets)) _ _ _ none in
+    second-passes (not (has_marker octets)) (nat_lt (told_length octets) 19 || nat_lt 4096 (told_length octets)) _ _ _ none in
     lawful (told_length octets) passes
 
 -- octets that are added behind the header leave the length that it tells
