@@ -1,2 +1,4 @@
 pub mod Covering
 pub mod PrefixOrder
+pub mod Accepted
+pub mod Addresses

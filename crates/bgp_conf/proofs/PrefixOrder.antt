@@ -10,7 +10,7 @@ use Rattle.bgp_conf.specs.Configuration.{prefix_cmp}
 -- Which prefixes the order of prefixes has at one place.
 
 -- numbers at one place are equal
-is_eq-nat_cmp : (a b : ℕ) → is_eq (nat_cmp a b) ≡ (b == a)
+pub is_eq-nat_cmp : (a b : ℕ) → is_eq (nat_cmp a b) ≡ (b == a)
 is_eq-nat_cmp a b = grind (arith, nat_tests)
 
 -- two comparisons one after another

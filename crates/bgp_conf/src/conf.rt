@@ -2,7 +2,7 @@
 ghost use Rattle.std.specs.Prelude.{◌≡◌, ◌≤◌, ℕ, [], Some, None, IfOk, OnOk, OnErr, MatchResult, is_some};
 ghost use Rattle.std.specs.List.{list_all};
 ghost use Rattle.net_prefix.specs.declared.prefix.Prefix.{Prefix};
-ghost use Rattle.bgp_conf.specs.Configuration.{entry_at, peer_at};
+ghost use Rattle.bgp_conf.specs.Configuration.{AddressesDiffer, entry_at, peer_at};
 ghost use Rattle.bgp_conf.specs.FirstRefusal.{first_refusal, has_address, is_in_range, is_known, is_name_octet, is_policy_name};
 ghost use Rattle.bgp_conf.specs.ConfAfter.{TakesMemory, conf_after, configured_of, entry_after, peer_after};
 ghost use Rattle.bgp_conf.specs.Reach.{IsCost, IsCostAt};
@@ -115,6 +115,8 @@ impl<A: Allocator + Clone> Conf<A> {
             ((slot : ℕ) → peer_at self.new slot ≡ peer_after self.old command.now slot) }
         ensures reach { OnOk result
             ((prefix : Prefix) → entry_at self.new.reach prefix ≡ entry_after self.old command.now prefix) }
+        ensures addresses { (closing : ℕ) → first_refusal self.old closing command.now ≡ None
+            → AddressesDiffer self.old.peers → AddressesDiffer self.new.peers }
         ensures err { OnErr result (self.new ≡ self.old) }
         ensures memory { OnErr result (TakesMemory self.old command.now) }
     {
