@@ -97,6 +97,8 @@ impl<A: Allocator + Clone> AdjIn<A> {
     ) -> Result<(), RibFault>
         ensures ok { OnOk result ((s : ℕ) (p : Prefix) → route_at self.new s p ≡ (if is_route slot prefix s p then Some attrs.value else route_at self.old s p)) }
         ensures err { OnErr result (self.new ≡ self.old) }
+        // Replacing a route takes no memory.
+        ensures absent { OnErr result (route_at self.old slot prefix ≡ None) }
     {
         match self
             .routes
