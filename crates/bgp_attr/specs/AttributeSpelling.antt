@@ -42,14 +42,17 @@ header_spelling kind n =
 abbrev pub attribute_spelling : AttributeType → List ℕ → List ℕ
 attribute_spelling kind value = header_spelling kind (length value) ++ value
 
+-- ORIGIN, where there is one
 abbrev pub origin_spelling : Option Origin → List ℕ
 origin_spelling None = []
 origin_spelling (Some origin) = attribute_spelling type.Origin (origin_octet origin ∷ [])
 
+-- AS_PATH, where there is one
 abbrev pub as_path_spelling : Option (List PathSegment) → List ℕ
 as_path_spelling None = []
 as_path_spelling (Some path) = attribute_spelling type.AsPath (path_spelling path)
 
+-- NEXT_HOP, where there is one
 abbrev pub next_hop_spelling : Option ℕ → List ℕ
 next_hop_spelling None = []
 next_hop_spelling (Some next_hop) = attribute_spelling type.NextHop (to_be_bytes w32 next_hop)
