@@ -15,6 +15,9 @@ use thiserror::Error;
 /// The most octets that one `take` hands out: as many as a peer's ring holds.
 const MAX_TAKE: usize = 65_536;
 
+/// More rows than a table has, since each takes memory: a bound that the walk over a table can't reach.
+const MAX_ROWS: usize = usize::MAX;
+
 /// What ends a run before the end of its script.
 #[derive(Clone, Copy, Debug, PartialEq, Eq, Error)]
 pub enum PlayFault {
@@ -233,7 +236,7 @@ fn show_sessions<W: Write>(speaker: &Speaker, writer: &mut W) -> io::Result<()> 
 }
 
 fn show_rib<W: Write>(speaker: &Speaker, writer: &mut W) -> io::Result<()> {
-    for route in speaker.loc_rib() {
+    for route in speaker.loc_rib().take(MAX_ROWS) {
         write_answer(writer, Answer::Best(route))?;
     }
     Ok(())
@@ -241,7 +244,7 @@ fn show_rib<W: Write>(speaker: &Speaker, writer: &mut W) -> io::Result<()> {
 
 fn show_in<W: Write>(speaker: &Speaker, slot: u8, writer: &mut W) -> io::Result<()> {
     let mut octets = ArrayVec::new();
-    for (prefix, attrs) in speaker.adj_in(slot) {
+    for (prefix, attrs) in speaker.adj_in(slot).take(MAX_ROWS) {
         write_attrs(&attrs.as_received(), &mut octets);
         write_answer(writer, Answer::Route(prefix, octets.as_slice()))?;
     }
@@ -249,14 +252,14 @@ fn show_in<W: Write>(speaker: &Speaker, slot: u8, writer: &mut W) -> io::Result<
 }
 
 fn show_held<W: Write>(speaker: &Speaker, slot: u8, writer: &mut W) -> io::Result<()> {
-    for (prefix, octets) in speaker.held(slot) {
+    for (prefix, octets) in speaker.held(slot).take(MAX_ROWS) {
         write_answer(writer, Answer::Route(prefix, octets))?;
     }
     Ok(())
 }
 
 fn show_waiting<W: Write>(speaker: &Speaker, slot: u8, writer: &mut W) -> io::Result<()> {
-    for prefix in speaker.waiting(slot) {
+    for prefix in speaker.waiting(slot).take(MAX_ROWS) {
         write_answer(writer, Answer::Waiting(prefix))?;
     }
     Ok(())
