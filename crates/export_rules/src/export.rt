@@ -1,6 +1,9 @@
 //! The attributes that an external peer is sent.
-ghost use Rattle.std.specs.Prelude.{◌≡◌, ◌≤◌, [], false};
+ghost use Rattle.std.specs.Prelude.{◌≡◌, ◌<◌, ◌≤◌, [], false};
 ghost use Rattle.std.specs.Bool.{OnFalse, OnTrue};
+ghost use Rattle.bgp_attr.specs.AttributeSpelling.{attributes_spelling};
+ghost use Rattle.bgp_attr.specs.Written.{attributes_of};
+ghost use Rattle.export_rules.specs.Export.{export_at, exported_of, fitting, Tells};
 ghost use Rattle.arrayvec.specs.ArrayVec.{array_vec_len};
 
 use arrayvec::ArrayVec;
@@ -33,19 +36,39 @@ pub fn export_of<A: Allocator>(
     peer: &ExportPeer,
     out: &mut ArrayVec<u8, 4096>,
 ) -> bool
+    ensures exported { Tells result out.new.items (export_at route.now attrs.now peer.now) }
+    ensures some { OnTrue result (0 < array_vec_len out.new) }
     ensures back { route.now.slot ≡ peer.now.slot → result ≡ false }
     ensures small { OnTrue result (array_vec_len out.new ≤ MAX_EXPORTED_ATTRIBUTES) }
     ensures nothing { OnFalse result (out.new.items ≡ []) }
 {
-    if route.slot != peer.slot && write_attrs(&exported(attrs, peer), out) && out.len() <= MAX_EXPORTED_ATTRIBUTES {
-        return true;
+    if route.slot == peer.slot {
+        out.clear();
+        return false;
     }
-    out.clear();
-    false
+    write_fitting(&exported(attrs, peer), out)
+}
+
+// Writes attributes that a message of one prefix holds.
+fn write_fitting<A: Allocator>(attrs: &AttrsToWrite<'_, A>, out: &mut ArrayVec<u8, 4096>) -> bool
+    ensures fitting { Tells result out.new.items (fitting (attributes_spelling (attributes_of attrs.now))) }
+    ensures small { OnTrue result (array_vec_len out.new ≤ MAX_EXPORTED_ATTRIBUTES) }
+    ensures nothing { OnFalse result (out.new.items ≡ []) }
+{
+    if !write_attrs(attrs, out) {
+        return false;
+    }
+    if out.len() > MAX_EXPORTED_ATTRIBUTES {
+        out.clear();
+        return false;
+    }
+    true
 }
 
 // The attributes as they go on to an external peer (RFC 4271 sections 5.1.2 and 5.1.3).
-fn exported<'a, A: Allocator>(attrs: &'a Attrs<A>, peer: &ExportPeer) -> AttrsToWrite<'a, A> {
+fn exported<'a, A: Allocator>(attrs: &'a Attrs<A>, peer: &ExportPeer) -> AttrsToWrite<'a, A>
+    ensures { attributes_of result ≡ exported_of attrs.now peer.now }
+{
     AttrsToWrite {
         origin: attrs.origin(),
         as_path: attrs.as_path().map(|path| prepend(path, peer.own, 1)),

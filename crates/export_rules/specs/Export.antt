@@ -1,0 +1,26 @@
+-- What an external peer is sent of a route (RFC 4271 sections 5.1.2, 5.1.3 and 9.1.3).
+use Rattle.std.specs.Prelude.{◌≡◌, ℕ, ◌==◌, nat_le, Bool, true, false, if◌then◌else◌, List, [], length, Option, None, Some}
+use Rattle.std.specs.Option.{option_map}
+use Rattle.bgp_attr.specs.AsPath.{prepended}
+use Rattle.bgp_attr.specs.AttributeSpelling.{attributes_spelling}
+use Rattle.bgp_attr.specs.PathAttributes.{PathAttributes}
+use Rattle.decision.specs.declared.candidate.Candidate.{Candidate}
+use Rattle.export_rules.specs.declared.export.ExportPeer.{ExportPeer}
+
+-- the attributes as they go on: the own AS stands in front of the path, and the own address is the next hop
+unfoldable pub exported_of : PathAttributes → ExportPeer → PathAttributes
+exported_of attrs peer =
+    record { origin = attrs.origin; as_path = option_map (λ path. prepended path peer.own 1) attrs.as_path; next_hop = Some peer.local }
+
+-- octets of attributes, where a message of one prefix holds them
+abbrev pub fitting : List ℕ → Option (List ℕ)
+fitting octets = if nat_le (length octets) 4068 then Some octets else None
+
+-- the octets that the peer is sent as the attributes of the route: none where it came from this peer
+abbrev pub export_at : Candidate → PathAttributes → ExportPeer → Option (List ℕ)
+export_at route attrs peer = if route.slot == peer.slot then None else fitting (attributes_spelling (exported_of attrs peer))
+
+-- true: these are the octets; false: there are none
+abbrev pub Tells : Bool → List ℕ → Option (List ℕ) → Type 0
+Tells true octets export = export ≡ Some octets
+Tells false octets export = (export ≡ None) × (octets ≡ [])
