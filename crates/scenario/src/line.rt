@@ -1,4 +1,6 @@
 //! The lines of a script.
+ghost use Rattle.std.specs.Prelude.{◌≡◌};
+ghost use Rattle.scenario.specs.declared.line.LineFault.TheVariants.{NoMemory};
 
 use crate::fields::{address, number};
 use bgp_attr::Mode;
@@ -52,6 +54,8 @@ pub enum LineFault {
 }
 
 impl From<AllocError> for LineFault {
+    ghost from_gives = { λ _ fault. fault ≡ NoMemory };
+
     fn from(_error: AllocError) -> LineFault {
         LineFault::NoMemory
     }
