@@ -7,5 +7,5 @@ use Rattle.export_rules.proofs.export.export_of.Goals as goal
 pub returns-clause-some : goal.returns-clause-some
 returns-clause-some g c =
     told_some c.write_fitting.result (attributes_spelling (exported_of c.args.attrs.now c.args.peer.now)) c.write_fitting.new.out.items
-        (subst (λ sent. Tells c.write_fitting.result c.write_fitting.new.out.items (fitting (attributes_spelling sent))) c.exported.ensures c.write_fitting.ensures.fitting)
-        (exported_some c.args.attrs.now c.args.peer.now)
+    (subst (λ sent. Tells c.write_fitting.result c.write_fitting.new.out.items (fitting (attributes_spelling sent))) c.exported.ensures c.write_fitting.ensures.fitting)
+    (exported_some c.args.attrs.now c.args.peer.now)
