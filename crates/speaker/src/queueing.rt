@@ -1,4 +1,7 @@
 //! What the peers are owed: the UPDATEs that make what each was sent its export of Loc-RIB.
+ghost use Rattle.std.specs.Prelude.{◌≡◌, ◌≤◌, ◌<◌, ◌+◌, [], length, IfOk, OnSome};
+ghost use Rattle.std.specs.Bool.{OnTrue, OnFalse};
+ghost use Rattle.bgp_fsm.specs.declared.state.State.TheVariants.{Established};
 
 use crate::link::Link;
 use crate::ribs::Ribs;
@@ -20,7 +23,10 @@ pub fn export<A: Allocator + Clone>(
     peer: &ExportPeer,
     prefix: Prefix,
     octets: &mut Octets,
-) -> bool {
+) -> bool
+    ensures small { OnTrue result (length octets.new.items ≤ 4068) }
+    ensures nothing { OnFalse result (octets.new.items ≡ []) }
+{
     octets.clear();
     let Some(route) = ribs.loc_rib.get(&prefix) else {
         return false;
@@ -52,7 +58,9 @@ fn first_announcement<A: Allocator + Clone>(
     adj_out: &AdjOut<A>,
     peer: &ExportPeer,
     octets: &mut Octets,
-) -> Option<Prefix> {
+) -> Option<Prefix>
+    ensures { OnSome result (length octets.new.items ≤ 4068) }
+{
     for (prefix, _) in &ribs.loc_rib {
         if export(ribs, peer, *prefix, octets) && !adj_out.holds(*prefix, octets.as_slice()) {
             return Some(*prefix);
@@ -69,7 +77,12 @@ fn queue_one<A: Allocator + Clone>(
     peer: &ExportPeer,
     octets: &mut Octets,
     message: &mut Octets,
-) -> Result<bool, AllocError> {
+) -> Result<bool, AllocError>
+    requires established { link.old.peer.session.state ≡ Established }
+    requires room { length link.old.peer.ring + 8192 ≤ 65536 }
+    ensures session { link.new.peer.session ≡ link.old.peer.session }
+    ensures grows { IfOk result (λ more. OnTrue more (length link.old.peer.ring < length link.new.peer.ring)) }
+{
     if let Some(prefix) = first_withdrawal(ribs, &link.adj_out, peer, octets) {
         link.adj_out.withdraw(prefix);
         write_withdrawal(&[prefix], message);
@@ -90,7 +103,10 @@ pub fn serve<A: Allocator + Clone>(
     ribs: &Ribs<A>,
     link: &mut Link<A>,
     peer: &ExportPeer,
-) -> Result<(), AllocError> {
+) -> Result<(), AllocError>
+    requires { link.old.peer.session.state ≡ Established }
+    ensures { link.new.peer.session ≡ link.old.peer.session }
+{
     let mut octets = Octets::new();
     let mut message = Octets::new();
     while link.peer.free() >= ROOM_FOR_UPDATE {

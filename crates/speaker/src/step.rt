@@ -1,4 +1,5 @@
 //! The speaker and its calls.
+ghost use Rattle.std.specs.Prelude.{◌≤◌, length};
 
 use crate::config::Config;
 use crate::event::{Event, Report};
@@ -195,7 +196,9 @@ impl<A: Allocator + Clone> Speaker<A> {
     }
 
     // Takes octets up to the end of the message at the front of an open connection, and answers how many.
-    fn push(&mut self, slot: u8, octets: &[u8]) -> usize {
+    fn push(&mut self, slot: u8, octets: &[u8]) -> usize
+        ensures { result ≤ length octets.now }
+    {
         let Some(link) = self.links.get_mut(&slot) else {
             return 0;
         };

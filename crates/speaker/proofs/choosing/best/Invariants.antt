@@ -1,0 +1,6 @@
+use Rattle.speaker.specs.Tables.{tables}
+use Rattle.speaker.proofs.CandidateLists.{ListsBelow}
+use Rattle.speaker.proofs.choosing.best.Given as goal
+
+abbrev pub invariant-loop-slot : goal.invariant-loop-slot
+invariant-loop-slot g l = ListsBelow (tables l.fn.conf.now l.fn.links.now.entries l.fn.adj_in.now) l.fn.prefix l.slot l.candidates.items
