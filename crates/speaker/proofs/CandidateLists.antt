@@ -1,5 +1,6 @@
 use Rattle.std.proofs.Common.{◌≡◌, ◌≢◌, ◌<◌, ◌≤◌, ◌+◌, ◌⊎◌, ℕ, List, [], ◌∷◌, ◌++◌, Option, Some, None, length, refl, sym, ◌∙◌, subst, inl, inr, arith, length-append}
-use Rattle.std.specs.List.{All, Contains, AllPairs}
+use Rattle.std.specs.Option.{MatchOption}
+use Rattle.std.specs.List.{All, Contains}
 use Rattle.std.proofs.lemmas.List.Elements.{All-push, All-contains, Contains-push, Contains-push_cases, Contains-append_left}
 use Rattle.std.proofs.lemmas.List.Quantifiers.{all_pairs_push}
 use Rattle.std.proofs.lemmas.Bool.{cases_lt}
@@ -91,6 +92,16 @@ one_made t prefix slot link attrs c below linked route at made = record {
   alone = λ d here is. same_candidate t.conf link.peer.session.identifier attrs c d (at ∙ sym here) made (made_of t prefix slot link attrs d linked route here is);
 }
 
+-- what a slot's route makes, from what its attributes make
+pub candidate_made : (t : Tables) (prefix : Prefix) (slot identifier : ℕ) (link : Linked) (attrs : PathAttributes) (found : Option Candidate)
+    → slot < 64 → link_at t.links slot ≡ Some link → route_at t.adj_in slot prefix ≡ Some attrs → identifier ≡ link.peer.session.identifier
+    → MatchOption found (MakesNone t.conf slot identifier attrs) (λ c. (c.slot ≡ slot) × IsCandidateOf t.conf identifier attrs c)
+    → MatchOption found (HasNoneAt t prefix slot) (IsOnlyCandidateAt t prefix slot)
+candidate_made t prefix slot identifier link attrs None below linked route told made =
+    let none = rw told at made in none_made t prefix slot link attrs linked route none
+candidate_made t prefix slot identifier link attrs (Some c) below linked route told made =
+    let one = rw told at made.1 in one_made t prefix slot link attrs c below linked route made.0 one
+
 -- a candidate of a slot below
 pub record IsBelow (t : Tables) (prefix : Prefix) (n : ℕ) (c : Candidate) : Type 0 where
   pub below : c.slot < n
@@ -169,3 +180,9 @@ best_of t prefix cs c h selected =
     (cs,
      λ d. (λ has. (All-contains (IsBelow t prefix 64) cs d h.members has).is_one, λ is. h.complete d (record { below = is.slot_is; is_one = is })),
      selected)
+
+-- what is chosen of the whole list
+pub best_chosen : (t : Tables) (prefix : Prefix) (n : ℕ) (cs : List Candidate) (found : Option Candidate) → n ≡ 64 → ListsBelow t prefix n cs
+    → MatchOption found (cs ≡ []) (IsSelected cs) → MatchOption found (HasNoCandidate t prefix) (IsBest t prefix)
+best_chosen t prefix n cs None all h chosen = let whole = rw all at h in none_of t prefix cs whole chosen
+best_chosen t prefix n cs (Some c) all h chosen = let whole = rw all at h in best_of t prefix cs c whole chosen

@@ -1,1 +1,2 @@
 pub mod CandidateLists
+pub mod ChosenRoutes

@@ -1,4 +1,8 @@
 //! Adj-RIB-In and Loc-RIB (RFC 4271 section 3.2): the peers' latest routes, and the best route of each prefix.
+ghost use Rattle.std.specs.Prelude.{◌≡◌, IfOk, OnOk};
+ghost use Rattle.bgp_conf.specs.Configuration.{AddressesDiffer};
+ghost use Rattle.speaker.specs.Tables.{tables};
+ghost use Rattle.speaker.specs.LocRib.{IsLocRib};
 
 use crate::choosing::best;
 use crate::link::Link;
@@ -30,14 +34,32 @@ impl<A: Allocator + Clone> Ribs<A> {
     }
 
     /// Chooses the best route of each prefix again.
-    pub fn choose_all(&mut self, alloc: A, conf: &Conf<A>, links: &BTreeMap<u8, Link<A>, A>) -> Result<(), AllocError> {
-        let mut chosen = BTreeMap::new(alloc);
-        for (prefix, _, _) in self.adj_in.routes() {
-            if let Some(route) = best(conf, links, &self.adj_in, &mut self.meter, prefix) {
-                chosen.insert(prefix, route)?;
-            }
-        }
-        self.loc_rib = chosen;
+    pub fn choose_all(&mut self, alloc: A, conf: &Conf<A>, links: &BTreeMap<u8, Link<A>, A>) -> Result<(), AllocError>
+        requires { AddressesDiffer conf.now.peers }
+        ensures chosen { OnOk result (IsLocRib (tables conf.now links.now.entries self.old.adj_in) self.new.loc_rib.entries) }
+        ensures routes { self.new.adj_in ≡ self.old.adj_in }
+    {
+        self.loc_rib = best_of_all(alloc, conf, links, &self.adj_in, &mut self.meter)?;
         Ok(())
     }
+}
+
+// The best route of each prefix that has a candidate.
+fn best_of_all<A: Allocator + Clone>(
+    alloc: A,
+    conf: &Conf<A>,
+    links: &BTreeMap<u8, Link<A>, A>,
+    adj_in: &AdjIn<A>,
+    meter: &mut Meter,
+) -> Result<BTreeMap<Prefix, Candidate, A>, AllocError>
+    requires { AddressesDiffer conf.now.peers }
+    ensures { IfOk result (λ routes. IsLocRib (tables conf.now links.now.entries adj_in.now) routes.entries) }
+{
+    let mut chosen = BTreeMap::new(alloc);
+    for (prefix, _, _) in adj_in.routes() {
+        if let Some(route) = best(conf, links, adj_in, meter, prefix) {
+            chosen.insert(prefix, route)?;
+        }
+    }
+    Ok(chosen)
 }

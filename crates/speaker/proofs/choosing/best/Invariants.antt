@@ -3,4 +3,4 @@ use Rattle.speaker.proofs.CandidateLists.{ListsBelow}
 use Rattle.speaker.proofs.choosing.best.Given as goal
 
 abbrev pub invariant-loop-slot : goal.invariant-loop-slot
-invariant-loop-slot g l = ListsBelow (tables l.fn.conf.now l.fn.links.now.entries l.fn.adj_in.now) l.fn.prefix l.slot l.candidates.items
+invariant-loop-slot g l = ListsBelow (tables l.fn.conf l.fn.links.entries l.fn.adj_in) l.fn.prefix l.slot l.candidates.items
