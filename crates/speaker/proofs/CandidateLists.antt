@@ -12,8 +12,8 @@ use Rattle.decision.specs.declared.candidate.Candidate.{Candidate}
 use Rattle.decision.specs.Selection.{AreDistinct, DifferInRank, IsSelected}
 use Rattle.net_prefix.specs.declared.prefix.Prefix.{Prefix}
 use Rattle.rib_in.specs.LatestRoutes.{route_at}
-use Rattle.speaker.specs.Linked.{Linked}
-use Rattle.speaker.specs.Tables.{Tables, link_at}
+use Rattle.bgp_fsm.specs.declared.session.Session.{Session}
+use Rattle.speaker.specs.Tables.{Tables}
 use Rattle.speaker.specs.LocRib.{IsBest, HasNoCandidate}
 use Rattle.speaker.specs.Candidates.{IsCandidateOf, IsCandidate, MakesNone, HasNoneAt, IsOnlyCandidateAt}
 
@@ -51,56 +51,56 @@ same_candidate conf identifier attrs c d slots h k =
       address = address_same i;
     }
 
--- no slot, no candidate
-pub none_linked : (t : Tables) (prefix : Prefix) (slot : ℕ) → link_at t.links slot ≡ None → HasNoneAt t prefix slot
-none_linked t prefix slot nothing = λ c at is. let found = rw at at is.linked in (cc)
+-- no session, no candidate
+pub none_linked : (t : Tables) (prefix : Prefix) (slot : ℕ) → t.sessions slot ≡ None → HasNoneAt t prefix slot
+none_linked t prefix slot nothing = λ c at is. let found = rw at at is.session_is in (cc)
 
 -- no route, no candidate
 pub none_routed : (t : Tables) (prefix : Prefix) (slot : ℕ) → route_at t.adj_in slot prefix ≡ None → HasNoneAt t prefix slot
 none_routed t prefix slot nothing = λ c at is. let found = rw at at is.route in (cc)
 
 -- what a slot's route makes is the candidate of its attributes
-made_of : (t : Tables) (prefix : Prefix) (slot : ℕ) (link : Linked) (attrs : PathAttributes) (c : Candidate)
-    → link_at t.links slot ≡ Some link → route_at t.adj_in slot prefix ≡ Some attrs → c.slot ≡ slot → IsCandidate t prefix c
-    → IsCandidateOf t.conf link.peer.session.identifier attrs c
-made_of t prefix slot link attrs c linked route at is =
-    let found = rw at at is.linked in
+made_of : (t : Tables) (prefix : Prefix) (slot : ℕ) (session : Session) (attrs : PathAttributes) (c : Candidate)
+    → t.sessions slot ≡ Some session → route_at t.adj_in slot prefix ≡ Some attrs → c.slot ≡ slot → IsCandidate t prefix c
+    → IsCandidateOf t.conf session.identifier attrs c
+made_of t prefix slot session attrs c linked route at is =
+    let found = rw at at is.session_is in
     let routed = rw at at is.route in
-    let link_same : is.link ≡ link = some_same _ _ _ found linked in
+    let session_same : is.session ≡ session = some_same _ _ _ found linked in
     let attrs_same : is.attrs ≡ attrs = some_same _ _ _ routed route in
-    rw (link_same, attrs_same) at is.made
+    rw (session_same, attrs_same) at is.made
 
-pub none_made : (t : Tables) (prefix : Prefix) (slot : ℕ) (link : Linked) (attrs : PathAttributes)
-    → link_at t.links slot ≡ Some link → route_at t.adj_in slot prefix ≡ Some attrs
-    → MakesNone t.conf slot link.peer.session.identifier attrs → HasNoneAt t prefix slot
-none_made t prefix slot link attrs linked route none =
-    λ c at is. none c at (made_of t prefix slot link attrs c linked route at is)
+pub none_made : (t : Tables) (prefix : Prefix) (slot : ℕ) (session : Session) (attrs : PathAttributes)
+    → t.sessions slot ≡ Some session → route_at t.adj_in slot prefix ≡ Some attrs
+    → MakesNone t.conf slot session.identifier attrs → HasNoneAt t prefix slot
+none_made t prefix slot session attrs linked route none =
+    λ c at is. none c at (made_of t prefix slot session attrs c linked route at is)
 
-pub one_made : (t : Tables) (prefix : Prefix) (slot : ℕ) (link : Linked) (attrs : PathAttributes) (c : Candidate)
-    → slot < 64 → link_at t.links slot ≡ Some link → route_at t.adj_in slot prefix ≡ Some attrs
-    → c.slot ≡ slot → IsCandidateOf t.conf link.peer.session.identifier attrs c → IsOnlyCandidateAt t prefix slot c
-one_made t prefix slot link attrs c below linked route at made = record {
+pub one_made : (t : Tables) (prefix : Prefix) (slot : ℕ) (session : Session) (attrs : PathAttributes) (c : Candidate)
+    → slot < 64 → t.sessions slot ≡ Some session → route_at t.adj_in slot prefix ≡ Some attrs
+    → c.slot ≡ slot → IsCandidateOf t.conf session.identifier attrs c → IsOnlyCandidateAt t prefix slot c
+one_made t prefix slot session attrs c below linked route at made = record {
   at_slot = at;
   is_one = record {
-    link = link;
+    session = session;
     attrs = attrs;
     slot_is = rw at below;
-    linked = rw at linked;
+    session_is = rw at linked;
     route = rw at route;
     made = made;
   };
-  alone = λ d here is. same_candidate t.conf link.peer.session.identifier attrs c d (at ∙ sym here) made (made_of t prefix slot link attrs d linked route here is);
+  alone = λ d here is. same_candidate t.conf session.identifier attrs c d (at ∙ sym here) made (made_of t prefix slot session attrs d linked route here is);
 }
 
 -- what a slot's route makes, from what its attributes make
-pub candidate_made : (t : Tables) (prefix : Prefix) (slot identifier : ℕ) (link : Linked) (attrs : PathAttributes) (found : Option Candidate)
-    → slot < 64 → link_at t.links slot ≡ Some link → route_at t.adj_in slot prefix ≡ Some attrs → identifier ≡ link.peer.session.identifier
+pub candidate_made : (t : Tables) (prefix : Prefix) (slot identifier : ℕ) (session : Session) (attrs : PathAttributes) (found : Option Candidate)
+    → slot < 64 → t.sessions slot ≡ Some session → route_at t.adj_in slot prefix ≡ Some attrs → identifier ≡ session.identifier
     → MatchOption found (MakesNone t.conf slot identifier attrs) (λ c. (c.slot ≡ slot) × IsCandidateOf t.conf identifier attrs c)
     → MatchOption found (HasNoneAt t prefix slot) (IsOnlyCandidateAt t prefix slot)
-candidate_made t prefix slot identifier link attrs None below linked route told made =
-    let none = rw told at made in none_made t prefix slot link attrs linked route none
-candidate_made t prefix slot identifier link attrs (Some c) below linked route told made =
-    let one = rw told at made.1 in one_made t prefix slot link attrs c below linked route made.0 one
+candidate_made t prefix slot identifier session attrs None below linked route told made =
+    let none = rw told at made in none_made t prefix slot session attrs linked route none
+candidate_made t prefix slot identifier session attrs (Some c) below linked route told made =
+    let one = rw told at made.1 in one_made t prefix slot session attrs c below linked route made.0 one
 
 -- a candidate of a slot below
 pub record IsBelow (t : Tables) (prefix : Prefix) (n : ℕ) (c : Candidate) : Type 0 where

@@ -4,11 +4,11 @@ use Rattle.bgp_attr.specs.AsPath.{PathSegment, has_as, path_length_of}
 use Rattle.bgp_conf.specs.Configuration.{Configuration, peer_at}
 use Rattle.bgp_conf.specs.Reach.{IsCost}
 use Rattle.bgp_conf.specs.declared.conf.ConfiguredPeer.{ConfiguredPeer}
+use Rattle.bgp_fsm.specs.declared.session.Session.{Session}
 use Rattle.decision.specs.declared.candidate.Candidate.{Candidate}
 use Rattle.net_prefix.specs.declared.prefix.Prefix.{Prefix}
 use Rattle.rib_in.specs.LatestRoutes.{route_at}
-use Rattle.speaker.specs.Linked.{Linked}
-use Rattle.speaker.specs.Tables.{Tables, link_at}
+use Rattle.speaker.specs.Tables.{Tables}
 
 -- The routes among which the selection chooses (RFC 4271 section 9.1.2).
 
@@ -33,12 +33,12 @@ pub record IsCandidateOf (conf : Configuration) (identifier : ℕ) (attrs : Path
 
 -- the latest route of the candidate's slot to the prefix makes it
 pub record IsCandidate (t : Tables) (prefix : Prefix) (c : Candidate) : Type 0 where
-  pub link : Linked
+  pub session : Session
   pub attrs : PathAttributes
   pub slot_is : c.slot < 64
-  pub linked : link_at t.links c.slot ≡ Some link
+  pub session_is : t.sessions c.slot ≡ Some session
   pub route : route_at t.adj_in c.slot prefix ≡ Some attrs
-  pub made : IsCandidateOf t.conf link.peer.session.identifier attrs c
+  pub made : IsCandidateOf t.conf session.identifier attrs c
 
 -- the list has the candidates of the prefix, and nothing else
 abbrev pub AreCandidates : Tables → Prefix → List Candidate → Type 0

@@ -1,9 +1,11 @@
 use Rattle.std.specs.Prelude.{ℕ, List, Option}
+use Rattle.std.specs.Option.{option_map}
 use Rattle.std.specs.Map.{lookup}
 use Rattle.std.specs.Ordering.{nat_cmp}
 use Rattle.std.specs.BTreeMap.{is_at}
 use Rattle.bgp_attr.specs.PathAttributes.{PathAttributes}
 use Rattle.bgp_conf.specs.Configuration.{Configuration}
+use Rattle.bgp_fsm.specs.declared.session.Session.{Session}
 use Rattle.decision.specs.declared.candidate.Candidate.{Candidate}
 use Rattle.net_prefix.specs.declared.prefix.Prefix.{Prefix}
 use Rattle.rib_in.specs.declared.adj_in.RouteKey.{RouteKey}
@@ -12,19 +14,24 @@ use Rattle.speaker.specs.Linked.{Linked}
 
 -- What the selection reads: the configuration, the sessions and Adj-RIB-In (RFC 4271 section 3.2).
 
--- the configuration, the slots with their sessions, and the latest route of each slot and prefix
+-- the configuration, the session of each slot, and the latest route of each slot and prefix
 pub record Tables : Type 0 where
   pub conf : Configuration
-  pub links : List (ℕ × Linked)
+  pub sessions : ℕ → Option Session
   pub adj_in : List (RouteKey × PathAttributes)
 
 -- the slot of this number
 abbrev pub link_at : List (ℕ × Linked) → ℕ → Option Linked
 link_at links slot = lookup (is_at (nat_cmp slot)) links
 
+-- the session of a slot
+abbrev pub session_at : List (ℕ × Linked) → ℕ → Option Session
+session_at links slot = option_map (λ l. l.peer.session) (link_at links slot)
+
 -- the best route that is kept of a prefix
 abbrev pub best_at : List (Prefix × Candidate) → Prefix → Option Candidate
 best_at routes prefix = lookup (is_at (prefix_cmp prefix)) routes
 
+-- what the selection reads of these slots
 abbrev pub tables : Configuration → List (ℕ × Linked) → List (RouteKey × PathAttributes) → Tables
-tables conf links adj_in = record { conf = conf; links = links; adj_in = adj_in }
+tables conf links adj_in = record { conf = conf; sessions = λ slot. session_at links slot; adj_in = adj_in }

@@ -1,0 +1,35 @@
+use Rattle.std.specs.Prelude.{ℕ, List, Bool, false, []}
+use Rattle.bgp_attr.specs.PathAttributes.{PathAttributes}
+use Rattle.bgp_conf.specs.Configuration.{Configuration}
+use Rattle.decision.specs.declared.candidate.Candidate.{Candidate}
+use Rattle.net_prefix.specs.declared.prefix.Prefix.{Prefix}
+use Rattle.rib_in.specs.declared.adj_in.RouteKey.{RouteKey}
+use Rattle.speaker.specs.declared.config.Config.{Config}
+use Rattle.speaker.specs.Linked.{Linked}
+use Rattle.speaker.specs.Tables.{Tables, tables}
+
+-- what others see of a speaker: its settings, the configured tables, its slots, Adj-RIB-In, Loc-RIB, and whether want
+-- of memory has stopped it
+pub record SpeakerState : Type 0 where
+  pub config : Config
+  pub conf : Configuration
+  pub links : List (ℕ × Linked)
+  pub adj_in : List (RouteKey × PathAttributes)
+  pub loc_rib : List (Prefix × Candidate)
+  pub stopped : Bool
+
+-- what the selection reads
+abbrev pub tables_of : SpeakerState → Tables
+tables_of s = tables s.conf s.links s.adj_in
+
+-- a speaker without peers
+abbrev pub started : Config → SpeakerState
+started config = record {
+  config = config;
+  conf = record { own = config.asn; peers = []; reach = [] };
+  links = [];
+  adj_in = [];
+  loc_rib = [];
+  stopped = false;
+}
+
