@@ -1,2 +1,3 @@
 pub mod CandidateLists
 pub mod ChosenRoutes
+pub mod KeptTables

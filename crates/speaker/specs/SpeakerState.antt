@@ -1,4 +1,4 @@
-use Rattle.std.specs.Prelude.{ℕ, List, Bool, false, []}
+use Rattle.std.specs.Prelude.{◌≡◌, ℕ, List, Bool, false, []}
 use Rattle.bgp_attr.specs.PathAttributes.{PathAttributes}
 use Rattle.bgp_conf.specs.Configuration.{Configuration}
 use Rattle.decision.specs.declared.candidate.Candidate.{Candidate}
@@ -6,7 +6,7 @@ use Rattle.net_prefix.specs.declared.prefix.Prefix.{Prefix}
 use Rattle.rib_in.specs.declared.adj_in.RouteKey.{RouteKey}
 use Rattle.speaker.specs.declared.config.Config.{Config}
 use Rattle.speaker.specs.Linked.{Linked}
-use Rattle.speaker.specs.Tables.{Tables, tables}
+use Rattle.speaker.specs.Tables.{Tables, tables, session_at}
 
 -- what others see of a speaker: its settings, the configured tables, its slots, Adj-RIB-In, Loc-RIB, and whether want
 -- of memory has stopped it
@@ -33,3 +33,10 @@ started config = record {
   stopped = false;
 }
 
+
+-- the configuration, the sessions, Adj-RIB-In and Loc-RIB are the same
+pub record KeepsTables (old new : SpeakerState) : Type 0 where
+  pub conf : new.conf ≡ old.conf
+  pub sessions : (slot : ℕ) → session_at new.links slot ≡ session_at old.links slot
+  pub adj_in : new.adj_in ≡ old.adj_in
+  pub loc_rib : new.loc_rib ≡ old.loc_rib

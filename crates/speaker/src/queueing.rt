@@ -1,5 +1,5 @@
 //! What the peers are owed: the UPDATEs that make what each was sent its export of Loc-RIB.
-ghost use Rattle.std.specs.Prelude.{◌≡◌, ◌≤◌, ◌<◌, ◌+◌, [], length, IfOk, OnSome};
+ghost use Rattle.std.specs.Prelude.{◌≡◌, ◌≤◌, ◌+◌, [], length};
 ghost use Rattle.std.specs.Bool.{OnTrue, OnFalse};
 ghost use Rattle.bgp_fsm.specs.declared.state.State.TheVariants.{Established};
 
@@ -10,7 +10,6 @@ use bgp_msg::{MAX_MESSAGE, write_announcement, write_withdrawal};
 use bgp_peer::ROOM_FOR_UPDATE;
 use export_rules::{ExportPeer, export_of};
 use net_prefix::Prefix;
-use rib_out::AdjOut;
 use std::alloc::{AllocError, Allocator};
 
 /// The octets of one message, or of its attributes.
@@ -37,68 +36,8 @@ pub fn export<A: Allocator + Clone>(
     export_of(route, attrs, peer, octets)
 }
 
-// The least prefix that the peer holds and that isn't exported to it.
-fn first_withdrawal<A: Allocator + Clone>(
-    ribs: &Ribs<A>,
-    adj_out: &AdjOut<A>,
-    peer: &ExportPeer,
-    octets: &mut Octets,
-) -> Option<Prefix> {
-    for (prefix, _) in adj_out.held() {
-        if !export(ribs, peer, prefix, octets) {
-            return Some(prefix);
-        }
-    }
-    None
-}
-
-// The least prefix that is exported to the peer and of which it doesn't hold just that.
-fn first_announcement<A: Allocator + Clone>(
-    ribs: &Ribs<A>,
-    adj_out: &AdjOut<A>,
-    peer: &ExportPeer,
-    octets: &mut Octets,
-) -> Option<Prefix>
-    ensures { OnSome result (length octets.new.items ≤ 4068) }
-{
-    for (prefix, _) in &ribs.loc_rib {
-        if export(ribs, peer, *prefix, octets) && !adj_out.holds(*prefix, octets.as_slice()) {
-            return Some(*prefix);
-        }
-    }
-    None
-}
-
-// Queues one UPDATE that the peer is owed, withdrawals before announcements, and answers whether there was
-// one.
-fn queue_one<A: Allocator + Clone>(
-    ribs: &Ribs<A>,
-    link: &mut Link<A>,
-    peer: &ExportPeer,
-    octets: &mut Octets,
-    message: &mut Octets,
-) -> Result<bool, AllocError>
-    requires established { link.old.peer.session.state ≡ Established }
-    requires room { length link.old.peer.ring + 8192 ≤ 65536 }
-    ensures session { link.new.peer.session ≡ link.old.peer.session }
-    ensures grows { IfOk result (λ more. OnTrue more (length link.old.peer.ring < length link.new.peer.ring)) }
-{
-    if let Some(prefix) = first_withdrawal(ribs, &link.adj_out, peer, octets) {
-        link.adj_out.withdraw(prefix);
-        write_withdrawal(&[prefix], message);
-        link.peer.queue(message.as_slice());
-        return Ok(true);
-    }
-    if let Some(prefix) = first_announcement(ribs, &link.adj_out, peer, octets) {
-        link.adj_out.announce(prefix, octets.as_slice())?;
-        write_announcement(octets.as_slice(), &[prefix], message);
-        link.peer.queue(message.as_slice());
-        return Ok(true);
-    }
-    Ok(false)
-}
-
-/// Queues what an Established peer is owed, while its ring has room for an UPDATE.
+/// Queues what an Established peer is owed, withdrawals before announcements and each in rising order, while
+/// its ring has room for an UPDATE.
 pub fn serve<A: Allocator + Clone>(
     ribs: &Ribs<A>,
     link: &mut Link<A>,
@@ -109,10 +48,81 @@ pub fn serve<A: Allocator + Clone>(
 {
     let mut octets = Octets::new();
     let mut message = Octets::new();
-    while link.peer.free() >= ROOM_FOR_UPDATE {
-        if !queue_one(ribs, link, peer, &mut octets, &mut message)? {
+    withdraw_all(ribs, link, peer, &mut octets, &mut message);
+    announce_all(ribs, link, peer, &mut octets, &mut message)
+}
+
+// Withdraws what the peer holds and what isn't exported to it any more.
+fn withdraw_all<A: Allocator + Clone>(
+    ribs: &Ribs<A>,
+    link: &mut Link<A>,
+    peer: &ExportPeer,
+    octets: &mut Octets,
+    message: &mut Octets,
+)
+    requires { link.old.peer.session.state ≡ Established }
+    ensures { link.new.peer.session ≡ link.old.peer.session }
+{
+    let mut after = None;
+    for _ in 0..u64::MAX {
+        let Some(prefix) = link.adj_out.prefix_after(after) else {
+            return;
+        };
+        if link.peer.free() < ROOM_FOR_UPDATE {
+            return;
+        }
+        if !export(ribs, peer, prefix, octets) {
+            withdraw(link, prefix, message);
+        }
+        after = Some(prefix);
+    }
+}
+
+// Announces what is exported to the peer and what it doesn't hold just so.
+fn announce_all<A: Allocator + Clone>(
+    ribs: &Ribs<A>,
+    link: &mut Link<A>,
+    peer: &ExportPeer,
+    octets: &mut Octets,
+    message: &mut Octets,
+) -> Result<(), AllocError>
+    requires { link.old.peer.session.state ≡ Established }
+    ensures { link.new.peer.session ≡ link.old.peer.session }
+{
+    for (prefix, _) in &ribs.loc_rib {
+        if link.peer.free() < ROOM_FOR_UPDATE {
             return Ok(());
         }
+        if export(ribs, peer, *prefix, octets) && !link.adj_out.holds(*prefix, octets.as_slice()) {
+            announce(link, *prefix, octets, message)?;
+        }
     }
+    Ok(())
+}
+
+fn withdraw<A: Allocator + Clone>(link: &mut Link<A>, prefix: Prefix, message: &mut Octets)
+    requires established { link.old.peer.session.state ≡ Established }
+    requires room { length link.old.peer.ring + 8192 ≤ 65536 }
+    ensures { link.new.peer.session ≡ link.old.peer.session }
+{
+    link.adj_out.withdraw(prefix);
+    write_withdrawal(&[prefix], message);
+    link.peer.queue(message.as_slice());
+}
+
+fn announce<A: Allocator + Clone>(
+    link: &mut Link<A>,
+    prefix: Prefix,
+    octets: &Octets,
+    message: &mut Octets,
+) -> Result<(), AllocError>
+    requires established { link.old.peer.session.state ≡ Established }
+    requires room { length link.old.peer.ring + 8192 ≤ 65536 }
+    requires small { length octets.now.items ≤ 4068 }
+    ensures { link.new.peer.session ≡ link.old.peer.session }
+{
+    link.adj_out.announce(prefix, octets.as_slice())?;
+    write_announcement(octets.as_slice(), &[prefix], message);
+    link.peer.queue(message.as_slice());
     Ok(())
 }

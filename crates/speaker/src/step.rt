@@ -1,5 +1,11 @@
 //! The speaker and its calls.
-ghost use Rattle.std.specs.Prelude.{◌≤◌, length};
+ghost use Rattle.std.specs.Prelude.{◌≡◌, ◌≤◌, ◌⊎◌, ℕ, true, false, Option, length, MatchOption, MatchResult, IfErr, OnOk, OnErr, IfOk};
+ghost use Rattle.bgp_conf.specs.Configuration.{AddressesDiffer};
+ghost use Rattle.bgp_conf.specs.FirstRefusal.{first_refusal};
+ghost use Rattle.std.specs.Option.{option_map};
+ghost use Rattle.bgp_fsm.specs.Transports.{transport_of};
+ghost use Rattle.speaker.specs.Tables.{session_at, link_at};
+ghost use Rattle.speaker.specs.LocRib.{IsLocRib};
 
 use crate::config::Config;
 use crate::event::{Event, Report};
@@ -14,6 +20,7 @@ use export_rules::ExportPeer;
 use net_prefix::{Asn, Transport};
 use std::alloc::{AllocError, Allocator, Global};
 use std::collections::BTreeMap;
+use std::marker::Model;
 
 /// A BGP speaker (RFC 4271): its peers' sessions, Adj-RIB-In, Loc-RIB and what each peer was sent.
 #[derive(Drop)]
@@ -27,7 +34,28 @@ pub struct Speaker<A: Allocator = Global> {
     stopped: bool,
 }
 
+impl<A: Allocator> Model for Speaker<A> {
+    ghost use Rattle.bgp_conf.specs.Configuration.{AddressesDiffer};
+    ghost use Rattle.speaker.specs.SpeakerState.{SpeakerState};
+
+    ghost Value = { SpeakerState };
+
+    ghost view = { λ s. record {
+        config = s.config;
+        conf = s.conf;
+        links = s.links.entries;
+        adj_in = s.ribs.adj_in;
+        loc_rib = s.ribs.loc_rib.entries;
+        stopped = s.stopped;
+    } };
+
+    ghost invariant = { λ s. AddressesDiffer s.conf.peers };
+}
+
 impl<A: Allocator + Clone> Speaker<A> {
+    ghost use Rattle.speaker.specs.SpeakerState.{SpeakerState, tables_of, KeepsTables};
+    ghost use Rattle.speaker.specs.FirstRefusal.{refusal_of};
+
     /// A speaker without peers. Refused by 33 where the AS or the identifier is 0, or a cache session is
     /// asked for (there is none yet), and by 44.
     pub fn new(alloc: A, config: Config) -> Result<Self, Refusal> {
@@ -56,23 +84,57 @@ impl<A: Allocator + Clone> Speaker<A> {
 
     /// One event. A refusal leaves the speaker as it was, but where memory is refused to what is no
     /// command: then this call and each later one answer 44.
-    pub fn step(&mut self, event: Event<'_>) -> Result<Report, Refusal> {
+    pub fn step(&mut self, event: Event<'_>) -> Result<Report, Refusal>
+        // After each accepted event Loc-RIB is the selection over all candidates.
+        ensures chosen { OnOk result (IsLocRib (tables_of self.new) self.new.loc_rib) }
+        // A speaker that want of memory has stopped answers 44, and nothing else.
+        ensures stopped { self.old.stopped ≡ true → (result ≡ Err Refusal.NoMemory) × (self.new ≡ self.old) }
+        // Else the first refusal is the answer, and the speaker stays as it was.
+        ensures refused { self.old.stopped ≡ false → MatchOption (refusal_of self.old event.entry)
+            (IfErr result (λ why. why ≡ Refusal.NoMemory))
+            (λ why. (result ≡ Err why) × (self.new ≡ self.old)) }
+    {
         if self.stopped {
             return Err(Refusal::NoMemory);
         }
-        self.check(&event)?;
+        match self.check(&event) {
+            Ok(()) => self.take_event(event),
+            Err(why) => Err(why),
+        }
+    }
+
+    // An event that isn't refused.
+    fn take_event(&mut self, event: Event<'_>) -> Result<Report, Refusal>
+        requires { refusal_of self.old event ≡ None }
+        ensures chosen { OnOk result (IsLocRib (tables_of self.new) self.new.loc_rib) }
+        ensures memory { IfErr result (λ why. why ≡ Refusal.NoMemory) }
+    {
         match event {
-            Event::Command(command) => self.obey(&command)?,
+            Event::Command(command) => {
+                if self.obey(&command).is_err() {
+                    return Err(Refusal::NoMemory);
+                }
+            }
             Event::Up(slot) => self.up(slot),
             Event::Fail(slot) => self.fail(slot),
             Event::Bytes(slot, octets) => {
-                let heard = self.hear(slot, octets);
-                self.stop_if(heard)?;
+                if self.hear(slot, octets).is_err() {
+                    return self.stop();
+                }
             }
         }
-        let settled = self.settle();
-        self.stop_if(settled)?;
-        Ok(Report::NOTHING)
+        match self.settle() {
+            Ok(()) => Ok(Report::NOTHING),
+            Err(_) => self.stop(),
+        }
+    }
+
+    // Want of memory stops the speaker.
+    fn stop(&mut self) -> Result<Report, Refusal>
+        ensures answer { result ≡ Err Refusal.NoMemory }
+    {
+        self.stopped = true;
+        Err(Refusal::NoMemory)
     }
 
     /// Hands out the first octets of a slot's ring, as many as there are and fit. Refused by 40 where the
@@ -85,31 +147,8 @@ impl<A: Allocator + Clone> Speaker<A> {
             return Err(Refusal::BadSlot);
         };
         let taken = link.peer.take(buf);
-        let queued = self.queue_updates();
-        self.stop_if(queued)?;
-        Ok((taken, Report::NOTHING))
-    }
-
-    // The first refusal of an event, if there is one.
-    fn check(&self, event: &Event<'_>) -> Result<(), Refusal> {
-        match *event {
-            Event::Up(slot) => self.check_transport(slot, &[Transport::Opening, Transport::Listening]),
-            Event::Fail(slot) => self.check_transport(slot, &[Transport::Opening, Transport::Open, Transport::Closing]),
-            Event::Bytes(slot, _) => self.check_transport(slot, &[Transport::Open, Transport::Closing]),
-            Event::Command(command) => self.conf.check(&command, 0),
-        }
-    }
-
-    fn check_transport(&self, slot: u8, expected: &[Transport]) -> Result<(), Refusal> {
-        let Some(link) = self.links.get(&slot) else {
-            return Err(Refusal::BadSlot);
-        };
-        if expected.contains(&link.peer.transport()) { Ok(()) } else { Err(Refusal::NotExpected) }
-    }
-
-    fn stop_if(&mut self, outcome: Result<(), AllocError>) -> Result<(), Refusal> {
-        match outcome {
-            Ok(()) => Ok(()),
+        match self.queue_updates() {
+            Ok(()) => Ok((taken, Report::NOTHING)),
             Err(_) => {
                 self.stopped = true;
                 Err(Refusal::NoMemory)
@@ -117,22 +156,57 @@ impl<A: Allocator + Clone> Speaker<A> {
         }
     }
 
-    fn obey(&mut self, command: &Command<'_>) -> Result<(), Refusal> {
-        let obeyed = match *command {
+    // The first refusal of an event, if there is one.
+    fn check(&self, event: &Event<'_>) -> Result<(), Refusal>
+        ensures { MatchResult result (λ _. refusal_of self.now event.now ≡ None) (λ why. refusal_of self.now event.now ≡ Some why) }
+    {
+        match *event {
+            Event::Up(slot) => match self.transport_at(slot) {
+                Some(Transport::Opening | Transport::Listening) => Ok(()),
+                Some(_) => Err(Refusal::NotExpected),
+                None => Err(Refusal::BadSlot),
+            },
+            Event::Fail(slot) => match self.transport_at(slot) {
+                Some(Transport::Opening | Transport::Open | Transport::Closing) => Ok(()),
+                Some(_) => Err(Refusal::NotExpected),
+                None => Err(Refusal::BadSlot),
+            },
+            Event::Bytes(slot, _) => match self.transport_at(slot) {
+                Some(Transport::Open | Transport::Closing) => Ok(()),
+                Some(_) => Err(Refusal::NotExpected),
+                None => Err(Refusal::BadSlot),
+            },
+            Event::Command(command) => self.conf.check(&command, 0),
+        }
+    }
+
+    // The transport of a configured slot.
+    fn transport_at(&self, slot: u8) -> Option<Transport>
+        ensures { result ≡ option_map (λ l. transport_of l.peer.session) (link_at self.now.links slot) }
+    {
+        match self.links.get(&slot) {
+            Some(link) => Some(link.peer.transport()),
+            None => None,
+        }
+    }
+
+    // Makes the tables after a command that isn't refused.
+    fn obey(&mut self, command: &Command<'_>) -> Result<(), AllocError>
+        requires { first_refusal self.old.conf 0 command.now ≡ None }
+    {
+        match *command {
             Command::AddPeer(slot, conf) => self.add_peer(command, slot, &conf),
             Command::Enable(slot) => {
                 self.enable(slot);
                 Ok(())
             }
             Command::Reach(_, _) => self.conf.apply(command),
-        };
-        match obeyed {
-            Ok(()) => Ok(()),
-            Err(_) => Err(Refusal::NoMemory),
         }
     }
 
-    fn add_peer(&mut self, command: &Command<'_>, slot: u8, conf: &PeerConf<'_>) -> Result<(), AllocError> {
+    fn add_peer(&mut self, command: &Command<'_>, slot: u8, conf: &PeerConf<'_>) -> Result<(), AllocError>
+        requires { first_refusal self.old.conf 0 command.now ≡ None }
+    {
         let own = Open {
             asn: self.config.asn,
             hold_time: conf.hold,
@@ -237,20 +311,26 @@ impl<A: Allocator + Clone> Speaker<A> {
     }
 
     // The end of each step: Loc-RIB is chosen, and the peers are queued what they are owed.
-    fn settle(&mut self) -> Result<(), AllocError> {
+    fn settle(&mut self) -> Result<(), AllocError>
+        ensures { OnOk result (IsLocRib (tables_of self.new) self.new.loc_rib) }
+    {
         self.ribs.choose_all(self.alloc.clone()?, &self.conf, &self.links)?;
         self.queue_updates()
     }
 
     // For each Established slot in rising order, the UPDATEs that it is owed, while its ring has room.
-    fn queue_updates(&mut self) -> Result<(), AllocError> {
+    fn queue_updates(&mut self) -> Result<(), AllocError>
+        ensures keeps { KeepsTables self.old self.new }
+    {
         for slot in 0..PEER_SLOTS {
             self.serve_slot(slot)?;
         }
         Ok(())
     }
 
-    fn serve_slot(&mut self, slot: u8) -> Result<(), AllocError> {
+    fn serve_slot(&mut self, slot: u8) -> Result<(), AllocError>
+        ensures keeps { KeepsTables self.old self.new }
+    {
         let Some(peer) = self.export_peer(slot) else {
             return Ok(());
         };
