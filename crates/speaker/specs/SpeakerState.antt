@@ -1,4 +1,4 @@
-use Rattle.std.specs.Prelude.{◌≡◌, ℕ, List, Bool, false, []}
+use Rattle.std.specs.Prelude.{◌≡◌, ◌==◌, ◌||◌, ℕ, List, Bool, false, []}
 use Rattle.bgp_attr.specs.PathAttributes.{PathAttributes}
 use Rattle.bgp_conf.specs.Configuration.{Configuration}
 use Rattle.decision.specs.declared.candidate.Candidate.{Candidate}
@@ -6,7 +6,7 @@ use Rattle.net_prefix.specs.declared.prefix.Prefix.{Prefix}
 use Rattle.rib_in.specs.declared.adj_in.RouteKey.{RouteKey}
 use Rattle.speaker.specs.declared.config.Config.{Config}
 use Rattle.speaker.specs.Linked.{Linked}
-use Rattle.speaker.specs.Tables.{Tables, tables, session_at}
+use Rattle.speaker.specs.Tables.{Tables, tables, session_at, link_at}
 
 -- what others see of a speaker: its settings, the configured tables, its slots, Adj-RIB-In, Loc-RIB, and whether want
 -- of memory has stopped it
@@ -33,6 +33,9 @@ started config = record {
   stopped = false;
 }
 
+-- an AS or an identifier of 0, or a cache session, of which there is none yet
+abbrev pub is_out_of_range : Config → Bool
+is_out_of_range config = config.asn.0 == 0 || config.identifier == 0 || config.cache
 
 -- the configuration, the sessions, Adj-RIB-In and Loc-RIB are the same
 pub record KeepsTables (old new : SpeakerState) : Type 0 where
@@ -40,3 +43,12 @@ pub record KeepsTables (old new : SpeakerState) : Type 0 where
   pub sessions : (slot : ℕ) → session_at new.links slot ≡ session_at old.links slot
   pub adj_in : new.adj_in ≡ old.adj_in
   pub loc_rib : new.loc_rib ≡ old.loc_rib
+
+-- nothing that others see has changed: each slot is as it was, and so is all else
+pub record IsAsBefore (old new : SpeakerState) : Type 0 where
+  pub config : new.config ≡ old.config
+  pub conf : new.conf ≡ old.conf
+  pub links : (slot : ℕ) → link_at new.links slot ≡ link_at old.links slot
+  pub adj_in : new.adj_in ≡ old.adj_in
+  pub loc_rib : new.loc_rib ≡ old.loc_rib
+  pub stopped : new.stopped ≡ old.stopped

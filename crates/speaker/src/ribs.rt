@@ -1,5 +1,5 @@
 //! Adj-RIB-In and Loc-RIB (RFC 4271 section 3.2): the peers' latest routes, and the best route of each prefix.
-ghost use Rattle.std.specs.Prelude.{◌≡◌, IfOk, OnOk};
+ghost use Rattle.std.specs.Prelude.{◌≡◌, [], IfOk, OnOk};
 ghost use Rattle.bgp_conf.specs.Configuration.{AddressesDiffer};
 ghost use Rattle.speaker.specs.Tables.{tables};
 ghost use Rattle.speaker.specs.LocRib.{IsLocRib};
@@ -23,7 +23,9 @@ pub struct Ribs<A: Allocator> {
 
 impl<A: Allocator + Clone> Ribs<A> {
     /// No routes.
-    pub fn new(alloc: A) -> Result<Self, AllocError> {
+    pub fn new(alloc: A) -> Result<Self, AllocError>
+        ensures { IfOk result (λ ribs. (ribs.adj_in ≡ []) × (ribs.loc_rib.entries ≡ [])) }
+    {
         let adj_in = AdjIn::new(alloc.clone()?);
         let loc_rib = BTreeMap::new(alloc);
         Ok(Ribs {

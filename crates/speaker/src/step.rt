@@ -1,10 +1,13 @@
 //! The speaker and its calls.
-ghost use Rattle.std.specs.Prelude.{◌≡◌, ◌≤◌, ◌⊎◌, ℕ, true, false, Option, length, MatchOption, MatchResult, IfErr, OnOk, OnErr, IfOk};
+ghost use Rattle.std.specs.Prelude.{◌≡◌, ◌≤◌, ◌⊎◌, ◌↔◌, ◌++◌, ℕ, true, false, Option, length, min, take, drop, MatchOption, MatchResult, IfErr, OnOk, OnErr, IfOk, IsSome, if◌then◌else◌};
+ghost use Rattle.std.specs.Ordering.{nat_cmp};
+ghost use Rattle.std.specs.BTreeMap.{is_at};
 ghost use Rattle.bgp_conf.specs.Configuration.{AddressesDiffer};
 ghost use Rattle.bgp_conf.specs.FirstRefusal.{first_refusal};
 ghost use Rattle.std.specs.Option.{option_map};
 ghost use Rattle.bgp_fsm.specs.Transports.{transport_of};
 ghost use Rattle.speaker.specs.Tables.{session_at, link_at};
+ghost use Rattle.speaker.specs.Linked.{Linked};
 ghost use Rattle.speaker.specs.LocRib.{IsLocRib};
 
 use crate::config::Config;
@@ -53,12 +56,16 @@ impl<A: Allocator> Model for Speaker<A> {
 }
 
 impl<A: Allocator + Clone> Speaker<A> {
-    ghost use Rattle.speaker.specs.SpeakerState.{SpeakerState, tables_of, KeepsTables};
+    ghost use Rattle.speaker.specs.SpeakerState.{SpeakerState, tables_of, KeepsTables, IsAsBefore, started, is_out_of_range};
     ghost use Rattle.speaker.specs.FirstRefusal.{refusal_of};
 
     /// A speaker without peers. Refused by 33 where the AS or the identifier is 0, or a cache session is
     /// asked for (there is none yet), and by 44.
-    pub fn new(alloc: A, config: Config) -> Result<Self, Refusal> {
+    pub fn new(alloc: A, config: Config) -> Result<Self, Refusal>
+        ensures ok { IfOk result (λ s. s ≡ started config) }
+        ensures range { (result ≡ Err Refusal.Range) ↔ (is_out_of_range config ≡ true) }
+        ensures err { IfErr result (λ why. (why ≡ Refusal.Range) ⊎ (why ≡ Refusal.NoMemory)) }
+    {
         if config.asn == Asn(0) || config.identifier == 0 || config.cache {
             return Err(Refusal::Range);
         }
@@ -68,7 +75,9 @@ impl<A: Allocator + Clone> Speaker<A> {
         }
     }
 
-    fn empty(alloc: A, config: Config) -> Result<Self, AllocError> {
+    fn empty(alloc: A, config: Config) -> Result<Self, AllocError>
+        ensures { IfOk result (λ s. s ≡ started config) }
+    {
         let conf = Conf::new(alloc.clone()?, config.asn)?;
         let links = BTreeMap::new(alloc.clone()?);
         let ribs = Ribs::new(alloc.clone()?)?;
@@ -93,6 +102,8 @@ impl<A: Allocator + Clone> Speaker<A> {
         ensures refused { self.old.stopped ≡ false → MatchOption (refusal_of self.old event.entry)
             (IfErr result (λ why. why ≡ Refusal.NoMemory))
             (λ why. (result ≡ Err why) × (self.new ≡ self.old)) }
+        // Whatever is refused, the speaker is as it was, or want of memory has stopped it.
+        ensures memory { OnErr result (IsAsBefore self.old self.new ⊎ (self.new.stopped ≡ true)) }
     {
         if self.stopped {
             return Err(Refusal::NoMemory);
@@ -107,7 +118,8 @@ impl<A: Allocator + Clone> Speaker<A> {
     fn take_event(&mut self, event: Event<'_>) -> Result<Report, Refusal>
         requires { refusal_of self.old event ≡ None }
         ensures chosen { OnOk result (IsLocRib (tables_of self.new) self.new.loc_rib) }
-        ensures memory { IfErr result (λ why. why ≡ Refusal.NoMemory) }
+        ensures why { IfErr result (λ why. why ≡ Refusal.NoMemory) }
+        ensures memory { OnErr result (IsAsBefore self.old self.new ⊎ (self.new.stopped ≡ true)) }
     {
         match event {
             Event::Command(command) => {
@@ -132,6 +144,7 @@ impl<A: Allocator + Clone> Speaker<A> {
     // Want of memory stops the speaker.
     fn stop(&mut self) -> Result<Report, Refusal>
         ensures answer { result ≡ Err Refusal.NoMemory }
+        ensures stopped { self.new.stopped ≡ true }
     {
         self.stopped = true;
         Err(Refusal::NoMemory)
@@ -139,7 +152,15 @@ impl<A: Allocator + Clone> Speaker<A> {
 
     /// Hands out the first octets of a slot's ring, as many as there are and fit. Refused by 40 where the
     /// slot isn't configured.
-    pub fn take(&mut self, slot: u8, buf: &mut [u8]) -> Result<(usize, Report), Refusal> {
+    pub fn take(&mut self, slot: u8, buf: &mut [u8]) -> Result<(usize, Report), Refusal>
+        ensures stopped { self.old.stopped ≡ true → (result ≡ Err Refusal.NoMemory) × (self.new ≡ self.old) }
+        ensures not_configured { self.old.stopped ≡ false → link_at self.old.links slot ≡ None
+            → (result ≡ Err Refusal.BadSlot) × (self.new ≡ self.old) }
+        // The ring's first octets are handed out, as many as are there and fit.
+        ensures handed { IfOk result (λ taken. (l : Linked) → link_at self.old.links slot ≡ Some l
+            → (taken.0 ≡ min (length buf.old) (length l.peer.ring)) × (buf.new ≡ take taken.0 l.peer.ring ++ drop taken.0 buf.old)) }
+        ensures keeps { KeepsTables self.old self.new }
+    {
         if self.stopped {
             return Err(Refusal::NoMemory);
         }
@@ -193,6 +214,7 @@ impl<A: Allocator + Clone> Speaker<A> {
     // Makes the tables after a command that isn't refused.
     fn obey(&mut self, command: &Command<'_>) -> Result<(), AllocError>
         requires { first_refusal self.old.conf 0 command.now ≡ None }
+        ensures { OnErr result (IsAsBefore self.old self.new) }
     {
         match *command {
             Command::AddPeer(slot, conf) => self.add_peer(command, slot, &conf),
@@ -206,6 +228,7 @@ impl<A: Allocator + Clone> Speaker<A> {
 
     fn add_peer(&mut self, command: &Command<'_>, slot: u8, conf: &PeerConf<'_>) -> Result<(), AllocError>
         requires { first_refusal self.old.conf 0 command.now ≡ None }
+        ensures { OnErr result (IsAsBefore self.old self.new) }
     {
         let own = Open {
             asn: self.config.asn,
@@ -213,11 +236,11 @@ impl<A: Allocator + Clone> Speaker<A> {
             identifier: self.config.identifier,
         };
         let link = Link::new(self.alloc.clone()?, own, conf.mode)?;
-        self.links.insert(slot, link)?;
+        let before = self.links.insert(slot, link)?;
         match self.conf.apply(command) {
             Ok(()) => Ok(()),
             Err(refused) => {
-                self.links.remove(&slot);
+                put_back(&mut self.links, slot, before);
                 Err(refused)
             }
         }
@@ -351,5 +374,20 @@ impl<A: Allocator + Clone> Speaker<A> {
             own: self.config.asn,
             local: peer.local,
         })
+    }
+}
+
+// Makes a slot what it was before it was written.
+fn put_back<A: Allocator + Clone>(links: &mut BTreeMap<u8, Link<A>, A>, slot: u8, before: Option<Link<A>>)
+    requires { IsSome (link_at links.old.entries slot) }
+    ensures { (s : ℕ) → link_at links.new.entries s ≡ (if is_at (nat_cmp slot) s then before else link_at links.old.entries s) }
+{
+    match before {
+        Some(link) => {
+            let _there = links.insert(slot, link);
+        }
+        None => {
+            links.remove(&slot);
+        }
     }
 }
