@@ -132,8 +132,8 @@ ListsBelow-same t prefix n cs h none = record {
   members = λ k d within. raised t prefix n _ (h.members k d within);
   complete = λ c is.
       elim (cases_lt c.slot n) [
-        inl below ↦ h.complete c (record { below = below; is_one = is.is_one })
-      | inr least ↦ absurd (none c (omega (arith, is.below)) is.is_one)
+        | inl below ↦ h.complete c (record { below = below; is_one = is.is_one })
+        | inr least ↦ absurd (none c (omega (arith, is.below)) is.is_one)
       ];
   distinct = h.distinct;
 }
@@ -142,11 +142,11 @@ ListsBelow-same t prefix n cs h none = record {
 differs : (t : Tables) (prefix : Prefix) (n : ℕ) (c d : Candidate) → AddressesDiffer t.conf.peers → IsBelow t prefix n d → c.slot ≡ n → IsCandidate t prefix c → DifferInRank d c
 differs t prefix n c d addresses other at is =
     λ degrees same.
-        let theirs = other.is_one.made in
-        let ours = is.made in
-        let peers_same : theirs.peer.address ≡ ours.peer.address = sym theirs.address_is ∙ same ∙ ours.address_is in
-        let slots : d.slot ≡ c.slot = addresses d.slot c.slot theirs.peer ours.peer theirs.configured ours.configured peers_same in
-        absurd (omega (arith, other.below, slots, at))
+    let theirs = other.is_one.made in
+    let ours = is.made in
+    let peers_same : theirs.peer.address ≡ ours.peer.address = sym theirs.address_is ∙ same ∙ ours.address_is in
+    let slots : d.slot ≡ c.slot = addresses d.slot c.slot theirs.peer ours.peer theirs.configured ours.configured peers_same in
+    absurd (omega (arith, other.below, slots, at))
 
 -- the next slot makes this candidate
 pub ListsBelow-push : (t : Tables) (prefix : Prefix) (n : ℕ) (cs : List Candidate) (c : Candidate) → AddressesDiffer t.conf.peers
@@ -159,11 +159,11 @@ ListsBelow-push t prefix n cs c addresses h only =
       members = All-push (IsBelow t prefix (n + 1)) cs c old new;
       complete = λ d is.
           elim (cases_lt d.slot n) [
-            inl below ↦ Contains-append_left cs (c ∷ []) d (h.complete d (record { below = below; is_one = is.is_one }))
-          | inr least ↦
-              let same : d ≡ c = only.alone d (omega (arith, is.below)) is.is_one in
-              let P : Candidate → Type 0 = λ x. Contains (cs ++ c ∷ []) x in
-              subst P (sym same) (Contains-push cs c)
+            | inl below ↦ Contains-append_left cs (c ∷ []) d (h.complete d (record { below = below; is_one = is.is_one }))
+            | inr least ↦
+                let same : d ≡ c = only.alone d (omega (arith, is.below)) is.is_one in
+                let P : Candidate → Type 0 = λ x. Contains (cs ++ c ∷ []) x in
+                subst P (sym same) (Contains-push cs c)
           ];
       distinct = all_pairs_push DifferInRank cs c h.distinct (λ k d within. differs t prefix n c _ addresses (h.members k d within) only.at_slot only.is_one);
     }
@@ -176,10 +176,11 @@ none_of t prefix cs h empty = λ c is.
 
 -- what the selection leaves of the list is the best route
 pub best_of : (t : Tables) (prefix : Prefix) (cs : List Candidate) (c : Candidate) → ListsBelow t prefix 64 cs → IsSelected cs c → IsBest t prefix c
-best_of t prefix cs c h selected =
-    (cs,
-     λ d. (λ has. (All-contains (IsBelow t prefix 64) cs d h.members has).is_one, λ is. h.complete d (record { below = is.slot_is; is_one = is })),
-     selected)
+best_of t prefix cs c h selected = (
+  cs,
+  λ d. (λ has. (All-contains (IsBelow t prefix 64) cs d h.members has).is_one, λ is. h.complete d (record { below = is.slot_is; is_one = is })),
+  selected,
+)
 
 -- what is chosen of the whole list
 pub best_chosen : (t : Tables) (prefix : Prefix) (n : ℕ) (cs : List Candidate) (found : Option Candidate) → n ≡ 64 → ListsBelow t prefix n cs

@@ -94,8 +94,8 @@ pub chosen_none : (t : Tables) (seen : List (RouteKey × PathAttributes)) (e : R
     → ChosenSoFar t seen chosen → HasNoCandidate t e.0.prefix → ChosenSoFar t (seen ++ e ∷ []) chosen
 chosen_none t seen e chosen before none q =
     let at_prefix : is_at (prefix_cmp e.0.prefix) q ≡ true → HasNoCandidate t q = λ h.
-        let P : Prefix → Type 0 = λ p. HasNoCandidate t p in
-        subst P (same_place e.0.prefix q h) none in
+    let P : Prefix → Type 0 = λ p. HasNoCandidate t p in
+    subst P (same_place e.0.prefix q h) none in
     kept_at t seen e q (best_at chosen q) at_prefix (before q)
 
 put_at : (t : Tables) (seen : List (RouteKey × PathAttributes)) (e : RouteKey × PathAttributes) (c : Candidate) (q : Prefix) (b : Bool) (found : Option Candidate)

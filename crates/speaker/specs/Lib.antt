@@ -4,3 +4,4 @@ pub mod Candidates
 pub mod LocRib
 pub mod SpeakerState
 pub mod FirstRefusal
+pub mod Shown

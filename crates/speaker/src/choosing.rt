@@ -25,7 +25,12 @@ type Candidates = ArrayVec<Candidate, MAX_CANDIDATES>;
 
 /// A route of a slot as a candidate: its next hop resolves and is not this session's own address, and its
 /// path does not hold the own AS.
-pub fn candidate<A: Allocator + Clone>(conf: &Conf<A>, slot: u8, identifier: u32, attrs: &Attrs<A>) -> Option<Candidate>
+pub fn candidate<A: Allocator + Clone>(
+    conf: &Conf<A>,
+    slot: u8,
+    identifier: u32,
+    attrs: &Attrs<A>,
+) -> Option<Candidate>
     ensures { MatchOption result (MakesNone conf.now slot identifier attrs.now) (λ c. (c.slot ≡ slot) × IsCandidateOf conf.now identifier attrs.now c) }
 {
     let peer = conf.peer(slot)?;

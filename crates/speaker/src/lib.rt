@@ -14,6 +14,8 @@ mod receiving;
 mod ribs;
 mod runs;
 mod step;
+#[cfg(test)]
+mod tests;
 mod views;
 
 pub use bgp_attr::{Attrs, Mode};

@@ -23,7 +23,15 @@ pub fn take_front<A: Allocator + Clone>(
         Step::Need => Ok(None),
         Step::Faulty(_) => Ok(Some(Input::Fault)),
         Step::Message(frame, _) => {
-            let input = judge(alloc, adj_in, slot, peer, expected, link.peer.state(), frame)?;
+            let input = judge(
+                alloc,
+                adj_in,
+                slot,
+                peer,
+                expected,
+                link.peer.state(),
+                frame,
+            )?;
             Ok(Some(input))
         }
     }
@@ -43,7 +51,13 @@ fn judge<A: Allocator + Clone>(
         (MessageType::Open, State::OpenSent) => Ok(judge_open(frame.body, expected)),
         (MessageType::Open, _) => Ok(Input::Fault),
         (MessageType::Update, State::Established) => {
-            judge_update(alloc, adj_in, slot, frame.body, PeerKind::External(peer.asn))
+            judge_update(
+                alloc,
+                adj_in,
+                slot,
+                frame.body,
+                PeerKind::External(peer.asn),
+            )
         }
         (MessageType::Update, _) => Ok(Input::Update),
         (MessageType::Keepalive, _) => Ok(Input::Keepalive),

@@ -36,7 +36,12 @@ impl<A: Allocator + Clone> Ribs<A> {
     }
 
     /// Chooses the best route of each prefix again.
-    pub fn choose_all(&mut self, alloc: A, conf: &Conf<A>, links: &BTreeMap<u8, Link<A>, A>) -> Result<(), AllocError>
+    pub fn choose_all(
+        &mut self,
+        alloc: A,
+        conf: &Conf<A>,
+        links: &BTreeMap<u8, Link<A>, A>,
+    ) -> Result<(), AllocError>
         requires { AddressesDiffer conf.now.peers }
         ensures chosen { OnOk result (IsLocRib (tables conf.now links.now.entries self.old.adj_in) self.new.loc_rib.entries) }
         ensures routes { self.new.adj_in ≡ self.old.adj_in }

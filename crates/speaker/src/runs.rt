@@ -15,7 +15,11 @@ pub struct Trace<A: Allocator = Global> {
 }
 
 /// Plays events on a new speaker. Refused as `Speaker::new` is, and by 44.
-pub fn run<A: Allocator + Clone>(alloc: A, config: Config, events: &[Event<'_>]) -> Result<Trace<A>, Refusal> {
+pub fn run<A: Allocator + Clone>(
+    alloc: A,
+    config: Config,
+    events: &[Event<'_>],
+) -> Result<Trace<A>, Refusal> {
     let Ok(for_speaker) = alloc.clone() else {
         return Err(Refusal::NoMemory);
     };

@@ -44,12 +44,12 @@ impl<A: Allocator> Model for Speaker<A> {
     ghost Value = { SpeakerState };
 
     ghost view = { λ s. record {
-        config = s.config;
-        conf = s.conf;
-        links = s.links.entries;
-        adj_in = s.ribs.adj_in;
-        loc_rib = s.ribs.loc_rib.entries;
-        stopped = s.stopped;
+      config = s.config;
+      conf = s.conf;
+      links = s.links.entries;
+      adj_in = s.ribs.adj_in;
+      loc_rib = s.ribs.loc_rib.entries;
+      stopped = s.stopped;
     } };
 
     ghost invariant = { λ s. AddressesDiffer s.conf.peers };
@@ -226,7 +226,12 @@ impl<A: Allocator + Clone> Speaker<A> {
         }
     }
 
-    fn add_peer(&mut self, command: &Command<'_>, slot: u8, conf: &PeerConf<'_>) -> Result<(), AllocError>
+    fn add_peer(
+        &mut self,
+        command: &Command<'_>,
+        slot: u8,
+        conf: &PeerConf<'_>,
+    ) -> Result<(), AllocError>
         requires { first_refusal self.old.conf 0 command.now ≡ None }
         ensures { OnErr result (IsAsBefore self.old self.new) }
     {
@@ -318,7 +323,14 @@ impl<A: Allocator + Clone> Speaker<A> {
         let Some(link) = self.links.get(&slot) else {
             return Ok(());
         };
-        let heard = take_front(&self.alloc, &mut self.ribs.adj_in, slot, &peer, expected, link)?;
+        let heard = take_front(
+            &self.alloc,
+            &mut self.ribs.adj_in,
+            slot,
+            &peer,
+            expected,
+            link,
+        )?;
         if let Some(input) = heard {
             self.input(slot, input);
         }
@@ -337,7 +349,8 @@ impl<A: Allocator + Clone> Speaker<A> {
     fn settle(&mut self) -> Result<(), AllocError>
         ensures { OnOk result (IsLocRib (tables_of self.new) self.new.loc_rib) }
     {
-        self.ribs.choose_all(self.alloc.clone()?, &self.conf, &self.links)?;
+        self.ribs
+            .choose_all(self.alloc.clone()?, &self.conf, &self.links)?;
         self.queue_updates()
     }
 
@@ -378,7 +391,11 @@ impl<A: Allocator + Clone> Speaker<A> {
 }
 
 // Makes a slot what it was before it was written.
-fn put_back<A: Allocator + Clone>(links: &mut BTreeMap<u8, Link<A>, A>, slot: u8, before: Option<Link<A>>)
+fn put_back<A: Allocator + Clone>(
+    links: &mut BTreeMap<u8, Link<A>, A>,
+    slot: u8,
+    before: Option<Link<A>>,
+)
     requires { IsSome (link_at links.old.entries slot) }
     ensures { (s : ℕ) → link_at links.new.entries s ≡ (if is_at (nat_cmp slot) s then before else link_at links.old.entries s) }
 {

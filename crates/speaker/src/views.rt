@@ -1,4 +1,9 @@
 //! The views of a speaker: its sessions and tables, as operators see them.
+ghost use Rattle.std.specs.Prelude.{◌≡◌, map};
+ghost use Rattle.std.specs.Option.{option_map};
+ghost use Rattle.std.specs.Iterator.{YieldsFirst, item_count};
+ghost use Rattle.speaker.specs.Tables.{session_at};
+ghost use Rattle.speaker.specs.Shown.{shown_of, transport_at};
 
 use crate::link::Link;
 use crate::queueing::{Octets, export};
@@ -10,6 +15,7 @@ use export_rules::ExportPeer;
 use net_prefix::{Prefix, Transport};
 use std::alloc::{Allocator, Global};
 use std::collections::btree_map;
+use std::marker::Model;
 use std::ops::Bound;
 
 /// A row of Loc-RIB: a prefix, the slot of its best route, and that route's degree of preference.
@@ -26,8 +32,22 @@ pub struct LocRib<'a> {
     pub(crate) routes: btree_map::Iter<'a, Prefix, Candidate>,
 }
 
+impl<'a> Model for LocRib<'a> {
+    ghost use Rattle.std.specs.Prelude.{List};
+    ghost use Rattle.decision.specs.declared.candidate.Candidate.{Candidate};
+    ghost use Rattle.net_prefix.specs.declared.prefix.Prefix.{Prefix};
+
+    ghost Value = { List (Prefix × Candidate) };
+
+    ghost view = { λ routes. routes.routes };
+}
+
 impl Iterator for LocRib<'_> {
     type Item = BestRoute;
+
+    ghost next_gives = { YieldsFirst (λ rest. map shown_of rest) };
+
+    ghost remaining = { item_count (λ rest. map shown_of rest) };
 
     fn next(&mut self) -> Option<BestRoute> {
         let (prefix, route) = self.routes.next()?;
@@ -160,13 +180,17 @@ impl<'a, A: Allocator + Clone> Waiting<'a, A> {
 
 impl<A: Allocator + Clone> Speaker<A> {
     /// The state of a slot's session; none where the slot isn't configured.
-    pub fn session(&self, slot: u8) -> Option<State> {
+    pub fn session(&self, slot: u8) -> Option<State>
+        ensures { result ≡ option_map (λ s. s.state) (session_at self.now.links slot) }
+    {
         let link = self.links.get(&slot)?;
         Some(link.peer.state())
     }
 
     /// What the transport of a slot is asked to do; `Transport::None` where the slot isn't configured.
-    pub fn transport(&self, slot: u8) -> Transport {
+    pub fn transport(&self, slot: u8) -> Transport
+        ensures { result ≡ transport_at (session_at self.now.links slot) }
+    {
         match self.links.get(&slot) {
             Some(link) => link.peer.transport(),
             None => Transport::None,
@@ -174,7 +198,9 @@ impl<A: Allocator + Clone> Speaker<A> {
     }
 
     /// Loc-RIB in rising order.
-    pub fn loc_rib(&self) -> LocRib<'_> {
+    pub fn loc_rib(&self) -> LocRib<'_>
+        ensures { result ≡ self.now.loc_rib }
+    {
         LocRib {
             routes: self.ribs.loc_rib.iter(),
         }

@@ -13,10 +13,10 @@ push-requires g c =
 pub loop-slot-preserved : goal.loop-slot-preserved
 loop-slot-preserved g c =
     elim c.match-candidate_at.branch [
-      in-Some w ↦
-        rw (w.candidates-is, w.push.ensures.items)
-            (ListsBelow-push _ _ c.loop-slot.slot c.loop-slot.candidates.items w.in-Some.route c.requires c.loop-slot.invariant w.in-Some.ensures)
-    | in_default w ↦ rw w.candidates-is (ListsBelow-same _ _ c.loop-slot.slot c.loop-slot.candidates.items c.loop-slot.invariant w.in_default.ensures)
+      | in-Some w ↦
+          rw (w.candidates-is, w.push.ensures.items)
+          (ListsBelow-push _ _ c.loop-slot.slot c.loop-slot.candidates.items w.in-Some.route c.requires c.loop-slot.invariant w.in-Some.ensures)
+      | in_default w ↦ rw w.candidates-is (ListsBelow-same _ _ c.loop-slot.slot c.loop-slot.candidates.items c.loop-slot.invariant w.in_default.ensures)
     ]
 
 pub choose-requires-clause-distinct : goal.choose-requires-clause-distinct

@@ -9,4 +9,4 @@ returns g c =
     let told : c.identifier.result ≡ c.in_ok-link.link.now.peer.session.identifier = rw (← c.link.view_is) c.identifier.ensures in
     let found : session_at c.args.links.now.entries c.args.slot ≡ Some c.in_ok-link.link.now.peer.session = ap (option_map (λ l. l.peer.session)) (sym c.in_ok-link.ensures.value) in
     candidate_made (tables c.args.conf.now c.args.links.now.entries c.args.adj_in.now) c.args.prefix c.args.slot c.identifier.result
-        c.in_ok-link.link.now.peer.session c.in_ok-attrs.attrs.now c.candidate.result c.requires found (sym c.in_ok-attrs.ensures) told c.candidate.ensures
+    c.in_ok-link.link.now.peer.session c.in_ok-attrs.attrs.now c.candidate.result c.requires found (sym c.in_ok-attrs.ensures) told c.candidate.ensures

@@ -1,0 +1,19 @@
+use Rattle.std.specs.Prelude.{Option, Some, None}
+use Rattle.bgp_fsm.specs.Transports.{transport_of}
+use Rattle.bgp_fsm.specs.declared.session.Session.{Session}
+use Rattle.decision.specs.declared.candidate.Candidate.{Candidate}
+use Rattle.net_prefix.specs.declared.prefix.Prefix.{Prefix}
+use Rattle.net_prefix.specs.declared.transport.Transport.{Transport}
+use Rattle.net_prefix.specs.declared.transport.Transport.TheVariants.{None as NoConnection}
+use Rattle.speaker.specs.declared.views.BestRoute.{BestRoute}
+
+-- What operators see of the tables.
+
+-- a row of Loc-RIB
+abbrev pub shown_of : Prefix × Candidate → BestRoute
+shown_of entry = record { prefix = entry.0; slot = entry.1.slot; degree = entry.1.degree }
+
+-- the transport of a session; a slot that isn't configured has none
+abbrev pub transport_at : Option Session → Transport
+transport_at None = NoConnection
+transport_at (Some session) = transport_of session
