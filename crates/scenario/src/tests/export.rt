@@ -1,7 +1,5 @@
 //! What is announced, and what waits.
 
-ghost use Rattle.std.specs.Prelude.{◌<◌};
-
 use super::transcript::{BOTH_COME_UP, MARKER, TWO_PEERS, Transcript, plays};
 use std::alloc::{AllocError, Global};
 use std::test::Fail;
@@ -37,21 +35,12 @@ const ANNOUNCED: u16 = 2000;
 
 const QUEUED: u16 = 1125;
 
-const IN_ONE_UPDATE: u16 = 125;
-
-fn announce(transcript: &mut Transcript, update: u16) -> Result<(), AllocError>
-    requires { update < 16 }
-{
+fn announce(transcript: &mut Transcript, index: u16) -> Result<(), AllocError> {
     let attributes = "4001010040020602010000FDE9400304C000020B";
-    write!(
+    writeln!(
         transcript.script,
-        "bytes 0 {MARKER}021F0200000014{attributes}"
+        "bytes 0 {MARKER}002F0200000014{attributes}180A{index:04X}"
     )?;
-    let first = update * IN_ONE_UPDATE;
-    for index in first..first + IN_ONE_UPDATE {
-        write!(transcript.script, "180A{index:04X}")?;
-    }
-    writeln!(transcript.script, "")?;
     writeln!(transcript.told, "ok")
 }
 
@@ -73,8 +62,8 @@ fn take_some(transcript: &mut Transcript, count: u16, octets: &str) -> Result<()
 fn a_full_ring_lets_prefixes_wait(rt: HostRuntime) -> Result<(), Fail> {
     let alloc = rt.alloc();
     let mut transcript = Transcript::read(alloc, &[TWO_PEERS, BOTH_COME_UP])?;
-    for update in 0..16 {
-        announce(&mut transcript, update)?;
+    for index in 0..ANNOUNCED {
+        announce(&mut transcript, index)?;
     }
     show_waiting(&mut transcript, QUEUED)?;
     // 30 octets taken leave 8,191 free: nothing is queued. One more makes room for the next UPDATE.
