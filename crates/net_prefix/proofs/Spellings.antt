@@ -3,7 +3,7 @@ use Rattle.std.proofs.Math.Seq.{take-append_seam}
 use Rattle.std.proofs.lemmas.List.{length-take-le}
 use Rattle.std.proofs.lemmas.Nat.{mod-pow-add, div-add-mod'}
 use Rattle.net_prefix.specs.declared.fault.PrefixFault.{PrefixFault}
-use Rattle.net_prefix.specs.declared.fault.PrefixFault.TheVariants.{LenOver32, HostBits, Text, Cut}
+use Rattle.net_prefix.specs.declared.fault.PrefixFault.TheVariants.{LenOver32, HostBits, Text, MaxRange, Cut}
 use Rattle.net_prefix.specs.declared.prefix.Prefix.{Prefix}
 use Rattle.net_prefix.specs.Cover.{masked_bits, block_size}
 use Rattle.net_prefix.specs.PrefixFaults.{IsPrefix}
@@ -60,6 +60,7 @@ reads_again bits len rest (Ok found) small h reads =
 reads_again bits len rest (Err LenOver32) small h reads = omega (arith, h.0, reads.1)
 reads_again bits len rest (Err HostBits) small h reads = reads
 reads_again bits len rest (Err Text) small h reads = reads
+reads_again bits len rest (Err MaxRange) small h reads = reads
 reads_again bits len rest (Err Cut) small h reads =
     let whole = length-append (spelling_of bits len) rest in
     omega (arith, reads.1, whole, length_kept bits len h.0)

@@ -4,7 +4,7 @@ use Rattle.std.specs.declared.net.ipv4_addr.Ipv4Addr.{Ipv4Addr}
 use Rattle.std.proofs.NetLemmas.Theorems.{IsIpv4Text_unique}
 use Rattle.std.proofs.lemmas.Fmt.{decimal_injective}
 use Rattle.net_prefix.specs.declared.fault.PrefixFault.{PrefixFault}
-use Rattle.net_prefix.specs.declared.fault.PrefixFault.TheVariants.{LenOver32, HostBits, Text, Cut}
+use Rattle.net_prefix.specs.declared.fault.PrefixFault.TheVariants.{LenOver32, HostBits, Text, MaxRange, Cut}
 use Rattle.net_prefix.specs.declared.prefix.Prefix.{Prefix}
 use Rattle.net_prefix.specs.Cover.{HasNoHostBits}
 use Rattle.net_prefix.specs.PrefixFaults.{IsPrefix}
@@ -57,4 +57,5 @@ parses_again bits len (Err HostBits) small h found =
     let P : ℕ → ℕ → Type 0 = λ b l. HasNoHostBits b l in
     found.3.1 (rw (same.0, same.1) h.1)
 parses_again bits len (Err Text) small h found = found bits len (small, omega (arith, h.0), refl)
+parses_again bits len (Err MaxRange) small h found = found
 parses_again bits len (Err Cut) small h found = found

@@ -1,5 +1,10 @@
 pub mod Cover
+pub mod MaxLengths
+pub mod PayloadOrder
+pub mod PayloadSets
+pub mod PayloadText
 pub mod PrefixFaults
 pub mod PrefixNumbers
+pub mod PrefixOrder
 pub mod PrefixSpelling
 pub mod PrefixText

@@ -1,6 +1,6 @@
 use Rattle.std.specs.Prelude.{◌≤◌, ◌<◌, ℕ}
 use Rattle.net_prefix.specs.declared.fault.PrefixFault.{PrefixFault}
-use Rattle.net_prefix.specs.declared.fault.PrefixFault.TheVariants.{LenOver32, HostBits, Text, Cut}
+use Rattle.net_prefix.specs.declared.fault.PrefixFault.TheVariants.{LenOver32, HostBits, Text, MaxRange, Cut}
 use Rattle.net_prefix.specs.Cover.{HasNoHostBits}
 
 -- When an address and a length are a prefix (RFC 4632 section 3.1).
@@ -14,4 +14,5 @@ abbrev pub IsNoPrefix : ℕ → ℕ → PrefixFault → Type 0
 IsNoPrefix bits len LenOver32 = 32 < len
 IsNoPrefix bits len HostBits = (len ≤ 32) × ¬ (HasNoHostBits bits len)
 IsNoPrefix bits len Text = ⊥
+IsNoPrefix bits len MaxRange = ⊥
 IsNoPrefix bits len Cut = ⊥

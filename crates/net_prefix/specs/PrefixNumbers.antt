@@ -1,6 +1,6 @@
 use Rattle.std.specs.Prelude.{ℕ}
 use Rattle.net_prefix.specs.declared.fault.PrefixFault.{PrefixFault}
-use Rattle.net_prefix.specs.declared.fault.PrefixFault.TheVariants.{LenOver32, HostBits, Text, Cut}
+use Rattle.net_prefix.specs.declared.fault.PrefixFault.TheVariants.{LenOver32, HostBits, Text, MaxRange, Cut}
 
 -- The numbers of the faults (our own).
 
@@ -9,4 +9,5 @@ abbrev pub number_of : PrefixFault → ℕ
 number_of LenOver32 = 1
 number_of HostBits = 2
 number_of Text = 3
+number_of MaxRange = 4
 number_of Cut = 9

@@ -1,6 +1,6 @@
 use Rattle.std.specs.Prelude.{◌≡◌, ◌≤◌, ◌<◌, ◌+◌, ◌*◌, ◌/◌, ◌%◌, ◌^◌, ℕ, List, [], ◌∷◌, length, take, drop, slice_index, Result, MatchResult}
 use Rattle.net_prefix.specs.declared.fault.PrefixFault.{PrefixFault}
-use Rattle.net_prefix.specs.declared.fault.PrefixFault.TheVariants.{LenOver32, HostBits, Text, Cut}
+use Rattle.net_prefix.specs.declared.fault.PrefixFault.TheVariants.{LenOver32, HostBits, Text, MaxRange, Cut}
 use Rattle.net_prefix.specs.declared.prefix.Prefix.{Prefix}
 use Rattle.net_prefix.specs.Cover.{masked_bits}
 
@@ -36,6 +36,7 @@ abbrev pub BeginsWithNone : List ℕ → PrefixFault → Type 0
 BeginsWithNone octets LenOver32 = (0 < length octets) × (32 < slice_index octets 0)
 BeginsWithNone octets HostBits = ⊥
 BeginsWithNone octets Text = ⊥
+BeginsWithNone octets MaxRange = ⊥
 BeginsWithNone octets Cut =
     (slice_index octets 0 ≤ 32) × (length octets < 1 + octets_for (slice_index octets 0))
 

@@ -1,7 +1,7 @@
 use Rattle.std.specs.Prelude.{◌≡◌, ◌≢◌, ◌<◌, ◌^◌, ◌++◌, ℕ, List, Option, codes, decimal, Result, MatchOption, MatchResult}
 use Rattle.std.specs.Net.Text.{ipv4_text}
 use Rattle.net_prefix.specs.declared.fault.PrefixFault.{PrefixFault}
-use Rattle.net_prefix.specs.declared.fault.PrefixFault.TheVariants.{LenOver32, HostBits, Text, Cut}
+use Rattle.net_prefix.specs.declared.fault.PrefixFault.TheVariants.{LenOver32, HostBits, Text, MaxRange, Cut}
 use Rattle.net_prefix.specs.declared.prefix.Prefix.{Prefix}
 use Rattle.net_prefix.specs.PrefixFaults.{IsNoPrefix}
 use Rattle.net_prefix.specs.PrefixSpelling.{address_octets}
@@ -38,6 +38,7 @@ abbrev pub NamesNone : List ℕ → PrefixFault → Type 0
 NamesNone text LenOver32 = (bits : ℕ) × (len : ℕ) × Writes text bits len × IsNoPrefix bits len LenOver32
 NamesNone text HostBits = (bits : ℕ) × (len : ℕ) × Writes text bits len × IsNoPrefix bits len HostBits
 NamesNone text Text = (bits len : ℕ) → ¬ (Writes text bits len)
+NamesNone text MaxRange = ⊥
 NamesNone text Cut = ⊥
 
 -- the answer for a text: the prefix that it names, or why it names none

@@ -1,10 +1,10 @@
-//! Why octets or a text are no prefix.
+//! Why octets, a text or numbers are no prefix or payload.
 ghost use Rattle.std.specs.Prelude.{◌≡◌};
 ghost use Rattle.net_prefix.specs.PrefixNumbers.{number_of};
 
 use thiserror::Error;
 
-/// Why something is no prefix.
+/// Why something is no prefix or payload.
 #[derive(Clone, Copy, Debug, PartialEq, Eq, Error)]
 pub enum PrefixFault {
     #[error("the prefix is longer than 32 bits")]
@@ -13,6 +13,8 @@ pub enum PrefixFault {
     HostBits,
     #[error("the text is no prefix")]
     Text,
+    #[error("the maximum length is below the prefix length or over 32 bits")]
+    MaxRange,
     #[error("the octets end within the prefix")]
     Cut,
 }
@@ -26,6 +28,7 @@ impl PrefixFault {
             PrefixFault::LenOver32 => 1,
             PrefixFault::HostBits => 2,
             PrefixFault::Text => 3,
+            PrefixFault::MaxRange => 4,
             PrefixFault::Cut => 9,
         }
     }

@@ -1,6 +1,7 @@
 //! Prefixes from outside, in each of their three forms.
 
-use crate::{Asn, Prefix, PrefixFault, read_prefix};
+use crate::{Asn, Prefix, PrefixFault, Vrp, read_prefix};
+use std::collections::BTreeSet;
 use std::test::Fail;
 
 // A text, the address and length that it names, and the octets of these.
@@ -94,6 +95,51 @@ fn numbers_are_printed(rt: HostRuntime) -> Result<(), Fail> {
     assert_eq!(rt; PrefixFault::LenOver32.number(), 1);
     assert_eq!(rt; PrefixFault::HostBits.number(), 2);
     assert_eq!(rt; PrefixFault::Text.number(), 3);
+    assert_eq!(rt; PrefixFault::MaxRange.number(), 4);
     assert_eq!(rt; PrefixFault::Cut.number(), 9);
+    Ok(())
+}
+
+#[test]
+fn a_maximum_length_lies_between_the_prefix_length_and_32(rt: HostRuntime) -> Result<(), Fail> {
+    let prefix = Prefix::parse("10.0.0.0/16")?;
+    for max_len in [16, 24, 32] {
+        let payload = Vrp::new(prefix, max_len, Asn(65002))?;
+        assert_eq!(rt; payload.prefix, prefix);
+        assert_eq!(rt; payload.max_len, max_len);
+        assert_eq!(rt; payload.asn, Asn(65002));
+    }
+    for max_len in [0, 15, 33, 255] {
+        assert_eq!(rt;
+            Vrp::new(prefix, max_len, Asn(65002)),
+            Err(PrefixFault::MaxRange)
+        );
+    }
+    Ok(())
+}
+
+// Payloads in their order, with their texts.
+#[rattlefmt::skip]
+const PAYLOADS: [(&str, u8, u32, &str); 6] = [
+    ("0.0.0.0/0",   32, 0,          "0.0.0.0/0-32 AS0"),
+    ("10.0.0.0/8",  32, 65009,      "10.0.0.0/8-32 AS65009"),
+    ("10.0.0.0/16", 16, 65009,      "10.0.0.0/16-16 AS65009"),
+    ("10.0.0.0/16", 24, 65002,      "10.0.0.0/16-24 AS65002"),
+    ("10.0.0.0/16", 24, 65003,      "10.0.0.0/16-24 AS65003"),
+    ("10.0.1.0/24", 24, 4294967295, "10.0.1.0/24-24 AS4294967295"),
+];
+
+#[test]
+fn payloads_are_ordered_and_printed(rt: HostRuntime) -> Result<(), Fail> {
+    let mut set = BTreeSet::new(rt.alloc());
+    for (prefix, max_len, asn, _) in PAYLOADS.iter().rev() {
+        let payload = Vrp::new(Prefix::parse(prefix)?, *max_len, Asn(*asn))?;
+        assert_eq!(rt; set.insert(payload)?, true);
+        assert_eq!(rt; set.insert(payload)?, false);
+    }
+    for (payload, (_, _, _, text)) in set.iter().zip(PAYLOADS.iter()) {
+        assert_eq!(rt; payload.to_string(rt.alloc())?.as_str(), *text);
+    }
+    assert_eq!(rt; set.len(), PAYLOADS.len());
     Ok(())
 }

@@ -1,11 +1,13 @@
-//! The text of a prefix, as `10.0.0.0/16` (RFC 4632 section 3.1).
+//! The texts of a prefix, as `10.0.0.0/16` (RFC 4632 section 3.1), and of a payload, as `10.0.0.0/16-24 AS65002`.
 ghost use Rattle.std.specs.Prelude.{◌≡◌, ◌≢◌, ◌<◌, ◌+◌, ◌^◌, ℕ, MatchOption, Result, Some};
 ghost use Rattle.net_prefix.specs.PrefixText.{Parses, ParsesAgain, WritesAddress, WritesLength, WritesParts, text_of};
+ghost use Rattle.net_prefix.specs.PayloadText.{payload_text};
 ghost use Rattle.net_prefix.specs.PrefixFaults.{IsPrefix};
 ghost use Rattle.net_prefix.specs.declared.prefix.Prefix.{Prefix};
 ghost use Rattle.net_prefix.specs.declared.fault.PrefixFault.{PrefixFault};
 
 use crate::fault::PrefixFault;
+use crate::payload::Vrp;
 use crate::prefix::Prefix;
 use std::fmt;
 use std::net::Ipv4Addr;
@@ -31,6 +33,17 @@ impl fmt::Display for Prefix {
         let address = Ipv4Addr::from_bits(self.bits);
         let len = self.len;
         write!(f, "{address}/{len}")
+    }
+}
+
+impl fmt::Display for Vrp {
+    ghost output = { λ vrp. Some (payload_text vrp) };
+
+    fn fmt<W: fmt::Write>(&self, f: &mut fmt::Formatter<W>) -> fmt::Result {
+        let prefix = self.prefix;
+        let max_len = self.max_len;
+        let asn = self.asn;
+        write!(f, "{prefix}-{max_len} {asn}")
     }
 }
 
