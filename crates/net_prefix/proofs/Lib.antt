@@ -1,4 +1,5 @@
 pub mod Decimals
+pub mod PayloadSets
 pub mod Prefixes
 pub mod Spellings
 pub mod Texts

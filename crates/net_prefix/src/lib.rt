@@ -11,6 +11,7 @@
 mod asn;
 mod fault;
 mod payload;
+mod payload_set;
 mod prefix;
 mod spelling;
 #[cfg(test)]
@@ -21,6 +22,7 @@ mod transport;
 pub use asn::Asn;
 pub use fault::PrefixFault;
 pub use payload::Vrp;
+pub use payload_set::{payloads_are_ordered, sets_are_their_members};
 pub use prefix::Prefix;
 pub use spelling::{read_prefix, written_is_read};
 pub use text::printed_is_parsed;
