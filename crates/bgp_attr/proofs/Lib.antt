@@ -1,3 +1,6 @@
 mod Appendings
+mod Faults
 mod PathLemmas
+mod Paths
+mod Splits
 mod Spreading

@@ -1,8 +1,11 @@
 pub mod Appending
 pub mod AsPath
 pub mod AttributeFaults
+pub mod AttributeReading
 pub mod AttributeSpelling
 pub mod AttributeTable
 pub mod PathAttributes
+pub mod PathReading
+pub mod ReceivedAttributes
 pub mod Spread
 pub mod Written

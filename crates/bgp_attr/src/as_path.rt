@@ -3,6 +3,7 @@ ghost use Rattle.std.specs.Prelude.{◌≡◌, ◌≤◌, ◌<◌, ◌==◌, len
 ghost use Rattle.std.specs.List.{list_any};
 ghost use Rattle.bgp_attr.specs.AsPath.{PathSegment, path_octets, path_length_of, counted, has_as, last_as, origin_as_of, neighbor_as_of, first_as};
 ghost use Rattle.bgp_attr.specs.AttributeSpelling.{kind_octet};
+ghost use Rattle.bgp_attr.specs.PathReading.{kind_at};
 
 use net_prefix::Asn;
 use std::alloc::{Allocator, Global};
@@ -19,7 +20,9 @@ pub enum SegmentKind {
 
 impl SegmentKind {
     // The kind that has this octet.
-    pub(crate) fn from_octet(octet: u8) -> Option<SegmentKind> {
+    pub(crate) fn from_octet(octet: u8) -> Option<SegmentKind>
+        ensures { result ≡ kind_at octet }
+    {
         match octet {
             1 => Some(SegmentKind::Set),
             2 => Some(SegmentKind::Sequence),

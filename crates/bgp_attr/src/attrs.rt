@@ -62,12 +62,17 @@ impl<A: Allocator> Model for Attrs<A> {
 }
 
 impl<A: Allocator> Attrs<A> {
-    // No attributes yet.
-    pub(crate) fn none() -> Self {
+    pub(crate) fn new(
+        origin: Option<Origin>,
+        as_path: Option<AsPath<A>>,
+        next_hop: Option<u32>,
+    ) -> Self
+        ensures { result ≡ record { origin = origin; as_path = as_path; next_hop = next_hop } }
+    {
         Attrs {
-            origin: None,
-            as_path: None,
-            next_hop: None,
+            origin,
+            as_path,
+            next_hop,
         }
     }
 
@@ -120,26 +125,5 @@ impl<A: Allocator> Attrs<A> {
             },
             next_hop: self.next_hop,
         }
-    }
-
-    // Whether an attribute of this type came.
-    pub(crate) fn has(&self, kind: AttributeType) -> bool {
-        match kind {
-            AttributeType::Origin => self.origin.is_some(),
-            AttributeType::AsPath => self.as_path.is_some(),
-            AttributeType::NextHop => self.next_hop.is_some(),
-        }
-    }
-
-    pub(crate) fn set_origin(&mut self, origin: Origin) {
-        self.origin = Some(origin);
-    }
-
-    pub(crate) fn set_as_path(&mut self, path: AsPath<A>) {
-        self.as_path = Some(path);
-    }
-
-    pub(crate) fn set_next_hop(&mut self, next_hop: u32) {
-        self.next_hop = Some(next_hop);
     }
 }

@@ -1,12 +1,15 @@
 //! What is wrong with an UPDATE (RFC 4271 section 6.3).
 ghost use Rattle.std.specs.Prelude.{◌≡◌};
-ghost use Rattle.bgp_attr.specs.AttributeFaults.{code_of, subcode_of, data_of};
+ghost use Rattle.bgp_attr.specs.AttributeFaults.{code_of, data_of, number_of, subcode_of};
 
 use crate::attribute_type::AttributeType;
 use std::alloc::{AllocError, AllocFailed};
 use thiserror::Error;
 
 const UPDATE_MESSAGE_ERROR: u8 = 3;
+
+// Own choice: the number of the refusals.
+const NO_MEMORY: u8 = 21;
 
 /// Why an UPDATE cannot be taken. A slice is the whole attribute as it came: flags, code, length and value.
 #[derive(Clone, Copy, Debug, PartialEq, Eq, Error)]
@@ -83,6 +86,16 @@ impl UpdateFault<'_> {
             UpdateFault::MalformedAsPath => Some(11),
             UpdateFault::UnsupportedAttribute(_) => None,
             UpdateFault::NoMemory => None,
+        }
+    }
+
+    /// The number by which operators know the fault: want of memory alone has one.
+    pub fn number(&self) -> Option<u8>
+        ensures { result ≡ number_of self.now }
+    {
+        match self {
+            UpdateFault::NoMemory => Some(NO_MEMORY),
+            _ => None,
         }
     }
 

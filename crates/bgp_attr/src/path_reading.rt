@@ -1,104 +1,160 @@
 //! Reading an AS_PATH (RFC 4271 section 4.3, RFC 6793).
-ghost use Rattle.std.specs.Prelude.{◌≡◌, ◌<◌, ◌≤◌, ◌+◌, ◌*◌, ◌^◌, length, IfOk};
-ghost use Rattle.bgp_attr.specs.AsPath.{path_octets, segment_octets};
+ghost use Rattle.std.specs.Prelude.{◌≡◌, List, ◌<◌, ◌≤◌, ◌^◌, length, is_some, IfOk, OnErr, IfSome};
+ghost use Rattle.std.specs.Option.{option_map};
+ghost use Rattle.bgp_attr.specs.AttributeReading.{segment_of, path_items};
+ghost use Rattle.bgp_attr.specs.AsPath.{PathSegment};
+ghost use Rattle.bgp_attr.specs.PathReading as reading;
+ghost use Rattle.bgp_attr.specs.PathReading.{asns_in, has_zero, is_malformed_path, path_at, segment_at};
 
 use crate::as_path::{AsPath, Segment, SegmentKind};
-use crate::fault::UpdateFault;
 use crate::peer::PeerKind;
 use net_prefix::Asn;
-use std::alloc::Allocator;
+use std::alloc::{AllocError, Allocator};
 
-// The path that these octets are, from a peer of this kind.
-pub(crate) fn read_as_path<'a, A: Allocator + Clone>(
-    alloc: A,
-    octets: &'a [u8],
-    kind: PeerKind,
-) -> Result<AsPath<A>, UpdateFault<'a>>
-    requires { length octets.now < 2 ^ 16 }
+// A segment whose end is known.
+#[derive(Clone, Copy)]
+pub(crate) struct RawSegment<'a> {
+    pub kind: SegmentKind,
+    // Four octets for each AS.
+    pub asns: &'a [u8],
+}
+
+// Whether the octets are no AS_PATH of such a peer.
+pub(crate) fn is_malformed(octets: &[u8], kind: PeerKind) -> bool
+    ensures { result ≡ is_malformed_path kind octets.now }
 {
-    let segments = read_segments(alloc, octets)?;
-    if let PeerKind::External(peer) = kind
-        && !begins_with(segments.as_slice(), peer)
-    {
-        return Err(UpdateFault::MalformedAsPath);
-    }
-    Ok(AsPath::new(segments))
+    !is_path(octets) || !begins_right(octets, kind)
 }
 
-// Whether the segments begin with an AS_SEQUENCE whose first AS is this one.
-fn begins_with<A: Allocator>(segments: &[Segment<A>], asn: Asn) -> bool {
-    match segments {
-        [first, ..] => first.kind() == SegmentKind::Sequence && first.asns().first() == Some(&asn),
-        [] => false,
+fn is_path(octets: &[u8]) -> bool
+    ensures { result ≡ is_some (path_at octets.now) }
+{
+    let mut rest = octets;
+    while !rest.is_empty() {
+        let Some((_, behind)) = split_segment(rest) else {
+            return false;
+        };
+        rest = behind;
+    }
+    true
+}
+
+// Whether the path that the octets are begins as that of such a peer: that of an external peer with an AS_SEQUENCE
+// whose first AS is the peer's.
+fn begins_right(octets: &[u8], kind: PeerKind) -> bool
+    ensures { (path : List PathSegment) → path_at octets.now ≡ Some path → result ≡ reading.begins_right kind path }
+{
+    match kind {
+        PeerKind::Internal => true,
+        PeerKind::External(peer) => match split_segment(octets) {
+            Some((first, _)) => is_sequence_from(first, peer),
+            None => false,
+        },
     }
 }
 
-#[tactic(auto, using(crate::proofs::PathLemmas::path_octets_append))]
-fn read_segments<'a, A: Allocator + Clone>(
+// Whether a segment is an AS_SEQUENCE that begins with the AS.
+fn is_sequence_from(segment: RawSegment<'_>, asn: Asn) -> bool
+    ensures { result ≡ reading.is_sequence_from segment.entry.kind (asns_in segment.entry.asns.now) asn }
+{
+    match segment.kind {
+        SegmentKind::Set => false,
+        SegmentKind::Sequence => match segment.asns {
+            [a, b, c, d, ..] => u32::from_be_bytes([*a, *b, *c, *d]) == asn.0,
+            _ => false,
+        },
+    }
+}
+
+// The path that these octets are.
+pub(crate) fn read_path<A: Allocator + Clone>(
     alloc: A,
-    octets: &'a [u8],
-) -> Result<Vec<Segment<A>, A>, UpdateFault<'a>>
-    ensures { IfOk result (λ segments. path_octets segments.items ≡ length octets.now) }
+    octets: &[u8],
+) -> Result<Option<AsPath<A>>, AllocError>
+    requires { length octets.now < 2 ^ 16 }
+    ensures found { IfOk result (λ path. path ≡ path_at octets.now) }
+    ensures memory { OnErr result (0 < length octets.now) }
+{
+    if octets.is_empty() {
+        return Ok(Some(AsPath::new(Vec::new(alloc))));
+    }
+    match read_segments(alloc, octets)? {
+        Some(segments) => Ok(Some(AsPath::new(segments))),
+        None => Ok(None),
+    }
+}
+
+fn read_segments<A: Allocator + Clone>(
+    alloc: A,
+    octets: &[u8],
+) -> Result<Option<Vec<Segment<A>, A>>, AllocError>
+    ensures { IfOk result (λ segments. option_map path_items segments ≡ path_at octets.now) }
 {
     let mut segments = Vec::new(alloc.clone()?);
     let mut rest = octets;
     while !rest.is_empty() {
-        let (segment, behind) = read_segment(alloc.clone()?, rest)?;
-        segments.push(segment)?;
+        let Some((segment, behind)) = split_segment(rest) else {
+            return Ok(None);
+        };
+        segments.push(read_segment(alloc.clone()?, segment)?)?;
         rest = behind;
     }
-    Ok(segments)
+    Ok(Some(segments))
 }
 
-// The segment at the front, and the octets behind it.
-fn read_segment<'a, A: Allocator>(
-    alloc: A,
-    octets: &'a [u8],
-) -> Result<(Segment<A>, &'a [u8]), UpdateFault<'a>>
-    ensures { IfOk result (λ found. segment_octets found.0 + length found.1.now ≡ length octets.now) }
+fn read_segment<A: Allocator>(alloc: A, segment: RawSegment<'_>) -> Result<Segment<A>, AllocError>
+    requires some { 4 ≤ length segment.asns.now }
+    requires few { length segment.asns.now ≤ 1020 }
+    ensures { IfOk result (λ read. read ≡ segment_of segment.entry) }
+{
+    let asns = read_asns(alloc, segment.asns)?;
+    Ok(Segment::new(segment.kind, asns))
+}
+
+fn read_asns<A: Allocator>(alloc: A, octets: &[u8]) -> Result<Vec<Asn, A>, AllocError>
+    ensures { IfOk result (λ asns. asns.items ≡ asns_in octets.now) }
+{
+    let mut asns = Vec::with_capacity(alloc, octets.len() / 4)?;
+    let mut rest = octets;
+    while let [a, b, c, d, behind @ ..] = rest {
+        asns.push(Asn(u32::from_be_bytes([*a, *b, *c, *d])))?;
+        rest = behind;
+    }
+    Ok(asns)
+}
+
+// The segment at the front, and the octets behind it; none where there is no well-formed one.
+#[tactic(auto, unfolding(crate::specs::PathReading::segment_at))]
+fn split_segment<'a>(octets: &'a [u8]) -> Option<(RawSegment<'a>, &'a [u8])>
+    ensures found { option_map (λ found. (segment_of found.0, found.1.now)) result ≡ segment_at octets.now }
+    ensures shorter { IfSome result (λ found. length found.1.now < length octets.now) }
+    ensures some { IfSome result (λ found. 4 ≤ length found.0.asns.now) }
+    ensures few { IfSome result (λ found. length found.0.asns.now ≤ 1020) }
 {
     let [kind, count, more @ ..] = octets else {
-        return Err(UpdateFault::MalformedAsPath);
+        return None;
     };
-    let Some(kind) = SegmentKind::from_octet(*kind) else {
-        return Err(UpdateFault::MalformedAsPath);
-    };
+    let kind = SegmentKind::from_octet(*kind)?;
     if *count == 0 {
-        return Err(UpdateFault::MalformedAsPath);
+        return None;
     }
-    let (asns, rest) = read_asns(alloc, *count, more)?;
-    Ok((Segment::new(kind, asns), rest))
+    let (asns, rest) = more.split_at_checked(4 * usize::from(*count))?;
+    if names_zero(asns) {
+        return None;
+    }
+    Some((RawSegment { kind, asns }, rest))
 }
 
-// So many ASes at the front, none of them 0, and the octets behind them.
-fn read_asns<'a, A: Allocator>(
-    alloc: A,
-    count: u8,
-    octets: &'a [u8],
-) -> Result<(Vec<Asn, A>, &'a [u8]), UpdateFault<'a>>
-    ensures count { IfOk result (λ found. length found.0.items ≡ count) }
-    ensures octets { IfOk result (λ found. 4 * count + length found.1.now ≡ length octets.now) }
+// Whether an AS is 0.
+fn names_zero(octets: &[u8]) -> bool
+    ensures { result ≡ has_zero (asns_in octets.now) }
 {
-    let mut asns = Vec::with_capacity(alloc, usize::from(count))?;
     let mut rest = octets;
-    for _ in 0..count {
-        let (asn, behind) = read_asn(rest)?;
-        asns.push(asn)?;
+    while let [a, b, c, d, behind @ ..] = rest {
+        if u32::from_be_bytes([*a, *b, *c, *d]) == 0 {
+            return true;
+        }
         rest = behind;
     }
-    Ok((asns, rest))
-}
-
-// The AS at the front, and the octets behind it.
-fn read_asn<'a>(octets: &'a [u8]) -> Result<(Asn, &'a [u8]), UpdateFault<'a>>
-    ensures { IfOk result (λ found. 4 + length found.1.now ≡ length octets.now) }
-{
-    let [a, b, c, d, rest @ ..] = octets else {
-        return Err(UpdateFault::MalformedAsPath);
-    };
-    let number = u32::from_be_bytes([*a, *b, *c, *d]);
-    if number == 0 {
-        return Err(UpdateFault::MalformedAsPath);
-    }
-    Ok((Asn(number), rest))
+    false
 }

@@ -1,63 +1,83 @@
 //! Reading the attributes of an UPDATE (RFC 4271 sections 4.3 and 6.3).
-ghost use Rattle.std.specs.Prelude.{◌≡◌, ◌<◌, ◌≤◌, ◌^◌, length};
+ghost use Rattle.std.specs.Prelude.{◌≡◌, MatchResult, IfOk, IfErr, OnErr, Some, None, false};
+ghost use Rattle.std.specs.Option.{option_and_then};
+ghost use Rattle.bgp_attr.specs.AttributeFaults.{Tells, attribute_tests, attributes_fault, first_fault, has_other_length, seen, type_tests, value_tests};
+ghost use Rattle.bgp_attr.specs.AttributeFaults as faults;
+ghost use Rattle.bgp_attr.specs.AttributeReading.{HasOctets, HasSegments, as_came, attributes_in, next_hop_in, origin_in};
+ghost use Rattle.bgp_attr.specs.AttributeTable.{length_of};
+ghost use Rattle.bgp_attr.specs.PathReading.{path_at};
+ghost use Rattle.bgp_attr.specs.ReceivedAttributes.{split_of};
+ghost use Rattle.bgp_attr.specs.ReceivedAttributes as received;
 
+use crate::as_path::AsPath;
 use crate::attribute_type::AttributeType;
 use crate::attrs::{Attrs, Origin};
 use crate::fault::UpdateFault;
-use crate::header::{Attribute, split_attribute};
-use crate::path_reading::read_as_path;
+use crate::header::{Attribute, split_attribute, value_of};
+use crate::path_reading::{is_malformed, read_path};
 use crate::peer::PeerKind;
-use std::alloc::Allocator;
+use std::alloc::{AllocError, Allocator};
 
 /// The attributes that these octets are, from a peer of this kind; or the first fault, from left to right. Which
-/// attributes are missing is told by [`Attrs::missing`].
+/// attributes are missing is told by [`Attrs::missing`]. Memory is taken for a path of at least one segment alone.
 pub fn read_attrs<'a, A: Allocator + Clone>(
     alloc: A,
     octets: &'a [u8],
     kind: PeerKind,
-) -> Result<Attrs<A>, UpdateFault<'a>> {
-    let mut attrs = Attrs::none();
-    let mut rest = octets;
-    while !rest.is_empty() {
-        let (attribute, behind) = split_attribute(rest)?;
-        read_attribute(alloc.clone()?, &mut attrs, attribute, kind)?;
-        rest = behind;
-    }
-    Ok(attrs)
+) -> Result<Attrs<A>, UpdateFault<'a>>
+    ensures faultless { IfOk result (λ attrs. attributes_fault kind octets.now ≡ None) }
+    ensures found { IfOk result (λ attrs. attrs ≡ attributes_in octets.now) }
+    ensures fault { IfErr result (λ fault. seen fault ≡ attributes_fault kind octets.now) }
+    ensures memory { IfErr result (λ fault. seen fault ≡ None → HasSegments (attributes_in octets.now).as_path) }
+{
+    check_attributes(octets, kind)?;
+    Ok(take_attributes(alloc, octets)?)
 }
 
-// Takes one attribute up.
-fn read_attribute<'a, A: Allocator + Clone>(
-    alloc: A,
-    attrs: &mut Attrs<A>,
-    attribute: Attribute<'a>,
-    kind: PeerKind,
-) -> Result<(), UpdateFault<'a>>
-    requires { length attribute.value.now < 2 ^ 16 }
+// Looks for the first fault.
+fn check_attributes<'a>(octets: &'a [u8], kind: PeerKind) -> Result<(), UpdateFault<'a>>
+    ensures { MatchResult result (λ _. attributes_fault kind octets.now ≡ None) (λ fault. Tells fault (attributes_fault kind octets.now)) }
 {
-    let known = known_type(attrs, attribute)?;
-    match known {
-        AttributeType::Origin => attrs.set_origin(read_origin(attribute)?),
-        AttributeType::AsPath => attrs.set_as_path(read_as_path(alloc, attribute.value, kind)?),
-        AttributeType::NextHop => attrs.set_next_hop(read_next_hop(attribute)?),
+    let mut came = [false; 256];
+    let mut rest = octets;
+    while !rest.is_empty() {
+        let Some((attribute, behind)) = split_attribute(rest) else {
+            return Err(UpdateFault::MalformedAttributeList);
+        };
+        check_attribute(came[usize::from(attribute.code)], attribute, kind)?;
+        came[usize::from(attribute.code)] = true;
+        rest = behind;
     }
     Ok(())
 }
 
-// The type of an attribute whose code, flags and length are right.
-fn known_type<'a, A: Allocator>(
-    attrs: &Attrs<A>,
+// Looks for the first fault of an attribute whose code came before, or did not.
+fn check_attribute<'a>(
+    came: bool,
     attribute: Attribute<'a>,
-) -> Result<AttributeType, UpdateFault<'a>> {
+    kind: PeerKind,
+) -> Result<(), UpdateFault<'a>>
+    ensures { MatchResult result (λ _. first_fault (attribute_tests kind came (as_came attribute.entry)) ≡ None) (λ fault. Tells fault (first_fault (attribute_tests kind came (as_came attribute.entry)))) }
+{
+    // 3/1
+    if came {
+        return Err(UpdateFault::MalformedAttributeList);
+    }
     let Some(known) = AttributeType::from_octet(attribute.code) else {
         return Err(UpdateFault::UnsupportedAttribute(attribute.whole));
     };
-    // 3/1
-    if attrs.has(known) {
-        return Err(UpdateFault::MalformedAttributeList);
-    }
+    check_known(known, attribute, kind)
+}
+
+fn check_known<'a>(
+    known: AttributeType,
+    attribute: Attribute<'a>,
+    kind: PeerKind,
+) -> Result<(), UpdateFault<'a>>
+    ensures { MatchResult result (λ _. first_fault (type_tests kind (Some known) (as_came attribute.entry)) ≡ None) (λ fault. Tells fault (first_fault (type_tests kind (Some known) (as_came attribute.entry)))) }
+{
     // 3/4
-    if attribute.class_flags != known.class().flags() {
+    if attribute.class_flags() != known.class().flags() {
         return Err(UpdateFault::AttributeFlags(attribute.whole));
     }
     // 3/5
@@ -66,20 +86,75 @@ fn known_type<'a, A: Allocator>(
     {
         return Err(UpdateFault::AttributeLength(attribute.whole));
     }
-    Ok(known)
+    check_value(known, attribute, kind)
 }
 
-fn read_origin<'a>(attribute: Attribute<'a>) -> Result<Origin, UpdateFault<'a>> {
-    match attribute.value {
-        [octet] => Origin::from_octet(*octet).ok_or(UpdateFault::InvalidOrigin(attribute.whole)),
-        _ => Err(UpdateFault::AttributeLength(attribute.whole)),
+fn check_value<'a>(
+    known: AttributeType,
+    attribute: Attribute<'a>,
+    kind: PeerKind,
+) -> Result<(), UpdateFault<'a>>
+    requires { has_other_length (length_of known) attribute.value.now ≡ false }
+    ensures { MatchResult result (λ _. first_fault (value_tests kind known (as_came attribute.entry)) ≡ None) (λ fault. Tells fault (first_fault (value_tests kind known (as_came attribute.entry)))) }
+{
+    match known {
+        // 3/6
+        AttributeType::Origin if Origin::from_octet(attribute.value[0]).is_none() => Err(
+            UpdateFault::InvalidOrigin(attribute.whole),
+        ),
+        // 3/11
+        AttributeType::AsPath if is_malformed(attribute.value, kind) => Err(
+            UpdateFault::MalformedAsPath,
+        ),
+        // 3/8
+        AttributeType::NextHop if is_no_host(attribute.value[0]) => Err(UpdateFault::InvalidNextHop(
+            attribute.whole,
+        )),
+        _ => Ok(()),
     }
 }
 
-fn read_next_hop<'a>(attribute: Attribute<'a>) -> Result<u32, UpdateFault<'a>> {
-    match attribute.value {
-        [0 | 127 | 224..=255, _, _, _] => Err(UpdateFault::InvalidNextHop(attribute.whole)),
-        [a, b, c, d] => Ok(u32::from_be_bytes([*a, *b, *c, *d])),
-        _ => Err(UpdateFault::AttributeLength(attribute.whole)),
+// Whether an address that begins with this octet is no host's.
+fn is_no_host(octet: u8) -> bool
+    ensures { result ≡ faults.is_no_host octet }
+{
+    matches!(octet, 0 | 127 | 224..=255)
+}
+
+// The attributes by their codes.
+#[tactic(auto, unfolding(crate::specs::AttributeReading::attributes_in))]
+fn take_attributes<A: Allocator + Clone>(alloc: A, octets: &[u8]) -> Result<Attrs<A>, AllocError>
+    ensures found { IfOk result (λ attrs. attrs ≡ attributes_in octets.now) }
+    ensures memory { OnErr result (HasOctets (received.value_of 2 (split_of octets.now).0)) }
+{
+    let as_path = path_of(alloc, octets)?;
+    Ok(Attrs::new(origin_of(octets), as_path, next_hop_of(octets)))
+}
+
+fn origin_of(octets: &[u8]) -> Option<Origin>
+    ensures { result ≡ option_and_then origin_in (received.value_of 1 (split_of octets.now).0) }
+{
+    match value_of(octets, AttributeType::Origin.octet())? {
+        [octet] => Origin::from_octet(*octet),
+        _ => None,
+    }
+}
+
+fn path_of<A: Allocator + Clone>(alloc: A, octets: &[u8]) -> Result<Option<AsPath<A>>, AllocError>
+    ensures found { IfOk result (λ path. path ≡ option_and_then path_at (received.value_of 2 (split_of octets.now).0)) }
+    ensures memory { OnErr result (HasOctets (received.value_of 2 (split_of octets.now).0)) }
+{
+    match value_of(octets, AttributeType::AsPath.octet()) {
+        Some(value) => read_path(alloc, value),
+        None => Ok(None),
+    }
+}
+
+fn next_hop_of(octets: &[u8]) -> Option<u32>
+    ensures { result ≡ option_and_then next_hop_in (received.value_of 3 (split_of octets.now).0) }
+{
+    match value_of(octets, AttributeType::NextHop.octet())? {
+        [a, b, c, d] => Some(u32::from_be_bytes([*a, *b, *c, *d])),
+        _ => None,
     }
 }

@@ -1,5 +1,9 @@
-use Rattle.std.proofs.Common.{◌≡◌, ◌+◌, ◌*◌, length}
+use Rattle.std.proofs.Common.{◌≡◌, ◌++◌, length}
+use Rattle.bgp_attr.specs.PathReading.{asns_in}
 use Rattle.bgp_attr.proofs.path_reading.read_asns.Given as goal
 
-abbrev pub invariant-loop : goal.invariant-loop
-invariant-loop g l = (length l.asns.items ≡ l.counter) × (4 * l.counter + length l.rest ≡ length l.octets)
+abbrev pub invariant-loop-rest : goal.invariant-loop-rest
+invariant-loop-rest g l = l.asns.items ++ asns_in l.rest ≡ asns_in l.octets
+
+abbrev pub decreases-loop-rest : goal.decreases-loop-rest
+decreases-loop-rest g l = length l.rest
