@@ -1,2 +1,6 @@
 pub mod OpenParts
 pub mod PrefixLists
+pub mod ReaderAnswers
+pub mod StreamPieces
+pub mod Streams
+pub mod Spellings

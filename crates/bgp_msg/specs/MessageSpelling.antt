@@ -48,6 +48,10 @@ marker = 255 ∷ 255 ∷ 255 ∷ 255 ∷ 255 ∷ 255 ∷ 255 ∷ 255 ∷ 255 ∷
 unfoldable pub header_of : MessageType → ℕ → List ℕ
 header_of kind told = marker ++ to_be_bytes w16 told ++ kind_octet kind ∷ []
 
+-- a message: its header, and its body
+unfoldable pub message_of : MessageType → List ℕ → List ℕ
+message_of kind body = header_of kind (19 + length body) ++ body
+
 -- the capability of AS numbers of four octets (RFC 6793 section 3)
 abbrev pub four_octet_as_capability : ℕ → List ℕ
 four_octet_as_capability asn = 65 ∷ 4 ∷ to_be_bytes w32 asn

@@ -1,16 +1,103 @@
-use Rattle.std.specs.Prelude.{◌≡◌, ◌⊎◌, ◌<◌, ◌≤◌, ℕ, ◌+◌, ◌-◌, true, nat_lt, if◌then◌else◌, List, [], Option, Some, None, MatchOption, length, slice_index, slice_range}
+use Rattle.std.specs.Prelude.{◌≡◌, ◌⊎◌, ◌<◌, ◌≤◌, ℕ, ◌+◌, ◌-◌, ◌==◌, true, nat_lt, if◌then◌else◌, List, [], ◌∷◌, ◌++◌, Option, Some, None, MatchOption, take, drop, length, slice_index, slice_range}
+use Rattle.std.specs.Option.{option_map}
 use Rattle.net_prefix.specs.declared.prefix.Prefix.{Prefix}
 use Rattle.bgp_attr.specs.PathAttributes.{PathAttributes, missing_of}
 use Rattle.bgp_attr.specs.declared.fault.UpdateFault.{UpdateFault}
 use Rattle.bgp_attr.specs.declared.fault.UpdateFault.TheVariants.{MalformedAttributeList, InvalidNetworkField}
 use Rattle.net_prefix.specs.PrefixSpelling.{BeginsWith, octets_for}
 use Rattle.bgp_msg.specs.declared.fault.HeaderFault.{HeaderFault}
+use Rattle.bgp_msg.specs.declared.frame.MessageType.{MessageType}
 use Rattle.bgp_msg.specs.declared.frame.Step.{Step}
 use Rattle.bgp_msg.specs.declared.frame.Step.TheVariants.{Need, Message, Faulty}
-use Rattle.bgp_msg.specs.MessageSpelling.{kind_at, told_length, behind_prefix, are_prefixes_in, update_parts}
+use Rattle.bgp_msg.specs.MessageSpelling.{kind_at, told_length, message_of, behind_prefix, are_prefixes_in, update_parts}
 use Rattle.bgp_msg.specs.MessageFaults.{header_fault}
 
--- What stands at the front of a stream of octets (RFC 4271 sections 4.1 and 6.1).
+-- The messages of a stream of octets (RFC 4271 sections 4.1 and 6.1). The pieces in which the octets come are no
+-- part of it.
+
+-- what a stream holds: whole messages, each its type and the octets behind its header, and at the end perhaps a header that begins none
+pub data Item : Type 0 where
+  WholeMessage : (kind : MessageType) (body : List ℕ) → Item
+  FaultyHeader : (fault : HeaderFault) → Item
+
+-- the octets are this message, from the first to the last: a header without a fault, and as many octets as it tells
+pub record IsMessage (octets : List ℕ) (kind : MessageType) (body : List ℕ) : Type 0 where
+  pub whole_header : 19 ≤ length octets
+  pub sound : header_fault octets ≡ None
+  pub kind_is : kind_at (slice_index octets 18) ≡ Some kind
+  pub length_is : length octets ≡ told_length octets
+  pub body_is : body ≡ drop 19 octets
+
+-- no whole message stands at the front, and no faulty header
+pub record HasNoItem (octets : List ℕ) : Type 0 where
+  pub no_message : (front back : List ℕ) (kind : MessageType) (body : List ℕ) → octets ≡ front ++ back → ¬ (IsMessage front kind body)
+  pub no_fault : 19 ≤ length octets → header_fault octets ≡ None
+
+-- the stream is these messages one after another, and then the rest: with no item at its front, or with the header fault that ends the stream
+abbrev pub Splits : List ℕ → List Item → List ℕ → Type 0
+Splits stream [] rest = (stream ≡ rest) × HasNoItem rest
+Splits stream (WholeMessage kind body ∷ items) rest =
+    (octets more : List ℕ) × IsMessage octets kind body × (stream ≡ octets ++ more) × Splits more items rest
+Splits stream (FaultyHeader fault ∷ items) rest =
+    (items ≡ []) × (stream ≡ rest) × (19 ≤ length rest) × (header_fault rest ≡ Some fault)
+
+-- the item that octets with a whole header are: a faulty header has 19 octets
+abbrev pub item_of : List ℕ → Option HeaderFault → Option Item
+item_of octets None =
+    if length octets == told_length octets
+    then option_map (λ kind. WholeMessage kind (drop 19 octets)) (kind_at (slice_index octets 18))
+    else None
+item_of octets (Some fault) = if length octets == 19 then Some (FaultyHeader fault) else None
+
+-- the item that octets are, from the first to the last
+unfoldable pub meaning : List ℕ → Option Item
+meaning octets = if nat_lt (length octets) 19 then None else item_of octets (header_fault octets)
+
+-- the item that one more octet completes behind what is unread
+abbrev pub completed : List ℕ → ℕ → Option Item
+completed part octet = meaning (part ++ octet ∷ [])
+
+-- what is unread once the octets are this item: nothing behind a message, all from a faulty header on
+abbrev pub left_over : List ℕ → Option Item → List ℕ
+left_over octets None = octets
+left_over octets (Some (WholeMessage kind body)) = []
+left_over octets (Some (FaultyHeader fault)) = octets
+
+-- an item, where there is one, and those behind it
+abbrev pub with_front : Option Item → List Item → List Item
+with_front None items = items
+with_front (Some item) items = item ∷ items
+
+-- the items that more octets complete behind what is unread
+abbrev pub messages_from : List ℕ → List ℕ → List Item
+messages_from part [] = []
+messages_from part (octet ∷ octets) =
+    with_front (completed part octet) (messages_from (left_over (part ++ octet ∷ []) (completed part octet)) octets)
+
+-- what is unread behind them
+abbrev pub unread_from : List ℕ → List ℕ → List ℕ
+unread_from part [] = part
+unread_from part (octet ∷ octets) = unread_from (left_over (part ++ octet ∷ []) (completed part octet)) octets
+
+-- the messages of a stream
+unfoldable pub messages : List ℕ → List Item
+messages stream = messages_from [] stream
+
+-- what no message of the stream has taken
+unfoldable pub unread : List ℕ → List ℕ
+unread stream = unread_from [] stream
+
+-- what a reader of pieces finds that keeps what is unread
+abbrev pub messages_of_pieces : List ℕ → List (List ℕ) → List Item
+messages_of_pieces part [] = []
+messages_of_pieces part (piece ∷ pieces) = messages_from part piece ++ messages_of_pieces (unread_from part piece) pieces
+
+-- and what it keeps at the end
+abbrev pub unread_of_pieces : List ℕ → List (List ℕ) → List ℕ
+unread_of_pieces part [] = part
+unread_of_pieces part (piece ∷ pieces) = unread_of_pieces (unread_from part piece) pieces
+
+-- What a reader answers for the front of a stream.
 
 -- no whole header, or a header without a fault before the end of its message
 abbrev pub Wants : List ℕ → Type 0
@@ -24,6 +111,22 @@ Tells octets (Message frame used) =
     × (used ≡ 19 + length frame.body.now) × (frame.body.now ≡ slice_range octets 19 used)
     × (used ≡ told_length octets) × (kind_at (slice_index octets 18) ≡ Some frame.kind) × (header_fault octets ≡ None)
 Tells octets (Faulty fault) = (19 ≤ length octets) × (header_fault octets ≡ Some fault)
+
+-- a reader's answer is the front of the stream, whatever follows the octets: nothing is whole yet; the message comes first, and those behind the octets it used come next; or the header fault is all
+abbrev pub Continues : List ℕ → Step → Type 0
+Continues octets Need = (messages octets ≡ []) × (unread octets ≡ octets)
+Continues octets (Message frame used) =
+    (more : List ℕ) →
+    (messages (octets ++ more) ≡ WholeMessage frame.kind frame.body.now ∷ messages (drop used octets ++ more))
+    × (unread (octets ++ more) ≡ unread (drop used octets ++ more))
+Continues octets (Faulty fault) =
+    (more : List ℕ) → (messages (octets ++ more) ≡ FaultyHeader fault ∷ []) × (unread (octets ++ more) ≡ octets ++ more)
+
+-- the message of an answer is spelled by the octets that it used
+abbrev pub IsSpelled : List ℕ → Step → Type 0
+IsSpelled octets Need = Unit {0}
+IsSpelled octets (Message frame used) = take used octets ≡ message_of frame.kind frame.body.now
+IsSpelled octets (Faulty fault) = Unit {0}
 
 -- how many octets are missing once a header has no fault
 abbrev pub wanted_of : Option HeaderFault → ℕ → ℕ → ℕ

@@ -2,7 +2,7 @@
 ghost use Rattle.std.specs.Prelude.{◌≡◌, ◌≤◌, ◌<◌, ◌+◌, ◌↔◌, MatchResult, Some, None, length, slice_index};
 ghost use Rattle.bgp_msg.specs.MessageSpelling.{kind_at, kind_octet, is_lawful_length, told_length, has_marker};
 ghost use Rattle.bgp_msg.specs.MessageFaults.{header_fault};
-ghost use Rattle.bgp_msg.specs.MessageStream.{Tells, Wants, needed_of};
+ghost use Rattle.bgp_msg.specs.MessageStream.{Tells, Wants, IsSpelled, Continues, needed_of};
 
 use crate::fault::HeaderFault;
 
@@ -90,6 +90,31 @@ impl MessageType {
 /// The message at the front of the octets. A header is judged once its 19 octets are there, and then the whole
 /// message is waited for (RFC 4271 section 6.1).
 pub fn read(octets: &[u8]) -> Step<'_>
+    ensures tells { Tells octets.now result }
+    ensures spelled { IsSpelled octets.now result }
+    ensures stream { Continues octets.now result }
+{
+    front(octets)
+}
+
+/// How many more octets the message at the front wants before `read` answers anything but `Need`: up to the
+/// end of its header, then to its end. 0 where `read` answers already.
+pub fn needed(octets: &[u8]) -> usize
+    ensures value { result ≡ needed_of octets.now }
+    ensures wants { (1 ≤ result) ↔ Wants octets.now }
+    ensures fits { 1 ≤ result → length octets.now + result ≤ 4096 }
+{
+    if octets.len() < HEADER_OCTETS {
+        return HEADER_OCTETS - octets.len();
+    }
+    match read_header(octets) {
+        Ok(header) => header.length.saturating_sub(octets.len()),
+        Err(_) => 0,
+    }
+}
+
+// What the header at the front tells, and the octets behind it.
+fn front(octets: &[u8]) -> Step<'_>
     ensures { Tells octets.now result }
 {
     if octets.len() < HEADER_OCTETS {
@@ -110,22 +135,6 @@ pub fn read(octets: &[u8]) -> Step<'_>
         },
         header.length,
     )
-}
-
-/// How many more octets the message at the front wants before `read` answers anything but `Need`: up to the
-/// end of its header, then to its end. 0 where `read` answers already.
-pub fn needed(octets: &[u8]) -> usize
-    ensures value { result ≡ needed_of octets.now }
-    ensures wants { (1 ≤ result) ↔ Wants octets.now }
-    ensures fits { 1 ≤ result → length octets.now + result ≤ 4096 }
-{
-    if octets.len() < HEADER_OCTETS {
-        return HEADER_OCTETS - octets.len();
-    }
-    match read_header(octets) {
-        Ok(header) => header.length.saturating_sub(octets.len()),
-        Err(_) => 0,
-    }
 }
 
 // The header at the front, or its first fault.

@@ -1,0 +1,65 @@
+use Rattle.std.proofs.Common.{◌≡◌, ℕ, List, [], ◌∷◌, ◌++◌, Option, Some, None, refl, ap, sym, ◌∙◌, append_assoc, append-nil}
+use Rattle.std.specs.List.{concat}
+use Rattle.bgp_msg.specs.MessageStream.{Item, WholeMessage, FaultyHeader, completed, left_over, with_front, messages_from, unread_from, messages, unread, messages_of_pieces, unread_of_pieces}
+
+-- A stream goes on where it stopped.
+
+with_front-append : (item : Option Item) (items more : List Item) → with_front item (items ++ more) ≡ with_front item items ++ more
+with_front-append None items more = refl
+with_front-append (Some item) items more = refl
+
+pub unread_from-append : (part octets more : List ℕ) → unread_from part (octets ++ more) ≡ unread_from (unread_from part octets) more
+unread_from-append part [] more = refl
+unread_from-append part (octet ∷ octets) more = unread_from-append (left_over (part ++ octet ∷ []) (completed part octet)) octets more
+
+pub messages_from-append : (part octets more : List ℕ) → messages_from part (octets ++ more) ≡ messages_from part octets ++ messages_from (unread_from part octets) more
+messages_from-append part [] more = refl
+messages_from-append part (octet ∷ octets) more =
+    ap (with_front (completed part octet)) (messages_from-append (left_over (part ++ octet ∷ []) (completed part octet)) octets more)
+    ∙ with_front-append (completed part octet) (messages_from (left_over (part ++ octet ∷ []) (completed part octet)) octets) (messages_from (unread_from (left_over (part ++ octet ∷ []) (completed part octet)) octets) more)
+
+-- more octets of a stream
+pub unread-append : (stream more : List ℕ) → unread (stream ++ more) ≡ unread_from (unread stream) more
+unfolding unread
+unread-append stream more = unread_from-append [] stream more
+
+pub messages-append : (stream more : List ℕ) → messages (stream ++ more) ≡ messages stream ++ messages_from (unread stream) more
+unfolding messages unread
+messages-append stream more = messages_from-append [] stream more
+
+-- one more octet
+pub unread-push : (stream : List ℕ) (octet : ℕ) → unread (stream ++ octet ∷ []) ≡ left_over (unread stream ++ octet ∷ []) (completed (unread stream) octet)
+unread-push stream octet = unread-append stream (octet ∷ [])
+
+pub messages-push : (stream : List ℕ) (octet : ℕ) → messages (stream ++ octet ∷ []) ≡ messages stream ++ with_front (completed (unread stream) octet) []
+messages-push stream octet = messages-append stream (octet ∷ [])
+
+-- behind whole messages a stream begins anew
+pub unread-anew : (stream more : List ℕ) → unread stream ≡ [] → unread (stream ++ more) ≡ unread more
+unfolding unread
+unread-anew stream more none = unread_from-append [] stream more ∙ ap (λ (part : List ℕ). unread_from part more) none
+
+pub messages-anew : (stream more : List ℕ) → unread stream ≡ [] → messages (stream ++ more) ≡ messages stream ++ messages more
+unfolding messages unread
+messages-anew stream more none = messages_from-append [] stream more ∙ ap (λ (part : List ℕ). messages_from [] stream ++ messages_from part more) none
+
+pub unread-nil : unread [] ≡ []
+unfolding unread
+unread-nil = refl
+
+pub messages-nil : messages [] ≡ []
+unfolding messages
+messages-nil = refl
+
+pieces_from : (part : List ℕ) (pieces : List (List ℕ)) → (messages_of_pieces part pieces ≡ messages_from part (concat pieces)) × (unread_of_pieces part pieces ≡ unread_from part (concat pieces))
+pieces_from part [] = (refl, refl)
+pieces_from part (piece ∷ pieces) =
+    let again = pieces_from (unread_from part piece) pieces in (
+      ap (λ (items : List Item). messages_from part piece ++ items) again.0 ∙ sym (messages_from-append part piece (concat pieces)),
+      again.1 ∙ sym (unread_from-append part piece (concat pieces)),
+    )
+
+-- however the stream is cut
+pub pieces : (pieces : List (List ℕ)) → (messages_of_pieces [] pieces ≡ messages (concat pieces)) × (unread_of_pieces [] pieces ≡ unread (concat pieces))
+unfolding messages unread
+pieces all = pieces_from [] all

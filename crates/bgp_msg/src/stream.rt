@@ -1,0 +1,38 @@
+//! Laws of the messages of a stream (RFC 4271 section 4.1).
+ghost use Rattle.std.specs.Prelude.{◌≡◌, ◌<◌, ◌≤◌, ◌+◌, ◌++◌, ℕ, List, [], ◌∷◌, Option, Some, None, length, All, true};
+ghost use Rattle.std.specs.List.{concat};
+ghost use Rattle.bgp_msg.specs.declared.frame.MessageType.{MessageType};
+ghost use Rattle.bgp_msg.specs.MessageSpelling.{message_of, is_lawful_length};
+ghost use Rattle.bgp_msg.specs.MessageStream.{Item, WholeMessage, IsMessage, Splits, messages, unread, messages_of_pieces, unread_of_pieces, completed, left_over, with_front};
+
+/// A stream is its messages one after another and then what is unread, and it is so in no other way.
+pub fn only_messages()
+    ensures some { (stream : List ℕ) → Splits stream (messages stream) (unread stream) }
+    ensures one { (stream rest : List ℕ) (items : List Item) → Splits stream items rest → (items ≡ messages stream) × (rest ≡ unread stream) }
+{}
+
+/// However a stream is cut, its pieces read one after another hold its messages.
+pub fn pieces_are_the_stream()
+    ensures { (pieces : List (List ℕ)) → (messages_of_pieces [] pieces ≡ messages (concat pieces)) × (unread_of_pieces [] pieces ≡ unread (concat pieces)) }
+{}
+
+/// One more octet completes at most one item.
+pub fn one_more_octet()
+    ensures { (stream : List ℕ) (octet : ℕ) → (messages (stream ++ octet ∷ []) ≡ messages stream ++ with_front (completed (unread stream) octet) []) × (unread (stream ++ octet ∷ []) ≡ left_over (unread stream ++ octet ∷ []) (completed (unread stream) octet)) }
+{}
+
+/// No message is the beginning of another.
+pub fn no_message_begins_another()
+    ensures { (octets more body other : List ℕ) (kind kind_of_other : MessageType) → IsMessage octets kind body → IsMessage (octets ++ more) kind_of_other other → more ≡ [] }
+{}
+
+/// A message has one spelling: its header and its body.
+pub fn one_spelling()
+    ensures spelled { (octets body : List ℕ) (kind : MessageType) → All (λ octet. octet < 256) octets → IsMessage octets kind body → octets ≡ message_of kind body }
+    ensures read { (body : List ℕ) (kind : MessageType) → is_lawful_length kind (19 + length body) ≡ true → 19 + length body ≤ 4096 → IsMessage (message_of kind body) kind body }
+{}
+
+/// A message that is written is read again, whatever follows it.
+pub fn written_is_read()
+    ensures { (body more : List ℕ) (kind : MessageType) → is_lawful_length kind (19 + length body) ≡ true → 19 + length body ≤ 4096 → (messages (message_of kind body ++ more) ≡ WholeMessage kind body ∷ messages more) × (unread (message_of kind body ++ more) ≡ unread more) }
+{}
