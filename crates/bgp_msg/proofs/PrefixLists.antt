@@ -1,108 +1,259 @@
-use Rattle.std.proofs.Common.{◌≡◌, ℕ, zero, suc, ◌+◌, ◌-◌, ◌≤◌, ◌<◌, Bool, true, false, ◌||◌, if◌then◌else◌, List, [], ◌∷◌, length, drop, Option, Some, None, refl, sym, ◌∙◌, ap, arith, nat_lt, nat_eq, length-drop}
-use Rattle.std.proofs.lemmas.Bool.{eqb-true, le-ltb, lt-ltb}
+use Rattle.std.proofs.Common.{◌≡◌, ℕ, zero, suc, ◌+◌, ◌-◌, ◌≤◌, ◌<◌, Bool, true, false, if◌then◌else◌, List, [], ◌∷◌, ◌++◌, length, take, drop, Option, Some, None, option_map, refl, sym, ◌∙◌, ap, arith, nat_lt, nat_le, nat_eq, ◌==◌, length-drop}
+use Rattle.std.proofs.lemmas.Bool.{eqb-true, eq-eqb, le-ltb, lt-ltb, ltb-false, leb-false, leb-true}
+use Rattle.std.proofs.lemmas.List.{nil_from_length}
 use Rattle.net_prefix.specs.declared.fault.PrefixFault.{PrefixFault}
 use Rattle.net_prefix.specs.declared.fault.PrefixFault.TheVariants.{LenOver32, HostBits, Text, Cut}
-use Rattle.net_prefix.specs.PrefixSpelling.{BeginsWith, BeginsWithNone, octets_for}
-use Rattle.bgp_msg.proofs.OpenParts.{cond_some}
-use Rattle.bgp_msg.specs.MessageSpelling.{behind_prefix, holds_of, are_prefixes_within, are_prefixes_in}
+use Rattle.net_prefix.specs.declared.prefix.Prefix.{Prefix}
+use Rattle.net_prefix.specs.Cover.{masked_bits}
+use Rattle.net_prefix.specs.PrefixSpelling.{BeginsWith, BeginsWithNone, octets_for, address_from}
+use Rattle.net_prefix.proofs.Prefixes.{same_prefix}
+use Rattle.bgp_msg.specs.MessageSpelling.{prefix_if, prefix_at, from_prefix, front_prefixes_within, front_prefixes, are_prefixes_in, prefixes_in, ArePrefixes}
 
 -- Prefixes read one after another, as a loop does.
 
--- what is behind a prefix is shorter
-shorter : (octets rest : List ℕ) → behind_prefix octets ≡ Some rest → length rest < length octets
-shorter [] rest h = cc
-shorter (len ∷ octets) rest h =
-    let e : drop (octets_for len) octets ≡ rest = cond_some (nat_lt 32 len || nat_lt (length octets) (octets_for len)) _ _ h in
-    let d : length (drop (octets_for len) octets) ≡ length rest = ap length e in
-    let k : length (drop (octets_for len) octets) ≡ length octets - octets_for len = length-drop (octets_for len) octets in
-    omega (arith, d, k)
+abbrev bits_of : Option Prefix → ℕ
+bits_of None = 0
+bits_of (Some prefix) = prefix.bits
 
-same_behind : (found : Option (List ℕ)) (n m : ℕ) → ((x : List ℕ) → found ≡ Some x → are_prefixes_within n x ≡ are_prefixes_within m x)
-    → holds_of (are_prefixes_within n) found ≡ holds_of (are_prefixes_within m) found
-same_behind None n m h = refl
-same_behind (Some x) n m h = h x refl
+abbrev len_of : Option Prefix → ℕ
+len_of None = 0
+len_of (Some prefix) = prefix.len
+
+cons_is_not_nil : (prefix : Prefix) (prefixes : List Prefix) → prefix ∷ prefixes ≡ [] → ⊥
+cons_is_not_nil prefix prefixes h = absurd cc
+
+same_cons : (p q : Prefix) (ps qs : List Prefix) → p ∷ ps ≡ q ∷ qs → (p ≡ q) × (ps ≡ qs)
+same_cons p q ps qs h = (cc, cc)
+
+suc_is : (n : ℕ) → suc n ≡ 1 + n
+suc_is n = omega arith
+
+some_is_not_none : {X : Type 0} (found : Option X) (x : X) → found ≡ Some x → found ≡ None → ⊥
+some_is_not_none found x e f = absurd cc
+
+-- a prefix by its length
+prefix_if_small : (bits len : ℕ) (test : Bool) (e : nat_le len 32 ≡ test) (prefix : Prefix) → prefix.bits ≡ masked_bits bits len → prefix.len ≡ len → prefix_if bits len test e ≡ Some prefix
+prefix_if_small bits len true e prefix bits_is len_is = ap Some (same_prefix _ prefix (sym bits_is) (sym len_is))
+prefix_if_small bits len false e prefix bits_is len_is =
+    let long : 32 < len = leb-false len 32 e in
+    absurd (omega (arith, prefix.short, len_is, long))
+
+prefix_if_long : (bits len : ℕ) (test : Bool) (e : nat_le len 32 ≡ test) → 32 < len → prefix_if bits len test e ≡ None
+prefix_if_long bits len true e long =
+    let small : len ≤ 32 = leb-true len 32 e in
+    absurd (omega (arith, small, long))
+prefix_if_long bits len false e long = refl
+
+-- the prefix at the front
+pub prefix_at-begins : (octets : List ℕ) (prefix : Prefix) (used : ℕ) → BeginsWith octets prefix.bits prefix.len used → prefix_at octets ≡ Some (prefix, drop used octets)
+unfolding prefix_at
+prefix_at-begins [] prefix used h = absurd (omega (arith, h.0))
+prefix_at-begins (len ∷ rest) prefix used h =
+    let l : prefix.len ≡ len = h.1 in
+    let k : octets_for prefix.len ≡ octets_for len = ap octets_for l in
+    let u : used ≡ suc (octets_for len) = omega (arith, k, h.3) in
+    let room : octets_for len ≤ length rest = omega (arith, u, h.4) in
+    let fits : nat_lt (length rest) (octets_for len) ≡ false = le-ltb (length rest) (octets_for len) room in
+    let bits_is : prefix.bits ≡ masked_bits (address_from (take (octets_for len) rest)) len = h.5 ∙ ap (λ (n : ℕ). masked_bits (address_from (take (octets_for n) rest)) n) l in
+    let there : prefix_if (address_from (take (octets_for len) rest)) len (nat_le len 32) refl ≡ Some prefix = prefix_if_small _ len _ refl prefix bits_is l in
+    rw (fits, there, u) refl
+
+either_none : {X : Type 0} (b : Bool) (x : Option X) → x ≡ None → (if b then None else x) ≡ None
+either_none true x h = refl
+either_none false x h = h
+
+pub prefix_at-none : (octets : List ℕ) (fault : PrefixFault) → BeginsWithNone octets fault → prefix_at octets ≡ None
+unfolding prefix_at
+prefix_at-none [] fault h = refl
+prefix_at-none (len ∷ rest) LenOver32 h =
+    let none : prefix_if (address_from (take (octets_for len) rest)) len (nat_le len 32) refl ≡ None = prefix_if_long _ len _ refl h.1 in
+    either_none (nat_lt (length rest) (octets_for len)) _ (rw none refl)
+prefix_at-none (len ∷ rest) HostBits h = absurd h
+prefix_at-none (len ∷ rest) Text h = absurd h
+prefix_at-none (len ∷ rest) Cut h =
+    let short : length (len ∷ rest) < 1 + octets_for len = h.1 in
+    let cut : nat_lt (length rest) (octets_for len) ≡ true = lt-ltb (length rest) (octets_for len) (omega (arith, short)) in
+    rw cut refl
+
+-- what is behind a prefix is shorter
+behind_is :
+    (b : Bool) (x : Option Prefix) (behind : List ℕ) (found : Prefix × List ℕ)
+    → (if b then None else option_map (λ (prefix : Prefix). (prefix, behind)) x) ≡ Some found → behind ≡ found.1
+behind_is true x behind found h = absurd cc
+behind_is false None behind found h = absurd cc
+behind_is false (Some prefix) behind found h =
+    let e : (prefix, behind) ≡ found = cc in
+    ap (λ (x : Prefix × List ℕ). x.1) e
+
+pub prefix_at-shorter : (octets : List ℕ) (found : Prefix × List ℕ) → prefix_at octets ≡ Some found → length found.1 < length octets
+unfolding prefix_at
+prefix_at-shorter [] found h = absurd cc
+prefix_at-shorter (len ∷ rest) found h =
+    let e : drop (octets_for len) rest ≡ found.1 = behind_is (nat_lt (length rest) (octets_for len)) _ (drop (octets_for len) rest) found h in
+    omega (arith, ap length e, length-drop (octets_for len) rest)
+
+same_behind :
+    (n m : ℕ) (octets : List ℕ) (found : Option (Prefix × List ℕ))
+    → ((x : Prefix × List ℕ) → found ≡ Some x → front_prefixes_within n x.1 ≡ front_prefixes_within m x.1)
+    → from_prefix (front_prefixes_within n) octets found ≡ from_prefix (front_prefixes_within m) octets found
+same_behind n m octets None h = refl
+same_behind n m octets (Some x) h = ap (λ (y : List Prefix × List ℕ). (x.0 ∷ y.0, y.1)) (h x refl)
+
+no_prefix_in_nothing : prefix_at [] ≡ None
+unfolding prefix_at
+no_prefix_in_nothing = refl
+
+none_within : (n : ℕ) (octets : List ℕ) → prefix_at octets ≡ None → front_prefixes_within n octets ≡ ([], octets)
+unfolding front_prefixes_within
+none_within zero octets h = refl
+none_within (suc n) octets h = ap (from_prefix (front_prefixes_within n) octets) h
 
 -- more room than octets changes nothing
-prefixes_within-more : (n m : ℕ) (octets : List ℕ) → length octets ≤ n → length octets ≤ m → are_prefixes_within n octets ≡ are_prefixes_within m octets
-unfolding are_prefixes_within
-prefixes_within-more n m [] p q = refl
-prefixes_within-more zero m (o ∷ os) p q = absurd (omega (arith, p))
-prefixes_within-more (suc n) zero (o ∷ os) p q = absurd (omega (arith, q))
-prefixes_within-more (suc n) (suc m) (o ∷ os) p q =
-    same_behind (behind_prefix (o ∷ os)) n m (λ x e.
-    let s : length x < length (o ∷ os) = shorter (o ∷ os) x e in
-    prefixes_within-more n m x (omega (arith, p, s)) (omega (arith, q, s)))
+within-more : (n m : ℕ) (octets : List ℕ) → length octets ≤ n → length octets ≤ m → front_prefixes_within n octets ≡ front_prefixes_within m octets
+unfolding front_prefixes_within
+within-more n m [] p q = none_within n [] no_prefix_in_nothing ∙ sym (none_within m [] no_prefix_in_nothing)
+within-more zero m (o ∷ os) p q = absurd (omega (arith, p))
+within-more (suc n) zero (o ∷ os) p q = absurd (omega (arith, q))
+within-more (suc n) (suc m) (o ∷ os) p q =
+    same_behind n m (o ∷ os) (prefix_at (o ∷ os)) (λ x e.
+    let s : length x.1 < length (o ∷ os) = prefix_at-shorter (o ∷ os) x e in
+    within-more n m x.1 (omega (arith, p, s)) (omega (arith, q, s)))
 
-prefixes-step : (octets rest : List ℕ) → behind_prefix octets ≡ Some rest → are_prefixes_in octets ≡ are_prefixes_in rest
-unfolding are_prefixes_within
-prefixes-step [] rest h = cc
-prefixes-step (o ∷ os) rest h =
-    let s : length rest < length (o ∷ os) = shorter (o ∷ os) rest h in
-    ap (holds_of (are_prefixes_within (length os))) h ∙ prefixes_within-more (length os) (length rest) rest (omega (arith, s)) (omega arith)
+-- the prefixes from the front on, where there is one at the front, and where there is none
+pub front_prefixes-cons :
+    (octets rest : List ℕ) (prefix : Prefix) → prefix_at octets ≡ Some (prefix, rest)
+    → front_prefixes octets ≡ (prefix ∷ (front_prefixes rest).0, (front_prefixes rest).1)
+unfolding front_prefixes_within
+front_prefixes-cons [] rest prefix h = absurd (some_is_not_none _ _ h no_prefix_in_nothing)
+front_prefixes-cons (o ∷ os) rest prefix h =
+    let s : length rest < length (o ∷ os) = prefix_at-shorter (o ∷ os) (prefix, rest) h in
+    ap (from_prefix (front_prefixes_within (length os)) (o ∷ os)) h
+    ∙ ap (λ (y : List Prefix × List ℕ). (prefix ∷ y.0, y.1)) (within-more (length os) (length rest) rest (omega (arith, s)) (omega arith))
+
+pub front_prefixes-none : (octets : List ℕ) → prefix_at octets ≡ None → front_prefixes octets ≡ ([], octets)
+front_prefixes-none octets h = none_within (length octets) octets h
 
 -- the loop over prefixes: one more, one that is too long or cut off, none left
-pub prefixes-goes_on : (octets rest : List ℕ) (total : Bool) → behind_prefix octets ≡ Some rest → are_prefixes_in octets ≡ total → are_prefixes_in rest ≡ total
-prefixes-goes_on octets rest total h so_far = sym (prefixes-step octets rest h) ∙ so_far
+pub prefixes-goes_on : (octets rest : List ℕ) (prefix : Prefix) (total : Bool) → prefix_at octets ≡ Some (prefix, rest) → are_prefixes_in octets ≡ total → are_prefixes_in rest ≡ total
+prefixes-goes_on octets rest prefix total h so_far =
+    sym (ap (λ (y : List Prefix × List ℕ). length y.1 == 0) (front_prefixes-cons octets rest prefix h)) ∙ so_far
 
-pub prefixes-cut : (octets : List ℕ) (total : Bool) → false ≡ nat_eq (length octets) 0 → behind_prefix octets ≡ None → are_prefixes_in octets ≡ total → total ≡ false
-unfolding are_prefixes_within
-prefixes-cut [] total some h so_far = cc
-prefixes-cut (o ∷ os) total some h so_far = sym so_far ∙ ap (holds_of (are_prefixes_within (length os))) h
+pub prefixes-cut : (octets : List ℕ) (total : Bool) → false ≡ nat_eq (length octets) 0 → prefix_at octets ≡ None → are_prefixes_in octets ≡ total → total ≡ false
+prefixes-cut octets total some h so_far =
+    sym so_far ∙ ap (λ (y : List Prefix × List ℕ). length y.1 == 0) (front_prefixes-none octets h) ∙ sym some
 
 pub prefixes-done : (octets : List ℕ) (total : Bool) → true ≡ nat_eq (length octets) 0 → are_prefixes_in octets ≡ total → total ≡ true
-unfolding are_prefixes_within
-prefixes-done [] total h so_far = sym so_far
-prefixes-done (o ∷ os) total h so_far =
-    let k : length (o ∷ os) ≡ 0 = eqb-true _ _ (sym h) in
-    absurd (omega (arith, k))
+prefixes-done octets total none so_far =
+    let empty : octets ≡ [] = nil_from_length octets (eqb-true _ _ (sym none)) in
+    let nothing : prefix_at octets ≡ None = ap prefix_at empty ∙ no_prefix_in_nothing in
+    sym so_far ∙ ap (λ (y : List Prefix × List ℕ). length y.1 == 0) (front_prefixes-none octets nothing) ∙ sym none
 
-cond_false : {X : Type 0} (b : Bool) (x y : X) → b ≡ false → (if b then x else y) ≡ y
-cond_false true x y h = cc
-cond_false false x y h = refl
+-- an iterator over prefixes: one more, none left
+pub prefixes-next : (octets rest : List ℕ) (prefix : Prefix) → prefix_at octets ≡ Some (prefix, rest) → (front_prefixes octets).0 ≡ prefix ∷ (front_prefixes rest).0
+prefixes-next octets rest prefix h = ap (λ (y : List Prefix × List ℕ). y.0) (front_prefixes-cons octets rest prefix h)
 
-cond_true : {X : Type 0} (b : Bool) (x y : X) → b ≡ true → (if b then x else y) ≡ x
-cond_true true x y h = refl
-cond_true false x y h = cc
+pub prefixes-end : (octets : List ℕ) → prefix_at octets ≡ None → (front_prefixes octets).0 ≡ []
+prefixes-end octets h = ap (λ (y : List Prefix × List ℕ). y.0) (front_prefixes-none octets h)
 
-or_false : (a b : Bool) → a ≡ false → b ≡ false → (a || b) ≡ false
-or_false true b p q = cc
-or_false false b p q = q
+cons_if : (b : Bool) (xs prefixes : List Prefix) (prefix : Prefix) → (if b then Some xs else None) ≡ Some prefixes → (if b then Some (prefix ∷ xs) else None) ≡ Some (prefix ∷ prefixes)
+cons_if true xs prefixes prefix h = cc
+cons_if false xs prefixes prefix h = absurd cc
 
-or_left : (a b : Bool) → a ≡ true → (a || b) ≡ true
-or_left true b p = refl
-or_left false b p = cc
+-- what a list of prefixes is read as
+abbrev whole : List Prefix × List ℕ → Option (List Prefix)
+whole found = if length found.1 == 0 then Some found.0 else None
 
-or_right : (a b : Bool) → b ≡ true → (a || b) ≡ true
-or_right true b p = refl
-or_right false b p = p
+prefixes_in-cons :
+    (octets rest : List ℕ) (prefix : Prefix) (prefixes : List Prefix) → prefix_at octets ≡ Some (prefix, rest)
+    → prefixes_in rest ≡ Some prefixes → prefixes_in octets ≡ Some (prefix ∷ prefixes)
+prefixes_in-cons octets rest prefix prefixes h again =
+    ap whole (front_prefixes-cons octets rest prefix h) ∙ cons_if (length (front_prefixes rest).1 == 0) (front_prefixes rest).0 prefixes prefix again
 
--- a prefix at the front has the octets behind it
-pub begins-behind : (octets : List ℕ) (bits len used : ℕ) → BeginsWith octets bits len used → behind_prefix octets ≡ Some (drop used octets)
-begins-behind [] bits len used h = absurd (omega (arith, h.0))
-begins-behind (o ∷ os) bits len used h =
-    let l : len ≡ o = h.1 in
-    let small : o ≤ 32 = omega (arith, l, h.2) in
-    let k : octets_for len ≡ octets_for o = ap octets_for l in
-    let u : used ≡ suc (octets_for o) = omega (arith, k, h.3) in
-    let room : octets_for o ≤ length os = omega (arith, u, h.4) in
-    cond_false (nat_lt 32 o || nat_lt (length os) (octets_for o)) _ _ (or_false _ _ (le-ltb 32 o small) (le-ltb (length os) (octets_for o) room))
-    ∙ ap (λ (n : ℕ). Some (drop n (o ∷ os))) (sym u)
+-- prefixes that are so are read so
+pub prefixes_in-are : (octets : List ℕ) (prefixes : List Prefix) → ArePrefixes octets prefixes → prefixes_in octets ≡ Some prefixes
+prefixes_in-are octets [] h =
+    let nothing : prefix_at octets ≡ None = ap prefix_at h ∙ no_prefix_in_nothing in
+    ap whole (front_prefixes-none octets nothing) ∙ rw h refl
+prefixes_in-are octets (prefix ∷ prefixes) h =
+    prefixes_in-cons octets (drop (1 + octets_for prefix.len) octets) prefix prefixes (prefix_at-begins octets prefix _ h.0) (prefixes_in-are (drop (1 + octets_for prefix.len) octets) prefixes h.1)
 
-pub begins_not-behind : (octets : List ℕ) (fault : PrefixFault) → BeginsWithNone octets fault → behind_prefix octets ≡ None
-begins_not-behind [] fault h = refl
-begins_not-behind (o ∷ os) LenOver32 h =
-    let long : 32 < o = h.1 in
-    cond_true (nat_lt 32 o || nat_lt (length os) (octets_for o)) _ _ (or_left _ _ (lt-ltb 32 o long))
-begins_not-behind (o ∷ os) HostBits h = absurd h
-begins_not-behind (o ∷ os) Text h = absurd h
-begins_not-behind (o ∷ os) Cut h =
-    let short : length (o ∷ os) < 1 + octets_for o = h.1 in
-    let cut : length os < octets_for o = omega (arith, short) in
-    cond_true (nat_lt 32 o || nat_lt (length os) (octets_for o)) _ _ (or_right _ _ (lt-ltb (length os) (octets_for o) cut))
+-- and what is read is so
+begins_if_small :
+    (len : ℕ) (rest : List ℕ) (test : Bool) (e : nat_le len 32 ≡ test) (prefix : Prefix)
+    → prefix_if (address_from (take (octets_for len) rest)) len test e ≡ Some prefix → octets_for len ≤ length rest
+    → BeginsWith (len ∷ rest) prefix.bits prefix.len (1 + octets_for prefix.len)
+begins_if_small len rest true e prefix h fits =
+    let len_is : len ≡ prefix.len = ap (λ (x : Option Prefix). len_of x) h in
+    let bits_is : masked_bits (address_from (take (octets_for len) rest)) len ≡ prefix.bits = ap (λ (x : Option Prefix). bits_of x) h in
+    let count : octets_for len ≡ octets_for prefix.len = ap octets_for len_is in
+    (omega arith, sym len_is, prefix.short, refl, omega (arith, count, fits), sym bits_is ∙ ap (λ (n : ℕ). masked_bits (address_from (take (octets_for n) rest)) n) len_is)
+begins_if_small len rest false e prefix h fits = absurd cc
 
--- a prefix at the front takes its length and as many octets as that needs
-pub begins-exactly : (octets : List ℕ) (bits len used : ℕ) → BeginsWith octets bits len used → BeginsWith octets bits len (1 + octets_for len)
-begins-exactly octets bits len used h = (h.0, h.1, h.2, refl, omega (arith, h.3, h.4), h.5)
+abbrev with_behind : List ℕ → Prefix → Prefix × List ℕ
+with_behind behind prefix = (prefix, behind)
 
-pub behind-shorter : (octets : List ℕ) (bits len used : ℕ) → BeginsWith octets bits len used → length (drop used octets) < length octets
-behind-shorter octets bits len used h = shorter octets (drop used octets) (begins-behind octets bits len used h)
+begins_of :
+    (len : ℕ) (rest : List ℕ) (found : Option Prefix) (prefix : Prefix) (behind : List ℕ) (cut : Bool) → nat_lt (length rest) (octets_for len) ≡ cut
+    → prefix_if (address_from (take (octets_for len) rest)) len (nat_le len 32) refl ≡ found
+    → (if cut then None else option_map (with_behind (drop (octets_for len) rest)) found) ≡ Some (prefix, behind)
+    → BeginsWith (len ∷ rest) prefix.bits prefix.len (1 + octets_for prefix.len) × (behind ≡ drop (1 + octets_for prefix.len) (len ∷ rest))
+begins_of len rest found prefix behind true is_cut is h = absurd cc
+begins_of len rest None prefix behind false is_cut is h = absurd cc
+begins_of len rest (Some p) prefix behind false is_cut is h =
+    let same : with_behind (drop (octets_for len) rest) p ≡ (prefix, behind) = cc in
+    let p_is : p ≡ prefix = ap (λ (x : Prefix × List ℕ). x.0) same in
+    let behind_is : drop (octets_for len) rest ≡ behind = ap (λ (x : Prefix × List ℕ). x.1) same in
+    let begins = begins_if_small len rest (nat_le len 32) refl prefix (is ∙ ap Some p_is) (ltb-false (length rest) (octets_for len) is_cut) in
+    let count : octets_for prefix.len ≡ octets_for len = ap octets_for begins.1 in
+    (begins, sym behind_is ∙ ap (λ (n : ℕ). drop n rest) (sym count) ∙ ap (λ (n : ℕ). drop n (len ∷ rest)) (suc_is (octets_for prefix.len)))
+
+pub begins-prefix_at : (octets behind : List ℕ) (prefix : Prefix) → prefix_at octets ≡ Some (prefix, behind)
+    → BeginsWith octets prefix.bits prefix.len (1 + octets_for prefix.len) × (behind ≡ drop (1 + octets_for prefix.len) octets)
+unfolding prefix_at
+begins-prefix_at [] behind prefix h = absurd cc
+begins-prefix_at (len ∷ rest) behind prefix h = begins_of len rest _ prefix behind _ refl refl h
+
+whole_parts : (found : List Prefix × List ℕ) (prefixes : List Prefix) (test : Bool) → (length found.1 == 0) ≡ test → (if test then Some found.0 else None) ≡ Some prefixes → (found.0 ≡ prefixes) × (length found.1 ≡ 0)
+whole_parts found prefixes true none h =
+    let same : found.0 ≡ prefixes = cc in
+    (same, eqb-true _ _ none)
+whole_parts found prefixes false some h = absurd cc
+
+prefixes_in-parts : (octets : List ℕ) (prefixes : List Prefix) → prefixes_in octets ≡ Some prefixes → ((front_prefixes octets).0 ≡ prefixes) × (length (front_prefixes octets).1 ≡ 0)
+prefixes_in-parts octets prefixes h = whole_parts (front_prefixes octets) prefixes _ refl h
+
+prefixes_in-from : (octets : List ℕ) (prefixes : List Prefix) → (front_prefixes octets).0 ≡ prefixes → length (front_prefixes octets).1 ≡ 0 → prefixes_in octets ≡ Some prefixes
+prefixes_in-from octets prefixes same none = rw (eq-eqb _ _ none, same) refl
+
+-- what is read, by its first prefix
+nothing_read : (octets : List ℕ) (found : Option (Prefix × List ℕ)) → prefix_at octets ≡ found → prefixes_in octets ≡ Some [] → octets ≡ []
+nothing_read octets None is h =
+    let parts = prefixes_in-parts octets [] h in
+    let left : (front_prefixes octets).1 ≡ octets = ap (λ (y : List Prefix × List ℕ). y.1) (front_prefixes-none octets is) in
+    nil_from_length octets (ap length (sym left) ∙ parts.1)
+nothing_read octets (Some found) is h =
+    let parts = prefixes_in-parts octets [] h in
+    let next = prefixes-next octets found.1 found.0 is in
+    absurd (cons_is_not_nil _ _ (sym next ∙ parts.0))
+
+first_read :
+    (octets : List ℕ) (prefix : Prefix) (prefixes : List Prefix) (found : Option (Prefix × List ℕ)) → prefix_at octets ≡ found
+    → prefixes_in octets ≡ Some (prefix ∷ prefixes)
+    → BeginsWith octets prefix.bits prefix.len (1 + octets_for prefix.len) × (prefixes_in (drop (1 + octets_for prefix.len) octets) ≡ Some prefixes)
+first_read octets prefix prefixes None is h =
+    let parts = prefixes_in-parts octets (prefix ∷ prefixes) h in
+    absurd (cons_is_not_nil _ _ (sym parts.0 ∙ prefixes-end octets is))
+first_read octets prefix prefixes (Some found) is h =
+    let parts = prefixes_in-parts octets (prefix ∷ prefixes) h in
+    let next = prefixes-next octets found.1 found.0 is in
+    let left : (front_prefixes octets).1 ≡ (front_prefixes found.1).1 = ap (λ (y : List Prefix × List ℕ). y.1) (front_prefixes-cons octets found.1 found.0 is) in
+    let same = same_cons _ _ _ _ (sym next ∙ parts.0) in
+    let at : prefix_at octets ≡ Some (prefix, found.1) = is ∙ ap (λ (p : Prefix). Some (p, found.1)) same.0 in
+    let begins = begins-prefix_at octets found.1 prefix at in
+    (begins.0, ap prefixes_in (sym begins.1) ∙ prefixes_in-from found.1 prefixes same.1 (ap length (sym left) ∙ parts.1))
+
+pub prefixes-are : (octets : List ℕ) (prefixes : List Prefix) → prefixes_in octets ≡ Some prefixes → ArePrefixes octets prefixes
+prefixes-are octets [] h = nothing_read octets _ refl h
+prefixes-are octets (prefix ∷ prefixes) h =
+    let first = first_read octets prefix prefixes _ refl h in
+    (first.0, prefixes-are (drop (1 + octets_for prefix.len) octets) prefixes first.1)

@@ -6,7 +6,7 @@ use Rattle.bgp_msg.specs.declared.frame.Step.{Step}
 use Rattle.bgp_msg.specs.declared.frame.Step.TheVariants.{Need, Message, Faulty}
 use Rattle.bgp_msg.specs.MessageSpelling.{kind_at, told_length}
 use Rattle.bgp_msg.specs.MessageFaults.{header_fault}
-use Rattle.bgp_msg.specs.MessageStream.{Item, IsMessage, WholeMessage, FaultyHeader, Tells, Continues, IsSpelled, messages, unread}
+use Rattle.bgp_msg.specs.MessageStream.{Item, IsMessage, WholeMessage, FaultyHeader, Tells, IsFront, IsSpelled, messages, unread}
 use Rattle.bgp_msg.proofs.Streams.{message_at_front, message-then, wants-then, fault-then, header_fault-append}
 use Rattle.bgp_msg.proofs.Spellings.{spelled}
 
@@ -32,14 +32,14 @@ small_front octets n small = λ k d within.
     subst (λ (x : ℕ). x < 256) (sym same) (small k d (omega (arith, within, inside)))
 
 -- the answer is the front of the stream
-pub continues : (octets : List ℕ) (step : Step) → Tells octets step → Continues octets step
-continues octets Need h = wants-then octets h
-continues octets (Message frame used) h = λ more.
+pub is_front : (octets : List ℕ) (step : Step) → Tells octets step → IsFront octets step
+is_front octets Need h = wants-then octets h
+is_front octets (Message frame used) h = λ more.
     let all : octets ++ more ≡ take used octets ++ (drop used octets ++ more) =
     ap (λ (x : List ℕ). x ++ more) (sym (take-append-drop used octets)) ∙ append_assoc (take used octets) (drop used octets) more in
     let found = message-then (take used octets) (drop used octets ++ more) frame.kind frame.body.now (answer_is_message octets frame.body.now frame.kind used h.0 h.2 h.4 h.5 h.7 h.6) in
     (ap messages all ∙ found.0, ap unread all ∙ found.1)
-continues octets (Faulty fault) h = λ more.
+is_front octets (Faulty fault) h = λ more.
     fault-then (octets ++ more) fault (omega (arith, length-append octets more, h.0)) (header_fault-append octets more h.0 ∙ h.1)
 
 -- and its message is spelled so

@@ -1,9 +1,12 @@
-use Rattle.std.specs.Prelude.{ℕ, zero, suc, ◌+◌, ◌*◌, ◌==◌, ◌||◌, nat_lt, nat_le, if◌then◌else◌, Bool, true, false, List, [], ◌∷◌, ◌++◌, Option, Some, None, take, drop, length, slice_index}
+use Rattle.std.specs.Prelude.{◌≡◌, refl, ◌/◌, ℕ, zero, suc, ◌+◌, ◌*◌, ◌==◌, ◌||◌, nat_lt, nat_le, if◌then◌else◌, Bool, true, false, List, [], ◌∷◌, ◌++◌, Option, Some, None, take, drop, length, slice_index}
 use Rattle.std.specs.Option.{option_map, option_and_then}
 use Rattle.std.specs.Int.{w16, w32, to_be_bytes, from_be_bytes}
 use Rattle.std.specs.List.{list_all, flat_map}
 use Rattle.net_prefix.specs.declared.prefix.Prefix.{Prefix}
-use Rattle.net_prefix.specs.PrefixSpelling.{spelling_of, octets_for}
+use Rattle.std.proofs.lemmas.Bool.{leb-true}
+use Rattle.std.proofs.Math.Nat.{mul-mod_left}
+use Rattle.net_prefix.specs.Cover.{masked_bits, block_size}
+use Rattle.net_prefix.specs.PrefixSpelling.{BeginsWith, spelling_of, octets_for, address_from}
 use Rattle.bgp_msg.specs.declared.frame.MessageType.{MessageType}
 use Rattle.bgp_msg.specs.declared.frame.MessageType.TheVariants.{Open, Update, Notification, Keepalive}
 
@@ -70,27 +73,52 @@ open_of asn hold_time identifier =
 abbrev pub wire_form : List Prefix → List ℕ
 wire_form prefixes = flat_map (λ prefix. spelling_of prefix.bits prefix.len) prefixes
 
--- the octets behind the prefix at the front; none where it is longer than 32 bits or cut off
-abbrev pub behind_prefix : List ℕ → Option (List ℕ)
-behind_prefix [] = None
-behind_prefix (len ∷ rest) =
-    if nat_lt 32 len || nat_lt (length rest) (octets_for len) then None
-    else Some (drop (octets_for len) rest)
+-- an address without the bits behind a length, as a prefix; none where the length is over 32
+abbrev pub prefix_if : (bits len : ℕ) (test : Bool) → nat_le len 32 ≡ test → Option Prefix
+prefix_if bits len true small =
+    Some (record {
+      bits = masked_bits bits len;
+      len = len;
+      short = leb-true len 32 small;
+      no_host_bits = mul-mod_left (bits / block_size len) (block_size len);
+    })
+prefix_if bits len false long = None
 
--- the test holds of what is there
-abbrev pub holds_of : (List ℕ → Bool) → Option (List ℕ) → Bool
-holds_of test None = false
-holds_of test (Some octets) = test octets
+-- the prefix at the front, its further bits masked, and the octets behind it; none where it is longer than 32 bits or cut off
+unfoldable pub prefix_at : List ℕ → Option (Prefix × List ℕ)
+prefix_at [] = None
+prefix_at (len ∷ rest) =
+    if nat_lt (length rest) (octets_for len) then None
+    else option_map (λ prefix. (prefix, drop (octets_for len) rest)) (prefix_if (address_from (take (octets_for len) rest)) len (nat_le len 32) refl)
 
--- the octets are prefixes to the end, at most so many
-unfoldable pub are_prefixes_within : ℕ → List ℕ → Bool
-are_prefixes_within most [] = true
-are_prefixes_within zero (octet ∷ octets) = false
-are_prefixes_within (suc most) (octet ∷ octets) = holds_of (are_prefixes_within most) (behind_prefix (octet ∷ octets))
+-- the prefixes from the front on, where the first is this one
+abbrev pub from_prefix : (List ℕ → List Prefix × List ℕ) → List ℕ → Option (Prefix × List ℕ) → List Prefix × List ℕ
+from_prefix others octets None = ([], octets)
+from_prefix others octets (Some found) = (found.0 ∷ (others found.1).0, (others found.1).1)
+
+-- the prefixes from the front on, at most so many, and the octets behind them
+unfoldable pub front_prefixes_within : ℕ → List ℕ → List Prefix × List ℕ
+front_prefixes_within zero octets = ([], octets)
+front_prefixes_within (suc most) octets = from_prefix (front_prefixes_within most) octets (prefix_at octets)
+
+-- the prefixes from the front on, one after another, and the octets behind them: these begin with no prefix
+abbrev pub front_prefixes : List ℕ → List Prefix × List ℕ
+front_prefixes octets = front_prefixes_within (length octets) octets
 
 -- the octets are prefixes to the end
 abbrev pub are_prefixes_in : List ℕ → Bool
-are_prefixes_in octets = are_prefixes_within (length octets) octets
+are_prefixes_in octets = length (front_prefixes octets).1 == 0
+
+-- the prefixes that octets are to their end; none where one is longer than 32 bits or cut off
+abbrev pub prefixes_in : List ℕ → Option (List Prefix)
+prefixes_in octets = if are_prefixes_in octets then Some (front_prefixes octets).0 else None
+
+-- the octets are these prefixes one after another, in whatever further bits (RFC 4271 section 4.3)
+abbrev pub ArePrefixes : List ℕ → List Prefix → Type 0
+ArePrefixes octets [] = octets ≡ []
+ArePrefixes octets (prefix ∷ prefixes) =
+    BeginsWith octets prefix.bits prefix.len (1 + octets_for prefix.len)
+    × ArePrefixes (drop (1 + octets_for prefix.len) octets) prefixes
 
 -- an UPDATE: the withdrawn routes and the path attributes, each behind its length, then what is announced
 unfoldable pub update_of : List ℕ → List ℕ → List ℕ → List ℕ

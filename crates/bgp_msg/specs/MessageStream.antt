@@ -9,7 +9,7 @@ use Rattle.bgp_msg.specs.declared.fault.HeaderFault.{HeaderFault}
 use Rattle.bgp_msg.specs.declared.frame.MessageType.{MessageType}
 use Rattle.bgp_msg.specs.declared.frame.Step.{Step}
 use Rattle.bgp_msg.specs.declared.frame.Step.TheVariants.{Need, Message, Faulty}
-use Rattle.bgp_msg.specs.MessageSpelling.{kind_at, told_length, message_of, behind_prefix, are_prefixes_in, update_parts}
+use Rattle.bgp_msg.specs.MessageSpelling.{kind_at, told_length, message_of, prefixes_in, are_prefixes_in, update_parts}
 use Rattle.bgp_msg.specs.MessageFaults.{header_fault}
 
 -- The messages of a stream of octets (RFC 4271 sections 4.1 and 6.1). The pieces in which the octets come are no
@@ -113,13 +113,13 @@ Tells octets (Message frame used) =
 Tells octets (Faulty fault) = (19 ≤ length octets) × (header_fault octets ≡ Some fault)
 
 -- a reader's answer is the front of the stream, whatever follows the octets: nothing is whole yet; the message comes first, and those behind the octets it used come next; or the header fault is all
-abbrev pub Continues : List ℕ → Step → Type 0
-Continues octets Need = (messages octets ≡ []) × (unread octets ≡ octets)
-Continues octets (Message frame used) =
+abbrev pub IsFront : List ℕ → Step → Type 0
+IsFront octets Need = (messages octets ≡ []) × (unread octets ≡ octets)
+IsFront octets (Message frame used) =
     (more : List ℕ) →
     (messages (octets ++ more) ≡ WholeMessage frame.kind frame.body.now ∷ messages (drop used octets ++ more))
     × (unread (octets ++ more) ≡ unread (drop used octets ++ more))
-Continues octets (Faulty fault) =
+IsFront octets (Faulty fault) =
     (more : List ℕ) → (messages (octets ++ more) ≡ FaultyHeader fault ∷ []) × (unread (octets ++ more) ≡ octets ++ more)
 
 -- the message of an answer is spelled by the octets that it used
@@ -137,24 +137,17 @@ wanted_of (Some fault) told have = 0
 abbrev pub needed_of : List ℕ → ℕ
 needed_of octets = if nat_lt (length octets) 19 then 19 - length octets else wanted_of (header_fault octets) (told_length octets) (length octets)
 
--- the prefix at the front of prefixes in their wire form, and what is left behind it (RFC 4271 section 4.3)
-abbrev pub NextPrefix : List ℕ → Option Prefix → List ℕ → Type 0
-NextPrefix octets None rest = (behind_prefix octets ≡ None) × (rest ≡ octets)
-NextPrefix octets (Some prefix) rest =
-    (behind_prefix octets ≡ Some rest) × BeginsWith octets prefix.bits prefix.len (1 + octets_for prefix.len)
-
--- what an UPDATE says: the octets of its prefixes, and its attributes
+-- what an UPDATE says: the prefixes that it withdraws, its attributes, and the prefixes that it announces
 pub record UpdateBody : Type 0 where
-  pub withdrawn : List ℕ
+  pub withdrawn : List Prefix
   pub attrs : PathAttributes
-  pub announced : List ℕ
+  pub announced : List Prefix
 
 -- the UPDATE is in the body: both lists are prefixes to the end, and no attribute is missing where prefixes are announced
 abbrev pub IsUpdate : List ℕ → UpdateBody → Type 0
 IsUpdate body update =
-    MatchOption (update_parts body) ⊥ (λ parts. (update.withdrawn ≡ parts.0) × (update.announced ≡ parts.2))
-    × (are_prefixes_in update.withdrawn ≡ true) × (are_prefixes_in update.announced ≡ true)
-    × ((update.announced ≡ []) ⊎ (missing_of update.attrs ≡ None))
+    MatchOption (update_parts body) ⊥ (λ parts. (prefixes_in parts.0 ≡ Some update.withdrawn) × (prefixes_in parts.2 ≡ Some update.announced)
+    × ((parts.2 ≡ []) ⊎ (missing_of update.attrs ≡ None)))
 
 -- the faults that are looked for before the attributes: lengths that don't fit, and withdrawn routes that are no prefixes
 abbrev pub fault_before_attributes : Option (List ℕ × List ℕ × List ℕ) → Option UpdateFault

@@ -2,7 +2,7 @@
 ghost use Rattle.std.specs.Prelude.{◌≡◌, ◌≤◌, ◌<◌, ◌+◌, ◌↔◌, MatchResult, Some, None, length, slice_index};
 ghost use Rattle.bgp_msg.specs.MessageSpelling.{kind_at, kind_octet, is_lawful_length, told_length, has_marker};
 ghost use Rattle.bgp_msg.specs.MessageFaults.{header_fault};
-ghost use Rattle.bgp_msg.specs.MessageStream.{Tells, Wants, IsSpelled, Continues, needed_of};
+ghost use Rattle.bgp_msg.specs.MessageStream.{Tells, Wants, IsSpelled, IsFront, needed_of};
 
 use crate::fault::HeaderFault;
 
@@ -92,7 +92,7 @@ impl MessageType {
 pub fn read(octets: &[u8]) -> Step<'_>
     ensures tells { Tells octets.now result }
     ensures spelled { IsSpelled octets.now result }
-    ensures stream { Continues octets.now result }
+    ensures stream { IsFront octets.now result }
 {
     front(octets)
 }

@@ -15,7 +15,10 @@ mod writing;
 pub use fault::{Fault, HeaderFault, OpenFault};
 pub use frame::{Frame, HEADER_OCTETS, MAX_MESSAGE, MessageType, Step, needed, read};
 pub use open_message::{Expected, Open, read_open};
-pub use stream::{no_message_begins_another, one_more_octet, one_spelling, only_messages, pieces_are_the_stream, written_is_read};
+pub use stream::{
+    no_message_begins_another, one_more_octet, one_spelling, only_messages, pieces_are_the_stream,
+    written_is_read,
+};
 pub use update::{Prefixes, Update, read_update};
 pub use writing::{write_announcement, write_keepalive, write_open, write_withdrawal};
 

@@ -1,10 +1,9 @@
 //! The UPDATE message (RFC 4271 section 4.3).
 ghost use Rattle.std.specs.Prelude.{◌≡◌, ◌<◌, ◌+◌, IfOk, IfSome, MatchOption, Err, Some, None, length};
-ghost use Rattle.net_prefix.specs.PrefixSpelling.{BeginsWith, octets_for};
 ghost use Rattle.std.specs.Option.{option_map};
-ghost use Rattle.bgp_msg.specs.MessageSpelling.{counted_at, update_parts, behind_prefix, are_prefixes_in};
-ghost use Rattle.bgp_msg.specs.MessageStream.{NextPrefix, IsUpdate, fault_before_attributes};
-ghost use Rattle.std.specs.Iterator.{at_most};
+ghost use Rattle.bgp_msg.specs.MessageSpelling.{counted_at, update_parts, prefix_at, front_prefixes, are_prefixes_in};
+ghost use Rattle.bgp_msg.specs.MessageStream.{IsUpdate, fault_before_attributes};
+ghost use Rattle.std.specs.Iterator.{YieldsFirst, item_count};
 
 use bgp_attr::{Attrs, PeerKind, UpdateFault, read_attrs};
 use net_prefix::{Prefix, read_prefix};
@@ -21,10 +20,11 @@ pub struct Update<'a, A: Allocator> {
 
 impl<'a, A: Allocator> Model for Update<'a, A> {
     ghost use Rattle.bgp_msg.specs.MessageStream.{UpdateBody};
+    ghost use Rattle.bgp_msg.specs.MessageSpelling.{front_prefixes};
 
     ghost Value = { UpdateBody };
 
-    ghost view = { λ u. record { withdrawn = u.withdrawn.now; attrs = u.attrs; announced = u.announced.now } };
+    ghost view = { λ u. record { withdrawn = (front_prefixes u.withdrawn.now).0; attrs = u.attrs; announced = (front_prefixes u.announced.now).0 } };
 }
 
 /// Prefixes in their wire form, one after another.
@@ -36,7 +36,7 @@ pub struct Prefixes<'a> {
 impl<'a, A: Allocator> Update<'a, A> {
     /// The prefixes that are withdrawn.
     pub fn withdrawn(&self) -> Prefixes<'a>
-        ensures { result.octets.now ≡ self.now.withdrawn }
+        ensures { (front_prefixes result.octets.now).0 ≡ self.now.withdrawn }
     {
         Prefixes {
             octets: self.withdrawn,
@@ -45,7 +45,7 @@ impl<'a, A: Allocator> Update<'a, A> {
 
     /// The prefixes that are announced: the network layer reachability information.
     pub fn announced(&self) -> Prefixes<'a>
-        ensures { result.octets.now ≡ self.now.announced }
+        ensures { (front_prefixes result.octets.now).0 ≡ self.now.announced }
     {
         Prefixes {
             octets: self.announced,
@@ -75,9 +75,9 @@ impl<'a, A: Allocator> Update<'a, A> {
 impl Iterator for Prefixes<'_> {
     type Item = Prefix;
 
-    ghost next_gives = { λ s r t. NextPrefix s.octets.now r t.octets.now };
+    ghost next_gives = { YieldsFirst (λ s. (front_prefixes s.octets.now).0) };
 
-    ghost remaining = { λ s. at_most (length s.octets.now) };
+    ghost remaining = { item_count (λ s. (front_prefixes s.octets.now).0) };
 
     fn next(&mut self) -> Option<Prefix> {
         let (prefix, behind) = split_prefix(self.octets)?;
@@ -153,8 +153,7 @@ fn are_prefixes(octets: &[u8]) -> bool
 
 // The prefix at the front, and the octets behind it.
 fn split_prefix(octets: &[u8]) -> Option<(Prefix, &[u8])>
-    ensures behind { behind_prefix octets.now ≡ option_map (λ found. found.1.now) result }
-    ensures prefix { IfSome result (λ found. BeginsWith octets.now found.0.bits found.0.len (1 + octets_for found.0.len)) }
+    ensures prefix { prefix_at octets.now ≡ option_map (λ found. (found.0, found.1.now)) result }
     ensures shorter { IfSome result (λ found. length found.1.now < length octets.now) }
 {
     match read_prefix(octets) {
