@@ -1,13 +1,14 @@
-use Rattle.std.proofs.Common.{◌≡◌, ℕ, zero, suc, ◌+◌, ◌-◌, ◌≤◌, ◌<◌, Bool, true, false, if◌then◌else◌, List, [], ◌∷◌, ◌++◌, length, take, drop, Option, Some, None, option_map, refl, sym, ◌∙◌, ap, arith, nat_lt, nat_le, nat_eq, ◌==◌, length-drop}
+use Rattle.std.proofs.Common.{◌≡◌, ℕ, zero, suc, ◌+◌, ◌-◌, ◌≤◌, ◌<◌, Bool, true, false, if◌then◌else◌, List, [], ◌∷◌, ◌++◌, length, take, drop, Option, Some, None, option_map, All, Ok, length-append, subst, ◌^◌, refl, sym, ◌∙◌, ap, arith, nat_lt, nat_le, nat_eq, ◌==◌, length-drop}
 use Rattle.std.proofs.lemmas.Bool.{eqb-true, eq-eqb, le-ltb, lt-ltb, ltb-false, leb-false, leb-true}
-use Rattle.std.proofs.lemmas.List.{nil_from_length}
+use Rattle.std.proofs.lemmas.List.{nil_from_length, length-take-le, drop_at}
 use Rattle.net_prefix.specs.declared.fault.PrefixFault.{PrefixFault}
 use Rattle.net_prefix.specs.declared.fault.PrefixFault.TheVariants.{LenOver32, HostBits, Text, Cut}
 use Rattle.net_prefix.specs.declared.prefix.Prefix.{Prefix}
 use Rattle.net_prefix.specs.Cover.{masked_bits}
-use Rattle.net_prefix.specs.PrefixSpelling.{BeginsWith, BeginsWithNone, octets_for, address_from}
+use Rattle.net_prefix.specs.PrefixSpelling.{BeginsWith, BeginsWithNone, octets_for, address_from, address_octets, spelling_of}
 use Rattle.net_prefix.proofs.Prefixes.{same_prefix}
-use Rattle.bgp_msg.specs.MessageSpelling.{prefix_if, prefix_at, from_prefix, front_prefixes_within, front_prefixes, are_prefixes_in, prefixes_in, ArePrefixes}
+use Rattle.net_prefix.proofs.Spellings.{reads_again}
+use Rattle.bgp_msg.specs.MessageSpelling.{prefix_if, prefix_at, from_prefix, front_prefixes_within, front_prefixes, are_prefixes_in, prefixes_in, ArePrefixes, wire_form}
 
 -- Prefixes read one after another, as a loop does.
 
@@ -257,3 +258,42 @@ prefixes-are octets [] h = nothing_read octets _ refl h
 prefixes-are octets (prefix ∷ prefixes) h =
     let first = first_read octets prefix prefixes _ refl h in
     (first.0, prefixes-are (drop (1 + octets_for prefix.len) octets) prefixes first.1)
+
+-- what a prefix is written as is read as that prefix
+prefix_if_some : (bits len : ℕ) (test : Bool) (e : nat_le len 32 ≡ test) → len ≤ 32 → (prefix : Prefix) × (prefix_if bits len test e ≡ Some prefix)
+prefix_if_some bits len true e small = (_, refl)
+prefix_if_some bits len false e small =
+    let long : 32 < len = leb-false len 32 e in
+    absurd (omega (arith, small, long))
+
+prefix_at-some : (len : ℕ) (rest : List ℕ) → len ≤ 32 → octets_for len ≤ length rest → (prefix : Prefix) × (prefix_at (len ∷ rest) ≡ Some (prefix, drop (octets_for len) rest))
+unfolding prefix_at
+prefix_at-some len rest small fits =
+    let found = prefix_if_some (address_from (take (octets_for len) rest)) len (nat_le len 32) refl small in
+    let room : nat_lt (length rest) (octets_for len) ≡ false = le-ltb (length rest) (octets_for len) fits in
+    (found.0, rw (room, found.1) refl)
+
+spelling_length : (prefix : Prefix) → length (spelling_of prefix.bits prefix.len) ≡ 1 + octets_for prefix.len
+spelling_length prefix =
+    let kept : length (take (octets_for prefix.len) (address_octets prefix.bits)) ≡ octets_for prefix.len = length-take-le (octets_for prefix.len) (address_octets prefix.bits) (omega (arith, prefix.short)) in
+    omega (arith, kept)
+
+written_begins : (prefix : Prefix) (rest : List ℕ) → prefix.bits < 2 ^ 32 → BeginsWith (spelling_of prefix.bits prefix.len ++ rest) prefix.bits prefix.len (1 + octets_for prefix.len)
+written_begins prefix rest small =
+    let address = take (octets_for prefix.len) (address_octets prefix.bits) in
+    let fits : octets_for prefix.len ≤ length (address ++ rest) = omega (arith, spelling_length prefix, length-append address rest) in
+    let found = prefix_at-some prefix.len (address ++ rest) prefix.short fits in
+    let begins = (begins-prefix_at (spelling_of prefix.bits prefix.len ++ rest) _ found.0 found.1).0 in
+    let same = reads_again prefix.bits prefix.len rest (Ok (found.0, 1 + octets_for found.0.len)) small (prefix.short, prefix.no_host_bits) begins in
+    let is : found.0 ≡ prefix = same_prefix found.0 prefix same.0 same.1 in
+    subst (λ (p : Prefix). BeginsWith (spelling_of prefix.bits prefix.len ++ rest) p.bits p.len (1 + octets_for p.len)) is begins
+
+wire_form-are : (prefixes : List Prefix) → All (λ prefix. prefix.bits < 2 ^ 32) prefixes → ArePrefixes (wire_form prefixes) prefixes
+wire_form-are [] small = refl
+wire_form-are (prefix ∷ prefixes) small =
+    let rest : drop (1 + octets_for prefix.len) (wire_form (prefix ∷ prefixes)) ≡ wire_form prefixes = drop_at (spelling_of prefix.bits prefix.len) (wire_form prefixes) _ (spelling_length prefix) in
+    let others : All (λ p. p.bits < 2 ^ 32) prefixes = λ k d h. small (suc k) d (omega (arith, h)) in
+    (written_begins prefix (wire_form prefixes) (small 0 prefix (omega arith)), subst (λ (x : List ℕ). ArePrefixes x prefixes) (sym rest) (wire_form-are prefixes others))
+
+pub wire_form-read : (prefixes : List Prefix) → All (λ prefix. prefix.bits < 2 ^ 32) prefixes → prefixes_in (wire_form prefixes) ≡ Some prefixes
+wire_form-read prefixes small = prefixes_in-are (wire_form prefixes) prefixes (wire_form-are prefixes small)

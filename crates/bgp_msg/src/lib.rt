@@ -19,7 +19,7 @@ pub use stream::{
     no_message_begins_another, one_more_octet, one_spelling, only_messages, pieces_are_the_stream,
     written_is_read,
 };
-pub use update::{Prefixes, Update, read_update};
+pub use update::{Prefixes, Update, only_prefixes, read_update, written_prefixes_are_read};
 pub use writing::{write_announcement, write_keepalive, write_open, write_withdrawal};
 
 #[cfg(test)]

@@ -1,7 +1,8 @@
 //! The UPDATE message (RFC 4271 section 4.3).
-ghost use Rattle.std.specs.Prelude.{◌≡◌, ◌<◌, ◌+◌, IfOk, IfSome, MatchOption, Err, Some, None, length};
+ghost use Rattle.std.specs.Prelude.{◌≡◌, ◌<◌, ◌+◌, ◌^◌, ◌↔◌, ℕ, List, All, IfOk, IfSome, MatchOption, Err, Some, None, length};
+ghost use Rattle.net_prefix.specs.declared.prefix.Prefix.{Prefix};
 ghost use Rattle.std.specs.Option.{option_map};
-ghost use Rattle.bgp_msg.specs.MessageSpelling.{counted_at, update_parts, prefix_at, front_prefixes, are_prefixes_in};
+ghost use Rattle.bgp_msg.specs.MessageSpelling.{counted_at, update_parts, prefix_at, front_prefixes, are_prefixes_in, prefixes_in, ArePrefixes, wire_form};
 ghost use Rattle.bgp_msg.specs.MessageStream.{IsUpdate, fault_before_attributes};
 ghost use Rattle.std.specs.Iterator.{YieldsFirst, item_count};
 
@@ -117,6 +118,16 @@ pub fn read_update<'a, A: Allocator + Clone>(
         attrs,
     })
 }
+
+/// Octets are read as prefixes exactly where they are these prefixes one after another.
+pub fn only_prefixes()
+    ensures { (octets : List ℕ) (prefixes : List Prefix) → (prefixes_in octets ≡ Some prefixes) ↔ ArePrefixes octets prefixes }
+{}
+
+/// What prefixes are written as is read again as these prefixes.
+pub fn written_prefixes_are_read()
+    ensures { (prefixes : List Prefix) → All (λ prefix. prefix.bits < 2 ^ 32) prefixes → prefixes_in (wire_form prefixes) ≡ Some prefixes }
+{}
 
 // The withdrawn routes, the path attributes and the octets behind them, where both lengths fit.
 fn split_body(body: &[u8]) -> Option<(&[u8], &[u8], &[u8])>
