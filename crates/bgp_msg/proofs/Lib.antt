@@ -3,4 +3,5 @@ pub mod PrefixLists
 pub mod ReaderAnswers
 pub mod StreamPieces
 pub mod Streams
+pub mod WrittenMessages
 pub mod Spellings

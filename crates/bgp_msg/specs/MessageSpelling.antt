@@ -69,6 +69,12 @@ open_of asn hold_time identifier =
     header_of Open 37 ++ 4 ∷ [] ++ to_be_bytes w16 (two_octet_as_of asn) ++ to_be_bytes w16 hold_time
     ++ to_be_bytes w32 identifier ++ 8 ∷ 2 ∷ 6 ∷ [] ++ four_octet_as_capability asn
 
+-- its body
+unfoldable pub open_body : ℕ → ℕ → ℕ → List ℕ
+open_body asn hold_time identifier =
+    4 ∷ to_be_bytes w16 (two_octet_as_of asn) ++ to_be_bytes w16 hold_time
+    ++ to_be_bytes w32 identifier ++ 8 ∷ 2 ∷ 6 ∷ four_octet_as_capability asn
+
 -- prefixes one after another (RFC 4271 section 4.3)
 abbrev pub wire_form : List Prefix → List ℕ
 wire_form prefixes = flat_map (λ prefix. spelling_of prefix.bits prefix.len) prefixes
@@ -126,6 +132,11 @@ update_of withdrawn attributes announced =
     header_of Update (23 + length withdrawn + length attributes + length announced)
     ++ to_be_bytes w16 (length withdrawn) ++ withdrawn
     ++ to_be_bytes w16 (length attributes) ++ attributes ++ announced
+
+-- its body
+unfoldable pub update_body : List ℕ → List ℕ → List ℕ → List ℕ
+update_body withdrawn attributes announced =
+    to_be_bytes w16 (length withdrawn) ++ (withdrawn ++ (to_be_bytes w16 (length attributes) ++ (attributes ++ announced)))
 
 -- a field of two octets that counts those behind it: the counted ones, and the octets behind them; none where they are cut off
 abbrev pub counted_at : List ℕ → Option (List ℕ × List ℕ)

@@ -97,6 +97,11 @@ abbrev pub unread_of_pieces : List ℕ → List (List ℕ) → List ℕ
 unread_of_pieces part [] = part
 unread_of_pieces part (piece ∷ pieces) = unread_of_pieces (unread_from part piece) pieces
 
+-- the octets are read as this message, whatever follows them
+abbrev pub IsReadFirst : List ℕ → MessageType → List ℕ → Type 0
+IsReadFirst octets kind body =
+    (more : List ℕ) → (messages (octets ++ more) ≡ WholeMessage kind body ∷ messages more) × (unread (octets ++ more) ≡ unread more)
+
 -- What a reader answers for the front of a stream.
 
 -- no whole header, or a header without a fault before the end of its message

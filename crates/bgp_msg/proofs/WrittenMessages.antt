@@ -1,0 +1,106 @@
+use Rattle.std.proofs.Common.{◌≡◌, ◌≤◌, ◌<◌, ◌+◌, ◌*◌, ◌/◌, ◌%◌, ◌^◌, ◌==◌, ◌||◌, nat_lt, if◌then◌else◌, ℕ, suc, Bool, true, false, not, List, [], ◌∷◌, ◌++◌, length, take, drop, get_or, Option, Some, None, refl, ap, sym, subst, ◌∙◌, arith, append_assoc, append-nil, length-append}
+use Rattle.std.specs.Option.{option_map}
+use Rattle.std.proofs.lemmas.Bool.{le-ltb, le-leb}
+use Rattle.std.proofs.lemmas.List.{take_at, drop_at}
+use Rattle.std.specs.Int.{w16, w32, to_be_bytes, from_be_bytes}
+use Rattle.bgp_msg.specs.declared.frame.MessageType.{MessageType}
+use Rattle.bgp_msg.specs.declared.frame.MessageType.TheVariants.{Open, Update, Notification, Keepalive}
+use Rattle.bgp_msg.specs.declared.open_message.Expected.{Expected}
+use Rattle.bgp_msg.specs.MessageSpelling.{is_lawful_length, header_of, message_of, marker, open_of, open_body, two_octet_as_of, four_octet_as_capability, update_of, update_body, update_parts, update_parts_behind, counted_at, parameters_of, parts_within}
+use Rattle.bgp_msg.specs.MessageFaults.{hold_time_at, identifier_at, open_fault, proposal_fault, told_fault}
+use Rattle.bgp_msg.specs.MessageStream.{IsReadFirst}
+use Rattle.bgp_msg.proofs.Streams.{message-then}
+use Rattle.bgp_msg.proofs.Spellings.{spelling_is_message}
+
+-- What the writers write is read again.
+
+pub written_first : (kind : MessageType) (body : List ℕ) → is_lawful_length kind (19 + length body) ≡ true → 19 + length body ≤ 4096 → IsReadFirst (message_of kind body) kind body
+written_first kind body may fits = λ more. message-then (message_of kind body) more kind body (spelling_is_message kind body may fits)
+
+keepalive_is : message_of Keepalive [] ≡ header_of Keepalive 19
+unfolding message_of
+keepalive_is = append-nil (header_of Keepalive 19)
+
+pub keepalive_first : IsReadFirst (header_of Keepalive 19) Keepalive []
+keepalive_first = subst (λ (x : List ℕ). IsReadFirst x Keepalive []) keepalive_is (written_first Keepalive [] refl (omega arith))
+
+open_is : (asn hold_time identifier : ℕ) → message_of Open (open_body asn hold_time identifier) ≡ open_of asn hold_time identifier
+unfolding message_of open_of open_body header_of marker
+open_is asn hold_time identifier = refl
+
+open_length : (asn hold_time identifier : ℕ) → length (open_body asn hold_time identifier) ≡ 18
+unfolding open_body
+open_length asn hold_time identifier = refl
+
+pub open_first : (asn hold_time identifier : ℕ) → IsReadFirst (open_of asn hold_time identifier) Open (open_body asn hold_time identifier)
+open_first asn hold_time identifier =
+    let body = open_body asn hold_time identifier in
+    let may : is_lawful_length Open (19 + length (open_body asn hold_time identifier)) ≡ true = ap (λ (n : ℕ). is_lawful_length Open (19 + n)) (open_length asn hold_time identifier) in
+    subst (λ (x : List ℕ). IsReadFirst x Open body) (open_is asn hold_time identifier) (written_first Open body may (omega (arith, open_length asn hold_time identifier)))
+
+pub open_hold_time : (asn hold_time identifier : ℕ) → hold_time < 2 ^ 16 → hold_time_at (open_body asn hold_time identifier) ≡ hold_time
+unfolding open_body
+open_hold_time asn hold_time identifier small = omega arith
+
+pub open_identifier : (asn hold_time identifier : ℕ) → identifier < 2 ^ 32 → identifier_at (open_body asn hold_time identifier) ≡ identifier
+unfolding open_body
+open_identifier asn hold_time identifier small = omega arith
+
+four_octets : (asn : ℕ) → asn < 2 ^ 32 → from_be_bytes w32 (to_be_bytes w32 asn) ≡ asn
+four_octets asn small = omega arith
+
+open_parameters : (asn hold_time identifier : ℕ) → asn < 2 ^ 32 → parameters_of (drop 10 (open_body asn hold_time identifier)) ≡ Some (true, Some asn)
+unfolding open_body parameters_of parts_within
+open_parameters asn hold_time identifier small = ap (λ (n : ℕ). Some (true, Some n)) (four_octets asn small)
+
+pub open_says :
+    (asn hold_time identifier : ℕ) (expected : Expected) → asn < 2 ^ 32 → hold_time < 2 ^ 16 → identifier < 2 ^ 32
+    → open_fault (open_body asn hold_time identifier) expected ≡ proposal_fault (true, Some asn) hold_time identifier expected
+unfolding open_fault open_body
+open_says asn hold_time identifier expected small small_time small_identifier =
+    rw (open_parameters asn hold_time identifier small, open_hold_time asn hold_time identifier small_time, open_identifier asn hold_time identifier small_identifier) refl
+
+update_length : (withdrawn attributes announced : List ℕ) → length (update_body withdrawn attributes announced) ≡ 4 + length withdrawn + length attributes + length announced
+unfolding update_body
+update_length withdrawn attributes announced = simp length-append (omega arith)
+
+regroup : (h a b c d e : List ℕ) → ((((h ++ a) ++ b) ++ c) ++ d) ++ e ≡ h ++ (a ++ (b ++ (c ++ (d ++ e))))
+regroup h a b c d e = simp append_assoc
+
+update_is : (withdrawn attributes announced : List ℕ) → message_of Update (update_body withdrawn attributes announced) ≡ update_of withdrawn attributes announced
+unfolding message_of update_of update_body
+update_is withdrawn attributes announced =
+    let body = update_body withdrawn attributes announced in
+    let count : 19 + length (update_body withdrawn attributes announced) ≡ 23 + length withdrawn + length attributes + length announced = omega (arith, update_length withdrawn attributes announced) in
+    ap (λ (n : ℕ). header_of Update n ++ body) count
+    ∙ sym (regroup (header_of Update (23 + length withdrawn + length attributes + length announced)) (to_be_bytes w16 (length withdrawn)) withdrawn (to_be_bytes w16 (length attributes)) attributes announced)
+
+pub update_first :
+    (withdrawn attributes announced : List ℕ) → 23 + length withdrawn + length attributes + length announced ≤ 4096
+    → IsReadFirst (update_of withdrawn attributes announced) Update (update_body withdrawn attributes announced)
+update_first withdrawn attributes announced fits =
+    let body = update_body withdrawn attributes announced in
+    let count = update_length withdrawn attributes announced in
+    let may : is_lawful_length Update (19 + length (update_body withdrawn attributes announced)) ≡ true = le-leb 23 _ (omega (arith, count)) in
+    subst (λ (x : List ℕ). IsReadFirst x Update body) (update_is withdrawn attributes announced) (written_first Update body may (omega (arith, count, fits)))
+
+two_octets : (n : ℕ) → n < 2 ^ 16 → n / 256 % 256 * 256 + n % 256 ≡ n
+two_octets n small = omega arith
+
+counted : (octets more : List ℕ) → length octets < 2 ^ 16 → counted_at (to_be_bytes w16 (length octets) ++ (octets ++ more)) ≡ Some (octets, more)
+counted octets more small =
+    let told : length octets / 256 % 256 * 256 + length octets % 256 ≡ length octets = two_octets (length octets) small in
+    let fits : nat_lt (length (octets ++ more)) (length octets) ≡ false = le-ltb (length (octets ++ more)) (length octets) (omega (arith, length-append octets more)) in
+    let front : take (length octets) (octets ++ more) ≡ octets = take_at octets more (length octets) refl in
+    let back : drop (length octets) (octets ++ more) ≡ more = drop_at octets more (length octets) refl in
+    rw (told, fits, front, back) refl
+
+pub update_has_parts :
+    (withdrawn attributes announced : List ℕ) → 23 + length withdrawn + length attributes + length announced ≤ 4096
+    → update_parts (update_body withdrawn attributes announced) ≡ Some (withdrawn, attributes, announced)
+unfolding update_body
+update_has_parts withdrawn attributes announced fits =
+    let rest = to_be_bytes w16 (length attributes) ++ (attributes ++ announced) in
+    let first : counted_at (update_body withdrawn attributes announced) ≡ Some (withdrawn, rest) = counted withdrawn rest (omega (arith, fits)) in
+    let second : counted_at rest ≡ Some (attributes, announced) = counted attributes announced (omega (arith, fits)) in
+    ap update_parts_behind first ∙ ap (option_map (λ (found : List ℕ × List ℕ). (withdrawn, found.0, found.1))) second
