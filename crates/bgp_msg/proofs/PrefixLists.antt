@@ -1,4 +1,4 @@
-use Rattle.std.proofs.Common.{◌≡◌, ℕ, zero, suc, ◌+◌, ◌-◌, ◌≤◌, ◌<◌, Bool, true, false, if◌then◌else◌, List, [], ◌∷◌, ◌++◌, length, take, drop, Option, Some, None, option_map, All, Ok, length-append, subst, ◌^◌, refl, sym, ◌∙◌, ap, arith, nat_lt, nat_le, nat_eq, ◌==◌, length-drop}
+use Rattle.std.proofs.Common.{◌≡◌, ℕ, zero, suc, ◌+◌, ◌≤◌, ◌<◌, Bool, true, false, if◌then◌else◌, List, [], ◌∷◌, ◌++◌, length, take, drop, Option, Some, None, option_map, All, Ok, length-append, subst, ◌^◌, refl, sym, ◌∙◌, ap, arith, nat_lt, nat_le, nat_eq, ◌==◌, length-drop}
 use Rattle.std.proofs.lemmas.Bool.{eqb-true, eq-eqb, le-ltb, lt-ltb, ltb-false, leb-false, leb-true}
 use Rattle.std.proofs.lemmas.List.{nil_from_length, length-take-le, drop_at}
 use Rattle.net_prefix.specs.declared.fault.PrefixFault.{PrefixFault}

@@ -1,12 +1,11 @@
-use Rattle.std.proofs.Common.{◌≡◌, ◌≤◌, ◌<◌, ◌+◌, ◌==◌, ℕ, suc, Bool, true, false, not, ◌||◌, nat_lt, nat_eq, if◌then◌else◌, List, [], ◌∷◌, ◌++◌, length, take, drop, get_or, Option, Some, None, ◌⊎◌, inl, inr, refl, ap, sym, subst, ◌∙◌, arith, append_assoc, append-nil, length-append}
-use Rattle.std.proofs.lemmas.Bool.{ltb-true, ltb-false, eqb-true, eqb-false, le-ltb, lt-ltb, eq-eqb, ne_eqb, or_parts, cases_lt}
+use Rattle.std.proofs.Common.{◌≡◌, ◌≤◌, ◌<◌, ◌+◌, ℕ, Bool, true, false, not, ◌||◌, nat_lt, if◌then◌else◌, List, [], ◌∷◌, ◌++◌, length, take, drop, get_or, Option, Some, None, ◌⊎◌, inl, inr, refl, ap, sym, subst, ◌∙◌, arith, append_assoc, append-nil, length-append}
+use Rattle.std.proofs.lemmas.Bool.{ltb-true, ltb-false, le-ltb, lt-ltb, eq-eqb, ne_eqb, or_parts, cases_lt}
 use Rattle.std.proofs.lemmas.List.{take-append-le, get_or_append_left, take-append-drop, length-take-le, nil_from_length}
-use Rattle.std.specs.Option.{option_map}
 use Rattle.bgp_msg.specs.declared.fault.HeaderFault.{HeaderFault}
 use Rattle.bgp_msg.specs.declared.frame.MessageType.{MessageType}
 use Rattle.bgp_msg.specs.MessageSpelling.{kind_at, told_length, has_marker}
-use Rattle.bgp_msg.specs.MessageFaults.{header_fault, is_unknown, is_unlawful}
-use Rattle.bgp_msg.specs.MessageStream.{Item, WholeMessage, FaultyHeader, Wants, IsMessage, HasNoItem, Splits, item_of, meaning, completed, left_over, with_front, messages_from, unread_from, messages, unread}
+use Rattle.bgp_msg.specs.MessageFaults.{header_fault, is_unknown}
+use Rattle.bgp_msg.specs.MessageStream.{Item, WholeMessage, FaultyHeader, Wants, IsMessage, HasNoItem, Splits, item_of, meaning, messages_from, unread_from, messages, unread}
 
 -- Streams of messages: what stands at the front, and what more octets make of it.
 

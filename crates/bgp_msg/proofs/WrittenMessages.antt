@@ -1,13 +1,13 @@
-use Rattle.std.proofs.Common.{◌≡◌, ◌≤◌, ◌<◌, ◌+◌, ◌*◌, ◌/◌, ◌%◌, ◌^◌, ◌==◌, ◌||◌, nat_lt, if◌then◌else◌, ℕ, suc, Bool, true, false, not, List, [], ◌∷◌, ◌++◌, length, take, drop, get_or, Option, Some, None, refl, ap, sym, subst, ◌∙◌, arith, append_assoc, append-nil, length-append}
+use Rattle.std.proofs.Common.{◌≡◌, ◌≤◌, ◌<◌, ◌+◌, ◌*◌, ◌/◌, ◌%◌, ◌^◌, nat_lt, ℕ, true, false, List, [], ◌++◌, length, take, drop, Some, refl, ap, sym, subst, ◌∙◌, arith, append_assoc, append-nil, length-append}
 use Rattle.std.specs.Option.{option_map}
 use Rattle.std.proofs.lemmas.Bool.{le-ltb, le-leb}
 use Rattle.std.proofs.lemmas.List.{take_at, drop_at}
 use Rattle.std.specs.Int.{w16, w32, to_be_bytes, from_be_bytes}
 use Rattle.bgp_msg.specs.declared.frame.MessageType.{MessageType}
-use Rattle.bgp_msg.specs.declared.frame.MessageType.TheVariants.{Open, Update, Notification, Keepalive}
+use Rattle.bgp_msg.specs.declared.frame.MessageType.TheVariants.{Open, Update, Keepalive}
 use Rattle.bgp_msg.specs.declared.open_message.Expected.{Expected}
-use Rattle.bgp_msg.specs.MessageSpelling.{is_lawful_length, header_of, message_of, marker, open_of, open_body, two_octet_as_of, four_octet_as_capability, update_of, update_body, update_parts, update_parts_behind, counted_at, parameters_of, parts_within}
-use Rattle.bgp_msg.specs.MessageFaults.{hold_time_at, identifier_at, open_fault, proposal_fault, told_fault}
+use Rattle.bgp_msg.specs.MessageSpelling.{is_lawful_length, header_of, message_of, marker, open_of, open_body, update_of, update_body, update_parts, update_parts_behind, counted_at, parameters_of, parts_within}
+use Rattle.bgp_msg.specs.MessageFaults.{hold_time_at, identifier_at, open_fault, proposal_fault}
 use Rattle.bgp_msg.specs.MessageStream.{IsReadFirst}
 use Rattle.bgp_msg.proofs.Streams.{message-then}
 use Rattle.bgp_msg.proofs.Spellings.{spelling_is_message}

@@ -1,10 +1,9 @@
-use Rattle.std.specs.Prelude.{◌≡◌, ◌⊎◌, ◌<◌, ◌≤◌, ℕ, ◌+◌, ◌-◌, ◌==◌, true, nat_lt, if◌then◌else◌, List, [], ◌∷◌, ◌++◌, Option, Some, None, MatchOption, take, drop, length, slice_index, slice_range}
+use Rattle.std.specs.Prelude.{◌≡◌, ◌⊎◌, ◌<◌, ◌≤◌, ℕ, ◌+◌, ◌-◌, ◌==◌, nat_lt, if◌then◌else◌, List, [], ◌∷◌, ◌++◌, Option, Some, None, MatchOption, take, drop, length, slice_index, slice_range}
 use Rattle.std.specs.Option.{option_map}
 use Rattle.net_prefix.specs.declared.prefix.Prefix.{Prefix}
 use Rattle.bgp_attr.specs.PathAttributes.{PathAttributes, missing_of}
 use Rattle.bgp_attr.specs.declared.fault.UpdateFault.{UpdateFault}
 use Rattle.bgp_attr.specs.declared.fault.UpdateFault.TheVariants.{MalformedAttributeList, InvalidNetworkField}
-use Rattle.net_prefix.specs.PrefixSpelling.{BeginsWith, octets_for}
 use Rattle.bgp_msg.specs.declared.fault.HeaderFault.{HeaderFault}
 use Rattle.bgp_msg.specs.declared.frame.MessageType.{MessageType}
 use Rattle.bgp_msg.specs.declared.frame.Step.{Step}
