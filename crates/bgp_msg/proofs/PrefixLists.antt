@@ -2,7 +2,7 @@ use Rattle.std.proofs.Common.{◌≡◌, ℕ, zero, suc, ◌+◌, ◌≤◌, ◌
 use Rattle.std.proofs.lemmas.Bool.{eqb-true, eq-eqb, le-ltb, lt-ltb, ltb-false, leb-false, leb-true}
 use Rattle.std.proofs.lemmas.List.{nil_from_length, length-take-le, drop_at}
 use Rattle.net_prefix.specs.declared.fault.PrefixFault.{PrefixFault}
-use Rattle.net_prefix.specs.declared.fault.PrefixFault.TheVariants.{LenOver32, HostBits, Text, Cut}
+use Rattle.net_prefix.specs.declared.fault.PrefixFault.TheVariants.{LenOver32, HostBits, Text, Cut, MaxRange}
 use Rattle.net_prefix.specs.declared.prefix.Prefix.{Prefix}
 use Rattle.net_prefix.specs.Cover.{masked_bits}
 use Rattle.net_prefix.specs.PrefixSpelling.{BeginsWith, BeginsWithNone, octets_for, address_from, address_octets, spelling_of}
@@ -71,6 +71,7 @@ prefix_at-none (len ∷ rest) LenOver32 h =
     either_none (nat_lt (length rest) (octets_for len)) _ (rw none refl)
 prefix_at-none (len ∷ rest) HostBits h = absurd h
 prefix_at-none (len ∷ rest) Text h = absurd h
+prefix_at-none (len ∷ rest) MaxRange h = absurd h
 prefix_at-none (len ∷ rest) Cut h =
     let short : length (len ∷ rest) < 1 + octets_for len = h.1 in
     let cut : nat_lt (length rest) (octets_for len) ≡ true = lt-ltb (length rest) (octets_for len) (omega (arith, short)) in
@@ -220,10 +221,10 @@ whole_parts found prefixes true none h =
     (same, eqb-true _ _ none)
 whole_parts found prefixes false some h = absurd cc
 
-prefixes_in-parts : (octets : List ℕ) (prefixes : List Prefix) → prefixes_in octets ≡ Some prefixes → ((front_prefixes octets).0 ≡ prefixes) × (length (front_prefixes octets).1 ≡ 0)
+pub prefixes_in-parts : (octets : List ℕ) (prefixes : List Prefix) → prefixes_in octets ≡ Some prefixes → ((front_prefixes octets).0 ≡ prefixes) × (length (front_prefixes octets).1 ≡ 0)
 prefixes_in-parts octets prefixes h = whole_parts (front_prefixes octets) prefixes _ refl h
 
-prefixes_in-from : (octets : List ℕ) (prefixes : List Prefix) → (front_prefixes octets).0 ≡ prefixes → length (front_prefixes octets).1 ≡ 0 → prefixes_in octets ≡ Some prefixes
+pub prefixes_in-from : (octets : List ℕ) (prefixes : List Prefix) → (front_prefixes octets).0 ≡ prefixes → length (front_prefixes octets).1 ≡ 0 → prefixes_in octets ≡ Some prefixes
 prefixes_in-from octets prefixes same none = rw (eq-eqb _ _ none, same) refl
 
 -- what is read, by its first prefix

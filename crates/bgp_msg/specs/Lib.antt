@@ -2,3 +2,4 @@ pub mod MessageSpelling
 pub mod MessageFaults
 pub mod MessageStream
 pub mod OpenParts
+pub mod UpdateMeaning

@@ -1,14 +1,10 @@
 use Rattle.std.specs.Prelude.{◌≡◌, ◌⊎◌, ◌<◌, ◌≤◌, ℕ, ◌+◌, ◌-◌, ◌==◌, nat_lt, if◌then◌else◌, List, [], ◌∷◌, ◌++◌, Option, Some, None, MatchOption, take, drop, length, slice_index, slice_range}
 use Rattle.std.specs.Option.{option_map}
-use Rattle.net_prefix.specs.declared.prefix.Prefix.{Prefix}
-use Rattle.bgp_attr.specs.PathAttributes.{PathAttributes, missing_of}
-use Rattle.bgp_attr.specs.declared.fault.UpdateFault.{UpdateFault}
-use Rattle.bgp_attr.specs.declared.fault.UpdateFault.TheVariants.{MalformedAttributeList, InvalidNetworkField}
 use Rattle.bgp_msg.specs.declared.fault.HeaderFault.{HeaderFault}
 use Rattle.bgp_msg.specs.declared.frame.MessageType.{MessageType}
 use Rattle.bgp_msg.specs.declared.frame.Step.{Step}
 use Rattle.bgp_msg.specs.declared.frame.Step.TheVariants.{Need, Message, Faulty}
-use Rattle.bgp_msg.specs.MessageSpelling.{kind_at, told_length, message_of, prefixes_in, are_prefixes_in, update_parts}
+use Rattle.bgp_msg.specs.MessageSpelling.{kind_at, told_length, message_of}
 use Rattle.bgp_msg.specs.MessageFaults.{header_fault}
 
 -- The messages of a stream of octets (RFC 4271 sections 4.1 and 6.1). The pieces in which the octets come are no
@@ -140,20 +136,3 @@ wanted_of (Some fault) told have = 0
 -- how many more octets are wanted before an answer
 abbrev pub needed_of : List ℕ → ℕ
 needed_of octets = if nat_lt (length octets) 19 then 19 - length octets else wanted_of (header_fault octets) (told_length octets) (length octets)
-
--- what an UPDATE says: the prefixes that it withdraws, its attributes, and the prefixes that it announces
-pub record UpdateBody : Type 0 where
-  pub withdrawn : List Prefix
-  pub attrs : PathAttributes
-  pub announced : List Prefix
-
--- the UPDATE is in the body: both lists are prefixes to the end, and no attribute is missing where prefixes are announced
-abbrev pub IsUpdate : List ℕ → UpdateBody → Type 0
-IsUpdate body update =
-    MatchOption (update_parts body) ⊥ (λ parts. (prefixes_in parts.0 ≡ Some update.withdrawn) × (prefixes_in parts.2 ≡ Some update.announced)
-    × ((parts.2 ≡ []) ⊎ (missing_of update.attrs ≡ None)))
-
--- the faults that are looked for before the attributes: lengths that don't fit, and withdrawn routes that are no prefixes
-abbrev pub fault_before_attributes : Option (List ℕ × List ℕ × List ℕ) → Option UpdateFault
-fault_before_attributes None = Some MalformedAttributeList
-fault_before_attributes (Some parts) = if are_prefixes_in parts.0 then None else Some InvalidNetworkField

@@ -19,7 +19,9 @@ pub use stream::{
     keepalive_is_read, no_message_begins_another, one_more_octet, one_spelling, only_messages,
     open_is_read, pieces_are_the_stream, update_is_read, written_is_read,
 };
-pub use update::{Prefixes, Update, only_prefixes, read_update, written_prefixes_are_read};
+pub use update::{
+    Prefixes, Update, only_prefixes, only_update, read_update, written_prefixes_are_read,
+};
 pub use writing::{write_announcement, write_keepalive, write_open, write_withdrawal};
 
 #[cfg(test)]

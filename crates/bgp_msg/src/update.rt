@@ -1,9 +1,12 @@
 //! The UPDATE message (RFC 4271 section 4.3).
-ghost use Rattle.std.specs.Prelude.{◌≡◌, ◌<◌, ◌+◌, ◌^◌, ◌↔◌, ℕ, List, All, IfOk, IfSome, MatchOption, Err, Some, None, length};
+ghost use Rattle.std.specs.Prelude.{◌≡◌, ◌<◌, ◌+◌, ◌^◌, ◌↔◌, ℕ, List, All, IfOk, IfErr, IsSome, IfSome, Some, None, length};
 ghost use Rattle.net_prefix.specs.declared.prefix.Prefix.{Prefix};
 ghost use Rattle.std.specs.Option.{option_map};
 ghost use Rattle.bgp_msg.specs.MessageSpelling.{counted_at, update_parts, prefix_at, front_prefixes, are_prefixes_in, prefixes_in, ArePrefixes, wire_form};
-ghost use Rattle.bgp_msg.specs.MessageStream.{IsUpdate, fault_before_attributes};
+ghost use Rattle.bgp_msg.specs.UpdateMeaning.{IsUpdate, UpdateBody, parts_fault, said_by, prefixes_fault, update_fault, update_in};
+ghost use Rattle.bgp_attr.specs.AttributeFaults.{attributes_fault, seen};
+ghost use Rattle.bgp_attr.specs.AttributeReading.{HasSegments, attributes_in};
+ghost use Rattle.bgp_attr.specs.declared.peer.PeerKind.{PeerKind};
 ghost use Rattle.std.specs.Iterator.{YieldsFirst, item_count};
 
 use bgp_attr::{Attrs, PeerKind, UpdateFault, read_attrs};
@@ -20,7 +23,7 @@ pub struct Update<'a, A: Allocator> {
 }
 
 impl<'a, A: Allocator> Model for Update<'a, A> {
-    ghost use Rattle.bgp_msg.specs.MessageStream.{UpdateBody};
+    ghost use Rattle.bgp_msg.specs.UpdateMeaning.{UpdateBody};
     ghost use Rattle.bgp_msg.specs.MessageSpelling.{front_prefixes};
 
     ghost Value = { UpdateBody };
@@ -89,17 +92,36 @@ impl Iterator for Prefixes<'_> {
 
 /// The UPDATE of this body, or its first fault (RFC 4271 section 6.3). Own choice: the order of the checks,
 /// which is the order of the lines.
+#[tactic(auto, unfolding(crate::specs::UpdateMeaning::update_fault, crate::specs::UpdateMeaning::update_in))]
 pub fn read_update<'a, A: Allocator + Clone>(
     alloc: A,
     body: &'a [u8],
     kind: PeerKind,
 ) -> Result<Update<'a, A>, UpdateFault<'a>>
-    ensures value { IfOk result (λ update. IsUpdate body.now update) }
-    ensures first { IfSome (fault_before_attributes (update_parts body.now)) (λ fault. result ≡ Err fault) }
+    ensures faultless { IfOk result (λ update. update_fault kind body.now ≡ None) }
+    ensures value { IfOk result (λ update. update ≡ update_in body.now) }
+    ensures fault { IfErr result (λ fault. IsSome (seen fault) → seen fault ≡ update_fault kind body.now) }
+    ensures memory { IfErr result (λ fault. seen fault ≡ None → HasSegments (update_in body.now).attrs.as_path) }
 {
     let Some((withdrawn, attributes, announced)) = split_body(body) else {
         return Err(UpdateFault::MalformedAttributeList);
     };
+    read_parts(alloc, withdrawn, attributes, announced, kind)
+}
+
+// The UPDATE of these parts, or its first fault.
+fn read_parts<'a, A: Allocator + Clone>(
+    alloc: A,
+    withdrawn: &'a [u8],
+    attributes: &'a [u8],
+    announced: &'a [u8],
+    kind: PeerKind,
+) -> Result<Update<'a, A>, UpdateFault<'a>>
+    ensures faultless { IfOk result (λ update. parts_fault kind (withdrawn.now, attributes.now, announced.now) ≡ None) }
+    ensures value { IfOk result (λ update. update ≡ said_by (withdrawn.now, attributes.now, announced.now)) }
+    ensures fault { IfErr result (λ fault. IsSome (seen fault) → seen fault ≡ parts_fault kind (withdrawn.now, attributes.now, announced.now)) }
+    ensures memory { IfErr result (λ fault. seen fault ≡ None → (prefixes_fault withdrawn.now ≡ None) × (attributes_fault kind attributes.now ≡ None) × HasSegments (attributes_in attributes.now).as_path) }
+{
     if !are_prefixes(withdrawn) {
         return Err(UpdateFault::InvalidNetworkField);
     }
@@ -118,6 +140,11 @@ pub fn read_update<'a, A: Allocator + Clone>(
         attrs,
     })
 }
+
+/// The UPDATE that a body spells is the one that is read, and it is read where there is no fault.
+pub fn only_update()
+    ensures { (kind : PeerKind) (body : List ℕ) (update : UpdateBody) → IsUpdate kind body update ↔ ((update_fault kind body ≡ None) × (update ≡ update_in body)) }
+{}
 
 /// Octets are read as prefixes exactly where they are these prefixes one after another.
 pub fn only_prefixes()
