@@ -1,0 +1,3 @@
+pub mod PayloadMembers
+pub mod Published
+pub mod Walks

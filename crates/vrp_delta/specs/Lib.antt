@@ -1,0 +1,4 @@
+pub mod Delta
+pub mod DeltaNumbers
+pub mod Versions
+pub mod Walks

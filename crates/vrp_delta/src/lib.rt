@@ -1,0 +1,22 @@
+//! The published versions of the payloads, and what changed from one to another.
+//!
+//! `Versions` keeps the set that was published last and the 16 before it, each under its serial. `delta_from` says
+//! exactly what the old set of a kept serial has and the last one lacks, and the other way round, and nothing for
+//! any other serial (RFC 8210 section 8.2). `apply` makes these changes to a set, or refuses a withdrawal of an
+//! unknown payload or the announcement of a known one (RFC 8210 section 12) and leaves the set as it was.
+//! `delta_applied` says that the delta between two sets, applied to the old one, gives the new one. Sessions stand
+//! above.
+#![tactic(auto)]
+
+mod delta;
+mod fault;
+mod versions;
+
+pub use delta::{Delta, apply, delta_applied};
+pub use fault::DeltaFault;
+pub use versions::{
+    KEPT_VERSIONS, Snapshot, Versions, newest_are_kept, same_sets_are_equal, serials_name_versions,
+};
+
+#[cfg(test)]
+mod tests;
