@@ -1,1 +1,4 @@
 pub mod Slot
+pub mod SessionInputs
+pub mod SentMessages
+pub mod Agreement
