@@ -1,3 +1,4 @@
+pub mod OpenFaults
 pub mod OpenParts
 pub mod PrefixLists
 pub mod ReaderAnswers

@@ -1,13 +1,13 @@
-use Rattle.std.proofs.Common.{◌≡◌, ◌≤◌, ◌<◌, ◌+◌, ◌*◌, ◌/◌, ◌%◌, ◌^◌, nat_lt, ℕ, true, false, List, [], ◌++◌, length, take, drop, Some, refl, ap, sym, subst, ◌∙◌, arith, append_assoc, append-nil, length-append}
-use Rattle.std.specs.Option.{option_map}
-use Rattle.std.proofs.lemmas.Bool.{le-ltb, le-leb}
+use Rattle.std.proofs.Common.{◌≡◌, ◌≢◌, ◌≤◌, ◌<◌, ◌+◌, ◌*◌, ◌/◌, ◌%◌, ◌^◌, nat_lt, ◌==◌, ◌||◌, not, get_or, ◌∷◌, ℕ, true, false, List, [], ◌++◌, length, take, drop, Some, None, refl, ap, sym, subst, ◌∙◌, arith, append_assoc, append-nil, length-append}
+use Rattle.std.specs.Option.{option_map, option_and_then}
+use Rattle.std.proofs.lemmas.Bool.{le-ltb, le-leb, eq-eqb, ne_eqb, or_from}
 use Rattle.std.proofs.lemmas.List.{take_at, drop_at}
 use Rattle.std.specs.Int.{w16, w32, to_be_bytes, from_be_bytes}
 use Rattle.bgp_msg.specs.declared.frame.MessageType.{MessageType}
 use Rattle.bgp_msg.specs.declared.frame.MessageType.TheVariants.{Open, Update, Keepalive}
 use Rattle.bgp_msg.specs.declared.open_message.Expected.{Expected}
-use Rattle.bgp_msg.specs.MessageSpelling.{is_lawful_length, header_of, message_of, marker, open_of, open_body, update_of, update_body, update_parts, update_parts_behind, counted_at, parameters_of, parts_within}
-use Rattle.bgp_msg.specs.MessageFaults.{hold_time_at, identifier_at, open_fault, proposal_fault}
+use Rattle.bgp_msg.specs.MessageSpelling.{Part, is_lawful_length, header_of, message_of, marker, open_of, open_body, two_octet_as_of, four_octet_as_capability, update_of, update_body, update_parts, update_parts_behind, counted_at, parts_within, parameters_at, capabilities_at, asn_at, first_asn}
+use Rattle.bgp_msg.specs.MessageFaults.{has_other_parameter, hold_time_at, identifier_at, open_fault}
 use Rattle.bgp_msg.specs.MessageStream.{IsReadFirst}
 use Rattle.bgp_msg.proofs.Streams.{message-then}
 use Rattle.bgp_msg.proofs.Spellings.{spelling_is_message}
@@ -49,16 +49,51 @@ open_identifier asn hold_time identifier small = omega arith
 four_octets : (asn : ℕ) → asn < 2 ^ 32 → from_be_bytes w32 (to_be_bytes w32 asn) ≡ asn
 four_octets asn small = omega arith
 
-open_parameters : (asn hold_time identifier : ℕ) → asn < 2 ^ 32 → parameters_of (drop 10 (open_body asn hold_time identifier)) ≡ Some (true, Some asn)
-unfolding open_body parameters_of parts_within
-open_parameters asn hold_time identifier small = ap (λ (n : ℕ). Some (true, Some n)) (four_octets asn small)
+-- the one optional parameter of an OPEN, and the one capability in it
+abbrev capability : ℕ → Part
+capability asn = record { kind = 65; value = to_be_bytes w32 asn }
 
-pub open_says :
+open_capabilities : (asn hold_time identifier : ℕ) → capabilities_at (open_body asn hold_time identifier) ≡ Some (capability asn ∷ [])
+unfolding open_body parts_within
+open_capabilities asn hold_time identifier = refl
+
+open_parameters : (asn hold_time identifier : ℕ) → has_other_parameter (parameters_at (open_body asn hold_time identifier)) ≡ false
+unfolding open_body parts_within
+open_parameters asn hold_time identifier = refl
+
+pub open_asn : (asn hold_time identifier : ℕ) → asn < 2 ^ 32 → asn_at (open_body asn hold_time identifier) ≡ Some asn
+open_asn asn hold_time identifier small =
+    ap (option_and_then first_asn) (open_capabilities asn hold_time identifier) ∙ ap (λ (n : ℕ). Some n) (four_octets asn small)
+
+open_front : (asn hold_time identifier : ℕ) → (nat_lt (length (open_body asn hold_time identifier)) 10 ≡ false) × (not (get_or (open_body asn hold_time identifier) 0 0 == 4) ≡ false)
+unfolding open_body
+open_front asn hold_time identifier = (refl, refl)
+
+faultless_by_tests :
+    (body : List ℕ) (asn hold_time identifier : ℕ) (capabilities : List Part) (expected : Expected)
+    → (nat_lt (length body) 10 ≡ false) × (not (get_or body 0 0 == 4) ≡ false) → capabilities_at body ≡ Some capabilities
+    → has_other_parameter (parameters_at body) ≡ false → first_asn capabilities ≡ Some asn → hold_time_at body ≡ hold_time → identifier_at body ≡ identifier
+    → (asn == expected.peer_asn.0) ≡ true → (identifier == 0 || identifier == expected.own_identifier) ≡ false → (hold_time == 1 || hold_time == 2) ≡ false
+    → open_fault body expected ≡ None
+unfolding open_fault
+faultless_by_tests body asn hold_time identifier capabilities expected front capabilities_are types asn_is hold_time_is identifier_is same lawful acceptable =
+    rw (front.0, front.1, capabilities_are, types, asn_is, identifier_is, hold_time_is, same, lawful, acceptable) refl
+
+pub open_faultless :
     (asn hold_time identifier : ℕ) (expected : Expected) → asn < 2 ^ 32 → hold_time < 2 ^ 16 → identifier < 2 ^ 32
-    → open_fault (open_body asn hold_time identifier) expected ≡ proposal_fault (true, Some asn) hold_time identifier expected
-unfolding open_fault open_body
-open_says asn hold_time identifier expected small small_time small_identifier =
-    rw (open_parameters asn hold_time identifier small, open_hold_time asn hold_time identifier small_time, open_identifier asn hold_time identifier small_identifier) refl
+    → expected.peer_asn.0 ≡ asn → identifier ≢ 0 → identifier ≢ expected.own_identifier → hold_time ≢ 1 → hold_time ≢ 2
+    → open_fault (open_body asn hold_time identifier) expected ≡ None
+open_faultless asn hold_time identifier expected small small_time small_identifier same some other not_one not_two =
+    faultless_by_tests (open_body asn hold_time identifier) asn hold_time identifier (capability asn ∷ []) expected
+    (open_front asn hold_time identifier)
+    (open_capabilities asn hold_time identifier)
+    (open_parameters asn hold_time identifier)
+    (ap (λ (n : ℕ). Some n) (four_octets asn small))
+    (open_hold_time asn hold_time identifier small_time)
+    (open_identifier asn hold_time identifier small_identifier)
+    (eq-eqb asn expected.peer_asn.0 (sym same))
+    (or_from (identifier == 0) (identifier == expected.own_identifier) (ne_eqb identifier 0 some) (ne_eqb identifier expected.own_identifier other))
+    (or_from (hold_time == 1) (hold_time == 2) (ne_eqb hold_time 1 not_one) (ne_eqb hold_time 2 not_two))
 
 update_length : (withdrawn attributes announced : List ℕ) → length (update_body withdrawn attributes announced) ≡ 4 + length withdrawn + length attributes + length announced
 unfolding update_body

@@ -1,5 +1,6 @@
 use Rattle.std.specs.Prelude.{ℕ, ◌+◌, ◌*◌, ◌^◌, ◌==◌, nat_lt, if◌then◌else◌, Bool, true, false, not, ◌||◌, List, [], ◌∷◌, Option, Some, None, is_none, length, drop, slice_index}
 use Rattle.std.specs.Int.{w16, to_be_bytes}
+use Rattle.std.specs.List.{list_all}
 use Rattle.bgp_msg.specs.declared.frame.MessageType.{MessageType}
 use Rattle.bgp_msg.specs.declared.fault.HeaderFault.{HeaderFault}
 use Rattle.bgp_msg.specs.declared.fault.HeaderFault.TheVariants.{ConnectionNotSynchronized, BadMessageLength, BadMessageType}
@@ -8,7 +9,7 @@ use Rattle.bgp_msg.specs.declared.fault.OpenFault.TheVariants.{MalformedParamete
 use Rattle.bgp_msg.specs.declared.fault.Fault.{Fault}
 use Rattle.bgp_msg.specs.declared.fault.Fault.TheVariants.{Header, Open, Update}
 use Rattle.bgp_attr.specs.AttributeFaults.{code_of, subcode_of, data_of}
-use Rattle.bgp_msg.specs.MessageSpelling.{kind_at, is_lawful_length, told_length, has_marker, four_octet_as_capability, parameters_of}
+use Rattle.bgp_msg.specs.MessageSpelling.{kind_at, is_lawful_length, told_length, has_marker, Part, four_octet_as_capability, parameters_at, capabilities_at, asn_at}
 use Rattle.bgp_msg.specs.declared.open_message.Expected.{Expected}
 
 -- What is wrong with a message, in the order in which it is looked for (RFC 4271 section 6; the order is our own).
@@ -50,29 +51,24 @@ hold_time_at body = slice_index body 3 * 256 + slice_index body 4
 abbrev pub identifier_at : List ℕ → ℕ
 identifier_at body = slice_index body 5 * 2 ^ 24 + slice_index body 6 * 2 ^ 16 + slice_index body 7 * 2 ^ 8 + slice_index body 8
 
--- the faults of what an OPEN proposes, where its optional parameters can be read (RFC 4271 section 6.2, RFC 5492 section 5)
-unfoldable pub proposal_fault : Bool × Option ℕ → ℕ → ℕ → Expected → Option OpenFault
-proposal_fault told hold_time identifier expected =
-    first_fault
-    ((not told.0, UnsupportedParameter)
-    ∷ (is_none told.1, UnsupportedCapability expected.own_asn)
-    ∷ (is_other told.1 expected.peer_asn.0, BadPeerAs)
-    ∷ (identifier == 0 || identifier == expected.own_identifier, BadIdentifier)
-    ∷ (hold_time == 1 || hold_time == 2, UnacceptableHoldTime)
-    ∷ [])
+-- an optional parameter is of another type than that of capabilities
+abbrev pub has_other_parameter : Option (List Part) → Bool
+has_other_parameter None = false
+has_other_parameter (Some parameters) = not (list_all (λ parameter. parameter.kind == 2) parameters)
 
--- the same where they may be malformed
-abbrev pub told_fault : Option (Bool × Option ℕ) → ℕ → ℕ → Expected → Option OpenFault
-told_fault None hold_time identifier expected = Some MalformedParameters
-told_fault (Some told) hold_time identifier expected = proposal_fault told hold_time identifier expected
-
--- the faults of an OPEN: its version, its optional parameters, what it proposes
+-- the faults of an OPEN (RFC 4271 section 6.2, RFC 5492 section 5)
 unfoldable pub open_fault : List ℕ → Expected → Option OpenFault
 open_fault body expected =
-    if nat_lt (length body) 10 then Some MalformedParameters
-    else (if not (slice_index body 0 == 4) then Some UnsupportedVersion
-    else (if not (slice_index body 9 + 10 == length body) then Some MalformedParameters
-    else told_fault (parameters_of (drop 10 body)) (hold_time_at body) (identifier_at body) expected))
+    first_fault
+    ((nat_lt (length body) 10, MalformedParameters)
+    ∷ (not (slice_index body 0 == 4), UnsupportedVersion)
+    ∷ (is_none (capabilities_at body), MalformedParameters)
+    ∷ (has_other_parameter (parameters_at body), UnsupportedParameter)
+    ∷ (is_none (asn_at body), UnsupportedCapability expected.own_asn)
+    ∷ (is_other (asn_at body) expected.peer_asn.0, BadPeerAs)
+    ∷ (identifier_at body == 0 || identifier_at body == expected.own_identifier, BadIdentifier)
+    ∷ (hold_time_at body == 1 || hold_time_at body == 2, UnacceptableHoldTime)
+    ∷ [])
 
 -- the error subcodes of RFC 4271 section 6.1
 abbrev pub header_subcode : HeaderFault → ℕ

@@ -160,6 +160,11 @@ pub record Part : Type 0 where
   pub kind : ℕ
   pub value : List ℕ
 
+-- parts one after another: of each its type or code, how many octets its value has, and these
+abbrev pub parts_form : List Part → List ℕ
+parts_form [] = []
+parts_form (part ∷ parts) = part.kind ∷ length part.value ∷ (part.value ++ parts_form parts)
+
 -- the part at the front, and the octets behind it; none where it is cut off
 abbrev pub part_at : List ℕ → Option (Part × List ℕ)
 part_at [] = None
@@ -202,23 +207,24 @@ abbrev pub first_asn : List Part → Option ℕ
 first_asn [] = None
 first_asn (capability ∷ capabilities) = or_else (asn_told capability) (first_asn capabilities)
 
--- what capabilities tell behind others; none where they are malformed
-abbrev pub asn_behind : Option ℕ → Option (List Part) → Option (Option ℕ)
-asn_behind asn None = None
-asn_behind asn (Some capabilities) = Some (or_else asn (first_asn capabilities))
+-- the capabilities that an optional parameter holds; none where their list is malformed
+abbrev pub capabilities_in : Part → Option (List Part)
+capabilities_in parameter = if parameter.kind == 2 then parts_of parameter.value else Some []
 
--- what an optional parameter tells behind others: whether all hold capabilities, and the AS number that these tell first
-abbrev pub parameter_behind : Bool × Option ℕ → Part → Option (Bool × Option ℕ)
-parameter_behind told parameter =
-    if parameter.kind == 2 then option_map (λ asn. (told.0, asn)) (asn_behind told.1 (parts_of parameter.value))
-    else Some (false, told.1)
+-- the capabilities that optional parameters hold, in their order
+abbrev pub capabilities_of : List Part → Option (List Part)
+capabilities_of [] = Some []
+capabilities_of (parameter ∷ parameters) =
+    option_and_then (λ first. option_map (λ more. first ++ more) (capabilities_of parameters)) (capabilities_in parameter)
 
--- the same of several parameters, in their order
-abbrev pub parameters_behind : Bool × Option ℕ → List Part → Option (Bool × Option ℕ)
-parameters_behind told [] = Some told
-parameters_behind told (parameter ∷ parameters) =
-    option_and_then (λ more. parameters_behind more parameters) (parameter_behind told parameter)
+-- the optional parameters of an OPEN; none where one is cut off or they don't end with the body
+abbrev pub parameters_at : List ℕ → Option (List Part)
+parameters_at body = if slice_index body 9 + 10 == length body then parts_of (drop 10 body) else None
 
--- what the optional parameters of an OPEN tell; none where a parameter is cut off or holds malformed capabilities
-unfoldable pub parameters_of : List ℕ → Option (Bool × Option ℕ)
-parameters_of octets = option_and_then (parameters_behind (true, None)) (parts_of octets)
+-- the capabilities of an OPEN; none where its optional parameters, or a list of capabilities in them, are malformed
+abbrev pub capabilities_at : List ℕ → Option (List Part)
+capabilities_at body = option_and_then capabilities_of (parameters_at body)
+
+-- the AS number that an OPEN tells: that of its first capability that tells one
+abbrev pub asn_at : List ℕ → Option ℕ
+asn_at body = option_and_then first_asn (capabilities_at body)

@@ -14,7 +14,7 @@ mod writing;
 
 pub use fault::{Fault, HeaderFault, OpenFault};
 pub use frame::{Frame, HEADER_OCTETS, MAX_MESSAGE, MessageType, Step, needed, read};
-pub use open_message::{Expected, Open, read_open};
+pub use open_message::{Expected, Open, only_parts, read_open};
 pub use stream::{
     keepalive_is_read, no_message_begins_another, one_more_octet, one_spelling, only_messages,
     open_is_read, pieces_are_the_stream, update_is_read, written_is_read,

@@ -1,9 +1,9 @@
 //! The OPEN message (RFC 4271 section 4.2) with the capability of AS numbers of four octets (RFC 6793).
-ghost use Rattle.std.specs.Prelude.{◌≡◌, ◌<◌, IfOk, IfSome, MatchResult, Some, None, length};
+ghost use Rattle.std.specs.Prelude.{◌≡◌, ◌<◌, ◌↔◌, ℕ, List, IfOk, IfSome, MatchResult, Some, None, length};
 ghost use Rattle.std.specs.Option.{option_map};
-ghost use Rattle.bgp_msg.specs.MessageSpelling.{four_octet_as_capability, part_at, parts_of, asn_in, asn_told, asn_behind, or_else, parameter_behind, parameters_of};
-ghost use Rattle.bgp_msg.specs.OpenParts.{number, seen};
-ghost use Rattle.bgp_msg.specs.MessageFaults.{open_fault, proposal_fault, hold_time_at, identifier_at};
+ghost use Rattle.bgp_msg.specs.MessageSpelling.{Part, four_octet_as_capability, part_at, parts_of, parts_form, asn_in, asn_told, or_else};
+ghost use Rattle.bgp_msg.specs.OpenParts.{number, seen, asn_behind, parameter_behind, parameters_of, proposal_fault, fault_found};
+ghost use Rattle.bgp_msg.specs.MessageFaults.{open_fault, hold_time_at, identifier_at};
 
 use crate::fault::OpenFault;
 use net_prefix::Asn;
@@ -46,9 +46,23 @@ struct Parameters {
 
 /// The OPEN of this body, or its first fault (RFC 4271 section 6.2). Own choice: the order of the checks, which
 /// is the order of the lines; and a body that ends within its fixed fields is malformed.
-#[tactic(auto, unfolding(crate::specs::MessageFaults::open_fault))]
 pub fn read_open(body: &[u8], expected: Expected) -> Result<Open, OpenFault>
     ensures fault { MatchResult result (λ _. open_fault body.now expected ≡ None) (λ fault. open_fault body.now expected ≡ Some fault) }
+    ensures hold_time { IfOk result (λ message. message.hold_time ≡ hold_time_at body.now) }
+    ensures identifier { IfOk result (λ message. message.identifier ≡ identifier_at body.now) }
+    ensures asn { IfOk result (λ message. message.asn ≡ expected.peer_asn) }
+{
+    judge_open(body, expected)
+}
+
+/// Octets are optional parameters, or capabilities, exactly where they are these one after another.
+pub fn only_parts()
+    ensures { (octets : List ℕ) (parts : List Part) → (parts_of octets ≡ Some parts) ↔ (octets ≡ parts_form parts) }
+{}
+
+#[tactic(auto, unfolding(crate::specs::OpenParts::fault_found))]
+fn judge_open(body: &[u8], expected: Expected) -> Result<Open, OpenFault>
+    ensures fault { MatchResult result (λ _. fault_found body.now expected ≡ None) (λ fault. fault_found body.now expected ≡ Some fault) }
     ensures hold_time { IfOk result (λ message. message.hold_time ≡ hold_time_at body.now) }
     ensures identifier { IfOk result (λ message. message.identifier ≡ identifier_at body.now) }
     ensures asn { IfOk result (λ message. message.asn ≡ expected.peer_asn) }
@@ -92,7 +106,7 @@ pub(crate) fn four_octet_as(asn: Asn) -> [u8; 6]
 }
 
 // The OPEN that proposes this, or its first fault.
-#[tactic(auto, unfolding(crate::specs::MessageFaults::proposal_fault))]
+#[tactic(auto, unfolding(crate::specs::OpenParts::proposal_fault))]
 fn judge_proposal(
     told: Parameters,
     hold_time: u16,
@@ -125,7 +139,7 @@ fn judge_proposal(
 }
 
 // The optional parameters; none where one is cut off or holds a malformed list of capabilities.
-#[tactic(auto, unfolding(crate::specs::MessageSpelling::parameters_of))]
+#[tactic(auto, unfolding(crate::specs::OpenParts::parameters_of))]
 fn read_parameters(octets: &[u8]) -> Option<Parameters>
     ensures { option_map seen result ≡ parameters_of octets.now }
 {

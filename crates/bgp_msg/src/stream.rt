@@ -1,11 +1,11 @@
 //! Laws of the messages of a stream (RFC 4271 section 4.1).
-ghost use Rattle.std.specs.Prelude.{◌≡◌, ◌<◌, ◌≤◌, ◌+◌, ◌^◌, ◌++◌, ℕ, List, [], ◌∷◌, Option, Some, None, length, All, true};
+ghost use Rattle.std.specs.Prelude.{◌≡◌, ◌≢◌, ◌<◌, ◌≤◌, ◌+◌, ◌^◌, ◌++◌, ℕ, List, [], ◌∷◌, Some, None, length, All, true};
 ghost use Rattle.std.specs.List.{concat};
 ghost use Rattle.bgp_msg.specs.declared.frame.MessageType.{MessageType};
 ghost use Rattle.bgp_msg.specs.declared.frame.MessageType.TheVariants.{Open, Update, Keepalive};
 ghost use Rattle.bgp_msg.specs.declared.open_message.Expected.{Expected};
-ghost use Rattle.bgp_msg.specs.MessageSpelling.{message_of, is_lawful_length, header_of, open_of, open_body, update_of, update_body, update_parts};
-ghost use Rattle.bgp_msg.specs.MessageFaults.{hold_time_at, identifier_at, open_fault, proposal_fault};
+ghost use Rattle.bgp_msg.specs.MessageSpelling.{message_of, is_lawful_length, header_of, open_of, open_body, asn_at, update_of, update_body, update_parts};
+ghost use Rattle.bgp_msg.specs.MessageFaults.{hold_time_at, identifier_at, open_fault};
 ghost use Rattle.bgp_msg.specs.MessageStream.{Item, IsMessage, Splits, messages, unread, messages_of_pieces, unread_of_pieces, completed, left_over, with_front, IsReadFirst};
 
 /// A stream is its messages one after another and then what is unread, and it is so in no other way.
@@ -45,12 +45,13 @@ pub fn keepalive_is_read()
     ensures { IsReadFirst (header_of Keepalive 19) Keepalive [] }
 {}
 
-/// So is an OPEN. Its body says what was written: the hold time, the identifier, and the one capability.
+/// So is an OPEN. Its body says what was written, and who expects this AS finds no fault in a lawful one.
 pub fn open_is_read()
     ensures message { (asn hold_time identifier : ℕ) → IsReadFirst (open_of asn hold_time identifier) Open (open_body asn hold_time identifier) }
     ensures hold_time { (asn hold_time identifier : ℕ) → hold_time < 2 ^ 16 → hold_time_at (open_body asn hold_time identifier) ≡ hold_time }
     ensures identifier { (asn hold_time identifier : ℕ) → identifier < 2 ^ 32 → identifier_at (open_body asn hold_time identifier) ≡ identifier }
-    ensures fault { (asn hold_time identifier : ℕ) (expected : Expected) → asn < 2 ^ 32 → hold_time < 2 ^ 16 → identifier < 2 ^ 32 → open_fault (open_body asn hold_time identifier) expected ≡ proposal_fault (true, Some asn) hold_time identifier expected }
+    ensures asn { (asn hold_time identifier : ℕ) → asn < 2 ^ 32 → asn_at (open_body asn hold_time identifier) ≡ Some asn }
+    ensures faultless { (asn hold_time identifier : ℕ) (expected : Expected) → asn < 2 ^ 32 → hold_time < 2 ^ 16 → identifier < 2 ^ 32 → expected.peer_asn.0 ≡ asn → identifier ≢ 0 → identifier ≢ expected.own_identifier → hold_time ≢ 1 → hold_time ≢ 2 → open_fault (open_body asn hold_time identifier) expected ≡ None }
 {}
 
 /// So is an UPDATE. Its body has the parts that were written.

@@ -1,7 +1,7 @@
 use Rattle.std.proofs.Common.{◌≡◌, length}
 use Rattle.std.specs.Option.{option_map}
-use Rattle.bgp_msg.specs.MessageSpelling.{asn_behind, parts_of}
-use Rattle.bgp_msg.specs.OpenParts.{number}
+use Rattle.bgp_msg.specs.MessageSpelling.{parts_of}
+use Rattle.bgp_msg.specs.OpenParts.{number, asn_behind}
 use Rattle.bgp_msg.proofs.open_message.read_capabilities.Given as goal
 
 -- what was found so far and what the rest tells are what all tell

@@ -1,7 +1,7 @@
 use Rattle.std.proofs.Common.{◌≡◌, length}
 use Rattle.std.specs.Option.{option_and_then}
-use Rattle.bgp_msg.specs.MessageSpelling.{parameters_behind, parts_of, parameters_of}
-use Rattle.bgp_msg.specs.OpenParts.{seen}
+use Rattle.bgp_msg.specs.MessageSpelling.{parts_of}
+use Rattle.bgp_msg.specs.OpenParts.{seen, parameters_behind, parameters_of}
 use Rattle.bgp_msg.proofs.open_message.read_parameters.Given as goal
 
 -- what was told so far and what the rest tells are what all tell

@@ -1,4 +1,4 @@
-use Rattle.bgp_msg.proofs.WrittenMessages.{open_first, open_hold_time, open_identifier, open_says}
+use Rattle.bgp_msg.proofs.WrittenMessages.{open_first, open_hold_time, open_identifier, open_asn, open_faultless}
 use Rattle.bgp_msg.proofs.stream.open_is_read.Goals as goal
 
 pub returns-clause-message : goal.returns-clause-message
@@ -10,6 +10,9 @@ returns-clause-hold_time c asn hold_time identifier small = open_hold_time asn h
 pub returns-clause-identifier : goal.returns-clause-identifier
 returns-clause-identifier c asn hold_time identifier small = open_identifier asn hold_time identifier small
 
-pub returns-clause-fault : goal.returns-clause-fault
-returns-clause-fault c asn hold_time identifier expected small small_time small_identifier =
-    open_says asn hold_time identifier expected small small_time small_identifier
+pub returns-clause-asn : goal.returns-clause-asn
+returns-clause-asn c asn hold_time identifier small = open_asn asn hold_time identifier small
+
+pub returns-clause-faultless : goal.returns-clause-faultless
+returns-clause-faultless c asn hold_time identifier expected small small_time small_identifier same some other not_one not_two =
+    open_faultless asn hold_time identifier expected small small_time small_identifier same some other not_one not_two
