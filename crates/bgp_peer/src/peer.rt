@@ -1,10 +1,11 @@
 //! A slot: its session, the rest and the ring.
-ghost use Rattle.std.specs.Prelude.{◌≡◌, ◌+◌, ◌≤◌, ◌<◌, length, take, drop, min, ◌++◌, IfOk, []};
+ghost use Rattle.std.specs.Prelude.{◌≡◌, ◌+◌, ◌≤◌, ◌<◌, length, take, drop, min, ◌++◌, IfOk, ℕ, List, []};
 ghost use Rattle.bgp_fsm.specs.SessionTable.{effects_of};
 ghost use Rattle.bgp_fsm.specs.Transports.{transport_of};
 ghost use Rattle.bgp_fsm.specs.declared.state.State.{State};
 ghost use Rattle.bgp_fsm.specs.declared.input.Input.TheVariants.{Start, Up, Fail};
-ghost use Rattle.bgp_msg.specs.MessageStream.{Tells, Wants, needed_of};
+ghost use Rattle.bgp_msg.specs.MessageStream.{Item, Tells, Wants, messages, needed_of, unread};
+ghost use Rattle.bgp_peer.specs.HeardMessages.{HoldsOnly, IsHeard};
 ghost use Rattle.bgp_peer.specs.Slot.{Slot, configured, enabled, opened, failed, pushed, taken_input, said, queued, handed, IsWholeRest};
 
 use arrayvec::ArrayVec;
@@ -84,12 +85,14 @@ impl<A: Allocator> Peer<A> {
         RING_OCTETS - self.ring.len()
     }
 
-    /// Takes octets that come, up to the end of the message at the front, and answers how many.
+    /// Takes octets that come, up to the end of the message at the front, and answers how many. However the stream
+    /// was cut, the rest holds what was not yet taken of it.
     pub fn push(&mut self, octets: &[u8]) -> usize
         ensures count { result ≡ min (needed_of self.old.rest) (length octets.now) }
         ensures exact { self.new ≡ pushed self.old (take result octets.now) }
         ensures goes_on { Wants self.old.rest → 0 < length octets.now → 0 < result }
         ensures short { length self.new.rest ≤ 4096 }
+        ensures heard { (stream : List ℕ) (heard : List Item) → IsHeard stream heard self.old.rest → IsHeard (stream ++ take result octets.now) heard self.new.rest }
     {
         let count = wanted(self.rest.as_slice(), octets.len());
         append(&octets[..count], &mut self.rest);
@@ -100,6 +103,7 @@ impl<A: Allocator> Peer<A> {
     pub fn front(&self) -> Step<'_>
         ensures tells { Tells self.now.rest result }
         ensures whole { IsWholeRest self.now.rest result }
+        ensures only { HoldsOnly self.now.rest result }
     {
         read(self.rest.as_slice())
     }
@@ -115,6 +119,7 @@ impl<A: Allocator> Peer<A> {
     /// The connection stands. What was queued or came before is dropped.
     pub fn up(&mut self, now: u64) -> Effects
         ensures exact { self.new ≡ opened self.old }
+        ensures heard { IsHeard [] [] self.new.rest }
         ensures effects { result ≡ effects_of Up self.old.session }
     {
         self.clear();
@@ -135,6 +140,7 @@ impl<A: Allocator> Peer<A> {
     /// The message at the front is this input. The message is dropped, and what its row says is queued.
     pub fn input(&mut self, input: Input, now: u64) -> Effects
         ensures exact { self.new ≡ taken_input self.old input }
+        ensures heard { (stream : List ℕ) (heard : List Item) → IsHeard stream heard self.old.rest → unread self.old.rest ≡ [] → IsHeard stream (heard ++ messages self.old.rest) self.new.rest }
         ensures effects { result ≡ effects_of input self.old.session }
     {
         self.rest.clear();
