@@ -1,6 +1,9 @@
 mod Appendings
 mod Faults
+mod Octets
 mod PathLemmas
+mod PathSpellings
 mod Paths
+mod SplitSpellings
 mod Splits
 mod Spreading

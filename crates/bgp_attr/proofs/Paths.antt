@@ -66,7 +66,7 @@ fits_at : (octets : List ℕ) (s : PathSegment) (rest : List ℕ) → segment_at
 fits_at octets s rest h = let P : Option (PathSegment × List ℕ) → Type 0 = Fits octets in subst P h (segment_at_fits octets)
 
 -- the path behind a segment
-abbrev on_segment : (List ℕ → Option (List PathSegment)) → Option (PathSegment × List ℕ) → Option (List PathSegment)
+abbrev pub on_segment : (List ℕ → Option (List PathSegment)) → Option (PathSegment × List ℕ) → Option (List PathSegment)
 on_segment path o = option_and_then (λ found. option_map (λ segments. found.0 ∷ segments) (path found.1)) o
 
 on_segment_alike : (f g : List ℕ → Option (List PathSegment)) (octets : List ℕ) (o : Option (PathSegment × List ℕ)) → Fits octets o

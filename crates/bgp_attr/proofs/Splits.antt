@@ -41,7 +41,7 @@ attribute_at_shorter [] = tt
 attribute_at_shorter (flags ∷ []) = tt
 attribute_at_shorter (flags ∷ code ∷ more) = value_shorter flags code more (length_at (is_extended flags) more) (length_at_shorter (is_extended flags) more)
 
-shorter_at : (octets : List ℕ) (a : Attribute) (rest : List ℕ) → attribute_at octets ≡ Some (a, rest) → length rest < length octets
+pub shorter_at : (octets : List ℕ) (a : Attribute) (rest : List ℕ) → attribute_at octets ≡ Some (a, rest) → length rest < length octets
 shorter_at octets a rest h = let P : Option (Attribute × List ℕ) → Type 0 = λ o. IfSome o (λ found. length found.1 < length octets) in subst P h (attribute_at_shorter octets)
 
 behind_alike : (f g : List ℕ → Split) (octets : List ℕ) (o : Option (Attribute × List ℕ)) → IfSome o (λ found. length found.1 < length octets)

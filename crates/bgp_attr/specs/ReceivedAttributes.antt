@@ -1,6 +1,6 @@
-use Rattle.std.specs.Prelude.{◌≡◌, ◌-◌, ◌==◌, ◌≤◌, nat_lt, not, if◌then◌else◌, Bool, true, false, ℕ, zero, suc, List, [], ◌∷◌, ◌++◌, length, take, drop, bit_and, Option, Some, None}
+use Rattle.std.specs.Prelude.{◌≡◌, ◌-◌, ◌==◌, ◌≤◌, ◌<◌, nat_lt, slice_index, not, if◌then◌else◌, Bool, true, false, ℕ, zero, suc, List, [], ◌∷◌, ◌++◌, length, take, drop, bit_and, Option, Some, None}
 use Rattle.std.specs.Int.{from_be_bytes, to_be_bytes, w16}
-use Rattle.std.specs.List.{find, flat_map}
+use Rattle.std.specs.List.{AllByRecursion, find, flat_map}
 use Rattle.std.specs.Option.{option_map, option_and_then}
 
 -- The attributes that octets are, one behind the other (RFC 4271 section 4.3).
@@ -11,6 +11,10 @@ pub record Attribute : Type 0 where
   pub code : ℕ
   pub value : List ℕ
   pub whole : List ℕ
+
+-- numbers that are octets
+abbrev pub AreOctets : List ℕ → Type 0
+AreOctets octets = (i : ℕ) → slice_index octets i < 256
 
 -- the extended length bit is set
 abbrev pub is_extended : ℕ → Bool
@@ -34,6 +38,12 @@ pub record IsAttribute (a : Attribute) : Type 0 where
 -- the octets of attributes, one behind the other
 abbrev pub wholes : List Attribute → List ℕ
 wholes attributes = flat_map (λ a. a.whole) attributes
+
+-- the octets are these attributes, one behind the other, and then a rest with no whole attribute at its front
+pub record IsSplit (octets : List ℕ) (attributes : List Attribute) (rest : List ℕ) : Type 0 where
+  pub each : AllByRecursion IsAttribute attributes
+  pub joined : octets ≡ wholes attributes ++ rest
+  pub none : (a : Attribute) (more : List ℕ) → IsAttribute a → rest ≡ a.whole ++ more → ⊥
 
 -- the length that stands at the front, and what is behind it; none where it is cut off
 abbrev pub length_at : Bool → List ℕ → Option (ℕ × List ℕ)
