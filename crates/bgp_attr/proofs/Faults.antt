@@ -96,12 +96,12 @@ attribute_checked kind came new rest fault a behind c h at small is none after =
     }
 
 -- no fault among more is none in either
-or_else-none : (o other : Option Fault) → or_else o other ≡ None → (o ≡ None) × (other ≡ None)
+pub or_else-none : (o other : Option Fault) → or_else o other ≡ None → (o ≡ None) × (other ≡ None)
 or_else-none None other h = (refl, h)
 or_else-none (Some fault) other h = absurd cc
 
 -- no test that holds is none in front, and none behind
-first_fault-none : (holds : Bool) (fault : Fault) (more : List (Bool × Fault)) → first_fault ((holds, fault) ∷ more) ≡ None → (holds ≡ false) × (first_fault more ≡ None)
+pub first_fault-none : (holds : Bool) (fault : Fault) (more : List (Bool × Fault)) → first_fault ((holds, fault) ∷ more) ≡ None → (holds ≡ false) × (first_fault more ≡ None)
 first_fault-none true fault more h = absurd cc
 first_fault-none false fault more h = (refl, h)
 

@@ -1,9 +1,12 @@
 mod Appendings
+mod AttributeSpellings
 mod Faults
 mod Octets
 mod PathLemmas
 mod PathSpellings
 mod Paths
+mod SoundValues
 mod SplitSpellings
 mod Splits
 mod Spreading
+mod WrittenSpellings

@@ -105,11 +105,13 @@ asns_in-octets (a ∷ b ∷ c ∷ d ∷ more) (suc m) e h =
       each = (omega (arith, h 0, h 1, h 2, h 3), rest.each);
     }
 
-or_false : (a b : Bool) → (a || b) ≡ false → (a ≡ false) × (b ≡ false)
+-- neither holds
+pub or_false : (a b : Bool) → (a || b) ≡ false → (a ≡ false) × (b ≡ false)
 or_false true b h = absurd cc
 or_false false b h = (refl, h)
 
-above : (n : ℕ) → (n ≡ 0 → ⊥) → 0 < n
+-- a number other than 0
+pub above : (n : ℕ) → (n ≡ 0 → ⊥) → 0 < n
 above zero h = absurd (h refl)
 above (suc n) h = omega arith
 

@@ -1,10 +1,14 @@
 //! Laws of how attributes are read and written (RFC 4271 section 4.3). Each is a function that does nothing.
-ghost use Rattle.std.specs.Prelude.{◌≡◌, ◌++◌, List, ℕ, Some};
+ghost use Rattle.std.specs.Prelude.{◌≡◌, ◌++◌, List, ℕ, Some, None};
 ghost use Rattle.std.specs.List.{AllByRecursion};
 ghost use Rattle.bgp_attr.specs.AsPath.{PathSegment};
-ghost use Rattle.bgp_attr.specs.AttributeSpelling.{SpellsPath};
+ghost use Rattle.bgp_attr.specs.AttributeFaults.{attributes_fault};
+ghost use Rattle.bgp_attr.specs.AttributeReading.{attributes_in};
+ghost use Rattle.bgp_attr.specs.AttributeSpelling.{CanBeSpelled, SpellsAttributes, SpellsPath, attributes_spelling};
+ghost use Rattle.bgp_attr.specs.PathAttributes.{PathAttributes};
 ghost use Rattle.bgp_attr.specs.PathReading.{path_at};
 ghost use Rattle.bgp_attr.specs.ReceivedAttributes.{AreOctets, Attribute, IsAttribute, IsSplit, split_of, wholes};
+ghost use Rattle.bgp_attr.specs.declared.peer.PeerKind.{PeerKind};
 
 /// Octets are split into attributes and a rest with none at its front, and in one way alone.
 pub fn split_is_one()
@@ -21,4 +25,17 @@ pub fn split_is_kept()
 pub fn path_is_spelled()
     ensures read { (octets : List ℕ) (path : List PathSegment) → SpellsPath octets path → path_at octets ≡ Some path }
     ensures spelled { (octets : List ℕ) (path : List PathSegment) → AreOctets octets → path_at octets ≡ Some path → SpellsPath octets path }
+{}
+
+/// Octets have no fault exactly where they spell attributes, and are read as the attributes that they spell.
+pub fn attributes_are_spelled()
+    ensures faultless { (kind : PeerKind) (octets : List ℕ) (attrs : PathAttributes) → SpellsAttributes kind octets attrs → attributes_fault kind octets ≡ None }
+    ensures read { (kind : PeerKind) (octets : List ℕ) (attrs : PathAttributes) → SpellsAttributes kind octets attrs → attributes_in octets ≡ attrs }
+    ensures spelled { (kind : PeerKind) (octets : List ℕ) → AreOctets octets → attributes_fault kind octets ≡ None → SpellsAttributes kind octets (attributes_in octets) }
+{}
+
+/// What is written is read again as the same attributes.
+pub fn written_is_read()
+    ensures faultless { (kind : PeerKind) (attrs : PathAttributes) → CanBeSpelled kind attrs → attributes_fault kind (attributes_spelling attrs) ≡ None }
+    ensures read { (kind : PeerKind) (attrs : PathAttributes) → CanBeSpelled kind attrs → attributes_in (attributes_spelling attrs) ≡ attrs }
 {}

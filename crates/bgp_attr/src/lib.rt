@@ -25,7 +25,9 @@ pub use as_path::{AsPath, Segment, SegmentKind, neighbor_as, origin_as};
 pub use attribute_type::{AttributeType, Class};
 pub use attrs::{Attrs, Origin};
 pub use fault::UpdateFault;
-pub use laws::{path_is_spelled, split_is_kept, split_is_one};
+pub use laws::{
+    attributes_are_spelled, path_is_spelled, split_is_kept, split_is_one, written_is_read,
+};
 pub use peer::{Mode, PeerKind};
 pub use prepending::{PrependedPath, prepend};
 pub use reading::read_attrs;
