@@ -1,16 +1,16 @@
-use Rattle.std.proofs.Common.{◌≡◌, ◌<◌, ◌≤◌, ◌||◌, Bool, true, false, cond, ℕ, List, [], ◌∷◌, ◌++◌, length, map, Option, Some, None, inl, inr, arith, refl, sym, ap, subst, ◌∙◌, append_assoc, append-nil}
-use Rattle.std.specs.Prelude.{◌==◌, bit_and, is_none, nat_eq, nat_lt, not, slice_index, MatchOption, ⊤}
+use Rattle.std.proofs.Common.{◌≡◌, ◌||◌, Bool, true, false, cond, ℕ, List, [], ◌∷◌, ◌++◌, length, map, Option, Some, None, inl, inr, refl, sym, ap, subst, ◌∙◌, append-nil}
+use Rattle.std.specs.Prelude.{◌==◌, bit_and, is_none, nat_eq, not, slice_index, MatchOption, ⊤}
 use Rattle.std.specs.List.{AllByRecursion, IsDistinct, find}
 use Rattle.std.specs.Option.{option_and_then, option_map}
 use Rattle.std.proofs.lemmas.Bool.{cases_eq, eq-eqb, eqb-false, eqb-true, ne_eqb}
 use Rattle.std.proofs.lemmas.Option.{same_Some}
-use Rattle.bgp_attr.specs.AttributeFaults.{Fault, attribute_fault, attribute_tests, attributes_fault, cut_fault, fault_among, first_fault, has_code, has_other_length, is_no_host, or_else, type_tests, value_tests, AttributeFlags, AttributeLength, InvalidNextHop, InvalidOrigin, MalformedAsPath, MalformedAttributeList, UnsupportedAttribute}
-use Rattle.bgp_attr.specs.AttributeReading.{attributes_from, attributes_in, next_hop_in, origin_in}
+use Rattle.bgp_attr.specs.AttributeFaults.{Fault, attribute_fault, attribute_tests, attributes_fault, cut_fault, fault_among, first_fault, has_code, is_no_host, or_else, type_tests, AttributeFlags, AttributeLength, InvalidNextHop, InvalidOrigin, MalformedAsPath, MalformedAttributeList}
+use Rattle.bgp_attr.specs.AttributeReading.{attributes_from, attributes_in, next_hop_in}
 use Rattle.bgp_attr.specs.AttributeSpelling.{HasClass, SpellsAttributes}
-use Rattle.bgp_attr.specs.AttributeTable.{class_flags_of, class_of, length_of, type_of}
+use Rattle.bgp_attr.specs.AttributeTable.{type_of}
 use Rattle.bgp_attr.specs.PathAttributes.{PathAttributes, origin_at}
 use Rattle.bgp_attr.specs.PathReading.{is_malformed_path, path_at}
-use Rattle.bgp_attr.specs.ReceivedAttributes.{AreOctets, Attribute, IsAttribute, IsSplit, Split, is_extended, length_octets, split_of, split_within, value_of, wholes}
+use Rattle.bgp_attr.specs.ReceivedAttributes.{AreOctets, Attribute, IsAttribute, Split, is_extended, length_octets, split_of, split_within, value_of, wholes}
 use Rattle.bgp_attr.specs.declared.attrs.Origin.{Origin}
 use Rattle.bgp_attr.specs.declared.attribute_type.AttributeType.{AttributeType}
 use Rattle.bgp_attr.specs.declared.attribute_type.AttributeType.TheVariants as type
@@ -21,7 +21,6 @@ use Rattle.bgp_attr.proofs.Octets.{octets-left, octets-right}
 use Rattle.bgp_attr.proofs.PathSpellings.{or_false}
 use Rattle.bgp_attr.proofs.SoundValues.{IsGood, IsSound, as_path_is_read, as_path_is_spelled, as_path_sound, next_hop_is_read, next_hop_is_spelled, next_hop_sound, not_false, origin_is_read, origin_is_spelled, origin_sound}
 use Rattle.bgp_attr.proofs.SplitSpellings.{is_split, split_of-front}
-use Rattle.bgp_attr.proofs.Splits.{split_of-none}
 
 -- Attributes have no fault exactly where their octets spell something.
 

@@ -5,6 +5,7 @@ mod Octets
 mod PathLemmas
 mod PathSpellings
 mod Paths
+mod PrependedPaths
 mod SoundValues
 mod SplitSpellings
 mod Splits

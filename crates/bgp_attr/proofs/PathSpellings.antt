@@ -1,22 +1,22 @@
-use Rattle.std.proofs.Common.{◌≡◌, ◌<◌, ◌≤◌, ◌+◌, ◌*◌, ◌^◌, ◌||◌, Bool, true, false, ℕ, zero, suc, List, [], ◌∷◌, ◌++◌, length, take, drop, nat_lt, if◌then◌else◌, IfSome, Option, Some, None, arith, refl, sym, ap, subst, ◌∙◌, append_assoc, length-append, length-take, length-drop}
+use Rattle.std.proofs.Common.{◌≡◌, ◌<◌, ◌≤◌, ◌*◌, ◌^◌, ◌||◌, Bool, true, false, ℕ, zero, suc, List, [], ◌∷◌, ◌++◌, length, take, drop, nat_lt, if◌then◌else◌, Option, Some, None, arith, refl, sym, ap, subst, ◌∙◌, length-append}
 use Rattle.std.specs.Prelude.{◌==◌}
 use Rattle.std.specs.List.{AllByRecursion}
-use Rattle.std.specs.Option.{option_and_then, option_map}
+use Rattle.std.specs.Option.{option_and_then}
 use Rattle.std.specs.Int.{from_be_bytes, to_be_bytes, w32}
 use Rattle.std.proofs.lemmas.Bool.{eqb-false, eqb-true, le-ltb, ltb-false, ne_eqb}
 use Rattle.std.proofs.lemmas.List.{drop_at, length-take-le, take-append-drop, take_at}
 use Rattle.std.proofs.lemmas.Option.{none-some, option_and_then_some, same_Some, some_pair_parts}
 use Rattle.std.proofs.lemmas.Nat.{be_bytes_4, from_be_bytes-to_be_bytes_4}
 use Rattle.net_prefix.specs.declared.asn.Asn.{Asn}
-use Rattle.bgp_attr.specs.AsPath.{PathSegment, segment_octets}
+use Rattle.bgp_attr.specs.AsPath.{PathSegment}
 use Rattle.bgp_attr.specs.AttributeSpelling.{IsAs, IsSegment, SpellsPath, asns_spelling, kind_octet, path_spelling, segment_spelling}
 use Rattle.bgp_attr.specs.PathReading.{asns_in, has_zero, kind_at, path_at, path_within, segment_at, segment_with}
 use Rattle.bgp_attr.specs.ReceivedAttributes.{AreOctets}
 use Rattle.bgp_attr.specs.declared.as_path.SegmentKind.{SegmentKind}
 use Rattle.bgp_attr.specs.declared.as_path.SegmentKind.TheVariants.{Set, Sequence}
 use Rattle.bgp_attr.proofs.Appendings.{length-asns_spelling}
-use Rattle.bgp_attr.proofs.Octets.{octets-drop, octets-right, octets-take}
-use Rattle.bgp_attr.proofs.Paths.{behind, on_segment, path_at-empty, path_at-some}
+use Rattle.bgp_attr.proofs.Octets.{octets-right, octets-take}
+use Rattle.bgp_attr.proofs.Paths.{behind, path_at-empty, path_at-some}
 
 -- A path is read of the octets that spell it, and of no others.
 

@@ -1,11 +1,11 @@
-use Rattle.std.proofs.Common.{◌≡◌, ◌≤◌, ◌<◌, ◌+◌, Bool, true, false, cond, ℕ, List, [], ◌∷◌, ◌++◌, length, Option, Some, None, arith, refl, sym, ap, subst, ◌∙◌, append-nil}
+use Rattle.std.proofs.Common.{◌≡◌, ◌≤◌, ◌+◌, Bool, true, false, ℕ, List, [], ◌∷◌, ◌++◌, length, Option, Some, None, arith, refl, sym, ap, ◌∙◌, append-nil}
 use Rattle.std.specs.Prelude.{if◌then◌else◌, map, nat_eq, nat_lt, MatchOption, ⊤}
-use Rattle.std.specs.List.{AllByRecursion, IsDistinct, flat_map}
+use Rattle.std.specs.List.{AllByRecursion, IsDistinct}
 use Rattle.std.specs.Int.{to_be_bytes, w16, w32}
 use Rattle.std.proofs.lemmas.Bool.{ltb-false}
 use Rattle.std.proofs.lemmas.Grind.{flat_map-append}
 use Rattle.bgp_attr.specs.AsPath.{PathSegment, path_octets}
-use Rattle.bgp_attr.specs.AttributeSpelling.{CanBeSpelled, HasClass, IsHost, IsSegment, SpellsAsPath, SpellsAttributes, SpellsNextHop, SpellsOrigin, as_path_spelling, attribute_spelling, attributes_spelling, header_spelling, next_hop_spelling, origin_spelling, path_spelling}
+use Rattle.bgp_attr.specs.AttributeSpelling.{CanBeSpelled, HasClass, IsHost, IsSegment, SpellsAsPath, SpellsAttributes, SpellsNextHop, SpellsOrigin, as_path_spelling, attribute_spelling, attributes_spelling, next_hop_spelling, origin_spelling, path_spelling}
 use Rattle.bgp_attr.specs.AttributeTable.{octet_of, type_of, written_flags_of}
 use Rattle.bgp_attr.specs.PathAttributes.{PathAttributes, origin_octet}
 use Rattle.bgp_attr.specs.PathReading.{begins_right}

@@ -1,4 +1,4 @@
-use Rattle.std.specs.Prelude.{◌+◌, ◌-◌, ◌*◌, ◌==◌, nat_lt, if◌then◌else◌, Bool, ℕ, suc, zero, List, [], ◌∷◌, length, slice_get, Option, Some, None}
+use Rattle.std.specs.Prelude.{◌+◌, ◌-◌, ◌*◌, ◌==◌, nat_lt, if◌then◌else◌, Bool, ℕ, suc, zero, List, [], ◌∷◌, ◌++◌, length, slice_get, Option, Some, None}
 use Rattle.std.specs.List.{list_any}
 use Rattle.net_prefix.specs.declared.asn.Asn.{Asn}
 use Rattle.bgp_attr.specs.declared.as_path.SegmentKind.{SegmentKind}
@@ -29,6 +29,11 @@ counted Sequence n = n
 abbrev pub path_length_of : List PathSegment → ℕ
 path_length_of [] = 0
 path_length_of (segment ∷ more) = counted segment.kind (length segment.asns) + path_length_of more
+
+-- the ASes of a path, segment by segment
+abbrev pub ases_of : List PathSegment → List Asn
+ases_of [] = []
+ases_of (segment ∷ more) = segment.asns ++ ases_of more
 
 -- some segment of the path names the AS
 abbrev pub has_as : List PathSegment → Asn → Bool

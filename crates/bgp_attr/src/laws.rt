@@ -1,10 +1,11 @@
 //! Laws of how attributes are read and written (RFC 4271 section 4.3). Each is a function that does nothing.
-ghost use Rattle.std.specs.Prelude.{◌≡◌, ◌++◌, List, ℕ, Some, None};
+ghost use Rattle.std.specs.Prelude.{◌≡◌, ◌+◌, ◌++◌, List, ℕ, Some, None, replicate, suc};
 ghost use Rattle.std.specs.List.{AllByRecursion};
-ghost use Rattle.bgp_attr.specs.AsPath.{PathSegment};
+ghost use Rattle.net_prefix.specs.declared.asn.Asn.{Asn};
+ghost use Rattle.bgp_attr.specs.AsPath.{PathSegment, ases_of, neighbor_as_of, path_length_of, prepended};
 ghost use Rattle.bgp_attr.specs.AttributeFaults.{attributes_fault};
 ghost use Rattle.bgp_attr.specs.AttributeReading.{attributes_in};
-ghost use Rattle.bgp_attr.specs.AttributeSpelling.{CanBeSpelled, SpellsAttributes, SpellsPath, attributes_spelling};
+ghost use Rattle.bgp_attr.specs.AttributeSpelling.{CanBeSpelled, IsAs, IsSegment, SpellsAttributes, SpellsPath, attributes_spelling};
 ghost use Rattle.bgp_attr.specs.PathAttributes.{PathAttributes};
 ghost use Rattle.bgp_attr.specs.PathReading.{path_at};
 ghost use Rattle.bgp_attr.specs.ReceivedAttributes.{AreOctets, Attribute, IsAttribute, IsSplit, split_of, wholes};
@@ -38,4 +39,13 @@ pub fn attributes_are_spelled()
 pub fn written_is_read()
     ensures faultless { (kind : PeerKind) (attrs : PathAttributes) → CanBeSpelled kind attrs → attributes_fault kind (attributes_spelling attrs) ≡ None }
     ensures read { (kind : PeerKind) (attrs : PathAttributes) → CanBeSpelled kind attrs → attributes_in (attributes_spelling attrs) ≡ attrs }
+{}
+
+/// A path with an AS in front so many times (RFC 4271 section 5.1.2) names that AS first, so many times and then the
+/// ASes of the path; it counts so many ASes more, and none of its segments has more than 255 ASes.
+pub fn prepending_is_counted()
+    ensures neighbor { (path : List PathSegment) (asn own : Asn) (times : ℕ) → neighbor_as_of (prepended path asn (suc times)) own ≡ asn }
+    ensures ases { (path : List PathSegment) (asn : Asn) (times : ℕ) → ases_of (prepended path asn times) ≡ replicate times asn ++ ases_of path }
+    ensures length { (path : List PathSegment) (asn : Asn) (times : ℕ) → path_length_of (prepended path asn times) ≡ times + path_length_of path }
+    ensures segments { (path : List PathSegment) (asn : Asn) (times : ℕ) → IsAs asn → AllByRecursion IsSegment path → AllByRecursion IsSegment (prepended path asn times) }
 {}

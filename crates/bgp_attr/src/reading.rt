@@ -97,19 +97,17 @@ fn check_value<'a>(
     requires { has_other_length (length_of known) attribute.value.now ≡ false }
     ensures { MatchResult result (λ _. first_fault (value_tests kind known (as_came attribute.entry)) ≡ None) (λ fault. Tells fault (first_fault (value_tests kind known (as_came attribute.entry)))) }
 {
+    let value = attribute.value;
+    let whole = attribute.whole;
     match known {
         // 3/6
-        AttributeType::Origin if Origin::from_octet(attribute.value[0]).is_none() => Err(
-            UpdateFault::InvalidOrigin(attribute.whole),
-        ),
+        AttributeType::Origin if Origin::from_octet(value[0]).is_none() => {
+            Err(UpdateFault::InvalidOrigin(whole))
+        }
         // 3/11
-        AttributeType::AsPath if is_malformed(attribute.value, kind) => Err(
-            UpdateFault::MalformedAsPath,
-        ),
+        AttributeType::AsPath if is_malformed(value, kind) => Err(UpdateFault::MalformedAsPath),
         // 3/8
-        AttributeType::NextHop if is_no_host(attribute.value[0]) => Err(UpdateFault::InvalidNextHop(
-            attribute.whole,
-        )),
+        AttributeType::NextHop if is_no_host(value[0]) => Err(UpdateFault::InvalidNextHop(whole)),
         _ => Ok(()),
     }
 }
