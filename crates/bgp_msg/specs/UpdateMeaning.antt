@@ -54,6 +54,11 @@ abbrev pub fault_of_parts : PeerKind → Option (List ℕ × List ℕ × List �
 fault_of_parts kind None = Some MalformedAttributeList
 fault_of_parts kind (Some parts) = parts_fault kind parts
 
+-- the first fault that is looked for before memory is taken: lengths, withdrawn prefixes, attributes
+abbrev pub fault_before_memory : PeerKind → Option (List ℕ × List ℕ × List ℕ) → Option Fault
+fault_before_memory kind None = Some MalformedAttributeList
+fault_before_memory kind (Some parts) = first_of (prefixes_fault parts.0 ∷ attributes_fault kind parts.1 ∷ [])
+
 -- the first fault of the UPDATE with this body, from a peer of this kind
 unfoldable pub update_fault : PeerKind → List ℕ → Option Fault
 update_fault kind body = fault_of_parts kind (update_parts body)

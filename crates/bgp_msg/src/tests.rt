@@ -1,7 +1,7 @@
 //! Messages in octets, as peers send them.
 use super::*;
 use arrayvec::ArrayVec;
-use bgp_attr::{PeerKind, UpdateFault};
+use bgp_attr::{AttributeType, PeerKind, UpdateFault};
 use net_prefix::{Asn, Prefix};
 use std::test::Fail;
 
@@ -29,6 +29,45 @@ fn body_with(announced: &[u8]) -> ArrayVec<u8, 4096> {
     let _attributes = body.try_extend_from_slice(&ATTRIBUTES);
     let _announced = body.try_extend_from_slice(announced);
     body
+}
+
+// An OPEN of AS 65001: hold time 90, identifier 1.1.1.1, the capability of AS numbers of four octets.
+const PEER_OPEN: [u8; 21] = [
+    0, 0x25, 1, 4, 0xFD, 0xE9, 0, 0x5A, 1, 1, 1, 1, 8, 2, 6, 0x41, 4, 0, 0, 0xFD, 0xE9,
+];
+
+// An UPDATE that withdraws and announces 10.0.1.0/24.
+fn update_of_one_prefix() -> ArrayVec<u8, 4096> {
+    let mut message = marked(&[0, 0x33, 2]);
+    let body = body_with(&[0x18, 10, 0, 1]);
+    let _fits = message.try_extend_from_slice(body.as_slice());
+    message
+}
+
+// Whether each front of the message is waited for, and the whole of it is a message, whatever follows.
+fn is_read_when_whole(message: &[u8], kind: MessageType) -> bool {
+    for count in 0..message.len() {
+        if read(&message[..count]) != Step::Need || needed(&message[..count]) == 0 {
+            return false;
+        }
+    }
+    let mut more: ArrayVec<u8, 4096> = ArrayVec::new();
+    let _fits = more.try_extend_from_slice(message);
+    let _fits = more.try_extend_from_slice(&[255, 0]);
+    let is_whole = match (read(message), read(more.as_slice())) {
+        (Step::Message(alone, used), Step::Message(first, used_of_more)) => {
+            alone.kind == kind && first == alone && used == message.len() && used_of_more == used
+        }
+        _ => false,
+    };
+    is_whole
+}
+
+#[test]
+fn a_message_is_waited_for_octet_by_octet(rt: HostRuntime) {
+    assert!(rt; is_read_when_whole(marked(&[0, 0x13, 4]).as_slice(), MessageType::Keepalive));
+    assert!(rt; is_read_when_whole(marked(&PEER_OPEN).as_slice(), MessageType::Open));
+    assert!(rt; is_read_when_whole(update_of_one_prefix().as_slice(), MessageType::Update));
 }
 
 #[test]
@@ -106,6 +145,39 @@ fn opens_are_written_and_read(rt: HostRuntime) {
 }
 
 #[test]
+fn faulty_opens_are_told_apart(rt: HostRuntime) {
+    let expected = Expected {
+        peer_asn: Asn(65001),
+        own_asn: Asn(65000),
+        own_identifier: 0xC0000201,
+    };
+    let peer = Open {
+        asn: Asn(65001),
+        hold_time: 90,
+        identifier: 0x01010101,
+    };
+    assert!(rt; read_open(&PEER_OPEN[3..], expected) == Ok(peer));
+    let version_3 = [
+        3, 0xFD, 0xE9, 0, 0x5A, 1, 1, 1, 1, 8, 2, 6, 0x41, 4, 0, 0, 0xFD, 0xE9,
+    ];
+    let fault = OpenFault::UnsupportedVersion;
+    assert!(rt; read_open(&version_3, expected) == Err(fault));
+    assert!(rt; fault.subcode() == 1 && fault.data().as_slice() == [0, 4].as_slice());
+    let hold_2 = [
+        4, 0xFD, 0xE9, 0, 2, 1, 1, 1, 1, 8, 2, 6, 0x41, 4, 0, 0, 0xFD, 0xE9,
+    ];
+    assert!(rt; read_open(&hold_2, expected) == Err(OpenFault::UnacceptableHoldTime));
+    let cut = [
+        4, 0xFD, 0xE9, 0, 0x5A, 1, 1, 1, 1, 8, 2, 6, 0x41, 5, 0, 0, 0xFD, 0xE9,
+    ];
+    assert!(rt; read_open(&cut, expected) == Err(OpenFault::MalformedParameters));
+    let other = [
+        4, 0xFD, 0xE9, 0, 0x5A, 1, 1, 1, 1, 8, 1, 6, 0x41, 4, 0, 0, 0xFD, 0xE9,
+    ];
+    assert!(rt; read_open(&other, expected) == Err(OpenFault::UnsupportedParameter));
+}
+
+#[test]
 fn updates_name_their_prefixes(rt: HostRuntime) -> Result<(), Fail> {
     let kind = PeerKind::External(Asn(65001));
     let body = body_with(&[0x18, 10, 0, 0, 0x17, 10, 0, 1]);
@@ -140,6 +212,12 @@ fn faulty_updates_are_refused(rt: HostRuntime) {
         read_update(rt.alloc(), &[0, 1, 0, 0], kind).err()
             == Some(UpdateFault::MalformedAttributeList)
     );
+    // ORIGIN and AS_PATH without NEXT_HOP, and 10.0.1.0/24.
+    let no_next_hop = [
+        0, 0, 0, 13, 0x40, 1, 1, 0, 0x40, 2, 6, 2, 1, 0, 0, 0xFD, 0xE9, 0x18, 10, 0, 1,
+    ];
+    let fault = read_update(rt.alloc(), &no_next_hop, kind).err();
+    assert!(rt; fault == Some(UpdateFault::MissingWellKnown(AttributeType::NextHop)));
 }
 
 #[test]
