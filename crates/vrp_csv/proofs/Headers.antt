@@ -1,0 +1,48 @@
+-- Headers, field by field.
+use Rattle.std.proofs.Common.{◌≡◌, ◌≤◌, ◌⊎◌, ◌++◌, ℕ, List, [], ◌∷◌, length, codes, Some, unwrap_or, inl, inr, refl, ap, arith}
+use Rattle.csv.specs.Records.{field_at}
+use Rattle.vrp_csv.specs.PayloadRows.{IsHeader, NamesPayloads, payload_names}
+
+one_field : (a b : List ℕ) → Some a ≡ Some b → a ≡ b
+one_field a b h = ap (λ o. unwrap_or o []) h
+
+pub four : (fields : List (List ℕ)) → NamesPayloads fields → length fields ≡ 4 → IsHeader fields
+unfolding field_at
+four [] h len = absurd (omega (arith, len))
+four (a ∷ []) h len = absurd (omega (arith, len))
+four (a ∷ b ∷ []) h len = absurd (omega (arith, len))
+four (a ∷ b ∷ c ∷ []) h len = absurd (omega (arith, len))
+four (a ∷ b ∷ c ∷ d ∷ []) h len = inl (λ i. one_field a _ h.0 i ∷ one_field b _ h.1 i ∷ one_field c _ h.2 i ∷ one_field d _ h.3 i ∷ [])
+four (a ∷ b ∷ c ∷ d ∷ e ∷ more) h len = absurd (omega (arith, len))
+
+pub five : (fields : List (List ℕ)) → NamesPayloads fields → length fields ≡ 5 → field_at fields 4 ≡ Some (codes "Expires") → IsHeader fields
+unfolding field_at
+five [] h len last = absurd (omega (arith, len))
+five (a ∷ []) h len last = absurd (omega (arith, len))
+five (a ∷ b ∷ []) h len last = absurd (omega (arith, len))
+five (a ∷ b ∷ c ∷ []) h len last = absurd (omega (arith, len))
+five (a ∷ b ∷ c ∷ d ∷ []) h len last = absurd (omega (arith, len))
+five (a ∷ b ∷ c ∷ d ∷ e ∷ []) h len last =
+    inr (λ i. one_field a _ h.0 i ∷ one_field b _ h.1 i ∷ one_field c _ h.2 i ∷ one_field d _ h.3 i ∷ one_field e _ last i ∷ [])
+five (a ∷ b ∷ c ∷ d ∷ e ∷ f ∷ more) h len last = absurd (omega (arith, len))
+
+named : (more : List (List ℕ)) → NamesPayloads (payload_names ++ more)
+unfolding field_at
+named more = (refl, refl, refl, refl)
+
+pub names_from_header : (fields : List (List ℕ)) → IsHeader fields → NamesPayloads fields
+names_from_header fields (inl h) = rw h (named [])
+names_from_header fields (inr h) = rw h (named (codes "Expires" ∷ []))
+
+last_field : field_at (payload_names ++ codes "Expires" ∷ []) 4 ≡ Some (codes "Expires")
+unfolding field_at
+last_field = refl
+
+pub width_from_header : (fields : List (List ℕ)) → IsHeader fields → (length fields ≡ 4) ⊎ ((length fields ≡ 5) × (field_at fields 4 ≡ Some (codes "Expires")))
+width_from_header fields (inl h) = inl (ap length h)
+width_from_header fields (inr h) = inr (ap length h, rw h last_field)
+
+-- a header has four fields or more
+pub wide_header : (fields : List (List ℕ)) → IsHeader fields → 4 ≤ length fields
+wide_header fields (inl h) = omega (arith, ap length h)
+wide_header fields (inr h) = omega (arith, ap length h)

@@ -1,0 +1,6 @@
+mod Digits
+mod Headers
+mod Meanings
+mod ReadRows
+mod RecordLists
+mod Rows

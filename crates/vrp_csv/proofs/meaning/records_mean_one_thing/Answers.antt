@@ -1,0 +1,11 @@
+use Rattle.vrp_csv.proofs.Meanings.{load_one, loads_or_stops, refusal_one}
+use Rattle.vrp_csv.proofs.meaning.records_mean_one_thing.Goals as goal
+
+pub returns-clause-loads : goal.returns-clause-loads
+returns-clause-loads c = load_one
+
+pub returns-clause-refused : goal.returns-clause-refused
+returns-clause-refused c = loads_or_stops
+
+pub returns-clause-first : goal.returns-clause-first
+returns-clause-first c = refusal_one

@@ -1,0 +1,5 @@
+pub mod ListNumbers
+pub mod PayloadList
+pub mod PayloadRows
+pub mod RecordsLeft
+pub mod TakenIn

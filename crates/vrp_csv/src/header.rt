@@ -1,0 +1,41 @@
+//! The first record of a payload list.
+ghost use Rattle.std.specs.Prelude.{◌≡◌, ◌↔◌, IsTrue, MatchOption, Some, length};
+ghost use Rattle.csv.specs.Records.{field_at, fields_of};
+ghost use Rattle.vrp_csv.specs.PayloadRows.{IsHeader, NamesPayloads};
+
+use csv::ByteRecord;
+
+/// How many fields each row has under this header, where these fields are one.
+#[tactic(auto, using(crate::proofs::Headers::four, crate::proofs::Headers::five, crate::proofs::Headers::names_from_header, crate::proofs::Headers::width_from_header))]
+pub(crate) fn header_width(fields: &ByteRecord) -> Option<usize>
+    ensures { MatchOption result (¬ (IsHeader (fields_of fields.now))) (λ width. IsHeader (fields_of fields.now) × (width ≡ length (fields_of fields.now))) }
+{
+    let width = fields.len();
+    if !names_payloads(fields) {
+        return None;
+    }
+    if width == 4 || width == 5 && is_field(fields, 4, b"Expires") {
+        return Some(width);
+    }
+    None
+}
+
+// Whether the first four fields are those of a payload.
+fn names_payloads(fields: &ByteRecord) -> bool
+    ensures { IsTrue result ↔ NamesPayloads (fields_of fields.now) }
+{
+    is_field(fields, 0, b"ASN")
+        && is_field(fields, 1, b"IP Prefix")
+        && is_field(fields, 2, b"Max Length")
+        && is_field(fields, 3, b"Trust Anchor")
+}
+
+// Whether there is this field at this place.
+fn is_field(fields: &ByteRecord, place: usize, name: &[u8]) -> bool
+    ensures { IsTrue result ↔ (field_at (fields_of fields.now) place ≡ Some name.now) }
+{
+    match fields.get(place) {
+        Some(field) => field == name,
+        None => false,
+    }
+}

@@ -1,0 +1,130 @@
+//! The rows of a payload list.
+ghost use Rattle.std.specs.Prelude.{◌≡◌, ◌≢◌, ◌≤◌, ◌<◌, ◌^◌, ℕ, MatchOption, length};
+ghost use Rattle.csv.specs.Records.{fields_of};
+ghost use Rattle.net_prefix.specs.PrefixText.{Writes};
+ghost use Rattle.net_prefix.specs.declared.prefix.Prefix.{Prefix};
+ghost use Rattle.vrp_csv.specs.PayloadRows.{IsRow, WritesAsn, WritesMax, WritesNumber, field_of, without_letters};
+
+use crate::fault::RowFault;
+use csv::ByteRecord;
+use net_prefix::{Asn, Prefix, Vrp};
+use std::str;
+
+// The most digits of an AS and of a maximum length.
+const ASN_DIGITS: usize = 10;
+
+const MAX_DIGITS: usize = 2;
+
+/// What a row under a header of this width says: its payload, or none where it is skipped. The first fault of:
+/// another number of fields; the AS; the prefix; the maximum length. A skipped row's maximum length isn't looked at.
+pub(crate) fn read_row(fields: &ByteRecord, width: usize) -> Result<Option<Vrp>, RowFault>
+    requires { 4 ≤ width }
+    ensures { IsRow width (fields_of fields.now) result }
+{
+    let Some((asn, prefix, max_len)) = first_fields(fields, width) else {
+        return Err(RowFault::Fields);
+    };
+    let Some(asn) = read_asn(asn) else {
+        return Err(RowFault::Asn);
+    };
+    if prefix.contains(&b':') {
+        return Ok(None);
+    }
+    let Some(prefix) = read_prefix(prefix) else {
+        return Err(RowFault::Prefix);
+    };
+    let Some(max_len) = read_max(max_len, prefix.len) else {
+        return Err(RowFault::Max);
+    };
+    match Vrp::new(prefix, max_len, asn) {
+        Ok(payload) => Ok(Some(payload)),
+        Err(_) => Err(RowFault::Max),
+    }
+}
+
+// The AS, the prefix and the maximum length of a row of so many fields.
+#[tactic(auto, using(crate::proofs::Rows::no_field))]
+fn first_fields(fields: &ByteRecord, width: usize) -> Option<(&[u8], &[u8], &[u8])>
+    requires { 4 ≤ width }
+    ensures { MatchOption result (length (fields_of fields.now) ≢ width) (λ first. (length (fields_of fields.now) ≡ width) × (first.0.now ≡ field_of (fields_of fields.now) 0) × (first.1.now ≡ field_of (fields_of fields.now) 1) × (first.2.now ≡ field_of (fields_of fields.now) 2)) }
+{
+    if fields.len() != width {
+        return None;
+    }
+    let Some(asn) = fields.get(0) else {
+        return None;
+    };
+    let Some(prefix) = fields.get(1) else {
+        return None;
+    };
+    let Some(max_len) = fields.get(2) else {
+        return None;
+    };
+    Some((asn, prefix, max_len))
+}
+
+// The AS that the text writes: `AS` in either case or nothing, then digits.
+fn read_asn(text: &[u8]) -> Option<Asn>
+    ensures { MatchOption result ((asn : ℕ) → ¬ (WritesAsn text.now asn)) (λ asn. WritesAsn text.now asn.0) }
+{
+    match read_number(without_letters(text), ASN_DIGITS) {
+        Some(number) => Some(Asn(number)),
+        None => None,
+    }
+}
+
+// The text without the letters `AS` at its front.
+fn without_letters(text: &[u8]) -> &[u8]
+    ensures { result.now ≡ without_letters text.now }
+{
+    match text {
+        [a, s, digits @ ..] if a.eq_ignore_ascii_case(&b'A') && s.eq_ignore_ascii_case(&b'S') => {
+            digits
+        }
+        _ => text,
+    }
+}
+
+// The prefix that the text writes.
+fn read_prefix(text: &[u8]) -> Option<Prefix>
+    ensures { MatchOption result ((prefix : Prefix) → ¬ (Writes text.now prefix.bits prefix.len)) (λ prefix. Writes text.now prefix.bits prefix.len) }
+{
+    let Ok(text) = str::from_utf8(text) else {
+        return None;
+    };
+    match Prefix::parse(text) {
+        Ok(prefix) => Some(prefix),
+        Err(_) => None,
+    }
+}
+
+// The maximum length that the text writes, which is the prefix length where the text is empty.
+#[tactic(auto, using(crate::proofs::Digits::two_digits))]
+fn read_max(text: &[u8], len: u8) -> Option<u8>
+    ensures { MatchOption result ((max_len : ℕ) → ¬ (WritesMax len text.now max_len)) (λ max_len. WritesMax len text.now max_len) }
+{
+    if text.is_empty() {
+        return Some(len);
+    }
+    match read_number(text, MAX_DIGITS) {
+        Some(number) => Some(number as u8),
+        None => None,
+    }
+}
+
+// The number that the text writes in one decimal digit or more, and no more than so many.
+fn read_number(text: &[u8], most: usize) -> Option<u32>
+    ensures { MatchOption result ((number : ℕ) → number < 2 ^ 32 → ¬ (WritesNumber most text.now number)) (λ number. WritesNumber most text.now number) }
+{
+    // `parse` passes over a plus.
+    if text.len() > most || text.first() == Some(&b'+') {
+        return None;
+    }
+    let Ok(text) = str::from_utf8(text) else {
+        return None;
+    };
+    match text.parse::<u32>() {
+        Ok(number) => Some(number),
+        Err(_) => None,
+    }
+}
