@@ -1,7 +1,7 @@
 use Rattle.std.proofs.Common.{◌≡◌, ℕ, zero, suc, ◌+◌, ◌-◌, ◌≤◌, ◌<◌, ◌==◌, ◌||◌, ◌&&◌, not, Bool, true, false, if◌then◌else◌, List, [], ◌∷◌, ◌++◌, length, drop, take, slice_index, Option, Some, None, is_none, refl, sym, ◌∙◌, ap, arith, nat_lt, nat_eq, append_assoc, length-append}
 use Rattle.std.specs.Option.{option_map, option_and_then}
 use Rattle.std.specs.List.{list_all}
-use Rattle.std.proofs.lemmas.Bool.{le-ltb, ltb-false, ne_eqb}
+use Rattle.std.proofs.lemmas.Bool.{le-ltb, ltb-false, eq-eqb, ne_eqb}
 use Rattle.std.proofs.lemmas.List.{take_at, drop_at, take-append-drop, length-take-le}
 use Rattle.bgp_msg.specs.declared.fault.OpenFault.{OpenFault}
 use Rattle.bgp_msg.specs.declared.fault.OpenFault.TheVariants.{MalformedParameters, UnsupportedVersion, BadPeerAs, BadIdentifier, UnsupportedParameter, UnacceptableHoldTime, UnsupportedCapability}
@@ -202,3 +202,15 @@ form_read (part ∷ parts) = parts_of-step (parts_form (part ∷ parts)) part (p
 
 pub parts_from_form : (octets : List ℕ) (parts : List Part) → octets ≡ parts_form parts → parts_of octets ≡ Some parts
 parts_from_form octets parts h = ap parts_of h ∙ form_read parts
+
+-- where the version is spoken and the parameters are read, the proposal is judged
+pub found-proposal :
+    (body : List ℕ) (expected : Expected) (told : Bool × Option ℕ) (hold_time identifier : ℕ) → 10 ≤ length body → slice_index body 0 ≡ 4
+    → slice_index body 9 + 10 ≡ length body → parameters_of (drop 10 body) ≡ Some told → hold_time ≡ hold_time_at body → identifier ≡ identifier_at body
+    → fault_found body expected ≡ proposal_fault told hold_time identifier expected
+unfolding fault_found
+found-proposal body expected told hold_time identifier long version ends parameters hold_time_is identifier_is =
+    let fixed : nat_lt (length body) 10 ≡ false = le-ltb (length body) 10 long in
+    let spoken : (slice_index body 0 == 4) ≡ true = eq-eqb (slice_index body 0) 4 version in
+    let whole : (slice_index body 9 + 10 == length body) ≡ true = eq-eqb (slice_index body 9 + 10) (length body) ends in
+    rw (fixed, spoken, whole, parameters, hold_time_is, identifier_is) refl

@@ -5,6 +5,7 @@ ghost use Rattle.bgp_msg.specs.MessageFaults.{header_fault};
 ghost use Rattle.bgp_msg.specs.MessageStream.{Tells, Wants, IsSpelled, IsFront, needed_of};
 
 use crate::fault::HeaderFault;
+use byteorder::{BigEndian, ByteOrder};
 
 /// The most octets of a message, the header among them.
 pub const MAX_MESSAGE: usize = 4096;
@@ -148,7 +149,7 @@ fn read_header(octets: &[u8]) -> Result<Header, HeaderFault>
     if !begins_with_marker(octets) {
         return Err(HeaderFault::ConnectionNotSynchronized);
     }
-    let told = u16::from_be_bytes([octets[16], octets[17]]);
+    let told = BigEndian::read_u16(&octets[MARKER_OCTETS..]);
     let length = usize::from(told);
     if length < HEADER_OCTETS || length > MAX_MESSAGE {
         return Err(HeaderFault::BadMessageLength(told));

@@ -1,11 +1,12 @@
 //! The OPEN message (RFC 4271 section 4.2) with the capability of AS numbers of four octets (RFC 6793).
-ghost use Rattle.std.specs.Prelude.{◌≡◌, ◌<◌, ◌↔◌, ℕ, List, IfOk, IfSome, MatchResult, Some, None, length};
+ghost use Rattle.std.specs.Prelude.{◌≡◌, ◌<◌, ◌≤◌, ◌↔◌, ℕ, List, IfOk, IfSome, MatchResult, Some, None, length};
 ghost use Rattle.std.specs.Option.{option_map};
 ghost use Rattle.bgp_msg.specs.MessageSpelling.{Part, four_octet_as_capability, part_at, parts_of, parts_form, asn_in, asn_told, or_else};
 ghost use Rattle.bgp_msg.specs.OpenParts.{number, seen, asn_behind, parameter_behind, parameters_of, proposal_fault, fault_found};
 ghost use Rattle.bgp_msg.specs.MessageFaults.{open_fault, hold_time_at, identifier_at};
 
 use crate::fault::OpenFault;
+use byteorder::{BigEndian, ByteOrder};
 use net_prefix::Asn;
 
 /// The version of BGP that is spoken.
@@ -13,6 +14,9 @@ pub(crate) const BGP_VERSION: u8 = 4;
 
 /// The type of an optional parameter that holds capabilities (RFC 5492 section 4).
 pub(crate) const CAPABILITIES: u8 = 2;
+
+// The octets of a body before its optional parameters.
+const FIXED_OCTETS: usize = 10;
 
 /// The code of the capability of AS numbers of four octets (RFC 6793 section 3).
 pub(crate) const FOUR_OCTET_AS: u8 = 65;
@@ -67,34 +71,37 @@ fn judge_open(body: &[u8], expected: Expected) -> Result<Open, OpenFault>
     ensures identifier { IfOk result (λ message. message.identifier ≡ identifier_at body.now) }
     ensures asn { IfOk result (λ message. message.asn ≡ expected.peer_asn) }
 {
-    let [
-        version,
-        _,
-        _,
-        hold_high,
-        hold_low,
-        a,
-        b,
-        c,
-        d,
-        length,
-        octets @ ..,
-    ] = body
-    else {
+    if body.len() < FIXED_OCTETS {
         return Err(OpenFault::MalformedParameters);
-    };
-    if *version != BGP_VERSION {
+    }
+    if body[0] != BGP_VERSION {
         return Err(OpenFault::UnsupportedVersion);
     }
-    if octets.len() != usize::from(*length) {
+    if usize::from(body[9]) + FIXED_OCTETS != body.len() {
         return Err(OpenFault::MalformedParameters);
     }
-    let Some(told) = read_parameters(octets) else {
+    let Some(told) = read_parameters(&body[FIXED_OCTETS..]) else {
         return Err(OpenFault::MalformedParameters);
     };
-    let hold_time = u16::from_be_bytes([*hold_high, *hold_low]);
-    let identifier = u32::from_be_bytes([*a, *b, *c, *d]);
+    let hold_time = hold_time_in(body);
+    let identifier = identifier_in(body);
     judge_proposal(told, hold_time, identifier, expected)
+}
+
+// The hold time in the fixed octets.
+fn hold_time_in(body: &[u8]) -> u16
+    requires { 10 ≤ length body.now }
+    ensures { result ≡ hold_time_at body.now }
+{
+    BigEndian::read_u16(&body[3..])
+}
+
+// The BGP Identifier in the fixed octets.
+fn identifier_in(body: &[u8]) -> u32
+    requires { 10 ≤ length body.now }
+    ensures { result ≡ identifier_at body.now }
+{
+    BigEndian::read_u32(&body[5..])
 }
 
 /// The octets of the capability that tells an AS number of four octets (RFC 6793 section 3).
@@ -201,10 +208,10 @@ fn first_asn_of(known: Option<Asn>, code: u8, value: &[u8]) -> Option<Asn>
 fn asn_of(value: &[u8]) -> Option<Asn>
     ensures { option_map number result ≡ asn_in value.now }
 {
-    match value {
-        [a, b, c, d] => Some(Asn(u32::from_be_bytes([*a, *b, *c, *d]))),
-        _ => None,
+    if value.len() != 4 {
+        return None;
     }
+    Some(Asn(BigEndian::read_u32(value)))
 }
 
 // A parameter or capability at the front: its type, its value, and the octets behind it.

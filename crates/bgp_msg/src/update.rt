@@ -9,6 +9,7 @@ ghost use Rattle.bgp_attr.specs.AttributeReading.{HasSegments, attributes_in};
 ghost use Rattle.bgp_attr.specs.declared.peer.PeerKind.{PeerKind};
 ghost use Rattle.std.specs.Iterator.{YieldsFirst, item_count};
 
+use byteorder::{BigEndian, ByteOrder};
 use bgp_attr::{Attrs, PeerKind, UpdateFault, read_attrs};
 use net_prefix::{Prefix, read_prefix};
 use std::alloc::Allocator;
@@ -170,10 +171,8 @@ fn split_body(body: &[u8]) -> Option<(&[u8], &[u8], &[u8])>
 fn split_counted(octets: &[u8]) -> Option<(&[u8], &[u8])>
     ensures { option_map (λ parts. (parts.0.now, parts.1.now)) result ≡ counted_at octets.now }
 {
-    let [high, low, rest @ ..] = octets else {
-        return None;
-    };
-    rest.split_at_checked(usize::from(u16::from_be_bytes([*high, *low])))
+    let (count, rest) = octets.split_at_checked(2)?;
+    rest.split_at_checked(usize::from(BigEndian::read_u16(count)))
 }
 
 // Whether the octets are prefixes in their wire form to the end.
