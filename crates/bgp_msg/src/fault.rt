@@ -5,6 +5,7 @@ ghost use Rattle.bgp_msg.specs.MessageFaults.{header_subcode, header_data, open_
 use crate::open_message::four_octet_as;
 use arrayvec::ArrayVec;
 use bgp_attr::UpdateFault;
+use byteorder::{BigEndian, ByteOrder};
 use net_prefix::Asn;
 use thiserror::Error;
 
@@ -79,9 +80,9 @@ impl HeaderFault {
         match self {
             HeaderFault::ConnectionNotSynchronized => {}
             HeaderFault::BadMessageLength(length) => {
-                let [high, low] = length.to_be_bytes();
-                octets.push(high);
-                octets.push(low);
+                let mut told = [0; 2];
+                BigEndian::write_u16(&mut told, length);
+                let _fits = octets.try_extend_from_slice(&told);
             }
             HeaderFault::BadMessageType(octet) => octets.push(octet),
         }

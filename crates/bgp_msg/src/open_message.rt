@@ -108,8 +108,9 @@ fn identifier_in(body: &[u8]) -> u32
 pub(crate) fn four_octet_as(asn: Asn) -> [u8; 6]
     ensures { result ≡ four_octet_as_capability asn.0 }
 {
-    let [a, b, c, d] = asn.0.to_be_bytes();
-    [FOUR_OCTET_AS, 4, a, b, c, d]
+    let mut octets = [FOUR_OCTET_AS, 4, 0, 0, 0, 0];
+    BigEndian::write_u32(&mut octets[2..], asn.0);
+    octets
 }
 
 // The OPEN that proposes this, or its first fault.

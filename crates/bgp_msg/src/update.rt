@@ -9,8 +9,8 @@ ghost use Rattle.bgp_attr.specs.AttributeReading.{HasSegments, attributes_in};
 ghost use Rattle.bgp_attr.specs.declared.peer.PeerKind.{PeerKind};
 ghost use Rattle.std.specs.Iterator.{YieldsFirst, item_count};
 
-use byteorder::{BigEndian, ByteOrder};
 use bgp_attr::{Attrs, PeerKind, UpdateFault, read_attrs};
+use byteorder::{BigEndian, ByteOrder};
 use net_prefix::{Prefix, read_prefix};
 use std::alloc::Allocator;
 use std::marker::Model;

@@ -1,10 +1,12 @@
 //! Messages written (RFC 4271 section 4).
 ghost use Rattle.std.specs.Prelude.{◌≡◌, ◌≤◌, ◌<◌, ◌+◌, ◌*◌, ◌^◌, ◌++◌, [], length};
+ghost use Rattle.std.specs.Int.{w16, w32, to_be_bytes};
 ghost use Rattle.bgp_msg.specs.MessageSpelling.{header_of, open_of, two_octet_as_of, wire_form, update_of};
 
 use crate::frame::MessageType;
 use crate::open_message::{BGP_VERSION, CAPABILITIES, Open, four_octet_as};
 use arrayvec::ArrayVec;
+use byteorder::{BigEndian, ByteOrder};
 use net_prefix::{Asn, Prefix};
 
 /// What stands in a field of two octets for an AS that needs four (RFC 6793 section 9).
@@ -20,9 +22,9 @@ pub fn write_open(message: &Open, out: &mut ArrayVec<u8, 4096>)
 {
     begin(MessageType::Open, 37, out);
     append(&[BGP_VERSION], out);
-    append(&two_octet_as(message.asn).to_be_bytes(), out);
-    append(&message.hold_time.to_be_bytes(), out);
-    append(&message.identifier.to_be_bytes(), out);
+    append_u16(two_octet_as(message.asn), out);
+    append_u16(message.hold_time, out);
+    append_u32(message.identifier, out);
     append(&[8, CAPABILITIES, 6], out);
     append(&four_octet_as(message.asn), out);
 }
@@ -46,7 +48,7 @@ pub fn write_withdrawal(prefixes: &[Prefix], out: &mut ArrayVec<u8, 4096>)
 {
     let withdrawn = wire_length(prefixes);
     begin(MessageType::Update, 23 + withdrawn, out);
-    append(&withdrawn.to_be_bytes(), out);
+    append_u16(withdrawn, out);
     append_prefixes(prefixes, out);
     append(&[0, 0], out);
 }
@@ -67,7 +69,7 @@ pub fn write_announcement(attrs: &[u8], prefixes: &[Prefix], out: &mut ArrayVec<
         out,
     );
     append(&[0, 0], out);
-    append(&attributes.to_be_bytes(), out);
+    append_u16(attributes, out);
     append(attrs, out);
     append_prefixes(prefixes, out);
 }
@@ -87,7 +89,7 @@ fn begin(kind: MessageType, told: u16, out: &mut ArrayVec<u8, 4096>)
 {
     out.clear();
     append(&MARKER, out);
-    append(&told.to_be_bytes(), out);
+    append_u16(told, out);
     append(&[kind.octet()], out);
 }
 
@@ -97,6 +99,26 @@ fn append(octets: &[u8], out: &mut ArrayVec<u8, 4096>)
     ensures len { length out.new.items ≡ length out.old.items + length octets.now }
 {
     let _fits = out.try_extend_from_slice(octets);
+}
+
+fn append_u16(number: u16, out: &mut ArrayVec<u8, 4096>)
+    requires { length out.old.items + 2 ≤ 4096 }
+    ensures octets { out.new.items ≡ out.old.items ++ to_be_bytes w16 number }
+    ensures len { length out.new.items ≡ length out.old.items + 2 }
+{
+    let mut octets = [0; 2];
+    BigEndian::write_u16(&mut octets, number);
+    append(&octets, out);
+}
+
+fn append_u32(number: u32, out: &mut ArrayVec<u8, 4096>)
+    requires { length out.old.items + 4 ≤ 4096 }
+    ensures octets { out.new.items ≡ out.old.items ++ to_be_bytes w32 number }
+    ensures len { length out.new.items ≡ length out.old.items + 4 }
+{
+    let mut octets = [0; 4];
+    BigEndian::write_u32(&mut octets, number);
+    append(&octets, out);
 }
 
 fn append_prefixes(prefixes: &[Prefix], out: &mut ArrayVec<u8, 4096>)
