@@ -1,4 +1,4 @@
-use Rattle.std.specs.Prelude.{◌≡◌, ◌==◌, ◌||◌, nat_lt, not, if◌then◌else◌, Bool, true, false, ℕ, List, [], ◌∷◌, length, bit_and, slice_index, is_none, Option, Some, None, IsSome}
+use Rattle.std.specs.Prelude.{◌≡◌, ◌==◌, ◌||◌, nat_lt, not, if◌then◌else◌, Bool, true, false, ℕ, List, [], ◌∷◌, length, bit_and, slice_index, is_none, Option, Some, None, IsSome, MatchResult, Result}
 use Rattle.std.specs.List.{list_any}
 use Rattle.bgp_attr.specs.AttributeTable.{octet_of, type_of, class_of, class_flags_of, length_of}
 use Rattle.bgp_attr.specs.PathAttributes.{origin_at}
@@ -42,6 +42,10 @@ seen update.NoMemory = None
 -- the answer tells this fault
 abbrev pub Tells : UpdateFault → Option Fault → Type 0
 Tells answer fault = IsSome fault × (seen answer ≡ fault)
+
+-- a check passes where there is no fault, and else tells it
+abbrev pub Judges : {A : Type 0} → Result A UpdateFault → Option Fault → Type 0
+Judges result fault = MatchResult result (λ _. fault ≡ None) (λ answer. Tells answer fault)
 
 -- the fault of the first test that holds
 abbrev pub first_fault : List (Bool × Fault) → Option Fault

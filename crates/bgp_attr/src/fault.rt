@@ -3,7 +3,7 @@ ghost use Rattle.std.specs.Prelude.{◌≡◌};
 ghost use Rattle.bgp_attr.specs.AttributeFaults.{code_of, data_of, number_of, subcode_of};
 
 use crate::attribute_type::AttributeType;
-use std::alloc::{AllocError, AllocFailed};
+use std::alloc::AllocError;
 use thiserror::Error;
 
 const UPDATE_MESSAGE_ERROR: u8 = 3;
@@ -45,16 +45,6 @@ impl From<AllocError> for UpdateFault<'_> {
     ghost from_gives = { λ _ fault. fault ≡ NoMemory };
 
     fn from(_refusal: AllocError) -> Self {
-        UpdateFault::NoMemory
-    }
-}
-
-impl<T: Drop> From<AllocFailed<T>> for UpdateFault<'_> {
-    ghost use Rattle.bgp_attr.specs.declared.fault.UpdateFault.TheVariants.{NoMemory};
-
-    ghost from_gives = { λ _ fault. fault ≡ NoMemory };
-
-    fn from(_refusal: AllocFailed<T>) -> Self {
         UpdateFault::NoMemory
     }
 }

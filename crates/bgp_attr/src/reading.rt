@@ -1,7 +1,7 @@
 //! Reading the attributes of an UPDATE (RFC 4271 sections 4.3 and 6.3).
-ghost use Rattle.std.specs.Prelude.{◌≡◌, MatchResult, IfOk, IfErr, OnErr, Some, None, false};
+ghost use Rattle.std.specs.Prelude.{◌≡◌, IfOk, IfErr, OnErr, Some, None, false};
 ghost use Rattle.std.specs.Option.{option_and_then};
-ghost use Rattle.bgp_attr.specs.AttributeFaults.{Tells, attribute_tests, attributes_fault, first_fault, has_other_length, seen, type_tests, value_tests};
+ghost use Rattle.bgp_attr.specs.AttributeFaults.{Judges, attribute_tests, attributes_fault, first_fault, has_other_length, seen, type_tests, value_tests};
 ghost use Rattle.bgp_attr.specs.AttributeFaults as faults;
 ghost use Rattle.bgp_attr.specs.AttributeReading.{HasOctets, HasSegments, as_came, attributes_in, next_hop_in, origin_in};
 ghost use Rattle.bgp_attr.specs.AttributeTable.{length_of};
@@ -36,7 +36,7 @@ pub fn read_attrs<'a, A: Allocator + Clone>(
 
 // Looks for the first fault.
 fn check_attributes<'a>(octets: &'a [u8], kind: PeerKind) -> Result<(), UpdateFault<'a>>
-    ensures { MatchResult result (λ _. attributes_fault kind octets.now ≡ None) (λ fault. Tells fault (attributes_fault kind octets.now)) }
+    ensures { Judges result (attributes_fault kind octets.now) }
 {
     let mut came = [false; 256];
     let mut rest = octets;
@@ -57,7 +57,7 @@ fn check_attribute<'a>(
     attribute: Attribute<'a>,
     kind: PeerKind,
 ) -> Result<(), UpdateFault<'a>>
-    ensures { MatchResult result (λ _. first_fault (attribute_tests kind came (as_came attribute.entry)) ≡ None) (λ fault. Tells fault (first_fault (attribute_tests kind came (as_came attribute.entry)))) }
+    ensures { Judges result (first_fault (attribute_tests kind came (as_came attribute.entry))) }
 {
     // 3/1
     if came {
@@ -74,7 +74,7 @@ fn check_known<'a>(
     attribute: Attribute<'a>,
     kind: PeerKind,
 ) -> Result<(), UpdateFault<'a>>
-    ensures { MatchResult result (λ _. first_fault (type_tests kind (Some known) (as_came attribute.entry)) ≡ None) (λ fault. Tells fault (first_fault (type_tests kind (Some known) (as_came attribute.entry)))) }
+    ensures { Judges result (first_fault (type_tests kind (Some known) (as_came attribute.entry))) }
 {
     // 3/4
     if attribute.class_flags() != known.class().flags() {
@@ -95,7 +95,7 @@ fn check_value<'a>(
     kind: PeerKind,
 ) -> Result<(), UpdateFault<'a>>
     requires { has_other_length (length_of known) attribute.value.now ≡ false }
-    ensures { MatchResult result (λ _. first_fault (value_tests kind known (as_came attribute.entry)) ≡ None) (λ fault. Tells fault (first_fault (value_tests kind known (as_came attribute.entry)))) }
+    ensures { Judges result (first_fault (value_tests kind known (as_came attribute.entry))) }
 {
     let value = attribute.value;
     let whole = attribute.whole;
