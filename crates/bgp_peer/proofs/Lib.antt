@@ -1,2 +1,6 @@
 pub mod Rests
 pub mod Hearing
+pub mod Rows
+pub mod Connections
+pub mod Agreeing
+pub mod Receiving

@@ -1,0 +1,84 @@
+-- While its connection stands, a history leaves a stream with no item at its front.
+use Rattle.std.proofs.Common.{◌≡◌, ◌≢◌, ℕ, List, [], ◌∷◌, ◌++◌, Option, Some, None, ◌⊎◌, inl, inr, length, drop, refl, ap, sym, subst, ◌∙◌, arith}
+use Rattle.std.specs.Option.{option_map}
+use Rattle.std.proofs.lemmas.Bool.{le-ltb, eq-eqb}
+use Rattle.net_prefix.specs.declared.transport.Transport.TheVariants.{Open as Connected}
+use Rattle.bgp_msg.specs.declared.frame.MessageType.{MessageType}
+use Rattle.bgp_msg.specs.declared.fault.HeaderFault.{HeaderFault}
+use Rattle.bgp_msg.specs.MessageFaults.{header_fault}
+use Rattle.bgp_msg.specs.MessageStream.{Item, WholeMessage, FaultyHeader, Wants, IsMessage, meaning, completed, left_over, unread}
+use Rattle.bgp_msg.proofs.Streams.{becomes, meaning-message}
+use Rattle.bgp_msg.proofs.StreamPieces.{unread-push, unread-nil}
+use Rattle.bgp_fsm.specs.declared.input.Input.{Input}
+use Rattle.bgp_fsm.specs.declared.session.Session.{Session}
+use Rattle.bgp_fsm.specs.SessionTable.{session_after}
+use Rattle.bgp_fsm.specs.Transports.{transport_of}
+use Rattle.bgp_peer.specs.SessionInputs.{Event, Configured, Enabled, Opened, Failed, Octet, Queued, Handed, Terms, terms_of, stream, item_at, input_of, table, with_input, inputs, session, input_at}
+use Rattle.bgp_peer.proofs.Rows.{fault_closes, start_connects_nothing, ignored}
+
+-- the session after an input, where there is one
+abbrev pub after : Session → Option Input → Session
+after s None = s
+after s (Some input) = session_after input s
+
+with_input-after : (terms : Terms) (input : Option Input) (others : List Input) → table terms (with_input input others) ≡ after (table terms others) input
+with_input-after terms None others = refl
+with_input-after terms (Some input) others = refl
+
+-- the session after one more octet
+pub session-octet : (h : List Event) (octet : ℕ) → session (Octet octet ∷ h) ≡ after (session h) (input_at h octet)
+session-octet h octet = with_input-after (terms_of h) (input_at h octet) (inputs h)
+
+-- a rest with nothing at its front
+pub wants-nil : Wants []
+wants-nil = inl (omega arith)
+
+-- a faulty header is an item with its last octet
+at_header : (octets : List ℕ) (fault : HeaderFault) → length octets ≡ 19 → header_fault octets ≡ Some fault → meaning octets ≡ Some (FaultyHeader fault)
+unfolding meaning
+at_header octets fault nineteen faulty = rw (le-ltb (length octets) 19 (omega (arith, nineteen)), faulty, eq-eqb (length octets) 19 nineteen) refl
+
+-- one more octet, and still nothing is whole
+pub wants-more : (part : List ℕ) (octet : ℕ) → Wants part → completed part octet ≡ None → Wants (part ++ octet ∷ [])
+wants-more part octet h none = still (part ++ octet ∷ []) (becomes part octet h) none
+  where
+    still :
+        (octets : List ℕ)
+        → (Wants octets ⊎ (((kind : MessageType) × IsMessage octets kind (drop 19 octets)) ⊎ ((fault : HeaderFault) × (length octets ≡ 19) × (header_fault octets ≡ Some fault))))
+        → meaning octets ≡ None → Wants octets
+    still octets (inl k) none = k
+    still octets (inr (inl k)) none =
+        let whole : meaning octets ≡ Some (WholeMessage k.0 (drop 19 octets)) = meaning-message _ _ _ k.1 in
+        cc
+    still octets (inr (inr k)) none =
+        let faulty : meaning octets ≡ Some (FaultyHeader k.0) = at_header octets k.0 k.1 k.2 in
+        cc
+
+-- what one more octet leaves unread of a stream whose connection still stands
+after_octet :
+    (h : List Event) (octet : ℕ) (item : Option Item) → item_at h octet ≡ item
+    → transport_of (after (session h) (option_map (input_of (session h).state (terms_of h)) item)) ≡ Connected
+    → (transport_of (session h) ≡ Connected → Wants (unread (stream h)))
+    → Wants (left_over (unread (stream h) ++ octet ∷ []) item)
+after_octet h octet None none stands before = wants-more (unread (stream h)) octet (before stands) none
+after_octet h octet (Some (WholeMessage kind body)) some stands before = wants-nil
+after_octet h octet (Some (FaultyHeader fault)) some stands before = absurd (fault_closes (session h) stands)
+
+wants-octet :
+    (h : List Event) (octet : ℕ) → transport_of (session (Octet octet ∷ h)) ≡ Connected
+    → (transport_of (session h) ≡ Connected → Wants (unread (stream h)))
+    → Wants (unread (stream h ++ octet ∷ []))
+wants-octet h octet stands before =
+    let stands_after : transport_of (after (session h) (input_at h octet)) ≡ Connected = ap transport_of (sym (session-octet h octet)) ∙ stands in
+    subst Wants (sym (unread-push (stream h) octet)) (after_octet h octet (item_at h octet) refl stands_after before)
+
+-- while the connection stands, nothing whole stands at the front of what is unread
+pub connected_wants : (h : List Event) → transport_of (session h) ≡ Connected → Wants (unread (stream h))
+connected_wants [] stands = subst Wants (sym unread-nil) wants-nil
+connected_wants (Configured terms ∷ h) stands = subst Wants (sym unread-nil) wants-nil
+connected_wants (Enabled ∷ h) stands = connected_wants h (start_connects_nothing (session h) stands)
+connected_wants (Opened ∷ h) stands = subst Wants (sym unread-nil) wants-nil
+connected_wants (Failed ∷ h) stands = subst Wants (sym unread-nil) wants-nil
+connected_wants (Octet octet ∷ h) stands = wants-octet h octet stands (λ k. connected_wants h k)
+connected_wants (Queued update ∷ h) stands = connected_wants h stands
+connected_wants (Handed octets ∷ h) stands = connected_wants h stands

@@ -1,0 +1,87 @@
+-- Octets up to the end of the item at the front of a stream.
+use Rattle.std.proofs.Common.{◌≡◌, ◌+◌, ◌-◌, ◌≤◌, ◌<◌, ℕ, Bool, true, false, List, [], ◌∷◌, ◌++◌, Option, Some, None, ◌⊎◌, inl, inr, length, drop, nat_lt, refl, ap, sym, subst, ◌∙◌, arith, append_assoc, append-nil, length-append}
+use Rattle.std.proofs.lemmas.Bool.{le-ltb, lt-ltb, ltb-true, ltb-false, cases_lt}
+use Rattle.net_prefix.specs.declared.transport.Transport.TheVariants.{Open as Connected}
+use Rattle.bgp_msg.specs.declared.fault.HeaderFault.{HeaderFault}
+use Rattle.bgp_msg.specs.MessageSpelling.{told_length}
+use Rattle.bgp_msg.specs.MessageFaults.{header_fault}
+use Rattle.bgp_msg.specs.MessageStream.{Item, Wants, meaning, completed, unread, needed_of, wanted_of}
+use Rattle.bgp_msg.proofs.Streams.{wants_none, told_length-append, header_fault-append}
+use Rattle.bgp_fsm.specs.Transports.{transport_of}
+use Rattle.bgp_peer.specs.Slot.{Slot, pushed}
+use Rattle.bgp_peer.specs.SessionInputs.{Event, Octet, stream, session, onto}
+use Rattle.bgp_peer.specs.Agreement.{PeerAgrees, IsHearing, holding}
+use Rattle.bgp_peer.proofs.Connections.{connected_wants}
+use Rattle.bgp_peer.proofs.Agreeing.{agrees-octet}
+
+-- what is wanted, by cases: of a header, or behind a header without a fault
+needed-short : (octets : List ℕ) → length octets < 19 → needed_of octets ≡ 19 - length octets
+needed-short octets short = rw (lt-ltb (length octets) 19 short) refl
+
+needed-long : (octets : List ℕ) → 19 ≤ length octets → header_fault octets ≡ None → needed_of octets ≡ told_length octets - length octets
+needed-long octets whole sound = rw (le-ltb (length octets) 19 whole, sound) refl
+
+-- where more than one octet is wanted, one octet leaves all but one wanted
+pub needed-push :
+    (part : List ℕ) (octet : ℕ) → Wants part → 1 < needed_of part
+    → Wants (part ++ octet ∷ []) × (needed_of (part ++ octet ∷ []) + 1 ≡ needed_of part)
+needed-push part octet (inl short) more =
+    let longer : length (part ++ octet ∷ []) ≡ length part + 1 = length-append part (octet ∷ []) in
+    let needed : needed_of part ≡ 19 - length part = needed-short part short in
+    let still : length (part ++ octet ∷ []) < 19 = omega (arith, longer, needed, more) in
+    (inl still, omega (arith, longer, needed, needed-short (part ++ octet ∷ []) still, still))
+needed-push part octet (inr h) more =
+    let longer : length (part ++ octet ∷ []) ≡ length part + 1 = length-append part (octet ∷ []) in
+    let needed : needed_of part ≡ told_length part - length part = needed-long part h.0 h.1 in
+    let whole : 19 ≤ length (part ++ octet ∷ []) = omega (arith, longer, h.0) in
+    let sound : header_fault (part ++ octet ∷ []) ≡ None = header_fault-append part (octet ∷ []) h.0 ∙ h.1 in
+    let told : told_length (part ++ octet ∷ []) ≡ told_length part = told_length-append part (octet ∷ []) h.0 in
+    let still : length (part ++ octet ∷ []) < told_length (part ++ octet ∷ []) = omega (arith, longer, told, needed, more) in
+    (inr (whole, sound, still), omega (arith, longer, told, needed, needed-long (part ++ octet ∷ []) whole sound, still))
+
+-- what the octets leave: the slot as the history and they leave it, or hearing the item that the last of them completes
+abbrev pub HasHeard : List Event → Slot → Type 0
+HasHeard h p = (meaning p.rest ≡ None → PeerAgrees h p) × ((item : Item) → meaning p.rest ≡ Some item → IsHearing h item p)
+
+-- the last octet
+heard-one : (h : List Event) (p : Slot) (octet : ℕ) → transport_of p.session ≡ Connected → PeerAgrees h p → HasHeard (Octet octet ∷ h) (pushed p (octet ∷ []))
+heard-one h p octet connected a = (
+  λ none. agrees-octet h p octet connected none a,
+  λ item some. record {
+    octet = octet;
+    before = h;
+    part = p.rest;
+    history_is = refl;
+    rest_is = refl;
+    whole = some;
+    connected = connected;
+    agrees = a;
+  },
+)
+
+heard-nothing : (h : List Event) (p : Slot) → Wants p.rest → PeerAgrees h p → HasHeard h p
+heard-nothing h p wants a =
+    let none : meaning p.rest ≡ None = wants_none p.rest p.rest [] wants (sym (append-nil p.rest)) in
+    (λ e. a, λ item some. cc)
+
+heard-wanted :
+    (h : List Event) (p : Slot) (octets : List ℕ) → transport_of p.session ≡ Connected → Wants p.rest → length octets ≤ needed_of p.rest
+    → PeerAgrees h p → HasHeard (onto octets h) (pushed p octets)
+heard-wanted h p [] connected wants few a = subst (λ rest. HasHeard h (holding rest p)) (sym (append-nil p.rest)) (heard-nothing h p wants a)
+heard-wanted h p (octet ∷ []) connected wants few a = heard-one h p octet connected a
+heard-wanted h p (octet ∷ next ∷ octets) connected wants few a =
+    let more : 1 < needed_of p.rest = omega (arith, few) in
+    let step = needed-push p.rest octet wants more in
+    let none : meaning (p.rest ++ octet ∷ []) ≡ None = wants_none (p.rest ++ octet ∷ []) (p.rest ++ octet ∷ []) [] step.0 (sym (append-nil (p.rest ++ octet ∷ []))) in
+    let fewer : length (next ∷ octets) ≤ needed_of (p.rest ++ octet ∷ []) = omega (arith, few, step.1) in
+    subst (λ rest. HasHeard (onto (next ∷ octets) (Octet octet ∷ h)) (holding rest p)) (append_assoc p.rest (octet ∷ []) (next ∷ octets))
+      (heard-wanted (Octet octet ∷ h) (pushed p (octet ∷ [])) (next ∷ octets) connected step.0 fewer (agrees-octet h p octet connected none a))
+
+-- octets that are wanted come
+pub agrees-push :
+    (h : List Event) (p : Slot) (octets : List ℕ) → length octets ≤ needed_of p.rest → PeerAgrees h p → transport_of p.session ≡ Connected
+    → HasHeard (onto octets h) (pushed p octets)
+agrees-push h p octets few a connected =
+    let stands : transport_of (session h) ≡ Connected = ap transport_of (sym a.session) ∙ connected in
+    let wants : Wants p.rest = subst Wants (sym (a.rest stands)) (connected_wants h stands) in
+    heard-wanted h p octets connected wants few a
