@@ -1,5 +1,5 @@
 -- Each thing that happens to a slot that is as a history leaves it leaves it as the longer history does.
-use Rattle.std.proofs.Common.{◌≡◌, ◌≢◌, ◌+◌, ◌-◌, ◌≤◌, ℕ, List, [], ◌∷◌, ◌++◌, Option, Some, None, length, take, drop, min, refl, ap, sym, subst, ◌∙◌, arith, append_assoc, append-nil, length-append}
+use Rattle.std.proofs.Common.{◌≡◌, ◌≢◌, ◌+◌, ◌≤◌, ℕ, List, [], ◌∷◌, ◌++◌, Option, Some, None, length, take, drop, refl, ap, sym, subst, ◌∙◌, append_assoc, append-nil}
 use Rattle.std.specs.Option.{option_map}
 use Rattle.std.proofs.lemmas.List.{drop_at, take-append-drop}
 use Rattle.net_prefix.specs.declared.asn.Asn.{Asn}
@@ -7,7 +7,7 @@ use Rattle.net_prefix.specs.declared.transport.Transport.TheVariants.{Open as Co
 use Rattle.bgp_attr.specs.declared.peer.Mode.{Mode}
 use Rattle.bgp_msg.specs.declared.frame.MessageType.TheVariants.{Update}
 use Rattle.bgp_msg.specs.declared.open_message.Open.{Open as OpenMessage}
-use Rattle.bgp_msg.specs.MessageStream.{Item, WholeMessage, FaultyHeader, meaning, completed, left_over, unread}
+use Rattle.bgp_msg.specs.MessageStream.{Item, WholeMessage, FaultyHeader, completed, left_over, unread}
 use Rattle.bgp_msg.proofs.Streams.{message-then}
 use Rattle.bgp_msg.proofs.StreamPieces.{unread-push, unread-anew, unread-nil}
 use Rattle.bgp_fsm.specs.declared.state.State.TheVariants.{Established}
@@ -15,7 +15,7 @@ use Rattle.bgp_fsm.specs.declared.input.Input.{Input}
 use Rattle.bgp_fsm.specs.declared.input.Input.TheVariants.{Start, Up, Fail}
 use Rattle.bgp_fsm.specs.declared.session.Session.{Session}
 use Rattle.bgp_fsm.specs.declared.session.Effects.{Effects}
-use Rattle.bgp_fsm.specs.SessionTable.{row_at, session_after, effects_of}
+use Rattle.bgp_fsm.specs.SessionTable.{session_after, effects_of}
 use Rattle.bgp_fsm.specs.Transports.{transport_of}
 use Rattle.bgp_peer.specs.Slot.{Slot, said, configured, enabled, opened, failed, pushed, taken_input, queued, handed}
 use Rattle.bgp_peer.specs.SessionInputs.{Event, Configured, Enabled, Opened, Failed, Octet, Queued, Handed, Terms, terms_of, stream, item_at, input_of, session, input_at, onto}

@@ -1,5 +1,5 @@
 -- While its connection stands, a history leaves a stream with no item at its front.
-use Rattle.std.proofs.Common.{◌≡◌, ◌≢◌, ℕ, List, [], ◌∷◌, ◌++◌, Option, Some, None, ◌⊎◌, inl, inr, length, drop, refl, ap, sym, subst, ◌∙◌, arith}
+use Rattle.std.proofs.Common.{◌≡◌, ℕ, List, [], ◌∷◌, ◌++◌, Option, Some, None, ◌⊎◌, inl, inr, length, drop, refl, ap, sym, subst, ◌∙◌, arith}
 use Rattle.std.specs.Option.{option_map}
 use Rattle.std.proofs.lemmas.Bool.{le-ltb, eq-eqb}
 use Rattle.net_prefix.specs.declared.transport.Transport.TheVariants.{Open as Connected}
@@ -14,7 +14,7 @@ use Rattle.bgp_fsm.specs.declared.session.Session.{Session}
 use Rattle.bgp_fsm.specs.SessionTable.{session_after}
 use Rattle.bgp_fsm.specs.Transports.{transport_of}
 use Rattle.bgp_peer.specs.SessionInputs.{Event, Configured, Enabled, Opened, Failed, Octet, Queued, Handed, Terms, terms_of, stream, item_at, input_of, table, with_input, inputs, session, input_at}
-use Rattle.bgp_peer.proofs.Rows.{fault_closes, start_connects_nothing, ignored}
+use Rattle.bgp_peer.proofs.Rows.{fault_closes, start_connects_nothing}
 
 -- the session after an input, where there is one
 abbrev pub after : Session → Option Input → Session
@@ -34,7 +34,7 @@ pub wants-nil : Wants []
 wants-nil = inl (omega arith)
 
 -- a faulty header is an item with its last octet
-at_header : (octets : List ℕ) (fault : HeaderFault) → length octets ≡ 19 → header_fault octets ≡ Some fault → meaning octets ≡ Some (FaultyHeader fault)
+pub at_header : (octets : List ℕ) (fault : HeaderFault) → length octets ≡ 19 → header_fault octets ≡ Some fault → meaning octets ≡ Some (FaultyHeader fault)
 unfolding meaning
 at_header octets fault nineteen faulty = rw (le-ltb (length octets) 19 (omega (arith, nineteen)), faulty, eq-eqb (length octets) 19 nineteen) refl
 

@@ -1,18 +1,22 @@
 -- Octets up to the end of the item at the front of a stream.
-use Rattle.std.proofs.Common.{◌≡◌, ◌+◌, ◌-◌, ◌≤◌, ◌<◌, ℕ, Bool, true, false, List, [], ◌∷◌, ◌++◌, Option, Some, None, ◌⊎◌, inl, inr, length, drop, nat_lt, refl, ap, sym, subst, ◌∙◌, arith, append_assoc, append-nil, length-append}
-use Rattle.std.proofs.lemmas.Bool.{le-ltb, lt-ltb, ltb-true, ltb-false, cases_lt}
+use Rattle.std.proofs.Common.{◌≡◌, ◌+◌, ◌-◌, ◌≤◌, ◌<◌, ℕ, List, [], ◌∷◌, ◌++◌, Some, None, inl, inr, length, take, drop, refl, ap, sym, subst, ◌∙◌, arith, append_assoc, append-nil, length-append, length-drop}
+use Rattle.std.proofs.lemmas.Bool.{le-ltb, lt-ltb}
+use Rattle.std.proofs.lemmas.List.{take_all}
 use Rattle.net_prefix.specs.declared.transport.Transport.TheVariants.{Open as Connected}
 use Rattle.bgp_msg.specs.declared.fault.HeaderFault.{HeaderFault}
+use Rattle.bgp_msg.specs.declared.frame.Step.{Step}
+use Rattle.bgp_msg.specs.declared.frame.Step.TheVariants.{Need, Message, Faulty}
 use Rattle.bgp_msg.specs.MessageSpelling.{told_length}
 use Rattle.bgp_msg.specs.MessageFaults.{header_fault}
-use Rattle.bgp_msg.specs.MessageStream.{Item, Wants, meaning, completed, unread, needed_of, wanted_of}
-use Rattle.bgp_msg.proofs.Streams.{wants_none, told_length-append, header_fault-append}
+use Rattle.bgp_msg.specs.MessageStream.{Item, Wants, Tells, meaning, needed_of}
+use Rattle.bgp_msg.proofs.Streams.{wants_none, meaning-message, told_length-append, header_fault-append}
+use Rattle.bgp_fsm.specs.declared.input.Input.{Input}
 use Rattle.bgp_fsm.specs.Transports.{transport_of}
-use Rattle.bgp_peer.specs.Slot.{Slot, pushed}
-use Rattle.bgp_peer.specs.SessionInputs.{Event, Octet, stream, session, onto}
+use Rattle.bgp_peer.specs.Slot.{Slot, pushed, taken_input, IsWholeRest, item_of_step}
+use Rattle.bgp_peer.specs.SessionInputs.{Event, Octet, session, onto, terms_of, input_of}
 use Rattle.bgp_peer.specs.Agreement.{PeerAgrees, IsHearing, holding}
-use Rattle.bgp_peer.proofs.Connections.{connected_wants}
-use Rattle.bgp_peer.proofs.Agreeing.{agrees-octet}
+use Rattle.bgp_peer.proofs.Connections.{connected_wants, at_header}
+use Rattle.bgp_peer.proofs.Agreeing.{agrees-octet, agrees-input}
 
 -- what is wanted, by cases: of a header, or behind a header without a fault
 needed-short : (octets : List ℕ) → length octets < 19 → needed_of octets ≡ 19 - length octets
@@ -75,7 +79,7 @@ heard-wanted h p (octet ∷ next ∷ octets) connected wants few a =
     let none : meaning (p.rest ++ octet ∷ []) ≡ None = wants_none (p.rest ++ octet ∷ []) (p.rest ++ octet ∷ []) [] step.0 (sym (append-nil (p.rest ++ octet ∷ []))) in
     let fewer : length (next ∷ octets) ≤ needed_of (p.rest ++ octet ∷ []) = omega (arith, few, step.1) in
     subst (λ rest. HasHeard (onto (next ∷ octets) (Octet octet ∷ h)) (holding rest p)) (append_assoc p.rest (octet ∷ []) (next ∷ octets))
-      (heard-wanted (Octet octet ∷ h) (pushed p (octet ∷ [])) (next ∷ octets) connected step.0 fewer (agrees-octet h p octet connected none a))
+    (heard-wanted (Octet octet ∷ h) (pushed p (octet ∷ [])) (next ∷ octets) connected step.0 fewer (agrees-octet h p octet connected none a))
 
 -- octets that are wanted come
 pub agrees-push :
@@ -85,3 +89,31 @@ agrees-push h p octets few a connected =
     let stands : transport_of (session h) ≡ Connected = ap transport_of (sym a.session) ∙ connected in
     let wants : Wants p.rest = subst Wants (sym (a.rest stands)) (connected_wants h stands) in
     heard-wanted h p octets connected wants few a
+
+-- the item is taken
+pub agrees-hearing :
+    (h : List Event) (p : Slot) (item : Item) (input : Input) → IsHearing h item p → input ≡ input_of p.session.state (terms_of h) item
+    → PeerAgrees h (taken_input p input)
+agrees-hearing h p item input hearing is =
+    let taken : PeerAgrees (Octet hearing.octet ∷ hearing.before) (taken_input p (input_of p.session.state (terms_of hearing.before) item)) =
+    agrees-input hearing.before p hearing.part hearing.octet item hearing.connected hearing.whole hearing.agrees in
+    let so : PeerAgrees h (taken_input p (input_of p.session.state (terms_of h) item)) =
+    subst (λ (x : List Event). PeerAgrees x (taken_input p (input_of p.session.state (terms_of x) item))) (sym hearing.history_is) taken in
+    subst (λ (x : Input). PeerAgrees h (taken_input p x)) (sym is) so
+
+-- a reader's answer is the item that the rest is, where the rest goes no further
+pub front-item :
+    (rest : List ℕ) (step : Step) → Tells rest step → IsWholeRest rest step
+    → ((fault : HeaderFault) → 19 ≤ length rest → header_fault rest ≡ Some fault → length rest ≡ 19)
+    → meaning rest ≡ item_of_step step
+front-item rest Need h whole alone = wants_none rest rest [] h (sym (append-nil rest))
+front-item rest (Message frame used) h whole alone =
+    let all : take (used - 19) (drop 19 rest) ≡ drop 19 rest = take_all (used - 19) (drop 19 rest) (omega (arith, length-drop 19 rest, whole)) in
+    meaning-message rest frame.kind frame.body.now record {
+      whole_header = omega (arith, h.0, h.2);
+      sound = h.7;
+      kind_is = h.6;
+      length_is = sym whole ∙ h.5;
+      body_is = h.4 ∙ all;
+    }
+front-item rest (Faulty fault) h whole alone = at_header rest fault (alone fault h.0 h.1) h.1

@@ -1,11 +1,12 @@
 -- The rest never goes beyond the message at its front.
-use Rattle.std.proofs.Common.{◌≡◌, ◌+◌, ◌-◌, ◌≤◌, ◌<◌, ℕ, Bool, true, false, ◌||◌, nat_lt, List, [], ◌++◌, Option, Some, None, length, get_or, arith, length-append, refl, sym, ap, ◌∙◌, if◌then◌else◌, not}
+use Rattle.std.proofs.Common.{◌≡◌, ◌+◌, ◌-◌, ◌≤◌, ◌<◌, ℕ, Bool, true, false, ◌||◌, nat_lt, List, [], ◌++◌, Option, Some, None, length, get_or, arith, length-append, refl, sym, ap, subst, ◌∙◌, if◌then◌else◌, not}
 use Rattle.std.proofs.lemmas.Grind.{common_steps}
 use Rattle.std.proofs.lemmas.List.{get_or_append_left, append-nil}
 use Rattle.bgp_msg.specs.declared.fault.HeaderFault.{HeaderFault}
 use Rattle.bgp_msg.specs.MessageSpelling.{told_length, has_marker}
 use Rattle.bgp_msg.specs.MessageFaults.{header_fault}
 use Rattle.bgp_msg.specs.MessageStream.{needed_of}
+use Rattle.bgp_msg.proofs.Streams.{header_fault-append}
 
 -- where no row holds, the second doesn't
 second-passes :
@@ -102,3 +103,47 @@ pub one_message-push :
 one_message-push rest new octets added few before none =
     let sound : header_fault (rest ++ octets) ≡ None = ap header_fault (sym added) ∙ none in
     rw added (one_message-append rest octets before few sound)
+
+-- a faulty header stays alone: within it no octet beyond its last is wanted, and behind it none
+header_within :
+    (rest octets : List ℕ) → length rest < 19 → length octets ≤ needed_of rest → 19 ≤ length (rest ++ octets) → length (rest ++ octets) ≡ 19
+header_within rest octets short few whole =
+    let few_more : length octets ≤ 19 - length rest = grind (arith, common_steps) in
+    omega (arith, length-append rest octets, few_more, whole, short)
+
+nothing_behind :
+    (rest octets : List ℕ) (fault : HeaderFault) → 19 ≤ length rest → header_fault rest ≡ Some fault → length octets ≤ needed_of rest → octets ≡ []
+nothing_behind rest octets fault long faulty few =
+    let nothing : length octets ≡ 0 = grind (arith, common_steps, faulty) in
+    grind (arith, common_steps, nothing)
+
+some_is_not_none : (found : Option HeaderFault) (fault : HeaderFault) → found ≡ Some fault → found ≡ None → ⊥
+some_is_not_none found fault some none = cc
+
+header_by_fault :
+    (rest octets : List ℕ) (found : Option HeaderFault) (fault : HeaderFault) → header_fault rest ≡ found → 19 ≤ length rest
+    → ((fault : HeaderFault) → 19 ≤ length rest → header_fault rest ≡ Some fault → length rest ≡ 19)
+    → length octets ≤ needed_of rest → header_fault (rest ++ octets) ≡ Some fault → length (rest ++ octets) ≡ 19
+header_by_fault rest octets None fault sound long before few faulty =
+    absurd (some_is_not_none _ fault faulty (header_fault-append rest octets long ∙ sound))
+header_by_fault rest octets (Some first) fault first_faulty long before few faulty =
+    ap (λ (x : List ℕ). length (rest ++ x)) (nothing_behind rest octets first long first_faulty few) ∙ ap length (append-nil rest) ∙ before first long first_faulty
+
+header_by_length :
+    (rest octets : List ℕ) (fault : HeaderFault) (short : Bool) → nat_lt (length rest) 19 ≡ short
+    → ((fault : HeaderFault) → 19 ≤ length rest → header_fault rest ≡ Some fault → length rest ≡ 19)
+    → length octets ≤ needed_of rest → 19 ≤ length (rest ++ octets) → header_fault (rest ++ octets) ≡ Some fault → length (rest ++ octets) ≡ 19
+header_by_length rest octets fault true is_short before few whole faulty =
+    let short : length rest < 19 = grind (arith, common_steps, is_short) in
+    header_within rest octets short few whole
+header_by_length rest octets fault false is_long before few whole faulty =
+    let long : 19 ≤ length rest = grind (arith, common_steps, is_long) in
+    header_by_fault rest octets (header_fault rest) fault refl long before few faulty
+
+pub header_alone-push :
+    (rest new octets : List ℕ) (fault : HeaderFault) → new ≡ rest ++ octets → length octets ≤ needed_of rest
+    → ((fault : HeaderFault) → 19 ≤ length rest → header_fault rest ≡ Some fault → length rest ≡ 19)
+    → 19 ≤ length new → header_fault new ≡ Some fault → length new ≡ 19
+header_alone-push rest new octets fault added few before whole faulty =
+    let found : length (rest ++ octets) ≡ 19 = header_by_length rest octets fault _ refl before few (subst (λ (x : List ℕ). 19 ≤ length x) added whole) (ap header_fault (sym added) ∙ faulty) in
+    ap length added ∙ found

@@ -6,7 +6,9 @@ use Rattle.bgp_msg.specs.declared.frame.Step.{Step}
 use Rattle.bgp_msg.specs.declared.frame.Step.TheVariants.{Need, Message, Faulty}
 use Rattle.bgp_msg.specs.MessageSpelling.{told_length, open_of, header_of}
 use Rattle.bgp_msg.specs.declared.frame.MessageType.TheVariants.{Keepalive as KeepaliveMessage}
+use Rattle.bgp_msg.specs.declared.fault.HeaderFault.{HeaderFault}
 use Rattle.bgp_msg.specs.MessageFaults.{header_fault}
+use Rattle.bgp_msg.specs.MessageStream.{Item, WholeMessage, FaultyHeader}
 use Rattle.bgp_fsm.specs.declared.input.Input.{Input}
 use Rattle.bgp_fsm.specs.declared.input.Input.TheVariants.{Start, Up, Fail}
 use Rattle.bgp_fsm.specs.declared.session.Session.{Session}
@@ -20,17 +22,24 @@ pub record Slot : Type 0 where
   pub rest : List ℕ
   pub ring : List ℕ
 
--- the rest doesn't go beyond the message at its front, and the ring holds 65,536 octets
+-- the rest doesn't go beyond the message or the faulty header at its front, and the ring holds 65,536 octets
 pub record IsInOrder (rest ring : List ℕ) (capacity : ℕ) : Type 0 where
   pub capacity_is : capacity ≡ 65536
   pub fits : length ring ≤ 65536
   pub one_message : 19 ≤ length rest → header_fault rest ≡ None → length rest ≤ told_length rest
+  pub header_alone : (fault : HeaderFault) → 19 ≤ length rest → header_fault rest ≡ Some fault → length rest ≡ 19
 
 -- a message at the front is all of the rest
 abbrev pub IsWholeRest : List ℕ → Step → Type 0
 IsWholeRest rest Need = Unit {0}
 IsWholeRest rest (Message frame used) = used ≡ length rest
 IsWholeRest rest (Faulty fault) = Unit {0}
+
+-- the item that a reader's answer is, if it is one
+abbrev pub item_of_step : Step → Option Item
+item_of_step Need = None
+item_of_step (Message frame used) = Some (WholeMessage frame.kind frame.body.now)
+item_of_step (Faulty fault) = Some (FaultyHeader fault)
 
 -- the octets of what a row queues (RFC 4271 section 4)
 abbrev pub octets_of : Option Outgoing → List ℕ

@@ -1,12 +1,16 @@
 //! A slot: its session, the rest and the ring.
-ghost use Rattle.std.specs.Prelude.{◌≡◌, ◌+◌, ◌≤◌, ◌<◌, length, take, drop, min, ◌++◌, IfOk, ℕ, List, []};
+ghost use Rattle.std.specs.Prelude.{◌≡◌, ◌+◌, ◌≤◌, ◌<◌, length, take, drop, min, ◌∷◌, ◌++◌, IfOk, ℕ, List, [], None, Some};
+ghost use Rattle.net_prefix.specs.declared.asn.Asn.{Asn};
+ghost use Rattle.net_prefix.specs.declared.transport.Transport.TheVariants.{Open as Connected};
 ghost use Rattle.bgp_fsm.specs.SessionTable.{effects_of};
 ghost use Rattle.bgp_fsm.specs.Transports.{transport_of};
 ghost use Rattle.bgp_fsm.specs.declared.state.State.{State};
 ghost use Rattle.bgp_fsm.specs.declared.input.Input.TheVariants.{Start, Up, Fail};
-ghost use Rattle.bgp_msg.specs.MessageStream.{Item, Tells, Wants, messages, needed_of, unread};
+ghost use Rattle.bgp_msg.specs.MessageStream.{Item, Tells, Wants, meaning, messages, needed_of, unread};
+ghost use Rattle.bgp_peer.specs.Agreement.{PeerAgrees, IsHearing, IsUpdateMessage};
 ghost use Rattle.bgp_peer.specs.HeardMessages.{HoldsOnly, IsHeard};
-ghost use Rattle.bgp_peer.specs.Slot.{Slot, configured, enabled, opened, failed, pushed, taken_input, said, queued, handed, IsWholeRest};
+ghost use Rattle.bgp_peer.specs.SessionInputs.{Event, Configured, Enabled, Opened, Failed, Queued, Handed, terms_of, input_of, onto};
+ghost use Rattle.bgp_peer.specs.Slot.{Slot, configured, enabled, opened, failed, pushed, taken_input, said, queued, handed, IsWholeRest, item_of_step};
 
 use arrayvec::ArrayVec;
 use bgp_attr::Mode;
@@ -47,6 +51,13 @@ impl<A: Allocator> Model for Peer<A> {
 impl<A: Allocator> Peer<A> {
     /// A slot whose peer is configured and not enabled. `own` is the OPEN that this side sends.
     pub fn new(alloc: A, own: Open, mode: Mode) -> Result<Self, AllocError>
+        ensures exact { IfOk result (λ p. p ≡ configured own mode) }
+        ensures agrees { IfOk result (λ p. (h : List Event) (peer_asn : Asn) → PeerAgrees (Configured (record { own = own; mode = mode; peer_asn = peer_asn }) ∷ h) p) }
+    {
+        Self::idle(alloc, own, mode)
+    }
+
+    fn idle(alloc: A, own: Open, mode: Mode) -> Result<Self, AllocError>
         ensures { IfOk result (λ p. p ≡ configured own mode) }
     {
         let ring = HeapCircularBuffer::with_capacity(alloc, RING_OCTETS)?;
@@ -93,6 +104,18 @@ impl<A: Allocator> Peer<A> {
         ensures goes_on { Wants self.old.rest → 0 < length octets.now → 0 < result }
         ensures short { length self.new.rest ≤ 4096 }
         ensures heard { (stream : List ℕ) (heard : List Item) → IsHeard stream heard self.old.rest → IsHeard (stream ++ take result octets.now) heard self.new.rest }
+        ensures agrees { (h : List Event) → PeerAgrees h self.old → transport_of self.old.session ≡ Connected → meaning self.new.rest ≡ None → PeerAgrees (onto (take result octets.now) h) self.new }
+        ensures hears { (h : List Event) (item : Item) → PeerAgrees h self.old → transport_of self.old.session ≡ Connected → meaning self.new.rest ≡ Some item → IsHearing (onto (take result octets.now) h) item self.new }
+    {
+        self.receive(octets)
+    }
+
+    fn receive(&mut self, octets: &[u8]) -> usize
+        ensures count { result ≡ min (needed_of self.old.rest) (length octets.now) }
+        ensures few { length (take result octets.now) ≤ needed_of self.old.rest }
+        ensures exact { self.new ≡ pushed self.old (take result octets.now) }
+        ensures goes_on { Wants self.old.rest → 0 < length octets.now → 0 < result }
+        ensures short { length self.new.rest ≤ 4096 }
     {
         let count = wanted(self.rest.as_slice(), octets.len());
         append(&octets[..count], &mut self.rest);
@@ -104,12 +127,21 @@ impl<A: Allocator> Peer<A> {
         ensures tells { Tells self.now.rest result }
         ensures whole { IsWholeRest self.now.rest result }
         ensures only { HoldsOnly self.now.rest result }
+        ensures item { meaning self.now.rest ≡ item_of_step result }
     {
         read(self.rest.as_slice())
     }
 
     /// The operator enables the peer.
     pub fn enable(&mut self, now: u64) -> Effects
+        ensures exact { self.new ≡ enabled self.old }
+        ensures effects { result ≡ effects_of Start self.old.session }
+        ensures agrees { (h : List Event) → PeerAgrees h self.old → PeerAgrees (Enabled ∷ h) self.new }
+    {
+        self.start(now)
+    }
+
+    fn start(&mut self, now: u64) -> Effects
         ensures exact { self.new ≡ enabled self.old }
         ensures effects { result ≡ effects_of Start self.old.session }
     {
@@ -120,6 +152,14 @@ impl<A: Allocator> Peer<A> {
     pub fn up(&mut self, now: u64) -> Effects
         ensures exact { self.new ≡ opened self.old }
         ensures heard { IsHeard [] [] self.new.rest }
+        ensures effects { result ≡ effects_of Up self.old.session }
+        ensures agrees { (h : List Event) → PeerAgrees h self.old → PeerAgrees (Opened ∷ h) self.new }
+    {
+        self.connect(now)
+    }
+
+    fn connect(&mut self, now: u64) -> Effects
+        ensures exact { self.new ≡ opened self.old }
         ensures effects { result ≡ effects_of Up self.old.session }
     {
         self.clear();
@@ -132,6 +172,14 @@ impl<A: Allocator> Peer<A> {
     pub fn fail(&mut self, now: u64) -> Effects
         ensures exact { self.new ≡ failed self.old }
         ensures effects { result ≡ effects_of Fail self.old.session }
+        ensures agrees { (h : List Event) → PeerAgrees h self.old → PeerAgrees (Failed ∷ h) self.new }
+    {
+        self.lose(now)
+    }
+
+    fn lose(&mut self, now: u64) -> Effects
+        ensures exact { self.new ≡ failed self.old }
+        ensures effects { result ≡ effects_of Fail self.old.session }
     {
         self.clear();
         self.session.input(Input::Fail, now)
@@ -141,6 +189,14 @@ impl<A: Allocator> Peer<A> {
     pub fn input(&mut self, input: Input, now: u64) -> Effects
         ensures exact { self.new ≡ taken_input self.old input }
         ensures heard { (stream : List ℕ) (heard : List Item) → IsHeard stream heard self.old.rest → unread self.old.rest ≡ [] → IsHeard stream (heard ++ messages self.old.rest) self.new.rest }
+        ensures effects { result ≡ effects_of input self.old.session }
+        ensures agrees { (h : List Event) (item : Item) → IsHearing h item self.old → input ≡ input_of self.old.session.state (terms_of h) item → PeerAgrees h self.new }
+    {
+        self.judge(input, now)
+    }
+
+    fn judge(&mut self, input: Input, now: u64) -> Effects
+        ensures exact { self.new ≡ taken_input self.old input }
         ensures effects { result ≡ effects_of input self.old.session }
     {
         self.rest.clear();
@@ -153,6 +209,14 @@ impl<A: Allocator> Peer<A> {
     pub fn queue(&mut self, message: &[u8])
         requires established { self.old.session.state ≡ State.Established }
         requires free { length self.old.ring + length message.now ≤ 65536 }
+        ensures exact { self.new ≡ queued self.old message.now }
+        ensures agrees { (h : List Event) → PeerAgrees h self.old → IsUpdateMessage message.now → length self.old.ring + 8192 ≤ 65536 → PeerAgrees (Queued message.now ∷ h) self.new }
+    {
+        self.put(message);
+    }
+
+    fn put(&mut self, message: &[u8])
+        requires { length self.old.ring + length message.now ≤ 65536 }
         ensures { self.new ≡ queued self.old message.now }
     {
         self.ring.fill_from_slice(message);
@@ -160,6 +224,15 @@ impl<A: Allocator> Peer<A> {
 
     /// Hands out the first octets of the ring, as many as there are and fit, and answers how many.
     pub fn take(&mut self, buf: &mut [u8]) -> usize
+        ensures count { result ≡ min (length buf.old) (length self.old.ring) }
+        ensures octets { buf.new ≡ take result self.old.ring ++ drop result buf.old }
+        ensures exact { self.new ≡ handed self.old result }
+        ensures agrees { (h : List Event) → PeerAgrees h self.old → PeerAgrees (Handed (take result buf.new) ∷ h) self.new }
+    {
+        self.hand_out(buf)
+    }
+
+    fn hand_out(&mut self, buf: &mut [u8]) -> usize
         ensures count { result ≡ min (length buf.old) (length self.old.ring) }
         ensures octets { buf.new ≡ take result self.old.ring ++ drop result buf.old }
         ensures exact { self.new ≡ handed self.old result }
