@@ -1,7 +1,6 @@
-use Rattle.std.specs.Prelude.{◌≡◌, ◌≢◌, ◌≤◌, ◌<◌, ◌^◌, ◌&&◌, ◌++◌, ◌⊎◌, ℕ, Bool, true, false, List, [], ◌∷◌, length, codes, unwrap_or, Option, None, Some, Result, Ok, Err, if◌then◌else◌}
+use Rattle.std.specs.Prelude.{◌≡◌, ◌≢◌, ◌≤◌, ◌<◌, ◌^◌, ◌&&◌, ◌++◌, ◌⊎◌, ℕ, Bool, true, false, List, [], ◌∷◌, length, codes, nat_eq, unwrap_or, Option, None, Some, Result, Ok, Err, if◌then◌else◌}
 use Rattle.std.specs.Char.{eq_ignore_ascii_case}
 use Rattle.std.specs.List.{list_any}
-use Rattle.std.specs.Prelude.{nat_eq}
 use Rattle.std.specs.Str.Parse.{IsNumeral, digits_value}
 use Rattle.csv.specs.Records.{field_at}
 use Rattle.net_prefix.specs.MaxLengths.{IsMaxLength}
