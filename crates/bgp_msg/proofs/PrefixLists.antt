@@ -289,7 +289,7 @@ written_begins prefix rest small =
     let is : found.0 ≡ prefix = same_prefix found.0 prefix same.0 same.1 in
     subst (λ (p : Prefix). BeginsWith (spelling_of prefix.bits prefix.len ++ rest) p.bits p.len (1 + octets_for p.len)) is begins
 
-wire_form-are : (prefixes : List Prefix) → All (λ prefix. prefix.bits < 2 ^ 32) prefixes → ArePrefixes (wire_form prefixes) prefixes
+pub wire_form-are : (prefixes : List Prefix) → All (λ prefix. prefix.bits < 2 ^ 32) prefixes → ArePrefixes (wire_form prefixes) prefixes
 wire_form-are [] small = refl
 wire_form-are (prefix ∷ prefixes) small =
     let rest : drop (1 + octets_for prefix.len) (wire_form (prefix ∷ prefixes)) ≡ wire_form prefixes = drop_at (spelling_of prefix.bits prefix.len) (wire_form prefixes) _ (spelling_length prefix) in

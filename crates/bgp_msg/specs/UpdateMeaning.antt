@@ -4,6 +4,7 @@ use Rattle.net_prefix.specs.declared.prefix.Prefix.{Prefix}
 use Rattle.bgp_attr.specs.PathAttributes.{PathAttributes, missing_of}
 use Rattle.bgp_attr.specs.AttributeFaults.{Fault, MalformedAttributeList, MissingWellKnown, InvalidNetworkField, or_else, attributes_fault}
 use Rattle.bgp_attr.specs.AttributeReading.{attributes_in}
+use Rattle.bgp_attr.specs.AttributeSpelling.{SpellsAttributes}
 use Rattle.bgp_attr.specs.declared.attribute_type.AttributeType.{AttributeType}
 use Rattle.bgp_attr.specs.declared.peer.PeerKind.{PeerKind}
 use Rattle.bgp_msg.specs.MessageSpelling.{ArePrefixes, front_prefixes, are_prefixes_in, update_parts}
@@ -72,11 +73,10 @@ update_of_parts (Some parts) = said_by parts
 unfoldable pub update_in : List ℕ → UpdateBody
 update_in body = update_of_parts (update_parts body)
 
--- the parts spell an UPDATE: both lists of prefixes to their end, attributes without a fault, and none missing where a prefix is announced
+-- the parts spell an UPDATE from such a peer: both lists of prefixes, attributes, and none of these missing where a prefix is announced
 pub record AreParts (kind : PeerKind) (withdrawn attributes announced : List ℕ) (update : UpdateBody) : Type 0 where
   pub withdrawn_are : ArePrefixes withdrawn update.withdrawn
-  pub faultless : attributes_fault kind attributes ≡ None
-  pub attributes_are : update.attrs ≡ attributes_in attributes
+  pub attributes_are : SpellsAttributes kind attributes update.attrs
   pub announced_are : ArePrefixes announced update.announced
   pub complete : (announced ≡ []) ⊎ (missing_of update.attrs ≡ None)
 

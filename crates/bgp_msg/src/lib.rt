@@ -1,8 +1,10 @@
 //! BGP-4 messages: cut out of a stream of octets, read and written (RFC 4271 sections 4 and 6).
 //!
-//! `read` judges the header at the front of a stream and answers the first message, the first fault of its
-//! header, or that more octets are needed. `read_open` and `read_update` read a body to a value or to its first
-//! fault; the writers give the octets of a message. Nothing here keeps a state, and nothing here sends.
+//! A stream is its messages one after another and then what is unread; the pieces in which it comes are no part of
+//! that, and a faulty header ends it. `read` answers what stands at the front of a stream: the first message, the
+//! fault of its header, or that more octets are needed, and says what is behind it. `read_open` and `read_update`
+//! read a body to what it spells (RFC 5492, RFC 6793) or to the first fault of a list of tests. What the writers
+//! write is read again as that message, whatever follows it. Nothing here keeps a state, and nothing here sends.
 #![tactic(auto)]
 
 mod fault;
@@ -21,6 +23,7 @@ pub use stream::{
 };
 pub use update::{
     Prefixes, Update, only_prefixes, only_update, read_update, written_prefixes_are_read,
+    written_update_is_read,
 };
 pub use writing::{write_announcement, write_keepalive, write_open, write_withdrawal};
 

@@ -1,0 +1,9 @@
+use Rattle.bgp_msg.proofs.Updates.{written_says, no_attributes}
+use Rattle.bgp_msg.proofs.update.written_update_is_read.Goals as goal
+
+pub returns-clause-withdrawal : goal.returns-clause-withdrawal
+returns-clause-withdrawal c kind = no_attributes kind
+
+pub returns-clause-says : goal.returns-clause-says
+returns-clause-says c kind withdrawn announced attributes small_withdrawn small_announced fits none complete =
+    written_says kind withdrawn announced attributes small_withdrawn small_announced fits none complete
