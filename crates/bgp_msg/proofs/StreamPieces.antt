@@ -1,5 +1,6 @@
 use Rattle.std.proofs.Common.{◌≡◌, ℕ, List, [], ◌∷◌, ◌++◌, Option, Some, None, refl, ap, sym, ◌∙◌}
 use Rattle.std.specs.List.{concat}
+use Rattle.bgp_msg.proofs.Streams.{unread-unread}
 use Rattle.bgp_msg.specs.MessageStream.{Item, completed, left_over, with_front, messages_from, unread_from, messages, unread, messages_of_pieces, unread_of_pieces}
 
 -- A stream goes on where it stopped.
@@ -63,3 +64,17 @@ pieces_from part (piece ∷ pieces) =
 pub pieces : (pieces : List (List ℕ)) → (messages_of_pieces [] pieces ≡ messages (concat pieces)) × (unread_of_pieces [] pieces ≡ unread (concat pieces))
 unfolding messages unread
 pieces all = pieces_from [] all
+
+-- more octets are read behind what is unread
+pub unread-goes_on : (stream more : List ℕ) → unread (stream ++ more) ≡ unread (unread stream ++ more)
+unread-goes_on stream more =
+    unread-append stream more
+    ∙ ap (λ (part : List ℕ). unread_from part more) (sym (unread-unread stream))
+    ∙ sym (unread-append (unread stream) more)
+
+pub messages-goes_on : (stream more : List ℕ) → messages (unread stream) ≡ [] → messages (stream ++ more) ≡ messages stream ++ messages (unread stream ++ more)
+messages-goes_on stream more none =
+    messages-append stream more
+    ∙ ap (λ (part : List ℕ). messages stream ++ messages_from part more) (sym (unread-unread stream))
+    ∙ ap (λ (items : List Item). messages stream ++ (items ++ messages_from (unread (unread stream)) more)) (sym none)
+    ∙ ap (λ (items : List Item). messages stream ++ items) (sym (messages-append (unread stream) more))

@@ -377,3 +377,12 @@ only_whole octets more body other kind kind_of_other h k =
     let first : length octets ≡ told_length octets = h.length_is in
     let second : length (octets ++ more) ≡ told_length (octets ++ more) = k.length_is in
     nil_from_length more (omega (arith, both, told, first, second))
+
+-- what is unread is unread again
+unread_again_by_rest : (stream : List ℕ) (items : List Item) (rest : List ℕ) → Splits stream items rest → unread rest ≡ rest
+unread_again_by_rest stream [] rest h = (wants-then rest (wants-from_none rest h.1)).1
+unread_again_by_rest stream (WholeMessage kind body ∷ items) rest h = unread_again_by_rest h.1 items rest h.4
+unread_again_by_rest stream (FaultyHeader fault ∷ items) rest h = (fault-then rest fault h.2 h.3).1
+
+pub unread-unread : (stream : List ℕ) → unread (unread stream) ≡ unread stream
+unread-unread stream = unread_again_by_rest stream (messages stream) (unread stream) (splits stream)

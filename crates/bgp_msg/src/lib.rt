@@ -19,7 +19,7 @@ pub use frame::{Frame, HEADER_OCTETS, MAX_MESSAGE, MessageType, Step, needed, re
 pub use open_message::{Expected, Open, only_parts, read_open};
 pub use stream::{
     keepalive_is_read, no_message_begins_another, one_more_octet, one_spelling, only_messages,
-    open_is_read, pieces_are_the_stream, update_is_read, written_is_read,
+    open_is_read, pieces_are_the_stream, stream_goes_on, update_is_read, written_is_read,
 };
 pub use update::{
     Prefixes, Update, only_prefixes, only_update, read_update, written_prefixes_are_read,

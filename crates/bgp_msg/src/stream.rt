@@ -24,6 +24,12 @@ pub fn one_more_octet()
     ensures { (stream : List ℕ) (octet : ℕ) → (messages (stream ++ octet ∷ []) ≡ messages stream ++ with_front (completed (unread stream) octet) []) × (unread (stream ++ octet ∷ []) ≡ left_over (unread stream ++ octet ∷ []) (completed (unread stream) octet)) }
 {}
 
+/// More octets of a stream are read behind what is unread, unless a header fault has ended it.
+pub fn stream_goes_on()
+    ensures unread { (stream more : List ℕ) → unread (stream ++ more) ≡ unread (unread stream ++ more) }
+    ensures messages { (stream more : List ℕ) → messages (unread stream) ≡ [] → messages (stream ++ more) ≡ messages stream ++ messages (unread stream ++ more) }
+{}
+
 /// No message is the beginning of another.
 pub fn no_message_begins_another()
     ensures { (octets more body other : List ℕ) (kind kind_of_other : MessageType) → IsMessage octets kind body → IsMessage (octets ++ more) kind_of_other other → more ≡ [] }
