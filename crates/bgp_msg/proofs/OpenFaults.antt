@@ -1,4 +1,4 @@
-use Rattle.std.proofs.Common.{◌≡◌, ℕ, zero, suc, ◌+◌, ◌-◌, ◌≤◌, ◌<◌, ◌==◌, ◌||◌, ◌&&◌, not, Bool, true, false, if◌then◌else◌, List, [], ◌∷◌, ◌++◌, length, drop, take, slice_index, Option, Some, None, is_none, refl, sym, ◌∙◌, ap, arith, nat_lt, nat_eq, append_assoc, length-append}
+use Rattle.std.proofs.Common.{◌≡◌, ℕ, ◌+◌, ◌≤◌, ◌==◌, ◌||◌, ◌&&◌, not, Bool, true, false, if◌then◌else◌, List, [], ◌∷◌, ◌++◌, length, drop, take, slice_index, Option, Some, None, is_none, refl, sym, ◌∙◌, ap, arith, nat_lt, nat_eq, length-append}
 use Rattle.std.specs.Option.{option_map, option_and_then}
 use Rattle.std.specs.List.{list_all}
 use Rattle.std.proofs.lemmas.Bool.{le-ltb, ltb-false, eq-eqb, ne_eqb}
@@ -6,9 +6,9 @@ use Rattle.std.proofs.lemmas.List.{take_at, drop_at, take-append-drop, length-ta
 use Rattle.bgp_msg.specs.declared.fault.OpenFault.{OpenFault}
 use Rattle.bgp_msg.specs.declared.fault.OpenFault.TheVariants.{MalformedParameters, UnsupportedVersion, BadPeerAs, BadIdentifier, UnsupportedParameter, UnacceptableHoldTime, UnsupportedCapability}
 use Rattle.bgp_msg.specs.declared.open_message.Expected.{Expected}
-use Rattle.bgp_msg.specs.MessageSpelling.{Part, part_at, before, parts_within, parts_of, parts_form, or_else, asn_told, first_asn, capabilities_in, capabilities_of, parameters_at, capabilities_at, asn_at}
+use Rattle.bgp_msg.specs.MessageSpelling.{Part, part_at, before, parts_within, parts_of, parts_form, or_else, asn_told, first_asn, capabilities_of}
 use Rattle.bgp_msg.specs.MessageFaults.{first_fault, is_other, has_other_parameter, hold_time_at, identifier_at, open_fault}
-use Rattle.bgp_msg.specs.OpenParts.{asn_behind, parameter_behind, parameters_behind, parameters_of, told_fault, proposal_fault, fault_found}
+use Rattle.bgp_msg.specs.OpenParts.{parameters_behind, parameters_of, told_fault, proposal_fault, fault_found}
 use Rattle.bgp_msg.proofs.OpenParts.{parts_of-step, parts_of-cut}
 
 -- The reader of an OPEN finds its first fault.

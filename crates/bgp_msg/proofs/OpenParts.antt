@@ -1,8 +1,8 @@
 use Rattle.std.proofs.Common.{◌≡◌, ℕ, zero, suc, ◌-◌, ◌≤◌, ◌<◌, Bool, true, false, if◌then◌else◌, List, [], ◌∷◌, length, drop, take, Option, Some, None, refl, sym, ◌∙◌, ap, arith, nat_lt, nat_eq, length-drop}
 use Rattle.std.proofs.lemmas.Bool.{eqb-true}
 use Rattle.std.specs.Option.{option_and_then}
-use Rattle.bgp_msg.specs.MessageSpelling.{Part, part_at, before, parts_within, parts_of, parts_form, or_else, asn_told, first_asn, capabilities_in, capabilities_of, parameters_at, capabilities_at, asn_at}
-use Rattle.bgp_msg.specs.OpenParts.{asn_behind, parameter_behind, parameters_behind, parameters_of, told_fault, proposal_fault, fault_found}
+use Rattle.bgp_msg.specs.MessageSpelling.{Part, part_at, before, parts_within, parts_of, or_else, asn_told, first_asn}
+use Rattle.bgp_msg.specs.OpenParts.{asn_behind, parameter_behind, parameters_behind}
 
 -- Parts read one after another, as a loop does.
 

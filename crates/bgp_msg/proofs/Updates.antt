@@ -1,10 +1,10 @@
-use Rattle.std.proofs.Common.{◌≡◌, ◌⊎◌, inl, inr, ℕ, Bool, true, false, if◌then◌else◌, ◌==◌, List, [], ◌∷◌, length, Option, Some, None, refl, ap, sym, subst, ◌∙◌, ◌<◌, ◌≤◌, ◌+◌, ◌*◌, ◌^◌, suc, nat_lt, take, drop, get_or, All, MatchOption, arith}
+use Rattle.std.proofs.Common.{◌≡◌, ◌⊎◌, inl, inr, ℕ, Bool, true, false, if◌then◌else◌, List, [], ◌∷◌, length, Option, Some, None, refl, ap, sym, subst, ◌∙◌, ◌<◌, ◌≤◌, ◌+◌, ◌*◌, ◌^◌, suc, nat_lt, take, drop, get_or, All, MatchOption, arith}
 use Rattle.std.specs.Option.{option_map}
 use Rattle.std.proofs.lemmas.Bool.{eq-eqb, cases_lt}
 use Rattle.std.proofs.lemmas.List.{get_or-take, get_or-drop, get_or_past, length-take}
 use Rattle.net_prefix.specs.declared.prefix.Prefix.{Prefix}
 use Rattle.bgp_attr.specs.PathAttributes.{PathAttributes, missing_of}
-use Rattle.bgp_attr.specs.AttributeFaults.{Fault, MissingWellKnown, InvalidNetworkField, or_else, attributes_fault, fault_among}
+use Rattle.bgp_attr.specs.AttributeFaults.{Fault, InvalidNetworkField, or_else, attributes_fault, fault_among}
 use Rattle.bgp_attr.specs.AttributeReading.{attributes_in}
 use Rattle.bgp_attr.specs.AttributeSpelling.{SpellsAttributes}
 use Rattle.bgp_attr.specs.ReceivedAttributes.{AreOctets, split_of, split_within}

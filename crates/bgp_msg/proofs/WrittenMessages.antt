@@ -6,7 +6,7 @@ use Rattle.std.specs.Int.{w16, w32, to_be_bytes, from_be_bytes}
 use Rattle.bgp_msg.specs.declared.frame.MessageType.{MessageType}
 use Rattle.bgp_msg.specs.declared.frame.MessageType.TheVariants.{Open, Update, Keepalive}
 use Rattle.bgp_msg.specs.declared.open_message.Expected.{Expected}
-use Rattle.bgp_msg.specs.MessageSpelling.{Part, is_lawful_length, header_of, message_of, marker, open_of, open_body, two_octet_as_of, four_octet_as_capability, update_of, update_body, update_parts, update_parts_behind, counted_at, parts_within, parameters_at, capabilities_at, asn_at, first_asn}
+use Rattle.bgp_msg.specs.MessageSpelling.{Part, is_lawful_length, header_of, message_of, marker, open_of, open_body, update_of, update_body, update_parts, update_parts_behind, counted_at, parts_within, parameters_at, capabilities_at, asn_at, first_asn}
 use Rattle.bgp_msg.specs.MessageFaults.{has_other_parameter, hold_time_at, identifier_at, open_fault}
 use Rattle.bgp_msg.specs.MessageStream.{IsReadFirst}
 use Rattle.bgp_msg.proofs.Streams.{message-then}
