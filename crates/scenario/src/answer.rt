@@ -13,6 +13,14 @@ pub enum Answer<'a> {
     Done(u64),
     /// `refused NUMBER`
     Refused(u8),
+    /// `refused NUMBER row ROW`
+    RefusedRow(u8, u64),
+    /// `ok serial SERIAL rows ROWS skipped SKIPPED`
+    Loaded {
+        serial: u32,
+        rows: u64,
+        skipped: u64,
+    },
     /// `out HEX`, or `out -` where there is nothing, and the slots that were closed for want of memory.
     Out(&'a [u8], u64),
     /// `SLOT STATE`
@@ -35,6 +43,12 @@ impl fmt::Display for Answer<'_> {
                 write_starved(f, *starved)
             }
             Answer::Refused(number) => write!(f, "refused {number}"),
+            Answer::RefusedRow(number, row) => write!(f, "refused {number} row {row}"),
+            Answer::Loaded {
+                serial,
+                rows,
+                skipped,
+            } => write!(f, "ok serial {serial} rows {rows} skipped {skipped}"),
             Answer::Out(octets, starved) => {
                 write!(f, "out ")?;
                 if octets.is_empty() {

@@ -1,13 +1,15 @@
-//! The scenario language: scripts that drive a speaker, and what it answers.
+//! The scenario language: scripts that drive a speaker or load payload lists into a cache, and what they answer.
 //!
 //! `play` reads a script line by line, hands each line's event to the speaker, and writes the answer before the
-//! next line is read. A line that the language doesn't have ends the run with its number; what the lines before
-//! it answered has been written by then. Proved is that no script makes a function go wrong, that a number is digits
-//! alone, and that a fault names its own line, counted from 1; what a script answers is shown by the transcripts in
-//! `tests`. No sockets and no clock are here: octets and commands stand in the script.
+//! next line is read. The lines between `load` and `end` are one list, whose payloads are published. A line that the
+//! language doesn't have ends the run with its number, a `load` without an `end` with that of the `load`; what the
+//! lines before it answered has been written by then. Proved is that no script makes a function go wrong, that a
+//! number is digits alone, and that a bad line names its own number, counted from 1; what a script answers is shown
+//! by the transcripts in `tests`. No sockets and no clock are here: octets and commands stand in the script.
 #![tactic(auto)]
 
 mod answer;
+mod cache;
 mod fields;
 mod line;
 mod script;

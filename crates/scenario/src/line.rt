@@ -32,6 +32,10 @@ pub enum Line<'a> {
     Take(u8, u32),
     /// `show TABLE`
     Show(Table),
+    /// `cache SESSION REFRESH RETRY EXPIRE`
+    Cache(u16, u32, u32, u32),
+    /// `load`
+    Load,
 }
 
 /// What `show` shows: `sessions`, `rib`, `in SLOT`, `held SLOT` or `waiting SLOT`.
@@ -98,6 +102,13 @@ fn command<'a>(words: &[&'a str]) -> Option<Line<'a>> {
         ["fail", slot] => Line::Fail(number(slot)?),
         ["take", slot, max] => Line::Take(number(slot)?, number(max)?),
         ["show", words @ ..] => Line::Show(table_of(words)?),
+        ["cache", session, refresh, retry, expire] => Line::Cache(
+            number(session)?,
+            number(refresh)?,
+            number(retry)?,
+            number(expire)?,
+        ),
+        ["load"] => Line::Load,
         _ => return None,
     };
     Some(line)

@@ -1,8 +1,9 @@
 //! Playing a script.
-ghost use Rattle.std.specs.Prelude.{IfErr};
+ghost use Rattle.std.specs.Prelude.{◌≤◌, IfErr};
 ghost use Rattle.scenario.specs.LineNumbers.{IsOutside, NamesLine, CountsFromOne};
 
 use crate::answer::Answer;
+use crate::cache::ScriptCache;
 use crate::line::{Line, LineFault, Table};
 use arrayvec::ArrayVec;
 use bgp_attr::write_attrs;
@@ -65,9 +66,9 @@ pub fn play<R: BufRead + Drop, W: Write>(
     for number in 1..u64::MAX {
         text.clear();
         if reader.read_until(b'\n', &mut text)? == 0 {
-            return Ok(());
+            return stage.end();
         }
-        stage.play_line(number, without_line_end(text.as_slice()), writer)?;
+        stage.play_line(number, text.as_slice(), writer)?;
     }
     Err(PlayFault::Device)
 }
@@ -88,11 +89,12 @@ fn ascii_text(octets: &[u8]) -> Option<&str> {
     std::str::from_utf8(octets).ok()
 }
 
-// What a script has made so far: its speaker, and room for what that hands out.
+// What a script has made so far: its speaker and its cache, and room for what they hand out.
 #[derive(Drop)]
 struct Stage {
     alloc: Global,
     speaker: Option<Speaker>,
+    cache: Option<ScriptCache>,
     taken: Vec<u8>,
 }
 
@@ -102,6 +104,7 @@ impl Stage {
         Ok(Stage {
             alloc,
             speaker: None,
+            cache: None,
             taken,
         })
     }
@@ -109,11 +112,22 @@ impl Stage {
     fn play_line<W: Write>(
         &mut self,
         number: u64,
-        text: &[u8],
+        line: &[u8],
         writer: &mut W,
     ) -> Result<(), PlayFault>
+        requires { 1 ≤ number }
         ensures { IfErr result (NamesLine number) }
     {
+        let text = without_line_end(line);
+        if let Some(cache) = &mut self.cache
+            && cache.open_load().is_some()
+        {
+            match text {
+                b"end" => cache.end_list(self.alloc, writer)?,
+                _ => cache.add_line(line)?,
+            }
+            return Ok(());
+        }
         if text.is_empty() || text.starts_with(b"#") {
             return Ok(());
         }
@@ -122,6 +136,8 @@ impl Stage {
         };
         match Line::parse(self.alloc, text) {
             Ok(Line::Speaker(config)) => self.begin(config, number, writer),
+            Ok(Line::Cache(..)) => self.new_cache(writer),
+            Ok(Line::Load) => self.open_list(number),
             Ok(line) => self.drive(line, number, writer),
             Err(LineFault::BadLine) => Err(PlayFault::BadLine(number)),
             Err(LineFault::NoMemory) => Err(PlayFault::NoMemory),
@@ -149,6 +165,41 @@ impl Stage {
         Ok(())
     }
 
+    // A script ends within a list where its `load` has no `end`.
+    fn end(&self) -> Result<(), PlayFault>
+        ensures { IfErr result CountsFromOne }
+    {
+        let Some(cache) = &self.cache else {
+            return Ok(());
+        };
+        match cache.open_load() {
+            Some(load) => Err(PlayFault::BadLine(load)),
+            None => Ok(()),
+        }
+    }
+
+    // A new cache. The one before it is gone.
+    fn new_cache<W: Write>(&mut self, writer: &mut W) -> Result<(), PlayFault>
+        ensures { IfErr result IsOutside }
+    {
+        self.cache = Some(ScriptCache::new(self.alloc));
+        write_answer(writer, Answer::Done(0))?;
+        Ok(())
+    }
+
+    fn open_list(&mut self, number: u64) -> Result<(), PlayFault>
+        requires { 1 ≤ number }
+        ensures { IfErr result (NamesLine number) }
+    {
+        match &mut self.cache {
+            Some(cache) => {
+                cache.open_list(self.alloc, number);
+                Ok(())
+            }
+            None => Err(PlayFault::BadLine(number)),
+        }
+    }
+
     fn drive<W: Write>(
         &mut self,
         line: Line<'_>,
@@ -162,7 +213,9 @@ impl Stage {
         };
         let room = self.taken.as_mut_slice();
         match line {
-            Line::Speaker(_) => return Err(PlayFault::BadLine(number)),
+            Line::Speaker(_) | Line::Cache(..) | Line::Load => {
+                return Err(PlayFault::BadLine(number));
+            }
             Line::Peer(slot, conf) => command(speaker, Command::AddPeer(slot, conf), writer)?,
             Line::Enable(slot) => command(speaker, Command::Enable(slot), writer)?,
             Line::Reach(prefix, cost) => command(speaker, Command::Reach(prefix, cost), writer)?,
@@ -178,7 +231,8 @@ impl Stage {
     }
 }
 
-fn write_answer<W: Write>(writer: &mut W, answer: Answer<'_>) -> io::Result<()> {
+/// Writes one line of answer.
+pub(crate) fn write_answer<W: Write>(writer: &mut W, answer: Answer<'_>) -> io::Result<()> {
     writeln!(writer, "{answer}")
 }
 

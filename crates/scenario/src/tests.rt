@@ -2,6 +2,7 @@
 
 mod commands;
 mod export;
+mod payload_list;
 mod selection;
 mod sessions;
 mod transcript;
