@@ -4,3 +4,4 @@ pub mod Rows
 pub mod Connections
 pub mod Agreeing
 pub mod Receiving
+pub mod Sending

@@ -3,3 +3,4 @@ pub mod SessionInputs
 pub mod SentMessages
 pub mod Agreement
 pub mod HeardMessages
+pub mod Laws

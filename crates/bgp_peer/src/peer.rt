@@ -57,6 +57,7 @@ impl<A: Allocator> Peer<A> {
         Self::idle(alloc, own, mode)
     }
 
+    // As below: the private method says what it makes of the slot, and the agreement with any history follows from that.
     fn idle(alloc: A, own: Open, mode: Mode) -> Result<Self, AllocError>
         ensures { IfOk result (λ p. p ≡ configured own mode) }
     {

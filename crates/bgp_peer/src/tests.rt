@@ -1,5 +1,5 @@
 //! A session that comes up octet by octet.
-use crate::Peer;
+use crate::{Peer, ROOM_FOR_UPDATE};
 use bgp_attr::Mode;
 use bgp_fsm::{Input, State};
 use bgp_msg::{Open, Step};
@@ -44,6 +44,46 @@ fn a_session_comes_up_octet_by_octet(rt: HostRuntime) -> Result<(), Fail> {
     assert!(rt; peer.input(Input::Keepalive, 0).entered);
     assert_eq!(rt; peer.state(), State::Established);
     assert_eq!(rt; peer.identifier(), 0x0101_0101);
+    Ok(())
+}
+
+// The UPDATE that says nothing (RFC 4724 section 2).
+#[rattlefmt::skip]
+const END_OF_RIB: [u8; 23] = [
+    255, 255, 255, 255, 255, 255, 255, 255, 255, 255, 255, 255, 255, 255, 255, 255,
+    0, 23,
+    2,
+    0, 0,
+    0, 0,
+];
+
+#[test]
+fn an_update_is_handed_out_behind_what_the_session_said(rt: HostRuntime) -> Result<(), Fail> {
+    let mut peer = Peer::new(rt.alloc(), OWN, Mode::Passive)?;
+    let mut buf = [0; 100];
+    let _ = peer.enable(0);
+    let _ = peer.up(0);
+    let _ = peer.input(Input::Open(PEER), 0);
+    let _ = peer.input(Input::Keepalive, 0);
+    assert!(rt; peer.state() == State::Established && peer.free() >= ROOM_FOR_UPDATE);
+    peer.queue(&END_OF_RIB);
+    assert_eq!(rt; peer.free(), 65_536 - 79);
+    assert_eq!(rt; peer.take(&mut buf), 79);
+    assert_eq!(rt; buf[37..56], KEEPALIVE[..]);
+    assert_eq!(rt; buf[56..79], END_OF_RIB[..]);
+    assert_eq!(rt; peer.take(&mut buf), 0);
+    Ok(())
+}
+
+#[test]
+fn a_faulty_header_is_told_with_its_last_octet(rt: HostRuntime) -> Result<(), Fail> {
+    let mut peer = Peer::new(rt.alloc(), OWN, Mode::Passive)?;
+    let _ = peer.enable(0);
+    let _ = peer.up(0);
+    assert_eq!(rt; peer.push(&[0; 40]), 19);
+    assert!(rt; matches!(peer.front(), Step::Faulty(_)));
+    let _ = peer.input(Input::Fault, 0);
+    assert_eq!(rt; peer.transport(), Transport::Closing);
     Ok(())
 }
 

@@ -1,0 +1,80 @@
+-- What is queued on a connection, read as messages.
+use Rattle.std.proofs.Common.{◌≡◌, ◌≢◌, ◌+◌, ◌≤◌, ℕ, Bool, true, false, List, [], ◌∷◌, ◌++◌, Option, Some, None, ◌⊎◌, inl, inr, length, nat_le, if◌then◌else◌, refl, ap, sym, subst, ◌∙◌, arith, append-nil}
+use Rattle.bgp_msg.specs.declared.frame.MessageType.{MessageType}
+use Rattle.bgp_msg.specs.declared.frame.MessageType.TheVariants.{Open as OpenType, Update, Keepalive as KeepaliveType}
+use Rattle.bgp_msg.specs.MessageSpelling.{header_of, open_of, open_body, update_of, update_body}
+use Rattle.bgp_msg.specs.MessageStream.{Item, WholeMessage, FaultyHeader, IsMessage, IsReadFirst, Splits, HasNoItem, messages, unread}
+use Rattle.bgp_msg.proofs.Streams.{message-then, none-from_wants, splits}
+use Rattle.bgp_msg.proofs.StreamPieces.{messages-push, messages-anew, messages-nil, unread-nil}
+use Rattle.bgp_msg.proofs.WrittenMessages.{keepalive_first, open_first, update_first}
+use Rattle.bgp_fsm.specs.declared.session.Outgoing.{Outgoing}
+use Rattle.bgp_fsm.specs.declared.session.Outgoing.TheVariants.{Open, Keepalive}
+use Rattle.bgp_peer.specs.Slot.{Slot, octets_of, said}
+use Rattle.bgp_peer.specs.SessionInputs.{Event, stream}
+use Rattle.bgp_peer.specs.SentMessages.{sent}
+use Rattle.bgp_peer.specs.Agreement.{IsUpdateMessage, PeerAgrees}
+use Rattle.bgp_peer.specs.Laws.{AreMessages, OctetsAreMessages, NothingIsLeftUntaken, SentAreMessages, WrittenIsUpdate, QueuedIsReadLast, SaysNoUpdate, RowsSayNoUpdate}
+use Rattle.bgp_peer.proofs.Connections.{connected_wants}
+
+pub octets_are_messages : OctetsAreMessages
+octets_are_messages h octet = messages-push (stream h) octet
+
+pub nothing_is_left_untaken : NothingIsLeftUntaken
+nothing_is_left_untaken h connected = none-from_wants (unread (stream h)) (connected_wants h connected)
+
+-- what is read to its end has no faulty header
+are_messages : (octets : List ℕ) (items : List Item) (rest : List ℕ) → Splits octets items rest → rest ≡ [] → AreMessages items
+are_messages octets [] rest h none = tt
+are_messages octets (WholeMessage kind body ∷ items) rest h none = are_messages h.1 items rest h.4 none
+are_messages octets (FaultyHeader fault ∷ items) rest h none =
+    let empty : length rest ≡ 0 = ap length none in
+    omega (arith, empty, h.2)
+
+pub sent_are_messages : SentAreMessages
+sent_are_messages h p a = are_messages (sent h) _ _ (splits (sent h)) a.whole
+
+-- octets that are read as one message are that message
+read_alone : (octets : List ℕ) (kind : MessageType) (body : List ℕ) → IsReadFirst octets kind body → (messages octets ≡ WholeMessage kind body ∷ []) × (unread octets ≡ [])
+read_alone octets kind body h = (
+  ap messages (sym (append-nil octets)) ∙ (h []).0 ∙ ap (λ (items : List Item). WholeMessage kind body ∷ items) messages-nil,
+  ap unread (sym (append-nil octets)) ∙ (h []).1 ∙ unread-nil,
+)
+
+one_message : (octets : List ℕ) (kind : MessageType) (body : List ℕ) → Splits octets (WholeMessage kind body ∷ []) [] → IsMessage octets kind body
+one_message octets kind body h =
+    let all : octets ≡ h.0 = h.3 ∙ ap (λ (more : List ℕ). h.0 ++ more) h.4.0 ∙ append-nil h.0 in
+    subst (λ (x : List ℕ). IsMessage x kind body) (sym all) h.2
+
+is_message : (octets : List ℕ) (kind : MessageType) (body : List ℕ) → IsReadFirst octets kind body → IsMessage octets kind body
+is_message octets kind body h =
+    let alone = read_alone octets kind body h in
+    let parts : Splits octets (messages octets) [] = subst (λ (rest : List ℕ). Splits octets (messages octets) rest) alone.1 (splits octets) in
+    one_message octets kind body (subst (λ (items : List Item). Splits octets items []) alone.0 parts)
+
+pub written_is_update : WrittenIsUpdate
+written_is_update withdrawn attributes announced fits = (
+  update_body withdrawn attributes announced,
+  is_message (update_of withdrawn attributes announced) Update (update_body withdrawn attributes announced) (update_first withdrawn attributes announced fits),
+)
+
+pub queued_is_read_last : QueuedIsReadLast
+queued_is_read_last h p update a whole =
+    messages-anew (sent h) update a.whole
+    ∙ ap (λ (items : List Item). messages (sent h) ++ items) (read_alone update Update whole.0 (λ more. message-then update more Update whole.0 whole.1)).0
+
+-- what a row says is an OPEN, a KEEPALIVE or nothing
+says_none : SaysNoUpdate []
+says_none = inl messages-nil
+
+octets_say_none : (message : Option Outgoing) → SaysNoUpdate (octets_of message)
+octets_say_none None = says_none
+octets_say_none (Some (Open own)) =
+    inr (OpenType, open_body own.asn.0 own.hold_time own.identifier, (read_alone _ _ _ (open_first own.asn.0 own.hold_time own.identifier)).0, λ e. cc)
+octets_say_none (Some Keepalive) = inr (KeepaliveType, [], (read_alone _ _ _ keepalive_first).0, λ e. cc)
+
+if_room : (room : Bool) (octets : List ℕ) → SaysNoUpdate octets → SaysNoUpdate (if room then octets else [])
+if_room true octets h = h
+if_room false octets h = says_none
+
+pub rows_say_no_update : RowsSayNoUpdate
+rows_say_no_update message ring = if_room (nat_le (length ring + 8192) 65536) (octets_of message) (octets_say_none message)
