@@ -1,18 +1,17 @@
 -- What is queued on a connection, read as messages.
-use Rattle.std.proofs.Common.{◌≡◌, ◌≢◌, ◌+◌, ◌≤◌, ℕ, Bool, true, false, List, [], ◌∷◌, ◌++◌, Option, Some, None, ◌⊎◌, inl, inr, length, nat_le, if◌then◌else◌, refl, ap, sym, subst, ◌∙◌, arith, append-nil}
+use Rattle.std.proofs.Common.{◌≡◌, ◌+◌, ℕ, Bool, true, false, List, [], ◌∷◌, ◌++◌, Option, Some, None, inl, inr, length, nat_le, if◌then◌else◌, ap, sym, subst, ◌∙◌, arith, append-nil}
 use Rattle.bgp_msg.specs.declared.frame.MessageType.{MessageType}
 use Rattle.bgp_msg.specs.declared.frame.MessageType.TheVariants.{Open as OpenType, Update, Keepalive as KeepaliveType}
-use Rattle.bgp_msg.specs.MessageSpelling.{header_of, open_of, open_body, update_of, update_body}
-use Rattle.bgp_msg.specs.MessageStream.{Item, WholeMessage, FaultyHeader, IsMessage, IsReadFirst, Splits, HasNoItem, messages, unread}
+use Rattle.bgp_msg.specs.MessageSpelling.{open_body, update_of, update_body}
+use Rattle.bgp_msg.specs.MessageStream.{Item, WholeMessage, FaultyHeader, IsMessage, IsReadFirst, Splits, messages, unread}
 use Rattle.bgp_msg.proofs.Streams.{message-then, none-from_wants, splits}
 use Rattle.bgp_msg.proofs.StreamPieces.{messages-push, messages-anew, messages-nil, unread-nil}
 use Rattle.bgp_msg.proofs.WrittenMessages.{keepalive_first, open_first, update_first}
 use Rattle.bgp_fsm.specs.declared.session.Outgoing.{Outgoing}
 use Rattle.bgp_fsm.specs.declared.session.Outgoing.TheVariants.{Open, Keepalive}
-use Rattle.bgp_peer.specs.Slot.{Slot, octets_of, said}
-use Rattle.bgp_peer.specs.SessionInputs.{Event, stream}
+use Rattle.bgp_peer.specs.Slot.{octets_of}
+use Rattle.bgp_peer.specs.SessionInputs.{stream}
 use Rattle.bgp_peer.specs.SentMessages.{sent}
-use Rattle.bgp_peer.specs.Agreement.{IsUpdateMessage, PeerAgrees}
 use Rattle.bgp_peer.specs.Laws.{AreMessages, OctetsAreMessages, NothingIsLeftUntaken, SentAreMessages, WrittenIsUpdate, QueuedIsReadLast, SaysNoUpdate, RowsSayNoUpdate}
 use Rattle.bgp_peer.proofs.Connections.{connected_wants}
 
