@@ -1,4 +1,4 @@
-use Rattle.std.specs.Prelude.{◌≡◌, ◌⊎◌, ℕ, if◌then◌else◌, List, [], ◌∷◌, Option, Some, None}
+use Rattle.std.specs.Prelude.{◌≡◌, ◌⊎◌, ◌<◌, ◌≤◌, ◌+◌, ◌^◌, All, length, ℕ, if◌then◌else◌, List, [], ◌∷◌, Option, Some, None}
 use Rattle.std.specs.Option.{option_map}
 use Rattle.net_prefix.specs.declared.prefix.Prefix.{Prefix}
 use Rattle.bgp_attr.specs.PathAttributes.{PathAttributes, missing_of}
@@ -7,7 +7,7 @@ use Rattle.bgp_attr.specs.AttributeReading.{attributes_in}
 use Rattle.bgp_attr.specs.AttributeSpelling.{SpellsAttributes}
 use Rattle.bgp_attr.specs.declared.attribute_type.AttributeType.{AttributeType}
 use Rattle.bgp_attr.specs.declared.peer.PeerKind.{PeerKind}
-use Rattle.bgp_msg.specs.MessageSpelling.{ArePrefixes, front_prefixes, are_prefixes_in, update_parts}
+use Rattle.bgp_msg.specs.MessageSpelling.{ArePrefixes, front_prefixes, are_prefixes_in, update_parts, update_body, wire_form}
 
 -- What an UPDATE says, and what is wrong with one (RFC 4271 sections 4.3 and 6.3).
 
@@ -85,3 +85,15 @@ abbrev pub IsUpdate : PeerKind → List ℕ → UpdateBody → Type 0
 IsUpdate kind body update =
     (withdrawn attributes announced : List ℕ) × (update_parts body ≡ Some (withdrawn, attributes, announced))
     × AreParts kind withdrawn attributes announced update
+
+-- the body that is written of these prefixes and these octets of attributes
+abbrev pub written_body : List Prefix → List ℕ → List Prefix → List ℕ
+written_body withdrawn attributes announced = update_body (wire_form withdrawn) attributes (wire_form announced)
+
+-- it fits a message, and its attributes have no fault and lack none where a prefix is announced
+pub record CanBeWritten (kind : PeerKind) (withdrawn : List Prefix) (attributes : List ℕ) (announced : List Prefix) : Type 0 where
+  pub withdrawn_are : All (λ prefix. prefix.bits < 2 ^ 32) withdrawn
+  pub announced_are : All (λ prefix. prefix.bits < 2 ^ 32) announced
+  pub fits : 23 + length (wire_form withdrawn) + length attributes + length (wire_form announced) ≤ 4096
+  pub faultless : attributes_fault kind attributes ≡ None
+  pub complete : (announced ≡ []) ⊎ (missing_of (attributes_in attributes) ≡ None)

@@ -1,11 +1,10 @@
 //! The UPDATE message (RFC 4271 section 4.3).
-ghost use Rattle.std.specs.Prelude.{◌≡◌, ◌<◌, ◌+◌, ◌^◌, ◌↔◌, ℕ, List, All, IfOk, IfErr, IsSome, IfSome, Some, None, length, ◌≤◌, ◌⊎◌, []};
+ghost use Rattle.std.specs.Prelude.{◌≡◌, ◌<◌, ◌+◌, ◌^◌, ◌↔◌, ℕ, List, All, IfOk, IfErr, IsSome, IfSome, Some, None, length, []};
 ghost use Rattle.net_prefix.specs.declared.prefix.Prefix.{Prefix};
 ghost use Rattle.std.specs.Option.{option_map};
-ghost use Rattle.bgp_msg.specs.MessageSpelling.{counted_at, update_parts, prefix_at, front_prefixes, are_prefixes_in, prefixes_in, ArePrefixes, wire_form, update_body};
-ghost use Rattle.bgp_msg.specs.UpdateMeaning.{IsUpdate, UpdateBody, parts_fault, said_by, fault_before_memory, update_fault, update_in};
+ghost use Rattle.bgp_msg.specs.MessageSpelling.{counted_at, update_parts, prefix_at, front_prefixes, are_prefixes_in, prefixes_in, ArePrefixes, wire_form};
+ghost use Rattle.bgp_msg.specs.UpdateMeaning.{CanBeWritten, IsUpdate, UpdateBody, written_body, parts_fault, said_by, fault_before_memory, update_fault, update_in};
 ghost use Rattle.bgp_attr.specs.AttributeFaults.{attributes_fault, seen};
-ghost use Rattle.bgp_attr.specs.PathAttributes.{missing_of};
 ghost use Rattle.bgp_attr.specs.ReceivedAttributes.{AreOctets};
 ghost use Rattle.bgp_attr.specs.AttributeReading.{HasSegments, attributes_in};
 ghost use Rattle.bgp_attr.specs.declared.peer.PeerKind.{PeerKind};
@@ -155,7 +154,7 @@ pub fn only_update()
 
 /// What an UPDATE is written from is what it says, where its attributes have no fault and lack none.
 pub fn written_update_is_read()
-    ensures says { (kind : PeerKind) (withdrawn announced : List Prefix) (attributes : List ℕ) → All (λ prefix. prefix.bits < 2 ^ 32) withdrawn → All (λ prefix. prefix.bits < 2 ^ 32) announced → 23 + length (wire_form withdrawn) + length attributes + length (wire_form announced) ≤ 4096 → attributes_fault kind attributes ≡ None → (announced ≡ []) ⊎ (missing_of (attributes_in attributes) ≡ None) → (update_fault kind (update_body (wire_form withdrawn) attributes (wire_form announced)) ≡ None) × (update_in (update_body (wire_form withdrawn) attributes (wire_form announced)) ≡ record { withdrawn = withdrawn; attrs = attributes_in attributes; announced = announced }) }
+    ensures says { (kind : PeerKind) (withdrawn announced : List Prefix) (attributes : List ℕ) → CanBeWritten kind withdrawn attributes announced → (update_fault kind (written_body withdrawn attributes announced) ≡ None) × (update_in (written_body withdrawn attributes announced) ≡ record { withdrawn = withdrawn; attrs = attributes_in attributes; announced = announced }) }
     ensures withdrawal { (kind : PeerKind) → attributes_fault kind [] ≡ None }
 {}
 

@@ -5,5 +5,5 @@ pub returns-clause-withdrawal : goal.returns-clause-withdrawal
 returns-clause-withdrawal c kind = no_attributes kind
 
 pub returns-clause-says : goal.returns-clause-says
-returns-clause-says c kind withdrawn announced attributes small_withdrawn small_announced fits none complete =
-    written_says kind withdrawn announced attributes small_withdrawn small_announced fits none complete
+returns-clause-says c kind withdrawn announced attributes can =
+    written_says kind withdrawn announced attributes can.withdrawn_are can.announced_are can.fits can.faultless can.complete
