@@ -1,3 +1,4 @@
 pub mod PayloadMembers
 pub mod Published
+pub mod Serials
 pub mod Walks

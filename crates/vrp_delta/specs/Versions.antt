@@ -43,6 +43,11 @@ next_version versions set = record { serial = serial_after (newest_serial versio
 abbrev pub published_after : List Version → List Vrp → List Version
 published_after versions set = if is_newest_set versions set then versions else next_version versions set ∷ versions
 
+-- all versions that sets make, published one after another; the last one stands first
+abbrev pub published : List (List Vrp) → List Version
+published [] = []
+published (set ∷ before) = published_after (published before) set
+
 -- the kept versions after a set was published
 abbrev pub kept_after : List Version → List Vrp → List Version
 kept_after kept set = if is_newest_set kept set then kept else take kept_versions (next_version kept set ∷ kept)

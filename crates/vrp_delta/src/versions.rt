@@ -1,10 +1,10 @@
 //! The versions that were published.
 ghost use Rattle.std.specs.Prelude.{◌≡◌, ◌≢◌, ◌↔◌, ℕ, List, [], false, take, IsTrue, IfSome, IfNone, OnOk, OnErr, IfOk, slice_get};
-ghost use Rattle.std.specs.List.{All, Contains};
+ghost use Rattle.std.specs.List.{All, AllPairs, Contains};
 ghost use Rattle.std.specs.Option.{option_copied};
 ghost use Rattle.net_prefix.specs.declared.payload.Vrp.{Vrp};
 ghost use Rattle.net_prefix.specs.PayloadSets.{IsPayloadSet};
-ghost use Rattle.vrp_delta.specs.Versions.{Version, change_from, is_newest_set, is_same_set, kept_after, kept_versions, newest_serial, published_after, version_of};
+ghost use Rattle.vrp_delta.specs.Versions.{Version, change_from, is_newest_set, is_same_set, kept_after, kept_versions, newest_serial, published, published_after, version_of};
 
 use crate::delta::{Delta, delta_between};
 use net_prefix::Vrp;
@@ -153,9 +153,11 @@ pub fn newest_are_kept()
     ensures { (all : List Version) (set : List Vrp) → kept_after (take kept_versions all) set ≡ take kept_versions (published_after all set) }
 {}
 
-/// The version of a serial has that serial, and where there is none no version has it.
+/// The version of a serial has that serial, no two kept ones have one serial, and where there is none no version has
+/// it.
 pub fn serials_name_versions()
     ensures found { (versions : List Version) (serial : ℕ) → IfSome (version_of versions serial) (λ version. Contains versions version × (version.serial ≡ serial)) }
+    ensures differ { (sets : List (List Vrp)) → AllPairs (λ newer older. newer.serial ≢ older.serial) (take kept_versions (published sets)) }
     ensures none { (versions : List Version) (serial : ℕ) → IfNone (version_of versions serial) (All (λ version. version.serial ≢ serial) versions) }
 {}
 
