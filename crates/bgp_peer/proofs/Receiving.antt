@@ -81,14 +81,17 @@ heard-wanted h p (octet ∷ next ∷ octets) connected wants few a =
     subst (λ rest. HasHeard (onto (next ∷ octets) (Octet octet ∷ h)) (holding rest p)) (append_assoc p.rest (octet ∷ []) (next ∷ octets))
     (heard-wanted (Octet octet ∷ h) (pushed p (octet ∷ [])) (next ∷ octets) connected step.0 fewer (agrees-octet h p octet connected none a))
 
+-- a slot whose connection stands wants more octets
+pub wants-agreed : (h : List Event) (p : Slot) → PeerAgrees h p → transport_of p.session ≡ Connected → Wants p.rest
+wants-agreed h p a connected =
+    let stands : transport_of (session h) ≡ Connected = ap transport_of (sym a.session) ∙ connected in
+    subst Wants (sym (a.rest stands)) (connected_wants h stands)
+
 -- octets that are wanted come
 pub agrees-push :
     (h : List Event) (p : Slot) (octets : List ℕ) → length octets ≤ needed_of p.rest → PeerAgrees h p → transport_of p.session ≡ Connected
     → HasHeard (onto octets h) (pushed p octets)
-agrees-push h p octets few a connected =
-    let stands : transport_of (session h) ≡ Connected = ap transport_of (sym a.session) ∙ connected in
-    let wants : Wants p.rest = subst Wants (sym (a.rest stands)) (connected_wants h stands) in
-    heard-wanted h p octets connected wants few a
+agrees-push h p octets few a connected = heard-wanted h p octets connected (wants-agreed h p a connected) few a
 
 -- the item is taken
 pub agrees-hearing :

@@ -4,7 +4,7 @@ use Rattle.net_prefix.specs.declared.transport.Transport.TheVariants.{Open as Co
 use Rattle.bgp_msg.specs.declared.frame.MessageType.{MessageType}
 use Rattle.bgp_msg.specs.declared.frame.MessageType.TheVariants.{Update}
 use Rattle.bgp_msg.specs.MessageSpelling.{update_of}
-use Rattle.bgp_msg.specs.MessageStream.{Item, WholeMessage, FaultyHeader, HasNoItem, with_front, messages, unread}
+use Rattle.bgp_msg.specs.MessageStream.{Item, WholeMessage, FaultyHeader, HasNoItem, Wants, with_front, messages, unread}
 use Rattle.bgp_fsm.specs.declared.session.Outgoing.{Outgoing}
 use Rattle.bgp_fsm.specs.Transports.{transport_of}
 use Rattle.bgp_peer.specs.Slot.{Slot, said}
@@ -20,6 +20,10 @@ OctetsAreMessages =
 -- while the connection stands, each message of its stream is taken
 abbrev pub NothingIsLeftUntaken : Type 0
 NothingIsLeftUntaken = (h : List Event) → transport_of (session h) ≡ Connected → HasNoItem (unread (stream h))
+
+-- nor is one left in the rest of the slot, which wants more octets
+abbrev pub RestsWantMore : Type 0
+RestsWantMore = (h : List Event) (p : Slot) → PeerAgrees h p → transport_of p.session ≡ Connected → Wants p.rest
 
 -- where no connection stands, octets change nothing
 abbrev pub OctetsAreIgnored : Type 0

@@ -1,5 +1,5 @@
 //! Laws of the history of a slot. Each is the contract of an empty function.
-ghost use Rattle.bgp_peer.specs.Laws.{OctetsAreMessages, NothingIsLeftUntaken, OctetsAreIgnored, PiecesJoin, SentAreMessages, WrittenIsUpdate, QueuedIsReadLast, RowsSayNoUpdate};
+ghost use Rattle.bgp_peer.specs.Laws.{OctetsAreMessages, NothingIsLeftUntaken, RestsWantMore, OctetsAreIgnored, PiecesJoin, SentAreMessages, WrittenIsUpdate, QueuedIsReadLast, RowsSayNoUpdate};
 
 /// An octet is the message that it adds to its connection's stream.
 pub fn octets_are_messages()
@@ -8,7 +8,8 @@ pub fn octets_are_messages()
 
 /// While a connection stands, each message of its stream is taken.
 pub fn nothing_is_left_untaken()
-    ensures { NothingIsLeftUntaken }
+    ensures stream { NothingIsLeftUntaken }
+    ensures rest { RestsWantMore }
 {}
 
 /// Where no connection stands, octets change nothing.
