@@ -1,6 +1,7 @@
 mod Appendings
 mod AttributeSpellings
 mod Faults
+mod FirstFaults
 mod Octets
 mod PathLemmas
 mod PathSpellings

@@ -1,4 +1,4 @@
-use Rattle.std.specs.Prelude.{◌≡◌, ◌==◌, ◌||◌, nat_lt, not, if◌then◌else◌, Bool, true, false, ℕ, List, [], ◌∷◌, length, bit_and, slice_index, is_none, Option, Some, None, IsSome, MatchResult, Result}
+use Rattle.std.specs.Prelude.{◌≡◌, ◌<◌, ◌++◌, map, ◌==◌, ◌||◌, nat_lt, not, if◌then◌else◌, Bool, true, false, ℕ, List, [], ◌∷◌, length, bit_and, slice_index, is_none, Option, Some, None, IsSome, MatchResult, Result}
 use Rattle.std.specs.List.{list_any}
 use Rattle.bgp_attr.specs.AttributeTable.{octet_of, type_of, class_of, class_flags_of, length_of}
 use Rattle.bgp_attr.specs.PathAttributes.{origin_at}
@@ -101,6 +101,26 @@ cut_fault (octet ∷ more) = Some MalformedAttributeList
 unfoldable pub fault_among : PeerKind → List ℕ → List Attribute → List ℕ → Option Fault
 fault_among kind earlier [] rest = cut_fault rest
 fault_among kind earlier (a ∷ more) rest = or_else (attribute_fault kind earlier a) (fault_among kind (a.code ∷ earlier) more rest)
+
+-- no attribute has a fault behind those in front of it
+abbrev pub AreFaultless : PeerKind → List Attribute → Type 0
+AreFaultless kind attributes =
+    (front more : List Attribute) (a : Attribute) → attributes ≡ front ++ a ∷ more → attribute_fault kind (map (λ b. b.code) front) a ≡ None
+
+-- the fault is that of an attribute, and those in front of it have none
+pub record IsFirstFault (kind : PeerKind) (attributes : List Attribute) (fault : Fault) : Type 0 where
+  pub front : List Attribute
+  pub faulty : Attribute
+  pub more : List Attribute
+  pub split : attributes ≡ front ++ faulty ∷ more
+  pub faultless : AreFaultless kind front
+  pub told : attribute_fault kind (map (λ b. b.code) front) faulty ≡ Some fault
+
+-- no attribute has a fault, and one that is cut off is behind them
+pub record IsCutFault (kind : PeerKind) (attributes : List Attribute) (rest : List ℕ) (fault : Fault) : Type 0 where
+  pub faultless : AreFaultless kind attributes
+  pub cut : 0 < length rest
+  pub told : fault ≡ MalformedAttributeList
 
 -- the first fault of the attributes that octets are, from left to right
 unfoldable pub attributes_fault : PeerKind → List ℕ → Option Fault

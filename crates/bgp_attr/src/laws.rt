@@ -1,9 +1,9 @@
 //! Laws of how attributes are read and written (RFC 4271 section 4.3). Each is a function that does nothing.
-ghost use Rattle.std.specs.Prelude.{◌≡◌, ◌+◌, ◌++◌, List, ℕ, Some, None, replicate, suc};
+ghost use Rattle.std.specs.Prelude.{◌≡◌, ◌⊎◌, ◌+◌, ◌++◌, List, ℕ, Some, None, replicate, suc};
 ghost use Rattle.std.specs.List.{AllByRecursion};
 ghost use Rattle.net_prefix.specs.declared.asn.Asn.{Asn};
 ghost use Rattle.bgp_attr.specs.AsPath.{PathSegment, ases_of, neighbor_as_of, path_length_of, prepended};
-ghost use Rattle.bgp_attr.specs.AttributeFaults.{attributes_fault};
+ghost use Rattle.bgp_attr.specs.AttributeFaults.{Fault, IsCutFault, IsFirstFault, attributes_fault};
 ghost use Rattle.bgp_attr.specs.AttributeReading.{attributes_in};
 ghost use Rattle.bgp_attr.specs.AttributeSpelling.{CanBeSpelled, IsAs, IsSegment, SpellsAttributes, SpellsPath, attributes_spelling};
 ghost use Rattle.bgp_attr.specs.PathAttributes.{PathAttributes};
@@ -33,6 +33,12 @@ pub fn attributes_are_spelled()
     ensures faultless { (kind : PeerKind) (octets : List ℕ) (attrs : PathAttributes) → SpellsAttributes kind octets attrs → attributes_fault kind octets ≡ None }
     ensures read { (kind : PeerKind) (octets : List ℕ) (attrs : PathAttributes) → SpellsAttributes kind octets attrs → attributes_in octets ≡ attrs }
     ensures spelled { (kind : PeerKind) (octets : List ℕ) → AreOctets octets → attributes_fault kind octets ≡ None → SpellsAttributes kind octets (attributes_in octets) }
+{}
+
+/// The fault of octets is that of the first attribute that has one, from left to right; or, where none has one, that an
+/// attribute is cut off.
+pub fn fault_is_the_first()
+    ensures { (kind : PeerKind) (octets : List ℕ) (fault : Fault) → attributes_fault kind octets ≡ Some fault → IsFirstFault kind (split_of octets).0 fault ⊎ IsCutFault kind (split_of octets).0 (split_of octets).1 fault }
 {}
 
 /// What is written is read again as the same attributes.

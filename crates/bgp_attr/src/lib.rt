@@ -26,8 +26,8 @@ pub use attribute_type::{AttributeType, Class};
 pub use attrs::{Attrs, Origin};
 pub use fault::UpdateFault;
 pub use laws::{
-    attributes_are_spelled, path_is_spelled, prepending_is_counted, split_is_kept, split_is_one,
-    written_is_read,
+    attributes_are_spelled, fault_is_the_first, path_is_spelled, prepending_is_counted,
+    split_is_kept, split_is_one, written_is_read,
 };
 pub use peer::{Mode, PeerKind};
 pub use prepending::{PrependedPath, prepend};
