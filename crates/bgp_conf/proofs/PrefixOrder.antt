@@ -5,7 +5,7 @@ use Rattle.std.specs.declared.cmp.Ordering.TheVariants.{Less, Equal, Greater}
 use Rattle.std.specs.BTreeMap.{is_at}
 use Rattle.std.proofs.lemmas.Bool.Decides.{nat_tests}
 use Rattle.net_prefix.specs.declared.prefix.Prefix.{Prefix}
-use Rattle.bgp_conf.specs.Configuration.{prefix_cmp}
+use Rattle.net_prefix.specs.PrefixOrder.{prefix_cmp}
 
 -- Which prefixes the order of prefixes has at one place.
 

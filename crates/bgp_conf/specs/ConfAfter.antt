@@ -6,7 +6,8 @@ use Rattle.bgp_conf.specs.declared.conf.ConfiguredPeer.{ConfiguredPeer}
 use Rattle.bgp_conf.specs.declared.command.PeerConf.{PeerConf}
 use Rattle.bgp_conf.specs.declared.command.Command.{Command}
 use Rattle.bgp_conf.specs.declared.command.Command.TheVariants.{AddPeer, Enable, Reach}
-use Rattle.bgp_conf.specs.Configuration.{Configuration, prefix_cmp, peer_at, entry_at}
+use Rattle.net_prefix.specs.PrefixOrder.{prefix_cmp}
+use Rattle.bgp_conf.specs.Configuration.{Configuration, peer_at, entry_at}
 
 -- The tables after a command.
 

@@ -23,13 +23,9 @@ peer_at configuration slot = lookup (is_at (nat_cmp slot)) configuration.peers
 abbrev pub address_cmp : ℕ → ℕ → Prefix → Ordering
 address_cmp bits len prefix = ordering_then (nat_cmp bits prefix.bits) (nat_cmp len prefix.len)
 
--- the order of prefixes
-abbrev pub prefix_cmp : Prefix → Prefix → Ordering
-prefix_cmp prefix = address_cmp prefix.bits prefix.len
-
 -- the cost of a prefix's entry
 abbrev pub entry_at : List (Prefix × ℕ) → Prefix → Option ℕ
-entry_at reach prefix = lookup (is_at (prefix_cmp prefix)) reach
+entry_at reach prefix = lookup (is_at (address_cmp prefix.bits prefix.len)) reach
 
 -- the peers of two slots have different addresses
 abbrev pub AddressesDiffer : List (ℕ × ConfiguredPeer) → Type 0

@@ -95,14 +95,14 @@ open_faultless asn hold_time identifier expected small small_time small_identifi
     (or_from (identifier == 0) (identifier == expected.own_identifier) (ne_eqb identifier 0 some) (ne_eqb identifier expected.own_identifier other))
     (or_from (hold_time == 1) (hold_time == 2) (ne_eqb hold_time 1 not_one) (ne_eqb hold_time 2 not_two))
 
-update_length : (withdrawn attributes announced : List ℕ) → length (update_body withdrawn attributes announced) ≡ 4 + length withdrawn + length attributes + length announced
+pub update_length : (withdrawn attributes announced : List ℕ) → length (update_body withdrawn attributes announced) ≡ 4 + length withdrawn + length attributes + length announced
 unfolding update_body
 update_length withdrawn attributes announced = simp length-append (omega arith)
 
 regroup : (h a b c d e : List ℕ) → ((((h ++ a) ++ b) ++ c) ++ d) ++ e ≡ h ++ (a ++ (b ++ (c ++ (d ++ e))))
 regroup h a b c d e = simp append_assoc
 
-update_is : (withdrawn attributes announced : List ℕ) → message_of Update (update_body withdrawn attributes announced) ≡ update_of withdrawn attributes announced
+pub update_is : (withdrawn attributes announced : List ℕ) → message_of Update (update_body withdrawn attributes announced) ≡ update_of withdrawn attributes announced
 unfolding message_of update_of update_body
 update_is withdrawn attributes announced =
     let body = update_body withdrawn attributes announced in

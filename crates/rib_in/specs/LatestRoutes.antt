@@ -1,19 +1,15 @@
-use Rattle.std.specs.Prelude.{◌≡◌, ℕ, Bool, List, Option, Some, None, IsSome}
+use Rattle.std.specs.Prelude.{ℕ, Bool, List, Option, IsSome}
 use Rattle.std.specs.declared.cmp.Ordering.{Ordering}
-use Rattle.std.specs.declared.cmp.Ordering.TheVariants.{Less}
 use Rattle.std.specs.Ordering.{nat_cmp, ordering_then, is_eq}
 use Rattle.std.specs.List.Sorted.{IsStrictlySortedBy}
 use Rattle.std.specs.Map.{lookup, keys_of}
+use Rattle.net_prefix.specs.PrefixOrder.{prefix_cmp}
 use Rattle.net_prefix.specs.declared.prefix.Prefix.{Prefix}
 use Rattle.bgp_attr.specs.PathAttributes.{PathAttributes}
 use Rattle.rib_in.specs.declared.adj_in.RouteKey.{RouteKey}
 
 -- The latest route that each slot announced to each prefix, and didn't withdraw since: Adj-RIB-In (RFC 4271
 -- section 3.2).
-
--- the order of prefixes: by address, then by length
-abbrev pub prefix_cmp : Prefix → Prefix → Ordering
-prefix_cmp p q = ordering_then (nat_cmp p.bits q.bits) (nat_cmp p.len q.len)
 
 -- the order of routes: by prefix, then by slot
 abbrev pub key_cmp : RouteKey → RouteKey → Ordering
@@ -34,11 +30,6 @@ entry_of prefix slot attrs = (record { prefix = prefix; slot = slot }, attrs)
 -- the routes rise by prefix, then by slot
 abbrev pub IsRising : List (RouteKey × PathAttributes) → Type 0
 IsRising table = IsStrictlySortedBy key_cmp (keys_of table)
-
--- a prefix stands above the given one, where one is given
-abbrev pub IsAbove : Option Prefix → Prefix → Type 0
-IsAbove None p = Unit {0}
-IsAbove (Some after) p = prefix_cmp after p ≡ Less
 
 -- some slot has a route to the prefix
 abbrev pub HasRoute : List (RouteKey × PathAttributes) → Prefix → Type 0

@@ -6,7 +6,8 @@ ghost use Rattle.std.specs.declared.cmp.Ordering.TheVariants.{Less};
 ghost use Rattle.std.specs.Iterator.{YieldsFirstBy, item_count};
 ghost use Rattle.net_prefix.specs.declared.prefix.Prefix.{Prefix};
 ghost use Rattle.rib_in.specs.declared.adj_in.RouteKey.{RouteKey};
-ghost use Rattle.rib_in.specs.LatestRoutes.{route_at, is_route, prefix_cmp, entry_of, key_cmp, IsAbove, HasRoute, IsRising};
+ghost use Rattle.rib_in.specs.LatestRoutes.{route_at, is_route, entry_of, key_cmp, HasRoute, IsRising};
+ghost use Rattle.net_prefix.specs.PrefixOrder.{prefix_cmp, IsAbove};
 
 use crate::fault::RibFault;
 use bgp_attr::Attrs;

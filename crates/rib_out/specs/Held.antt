@@ -1,16 +1,11 @@
-use Rattle.std.specs.Prelude.{◌≡◌, ℕ, Bool, List, Option, None, Some}
-use Rattle.std.specs.declared.cmp.Ordering.{Ordering}
-use Rattle.std.specs.declared.cmp.Ordering.TheVariants.{Less}
-use Rattle.std.specs.Ordering.{nat_cmp, ordering_then, is_eq}
+use Rattle.std.specs.Prelude.{ℕ, Bool, List, Option}
+use Rattle.std.specs.Ordering.{is_eq}
 use Rattle.std.specs.List.Sorted.{IsStrictlySortedBy}
 use Rattle.std.specs.Map.{lookup, keys_of}
+use Rattle.net_prefix.specs.PrefixOrder.{prefix_cmp}
 use Rattle.net_prefix.specs.declared.prefix.Prefix.{Prefix}
 
 -- What a peer was last sent of each prefix, and that wasn't withdrawn since: Adj-RIB-Out (RFC 4271 section 3.2).
-
--- the order of prefixes: by address, then by length
-abbrev pub prefix_cmp : Prefix → Prefix → Ordering
-prefix_cmp p q = ordering_then (nat_cmp p.bits q.bits) (nat_cmp p.len q.len)
 
 -- whether both are one prefix
 abbrev pub is_prefix : Prefix → Prefix → Bool
@@ -23,8 +18,3 @@ held_at table prefix = lookup (is_prefix prefix) table
 -- the prefixes rise
 abbrev pub IsRising : List (Prefix × List ℕ) → Type 0
 IsRising table = IsStrictlySortedBy prefix_cmp (keys_of table)
-
--- a prefix stands above the given one, where one is given
-abbrev pub IsAbove : Option Prefix → Prefix → Type 0
-IsAbove None p = Unit {0}
-IsAbove (Some after) p = prefix_cmp after p ≡ Less

@@ -5,7 +5,8 @@ ghost use Rattle.std.specs.Ordering.{is_gt};
 ghost use Rattle.std.specs.declared.cmp.Ordering.TheVariants.{Less};
 ghost use Rattle.std.specs.Iterator.{YieldsFirstBy, item_count};
 ghost use Rattle.net_prefix.specs.declared.prefix.Prefix.{Prefix};
-ghost use Rattle.rib_out.specs.Held.{held_at, is_prefix, prefix_cmp, IsAbove, IsRising};
+ghost use Rattle.rib_out.specs.Held.{held_at, is_prefix, IsRising};
+ghost use Rattle.net_prefix.specs.PrefixOrder.{prefix_cmp, IsAbove};
 
 use net_prefix::Prefix;
 use std::alloc::{AllocError, Allocator, Global};

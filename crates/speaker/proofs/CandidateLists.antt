@@ -1,17 +1,15 @@
-use Rattle.std.proofs.Common.{◌≡◌, ◌≢◌, ◌<◌, ◌≤◌, ◌+◌, ◌⊎◌, ℕ, List, [], ◌∷◌, ◌++◌, Option, Some, None, length, refl, sym, ◌∙◌, subst, inl, inr, arith, length-append}
+use Rattle.std.proofs.Common.{◌≡◌, ◌<◌, ◌≤◌, ◌+◌, ℕ, List, [], ◌∷◌, ◌++◌, Option, Some, None, length, refl, sym, ◌∙◌, subst, inl, inr, arith, length-append}
 use Rattle.std.specs.Option.{MatchOption}
 use Rattle.std.specs.List.{All, Contains}
-use Rattle.std.proofs.lemmas.List.Elements.{All-push, All-contains, Contains-push, Contains-push_cases, Contains-append_left}
+use Rattle.std.proofs.lemmas.List.Elements.{All-push, All-contains, Contains-push, Contains-append_left}
 use Rattle.std.proofs.lemmas.List.Quantifiers.{all_pairs_push}
 use Rattle.std.proofs.lemmas.Bool.{cases_lt}
 use Rattle.bgp_attr.specs.PathAttributes.{PathAttributes}
 use Rattle.bgp_conf.specs.Configuration.{Configuration, AddressesDiffer}
-use Rattle.bgp_conf.specs.Reach.{IsCost}
 use Rattle.bgp_conf.proofs.Covering.{IsCost-unique}
 use Rattle.decision.specs.declared.candidate.Candidate.{Candidate}
 use Rattle.decision.specs.Selection.{AreDistinct, DifferInRank, IsSelected}
 use Rattle.net_prefix.specs.declared.prefix.Prefix.{Prefix}
-use Rattle.rib_in.specs.LatestRoutes.{route_at}
 use Rattle.bgp_fsm.specs.declared.session.Session.{Session}
 use Rattle.speaker.specs.Tables.{Tables}
 use Rattle.speaker.specs.LocRib.{IsBest, HasNoCandidate}
@@ -56,12 +54,12 @@ pub none_linked : (t : Tables) (prefix : Prefix) (slot : ℕ) → t.sessions slo
 none_linked t prefix slot nothing = λ c at is. let found = rw at at is.session_is in (cc)
 
 -- no route, no candidate
-pub none_routed : (t : Tables) (prefix : Prefix) (slot : ℕ) → route_at t.adj_in slot prefix ≡ None → HasNoneAt t prefix slot
+pub none_routed : (t : Tables) (prefix : Prefix) (slot : ℕ) → t.routes slot prefix ≡ None → HasNoneAt t prefix slot
 none_routed t prefix slot nothing = λ c at is. let found = rw at at is.route in (cc)
 
 -- what a slot's route makes is the candidate of its attributes
 made_of : (t : Tables) (prefix : Prefix) (slot : ℕ) (session : Session) (attrs : PathAttributes) (c : Candidate)
-    → t.sessions slot ≡ Some session → route_at t.adj_in slot prefix ≡ Some attrs → c.slot ≡ slot → IsCandidate t prefix c
+    → t.sessions slot ≡ Some session → t.routes slot prefix ≡ Some attrs → c.slot ≡ slot → IsCandidate t prefix c
     → IsCandidateOf t.conf session.identifier attrs c
 made_of t prefix slot session attrs c linked route at is =
     let found = rw at at is.session_is in
@@ -71,13 +69,13 @@ made_of t prefix slot session attrs c linked route at is =
     rw (session_same, attrs_same) at is.made
 
 pub none_made : (t : Tables) (prefix : Prefix) (slot : ℕ) (session : Session) (attrs : PathAttributes)
-    → t.sessions slot ≡ Some session → route_at t.adj_in slot prefix ≡ Some attrs
+    → t.sessions slot ≡ Some session → t.routes slot prefix ≡ Some attrs
     → MakesNone t.conf slot session.identifier attrs → HasNoneAt t prefix slot
 none_made t prefix slot session attrs linked route none =
     λ c at is. none c at (made_of t prefix slot session attrs c linked route at is)
 
 pub one_made : (t : Tables) (prefix : Prefix) (slot : ℕ) (session : Session) (attrs : PathAttributes) (c : Candidate)
-    → slot < 64 → t.sessions slot ≡ Some session → route_at t.adj_in slot prefix ≡ Some attrs
+    → slot < 64 → t.sessions slot ≡ Some session → t.routes slot prefix ≡ Some attrs
     → c.slot ≡ slot → IsCandidateOf t.conf session.identifier attrs c → IsOnlyCandidateAt t prefix slot c
 one_made t prefix slot session attrs c below linked route at made = record {
   at_slot = at;
@@ -94,7 +92,7 @@ one_made t prefix slot session attrs c below linked route at made = record {
 
 -- what a slot's route makes, from what its attributes make
 pub candidate_made : (t : Tables) (prefix : Prefix) (slot identifier : ℕ) (session : Session) (attrs : PathAttributes) (found : Option Candidate)
-    → slot < 64 → t.sessions slot ≡ Some session → route_at t.adj_in slot prefix ≡ Some attrs → identifier ≡ session.identifier
+    → slot < 64 → t.sessions slot ≡ Some session → t.routes slot prefix ≡ Some attrs → identifier ≡ session.identifier
     → MatchOption found (MakesNone t.conf slot identifier attrs) (λ c. (c.slot ≡ slot) × IsCandidateOf t.conf identifier attrs c)
     → MatchOption found (HasNoneAt t prefix slot) (IsOnlyCandidateAt t prefix slot)
 candidate_made t prefix slot identifier session attrs None below linked route told made =

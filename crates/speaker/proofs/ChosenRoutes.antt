@@ -1,7 +1,5 @@
 use Rattle.std.proofs.Common.{◌≡◌, ◌⊎◌, ◌||◌, Bool, true, false, ℕ, List, [], ◌∷◌, ◌++◌, Option, Some, None, cond, refl, sym, ◌∙◌, subst, inl, inr, arith, append_assoc}
 use Rattle.std.specs.Option.{MatchOption}
-use Rattle.std.specs.Map.{lookup}
-use Rattle.std.specs.Ordering.{is_eq}
 use Rattle.std.specs.BTreeMap.{is_at}
 use Rattle.std.proofs.lemmas.Bool.Decides.{nat_tests}
 use Rattle.std.proofs.lemmas.List.{append-nil}
@@ -10,8 +8,9 @@ use Rattle.decision.specs.declared.candidate.Candidate.{Candidate}
 use Rattle.net_prefix.specs.declared.prefix.Prefix.{Prefix}
 use Rattle.net_prefix.proofs.Prefixes.{same_prefix}
 use Rattle.rib_in.specs.declared.adj_in.RouteKey.{RouteKey}
-use Rattle.rib_in.specs.LatestRoutes.{route_at, is_route, prefix_cmp}
-use Rattle.rib_in.proofs.RouteKeys.{prefix_from_route, is_route-refl}
+use Rattle.rib_in.specs.LatestRoutes.{route_at, is_route}
+use Rattle.net_prefix.specs.PrefixOrder.{prefix_cmp}
+use Rattle.rib_in.proofs.RouteKeys.{prefix_from_route}
 use Rattle.speaker.specs.Tables.{Tables, best_at}
 use Rattle.speaker.specs.LocRib.{IsBest, HasNoCandidate, IsLocRib}
 
@@ -62,8 +61,9 @@ not_among (e ∷ es) slot q h =
     rw missed (not_among es slot q (second_false _ _ h))
 
 -- a prefix that no route is to has no candidate
-pub none_among : (t : Tables) (q : Prefix) → is_among t.adj_in q ≡ false → HasNoCandidate t q
-none_among t q h = λ c is. let nothing = not_among t.adj_in c.slot q h in let found = is.route in (cc)
+pub none_among : (t : Tables) (adj_in : List (RouteKey × PathAttributes)) (q : Prefix) → ((slot : ℕ) → t.routes slot q ≡ route_at adj_in slot q)
+    → is_among adj_in q ≡ false → HasNoCandidate t q
+none_among t adj_in q same h = λ c is. let nothing = not_among adj_in c.slot q h in let here = same c.slot in let found = is.route in (cc)
 
 -- of the routes so far: the best route of each prefix, and nothing of a prefix without candidates
 abbrev pub ChosenSoFar : Tables → List (RouteKey × PathAttributes) → List (Prefix × Candidate) → Type 0
@@ -114,45 +114,46 @@ pub chosen_put : (t : Tables) (seen : List (RouteKey × PathAttributes)) (e : Ro
 chosen_put t seen e c chosen new updates before best q =
     rw (updates q) (put_at t seen e c q _ (best_at chosen q) refl best (before q))
 
-whole_at : (t : Tables) (q : Prefix) (found : Option Candidate)
-    → MatchOption found ((is_among t.adj_in q ≡ false) ⊎ HasNoCandidate t q) (IsBest t q)
+whole_at : (t : Tables) (adj_in : List (RouteKey × PathAttributes)) (q : Prefix) (found : Option Candidate) → ((slot : ℕ) → t.routes slot q ≡ route_at adj_in slot q)
+    → MatchOption found ((is_among adj_in q ≡ false) ⊎ HasNoCandidate t q) (IsBest t q)
     → MatchOption found (HasNoCandidate t q) (IsBest t q)
-whole_at t q None (inl h) = none_among t q h
-whole_at t q None (inr h) = h
-whole_at t q (Some c) h = h
+whole_at t adj_in q None same (inl h) = none_among t adj_in q same h
+whole_at t adj_in q None same (inr h) = h
+whole_at t adj_in q (Some c) same h = h
 
 -- over all routes this is Loc-RIB
-pub chosen_all : (t : Tables) (seen : List (RouteKey × PathAttributes)) (chosen : List (Prefix × Candidate)) → seen ≡ t.adj_in → ChosenSoFar t seen chosen → IsLocRib t chosen
-chosen_all t seen chosen all before q = let here = rw all at (before q) in whole_at t q (best_at chosen q) here
+pub chosen_all : (t : Tables) (adj_in seen : List (RouteKey × PathAttributes)) (chosen : List (Prefix × Candidate)) → ((slot : ℕ) (q : Prefix) → t.routes slot q ≡ route_at adj_in slot q)
+    → seen ≡ adj_in → ChosenSoFar t seen chosen → IsLocRib t chosen
+chosen_all t adj_in seen chosen same all before q = let here = rw all at (before q) in whole_at t adj_in q (best_at chosen q) (λ slot. same slot q) here
 
 -- chosen so far, and what is still to come
-pub record Goes (t : Tables) (seen rest : List (RouteKey × PathAttributes)) (chosen : List (Prefix × Candidate)) : Type 0 where
-  pub whole : seen ++ rest ≡ t.adj_in
+pub record Goes (t : Tables) (adj_in seen rest : List (RouteKey × PathAttributes)) (chosen : List (Prefix × Candidate)) : Type 0 where
+  pub whole : seen ++ rest ≡ adj_in
   pub so_far : ChosenSoFar t seen chosen
 
-pub goes_first : (t : Tables) (rest : List (RouteKey × PathAttributes)) (chosen : List (Prefix × Candidate)) → rest ≡ t.adj_in → chosen ≡ [] → Goes t [] rest chosen
-goes_first t rest chosen all empty = record { whole = all; so_far = λ q. rw empty (inl refl) }
+pub goes_first : (t : Tables) (adj_in rest : List (RouteKey × PathAttributes)) (chosen : List (Prefix × Candidate)) → rest ≡ adj_in → chosen ≡ [] → Goes t adj_in [] rest chosen
+goes_first t adj_in rest chosen all empty = record { whole = all; so_far = λ q. rw empty (inl refl) }
 
-one_more : (t : Tables) (seen rest next : List (RouteKey × PathAttributes)) (e : RouteKey × PathAttributes) → seen ++ rest ≡ t.adj_in → rest ≡ e ∷ next → (seen ++ e ∷ []) ++ next ≡ t.adj_in
-one_more t seen rest next e whole is = let here = rw is at whole in append_assoc seen (e ∷ []) next ∙ here
+one_more : (t : Tables) (adj_in seen rest next : List (RouteKey × PathAttributes)) (e : RouteKey × PathAttributes) → seen ++ rest ≡ adj_in → rest ≡ e ∷ next → (seen ++ e ∷ []) ++ next ≡ adj_in
+one_more t adj_in seen rest next e whole is = let here = rw is at whole in append_assoc seen (e ∷ []) next ∙ here
 
-pub goes_none : (t : Tables) (seen rest next : List (RouteKey × PathAttributes)) (e : RouteKey × PathAttributes) (chosen : List (Prefix × Candidate))
-    → Goes t seen rest chosen → rest ≡ e ∷ next → HasNoCandidate t e.0.prefix → Goes t (seen ++ e ∷ []) next chosen
-goes_none t seen rest next e chosen h is none = record {
-  whole = one_more t seen rest next e h.whole is;
+pub goes_none : (t : Tables) (adj_in seen rest next : List (RouteKey × PathAttributes)) (e : RouteKey × PathAttributes) (chosen : List (Prefix × Candidate))
+    → Goes t adj_in seen rest chosen → rest ≡ e ∷ next → HasNoCandidate t e.0.prefix → Goes t adj_in (seen ++ e ∷ []) next chosen
+goes_none t adj_in seen rest next e chosen h is none = record {
+  whole = one_more t adj_in seen rest next e h.whole is;
   so_far = chosen_none t seen e chosen h.so_far none;
 }
 
-pub goes_put : (t : Tables) (seen rest next : List (RouteKey × PathAttributes)) (e : RouteKey × PathAttributes) (c : Candidate) (chosen new : List (Prefix × Candidate))
-    → Goes t seen rest chosen → rest ≡ e ∷ next → IsBest t e.0.prefix c
+pub goes_put : (t : Tables) (adj_in seen rest next : List (RouteKey × PathAttributes)) (e : RouteKey × PathAttributes) (c : Candidate) (chosen new : List (Prefix × Candidate))
+    → Goes t adj_in seen rest chosen → rest ≡ e ∷ next → IsBest t e.0.prefix c
     → ((q : Prefix) → best_at new q ≡ cond (is_at (prefix_cmp e.0.prefix) q) (Some c) (best_at chosen q))
-    → Goes t (seen ++ e ∷ []) next new
-goes_put t seen rest next e c chosen new h is best updates = record {
-  whole = one_more t seen rest next e h.whole is;
+    → Goes t adj_in (seen ++ e ∷ []) next new
+goes_put t adj_in seen rest next e c chosen new h is best updates = record {
+  whole = one_more t adj_in seen rest next e h.whole is;
   so_far = chosen_put t seen e c chosen new updates h.so_far best;
 }
 
-pub goes_last : (t : Tables) (seen rest : List (RouteKey × PathAttributes)) (chosen : List (Prefix × Candidate)) → Goes t seen rest chosen → rest ≡ [] → IsLocRib t chosen
-goes_last t seen rest chosen h empty =
+pub goes_last : (t : Tables) (adj_in seen rest : List (RouteKey × PathAttributes)) (chosen : List (Prefix × Candidate)) → ((slot : ℕ) (q : Prefix) → t.routes slot q ≡ route_at adj_in slot q) → Goes t adj_in seen rest chosen → rest ≡ [] → IsLocRib t chosen
+goes_last t adj_in seen rest chosen same h empty =
     let here = rw empty at h.whole in
-    chosen_all t seen chosen (sym (append-nil seen) ∙ here) h.so_far
+    chosen_all t adj_in seen chosen same (sym (append-nil seen) ∙ here) h.so_far

@@ -1,4 +1,4 @@
-use Rattle.std.specs.Prelude.{◌≡◌, ◌≢◌, ◌<◌, ◌↔◌, ℕ, List, Option, Some, true, false, Contains}
+use Rattle.std.specs.Prelude.{◌≡◌, ◌≢◌, ◌<◌, ◌↔◌, ℕ, List, Some, true, false, Contains}
 use Rattle.bgp_attr.specs.PathAttributes.{PathAttributes}
 use Rattle.bgp_attr.specs.AsPath.{PathSegment, has_as, path_length_of}
 use Rattle.bgp_conf.specs.Configuration.{Configuration, peer_at}
@@ -7,7 +7,6 @@ use Rattle.bgp_conf.specs.declared.conf.ConfiguredPeer.{ConfiguredPeer}
 use Rattle.bgp_fsm.specs.declared.session.Session.{Session}
 use Rattle.decision.specs.declared.candidate.Candidate.{Candidate}
 use Rattle.net_prefix.specs.declared.prefix.Prefix.{Prefix}
-use Rattle.rib_in.specs.LatestRoutes.{route_at}
 use Rattle.speaker.specs.Tables.{Tables}
 
 -- The routes among which the selection chooses (RFC 4271 section 9.1.2).
@@ -37,7 +36,7 @@ pub record IsCandidate (t : Tables) (prefix : Prefix) (c : Candidate) : Type 0 w
   pub attrs : PathAttributes
   pub slot_is : c.slot < 64
   pub session_is : t.sessions c.slot ≡ Some session
-  pub route : route_at t.adj_in c.slot prefix ≡ Some attrs
+  pub route : t.routes c.slot prefix ≡ Some attrs
   pub made : IsCandidateOf t.conf session.identifier attrs c
 
 -- the list has the candidates of the prefix, and nothing else

@@ -2,6 +2,13 @@ pub mod Linked
 pub mod Tables
 pub mod Candidates
 pub mod LocRib
+pub mod Export
+pub mod Queueing
 pub mod SpeakerState
+pub mod AdjRibIn
+pub mod Held
+pub mod Runs
+pub mod Agreement
+pub mod Moves
 pub mod FirstRefusal
 pub mod Shown

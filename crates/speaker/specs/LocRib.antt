@@ -1,4 +1,4 @@
-use Rattle.std.specs.Prelude.{◌≡◌, MatchOption, List}
+use Rattle.std.specs.Prelude.{MatchOption, List}
 use Rattle.decision.specs.declared.candidate.Candidate.{Candidate}
 use Rattle.decision.specs.Selection.{IsSelected}
 use Rattle.net_prefix.specs.declared.prefix.Prefix.{Prefix}

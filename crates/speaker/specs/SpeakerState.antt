@@ -37,8 +37,9 @@ started config = record {
 abbrev pub is_out_of_range : Config → Bool
 is_out_of_range config = config.asn.0 == 0 || config.identifier == 0 || config.cache
 
--- the configuration, the sessions, Adj-RIB-In and Loc-RIB are the same
+-- the settings, the configuration, the sessions, Adj-RIB-In and Loc-RIB are the same
 pub record KeepsTables (old new : SpeakerState) : Type 0 where
+  pub config : new.config ≡ old.config
   pub conf : new.conf ≡ old.conf
   pub sessions : (slot : ℕ) → session_at new.links slot ≡ session_at old.links slot
   pub adj_in : new.adj_in ≡ old.adj_in

@@ -9,7 +9,8 @@ use Rattle.bgp_fsm.specs.declared.session.Session.{Session}
 use Rattle.decision.specs.declared.candidate.Candidate.{Candidate}
 use Rattle.net_prefix.specs.declared.prefix.Prefix.{Prefix}
 use Rattle.rib_in.specs.declared.adj_in.RouteKey.{RouteKey}
-use Rattle.rib_in.specs.LatestRoutes.{prefix_cmp}
+use Rattle.rib_in.specs.LatestRoutes.{route_at}
+use Rattle.net_prefix.specs.PrefixOrder.{prefix_cmp}
 use Rattle.speaker.specs.Linked.{Linked}
 
 -- What the selection reads: the configuration, the sessions and Adj-RIB-In (RFC 4271 section 3.2).
@@ -18,7 +19,7 @@ use Rattle.speaker.specs.Linked.{Linked}
 pub record Tables : Type 0 where
   pub conf : Configuration
   pub sessions : ℕ → Option Session
-  pub adj_in : List (RouteKey × PathAttributes)
+  pub routes : ℕ → Prefix → Option PathAttributes
 
 -- the slot of this number
 abbrev pub link_at : List (ℕ × Linked) → ℕ → Option Linked
@@ -34,4 +35,4 @@ best_at routes prefix = lookup (is_at (prefix_cmp prefix)) routes
 
 -- what the selection reads of these slots
 abbrev pub tables : Configuration → List (ℕ × Linked) → List (RouteKey × PathAttributes) → Tables
-tables conf links adj_in = record { conf = conf; sessions = λ slot. session_at links slot; adj_in = adj_in }
+tables conf links adj_in = record { conf = conf; sessions = λ slot. session_at links slot; routes = λ slot prefix. route_at adj_in slot prefix }

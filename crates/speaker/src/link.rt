@@ -1,10 +1,15 @@
 //! One slot: its session, and what its peer was sent.
-ghost use Rattle.std.specs.Prelude.{◌≡◌, [], IfOk};
-ghost use Rattle.bgp_peer.specs.Slot.{configured};
+ghost use Rattle.std.specs.Prelude.{◌≡◌, ◌≤◌, [], ◌++◌, IfOk, length, min, take, drop};
+ghost use Rattle.bgp_fsm.specs.SessionTable.{effects_of};
+ghost use Rattle.bgp_fsm.specs.declared.input.Input.TheVariants as input;
+ghost use Rattle.bgp_peer.specs.Slot.{configured, enabled, opened, failed, pushed, taken_input, handed};
+ghost use Rattle.speaker.specs.Moves.{adj_out_after, moved, taken_of};
 
 use bgp_attr::Mode;
+use bgp_fsm::{Effects, Input};
 use bgp_msg::Open;
 use bgp_peer::Peer;
+use net_prefix::Transport;
 use rib_out::AdjOut;
 use std::alloc::{AllocError, Allocator, Global};
 use std::marker::Model;
@@ -32,5 +37,75 @@ impl<A: Allocator + Clone> Link<A> {
         let adj_out = AdjOut::new(alloc.clone()?)?;
         let peer = Peer::new(alloc, own, mode)?;
         Ok(Link { peer, adj_out })
+    }
+
+    /// The operator enables the peer.
+    pub fn enable(&mut self) -> Effects
+        ensures link { self.new ≡ moved self.old (enabled self.old.peer) input.Start }
+        ensures effects { result ≡ effects_of input.Start self.old.peer.session }
+    {
+        let effects = self.peer.enable(0);
+        self.follow(&effects);
+        effects
+    }
+
+    /// The connection stands.
+    pub fn up(&mut self) -> Effects
+        ensures link { self.new ≡ moved self.old (opened self.old.peer) input.Up }
+        ensures effects { result ≡ effects_of input.Up self.old.peer.session }
+    {
+        let effects = self.peer.up(0);
+        self.follow(&effects);
+        effects
+    }
+
+    /// The connection, or the attempt, has failed.
+    pub fn fail(&mut self) -> Effects
+        ensures link { self.new ≡ moved self.old (failed self.old.peer) input.Fail }
+        ensures effects { result ≡ effects_of input.Fail self.old.peer.session }
+    {
+        let effects = self.peer.fail(0);
+        self.follow(&effects);
+        effects
+    }
+
+    /// The message at the front of the rest is this input.
+    pub fn input(&mut self, heard: Input) -> Effects
+        ensures link { self.new ≡ moved self.old (taken_input self.old.peer heard) heard }
+        ensures effects { result ≡ effects_of heard self.old.peer.session }
+    {
+        let effects = self.peer.input(heard, 0);
+        self.follow(&effects);
+        effects
+    }
+
+    /// Takes octets up to the end of the message at the front, where the connection is open, and answers how many.
+    pub fn push(&mut self, octets: &[u8]) -> usize
+        ensures within { result ≤ length octets.now }
+        ensures count { result ≡ taken_of self.old.peer octets.now }
+        ensures link { self.new ≡ record { peer = pushed self.old.peer (take result octets.now); adj_out = self.old.adj_out } }
+    {
+        if self.peer.transport() != Transport::Open {
+            return 0;
+        }
+        self.peer.push(octets)
+    }
+
+    /// Hands out the first octets of the ring, as many as there are and fit, and answers how many.
+    pub fn take(&mut self, buf: &mut [u8]) -> usize
+        ensures count { result ≡ min (length buf.old) (length self.old.peer.ring) }
+        ensures octets { buf.new ≡ take result self.old.peer.ring ++ drop result buf.old }
+        ensures link { self.new ≡ record { peer = handed self.old.peer result; adj_out = self.old.adj_out } }
+    {
+        self.peer.take(buf)
+    }
+
+    // Entering Established begins with nothing sent, and leaving it forgets what was sent.
+    fn follow(&mut self, effects: &Effects)
+        ensures { self.new ≡ record { peer = self.old.peer; adj_out = adj_out_after effects.now self.old.adj_out } }
+    {
+        if effects.left || effects.entered {
+            self.adj_out.clear();
+        }
     }
 }

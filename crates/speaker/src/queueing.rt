@@ -1,7 +1,12 @@
 //! What the peers are owed: the UPDATEs that make what each was sent its export of Loc-RIB.
-ghost use Rattle.std.specs.Prelude.{◌≡◌, ◌≤◌, ◌+◌, [], length};
-ghost use Rattle.std.specs.Bool.{OnTrue, OnFalse};
+ghost use Rattle.std.specs.Prelude.{◌≡◌, ◌≤◌, ◌<◌, ◌+◌, ◌^◌, ℕ, List, Option, Some, None, OnOk, length};
+ghost use Rattle.std.specs.Bool.{OnTrue};
 ghost use Rattle.bgp_fsm.specs.declared.state.State.TheVariants.{Established};
+ghost use Rattle.export_rules.specs.Export.{Tells};
+ghost use Rattle.net_prefix.specs.declared.prefix.Prefix.{Prefix as ThePrefix};
+ghost use Rattle.rib_out.specs.Held.{held_at};
+ghost use Rattle.speaker.specs.Export.{export_in};
+ghost use Rattle.speaker.specs.Queueing.{Queues, Announced, IsTold, IsServed, rank_of};
 
 use crate::link::Link;
 use crate::ribs::Ribs;
@@ -23,8 +28,8 @@ pub fn export<A: Allocator + Clone>(
     prefix: Prefix,
     octets: &mut Octets,
 ) -> bool
+    ensures tells { Tells result octets.new.items (export_in ribs.now.loc_rib.entries ribs.now.adj_in peer.now prefix) }
     ensures small { OnTrue result (length octets.new.items ≤ 4068) }
-    ensures nothing { OnFalse result (octets.new.items ≡ []) }
 {
     octets.clear();
     let Some(route) = ribs.loc_rib.get(&prefix) else {
@@ -44,7 +49,9 @@ pub fn serve<A: Allocator + Clone>(
     peer: &ExportPeer,
 ) -> Result<(), AllocError>
     requires { link.old.peer.session.state ≡ Established }
-    ensures { link.new.peer.session ≡ link.old.peer.session }
+    ensures session { link.new.peer.session ≡ link.old.peer.session }
+    ensures queues { OnOk result ((updates : List (List ℕ)) × Queues (export_in ribs.now.loc_rib.entries ribs.now.adj_in peer.now) updates link.old link.new) }
+    ensures served { OnOk result (IsServed (export_in ribs.now.loc_rib.entries ribs.now.adj_in peer.now) link.new) }
 {
     let mut octets = Octets::new();
     let mut message = Octets::new();
@@ -61,21 +68,31 @@ fn withdraw_all<A: Allocator + Clone>(
     message: &mut Octets,
 )
     requires { link.old.peer.session.state ≡ Established }
-    ensures { link.new.peer.session ≡ link.old.peer.session }
+    ensures session { link.new.peer.session ≡ link.old.peer.session }
+    ensures queues { (updates : List (List ℕ)) × Queues (export_in ribs.now.loc_rib.entries ribs.now.adj_in peer.now) updates link.old link.new }
+    ensures gone { length link.new.peer.ring + 8192 ≤ 65536 → (q : ThePrefix)
+        → export_in ribs.now.loc_rib.entries ribs.now.adj_in peer.now q ≡ None → held_at link.new.adj_out q ≡ None }
 {
     let mut after = None;
-    for _ in 0..u64::MAX {
-        let Some(prefix) = link.adj_out.prefix_after(after) else {
-            return;
-        };
+    while let Some(prefix) = link.adj_out.prefix_after(after) {
         if link.peer.free() < ROOM_FOR_UPDATE {
             return;
         }
         if !export(ribs, peer, prefix, octets) {
             withdraw(link, prefix, message);
         }
+        // Places rise, so the walk ends.
+        let _place = place(prefix);
         after = Some(prefix);
     }
+}
+
+// The place of a prefix among all prefixes: they are ordered by address, then by length.
+fn place(prefix: Prefix) -> u64
+    ensures place { result ≡ rank_of prefix }
+    ensures below { result < 2 ^ 38 }
+{
+    u64::from(prefix.bits) * 64 + u64::from(prefix.len)
 }
 
 // Announces what is exported to the peer and what it doesn't hold just so.
@@ -87,15 +104,40 @@ fn announce_all<A: Allocator + Clone>(
     message: &mut Octets,
 ) -> Result<(), AllocError>
     requires { link.old.peer.session.state ≡ Established }
-    ensures { link.new.peer.session ≡ link.old.peer.session }
+    ensures session { link.new.peer.session ≡ link.old.peer.session }
+    ensures queues { OnOk result ((updates : List (List ℕ)) × Queues (export_in ribs.now.loc_rib.entries ribs.now.adj_in peer.now) updates link.old link.new) }
+    ensures grows { length link.old.peer.ring ≤ length link.new.peer.ring }
+    ensures told { OnOk result (length link.new.peer.ring + 8192 ≤ 65536 → (q : ThePrefix) (octets : List ℕ)
+        → export_in ribs.now.loc_rib.entries ribs.now.adj_in peer.now q ≡ Some octets → held_at link.new.adj_out q ≡ Some octets) }
+    ensures keeps { OnOk result ((q : ThePrefix) → export_in ribs.now.loc_rib.entries ribs.now.adj_in peer.now q ≡ None
+        → held_at link.new.adj_out q ≡ held_at link.old.adj_out q) }
 {
     for (prefix, _) in &ribs.loc_rib {
         if link.peer.free() < ROOM_FOR_UPDATE {
             return Ok(());
         }
-        if export(ribs, peer, *prefix, octets) && !link.adj_out.holds(*prefix, octets.as_slice()) {
-            announce(link, *prefix, octets, message)?;
-        }
+        announce_owed(ribs, link, peer, *prefix, octets, message)?;
+    }
+    Ok(())
+}
+
+// Announces a prefix, where it is exported to the peer and the peer doesn't hold it just so.
+fn announce_owed<A: Allocator + Clone>(
+    ribs: &Ribs<A>,
+    link: &mut Link<A>,
+    peer: &ExportPeer,
+    prefix: Prefix,
+    octets: &mut Octets,
+    message: &mut Octets,
+) -> Result<(), AllocError>
+    requires established { link.old.peer.session.state ≡ Established }
+    requires room { length link.old.peer.ring + 8192 ≤ 65536 }
+    ensures session { link.new.peer.session ≡ link.old.peer.session }
+    ensures grows { length link.old.peer.ring ≤ length link.new.peer.ring }
+    ensures announced { OnOk result (Announced (export_in ribs.now.loc_rib.entries ribs.now.adj_in peer.now) prefix link.old link.new) }
+{
+    if export(ribs, peer, prefix, octets) && !link.adj_out.holds(prefix, octets.as_slice()) {
+        announce(link, prefix, octets, message)?;
     }
     Ok(())
 }
@@ -103,8 +145,9 @@ fn announce_all<A: Allocator + Clone>(
 fn withdraw<A: Allocator + Clone>(link: &mut Link<A>, prefix: Prefix, message: &mut Octets)
     requires established { link.old.peer.session.state ≡ Established }
     requires room { length link.old.peer.ring + 8192 ≤ 65536 }
-    ensures { link.new.peer.session ≡ link.old.peer.session }
+    ensures { IsTold prefix None link.old link.new }
 {
+    let _place = place(prefix);
     link.adj_out.withdraw(prefix);
     write_withdrawal(&[prefix], message);
     link.peer.queue(message.as_slice());
@@ -119,8 +162,11 @@ fn announce<A: Allocator + Clone>(
     requires established { link.old.peer.session.state ≡ Established }
     requires room { length link.old.peer.ring + 8192 ≤ 65536 }
     requires small { length octets.now.items ≤ 4068 }
-    ensures { link.new.peer.session ≡ link.old.peer.session }
+    ensures session { link.new.peer.session ≡ link.old.peer.session }
+    ensures grows { length link.old.peer.ring ≤ length link.new.peer.ring }
+    ensures told { OnOk result (IsTold prefix (Some octets.now.items) link.old link.new) }
 {
+    let _place = place(prefix);
     link.adj_out.announce(prefix, octets.as_slice())?;
     write_announcement(octets.as_slice(), &[prefix], message);
     link.peer.queue(message.as_slice());

@@ -1,4 +1,6 @@
 //! A list of events, played on a new speaker.
+ghost use Rattle.std.specs.Prelude.{IfOk};
+ghost use Rattle.speaker.specs.Agreement.{IsPlayed};
 
 use crate::config::Config;
 use crate::event::{Event, Report};
@@ -19,11 +21,17 @@ pub fn run<A: Allocator + Clone>(
     alloc: A,
     config: Config,
     events: &[Event<'_>],
-) -> Result<Trace<A>, Refusal> {
+) -> Result<Trace<A>, Refusal>
+    // The answers lead to a run that the speaker agrees with, as far as want of memory has not stopped it.
+    ensures { IfOk result (λ trace. IsPlayed config events.now trace.answers.items trace.speaker) }
+{
     let Ok(for_speaker) = alloc.clone() else {
         return Err(Refusal::NoMemory);
     };
-    let mut speaker = Speaker::new(for_speaker, config)?;
+    let mut speaker = match Speaker::new(for_speaker, config) {
+        Ok(speaker) => speaker,
+        Err(refused) => return Err(refused),
+    };
     let mut answers = Vec::new(alloc);
     for event in events {
         let answer = speaker.step(*event);

@@ -1,13 +1,26 @@
 //! The speaker and its calls.
-ghost use Rattle.std.specs.Prelude.{◌≡◌, ◌≤◌, ◌⊎◌, ◌↔◌, ◌++◌, ℕ, true, false, Option, length, min, take, drop, MatchOption, MatchResult, IfErr, OnOk, OnErr, IfOk, IsSome, if◌then◌else◌};
+ghost use Rattle.std.specs.Prelude.{◌≡◌, ◌≢◌, ◌≤◌, ◌<◌, ◌⊎◌, ◌↔◌, ◌++◌, ℕ, List, [], ◌∷◌, true, false, Option, length, min, take, drop, MatchOption, MatchResult, IfErr, OnOk, OnErr, IfOk, IsSome, ◌&&◌, ◌==◌, None, Some, if◌then◌else◌};
 ghost use Rattle.std.specs.Ordering.{nat_cmp};
 ghost use Rattle.std.specs.BTreeMap.{is_at};
-ghost use Rattle.bgp_conf.specs.Configuration.{AddressesDiffer};
+ghost use Rattle.bgp_conf.specs.Configuration.{AddressesDiffer, peer_at};
+ghost use Rattle.bgp_conf.specs.declared.conf.ConfiguredPeer.{ConfiguredPeer as ThePeer};
 ghost use Rattle.bgp_conf.specs.FirstRefusal.{first_refusal};
+ghost use Rattle.bgp_conf.specs.declared.command.Command.TheVariants.{AddPeer as AddsPeer};
 ghost use Rattle.std.specs.Option.{option_map};
 ghost use Rattle.bgp_fsm.specs.Transports.{transport_of};
+ghost use Rattle.bgp_fsm.specs.declared.input.Input.TheVariants as input;
+ghost use Rattle.bgp_peer.specs.Slot.{enabled, opened, failed, taken_input};
+ghost use Rattle.net_prefix.specs.declared.prefix.Prefix.{Prefix as ThePrefix};
+ghost use Rattle.rib_in.specs.LatestRoutes.{route_at};
+ghost use Rattle.bgp_msg.specs.MessageStream.{meaning};
+ghost use Rattle.speaker.specs.Moves.{Hands, Moves, Pushes, TakesItem, taken_of};
+ghost use Rattle.speaker.specs.Runs.{terms_in, Call, Run, turn, call_of, Bytes_call, Command_call, Take_call};
+ghost use Rattle.speaker.specs.Agreement.{Agrees, Holds, IsThrifty};
+ghost use Rattle.speaker.specs.declared.config.Config.{Config as TheConfig};
 ghost use Rattle.speaker.specs.Tables.{session_at, link_at};
 ghost use Rattle.speaker.specs.Linked.{Linked};
+ghost use Rattle.speaker.specs.Export.{export_to, export_peer_of};
+ghost use Rattle.speaker.specs.Queueing.{Queue, QueuesAll, IsServed};
 ghost use Rattle.speaker.specs.LocRib.{IsLocRib};
 
 use crate::config::Config;
@@ -21,6 +34,7 @@ use bgp_fsm::{Effects, Input, State};
 use bgp_msg::{Expected, Open};
 use export_rules::ExportPeer;
 use net_prefix::{Asn, Transport};
+use rib_in::AdjIn;
 use std::alloc::{AllocError, Allocator, Global};
 use std::collections::BTreeMap;
 use std::marker::Model;
@@ -63,6 +77,8 @@ impl<A: Allocator + Clone> Speaker<A> {
     /// asked for (there is none yet), and by 44.
     pub fn new(alloc: A, config: Config) -> Result<Self, Refusal>
         ensures ok { IfOk result (λ s. s ≡ started config) }
+        // It agrees with the run of no calls.
+        ensures agrees { IfOk result (λ s. Agrees config [] s) }
         ensures range { (result ≡ Err Refusal.Range) ↔ (is_out_of_range config ≡ true) }
         ensures err { IfErr result (λ why. (why ≡ Refusal.Range) ⊎ (why ≡ Refusal.NoMemory)) }
     {
@@ -104,6 +120,8 @@ impl<A: Allocator + Clone> Speaker<A> {
             (λ why. (result ≡ Err why) × (self.new ≡ self.old)) }
         // Whatever is refused, the speaker is as it was, or want of memory has stopped it.
         ensures memory { OnErr result (IsAsBefore self.old self.new ⊎ (self.new.stopped ≡ true)) }
+        // For every run that the speaker agrees with, it agrees with that run followed by this event and what it queued.
+        ensures agrees { OnOk result ((config : TheConfig) (r : Run) → Agrees config r self.old → (queue : Queue) × Agrees config (turn (call_of event.entry) queue ∷ r) self.new) }
     {
         if self.stopped {
             return Err(Refusal::NoMemory);
@@ -120,6 +138,7 @@ impl<A: Allocator + Clone> Speaker<A> {
         ensures chosen { OnOk result (IsLocRib (tables_of self.new) self.new.loc_rib) }
         ensures why { IfErr result (λ why. why ≡ Refusal.NoMemory) }
         ensures memory { OnErr result (IsAsBefore self.old self.new ⊎ (self.new.stopped ≡ true)) }
+        ensures agrees { OnOk result ((config : TheConfig) (r : Run) → Agrees config r self.old → (queue : Queue) × Agrees config (turn (call_of event.entry) queue ∷ r) self.new) }
     {
         match event {
             Event::Command(command) => {
@@ -160,14 +179,16 @@ impl<A: Allocator + Clone> Speaker<A> {
         ensures handed { IfOk result (λ taken. (l : Linked) → link_at self.old.links slot ≡ Some l
             → (taken.0 ≡ min (length buf.old) (length l.peer.ring)) × (buf.new ≡ take taken.0 l.peer.ring ++ drop taken.0 buf.old)) }
         ensures keeps { KeepsTables self.old self.new }
+        // For every run that the speaker agrees with, it agrees with that run followed by this call and what it queued.
+        ensures agrees { IfOk result (λ taken. (config : TheConfig) (r : Run) → Agrees config r self.old
+            → (queue : Queue) × Agrees config (turn (Take_call slot (take taken.0 buf.new)) queue ∷ r) self.new) }
     {
         if self.stopped {
             return Err(Refusal::NoMemory);
         }
-        let Some(link) = self.links.get_mut(&slot) else {
+        let Some(taken) = self.hand_out(slot, buf) else {
             return Err(Refusal::BadSlot);
         };
-        let taken = link.peer.take(buf);
         match self.queue_updates() {
             Ok(()) => Ok((taken, Report::NOTHING)),
             Err(_) => {
@@ -175,6 +196,18 @@ impl<A: Allocator + Clone> Speaker<A> {
                 Err(Refusal::NoMemory)
             }
         }
+    }
+
+    // Hands out the first octets of the ring of a configured slot, and answers how many.
+    fn hand_out(&mut self, slot: u8, buf: &mut [u8]) -> Option<usize>
+        ensures keeps { KeepsTables self.old self.new }
+        ensures none { link_at self.old.links slot ≡ None → (result ≡ None) × (self.new ≡ self.old) }
+        ensures some { (l : Linked) → link_at self.old.links slot ≡ Some l
+            → MatchOption result ⊥ (λ taken. (taken ≡ min (length buf.old) (length l.peer.ring)) × (buf.new ≡ take taken l.peer.ring ++ drop taken buf.old)
+            × Hands slot l taken self.old self.new) }
+    {
+        let link = self.links.get_mut(&slot)?;
+        Some(link.take(buf))
     }
 
     // The first refusal of an event, if there is one.
@@ -214,7 +247,8 @@ impl<A: Allocator + Clone> Speaker<A> {
     // Makes the tables after a command that isn't refused.
     fn obey(&mut self, command: &Command<'_>) -> Result<(), AllocError>
         requires { first_refusal self.old.conf 0 command.now ≡ None }
-        ensures { OnErr result (IsAsBefore self.old self.new) }
+        ensures err { OnErr result (IsAsBefore self.old self.new) }
+        ensures ok { OnOk result ((config : TheConfig) (r : Run) → Holds config r self.old → Holds config (turn (Command_call command.now) [] ∷ r) self.new) }
     {
         match *command {
             Command::AddPeer(slot, conf) => self.add_peer(command, slot, &conf),
@@ -232,8 +266,10 @@ impl<A: Allocator + Clone> Speaker<A> {
         slot: u8,
         conf: &PeerConf<'_>,
     ) -> Result<(), AllocError>
-        requires { first_refusal self.old.conf 0 command.now ≡ None }
-        ensures { OnErr result (IsAsBefore self.old self.new) }
+        requires accepted { first_refusal self.old.conf 0 command.now ≡ None }
+        requires adds { command.now ≡ AddsPeer slot conf.now }
+        ensures err { OnErr result (IsAsBefore self.old self.new) }
+        ensures ok { OnOk result ((config : TheConfig) (r : Run) → Holds config r self.old → Holds config (turn (Command_call command.now) [] ∷ r) self.new) }
     {
         let own = Open {
             asn: self.config.asn,
@@ -251,67 +287,102 @@ impl<A: Allocator + Clone> Speaker<A> {
         }
     }
 
-    fn enable(&mut self, slot: u8) {
-        if let Some(link) = self.links.get_mut(&slot) {
-            link.peer.enable(0);
-        }
+    fn enable(&mut self, slot: u8)
+        ensures { (l : Linked) → link_at self.old.links slot ≡ Some l → Moves slot l (enabled l.peer) input.Start self.old self.new }
+    {
+        let Some(link) = self.links.get_mut(&slot) else {
+            return;
+        };
+        let effects = link.enable();
+        forget(&mut self.ribs.adj_in, slot, effects.left);
     }
 
-    fn up(&mut self, slot: u8) {
-        if let Some(link) = self.links.get_mut(&slot) {
-            let effects = link.peer.up(0);
-            self.follow(slot, effects);
-        }
+    fn up(&mut self, slot: u8)
+        ensures { (l : Linked) → link_at self.old.links slot ≡ Some l → Moves slot l (opened l.peer) input.Up self.old self.new }
+    {
+        let Some(link) = self.links.get_mut(&slot) else {
+            return;
+        };
+        let effects = link.up();
+        forget(&mut self.ribs.adj_in, slot, effects.left);
     }
 
-    fn fail(&mut self, slot: u8) {
-        if let Some(link) = self.links.get_mut(&slot) {
-            let effects = link.peer.fail(0);
-            self.follow(slot, effects);
-        }
+    fn fail(&mut self, slot: u8)
+        ensures { (l : Linked) → link_at self.old.links slot ≡ Some l → Moves slot l (failed l.peer) input.Fail self.old self.new }
+    {
+        let Some(link) = self.links.get_mut(&slot) else {
+            return;
+        };
+        let effects = link.fail();
+        forget(&mut self.ribs.adj_in, slot, effects.left);
     }
 
-    // Leaving Established removes all routes of the session; entering it begins with nothing sent.
-    fn follow(&mut self, slot: u8, effects: Effects) {
-        if effects.left {
-            self.ribs.adj_in.drop_slot(slot);
-        }
-        if effects.left || effects.entered {
-            if let Some(link) = self.links.get_mut(&slot) {
-                link.adj_out.clear();
-            }
-        }
+    // The message at the front of the slot's rest is this input.
+    fn input(&mut self, slot: u8, heard: Input)
+        ensures { (l : Linked) → link_at self.old.links slot ≡ Some l → Moves slot l (taken_input l.peer heard) heard self.old self.new }
+    {
+        let Some(link) = self.links.get_mut(&slot) else {
+            return;
+        };
+        let effects = link.input(heard);
+        forget(&mut self.ribs.adj_in, slot, effects.left);
     }
 
     // Takes octets that come, message by message. What comes after the session has closed is dropped.
-    fn hear(&mut self, slot: u8, octets: &[u8]) -> Result<(), AllocError> {
+    fn hear(&mut self, slot: u8, octets: &[u8]) -> Result<(), AllocError>
+        ensures { OnOk result ((config : TheConfig) (r : Run) (peer : ThePeer) → Holds config r self.old → peer_at self.old.conf slot ≡ Some peer
+            → Holds config (turn (Bytes_call slot octets.now) [] ∷ r) self.new) }
+    {
         let mut rest = octets;
         while !rest.is_empty() {
-            let taken = self.push(slot, rest);
+            let taken = match self.hear_front(slot, rest) {
+                Ok(taken) => taken,
+                Err(refused) => return Err(refused),
+            };
             if taken == 0 {
                 return Ok(());
             }
-            rest = &rest[taken..];
-            self.take_message(slot)?;
+            let (_, behind) = rest.split_at(taken);
+            rest = behind;
         }
         Ok(())
     }
 
+    // Takes octets up to the end of the message at the front, and that message; answers how many.
+    fn hear_front(&mut self, slot: u8, octets: &[u8]) -> Result<usize, AllocError>
+        ensures within { IfOk result (λ taken. taken ≤ length octets.now) }
+        ensures heard { IfOk result (λ taken. (config : TheConfig) (r : Run) (done : List ℕ) (peer : ThePeer) → Holds config (turn (Bytes_call slot done) [] ∷ r) self.old
+            → peer_at self.old.conf slot ≡ Some peer → Holds config (turn (Bytes_call slot (done ++ take taken octets.now)) [] ∷ r) self.new) }
+        ensures shut { IfOk result (λ taken. (config : TheConfig) (r : Run) (done : List ℕ) (peer : ThePeer) → Holds config (turn (Bytes_call slot done) [] ∷ r) self.old
+            → peer_at self.old.conf slot ≡ Some peer → taken ≡ 0 → 0 < length octets.now → Holds config (turn (Bytes_call slot (done ++ octets.now)) [] ∷ r) self.new) }
+    {
+        let taken = self.push(slot, octets);
+        if taken == 0 {
+            return Ok(0);
+        }
+        match self.take_message(slot) {
+            Ok(()) => Ok(taken),
+            Err(refused) => Err(refused),
+        }
+    }
+
     // Takes octets up to the end of the message at the front of an open connection, and answers how many.
     fn push(&mut self, slot: u8, octets: &[u8]) -> usize
-        ensures { result ≤ length octets.now }
+        ensures within { result ≤ length octets.now }
+        ensures count { (l : Linked) → link_at self.old.links slot ≡ Some l → result ≡ taken_of l.peer octets.now }
+        ensures pushes { (l : Linked) → link_at self.old.links slot ≡ Some l → Pushes slot l (take result octets.now) self.old self.new }
     {
-        let Some(link) = self.links.get_mut(&slot) else {
-            return 0;
-        };
-        if link.peer.transport() != Transport::Open {
-            return 0;
+        match self.links.get_mut(&slot) {
+            Some(link) => link.push(octets),
+            None => 0,
         }
-        link.peer.push(octets)
     }
 
     // Takes the message at the front of the slot's rest, if it is whole or its header is faulty.
-    fn take_message(&mut self, slot: u8) -> Result<(), AllocError> {
+    fn take_message(&mut self, slot: u8) -> Result<(), AllocError>
+        ensures { OnOk result ((l : Linked) (peer : ThePeer) → link_at self.old.links slot ≡ Some l → peer_at self.old.conf slot ≡ Some peer
+            → TakesItem slot (terms_in self.old.config peer) l (meaning l.peer.rest) self.old self.new) }
+    {
         let Some(peer) = self.conf.peer(slot) else {
             return Ok(());
         };
@@ -323,49 +394,58 @@ impl<A: Allocator + Clone> Speaker<A> {
         let Some(link) = self.links.get(&slot) else {
             return Ok(());
         };
-        let heard = take_front(
-            &self.alloc,
-            &mut self.ribs.adj_in,
-            slot,
-            &peer,
-            expected,
-            link,
-        )?;
+        let alloc = &self.alloc;
+        let adj_in = &mut self.ribs.adj_in;
+        let heard = match take_front(alloc, adj_in, slot, &peer, expected, link) {
+            Ok(heard) => heard,
+            Err(refused) => return Err(refused),
+        };
         if let Some(input) = heard {
             self.input(slot, input);
         }
         Ok(())
     }
 
-    // The message at the front of the slot's rest is this input.
-    fn input(&mut self, slot: u8, input: Input) {
-        if let Some(link) = self.links.get_mut(&slot) {
-            let effects = link.peer.input(input, 0);
-            self.follow(slot, effects);
-        }
-    }
-
     // The end of each step: Loc-RIB is chosen, and the peers are queued what they are owed.
     fn settle(&mut self) -> Result<(), AllocError>
-        ensures { OnOk result (IsLocRib (tables_of self.new) self.new.loc_rib) }
+        ensures chosen { OnOk result (IsLocRib (tables_of self.new) self.new.loc_rib) }
+        ensures agrees { OnOk result ((config : TheConfig) (call : Call) (r : Run) → Holds config (turn call [] ∷ r) self.old → IsThrifty config r
+            → (queue : Queue) × Agrees config (turn call queue ∷ r) self.new) }
     {
-        self.ribs
-            .choose_all(self.alloc.clone()?, &self.conf, &self.links)?;
+        self.choose()?;
         self.queue_updates()
+    }
+
+    // Loc-RIB is chosen.
+    fn choose(&mut self) -> Result<(), AllocError>
+        ensures chosen { OnOk result (IsLocRib (tables_of self.new) self.new.loc_rib) }
+        ensures rest { self.new ≡ record self.old { loc_rib = self.new.loc_rib } }
+    {
+        let alloc = self.alloc.clone()?;
+        self.ribs.choose_all(alloc, &self.conf, &self.links)
     }
 
     // For each Established slot in rising order, the UPDATEs that it is owed, while its ring has room.
     fn queue_updates(&mut self) -> Result<(), AllocError>
         ensures keeps { KeepsTables self.old self.new }
+        ensures stopped { self.new.stopped ≡ self.old.stopped }
+        ensures queues { OnOk result ((queue : Queue) × QueuesAll (export_to self.old) queue (link_at self.old.links) (link_at self.new.links)) }
+        ensures served { OnOk result ((slot : ℕ) (peer : ThePeer) (l : Linked) → slot < 64 → peer_at self.old.conf slot ≡ Some peer → link_at self.new.links slot ≡ Some l → IsServed (export_to self.old slot) l) }
     {
         for slot in 0..PEER_SLOTS {
-            self.serve_slot(slot)?;
+            if let Err(refused) = self.serve_slot(slot) {
+                return Err(refused);
+            }
         }
         Ok(())
     }
 
     fn serve_slot(&mut self, slot: u8) -> Result<(), AllocError>
         ensures keeps { KeepsTables self.old self.new }
+        ensures stopped { self.new.stopped ≡ self.old.stopped }
+        ensures others { (s : ℕ) → s ≢ slot → link_at self.new.links s ≡ link_at self.old.links s }
+        ensures queues { OnOk result ((queue : Queue) × QueuesAll (export_to self.old) queue (link_at self.old.links) (link_at self.new.links)) }
+        ensures served { OnOk result ((peer : ThePeer) (l : Linked) → peer_at self.old.conf slot ≡ Some peer → link_at self.new.links slot ≡ Some l → IsServed (export_to self.old slot) l) }
     {
         let Some(peer) = self.export_peer(slot) else {
             return Ok(());
@@ -380,13 +460,24 @@ impl<A: Allocator + Clone> Speaker<A> {
     }
 
     /// What the export to a slot's peer asks of it.
-    pub(crate) fn export_peer(&self, slot: u8) -> Option<ExportPeer> {
+    pub(crate) fn export_peer(&self, slot: u8) -> Option<ExportPeer>
+        ensures { result ≡ option_map (export_peer_of self.now.conf slot) (peer_at self.now.conf slot) }
+    {
         let peer = self.conf.peer(slot)?;
         Some(ExportPeer {
             slot,
-            own: self.config.asn,
+            own: self.conf.own(),
             local: peer.local,
         })
+    }
+}
+
+// Leaving Established removes all routes of the session.
+fn forget<A: Allocator + Clone>(adj_in: &mut AdjIn<A>, slot: u8, left: bool)
+    ensures { (s : ℕ) (prefix : ThePrefix) → route_at adj_in.new s prefix ≡ (if left && s == slot then None else route_at adj_in.old s prefix) }
+{
+    if left {
+        adj_in.drop_slot(slot);
     }
 }
 

@@ -1,4 +1,4 @@
-use Rattle.std.proofs.Common.{◌≡◌, ◌<◌, length, arith, lit<}
+use Rattle.std.proofs.Common.{◌<◌, length, arith, lit<}
 use Rattle.speaker.proofs.CandidateLists.{ListsBelow-none, ListsBelow-same, ListsBelow-push, best_chosen}
 use Rattle.speaker.proofs.choosing.best.Goals as goal
 use Rattle.speaker.proofs.choosing.best.Goals.{in-Some, in_default}

@@ -6,4 +6,4 @@ use Rattle.speaker.proofs.ribs.best_of_all.Given as goal
 
 abbrev pub invariant-loop-prefix : goal.invariant-loop-prefix
 invariant-loop-prefix g l =
-    Goes (tables l.fn.conf l.fn.links.entries l.fn.adj_in) (map (λ item. entry_of item.0 item.1 item.2.now) l.yielded) l.prefix-iterator l.chosen.entries
+    Goes (tables l.fn.conf l.fn.links.entries l.fn.adj_in) l.fn.adj_in (map (λ item. entry_of item.0 item.1 item.2.now) l.yielded) l.prefix-iterator l.chosen.entries

@@ -1,14 +1,40 @@
+use Rattle.std.proofs.Common.{◌∙◌, refl}
+use Rattle.speaker.proofs.Commands.{holds_added, put_inserted, put_back, added_same}
 use Rattle.speaker.proofs.step.Speaker.add_peer.Goals as goal
+use Rattle.speaker.proofs.step.Speaker.add_peer.Goals.{in-Some-1, in-None-1}
 
 pub invariant_of-self-in-Ok : goal.invariant_of-self-in-Ok
 invariant_of-self-in-Ok g c =
-    let accepted = rw (← c.self.view_is) at c.requires in
+    let accepted = rw (← c.self.view_is) at c.requires.accepted in
     c.in-Ok.ensures.addresses 0 accepted c.self.invariant
 
 pub invariant_of-self-in-Ok-2 : goal.invariant_of-self-in-Ok-2
 invariant_of-self-in-Ok-2 g c =
-    let accepted = rw (← c.self.view_is) at c.requires in
+    let accepted = rw (← c.self.view_is) at c.requires.accepted in
     c.in-Ok.ensures.addresses 0 accepted c.self.invariant
 
 pub invariant_of-self-in-Err : goal.invariant_of-self-in-Err
 invariant_of-self-in-Err g c = rw c.in-Err.ensures.err c.self.invariant
+
+pub returns-in-Ok-clause-ok : goal.returns-in-Ok-clause-ok
+returns-in-Ok-clause-ok g c = λ config r holds.
+    let may = rw (← c.self.view_is, c.requires.adds) at c.requires.accepted in
+    let conf = rw c.requires.adds at c.in-Ok.ensures.ok in
+    let peers = rw c.requires.adds at c.in-Ok.ensures.peers in
+    let here = rw (← c.self.view_is) at holds in
+    let put = put_inserted c.args.slot c.in_ok-link.link _ _ _ c.in_ok-before.ensures.updates.0 (c.in_ok-link.ensures ∙ added_same c.self.inside.config config c.args.conf.now here.config_is) in
+    elim c.match-before.branch [
+      | in-Some-1 w ↦ rw (w.self-is, c.requires.adds) (holds_added config r c.args.slot c.args.conf.now _ _ here may conf peers put refl refl refl)
+      | in-None-1 w ↦ rw (w.self-is, c.requires.adds) (holds_added config r c.args.slot c.args.conf.now _ _ here may conf peers put refl refl refl)
+    ]
+
+pub returns-in-Err-clause-err : goal.returns-in-Err-clause-err
+returns-in-Err-clause-err g c =
+    rw (← c.self.view_is) (record {
+      config = refl;
+      conf = c.in-Err.ensures.err;
+      links = put_back c.args.slot c.in_ok-link.link c.in_ok-before.before _ _ _ c.in_ok-before.ensures.updates.0 c.put_back.ensures c.in_ok-before.ensures.old;
+      adj_in = refl;
+      loc_rib = refl;
+      stopped = refl;
+    })

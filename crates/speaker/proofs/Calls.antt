@@ -1,0 +1,160 @@
+use Rattle.std.proofs.Common.{◌≡◌, ◌≢◌, ◌≤◌, ◌==◌, inl, inr, ℕ, Bool, true, false, nat_le, List, [], ◌∷◌, Option, Some, None, length, cond, refl, sym, ap, ◌∙◌, subst}
+use Rattle.std.specs.Option.{option_map, option_and_then, MatchOption}
+use Rattle.std.proofs.lemmas.Bool.{cases_eq, eq-eqb, ne_eqb, leb-true}
+use Rattle.bgp_attr.specs.AttributeSpelling.{attributes_spelling}
+use Rattle.bgp_attr.specs.PathAttributes.{PathAttributes}
+use Rattle.bgp_conf.specs.Configuration.{Configuration, peer_at}
+use Rattle.bgp_conf.specs.declared.conf.ConfiguredPeer.{ConfiguredPeer}
+use Rattle.bgp_peer.specs.SessionInputs as happens
+use Rattle.bgp_peer.specs.SessionInputs.{Queued, session, terms_of}
+use Rattle.decision.specs.declared.candidate.Candidate.{Candidate}
+use Rattle.decision.proofs.Laws.{selected_member}
+use Rattle.export_rules.specs.Export.{export_at, exported_of, fitting}
+use Rattle.export_rules.specs.declared.export.ExportPeer.{ExportPeer}
+use Rattle.net_prefix.specs.declared.prefix.Prefix.{Prefix}
+use Rattle.rib_in.specs.LatestRoutes.{route_at}
+use Rattle.rib_in.specs.declared.adj_in.RouteKey.{RouteKey}
+use Rattle.speaker.specs.AdjRibIn.{route}
+use Rattle.speaker.specs.Agreement.{SlotAgrees, tables_after}
+use Rattle.speaker.specs.Candidates.{IsCandidate}
+use Rattle.speaker.specs.Export.{IsExport, export_in, export_to, export_peer_of}
+use Rattle.speaker.specs.Linked.{Linked}
+use Rattle.speaker.specs.LocRib.{IsLocRib, IsBest, HasNoCandidate}
+use Rattle.speaker.specs.Queueing.{Queue, QueuesAll, IsOwed}
+use Rattle.speaker.specs.Runs.{Call, Run, turn, configuration_of, history}
+use Rattle.speaker.specs.SpeakerState.{SpeakerState}
+use Rattle.speaker.specs.Tables.{Tables, link_at, best_at}
+use Rattle.speaker.specs.declared.config.Config.{Config}
+use Rattle.speaker.proofs.QueuedUpdates.{slot_queued}
+
+-- From the slots to the whole: what the selection reads, what is exported, and what a call queues.
+
+-- the slots of a speaker are as these histories leave them
+abbrev pub SlotsAgree : Config → Configuration → (ℕ → Option Linked) → List (RouteKey × PathAttributes) → (ℕ → List happens.Event) → Type 0
+SlotsAgree config conf links adj_in histories = (s : ℕ) → SlotAgrees config (peer_at conf s) (links s) (route_at adj_in s) (histories s)
+
+-- one slot changes
+pub slots_changed : (config : Config) (conf conf2 : Configuration) (links links2 : ℕ → Option Linked) (adj_in adj_in2 : List (RouteKey × PathAttributes)) (hs hs2 : ℕ → List happens.Event) (slot : ℕ)
+    → SlotsAgree config conf links adj_in hs
+    → ((t : ℕ) → t ≢ slot → peer_at conf2 t ≡ peer_at conf t) → ((t : ℕ) → t ≢ slot → links2 t ≡ links t)
+    → ((t : ℕ) → t ≢ slot → (p : Prefix) → route_at adj_in2 t p ≡ route_at adj_in t p) → ((t : ℕ) → t ≢ slot → hs2 t ≡ hs t)
+    → SlotAgrees config (peer_at conf2 slot) (links2 slot) (route_at adj_in2 slot) (hs2 slot) → SlotsAgree config conf2 links2 adj_in2 hs2
+slots_changed config conf conf2 links links2 adj_in adj_in2 hs hs2 slot all peers others routes histories here t =
+    elim (cases_eq t slot) [
+      | inl same ↦
+          let P : ℕ → Type 0 = λ s. SlotAgrees config (peer_at conf2 s) (links2 s) (route_at adj_in2 s) (hs2 s) in
+          subst P (sym same) here
+      | inr other ↦
+          let P : Option ConfiguredPeer → Type 0 = λ x. SlotAgrees config x (links2 t) (route_at adj_in2 t) (hs2 t) in
+          let L : Option Linked → Type 0 = λ x. SlotAgrees config (peer_at conf t) x (route_at adj_in2 t) (hs2 t) in
+          let R : (Prefix → Option PathAttributes) → Type 0 = λ x. SlotAgrees config (peer_at conf t) (links t) x (hs2 t) in
+          let H : List happens.Event → Type 0 = λ x. SlotAgrees config (peer_at conf t) (links t) (route_at adj_in t) x in
+          subst P (sym (peers t other)) (subst L (sym (others t other)) (subst R (λ i p. sym (routes t other p) i) (subst H (sym (histories t other)) (all t))))
+    ]
+
+-- what the selection reads of these slots
+abbrev pub tables_in : Configuration → (ℕ → Option Linked) → List (RouteKey × PathAttributes) → Tables
+tables_in conf links adj_in = record { conf = conf; sessions = λ s. option_map (λ l. l.peer.session) (links s); routes = λ s prefix. route_at adj_in s prefix }
+
+slot_session : (config : Config) (peer : Option ConfiguredPeer) (l : Option Linked) (routes : Prefix → Option PathAttributes) (h : List happens.Event) → SlotAgrees config peer l routes h
+    → option_map (λ p. session h) peer ≡ option_map (λ x. x.peer.session) l
+slot_session config None None routes h a = refl
+slot_session config None (Some l) routes h a = absurd a
+slot_session config (Some peer) None routes h a = absurd a
+slot_session config (Some peer) (Some l) routes h a = ap Some (sym a.link.peer.session)
+
+slot_route : (config : Config) (peer : Option ConfiguredPeer) (l : Option Linked) (routes : Prefix → Option PathAttributes) (h : List happens.Event) (p : Prefix) → SlotAgrees config peer l routes h
+    → route h p ≡ routes p
+slot_route config None None routes h p a = ap (λ x. route x p) a.0 ∙ sym (a.1 p)
+slot_route config None (Some l) routes h p a = absurd a
+slot_route config (Some peer) None routes h p a = absurd a
+slot_route config (Some peer) (Some l) routes h p a = sym (a.routes_are p)
+
+-- the run's tables are those that are kept
+pub tables_same : (config : Config) (r : Run) (conf : Configuration) (links : ℕ → Option Linked) (adj_in : List (RouteKey × PathAttributes)) → configuration_of config r ≡ conf
+    → SlotsAgree config conf links adj_in (λ s. history config s r) → tables_after config r ≡ tables_in conf links adj_in
+tables_same config r conf links adj_in same all = λ i. record {
+  conf = same i;
+  sessions = λ s. (ap (λ c. option_map (λ p. session (history config s r)) (peer_at c s)) same ∙ slot_session config (peer_at conf s) (links s) (route_at adj_in s) (history config s r) (all s)) i;
+  routes = λ s prefix. slot_route config (peer_at conf s) (links s) (route_at adj_in s) (history config s r) prefix (all s) i;
+}
+
+-- the kept tables give the export
+best_candidate : (t : Tables) (prefix : Prefix) (c : Candidate) → IsBest t prefix c → IsCandidate t prefix c
+best_candidate t prefix c best = (best.1 c).0 (selected_member best.0 (Some c) best.2)
+
+export_found : (t : Tables) (c : Candidate) (peer : ExportPeer) (prefix : Prefix) (found : Option PathAttributes) → IsBest t prefix c → t.routes c.slot prefix ≡ found
+    → IsExport t peer prefix (option_and_then (λ attrs. export_at c attrs peer) found)
+export_found t c peer prefix None best is = let candidate = best_candidate t prefix c best in let route_is = candidate.route in absurd (cc)
+export_found t c peer prefix (Some attrs) best is = inl (c, attrs, best, is, refl)
+
+export_best : (t : Tables) (adj_in : List (RouteKey × PathAttributes)) (peer : ExportPeer) (prefix : Prefix) (found : Option Candidate)
+    → ((s : ℕ) (p : Prefix) → t.routes s p ≡ route_at adj_in s p) → MatchOption found (HasNoCandidate t prefix) (λ c. IsBest t prefix c)
+    → IsExport t peer prefix (option_and_then (λ c. option_and_then (λ attrs. export_at c attrs peer) (route_at adj_in c.slot prefix)) found)
+export_best t adj_in peer prefix None routes none = inr (none, refl)
+export_best t adj_in peer prefix (Some c) routes best = export_found t c peer prefix (route_at adj_in c.slot prefix) best (routes c.slot prefix)
+
+pub export_is : (t : Tables) (loc_rib : List (Prefix × Candidate)) (adj_in : List (RouteKey × PathAttributes)) (peer : ExportPeer) (prefix : Prefix)
+    → ((s : ℕ) (p : Prefix) → t.routes s p ≡ route_at adj_in s p) → IsLocRib t loc_rib → IsExport t peer prefix (export_in loc_rib adj_in peer prefix)
+export_is t loc_rib adj_in peer prefix routes is = export_best t adj_in peer prefix (best_at loc_rib prefix) routes (is prefix)
+
+-- what is exported fits a message
+fitting_short : (b : Bool) (octets a : List ℕ) → nat_le (length octets) 4068 ≡ b → cond b (Some octets) None ≡ Some a → length a ≤ 4068
+fitting_short true octets a fits is = let same : octets ≡ a = cc in rw (← same) (leb-true (length octets) 4068 fits)
+fitting_short false octets a fits is = absurd (cc)
+
+export_at_short : (own : Bool) (octets a : List ℕ) → cond own None (fitting octets) ≡ Some a → length a ≤ 4068
+export_at_short true octets a is = absurd (cc)
+export_at_short false octets a is = fitting_short _ octets a refl is
+
+found_short : (c : Candidate) (peer : ExportPeer) (found : Option PathAttributes) (a : List ℕ) → option_and_then (λ attrs. export_at c attrs peer) found ≡ Some a → length a ≤ 4068
+found_short c peer None a is = absurd (cc)
+found_short c peer (Some attrs) a is = export_at_short (c.slot == peer.slot) (attributes_spelling (exported_of attrs peer)) a is
+
+best_short : (adj_in : List (RouteKey × PathAttributes)) (peer : ExportPeer) (prefix : Prefix) (found : Option Candidate) (a : List ℕ)
+    → option_and_then (λ c. option_and_then (λ attrs. export_at c attrs peer) (route_at adj_in c.slot prefix)) found ≡ Some a → length a ≤ 4068
+best_short adj_in peer prefix None a is = absurd (cc)
+best_short adj_in peer prefix (Some c) a is = found_short c peer (route_at adj_in c.slot prefix) a is
+
+peer_short : (s : SpeakerState) (t : ℕ) (found : Option ConfiguredPeer) (prefix : Prefix) (a : List ℕ)
+    → option_and_then (λ p. export_in s.loc_rib s.adj_in (export_peer_of s.conf t p) prefix) found ≡ Some a → length a ≤ 4068
+peer_short s t None prefix a is = absurd (cc)
+peer_short s t (Some p) prefix a is = best_short s.adj_in (export_peer_of s.conf t p) prefix (best_at s.loc_rib prefix) a is
+
+export_short : (s : SpeakerState) (t : ℕ) (prefix : Prefix) (a : List ℕ) → export_to s t prefix ≡ Some a → length a ≤ 4068
+export_short s t prefix a is = peer_short s t (peer_at s.conf t) prefix a is
+
+-- the export to a slot that is configured
+pub export_peer_found : (s : SpeakerState) (t : ℕ) (p : ConfiguredPeer) (prefix : Prefix) → peer_at s.conf t ≡ Some p → export_to s t prefix ≡ export_in s.loc_rib s.adj_in (export_peer_of s.conf t p) prefix
+export_peer_found s t p prefix is = ap (λ found. option_and_then (λ x. export_in s.loc_rib s.adj_in (export_peer_of s.conf t x) prefix) found) is
+
+-- the slot of an UPDATE
+
+at_slot : (config : Config) (t : ℕ) (call : Call) (update : List ℕ) (queue : Queue) (r : Run)
+    → history config t (turn call ((t, update) ∷ queue) ∷ r) ≡ Queued update ∷ history config t (turn call queue ∷ r)
+at_slot config t call update queue r = rw (eq-eqb t t refl) refl
+
+off_slot : (config : Config) (t slot : ℕ) (call : Call) (update : List ℕ) (queue : Queue) (r : Run) → t ≢ slot
+    → history config t (turn call ((slot, update) ∷ queue) ∷ r) ≡ history config t (turn call queue ∷ r)
+off_slot config t slot call update queue r other = rw (ne_eqb t slot other) refl
+
+queued_at : (config : Config) (peer : Option ConfiguredPeer) (exports : Prefix → Option (List ℕ)) (update : List ℕ) (before after : Linked) (routes : Prefix → Option PathAttributes) (h : List happens.Event)
+    → ((p : Prefix) (a : List ℕ) → exports p ≡ Some a → length a ≤ 4068) → IsOwed exports update before after
+    → SlotAgrees config peer (Some before) routes h → SlotAgrees config peer (Some after) routes (Queued update ∷ h)
+queued_at config None exports update before after routes h short owed a = a
+queued_at config (Some peer) exports update before after routes h short owed a = slot_queued config peer exports update before after routes h short owed a
+
+-- what is queued leaves the slots as the run with it leaves them
+pub queue_slots : (config : Config) (call : Call) (r : Run) (s : SpeakerState) (queue : Queue) (links : ℕ → Option Linked)
+    → SlotsAgree config s.conf (link_at s.links) s.adj_in (λ t. history config t (turn call [] ∷ r)) → QueuesAll (export_to s) queue (link_at s.links) links
+    → SlotsAgree config s.conf links s.adj_in (λ t. history config t (turn call queue ∷ r))
+queue_slots config call r s [] links all same = rw same all
+queue_slots config call r s (now ∷ queue) links all queues =
+    let mid = queues.0 in
+    let owed = queues.2 in
+    let before : SlotsAgree config s.conf mid s.adj_in (λ t. history config t (turn call queue ∷ r)) = queue_slots config call r s queue mid all queues.1 in
+    let L : Option Linked → Type 0 = λ x. SlotAgrees config (peer_at s.conf now.0) x (route_at s.adj_in now.0) (history config now.0 (turn call queue ∷ r)) in
+    let here = queued_at config (peer_at s.conf now.0) (export_to s now.0) now.1 owed.before owed.after (route_at s.adj_in now.0) (history config now.0 (turn call queue ∷ r)) (export_short s now.0) owed.owed (subst L owed.was (before now.0)) in
+    slots_changed config s.conf s.conf mid links s.adj_in s.adj_in (λ t. history config t (turn call queue ∷ r)) (λ t. history config t (turn call (now ∷ queue) ∷ r)) now.0 before
+    (λ t other. refl) owed.others (λ t other p. refl) (λ t other. off_slot config t now.0 call now.1 queue r other)
+    (rw (owed.is, at_slot config now.0 call now.1 queue r) here)

@@ -1,0 +1,191 @@
+use Rattle.std.proofs.Common.{◌≡◌, ◌≢◌, ◌==◌, ◌&&◌, ◌||◌, ℕ, Bool, true, false, List, [], ◌∷◌, Option, Some, None, is_none, nat_le, cond, refl, sym, ap, ◌∙◌, subst}
+use Rattle.std.proofs.lemmas.Bool.{eq-eqb, ne_eqb, eqb-true}
+use Rattle.std.specs.BTreeMap.{is_at}
+use Rattle.std.specs.Ordering.{nat_cmp}
+use Rattle.bgp_conf.proofs.PrefixOrder.{is_eq-nat_cmp}
+use Rattle.bgp_attr.specs.PathAttributes.{PathAttributes}
+use Rattle.bgp_conf.specs.Configuration.{peer_at}
+use Rattle.bgp_conf.specs.ConfAfter.{conf_after, peer_after, configured_of}
+use Rattle.bgp_conf.specs.FirstRefusal.{first_refusal}
+use Rattle.bgp_conf.specs.declared.command.Command.TheVariants.{AddPeer, Enable, Reach}
+use Rattle.bgp_conf.specs.declared.command.PeerConf.{PeerConf}
+use Rattle.bgp_conf.specs.declared.conf.ConfiguredPeer.{ConfiguredPeer}
+use Rattle.bgp_conf.specs.declared.refusal.Refusal.{Refusal}
+use Rattle.bgp_conf.proofs.Accepted.{peer_at-from_accepted}
+use Rattle.bgp_fsm.specs.SessionTable.{effects_of}
+use Rattle.bgp_fsm.specs.Transports.{transport_of, transport_at}
+use Rattle.bgp_fsm.specs.declared.input.Input.{Input}
+use Rattle.bgp_fsm.specs.declared.input.Input.TheVariants.{Start, Up, Fail}
+use Rattle.bgp_fsm.specs.declared.session.Session.{Session}
+use Rattle.bgp_fsm.specs.declared.state.State.TheVariants.{Established}
+use Rattle.bgp_peer.specs.SessionInputs as happens
+use Rattle.bgp_peer.specs.SessionInputs.{Configured, Enabled, Opened, Failed, Handed, session}
+use Rattle.bgp_peer.specs.Slot.{Slot, configured, enabled, opened, failed}
+use Rattle.bgp_peer.proofs.Agreeing.{agrees-new}
+use Rattle.net_prefix.specs.declared.prefix.Prefix.{Prefix}
+use Rattle.net_prefix.specs.declared.transport.Transport.{Transport}
+use Rattle.rib_in.specs.LatestRoutes.{route_at}
+use Rattle.speaker.specs.Agreement.{SlotIs, SlotAgrees, Holds}
+use Rattle.speaker.specs.FirstRefusal.{refused_at, awaits_up}
+use Rattle.speaker.specs.Linked.{Linked}
+use Rattle.speaker.specs.Moves.{Moves, IsPut, moved}
+use Rattle.speaker.specs.Runs.{Call, Run, turn, Up_call, Fail_call, Command_call, configuration_of, history, terms_in}
+use Rattle.speaker.specs.SpeakerState.{SpeakerState}
+use Rattle.speaker.specs.Tables.{link_at}
+use Rattle.speaker.specs.declared.config.Config.{Config}
+use Rattle.speaker.proofs.Calls.{slots_changed}
+use Rattle.speaker.proofs.Events.{holds_put, slot_is, slot_of}
+use Rattle.speaker.proofs.SlotOctets.{slot_enabled, slot_opened, slot_failed}
+
+-- Connections that stand or fail, and commands, as the run with them has them.
+
+-- an accepted event of a slot: the slot is there, and its transport takes the event
+pub accepted : (found : Option Linked) (takes : Transport → Bool) → refused_at found takes ≡ None → (l : Linked) × (found ≡ Some l) × (takes (transport_of l.peer.session) ≡ true)
+accepted None takes h = absurd (cc)
+accepted (Some l) takes h = (l, refl, accepted_by (takes (transport_of l.peer.session)) h)
+  where
+    accepted_by : (b : Bool) → cond b None (Some Refusal.NotExpected) ≡ None → b ≡ true
+    accepted_by true is = refl
+    accepted_by false is = absurd (cc)
+
+-- a slot that is there is configured
+configured_from : (config : Config) (found : Option ConfiguredPeer) (l : Linked) (routes : Prefix → Option PathAttributes) (h : List happens.Event)
+    → SlotAgrees config found (Some l) routes h → (peer : ConfiguredPeer) × (found ≡ Some peer)
+configured_from config None l routes h a = absurd a
+configured_from config (Some peer) l routes h a = (peer, refl)
+
+pub peer_of : (config : Config) (r : Run) (slot : ℕ) (l : Linked) (s : SpeakerState) → Holds config r s → link_at s.links slot ≡ Some l → (peer : ConfiguredPeer) × (peer_at s.conf slot ≡ Some peer)
+peer_of config r slot l s h linked =
+    let L : Option Linked → Type 0 = λ x. SlotAgrees config (peer_at s.conf slot) x (route_at s.adj_in slot) (history config slot r) in
+    configured_from config (peer_at s.conf slot) l (route_at s.adj_in slot) (history config slot r) (subst L linked (h.slots slot))
+
+left_here : (slot : ℕ) (left : Bool) (r : Option PathAttributes) → cond (left && slot == slot) None r ≡ cond left None r
+left_here slot true r = rw (eq-eqb slot slot refl) refl
+left_here slot false r = refl
+
+left_there : (slot t : ℕ) (left : Bool) (r : Option PathAttributes) → t ≢ slot → cond (left && t == slot) None r ≡ r
+left_there slot t true r other = rw (ne_eqb t slot other) refl
+left_there slot t false r other = refl
+
+-- an input moves a slot
+holds_moves : (config : Config) (call : Call) (r : Run) (slot : ℕ) (peer : ConfiguredPeer) (l : Linked) (p2 : Slot) (input : Input) (e : happens.Event) (old new : SpeakerState)
+    → Holds config r old → peer_at old.conf slot ≡ Some peer → link_at old.links slot ≡ Some l → Moves slot l p2 input old new
+    → configuration_of config (turn call [] ∷ r) ≡ configuration_of config r
+    → history config slot (turn call [] ∷ r) ≡ e ∷ history config slot r → ((t : ℕ) → t ≢ slot → history config t (turn call [] ∷ r) ≡ history config t r)
+    → (((p : Prefix) → route_at new.adj_in slot p ≡ cond (effects_of input l.peer.session).left None (route_at old.adj_in slot p))
+    → SlotIs config peer (moved l p2 input) (route_at new.adj_in slot) (e ∷ history config slot r))
+    → Holds config (turn call [] ∷ r) new
+holds_moves config call r slot peer l p2 input e old new h is linked moves conf at off next =
+    let P : Option ConfiguredPeer → Type 0 = λ x. SlotAgrees config x (Some (moved l p2 input)) (route_at new.adj_in slot) (history config slot (turn call [] ∷ r)) in
+    let H : List happens.Event → Type 0 = λ x. SlotIs config peer (moved l p2 input) (route_at new.adj_in slot) x in
+    holds_put config r (turn call [] ∷ r) slot (moved l p2 input) old new h conf moves.rest moves.links
+    (λ t other p. moves.routes t p ∙ left_there slot t (effects_of input l.peer.session).left (route_at old.adj_in t p) other) off
+    (subst P (sym is) (subst H (sym at) (next (λ p. moves.routes slot p ∙ left_here slot (effects_of input l.peer.session).left (route_at old.adj_in slot p)))))
+
+not_awaited : (s : Session) → awaits_up (transport_of s) ≡ true → s.state ≢ Established
+not_awaited s awaits is = let back = ap (λ state. awaits_up (transport_at state s)) is in cc
+
+pub holds_up : (config : Config) (r : Run) (slot : ℕ) (l : Linked) (old new : SpeakerState) → Holds config r old → link_at old.links slot ≡ Some l → awaits_up (transport_of l.peer.session) ≡ true
+    → Moves slot l (opened l.peer) Up old new → Holds config (turn (Up_call slot) [] ∷ r) new
+holds_up config r slot l old new h linked awaits moves =
+    let peer = peer_of config r slot l old h linked in
+    let here = slot_is config r slot peer.0 l old h peer.1 linked in
+    let other : (session (history config slot r)).state ≢ Established = λ is. not_awaited l.peer.session awaits (ap (λ (x : Session). x.state) here.link.peer.session ∙ is) in
+    holds_moves config (Up_call slot) r slot peer.0 l (opened l.peer) Up Opened old new h peer.1 linked moves refl
+    (rw (eq-eqb slot slot refl) refl) (λ t away. rw (ne_eqb t slot away) refl)
+    (λ routes. slot_opened config peer.0 l (route_at old.adj_in slot) (route_at new.adj_in slot) (history config slot r) other here routes)
+
+pub holds_fail : (config : Config) (r : Run) (slot : ℕ) (l : Linked) (old new : SpeakerState) → Holds config r old → link_at old.links slot ≡ Some l
+    → Moves slot l (failed l.peer) Fail old new → Holds config (turn (Fail_call slot) [] ∷ r) new
+holds_fail config r slot l old new h linked moves =
+    let peer = peer_of config r slot l old h linked in
+    let here = slot_is config r slot peer.0 l old h peer.1 linked in
+    holds_moves config (Fail_call slot) r slot peer.0 l (failed l.peer) Fail Failed old new h peer.1 linked moves refl
+    (rw (eq-eqb slot slot refl) refl) (λ t away. rw (ne_eqb t slot away) refl)
+    (λ routes. slot_failed config peer.0 l (route_at old.adj_in slot) (route_at new.adj_in slot) (history config slot r) here routes)
+
+some_from_not : (a : Bool) (o : Option ConfiguredPeer) (r : Refusal) → cond (a || is_none o) (Some r) None ≡ None → (peer : ConfiguredPeer) × (o ≡ Some peer)
+some_from_not a (Some peer) r h = (peer, refl)
+some_from_not true None r h = absurd (cc)
+some_from_not false None r h = absurd (cc)
+
+pub holds_enable : (config : Config) (r : Run) (slot : ℕ) (old new : SpeakerState) → Holds config r old → first_refusal old.conf 0 (Enable slot) ≡ None
+    → ((l : Linked) → link_at old.links slot ≡ Some l → Moves slot l (enabled l.peer) Start old new) → Holds config (turn (Command_call (Enable slot)) [] ∷ r) new
+holds_enable config r slot old new h may moves =
+    let peer = some_from_not (nat_le 64 slot) (peer_at old.conf slot) Refusal.BadSlot may in
+    let found = slot_of config r slot peer.0 old h peer.1 in
+    let here = slot_is config r slot peer.0 found.0 old h peer.1 found.1 in
+    holds_moves config (Command_call (Enable slot)) r slot peer.0 found.0 (enabled found.0.peer) Start Enabled old new h peer.1 found.1 (moves found.0 found.1) refl
+    (rw (eq-eqb slot slot refl) refl) (λ t away. rw (ne_eqb t slot away) refl)
+    (λ routes. slot_enabled config peer.0 found.0 (route_at old.adj_in slot) (route_at new.adj_in slot) (history config slot r) here routes)
+
+-- an entry of `reach`
+pub holds_reach : (config : Config) (r : Run) (prefix : Prefix) (cost : ℕ) (old new : SpeakerState) → Holds config r old → new.conf ≡ conf_after old.conf (Reach prefix cost)
+    → ((s : ℕ) → peer_at new.conf s ≡ peer_after old.conf (Reach prefix cost) s) → new.config ≡ old.config → new.links ≡ old.links → new.adj_in ≡ old.adj_in → new.stopped ≡ old.stopped
+    → Holds config (turn (Command_call (Reach prefix cost)) [] ∷ r) new
+holds_reach config r prefix cost old new h conf peers config_same links adj_in stopped = record {
+  config_is = config_same ∙ h.config_is;
+  conf = conf ∙ ap (λ c. conf_after c (Reach prefix cost)) h.conf;
+  slots = λ t. let P : Option ConfiguredPeer → Type 0 = λ x. SlotAgrees config x (link_at old.links t) (route_at old.adj_in t) (history config t r) in
+      rw (links, adj_in) (subst P (sym (peers t)) (h.slots t));
+  running = stopped ∙ h.running;
+}
+
+unlinked_from : (config : Config) (found : Option Linked) (routes : Prefix → Option PathAttributes) (h : List happens.Event) → SlotAgrees config None found routes h → (prefix : Prefix) → routes prefix ≡ None
+unlinked_from config None routes h a = a.1
+unlinked_from config (Some l) routes h a = absurd a
+
+-- a new peer
+pub holds_added : (config : Config) (r : Run) (slot : ℕ) (peer : PeerConf) (old new : SpeakerState) → Holds config r old → first_refusal old.conf 0 (AddPeer slot peer) ≡ None
+    → new.conf ≡ conf_after old.conf (AddPeer slot peer) → ((s : ℕ) → peer_at new.conf s ≡ peer_after old.conf (AddPeer slot peer) s)
+    → IsPut slot (record { peer = configured (terms_in config (configured_of peer)).own peer.mode; adj_out = [] }) old new
+    → new.config ≡ old.config → new.adj_in ≡ old.adj_in → new.stopped ≡ old.stopped → Holds config (turn (Command_call (AddPeer slot peer)) [] ∷ r) new
+holds_added config r slot peer old new h may conf peers put config_same adj_in stopped =
+    let free : peer_at old.conf slot ≡ None = peer_at-from_accepted old.conf 0 slot peer may in
+    let P : Option ConfiguredPeer → Type 0 = λ x. SlotAgrees config x (link_at old.links slot) (route_at old.adj_in slot) (history config slot r) in
+    let empty = unlinked_from config (link_at old.links slot) (route_at old.adj_in slot) (history config slot r) (subst P free (h.slots slot)) in
+    record {
+      config_is = config_same ∙ h.config_is;
+      conf = conf ∙ ap (λ c. conf_after c (AddPeer slot peer)) h.conf;
+      slots =
+          slots_changed config old.conf new.conf (link_at old.links) (link_at new.links) old.adj_in new.adj_in (λ t. history config t r) (λ t. history config t (turn (Command_call (AddPeer slot peer)) [] ∷ r)) slot h.slots
+          (λ t other. peers t ∙ rw (ne_eqb t slot other) refl)
+          (λ t other. put t ∙ rw (ne_eqb t slot other) refl)
+          (λ t other p. ap (λ table. route_at table t p) adj_in)
+          (λ t other. rw (ne_eqb t slot other) refl)
+          (rw (peers slot, put slot, adj_in, eq-eqb slot slot refl) (record {
+            terms = refl;
+            link = record {
+              peer = agrees-new (history config slot r) (terms_in config (configured_of peer)).own peer.mode peer.asn;
+              held = λ p. refl;
+              silent = λ is_new p. absurd (cc);
+            };
+            routes_are = empty;
+          }));
+      running = stopped ∙ h.running;
+    }
+
+-- an insertion puts the slot
+pub put_inserted : (slot : ℕ) (link l : Linked) (f g : ℕ → Option Linked) → ((s : ℕ) → g s ≡ cond (is_at (nat_cmp slot) s) (Some link) (f s)) → link ≡ l
+    → (s : ℕ) → g s ≡ cond (s == slot) (Some l) (f s)
+put_inserted slot link l f g updates is s = updates s ∙ rw (is_eq-nat_cmp slot s, is) refl
+
+-- a new slot, with the OPEN of the peer's terms
+abbrev pub added : Config → PeerConf → Linked
+added config peer = record { peer = configured (record { asn = config.asn; hold_time = peer.hold; identifier = config.identifier }) peer.mode; adj_out = [] }
+
+pub added_same : (have config : Config) (peer : PeerConf) → have ≡ config → added have peer ≡ added config peer
+added_same have config peer is = rw is refl
+
+same_slot : (slot s : ℕ) → is_at (nat_cmp slot) s ≡ true → s ≡ slot
+same_slot slot s h = let is = sym (is_eq-nat_cmp slot s) ∙ h in eqb-true s slot is
+
+back_at : (slot s : ℕ) (link : Linked) (before : Option Linked) (f : ℕ → Option Linked) (b : Bool) → is_at (nat_cmp slot) s ≡ b → before ≡ f slot → cond b before (cond b (Some link) (f s)) ≡ f s
+back_at slot s link before f true at is = is ∙ ap f (sym (same_slot slot s at))
+back_at slot s link before f false at is = refl
+
+-- what was written is put back
+pub put_back : (slot : ℕ) (link : Linked) (before : Option Linked) (f g h : ℕ → Option Linked) → ((s : ℕ) → g s ≡ cond (is_at (nat_cmp slot) s) (Some link) (f s))
+    → ((s : ℕ) → h s ≡ cond (is_at (nat_cmp slot) s) before (g s)) → before ≡ f slot → (s : ℕ) → h s ≡ f s
+put_back slot link before f g h updates back was s =
+    back s ∙ ap (λ x. cond (is_at (nat_cmp slot) s) before x) (updates s) ∙ back_at slot s link before f _ refl was

@@ -1,0 +1,258 @@
+use Rattle.std.proofs.Common.{◌≡◌, ◌≢◌, ◌≤◌, ◌<◌, ◌==◌, ◌&&◌, inl, inr, ℕ, Bool, true, false, List, [], ◌∷◌, ◌++◌, Option, Some, None, length, take, min, cond, refl, sym, ap, ◌∙◌, subst, arith, append-nil, append_assoc}
+use Rattle.std.proofs.lemmas.Bool.{cases_eq, eq-eqb, ne_eqb, lt-ltb, le-ltb}
+use Rattle.std.proofs.lemmas.List.{length-take}
+use Rattle.bgp_attr.specs.PathAttributes.{PathAttributes}
+use Rattle.bgp_conf.specs.Configuration.{peer_at}
+use Rattle.bgp_conf.specs.declared.conf.ConfiguredPeer.{ConfiguredPeer}
+use Rattle.bgp_fsm.specs.SessionTable.{effects_of}
+use Rattle.bgp_fsm.specs.Transports.{transport_of}
+use Rattle.bgp_msg.specs.MessageStream.{Item, Wants, meaning, needed_of}
+use Rattle.bgp_peer.specs.SessionInputs as happens
+use Rattle.bgp_peer.specs.SessionInputs.{Enabled, Opened, Failed, Handed, onto, session, input_of, stream}
+use Rattle.bgp_peer.specs.Slot.{Slot, pushed, taken_input}
+use Rattle.bgp_peer.proofs.Agreeing.{onto-append}
+use Rattle.bgp_peer.proofs.Connections.{connected_wants}
+use Rattle.net_prefix.specs.declared.prefix.Prefix.{Prefix}
+use Rattle.net_prefix.specs.declared.transport.Transport.{Transport}
+use Rattle.net_prefix.specs.declared.transport.Transport.TheVariants.{None as NoConnection, Opening, Listening, Open as Connected, Closing}
+use Rattle.rib_in.specs.LatestRoutes.{route_at}
+use Rattle.speaker.specs.AdjRibIn.{update_heard, word_if}
+use Rattle.speaker.specs.Agreement.{SlotIs, SlotAgrees, Holds}
+use Rattle.speaker.specs.Linked.{Linked}
+use Rattle.speaker.specs.Moves.{KeepsRest, IsPut, Pushes, TakesItem, moved, taken_on, taken_of}
+use Rattle.speaker.specs.Runs.{Run, turn, Bytes_call, configuration_of, history, terms_in}
+use Rattle.speaker.specs.SpeakerState.{SpeakerState}
+use Rattle.speaker.specs.Tables.{link_at}
+use Rattle.speaker.specs.declared.config.Config.{Config}
+use Rattle.speaker.proofs.Calls.{slots_changed}
+use Rattle.speaker.proofs.Messages.{rest_kept}
+use Rattle.speaker.proofs.SlotEvents.{with_peer}
+use Rattle.speaker.proofs.SlotOctets.{slot_pushed, slot_taken, slot_shut, HeardSlot}
+
+-- What each event makes of the speaker, as the run with it has it.
+
+-- one slot of the speaker changes
+pub holds_put : (config : Config) (r1 r2 : Run) (slot : ℕ) (l : Linked) (old new : SpeakerState) → Holds config r1 old → configuration_of config r2 ≡ configuration_of config r1
+    → KeepsRest old new → IsPut slot l old new → ((t : ℕ) → t ≢ slot → (p : Prefix) → route_at new.adj_in t p ≡ route_at old.adj_in t p)
+    → ((t : ℕ) → t ≢ slot → history config t r2 ≡ history config t r1)
+    → SlotAgrees config (peer_at old.conf slot) (Some l) (route_at new.adj_in slot) (history config slot r2) → Holds config r2 new
+holds_put config r1 r2 slot l old new h conf keeps put routes histories here = record {
+  config_is = keeps.config ∙ h.config_is;
+  conf = keeps.conf ∙ h.conf ∙ sym conf;
+  slots =
+      slots_changed config old.conf new.conf (link_at old.links) (link_at new.links) old.adj_in new.adj_in (λ t. history config t r1) (λ t. history config t r2) slot h.slots
+      (λ t other. ap (λ c. peer_at c t) keeps.conf)
+      (λ t other. put t ∙ off t other)
+      routes histories
+      (rw (keeps.conf, put slot, eq-eqb slot slot refl) here);
+  running = keeps.stopped ∙ h.running;
+}
+  where
+    off : (t : ℕ) → t ≢ slot → cond (t == slot) (Some l) (link_at old.links t) ≡ link_at old.links t
+    off t other = rw (ne_eqb t slot other) refl
+
+-- a configured slot is there
+pub linked_from : (config : Config) (peer : ConfiguredPeer) (found : Option Linked) (routes : Prefix → Option PathAttributes) (h : List happens.Event) → SlotAgrees config (Some peer) found routes h
+    → (l : Linked) × (found ≡ Some l)
+linked_from config peer None routes h a = absurd a
+linked_from config peer (Some l) routes h a = (l, refl)
+
+pub slot_of : (config : Config) (r : Run) (slot : ℕ) (peer : ConfiguredPeer) (s : SpeakerState) → Holds config r s → peer_at s.conf slot ≡ Some peer
+    → (l : Linked) × (link_at s.links slot ≡ Some l)
+slot_of config r slot peer s h configured =
+    let P : Option ConfiguredPeer → Type 0 = λ x. SlotAgrees config x (link_at s.links slot) (route_at s.adj_in slot) (history config slot r) in
+    linked_from config peer (link_at s.links slot) (route_at s.adj_in slot) (history config slot r) (subst P configured (h.slots slot))
+
+pub slot_is : (config : Config) (r : Run) (slot : ℕ) (peer : ConfiguredPeer) (l : Linked) (s : SpeakerState) → Holds config r s → peer_at s.conf slot ≡ Some peer → link_at s.links slot ≡ Some l
+    → SlotIs config peer l (route_at s.adj_in slot) (history config slot r)
+slot_is config r slot peer l s h configured linked =
+    let P : Option ConfiguredPeer → Type 0 = λ x. SlotAgrees config x (link_at s.links slot) (route_at s.adj_in slot) (history config slot r) in
+    let L : Option Linked → Type 0 = λ x. SlotAgrees config (Some peer) x (route_at s.adj_in slot) (history config slot r) in
+    subst L linked (subst P configured (h.slots slot))
+
+-- octets
+
+bytes_at : (config : Config) (slot : ℕ) (octets : List ℕ) (r : Run) → history config slot (turn (Bytes_call slot octets) [] ∷ r) ≡ onto octets (history config slot r)
+bytes_at config slot octets r = rw (eq-eqb slot slot refl) refl
+
+bytes_off : (config : Config) (slot : ℕ) (octets : List ℕ) (r : Run) (t : ℕ) → t ≢ slot → history config t (turn (Bytes_call slot octets) [] ∷ r) ≡ history config t r
+bytes_off config slot octets r t other = rw (ne_eqb t slot other) refl
+
+-- what is wanted
+wants_needs : (octets : List ℕ) → Wants octets → 0 < needed_of octets
+wants_needs octets (inl short) = rw (lt-ltb (length octets) 19 short) (omega (arith, short))
+wants_needs octets (inr h) = rw (le-ltb (length octets) 19 h.0, h.1) (omega (arith, h.2))
+
+taken_connected : (t : Transport) (rest octets : List ℕ) → taken_on t rest octets ≢ 0 → t ≡ Connected
+taken_connected NoConnection rest octets some = absurd (some refl)
+taken_connected Opening rest octets some = absurd (some refl)
+taken_connected Listening rest octets some = absurd (some refl)
+taken_connected Connected rest octets some = refl
+taken_connected Closing rest octets some = absurd (some refl)
+
+taken_few : (t : Transport) (rest octets : List ℕ) → taken_on t rest octets ≤ needed_of rest
+taken_few NoConnection rest octets = omega arith
+taken_few Opening rest octets = omega arith
+taken_few Listening rest octets = omega arith
+taken_few Connected rest octets = omega arith
+taken_few Closing rest octets = omega arith
+
+few_octets : (p : Slot) (octets : List ℕ) (count : ℕ) → count ≡ taken_of p octets → length (take count octets) ≤ needed_of p.rest
+few_octets p octets count is = omega (arith, length-take count octets, is, taken_few (transport_of p.session) p.rest octets)
+
+same_routes : (config : Config) (peer : ConfiguredPeer) (l : Linked) (r r2 : Prefix → Option PathAttributes) (h : List happens.Event) → SlotIs config peer l r h → ((p : Prefix) → r2 p ≡ r p) → SlotIs config peer l r2 h
+same_routes config peer l r r2 h s same = record { terms = s.terms; link = s.link; routes_are = λ p. same p ∙ s.routes_are p }
+
+cond_again : (b : Bool) (x y z : Option Linked) → cond b x (cond b y z) ≡ cond b x z
+cond_again true x y z = refl
+cond_again false x y z = refl
+
+left_off : (left : Bool) (r : Option PathAttributes) → cond (left && false) None r ≡ r
+left_off true r = refl
+left_off false r = refl
+
+left_on : (left : Bool) (r : Option PathAttributes) → cond (left && true) None r ≡ cond left None r
+left_on true r = refl
+left_on false r = refl
+
+-- the octets and the item that they complete are taken
+takes_found : (config : Config) (r1 r2 : Run) (slot : ℕ) (peer : ConfiguredPeer) (l : Linked) (found : Option Item) (old mid new : SpeakerState) → meaning l.peer.rest ≡ found
+    → Holds config r1 old → configuration_of config r2 ≡ configuration_of config r1 → ((t : ℕ) → t ≢ slot → history config t r2 ≡ history config t r1) → peer_at old.conf slot ≡ Some peer
+    → KeepsRest old mid → IsPut slot l old mid → mid.adj_in ≡ old.adj_in
+    → HeardSlot config peer l (route_at old.adj_in slot) (history config slot r2)
+    → TakesItem slot (terms_in config peer) l found mid new → Holds config r2 new
+takes_found config r1 r2 slot peer l None old mid new is h conf histories configured keeps put routes heard takes =
+    let P : Option ConfiguredPeer → Type 0 = λ x. SlotAgrees config x (Some l) (route_at new.adj_in slot) (history config slot r2) in
+    let same : (t : ℕ) (p : Prefix) → route_at new.adj_in t p ≡ route_at old.adj_in t p = λ t p. takes.1 t p ∙ ap (λ table. route_at table t p) routes in
+    holds_put config r1 r2 slot l old new h conf (rest_kept old mid new keeps takes.2) (λ s. takes.0 s ∙ put s) (λ t other p. same t p) histories
+    (subst P (sym configured) (same_routes config peer l (route_at old.adj_in slot) (route_at new.adj_in slot) (history config slot r2) (heard.0 is) (same slot)))
+takes_found config r1 r2 slot peer l (Some item) old mid new is h conf histories configured keeps put routes heard takes =
+    let input = input_of l.peer.session.state (terms_in config peer) item in
+    let l2 = moved l (taken_input l.peer (input_of l.peer.session.state (terms_in config peer) item)) (input_of l.peer.session.state (terms_in config peer) item) in
+    let P : Option ConfiguredPeer → Type 0 = λ x. SlotAgrees config x (Some (moved l (taken_input l.peer (input_of l.peer.session.state (terms_in config peer) item)) (input_of l.peer.session.state (terms_in config peer) item))) (route_at new.adj_in slot) (history config slot r2) in
+    holds_put config r1 r2 slot (moved l (taken_input l.peer (input_of l.peer.session.state (terms_in config peer) item)) (input_of l.peer.session.state (terms_in config peer) item)) old new h conf (rest_kept old mid new keeps takes.2)
+    (λ s. takes.0 s ∙ ap (λ other. cond (s == slot) (Some (moved l (taken_input l.peer (input_of l.peer.session.state (terms_in config peer) item)) (input_of l.peer.session.state (terms_in config peer) item))) other) (put s)
+    ∙ cond_again (s == slot) (Some (moved l (taken_input l.peer (input_of l.peer.session.state (terms_in config peer) item)) (input_of l.peer.session.state (terms_in config peer) item))) (Some l) (link_at old.links s))
+    (λ t other p. takes.1 t p ∙ rw (ne_eqb t slot other) (left_off (effects_of (input_of l.peer.session.state (terms_in config peer) item) l.peer.session).left (route_at mid.adj_in t p)) ∙ ap (λ table. route_at table t p) routes)
+    histories
+    (subst P (sym configured)
+    (slot_taken config peer l (route_at old.adj_in slot) (route_at new.adj_in slot) (history config slot r2) item (heard.1 item is)
+    (λ p. takes.1 slot p
+    ∙ rw (eq-eqb slot slot refl) (left_on (effects_of (input_of l.peer.session.state (terms_in config peer) item) l.peer.session).left (word_if (update_heard l.peer.session.state (terms_in config peer) item) p (route_at mid.adj_in slot p)))
+    ∙ ap (λ table. cond (effects_of (input_of l.peer.session.state (terms_in config peer) item) l.peer.session).left None (word_if (update_heard l.peer.session.state (terms_in config peer) item) p (route_at table slot p))) routes)))
+
+-- octets come to an open connection, and what they complete is taken
+pub holds_heard : (config : Config) (r : Run) (done : List ℕ) (slot : ℕ) (peer : ConfiguredPeer) (l : Linked) (octets : List ℕ) (old mid new : SpeakerState)
+    → Holds config (turn (Bytes_call slot done) [] ∷ r) old → peer_at old.conf slot ≡ Some peer → link_at old.links slot ≡ Some l → transport_of l.peer.session ≡ Connected
+    → length octets ≤ needed_of l.peer.rest → Pushes slot l octets old mid → TakesItem slot (terms_in config peer) (with_peer l (pushed l.peer octets)) (meaning (l.peer.rest ++ octets)) mid new
+    → Holds config (turn (Bytes_call slot (done ++ octets)) [] ∷ r) new
+holds_heard config r done slot peer l octets old mid new h configured linked connected few pushes takes =
+    let here = slot_is config (turn (Bytes_call slot done) [] ∷ r) slot peer l old h configured linked in
+    let on : onto octets (history config slot (turn (Bytes_call slot done) [] ∷ r)) ≡ history config slot (turn (Bytes_call slot (done ++ octets)) [] ∷ r) =
+    ap (λ x. onto octets x) (bytes_at config slot done r) ∙ sym (onto-append done octets (history config slot r)) ∙ sym (bytes_at config slot (done ++ octets) r) in
+    let H : List happens.Event → Type 0 = λ x. HeardSlot config peer (with_peer l (pushed l.peer octets)) (route_at old.adj_in slot) x in
+    let heard = subst H on (slot_pushed config peer l (route_at old.adj_in slot) (history config slot (turn (Bytes_call slot done) [] ∷ r)) octets connected few here) in
+    takes_found config (turn (Bytes_call slot done) [] ∷ r) (turn (Bytes_call slot (done ++ octets)) [] ∷ r) slot peer (with_peer l (pushed l.peer octets)) _ old mid new refl h refl
+    (λ t other. bytes_off config slot (done ++ octets) r t other ∙ sym (bytes_off config slot done r t other)) configured pushes.rest pushes.links pushes.routes heard takes
+
+-- octets come to a connection that is closed or closing
+pub holds_shut : (config : Config) (r : Run) (done : List ℕ) (slot : ℕ) (peer : ConfiguredPeer) (l : Linked) (octets : List ℕ) (old new : SpeakerState)
+    → Holds config (turn (Bytes_call slot done) [] ∷ r) old → peer_at old.conf slot ≡ Some peer → link_at old.links slot ≡ Some l → transport_of l.peer.session ≢ Connected
+    → Pushes slot l [] old new → Holds config (turn (Bytes_call slot (done ++ octets)) [] ∷ r) new
+holds_shut config r done slot peer l octets old new h configured linked shut pushes =
+    let here = slot_is config (turn (Bytes_call slot done) [] ∷ r) slot peer l old h configured linked in
+    let on : onto octets (history config slot (turn (Bytes_call slot done) [] ∷ r)) ≡ history config slot (turn (Bytes_call slot (done ++ octets)) [] ∷ r) =
+    ap (λ x. onto octets x) (bytes_at config slot done r) ∙ sym (onto-append done octets (history config slot r)) ∙ sym (bytes_at config slot (done ++ octets) r) in
+    let H : List happens.Event → Type 0 = λ x. SlotIs config peer l (route_at old.adj_in slot) x in
+    let after = subst H on (slot_shut config peer l (route_at old.adj_in slot) (history config slot (turn (Bytes_call slot done) [] ∷ r)) octets shut here) in
+    let R : List ℕ → Type 0 = λ x. SlotIs config peer (with_peer l (record { session = l.peer.session; rest = x; ring = l.peer.ring })) (route_at old.adj_in slot) (history config slot (turn (Bytes_call slot (done ++ octets)) [] ∷ r)) in
+    let same = subst R (sym (append-nil l.peer.rest)) after in
+    let P : Option ConfiguredPeer → Type 0 = λ x. SlotAgrees config x (Some (with_peer l (pushed l.peer []))) (route_at new.adj_in slot) (history config slot (turn (Bytes_call slot (done ++ octets)) [] ∷ r)) in
+    holds_put config (turn (Bytes_call slot done) [] ∷ r) (turn (Bytes_call slot (done ++ octets)) [] ∷ r) slot (with_peer l (pushed l.peer [])) old new h refl pushes.rest pushes.links
+    (λ t other p. ap (λ table. route_at table t p) pushes.routes)
+    (λ t other. bytes_off config slot (done ++ octets) r t other ∙ sym (bytes_off config slot done r t other))
+    (subst P (sym configured) (same_routes config peer (with_peer l (pushed l.peer [])) (route_at old.adj_in slot) (route_at new.adj_in slot) (history config slot (turn (Bytes_call slot (done ++ octets)) [] ∷ r)) same (λ p. ap (λ table. route_at table slot p) pushes.routes)))
+
+-- a connection that takes nothing isn't open
+pub taken_shut : (config : Config) (r : Run) (slot : ℕ) (peer : ConfiguredPeer) (l : Linked) (octets : List ℕ) (s : SpeakerState)
+    → Holds config r s → peer_at s.conf slot ≡ Some peer → link_at s.links slot ≡ Some l → taken_of l.peer octets ≡ 0 → 0 < length octets → transport_of l.peer.session ≢ Connected
+taken_shut config r slot peer l octets s h configured linked none some connected =
+    let here = slot_is config r slot peer l s h configured linked in
+    let stands : transport_of (session (history config slot r)) ≡ Connected = ap transport_of (sym here.link.peer.session) ∙ connected in
+    let wants : Wants l.peer.rest = subst Wants (sym (here.link.peer.rest stands)) (connected_wants (history config slot r) stands) in
+    let count : min (needed_of l.peer.rest) (length octets) ≡ 0 = ap (λ t. taken_on t l.peer.rest octets) (sym connected) ∙ none in
+    absurd (omega (arith, wants_needs l.peer.rest wants, some, count))
+
+pub taken_open : (l : Linked) (octets : List ℕ) (count : ℕ) → count ≡ taken_of l.peer octets → count ≢ 0 → transport_of l.peer.session ≡ Connected
+taken_open l octets count is some = taken_connected (transport_of l.peer.session) l.peer.rest octets (λ none. some (is ∙ none))
+
+pub taken_wanted : (l : Linked) (octets : List ℕ) (count : ℕ) → count ≡ taken_of l.peer octets → length (take count octets) ≤ needed_of l.peer.rest
+taken_wanted l octets count is = few_octets l.peer octets count is
+
+pub put_here : (slot : ℕ) (l : Linked) (old new : SpeakerState) → IsPut slot l old new → link_at new.links slot ≡ Some l
+put_here slot l old new put = rw (put slot, eq-eqb slot slot refl) refl
+
+-- no octets are nothing that happens
+bytes_none : (config : Config) (slot : ℕ) (r : Run) (t : ℕ) (b : Bool) → (t == slot) ≡ b → cond b (history config t r) (history config t r) ≡ history config t r
+bytes_none config slot r t true is = refl
+bytes_none config slot r t false is = refl
+
+pub holds_same : (config : Config) (r1 r2 : Run) (s : SpeakerState) → configuration_of config r2 ≡ configuration_of config r1 → ((t : ℕ) → history config t r2 ≡ history config t r1) → Holds config r1 s → Holds config r2 s
+holds_same config r1 r2 s conf same h = record {
+  config_is = h.config_is;
+  conf = h.conf ∙ sym conf;
+  slots = λ t. let P : List happens.Event → Type 0 = λ x. SlotAgrees config (peer_at s.conf t) (link_at s.links t) (route_at s.adj_in t) x in subst P (sym (same t)) (h.slots t);
+  running = h.running;
+}
+
+-- octets that have come so far, with those that are still to come
+pub record HasCome (slot : ℕ) (octets rest : List ℕ) (first now : SpeakerState) : Type 0 where
+  pub done : List ℕ
+  pub whole : done ++ rest ≡ octets
+  pub holds : (config : Config) (r : Run) (peer : ConfiguredPeer) → Holds config r first → peer_at first.conf slot ≡ Some peer → Holds config (turn (Bytes_call slot done) [] ∷ r) now
+
+pub HasCome-start : (slot : ℕ) (octets : List ℕ) (first : SpeakerState) → HasCome slot octets octets first first
+HasCome-start slot octets first = record {
+  done = [];
+  whole = refl;
+  holds = λ config r peer h configured. holds_same config r (turn (Bytes_call slot []) [] ∷ r) first refl (λ t. bytes_none config slot r t _ refl) h;
+}
+
+pub still_configured : (config : Config) (r : Run) (slot : ℕ) (done : List ℕ) (peer : ConfiguredPeer) (first now : SpeakerState) → Holds config r first → Holds config (turn (Bytes_call slot done) [] ∷ r) now
+    → peer_at first.conf slot ≡ Some peer → peer_at now.conf slot ≡ Some peer
+still_configured config r slot done peer first now h k configured = ap (λ c. peer_at c slot) (k.conf ∙ sym h.conf) ∙ configured
+
+pub HasCome-more : (slot : ℕ) (octets rest taken next : List ℕ) (first now new : SpeakerState) → HasCome slot octets rest first now → taken ++ next ≡ rest
+    → ((config : Config) (r : Run) (done : List ℕ) (peer : ConfiguredPeer) → Holds config (turn (Bytes_call slot done) [] ∷ r) now → peer_at now.conf slot ≡ Some peer
+    → Holds config (turn (Bytes_call slot (done ++ taken)) [] ∷ r) new)
+    → HasCome slot octets next first new
+HasCome-more slot octets rest taken next first now new h split more = record {
+  done = h.done ++ taken;
+  whole = append_assoc h.done taken next ∙ ap (λ x. h.done ++ x) split ∙ h.whole;
+  holds = λ config r peer holds configured.
+      let before = h.holds config r peer holds configured in more config r h.done peer before (still_configured config r slot h.done peer first now holds before configured);
+}
+
+-- all octets have come
+pub HasCome-end : (slot : ℕ) (octets rest : List ℕ) (first now : SpeakerState) → HasCome slot octets rest first now → rest ≡ []
+    → (config : Config) (r : Run) (peer : ConfiguredPeer) → Holds config r first → peer_at first.conf slot ≡ Some peer → Holds config (turn (Bytes_call slot octets) [] ∷ r) now
+HasCome-end slot octets rest first now h none config r peer holds configured =
+    let all : h.done ≡ octets = sym (append-nil h.done) ∙ ap (λ x. h.done ++ x) (sym none) ∙ h.whole in
+    let P : List ℕ → Type 0 = λ x. Holds config (turn (Bytes_call slot x) [] ∷ r) now in
+    subst P all (h.holds config r peer holds configured)
+
+-- the rest is dropped
+pub HasCome-shut : (slot : ℕ) (octets rest : List ℕ) (first now new : SpeakerState) → HasCome slot octets rest first now
+    → ((config : Config) (r : Run) (done : List ℕ) (peer : ConfiguredPeer) → Holds config (turn (Bytes_call slot done) [] ∷ r) now → peer_at now.conf slot ≡ Some peer
+    → Holds config (turn (Bytes_call slot (done ++ rest)) [] ∷ r) new)
+    → (config : Config) (r : Run) (peer : ConfiguredPeer) → Holds config r first → peer_at first.conf slot ≡ Some peer → Holds config (turn (Bytes_call slot octets) [] ∷ r) new
+HasCome-shut slot octets rest first now new h shut config r peer holds configured =
+    let before = h.holds config r peer holds configured in
+    let P : List ℕ → Type 0 = λ x. Holds config (turn (Bytes_call slot x) [] ∷ r) new in
+    subst P h.whole (shut config r h.done peer before (still_configured config r slot h.done peer first now holds before configured))
+
+pub some_left : (n : ℕ) → false ≡ (n == 0) → 0 < n
+some_left n is = elim (cases_eq n 0) [
+  | inl none ↦ absurd (let back = eq-eqb n 0 none in cc)
+  | inr some ↦ omega (arith, some)
+]

@@ -1,0 +1,42 @@
+use Rattle.std.proofs.Common.{◌≡◌, ◌<◌, ◌≤◌, ◌+◌, ℕ, true, Option, Some, None, arith}
+use Rattle.std.specs.declared.cmp.Ordering.TheVariants.{Less}
+use Rattle.std.specs.Ordering.{is_gt}
+use Rattle.std.proofs.lemmas.Bool.Decides.{nat_tests}
+use Rattle.net_prefix.specs.declared.prefix.Prefix.{Prefix}
+use Rattle.net_prefix.proofs.Prefixes.{same_prefix}
+use Rattle.rib_out.specs.Held.{is_prefix}
+use Rattle.net_prefix.specs.PrefixOrder.{prefix_cmp, IsAbove}
+use Rattle.speaker.specs.Queueing.{rank_of}
+
+-- The order of prefixes by their places.
+
+-- a prefix below another has a lower place
+pub rank_from_less : (p q : Prefix) → prefix_cmp p q ≡ Less → rank_of p < rank_of q
+rank_from_less p q h = let a = p.short in let b = q.short in grind (arith, nat_tests)
+
+-- a prefix of a higher place stands above
+pub less_from_rank : (p q : Prefix) → rank_of p < rank_of q → prefix_cmp p q ≡ Less
+less_from_rank p q h = let a = p.short in let b = q.short in grind (arith, nat_tests)
+
+pub greater_from_rank : (p q : Prefix) → rank_of q < rank_of p → is_gt (prefix_cmp p q) ≡ true
+greater_from_rank p q h = let a = p.short in let b = q.short in grind (arith, nat_tests)
+
+-- a place has one prefix
+pub same_from_rank : (p q : Prefix) → rank_of p ≡ rank_of q → p ≡ q
+same_from_rank p q h = let a = p.short in let b = q.short in same_prefix p q (omega (arith, h, a, b)) (omega (arith, h, a, b))
+
+pub is_prefix-self : (p : Prefix) → is_prefix p p ≡ true
+is_prefix-self p = grind (arith, nat_tests)
+
+-- behind a walk up to a prefix
+abbrev pub reached : Option Prefix → ℕ
+reached None = 0
+reached (Some p) = rank_of p + 1
+
+pub above_from_rank : (after : Option Prefix) (q : Prefix) → reached after ≤ rank_of q → IsAbove after q
+above_from_rank None q h = tt
+above_from_rank (Some p) q h = less_from_rank p q (omega (arith, h))
+
+pub rank_from_above : (after : Option Prefix) (q : Prefix) → IsAbove after q → reached after ≤ rank_of q
+rank_from_above None q h = omega arith
+rank_from_above (Some p) q h = omega (arith, rank_from_less p q h)

@@ -1,0 +1,122 @@
+use Rattle.std.proofs.Common.{◌≡◌, ◌≤◌, ◌<◌, ◌+◌, ◌^◌, ◌||◌, ℕ, Bool, true, false, List, [], ◌∷◌, ◌++◌, Option, Some, None, length, cond, refl, sym, ap, ◌∙◌, subst, arith, append-nil, length-append}
+use Rattle.std.proofs.lemmas.List.Elements.{All-cons}
+use Rattle.std.proofs.lemmas.Bool.{le-leb}
+use Rattle.std.proofs.lemmas.List.{length-take}
+use Rattle.bgp_attr.specs.PathAttributes.{PathAttributes}
+use Rattle.bgp_conf.specs.declared.conf.ConfiguredPeer.{ConfiguredPeer}
+use Rattle.bgp_fsm.specs.declared.session.Session.{Session}
+use Rattle.bgp_fsm.specs.declared.state.State.TheVariants.{Established}
+use Rattle.bgp_msg.specs.MessageSpelling.{front_prefixes, wire_form, update_of, update_body, is_lawful_length}
+use Rattle.bgp_msg.specs.MessageStream.{IsMessage, WholeMessage, messages}
+use Rattle.bgp_msg.specs.declared.frame.MessageType.TheVariants.{Update}
+use Rattle.bgp_msg.proofs.PrefixLists.{prefixes_in-parts, wire_form-read}
+use Rattle.bgp_msg.proofs.Spellings.{spelling_is_message}
+use Rattle.bgp_msg.proofs.StreamPieces.{messages-nil}
+use Rattle.bgp_msg.proofs.WrittenMessages.{update_first, update_has_parts, update_is, update_length}
+use Rattle.bgp_peer.specs.Agreement.{IsUpdateMessage}
+use Rattle.bgp_peer.specs.SentMessages.{sent}
+use Rattle.bgp_peer.specs.SessionInputs.{Event, Queued, session}
+use Rattle.bgp_peer.proofs.Agreeing.{agrees-queue}
+use Rattle.net_prefix.specs.PrefixSpelling.{spelling_of, address_octets, octets_for}
+use Rattle.net_prefix.specs.declared.prefix.Prefix.{Prefix}
+use Rattle.rib_out.specs.Held.{is_prefix}
+use Rattle.speaker.specs.AdjRibIn.{is_among}
+use Rattle.speaker.specs.Agreement.{SlotIs}
+use Rattle.speaker.specs.Held.{told_by, told_from, told_in, held_in, is_opening}
+use Rattle.speaker.specs.Linked.{Linked}
+use Rattle.speaker.specs.Queueing.{update_saying, IsOwed, rank_of}
+use Rattle.speaker.specs.declared.config.Config.{Config}
+use Rattle.speaker.proofs.SentPrefixes.{told_in-append}
+
+-- What an UPDATE that is queued tells of prefixes, read back.
+
+no_prefixes : (front_prefixes []).0 ≡ []
+no_prefixes = (prefixes_in-parts [] [] (wire_form-read [] (λ k d h. absurd (omega arith)))).0
+
+pub one_prefix : (p : Prefix) → p.bits < 2 ^ 32 → (front_prefixes (wire_form (p ∷ []))).0 ≡ p ∷ []
+one_prefix p small =
+    (prefixes_in-parts (wire_form (p ∷ [])) (p ∷ [])
+    (wire_form-read (p ∷ []) (All-cons (λ prefix. prefix.bits < 2 ^ 32) p [] small (λ k d h. absurd (omega arith))))).0
+
+small_bits : (p : Prefix) → rank_of p < 2 ^ 38 → p.bits < 2 ^ 32
+small_bits p place = omega (arith, place)
+
+wire_short : (p : Prefix) → length (wire_form (p ∷ [])) ≤ 5
+wire_short p =
+    let cut = length-take (octets_for p.len) (address_octets p.bits) in
+    omega (arith, length-append (spelling_of p.bits p.len) [], cut)
+
+-- an UPDATE of these parts, as long as it may be
+pub record Fits (w a n : List ℕ) : Type 0 where
+  pub all : 23 + length w + length a + length n ≤ 4096
+
+-- it is one whole UPDATE
+pub update_message : (w a n : List ℕ) → Fits w a n → IsUpdateMessage (update_of w a n)
+update_message w a n fits =
+    let count = update_length w a n in
+    let may : is_lawful_length Update (19 + length (update_body w a n)) ≡ true = le-leb 23 _ (omega (arith, count)) in
+    let F : List ℕ → Type 0 = λ octets. IsMessage octets Update (update_body w a n) in
+    (update_body w a n, subst F (update_is w a n) (spelling_is_message Update (update_body w a n) may (omega (arith, count, fits.all))))
+
+-- and tells just what its parts say
+pub update_tells : (w a n : List ℕ) (before : Option (List ℕ)) (q : Prefix) → Fits w a n
+    → told_from before (messages (update_of w a n)) q ≡ told_by (Some (w, a, n)) q before
+update_tells w a n before q fits =
+    ap (λ octets. told_from before (messages octets) q) (sym (append-nil (update_of w a n)))
+    ∙ ap (λ items. told_from before items q) (update_first w a n fits.all []).0
+    ∙ ap (λ items. told_from before (WholeMessage Update (update_body w a n) ∷ items) q) messages-nil
+    ∙ ap (λ parts. told_by parts q before) (update_has_parts w a n fits.all)
+
+or_false : (b : Bool) → (b || false) ≡ b
+or_false true = refl
+or_false false = refl
+
+among_one : (p q : Prefix) → is_among q (p ∷ []) ≡ is_prefix p q
+among_one p q = or_false (is_prefix p q)
+
+withdrawal_fits : (p : Prefix) → Fits (wire_form (p ∷ [])) [] []
+withdrawal_fits p = record { all = omega (arith, wire_short p) }
+
+announcement_fits : (p : Prefix) (a : List ℕ) → length a ≤ 4068 → Fits [] a (wire_form (p ∷ []))
+announcement_fits p a small = record { all = omega (arith, wire_short p, small) }
+
+withdrawal_tells : (p : Prefix) (before : Option (List ℕ)) (q : Prefix) → p.bits < 2 ^ 32
+    → told_by (Some (wire_form (p ∷ []), [], [])) q before ≡ cond (is_prefix p q) None before
+withdrawal_tells p before q small = rw (no_prefixes, one_prefix p small, among_one p q) refl
+
+announcement_tells : (p : Prefix) (a : List ℕ) (before : Option (List ℕ)) (q : Prefix) → p.bits < 2 ^ 32
+    → told_by (Some ([], a, wire_form (p ∷ []))) q before ≡ cond (is_prefix p q) (Some a) before
+announcement_tells p a before q small = rw (one_prefix p small, no_prefixes, among_one p q) refl
+
+-- the UPDATE that says this of a prefix is one, and says this of it and nothing of any other
+pub saying_is_update : (p : Prefix) (export : Option (List ℕ)) → ((a : List ℕ) → export ≡ Some a → length a ≤ 4068) → IsUpdateMessage (update_saying p export)
+saying_is_update p None short = update_message (wire_form (p ∷ [])) [] [] (withdrawal_fits p)
+saying_is_update p (Some a) short = update_message [] a (wire_form (p ∷ [])) (announcement_fits p a (short a refl))
+
+pub saying_tells : (p : Prefix) (export before : Option (List ℕ)) (q : Prefix) → rank_of p < 2 ^ 38 → ((a : List ℕ) → export ≡ Some a → length a ≤ 4068)
+    → told_from before (messages (update_saying p export)) q ≡ cond (is_prefix p q) export before
+saying_tells p None before q place short = update_tells (wire_form (p ∷ [])) [] [] before q (withdrawal_fits p) ∙ withdrawal_tells p before q (small_bits p place)
+saying_tells p (Some a) before q place short =
+    update_tells [] a (wire_form (p ∷ [])) before q (announcement_fits p a (short a refl)) ∙ announcement_tells p a before q (small_bits p place)
+
+-- the slot after an UPDATE that was owed
+pub slot_queued : (config : Config) (peer : ConfiguredPeer) (exports : Prefix → Option (List ℕ)) (update : List ℕ) (l new : Linked) (routes : Prefix → Option PathAttributes) (h : List Event)
+    → ((p : Prefix) (a : List ℕ) → exports p ≡ Some a → length a ≤ 4068) → IsOwed exports update l new → SlotIs config peer l routes h → SlotIs config peer new routes (Queued update ∷ h)
+slot_queued config peer exports update l new routes h short owed s =
+    let u = update_saying owed.prefix (exports owed.prefix) in
+    let established : (session h).state ≡ Established = ap (λ (x : Session). x.state) (sym s.link.peer.session) ∙ owed.established in
+    let whole : IsUpdateMessage (update_saying owed.prefix (exports owed.prefix)) = saying_is_update owed.prefix (exports owed.prefix) (short owed.prefix) in
+    rw owed.update_is (record {
+      terms = s.terms;
+      link = record {
+        peer = rw owed.told.peer (agrees-queue h l.peer (update_saying owed.prefix (exports owed.prefix)) owed.established whole owed.room s.link.peer);
+        held = λ q.
+            owed.told.held q
+            ∙ ap (λ before. cond (is_prefix owed.prefix q) (exports owed.prefix) before) (s.link.held q ∙ ap (λ state. held_in state (sent h) q) established)
+            ∙ sym (saying_tells owed.prefix (exports owed.prefix) (told_in (sent h) q) q owed.told.place (short owed.prefix))
+            ∙ sym (told_in-append (sent h) (update_saying owed.prefix (exports owed.prefix)) q s.link.peer.whole)
+            ∙ ap (λ state. held_in state (sent h ++ update_saying owed.prefix (exports owed.prefix)) q) (sym established);
+        silent = λ is_new p. let back = ap is_opening established in absurd (cc);
+      };
+      routes_are = s.routes_are;
+    })

@@ -1,0 +1,84 @@
+use Rattle.std.proofs.Common.{◌≡◌, ◌==◌, ◌&&◌, ◌||◌, ℕ, Bool, true, false, List, [], ◌∷◌, ◌++◌, Option, cond, refl, sym, ◌∙◌, append_assoc}
+use Rattle.std.specs.Ordering.{nat_cmp, ordering_then, is_eq}
+use Rattle.std.specs.declared.cmp.Ordering.{Ordering}
+use Rattle.std.specs.declared.cmp.Ordering.TheVariants.{Less, Equal, Greater}
+use Rattle.std.proofs.lemmas.List.{append-nil}
+use Rattle.bgp_attr.specs.PathAttributes.{PathAttributes}
+use Rattle.bgp_conf.proofs.PrefixOrder.{is_eq-nat_cmp}
+use Rattle.net_prefix.specs.PrefixOrder.{prefix_cmp}
+use Rattle.net_prefix.specs.declared.prefix.Prefix.{Prefix}
+use Rattle.rib_in.specs.LatestRoutes.{route_at, is_route}
+use Rattle.rib_in.specs.declared.adj_in.RouteKey.{RouteKey}
+use Rattle.speaker.specs.AdjRibIn.{is_among}
+
+-- What the prefixes of an UPDATE make of the routes of its slot.
+
+-- a table of routes
+abbrev pub Routes : Type 0
+Routes = List (RouteKey × PathAttributes)
+
+-- the slot's routes to these prefixes become this, and no other route changes
+abbrev pub IsSet : ℕ → List Prefix → Option PathAttributes → Routes → Routes → Type 0
+IsSet slot prefixes what old new =
+    (s : ℕ) (p : Prefix) → route_at new s p ≡ cond (s == slot && is_among p prefixes) what (route_at old s p)
+
+both_equal : (o p : Ordering) → is_eq (ordering_then o p) ≡ (is_eq p && is_eq o)
+both_equal Less Less = refl
+both_equal Less Equal = refl
+both_equal Less Greater = refl
+both_equal Equal Less = refl
+both_equal Equal Equal = refl
+both_equal Equal Greater = refl
+both_equal Greater Less = refl
+both_equal Greater Equal = refl
+both_equal Greater Greater = refl
+
+is_route-parts : (slot : ℕ) (e : Prefix) (s : ℕ) (p : Prefix) → is_route slot e s p ≡ (s == slot && is_eq (prefix_cmp e p))
+is_route-parts slot e s p = rw (both_equal (prefix_cmp e p) (nat_cmp slot s), is_eq-nat_cmp slot s) refl
+
+or_false : (b : Bool) → b ≡ (b || false)
+or_false true = refl
+or_false false = refl
+
+or_assoc : (a b c : Bool) → (a || (b || c)) ≡ ((a || b) || c)
+or_assoc true b c = refl
+or_assoc false b c = refl
+
+among_push : (p : Prefix) (seen : List Prefix) (e : Prefix) → is_among p (seen ++ e ∷ []) ≡ (is_among p seen || is_eq (prefix_cmp e p))
+among_push p [] e = sym (or_false (is_eq (prefix_cmp e p)))
+among_push p (d ∷ seen) e = rw (among_push p seen e) (or_assoc (is_eq (prefix_cmp d p)) (is_among p seen) (is_eq (prefix_cmp e p)))
+
+one_more : {X : Type 0} (at seen now : Bool) (what old : X) → cond (at && now) what (cond (at && seen) what old) ≡ cond (at && (seen || now)) what old
+one_more true true true what old = refl
+one_more true true false what old = refl
+one_more true false now what old = refl
+one_more false seen now what old = refl
+
+none_set : {X : Type 0} (b : Bool) (what r : X) → r ≡ cond (b && false) what r
+none_set true what r = refl
+none_set false what r = refl
+
+IsSet-none : (slot : ℕ) (what : Option PathAttributes) (old : Routes) → IsSet slot [] what old old
+IsSet-none slot what old s p = none_set (s == slot) what (route_at old s p)
+
+-- these prefixes so far, with those that are still to come
+pub record Sets (slot : ℕ) (prefixes seen rest : List Prefix) (what : Option PathAttributes) (old now : Routes) : Type 0 where
+  pub whole : seen ++ rest ≡ prefixes
+  pub routes : IsSet slot seen what old now
+
+pub Sets-start : (slot : ℕ) (prefixes rest : List Prefix) (what : Option PathAttributes) (old : Routes) → rest ≡ prefixes → Sets slot prefixes [] rest what old old
+Sets-start slot prefixes rest what old all = record { whole = all; routes = IsSet-none slot what old }
+
+pub Sets-more : (slot : ℕ) (prefixes seen rest next : List Prefix) (e : Prefix) (what : Option PathAttributes) (old now new : Routes)
+    → Sets slot prefixes seen rest what old now → rest ≡ e ∷ next
+    → ((s : ℕ) (p : Prefix) → route_at new s p ≡ cond (is_route slot e s p) what (route_at now s p)) → Sets slot prefixes (seen ++ e ∷ []) next what old new
+Sets-more slot prefixes seen rest next e what old now new h is set = record {
+  whole = let here = rw is at h.whole in append_assoc seen (e ∷ []) next ∙ here;
+  routes = λ s p.
+      rw (set s p, is_route-parts slot e s p, h.routes s p, among_push p seen e)
+      (one_more (s == slot) (is_among p seen) (is_eq (prefix_cmp e p)) what (route_at old s p));
+}
+
+pub Sets-end : (slot : ℕ) (prefixes seen rest : List Prefix) (what : Option PathAttributes) (old now : Routes) → Sets slot prefixes seen rest what old now → rest ≡ []
+    → IsSet slot prefixes what old now
+Sets-end slot prefixes seen rest what old now h none = let here = rw none at h.whole in let all : seen ≡ prefixes = sym (append-nil seen) ∙ here in rw (← all) h.routes

@@ -1,0 +1,80 @@
+use Rattle.std.proofs.Common.{◌≡◌, ◌<◌, ◌==◌, inl, inr, ℕ, List, [], ◌∷◌, ◌++◌, Option, Some, None, length, take, drop, min, cond, refl, sym, ap, ◌∙◌, subst, arith}
+use Rattle.std.specs.Option.{option_map}
+use Rattle.std.proofs.lemmas.Bool.{cases_eq, eq-eqb, ne_eqb}
+use Rattle.std.proofs.lemmas.List.{length-take}
+use Rattle.std.proofs.Math.Seq.{take-append_seam}
+use Rattle.bgp_conf.specs.Configuration.{peer_at}
+use Rattle.bgp_conf.specs.declared.conf.ConfiguredPeer.{ConfiguredPeer}
+use Rattle.bgp_peer.specs.SessionInputs as happens
+use Rattle.bgp_peer.specs.SessionInputs.{Handed}
+use Rattle.bgp_peer.specs.Slot.{handed}
+use Rattle.rib_in.specs.LatestRoutes.{route_at}
+use Rattle.speaker.specs.Agreement.{SlotIs, SlotAgrees, Holds, Agrees, tables_after}
+use Rattle.speaker.specs.Export.{export_to}
+use Rattle.speaker.specs.Linked.{Linked}
+use Rattle.speaker.specs.LocRib.{IsLocRib}
+use Rattle.speaker.specs.Moves.{Hands}
+use Rattle.speaker.specs.Queueing.{Queue, QueuesAll, IsServed}
+use Rattle.speaker.specs.Runs.{Run, turn, Take_call, history}
+use Rattle.speaker.specs.SpeakerState.{SpeakerState, KeepsTables, tables_of}
+use Rattle.speaker.specs.Tables.{Tables, link_at}
+use Rattle.speaker.specs.declared.config.Config.{Config}
+use Rattle.speaker.proofs.Calls.{tables_same}
+use Rattle.speaker.proofs.Commands.{peer_of}
+use Rattle.speaker.proofs.Events.{holds_put, slot_is}
+use Rattle.speaker.proofs.Settling.{agrees_after}
+use Rattle.speaker.proofs.SlotEvents.{with_peer}
+use Rattle.speaker.proofs.SlotOctets.{slot_handed}
+
+-- Octets that are handed out.
+
+holds_handed : (config : Config) (r : Run) (slot : ℕ) (l : Linked) (count : ℕ) (old new : SpeakerState) → Holds config r old → link_at old.links slot ≡ Some l → Hands slot l count old new
+    → Holds config (turn (Take_call slot (take count l.peer.ring)) [] ∷ r) new
+holds_handed config r slot l count old new h linked hands =
+    let peer = peer_of config r slot l old h linked in
+    let here = slot_handed config peer.0 l (route_at old.adj_in slot) (history config slot r) count (slot_is config r slot peer.0 l old h peer.1 linked) in
+    let on : history config slot (turn (Take_call slot (take count l.peer.ring)) [] ∷ r) ≡ Handed (take count l.peer.ring) ∷ history config slot r = rw (eq-eqb slot slot refl) refl in
+    let P : Option ConfiguredPeer → Type 0 = λ x. SlotAgrees config x (Some (with_peer l (handed l.peer count))) (route_at new.adj_in slot) (history config slot (turn (Take_call slot (take count l.peer.ring)) [] ∷ r)) in
+    let H : List happens.Event → Type 0 = λ x. SlotIs config peer.0 (with_peer l (handed l.peer count)) (route_at new.adj_in slot) x in
+    holds_put config r (turn (Take_call slot (take count l.peer.ring)) [] ∷ r) slot (with_peer l (handed l.peer count)) old new h refl hands.rest hands.links
+    (λ t other p. ap (λ table. route_at table t p) hands.routes) (λ t other. rw (ne_eqb t slot other) refl)
+    (subst P (sym peer.1) (subst H (sym on) (rw hands.routes here)))
+
+handed_session : (slot t : ℕ) (l : Linked) (count : ℕ) (f : ℕ → Option Linked) → f slot ≡ Some l
+    → option_map (λ x. x.peer.session) (cond (t == slot) (Some (with_peer l (handed l.peer count))) (f t)) ≡ option_map (λ x. x.peer.session) (f t)
+handed_session slot t l count f linked =
+    elim (cases_eq t slot) [
+      | inl same ↦ rw (same, eq-eqb slot slot refl, linked) refl
+      | inr other ↦ rw (ne_eqb t slot other) refl
+    ]
+
+tables_handed : (slot : ℕ) (l : Linked) (count : ℕ) (old new : SpeakerState) → link_at old.links slot ≡ Some l → Hands slot l count old new → tables_of old ≡ tables_of new
+tables_handed slot l count old new linked hands = λ i. record {
+  conf = sym hands.rest.conf i;
+  sessions = λ t. sym (ap (λ x. option_map (λ y. y.peer.session) x) (hands.links t) ∙ handed_session slot t l count (link_at old.links) linked) i;
+  routes = λ t p. route_at (sym hands.routes i) t p;
+}
+
+-- the octets of the buffer are the ring's
+first_octets : (count : ℕ) (ring buf new : List ℕ) → count ≡ min (length buf) (length ring) → new ≡ take count ring ++ drop count buf → take count new ≡ take count ring
+first_octets count ring buf new is octets =
+    let whole : length (take count ring) ≡ count = length-take count ring ∙ (omega (arith, is)) in
+    ap (λ x. take count x) octets ∙ ap (λ n. take n (take count ring ++ drop count buf)) (sym whole) ∙ take-append_seam (take count ring) (drop count buf)
+
+-- a take
+pub agrees_taken : (config : Config) (r : Run) (slot : ℕ) (l : Linked) (count : ℕ) (buf filled : List ℕ) (old mid new : SpeakerState) (queue : Queue) → Agrees config r old → link_at old.links slot ≡ Some l
+    → count ≡ min (length buf) (length l.peer.ring) → filled ≡ take count l.peer.ring ++ drop count buf → Hands slot l count old mid
+    → KeepsTables mid new → new.stopped ≡ mid.stopped → QueuesAll (export_to mid) queue (link_at mid.links) (link_at new.links)
+    → ((s : ℕ) (peer : ConfiguredPeer) (x : Linked) → s < 64 → peer_at mid.conf s ≡ Some peer → link_at new.links s ≡ Some x → IsServed (export_to mid s) x)
+    → Agrees config (turn (Take_call slot (take count filled)) queue ∷ r) new
+agrees_taken config r slot l count buf filled old mid new queue a linked is octets hands keeps stopped queues served =
+    let P : Tables → Type 0 = λ t. IsLocRib t mid.loc_rib in
+    let before : IsLocRib (tables_after config r) mid.loc_rib = rw hands.rest.loc_rib a.loc_rib in
+    let tables = tables_same config r old.conf (link_at old.links) old.adj_in (sym a.holds.conf) a.holds.slots ∙ tables_handed slot l count old mid linked hands in
+    rw (first_octets count l.peer.ring buf filled is octets)
+    (agrees_after config (Take_call slot (take count l.peer.ring)) r mid new queue (holds_handed config r slot l count old mid a.holds linked hands) a.thrifty (subst P tables before) keeps stopped queues served)
+
+-- there is such a slot
+pub link_there : (found : Option Linked) → (found ≡ None → ⊥) → (l : Linked) × (found ≡ Some l)
+link_there None none = absurd (none refl)
+link_there (Some l) none = (l, refl)

@@ -1,0 +1,16 @@
+use Rattle.std.proofs.lemmas.List.{take-append-drop}
+use Rattle.speaker.proofs.Events.{HasCome-start, HasCome-more, HasCome-shut, some_left}
+use Rattle.speaker.proofs.step.Speaker.hear.Goals as goal
+
+pub loop-rest-init : goal.loop-rest-init
+loop-rest-init g c = HasCome-start _ _ _
+
+pub loop-rest-preserved : goal.loop-rest-preserved
+loop-rest-preserved g c =
+    rw c.split_at.ensures.back
+    (HasCome-more _ _ _ _ _ _ _ _ c.loop-rest.invariant (take-append-drop c.in-Ok.taken c.loop-rest.rest.now) c.in-Ok.ensures.heard)
+
+pub returns-then-taken-eq0 : goal.returns-then-taken-eq0
+returns-then-taken-eq0 g c =
+    HasCome-shut _ _ _ _ c.loop-rest.self c.hear_front.new.self c.loop-rest.invariant
+    (λ config r done peer holds configured. c.in-Ok.ensures.shut config r done peer holds configured c.if-taken-eq0.true (some_left _ c.loop-rest-test.ensures))

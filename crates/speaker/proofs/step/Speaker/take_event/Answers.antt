@@ -1,0 +1,32 @@
+use Rattle.std.proofs.Common.{[], ◌∷◌}
+use Rattle.speaker.specs.Agreement.{Holds}
+use Rattle.speaker.specs.Runs.{turn, call_of}
+use Rattle.speaker.specs.FirstRefusal.{awaits_up, may_fail, may_bring_octets}
+use Rattle.speaker.proofs.Commands.{accepted, peer_of, holds_up, holds_fail}
+use Rattle.speaker.proofs.KeptTables.{OnOk-got}
+use Rattle.speaker.proofs.step.Speaker.take_event.Goals as goal
+use Rattle.speaker.proofs.step.Speaker.take_event.Goals.{in-Command+else-is_err, in-Up, in-Fail, in-Bytes+else-is_err-2}
+
+pub returns-in-Ok-clause-agrees : goal.returns-in-Ok-clause-agrees
+returns-in-Ok-clause-agrees g c = λ config r a.
+    let holds : Holds config (turn (call_of c.args.event) [] ∷ r) c.match-event.self =
+    elim c.match-event.branch [
+      | in-Command+else-is_err w ↦
+          let obeyed = OnOk-got w.obey.result _ w.obey.ensures.ok w.if-is_err.ensures.value in
+          rw (w.self-is, w.in-Command.is) (obeyed config r a.holds)
+      | in-Up w ↦
+          let may = rw w.in-Up.is at c.requires in
+          let found = accepted _ awaits_up may in
+          rw (w.self-is, w.in-Up.is) (holds_up config r w.in-Up.slot found.0 c.args.self.now w.up.new.self a.holds found.1 found.2 (w.up.ensures found.0 found.1))
+      | in-Fail w ↦
+          let may = rw w.in-Fail.is at c.requires in
+          let found = accepted _ may_fail may in
+          rw (w.self-is, w.in-Fail.is) (holds_fail config r w.in-Fail.slot found.0 c.args.self.now w.fail.new.self a.holds found.1 (w.fail.ensures found.0 found.1))
+      | in-Bytes+else-is_err-2 w ↦
+          let may = rw w.in-Bytes.is at c.requires in
+          let found = accepted _ may_bring_octets may in
+          let peer = peer_of config r w.in-Bytes.slot found.0 c.args.self.now a.holds found.1 in
+          let heard = OnOk-got w.hear.result _ w.hear.ensures w.if-is_err-2.ensures.value in
+          rw (w.self-is, w.in-Bytes.is) (heard config r peer.0 a.holds peer.1)
+    ] in
+    c.in-Ok.ensures.agrees config (call_of c.args.event) r holds a.thrifty

@@ -1,0 +1,124 @@
+use Rattle.std.specs.Prelude.{◌≡◌, ◌≢◌, ◌<◌, ◌≤◌, ◌+◌, ◌⊎◌, ◌++◌, ℕ, List, [], ◌∷◌, length, replicate, Option, Some, None, Result, Err, true, false}
+use Rattle.std.specs.Option.{option_map}
+use Rattle.bgp_attr.specs.PathAttributes.{PathAttributes}
+use Rattle.bgp_conf.specs.Configuration.{peer_at}
+use Rattle.bgp_conf.specs.declared.conf.ConfiguredPeer.{ConfiguredPeer}
+use Rattle.bgp_fsm.specs.declared.state.State.TheVariants.{Established}
+use Rattle.bgp_peer.specs.Agreement.{PeerAgrees}
+use Rattle.bgp_peer.specs.SentMessages.{ring_of, sent}
+use Rattle.bgp_peer.specs.SessionInputs as slot
+use Rattle.bgp_peer.specs.SessionInputs.{terms_of, session}
+use Rattle.net_prefix.specs.declared.prefix.Prefix.{Prefix}
+use Rattle.rib_in.specs.LatestRoutes.{route_at}
+use Rattle.rib_out.specs.Held.{held_at}
+use Rattle.speaker.specs.AdjRibIn.{route}
+use Rattle.speaker.specs.Export.{IsExport, export_peer_of}
+use Rattle.speaker.specs.Held.{held, told_in, is_opening}
+use Rattle.speaker.specs.Linked.{Linked}
+use Rattle.speaker.specs.LocRib.{IsLocRib}
+use Rattle.speaker.specs.Queueing.{Queue, update_saying}
+use Rattle.bgp_conf.specs.declared.refusal.Refusal.{Refusal}
+use Rattle.bgp_conf.specs.declared.refusal.Refusal.TheVariants.{NoMemory}
+use Rattle.speaker.specs.declared.event.Event.{Event}
+use Rattle.speaker.specs.declared.event.Report.{Report}
+use Rattle.speaker.specs.Runs.{Call, Follows, Run, turn, configuration_of, history, terms_in}
+use Rattle.speaker.specs.SpeakerState.{SpeakerState}
+use Rattle.speaker.specs.Tables.{Tables, link_at}
+use Rattle.speaker.specs.declared.config.Config.{Config}
+
+-- When a speaker is as a run leaves it (RFC 4271 sections 3.2, 8 and 9).
+
+-- what the selection reads after a run: the configuration, the session of each configured slot, the latest routes
+abbrev pub tables_after : Config → Run → Tables
+tables_after config r = record {
+  conf = configuration_of config r;
+  sessions = λ s. option_map (λ peer. session (history config s r)) (peer_at (configuration_of config r) s);
+  routes = λ s prefix. route (history config s r) prefix;
+}
+
+-- the slot and what its peer holds are as this history leaves them
+pub record LinkAgrees (h : List slot.Event) (l : Linked) : Type 0 where
+  pub peer : PeerAgrees h l.peer
+  pub held : (prefix : Prefix) → held_at l.adj_out prefix ≡ held h prefix
+  -- before Established nothing was told of any prefix
+  pub silent : is_opening (session h).state ≡ true → (prefix : Prefix) → told_in (sent h) prefix ≡ None
+
+-- the slot of this peer and its routes are as this history leaves them
+pub record SlotIs (config : Config) (peer : ConfiguredPeer) (l : Linked) (routes : Prefix → Option PathAttributes) (h : List slot.Event) : Type 0 where
+  pub terms : terms_of h ≡ terms_in config peer
+  pub link : LinkAgrees h l
+  pub routes_are : (prefix : Prefix) → routes prefix ≡ route h prefix
+
+-- a slot, its configuration and its routes are as this history leaves them
+abbrev pub SlotAgrees : Config → Option ConfiguredPeer → Option Linked → (Prefix → Option PathAttributes) → List slot.Event → Type 0
+SlotAgrees config None None routes h = (h ≡ []) × ((prefix : Prefix) → routes prefix ≡ None)
+SlotAgrees config None (Some l) routes h = ⊥
+SlotAgrees config (Some peer) None routes h = ⊥
+SlotAgrees config (Some peer) (Some l) routes h = SlotIs config peer l routes h
+
+-- where 8,192 octets are free, the peer of each Established slot holds its export
+abbrev pub IsSettled : Config → Run → Type 0
+IsSettled config r =
+    (s : ℕ) (peer : ConfiguredPeer) → s < 64 → peer_at (configuration_of config r) s ≡ Some peer
+    → (session (history config s r)).state ≡ Established → length (ring_of (history config s r)) + 8192 ≤ 65536
+    → (prefix : Prefix) → IsExport (tables_after config r) (export_peer_of (configuration_of config r) s peer) prefix (held (history config s r) prefix)
+
+-- as the run stands, the UPDATE says of a prefix what the export to the slot has and its peer doesn't hold
+pub record IsOwedIn (config : Config) (r : Run) (s : ℕ) (update : List ℕ) : Type 0 where
+  pub peer : ConfiguredPeer
+  pub prefix : Prefix
+  pub export : Option (List ℕ)
+  pub configured : peer_at (configuration_of config r) s ≡ Some peer
+  pub is_export : IsExport (tables_after config r) (export_peer_of (configuration_of config r) s peer) prefix export
+  pub news : held (history config s r) prefix ≢ export
+  pub update_is : update ≡ update_saying prefix export
+
+-- each UPDATE that the call queued was owed when it was queued
+abbrev pub AreOwed : Config → Call → Run → Queue → Type 0
+AreOwed config call r [] = Unit {0}
+AreOwed config call r (now ∷ queue) = IsOwedIn config (turn call queue ∷ r) now.0 now.1 × AreOwed config call r queue
+
+-- nothing was queued but what was owed
+abbrev pub IsThrifty : Config → Run → Type 0
+IsThrifty config [] = Unit {0}
+IsThrifty config (now ∷ r) = AreOwed config now.call r now.queued × IsThrifty config r
+
+-- the settings, the configuration and each slot are as the run leaves them
+pub record Holds (config : Config) (r : Run) (s : SpeakerState) : Type 0 where
+  pub config_is : s.config ≡ config
+  pub conf : s.conf ≡ configuration_of config r
+  pub slots : (slot : ℕ) → SlotAgrees config (peer_at s.conf slot) (link_at s.links slot) (route_at s.adj_in slot) (history config slot r)
+  pub running : s.stopped ≡ false
+
+-- the speaker is as the run leaves it
+pub record Agrees (config : Config) (r : Run) (s : SpeakerState) : Type 0 where
+  pub holds : Holds config r s
+  -- Loc-RIB is the selection over the accepted routes
+  pub loc_rib : IsLocRib (tables_after config r) s.loc_rib
+  -- what each Established peer was sent, read back, is its export of Loc-RIB, save prefixes waiting behind a full ring
+  pub settled : IsSettled config r
+  pub thrifty : IsThrifty config r
+
+-- the answers to these events lead to a run that the speaker agrees with
+pub record HasRun (config : Config) (events : List Event) (answers : List (Result Report Refusal)) (s : SpeakerState) : Type 0 where
+  pub r : Run
+  pub follows : Follows [] events answers r
+  pub agrees : Agrees config r s
+
+-- they did so up to an event at which want of memory stopped the speaker; this event and all behind it were answered 44
+pub record HasStopped (config : Config) (events : List Event) (answers : List (Result Report Refusal)) (s : SpeakerState) : Type 0 where
+  pub before : List Event
+  pub event : Event
+  pub behind : List Event
+  pub answered : List (Result Report Refusal)
+  pub r : Run
+  pub last : SpeakerState
+  pub events_are : events ≡ before ++ event ∷ behind
+  pub answers_are : answers ≡ answered ++ replicate (length (event ∷ behind)) (Err NoMemory)
+  pub follows : Follows [] before answered r
+  pub agrees : Agrees config r last
+  pub stopped : s.stopped ≡ true
+
+-- a list of events without takes was played
+abbrev pub IsPlayed : Config → List Event → List (Result Report Refusal) → SpeakerState → Type 0
+IsPlayed config events answers s = HasRun config events answers s ⊎ HasStopped config events answers s

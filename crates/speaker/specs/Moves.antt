@@ -1,0 +1,98 @@
+use Rattle.std.specs.Prelude.{◌≡◌, ◌||◌, ◌&&◌, ◌==◌, ℕ, Bool, List, [], min, length, Option, Some, None, if◌then◌else◌}
+use Rattle.bgp_fsm.specs.SessionTable.{effects_of}
+use Rattle.bgp_fsm.specs.declared.input.Input.{Input}
+use Rattle.bgp_fsm.specs.declared.session.Effects.{Effects}
+use Rattle.bgp_peer.specs.Slot.{Slot, pushed, taken_input, handed}
+use Rattle.bgp_attr.specs.PathAttributes.{PathAttributes}
+use Rattle.bgp_msg.specs.UpdateMeaning.{UpdateBody}
+use Rattle.bgp_msg.specs.declared.open_message.Expected.{Expected}
+use Rattle.bgp_msg.specs.MessageStream.{Item}
+use Rattle.bgp_peer.specs.SessionInputs.{Terms, expected_of, input_of}
+use Rattle.bgp_fsm.specs.Transports.{transport_of}
+use Rattle.bgp_msg.specs.MessageStream.{needed_of}
+use Rattle.net_prefix.specs.declared.transport.Transport.{Transport}
+use Rattle.net_prefix.specs.declared.transport.Transport.TheVariants.{None as NoConnection, Opening, Listening, Open as Connected, Closing}
+use Rattle.net_prefix.specs.declared.asn.Asn.{Asn}
+use Rattle.net_prefix.specs.declared.prefix.Prefix.{Prefix}
+use Rattle.rib_in.specs.declared.adj_in.RouteKey.{RouteKey}
+use Rattle.speaker.specs.AdjRibIn.{word_if, update_heard}
+use Rattle.rib_in.specs.LatestRoutes.{route_at}
+use Rattle.speaker.specs.Linked.{Linked}
+use Rattle.speaker.specs.SpeakerState.{SpeakerState}
+use Rattle.speaker.specs.Tables.{link_at}
+
+-- What an input of a session makes of its slot and its routes (RFC 4271 sections 3.2 and 8.2.2).
+
+-- entering Established begins with nothing sent, and leaving it forgets what was sent
+abbrev pub adj_out_after : Effects → List (Prefix × List ℕ) → List (Prefix × List ℕ)
+adj_out_after effects table = if effects.left || effects.entered then [] else table
+
+-- the slot after an input that makes this of its session, its rest and its ring
+abbrev pub moved : Linked → Slot → Input → Linked
+moved l peer input = record { peer = peer; adj_out = adj_out_after (effects_of input l.peer.session) l.adj_out }
+
+-- the slot becomes another, and no other slot changes
+abbrev pub IsPut : ℕ → Linked → SpeakerState → SpeakerState → Type 0
+IsPut slot l old new = (s : ℕ) → link_at new.links s ≡ (if s == slot then Some l else link_at old.links s)
+
+-- the routes of a slot go where it leaves Established, and no other routes change
+abbrev pub IsDropped : Bool → ℕ → SpeakerState → SpeakerState → Type 0
+IsDropped left slot old new =
+    (s : ℕ) (prefix : Prefix) → route_at new.adj_in s prefix ≡ (if left && s == slot then None else route_at old.adj_in s prefix)
+
+-- the settings, the configuration and Loc-RIB stay
+pub record KeepsRest (old new : SpeakerState) : Type 0 where
+  pub config : new.config ≡ old.config
+  pub conf : new.conf ≡ old.conf
+  pub loc_rib : new.loc_rib ≡ old.loc_rib
+  pub stopped : new.stopped ≡ old.stopped
+
+-- the input makes this of the slot and its routes, and of nothing else
+pub record Moves (slot : ℕ) (l : Linked) (peer : Slot) (input : Input) (old new : SpeakerState) : Type 0 where
+  pub links : IsPut slot (moved l peer input) old new
+  pub routes : IsDropped (effects_of input l.peer.session).left slot old new
+  pub rest : KeepsRest old new
+
+-- the peer is judged by these terms
+pub record AreOf (terms : Terms) (expected : Expected) (peer_asn : Asn) : Type 0 where
+  pub expected_is : expected ≡ expected_of terms
+  pub peer_is : peer_asn ≡ terms.peer_asn
+
+-- the UPDATE, where there is one, makes this of the slot's routes, and of no other ones
+abbrev pub IsHeard : ℕ → Option UpdateBody → List (RouteKey × PathAttributes) → List (RouteKey × PathAttributes) → Type 0
+IsHeard slot update old new =
+    (s : ℕ) (prefix : Prefix) → route_at new s prefix ≡ (if s == slot then word_if update prefix (route_at old s prefix) else route_at old s prefix)
+
+-- how many of these octets belong to the message at the front: none where the connection isn't open
+abbrev pub taken_on : Transport → List ℕ → List ℕ → ℕ
+taken_on NoConnection rest octets = 0
+taken_on Opening rest octets = 0
+taken_on Listening rest octets = 0
+taken_on Connected rest octets = min (needed_of rest) (length octets)
+taken_on Closing rest octets = 0
+
+abbrev pub taken_of : Slot → List ℕ → ℕ
+taken_of p octets = taken_on (transport_of p.session) p.rest octets
+
+-- octets are put behind the rest of the slot, as many as this
+pub record Pushes (slot : ℕ) (l : Linked) (octets : List ℕ) (old new : SpeakerState) : Type 0 where
+  pub links : IsPut slot (record { peer = pushed l.peer octets; adj_out = l.adj_out }) old new
+  pub routes : new.adj_in ≡ old.adj_in
+  pub rest : KeepsRest old new
+
+-- where the rest is this item, it is taken: what it is to the session makes this of the slot, its UPDATE of the routes
+abbrev pub TakesItem : ℕ → Terms → Linked → Option Item → SpeakerState → SpeakerState → Type 0
+TakesItem slot terms l None old new =
+    ((s : ℕ) → link_at new.links s ≡ link_at old.links s) × ((s : ℕ) (prefix : Prefix) → route_at new.adj_in s prefix ≡ route_at old.adj_in s prefix) × KeepsRest old new
+TakesItem slot terms l (Some item) old new =
+    IsPut slot (moved l (taken_input l.peer (input_of l.peer.session.state terms item)) (input_of l.peer.session.state terms item)) old new
+    × ((s : ℕ) (prefix : Prefix) → route_at new.adj_in s prefix
+    ≡ (if (effects_of (input_of l.peer.session.state terms item) l.peer.session).left && s == slot then None
+    else (if s == slot then word_if (update_heard l.peer.session.state terms item) prefix (route_at old.adj_in s prefix) else route_at old.adj_in s prefix)))
+    × KeepsRest old new
+
+-- so many of the first octets of the slot's ring are handed out
+pub record Hands (slot : ℕ) (l : Linked) (count : ℕ) (old new : SpeakerState) : Type 0 where
+  pub links : IsPut slot (record { peer = handed l.peer count; adj_out = l.adj_out }) old new
+  pub routes : new.adj_in ≡ old.adj_in
+  pub rest : KeepsRest old new

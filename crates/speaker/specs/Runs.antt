@@ -1,0 +1,100 @@
+use Rattle.std.specs.Prelude.{◌≡◌, ℕ, ◌==◌, List, [], ◌∷◌, Result, Ok, Err, if◌then◌else◌}
+use Rattle.bgp_conf.specs.Configuration.{Configuration}
+use Rattle.bgp_conf.specs.ConfAfter.{conf_after, configured_of}
+use Rattle.bgp_conf.specs.declared.command.Command.{Command}
+use Rattle.bgp_conf.specs.declared.command.Command.TheVariants.{AddPeer, Enable, Reach}
+use Rattle.bgp_conf.specs.declared.conf.ConfiguredPeer.{ConfiguredPeer}
+use Rattle.bgp_conf.specs.declared.refusal.Refusal.{Refusal}
+use Rattle.bgp_peer.specs.SessionInputs as slot
+use Rattle.bgp_peer.specs.SessionInputs.{Terms, Configured, Enabled, Opened, Failed, Octet, Queued, Handed, onto}
+use Rattle.speaker.specs.Queueing.{Queue}
+use Rattle.speaker.specs.declared.config.Config.{Config}
+use Rattle.speaker.specs.declared.event.Event.{Event}
+use Rattle.speaker.specs.declared.event.Event.TheVariants.{Up, Fail, Bytes, Command as Commanded}
+use Rattle.speaker.specs.declared.event.Report.{Report}
+
+-- The calls of a speaker, and what they are to each slot. A run has the newest call first.
+
+-- a call with its arguments; of a take, the octets that it handed out
+pub data Call : Type 0 where
+  Up_call : (slot : ℕ) → Call
+  Fail_call : (slot : ℕ) → Call
+  Bytes_call : (slot : ℕ) → (octets : List ℕ) → Call
+  Command_call : (command : Command) → Call
+  Take_call : (slot : ℕ) → (octets : List ℕ) → Call
+
+-- a call, and the UPDATEs that it queued
+pub record Turn : Type 0 where
+  pub call : Call
+  pub queued : Queue
+
+abbrev pub turn : Call → Queue → Turn
+turn call queued = record { call = call; queued = queued }
+
+-- the accepted calls, the newest first
+abbrev pub Run : Type 0
+Run = List Turn
+
+-- the call that an event is
+abbrev pub call_of : Event → Call
+call_of (Up slot) = Up_call slot
+call_of (Fail slot) = Fail_call slot
+call_of (Bytes slot octets) = Bytes_call slot octets.now
+call_of (Commanded command) = Command_call command
+
+-- what a call makes of the configuration
+abbrev pub conf_called : Call → Configuration → Configuration
+conf_called (Up_call slot) conf = conf
+conf_called (Fail_call slot) conf = conf
+conf_called (Bytes_call slot octets) conf = conf
+conf_called (Command_call command) conf = conf_after conf command
+conf_called (Take_call slot octets) conf = conf
+
+-- the configuration after a run
+abbrev pub configuration_of : Config → Run → Configuration
+configuration_of config [] = record { own = config.asn; peers = []; reach = [] }
+configuration_of config (now ∷ r) = conf_called now.call (configuration_of config r)
+
+-- the terms of a peer's session
+abbrev pub terms_in : Config → ConfiguredPeer → Terms
+terms_in config peer = record {
+  own = record { asn = config.asn; hold_time = peer.hold; identifier = config.identifier };
+  mode = peer.mode;
+  peer_asn = peer.asn;
+}
+
+-- what a command is to a slot
+abbrev pub commanded : Config → ℕ → Command → List slot.Event → List slot.Event
+commanded config s (AddPeer slot peer) h = if s == slot then Configured (terms_in config (configured_of peer)) ∷ h else h
+commanded config s (Enable slot) h = if s == slot then Enabled ∷ h else h
+commanded config s (Reach prefix cost) h = h
+
+-- what a call is to a slot
+abbrev pub called : Config → ℕ → Call → List slot.Event → List slot.Event
+called config s (Up_call slot) h = if s == slot then Opened ∷ h else h
+called config s (Fail_call slot) h = if s == slot then Failed ∷ h else h
+called config s (Bytes_call slot octets) h = if s == slot then onto octets h else h
+called config s (Command_call command) h = commanded config s command h
+called config s (Take_call slot octets) h = if s == slot then Handed octets ∷ h else h
+
+-- the UPDATEs that are queued for a slot
+abbrev pub queued_on : ℕ → Queue → List slot.Event → List slot.Event
+queued_on s [] h = h
+queued_on s (now ∷ queue) h = if s == now.0 then Queued now.1 ∷ queued_on s queue h else queued_on s queue h
+
+-- what happened to a slot in a run
+abbrev pub history : Config → ℕ → Run → List slot.Event
+history config s [] = []
+history config s (now ∷ r) = queued_on s now.queued (called config s now.call (history config s r))
+
+-- one event leads from a run to the next: an accepted one with what it queued; a refused one stands as nothing
+abbrev pub GoesOn : Run → Event → Result Report Refusal → Run → Type 0
+GoesOn before event (Ok report) after = (queued : Queue) × (after ≡ turn (call_of event) queued ∷ before)
+GoesOn before event (Err refusal) after = after ≡ before
+
+-- events with their answers lead from a run to another
+abbrev pub Follows : Run → List Event → List (Result Report Refusal) → Run → Type 0
+Follows before [] [] after = after ≡ before
+Follows before (event ∷ events) (answer ∷ answers) after = (mid : Run) × GoesOn before event answer mid × Follows mid events answers after
+Follows before [] (answer ∷ answers) after = ⊥
+Follows before (event ∷ events) [] after = ⊥
