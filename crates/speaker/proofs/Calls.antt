@@ -63,7 +63,7 @@ slot_session config None (Some l) routes h a = absurd a
 slot_session config (Some peer) None routes h a = absurd a
 slot_session config (Some peer) (Some l) routes h a = ap Some (sym a.link.peer.session)
 
-slot_route : (config : Config) (peer : Option ConfiguredPeer) (l : Option Linked) (routes : Prefix → Option PathAttributes) (h : List happens.Event) (p : Prefix) → SlotAgrees config peer l routes h
+pub slot_route : (config : Config) (peer : Option ConfiguredPeer) (l : Option Linked) (routes : Prefix → Option PathAttributes) (h : List happens.Event) (p : Prefix) → SlotAgrees config peer l routes h
     → route h p ≡ routes p
 slot_route config None None routes h p a = ap (λ x. route x p) a.0 ∙ sym (a.1 p)
 slot_route config None (Some l) routes h p a = absurd a

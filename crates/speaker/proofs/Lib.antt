@@ -17,3 +17,4 @@ pub mod Events
 pub mod Commands
 pub mod Takes
 pub mod ListedEvents
+pub mod ShownRoutes

@@ -1,9 +1,17 @@
 //! The views of a speaker: its sessions and tables, as operators see them.
 ghost use Rattle.std.specs.Prelude.{◌≡◌, map};
 ghost use Rattle.std.specs.Option.{option_map};
-ghost use Rattle.std.specs.Iterator.{YieldsFirst, item_count};
-ghost use Rattle.speaker.specs.Tables.{session_at};
-ghost use Rattle.speaker.specs.Shown.{shown_of, transport_at};
+ghost use Rattle.std.specs.Iterator.{YieldsFirst, YieldsFirstBy, item_count};
+ghost use Rattle.std.specs.Map.{lookup};
+ghost use Rattle.net_prefix.specs.declared.prefix.Prefix.{Prefix as ThePrefix};
+ghost use Rattle.rib_out.specs.Held.{held_at, is_prefix};
+ghost use Rattle.speaker.specs.AdjRibIn.{route};
+ghost use Rattle.speaker.specs.Agreement.{Agrees};
+ghost use Rattle.speaker.specs.Held.{held};
+ghost use Rattle.speaker.specs.Runs.{Run, history};
+ghost use Rattle.speaker.specs.declared.config.Config.{Config};
+ghost use Rattle.speaker.specs.Tables.{link_at, session_at};
+ghost use Rattle.speaker.specs.Shown.{held_by, routes_of, shown_of, transport_at};
 
 use crate::link::Link;
 use crate::queueing::{Octets, export};
@@ -66,12 +74,26 @@ pub struct AdjRibIn<'a, A: Allocator = Global> {
     pub(crate) slot: u8,
 }
 
+impl<'a, A: Allocator> Model for AdjRibIn<'a, A> {
+    ghost use Rattle.std.specs.Prelude.{List};
+    ghost use Rattle.bgp_attr.specs.PathAttributes.{PathAttributes};
+    ghost use Rattle.net_prefix.specs.declared.prefix.Prefix.{Prefix};
+    ghost use Rattle.speaker.specs.Shown.{routes_of};
+
+    ghost Value = { List (Prefix × PathAttributes) };
+
+    ghost view = { λ routes. routes_of routes.slot routes.routes };
+}
+
 impl<'a, A: Allocator> Iterator for AdjRibIn<'a, A> {
     type Item = (Prefix, &'a Attrs<A>);
 
+    ghost next_gives = { YieldsFirstBy (λ item. (item.0, item.1.now)) (λ rest. rest) };
+
+    ghost remaining = { item_count (λ rest. rest) };
+
     fn next(&mut self) -> Option<(Prefix, &'a Attrs<A>)> {
-        for _ in 0..u64::MAX {
-            let (prefix, from, attrs) = self.routes.next()?;
+        while let Some((prefix, from, attrs)) = self.routes.next() {
             if from == self.slot {
                 return Some((prefix, attrs));
             }
@@ -87,8 +109,22 @@ pub struct HeldRoutes<'a, A: Allocator = Global> {
     pub(crate) held: Option<rib_out::HeldRoutes<'a, A>>,
 }
 
+impl<'a, A: Allocator> Model for HeldRoutes<'a, A> {
+    ghost use Rattle.std.specs.Prelude.{List, ℕ};
+    ghost use Rattle.net_prefix.specs.declared.prefix.Prefix.{Prefix};
+    ghost use Rattle.speaker.specs.Shown.{listed};
+
+    ghost Value = { List (Prefix × List ℕ) };
+
+    ghost view = { λ routes. listed routes.held };
+}
+
 impl<'a, A: Allocator> Iterator for HeldRoutes<'a, A> {
     type Item = (Prefix, &'a [u8]);
+
+    ghost next_gives = { YieldsFirstBy (λ item. (item.0, item.1.now)) (λ rest. rest) };
+
+    ghost remaining = { item_count (λ rest. rest) };
 
     fn next(&mut self) -> Option<(Prefix, &'a [u8])> {
         match &mut self.held {
@@ -208,7 +244,10 @@ impl<A: Allocator + Clone> Speaker<A> {
 
     /// The routes that a slot's peer has announced and not taken back, in rising order; none where the slot
     /// isn't configured.
-    pub fn adj_in(&self, slot: u8) -> AdjRibIn<'_, A> {
+    pub fn adj_in(&self, slot: u8) -> AdjRibIn<'_, A>
+        ensures kept { result ≡ routes_of slot self.now.adj_in }
+        ensures agrees { (config : Config) (r : Run) (prefix : ThePrefix) → Agrees config r self.now → lookup (is_prefix prefix) result ≡ route (history config slot r) prefix }
+    {
         AdjRibIn {
             routes: self.ribs.adj_in.routes(),
             slot,
@@ -216,7 +255,16 @@ impl<A: Allocator + Clone> Speaker<A> {
     }
 
     /// What a slot's peer holds of what it was sent, in rising order; nothing where the slot isn't configured.
-    pub fn held(&self, slot: u8) -> HeldRoutes<'_, A> {
+    pub fn held(&self, slot: u8) -> HeldRoutes<'_, A>
+        ensures kept { result ≡ held_by (link_at self.now.links slot) }
+        ensures agrees { (config : Config) (r : Run) (prefix : ThePrefix) → Agrees config r self.now → held_at result prefix ≡ held (history config slot r) prefix }
+    {
+        self.held_rows(slot)
+    }
+
+    fn held_rows(&self, slot: u8) -> HeldRoutes<'_, A>
+        ensures { result ≡ held_by (link_at self.now.links slot) }
+    {
         HeldRoutes {
             held: match self.links.get(&slot) {
                 Some(link) => Some(link.adj_out.held()),

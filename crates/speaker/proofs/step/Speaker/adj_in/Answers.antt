@@ -1,0 +1,7 @@
+use Rattle.speaker.proofs.ShownRoutes.{routes_shown}
+use Rattle.speaker.proofs.step.Speaker.adj_in.Goals as goal
+
+pub returns-clause-agrees : goal.returns-clause-agrees
+returns-clause-agrees g c = λ config r prefix a.
+    let here = rw (← c.self.view_is) at a in
+    rw c.routes.ensures.all (routes_shown config r _ c.args.slot prefix here)
