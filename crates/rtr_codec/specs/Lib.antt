@@ -1,0 +1,6 @@
+pub mod CacheTable
+pub mod Intervals
+pub mod PduFaults
+pub mod PduSpelling
+pub mod PduStream
+pub mod Responses

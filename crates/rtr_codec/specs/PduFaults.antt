@@ -1,0 +1,82 @@
+use Rattle.std.specs.Prelude.{◌&&◌, ◌||◌, ◌==◌, ℕ, nat_le, nat_lt, if◌then◌else◌, Bool, true, false, not, List, [], ◌∷◌, Option, Some, None}
+use Rattle.rtr_codec.specs.declared.fault.ErrorCode.{ErrorCode}
+use Rattle.rtr_codec.specs.declared.fault.ErrorCode.TheVariants.{CorruptData, InternalError, NoDataAvailable, InvalidRequest, UnsupportedVersion, UnsupportedType, WithdrawalOfUnknownRecord, DuplicateAnnouncement, UnexpectedVersion}
+use Rattle.rtr_codec.specs.declared.fault.PduFault.{PduFault}
+use Rattle.rtr_codec.specs.declared.fault.PduFault.TheVariants.{Unanswered, Header, Payload}
+use Rattle.rtr_codec.specs.declared.place.End.{End}
+use Rattle.rtr_codec.specs.declared.place.End.TheVariants.{Cache, Client}
+use Rattle.rtr_codec.specs.declared.place.Place.{Place}
+use Rattle.rtr_codec.specs.PduSpelling.{kind_at, told_length, version_at}
+
+-- What is wrong with a PDU, in the order in which it is looked for (RFC 8210 section 12; the order is our own).
+
+-- the numbers of the error codes (RFC 8210 section 12)
+abbrev pub number_of : ErrorCode → ℕ
+number_of CorruptData = 0
+number_of InternalError = 1
+number_of NoDataAvailable = 2
+number_of InvalidRequest = 3
+number_of UnsupportedVersion = 4
+number_of UnsupportedType = 5
+number_of WithdrawalOfUnknownRecord = 6
+number_of DuplicateAnnouncement = 7
+number_of UnexpectedVersion = 8
+
+-- the types of PDUs (RFC 8210 section 5)
+abbrev pub is_type : ℕ → Bool
+is_type kind = nat_le kind 4 || (nat_le 6 kind && nat_le kind 10)
+
+-- the lengths that a PDU of a type may have
+abbrev pub is_lawful_length : ℕ → ℕ → Bool
+is_lawful_length kind told =
+    if (kind == 0) || (kind == 1) then told == 12
+    else (if (kind == 2) || ((kind == 3) || (kind == 8)) then told == 8
+    else (if kind == 4 then told == 20
+    else (if kind == 6 then told == 32
+    else (if kind == 7 then told == 24
+    else (if kind == 9 then nat_le 32 told && nat_le told 4096
+    else nat_le 16 told && nat_le told 4096)))))
+
+-- whether the end that reads is the client's
+abbrev pub is_client : End → Bool
+is_client Cache = false
+is_client Client = true
+
+-- a Serial Notify is read in any version before the first Cache Response (RFC 8210 section 7)
+abbrev pub is_lenient : Place → List ℕ → Bool
+is_lenient place octets =
+    (is_client place.end && not place.has_response) && ((kind_at octets == 0) && (told_length octets == 12))
+
+-- a header is of another version, where that isn't let pass
+abbrev pub is_other_version : Place → List ℕ → Bool
+is_other_version place octets = not (version_at octets == 1) && not (is_lenient place octets)
+
+-- another version than 1 at the beginning of a connection, and in the midst of it
+abbrev pub version_code : Bool → ErrorCode
+version_code is_first = if is_first then UnsupportedVersion else UnexpectedVersion
+
+-- an Error Report with a faulty header
+abbrev pub is_faulty_report : List ℕ → Bool
+is_faulty_report octets =
+    (kind_at octets == 10) && (not (version_at octets == 1) || not (is_lawful_length 10 (told_length octets)))
+
+-- the first fault whose test holds
+abbrev pub first_fault : List (Bool × PduFault) → Option PduFault
+first_fault [] = None
+first_fault (row ∷ rows) = if row.0 then Some row.1 else first_fault rows
+
+-- the faults of a header
+unfoldable pub header_fault : Place → List ℕ → Option PduFault
+header_fault place octets =
+    first_fault
+    ((is_faulty_report octets, Unanswered)
+    ∷ (is_other_version place octets, Header (version_code place.is_first))
+    ∷ (not (is_type (kind_at octets)), Header UnsupportedType)
+    ∷ (not (is_lawful_length (kind_at octets) (told_length octets)), Header CorruptData)
+    ∷ [])
+
+-- the code of the Error Report that answers a fault; none where there is no answer
+abbrev pub code_of : PduFault → Option ErrorCode
+code_of Unanswered = None
+code_of (Header code) = Some code
+code_of Payload = Some CorruptData

@@ -1,0 +1,88 @@
+use Rattle.std.specs.Prelude.{◌==◌, ◌||◌, ℕ, nat_lt, if◌then◌else◌, Bool, true, false, List, [], ◌∷◌, ◌++◌, Option, Some, None, length}
+use Rattle.rtr_codec.specs.declared.fault.PduFault.{PduFault}
+use Rattle.rtr_codec.specs.declared.fault.PduFault.TheVariants.{Payload}
+use Rattle.rtr_codec.specs.declared.place.Place.{Place}
+use Rattle.rtr_codec.specs.PduFaults.{header_fault}
+use Rattle.rtr_codec.specs.PduSpelling.{Content, Serial_notify, Serial_query, Reset_query, Cache_response, Announce, Withdraw, Ipv6_prefix, End_of_data, Cache_reset, Router_key, Error_report, content_at, told_length}
+
+-- The PDUs of a stream of octets (RFC 8210 section 5). The pieces in which the octets come are no part of it.
+
+-- what a stream holds: whole PDUs, each what it says and its octets, and at the end perhaps a fault: of the header, with its 8 octets, or of a whole IPv4 Prefix, with all of it
+pub data Item : Type 0 where
+  WholePdu : (content : Content) (octets : List ℕ) → Item
+  FaultyPdu : (fault : PduFault) (octets : List ℕ) → Item
+
+-- a whole PDU, by what it says: where that is nothing its payload is faulty
+abbrev pub item_with : List ℕ → Option Content → Item
+item_with octets None = FaultyPdu Payload octets
+item_with octets (Some content) = WholePdu content octets
+
+-- the item that octets with a whole header are: a faulty header has 8 octets
+abbrev pub item_of : List ℕ → Option PduFault → Option Item
+item_of octets None = if length octets == told_length octets then Some (item_with octets (content_at octets)) else None
+item_of octets (Some fault) = if length octets == 8 then Some (FaultyPdu fault octets) else None
+
+-- the item that octets are at a place of a connection, from the first to the last
+unfoldable pub meaning : Place → List ℕ → Option Item
+meaning place octets = if nat_lt (length octets) 8 then None else item_of octets (header_fault place octets)
+
+-- whether an item is a Cache Response
+abbrev pub is_response : Item → Bool
+is_response (WholePdu (Cache_response session) octets) = true
+is_response (WholePdu (Serial_notify session serial) octets) = false
+is_response (WholePdu (Serial_query session serial) octets) = false
+is_response (WholePdu Reset_query octets) = false
+is_response (WholePdu (Announce payload) octets) = false
+is_response (WholePdu (Withdraw payload) octets) = false
+is_response (WholePdu (Ipv6_prefix body) octets) = false
+is_response (WholePdu (End_of_data session serial intervals) octets) = false
+is_response (WholePdu Cache_reset octets) = false
+is_response (WholePdu (Router_key body) octets) = false
+is_response (WholePdu (Error_report code quoted) octets) = false
+is_response (FaultyPdu fault octets) = false
+
+-- the place behind an item
+abbrev pub place_after : Place → Option Item → Place
+place_after place None = place
+place_after place (Some item) = record { end = place.end; is_first = false; has_response = place.has_response || is_response item }
+
+-- what is unread once the octets are this item: nothing behind a PDU, all from a fault on
+abbrev pub left_over : List ℕ → Option Item → List ℕ
+left_over octets None = octets
+left_over octets (Some (WholePdu content whole)) = []
+left_over octets (Some (FaultyPdu fault whole)) = octets
+
+-- the item that one more octet completes behind what is unread
+abbrev pub completed : Place → List ℕ → ℕ → Option Item
+completed place part octet = meaning place (part ++ octet ∷ [])
+
+-- an item, where there is one, and those behind it
+abbrev pub with_front : Option Item → List Item → List Item
+with_front None items = items
+with_front (Some item) items = item ∷ items
+
+-- the items that more octets complete behind what is unread
+abbrev pub pdus_from : Place → List ℕ → List ℕ → List Item
+pdus_from place part [] = []
+pdus_from place part (octet ∷ octets) =
+    with_front (completed place part octet)
+    (pdus_from (place_after place (completed place part octet)) (left_over (part ++ octet ∷ []) (completed place part octet)) octets)
+
+-- what is unread behind them
+abbrev pub unread_from : Place → List ℕ → List ℕ → List ℕ
+unread_from place part [] = part
+unread_from place part (octet ∷ octets) =
+    unread_from (place_after place (completed place part octet)) (left_over (part ++ octet ∷ []) (completed place part octet)) octets
+
+-- where the connection stands behind them
+abbrev pub place_from : Place → List ℕ → List ℕ → Place
+place_from place part [] = place
+place_from place part (octet ∷ octets) =
+    place_from (place_after place (completed place part octet)) (left_over (part ++ octet ∷ []) (completed place part octet)) octets
+
+-- the PDUs of a stream from a place on, and what no PDU of it has taken
+abbrev pub pdus : Place → List ℕ → List Item
+pdus place stream = pdus_from place [] stream
+
+abbrev pub unread : Place → List ℕ → List ℕ
+unread place stream = unread_from place [] stream
