@@ -1,9 +1,11 @@
-use Rattle.std.specs.Prelude.{◌==◌, ◌||◌, ℕ, nat_lt, if◌then◌else◌, Bool, true, false, List, [], ◌∷◌, ◌++◌, Option, Some, None, length}
+use Rattle.std.specs.Prelude.{◌≡◌, ◌⊎◌, ◌<◌, ◌≤◌, ◌-◌, ◌==◌, ◌||◌, ℕ, nat_lt, if◌then◌else◌, Bool, true, false, List, [], ◌∷◌, ◌++◌, Option, Some, None, take, drop, length}
 use Rattle.rtr_codec.specs.declared.fault.PduFault.{PduFault}
 use Rattle.rtr_codec.specs.declared.fault.PduFault.TheVariants.{Payload}
 use Rattle.rtr_codec.specs.declared.place.Place.{Place}
+use Rattle.rtr_codec.specs.declared.reading.Step.{Step}
+use Rattle.rtr_codec.specs.declared.reading.Step.TheVariants.{Need, Whole, Faulty}
 use Rattle.rtr_codec.specs.PduFaults.{header_fault}
-use Rattle.rtr_codec.specs.PduSpelling.{Content, Serial_notify, Serial_query, Reset_query, Cache_response, Announce, Withdraw, Ipv6_prefix, End_of_data, Cache_reset, Router_key, Error_report, content_at, told_length}
+use Rattle.rtr_codec.specs.PduSpelling.{Content, Serial_notify, Serial_query, Reset_query, Cache_response, Announce, Withdraw, Ipv6_prefix, End_of_data, Cache_reset, Router_key, Error_report, content_at, content_of, told_length}
 
 -- The PDUs of a stream of octets (RFC 8210 section 5). The pieces in which the octets come are no part of it.
 
@@ -86,3 +88,45 @@ pdus place stream = pdus_from place [] stream
 
 abbrev pub unread : Place → List ℕ → List ℕ
 unread place stream = unread_from place [] stream
+
+-- What a reader answers for the front of a stream.
+
+-- no whole header, or a header without a fault before the end of its PDU
+abbrev pub Wants : Place → List ℕ → Type 0
+Wants place octets =
+    (length octets < 8) ⊎ ((8 ≤ length octets) × (header_fault place octets ≡ None) × (length octets < told_length octets))
+
+-- a fault stands at the front: of the header, with its 8 octets, or of a whole IPv4 Prefix, with all of it
+abbrev pub HasFault : Place → List ℕ → PduFault → List ℕ → Type 0
+HasFault place octets fault quoted =
+    ((8 ≤ length octets) × (header_fault place octets ≡ Some fault) × (quoted ≡ take 8 octets))
+    ⊎ ((8 ≤ length octets) × (header_fault place octets ≡ None) × (told_length octets ≤ length octets)
+    × (fault ≡ Payload) × (quoted ≡ take (told_length octets) octets) × (content_at quoted ≡ None))
+
+-- what a reader answers: its PDU is the octets up to the length that the header tells
+abbrev pub Tells : Place → List ℕ → Step → Type 0
+Tells place octets Need = Wants place octets
+Tells place octets (Whole pdu used) =
+    (8 ≤ used) × (used ≤ 4096) × (used ≤ length octets) × (used ≡ told_length octets)
+    × (header_fault place octets ≡ None) × (content_at (take used octets) ≡ Some (content_of pdu))
+Tells place octets (Faulty fault quoted) = HasFault place octets fault quoted.now
+
+-- a reader's answer is the front of the stream, whatever follows the octets: nothing is whole yet; the PDU comes first, and those behind the octets it used come next; or the fault is all
+abbrev pub IsFront : Place → List ℕ → Step → Type 0
+IsFront place octets Need = (pdus place octets ≡ []) × (unread place octets ≡ octets)
+IsFront place octets (Whole pdu used) =
+    (more : List ℕ) →
+    pdus place (octets ++ more)
+    ≡ WholePdu (content_of pdu) (take used octets)
+    ∷ pdus (place_after place (Some (WholePdu (content_of pdu) (take used octets)))) (drop used octets ++ more)
+IsFront place octets (Faulty fault quoted) = (more : List ℕ) → pdus place (octets ++ more) ≡ FaultyPdu fault quoted.now ∷ []
+
+-- how many octets are missing once a header has no fault
+abbrev pub wanted_of : Option PduFault → ℕ → ℕ → ℕ
+wanted_of None told have = told - have
+wanted_of (Some fault) told have = 0
+
+-- how many more octets are wanted before an answer
+abbrev pub needed_of : Place → List ℕ → ℕ
+needed_of place octets =
+    if nat_lt (length octets) 8 then 8 - length octets else wanted_of (header_fault place octets) (told_length octets) (length octets)

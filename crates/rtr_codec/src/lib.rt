@@ -13,6 +13,7 @@ mod intervals;
 mod pdu;
 mod place;
 mod reading;
+mod receiving;
 mod writing;
 
 pub use fault::{ErrorCode, PduFault};
@@ -20,4 +21,5 @@ pub use intervals::Intervals;
 pub use pdu::Pdu;
 pub use place::{End, Place};
 pub use reading::{HEADER_OCTETS, MAX_PDU, Step, needed, read};
+pub use receiving::Receiver;
 pub use writing::write;

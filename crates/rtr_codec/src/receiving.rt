@@ -1,0 +1,75 @@
+//! One end's reading of a connection.
+ghost use Rattle.std.specs.Prelude.{◌≡◌, ◌≤◌, ◌<◌, min, length, take};
+ghost use Rattle.rtr_codec.specs.PduStream.{Wants, meaning, needed_of};
+ghost use Rattle.rtr_codec.specs.Receiving.{Reception, beginning, item_shown, received};
+
+use crate::pdu::Pdu;
+use crate::place::{End, Place};
+use crate::reading::{Step, needed, read};
+use arrayvec::ArrayVec;
+use std::cmp::min;
+use std::marker::Model;
+
+/// What came on a connection and no PDU has taken: at most one PDU or fault, however the stream is cut.
+#[derive(Drop)]
+pub struct Receiver {
+    place: Place,
+    part: ArrayVec<u8, 4096>,
+}
+
+impl Model for Receiver {
+    ghost use Rattle.rtr_codec.specs.Receiving.{Reception, IsOneAtMost};
+
+    ghost Value = { Reception };
+
+    ghost view = { λ r. record { place = r.place; part = r.part.items } };
+
+    ghost invariant = { λ r. IsOneAtMost (record { place = r.place; part = r.part.items }) };
+}
+
+impl Receiver {
+    /// The beginning of a connection, for the end that reads.
+    pub fn new(end: End) -> Self
+        ensures { result ≡ beginning end }
+    {
+        let place = Place {
+            end,
+            is_first: true,
+            has_response: false,
+        };
+        Receiver {
+            place,
+            part: ArrayVec::new(),
+        }
+    }
+
+    /// Takes octets that come, up to the end of the PDU at the front, and answers how many.
+    pub fn push(&mut self, octets: &[u8]) -> usize
+        ensures count { result ≡ min (needed_of self.old.place self.old.part) (length octets.now) }
+        ensures exact { self.new ≡ received self.old (take result octets.now) }
+        ensures goes_on { Wants self.old.place self.old.part → 0 < length octets.now → 0 < result }
+    {
+        let count = min(needed(self.part.as_slice(), self.place), octets.len());
+        let _fits = self.part.try_extend_from_slice(&octets[..count]);
+        count
+    }
+
+    /// What stands at the front of what came.
+    pub fn front(&self) -> Step<'_>
+        ensures item { meaning self.now.place self.now.part ≡ item_shown self.now.part result }
+    {
+        read(self.part.as_slice(), self.place)
+    }
+
+    /// Goes on behind the PDU at the front. Behind a fault nothing is read.
+    pub fn pass(&mut self) {
+        let has_response = self.place.has_response
+            || matches!(self.front(), Step::Whole(Pdu::CacheResponse { .. }, _));
+        self.place = Place {
+            end: self.place.end,
+            is_first: false,
+            has_response,
+        };
+        self.part.clear();
+    }
+}
