@@ -1,4 +1,4 @@
-use Rattle.std.specs.Prelude.{◌≡◌, ◌⊎◌, ◌×◌, ◌++◌, ℕ, true, false, List, [], Option, Some, None}
+use Rattle.std.specs.Prelude.{◌≡◌, ◌⊎◌, ◌++◌, ℕ, true, false, List, [], Option, Some, None}
 use Rattle.rtr_codec.specs.declared.place.End.{End}
 use Rattle.rtr_codec.specs.declared.place.Place.{Place}
 use Rattle.rtr_codec.specs.declared.reading.Step.{Step}
