@@ -21,6 +21,8 @@ pub enum Answer<'a> {
         rows: u64,
         skipped: u64,
     },
+    /// `client KEY`, a client of the cache that has come up.
+    Client(u64),
     /// `out HEX`, or `out -` where there is nothing, and the slots that were closed for want of memory.
     Out(&'a [u8], u64),
     /// `SLOT STATE`
@@ -49,6 +51,7 @@ impl fmt::Display for Answer<'_> {
                 rows,
                 skipped,
             } => write!(f, "ok serial {serial} rows {rows} skipped {skipped}"),
+            Answer::Client(key) => write!(f, "client {key}"),
             Answer::Out(octets, starved) => {
                 write!(f, "out ")?;
                 if octets.is_empty() {

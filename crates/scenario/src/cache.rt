@@ -1,15 +1,14 @@
-//! The cache of a script: the list that is being handed in, and the versions that were published.
+//! The cache of a script, and the list that is being handed in.
 ghost use Rattle.std.specs.Prelude.{◌≤◌, IfSome};
 
 use crate::answer::Answer;
+use crate::line::CacheLine;
 use crate::script::write_answer;
+use rtr_cache::{Cache, CacheEvent, CacheRefusal, CacheReport};
+use rtr_codec::Intervals;
 use std::alloc::{AllocError, Global};
 use std::io::{self, Write};
 use vrp_csv::read_list;
-use vrp_delta::Versions;
-
-/// The refusal of a list for which a cache has no memory.
-const NO_MEMORY_FOR_A_VERSION: u8 = 53;
 
 // The lines behind a `load`, and the number of the `load` line.
 #[derive(Drop)]
@@ -19,20 +18,22 @@ struct OpenList {
     ghost counted: { 1 ≤ load },
 }
 
-/// A cache that serves no clients yet.
+/// A cache, and the list that is being handed in to it.
 #[derive(Drop)]
 pub struct ScriptCache {
-    versions: Versions,
+    cache: Cache,
     list: Option<OpenList>,
 }
 
 impl ScriptCache {
-    /// A cache without versions.
-    pub fn new(alloc: Global) -> ScriptCache {
-        ScriptCache {
-            versions: Versions::new(alloc),
-            list: None,
-        }
+    /// A cache without versions and clients.
+    pub fn new(
+        alloc: Global,
+        session: u16,
+        intervals: Intervals,
+    ) -> Result<ScriptCache, CacheRefusal> {
+        let cache = Cache::new(alloc, session, intervals)?;
+        Ok(ScriptCache { cache, list: None })
     }
 
     /// The lines from here on are those of a list.
@@ -79,14 +80,65 @@ impl ScriptCache {
                 return write_answer(writer, Answer::RefusedRow(fault.number(), fault.row()));
             }
         };
-        let answer = match self.versions.publish(&loaded.set) {
-            Ok(serial) => Answer::Loaded {
-                serial,
+        let answer = match self.cache.step(CacheEvent::Load(&loaded.set)) {
+            Ok(report) => Answer::Loaded {
+                serial: report.serial.unwrap_or(0),
                 rows: loaded.rows,
                 skipped: loaded.skipped,
             },
-            Err(_) => Answer::Refused(NO_MEMORY_FOR_A_VERSION),
+            Err(refusal) => Answer::Refused(refusal.number()),
         };
         write_answer(writer, answer)
+    }
+
+    /// Hands in a line for the cache, and answers it.
+    pub fn serve<W: Write>(
+        &mut self,
+        line: CacheLine,
+        room: &mut [u8],
+        writer: &mut W,
+    ) -> io::Result<()> {
+        match line {
+            CacheLine::Up => self.step(CacheEvent::Up, writer),
+            CacheLine::Down(key) => self.step(CacheEvent::Down(u64::from(key)), writer),
+            CacheLine::Bytes(key, octets) => {
+                let event = CacheEvent::Bytes(u64::from(key), octets.as_slice());
+                self.step(event, writer)
+            }
+            CacheLine::Tick(seconds) => self.step(CacheEvent::Tick(seconds), writer),
+            CacheLine::Take(key, max) => self.take(key, max, room, writer),
+        }
+    }
+
+    fn step<W: Write>(&mut self, event: CacheEvent<'_>, writer: &mut W) -> io::Result<()> {
+        let answer = match self.cache.step(event) {
+            Ok(
+                CacheReport {
+                    client: Some(key),
+                    ..
+                },
+            ) => Answer::Client(key),
+            Ok(_) => Answer::Done(0),
+            Err(refusal) => Answer::Refused(refusal.number()),
+        };
+        write_answer(writer, answer)
+    }
+
+    // Hands out at most `max` octets, and no more than there is room for.
+    fn take<W: Write>(
+        &mut self,
+        key: u32,
+        max: u32,
+        room: &mut [u8],
+        writer: &mut W,
+    ) -> io::Result<()> {
+        let most = room.len().min(max as usize);
+        match self.cache.take(u64::from(key), &mut room[..most]) {
+            Ok(count) => {
+                let octets = &room[..count.min(room.len())];
+                write_answer(writer, Answer::Out(octets, 0))
+            }
+            Err(refusal) => write_answer(writer, Answer::Refused(refusal.number())),
+        }
     }
 }

@@ -1,6 +1,6 @@
-//! The scenario language: scripts that drive a speaker or load payload lists into a cache, and what they answer.
+//! The scenario language: scripts that drive a speaker and a cache with its clients, and what they answer.
 //!
-//! `play` reads a script line by line, hands each line's event to the speaker, and writes the answer before the
+//! `play` reads a script line by line, hands each line's event to the speaker or the cache, and writes the answer before the
 //! next line is read. The lines between `load` and `end` are one list, whose payloads are published. A line that the
 //! language doesn't have ends the run with its number, a `load` without an `end` with that of the `load`; what the
 //! lines before it answered has been written by then. Proved is that no script makes a function go wrong, that a
@@ -17,5 +17,5 @@ mod script;
 mod tests;
 
 pub use answer::Answer;
-pub use line::{Line, LineFault, Table};
+pub use line::{CacheLine, Line, LineFault, SpeakerLine, Table};
 pub use script::{PlayFault, play};

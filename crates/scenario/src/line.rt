@@ -7,6 +7,7 @@ use bgp_attr::Mode;
 use bgp_conf::PeerConf;
 use hex::FromHexError;
 use net_prefix::{Asn, Prefix};
+use rtr_codec::Intervals;
 use speaker::Config;
 use std::alloc::{AllocError, Global};
 use thiserror::Error;
@@ -16,6 +17,19 @@ use thiserror::Error;
 pub enum Line<'a> {
     /// `speaker AS IDENTIFIER nocache`
     Speaker(Config),
+    /// A line for the speaker.
+    Drive(SpeakerLine<'a>),
+    /// `cache SESSION REFRESH RETRY EXPIRE`
+    Cache(u16, Intervals),
+    /// `load`
+    Load,
+    /// A line for the cache.
+    Serve(CacheLine),
+}
+
+/// A line that a speaker answers.
+#[derive(Debug, PartialEq, Eq, Drop)]
+pub enum SpeakerLine<'a> {
     /// `peer SLOT AS ADDRESS LOCAL active|passive HOLD IMPORT EXPORT`
     Peer(u8, PeerConf<'a>),
     /// `enable SLOT`
@@ -32,10 +46,21 @@ pub enum Line<'a> {
     Take(u8, u32),
     /// `show TABLE`
     Show(Table),
-    /// `cache SESSION REFRESH RETRY EXPIRE`
-    Cache(u16, u32, u32, u32),
-    /// `load`
-    Load,
+}
+
+/// A line that a cache answers. A client has a key.
+#[derive(Debug, PartialEq, Eq, Drop)]
+pub enum CacheLine {
+    /// `cup`
+    Up,
+    /// `cdown KEY`
+    Down(u32),
+    /// `cbytes KEY HEX`
+    Bytes(u32, Vec<u8>),
+    /// `ctick SECONDS`
+    Tick(u64),
+    /// `ctake KEY MAX`
+    Take(u32, u32),
 }
 
 /// What `show` shows: `sessions`, `rib`, `in SLOT`, `held SLOT` or `waiting SLOT`.
@@ -69,46 +94,67 @@ impl Line<'_> {
     /// The line that this text is.
     pub fn parse(alloc: Global, text: &str) -> Result<Line<'_>, LineFault> {
         let words: Vec<&str> = text.split(' ').collect(alloc)?;
-        if let ["bytes", slot, octets] = words.as_slice() {
-            return bytes(alloc, slot, octets);
+        match words.as_slice() {
+            ["bytes", slot, hex] => {
+                let slot = number(slot).ok_or(LineFault::BadLine)?;
+                let octets = octets(alloc, hex)?;
+                Ok(Line::Drive(SpeakerLine::Bytes(slot, octets)))
+            }
+            ["cbytes", key, hex] => {
+                let key = number(key).ok_or(LineFault::BadLine)?;
+                let octets = octets(alloc, hex)?;
+                Ok(Line::Serve(CacheLine::Bytes(key, octets)))
+            }
+            words => line(words).ok_or(LineFault::BadLine),
         }
-        command(words.as_slice()).ok_or(LineFault::BadLine)
     }
 }
 
-fn bytes<'a>(alloc: Global, slot: &str, octets: &str) -> Result<Line<'a>, LineFault> {
-    let slot = number(slot).ok_or(LineFault::BadLine)?;
-    if octets.is_empty() {
+fn octets(alloc: Global, hex: &str) -> Result<Vec<u8>, LineFault> {
+    if hex.is_empty() {
         return Err(LineFault::BadLine);
     }
-    match hex::decode(alloc, octets) {
-        Ok(octets) => Ok(Line::Bytes(slot, octets)),
+    match hex::decode(alloc, hex) {
+        Ok(octets) => Ok(octets),
         Err(FromHexError::OutOfMemory) => Err(LineFault::NoMemory),
         Err(_) => Err(LineFault::BadLine),
     }
 }
 
-fn command<'a>(words: &[&'a str]) -> Option<Line<'a>> {
+fn line<'a>(words: &[&'a str]) -> Option<Line<'a>> {
     let line = match words {
         ["speaker", asn, identifier, "nocache"] => Line::Speaker(Config {
             asn: Asn(number(asn)?),
             identifier: address(identifier)?,
             cache: false,
         }),
-        ["peer", slot, words @ ..] => Line::Peer(number(slot)?, peer(words)?),
-        ["enable", slot] => Line::Enable(number(slot)?),
-        ["reach", prefix, cost] => Line::Reach(Prefix::parse(prefix).ok()?, number(cost)?),
-        ["up", slot] => Line::Up(number(slot)?),
-        ["fail", slot] => Line::Fail(number(slot)?),
-        ["take", slot, max] => Line::Take(number(slot)?, number(max)?),
-        ["show", words @ ..] => Line::Show(table_of(words)?),
         ["cache", session, refresh, retry, expire] => Line::Cache(
             number(session)?,
-            number(refresh)?,
-            number(retry)?,
-            number(expire)?,
+            Intervals {
+                refresh: number(refresh)?,
+                retry: number(retry)?,
+                expire: number(expire)?,
+            },
         ),
         ["load"] => Line::Load,
+        ["cup"] => Line::Serve(CacheLine::Up),
+        ["cdown", key] => Line::Serve(CacheLine::Down(number(key)?)),
+        ["ctick", seconds] => Line::Serve(CacheLine::Tick(number(seconds)?)),
+        ["ctake", key, max] => Line::Serve(CacheLine::Take(number(key)?, number(max)?)),
+        words => Line::Drive(speaker_line(words)?),
+    };
+    Some(line)
+}
+
+fn speaker_line<'a>(words: &[&'a str]) -> Option<SpeakerLine<'a>> {
+    let line = match words {
+        ["peer", slot, words @ ..] => SpeakerLine::Peer(number(slot)?, peer(words)?),
+        ["enable", slot] => SpeakerLine::Enable(number(slot)?),
+        ["reach", prefix, cost] => SpeakerLine::Reach(Prefix::parse(prefix).ok()?, number(cost)?),
+        ["up", slot] => SpeakerLine::Up(number(slot)?),
+        ["fail", slot] => SpeakerLine::Fail(number(slot)?),
+        ["take", slot, max] => SpeakerLine::Take(number(slot)?, number(max)?),
+        ["show", words @ ..] => SpeakerLine::Show(table_of(words)?),
         _ => return None,
     };
     Some(line)

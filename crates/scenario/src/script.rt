@@ -4,16 +4,17 @@ ghost use Rattle.scenario.specs.LineNumbers.{IsOutside, NamesLine, CountsFromOne
 
 use crate::answer::Answer;
 use crate::cache::ScriptCache;
-use crate::line::{Line, LineFault, Table};
+use crate::line::{CacheLine, Line, LineFault, SpeakerLine, Table};
 use arrayvec::ArrayVec;
 use bgp_attr::write_attrs;
 use bgp_conf::{Command, PEER_SLOTS};
+use rtr_codec::Intervals;
 use speaker::{Config, Event, Speaker};
 use std::alloc::{AllocError, Global};
 use std::io::{self, BufRead, ErrorKind, Write};
 use thiserror::Error;
 
-/// The most octets that one `take` hands out: as many as a peer's ring holds.
+/// The most octets that one `take` or `ctake` hands out: as many as a ring holds.
 const MAX_TAKE: usize = 65_536;
 
 /// More rows than a table has, since each takes memory: a bound that the walk over a table can't reach.
@@ -136,9 +137,10 @@ impl Stage {
         };
         match Line::parse(self.alloc, text) {
             Ok(Line::Speaker(config)) => self.begin(config, number, writer),
-            Ok(Line::Cache(..)) => self.new_cache(writer),
+            Ok(Line::Drive(line)) => self.drive(line, number, writer),
+            Ok(Line::Cache(session, intervals)) => self.new_cache(session, intervals, writer),
             Ok(Line::Load) => self.open_list(number),
-            Ok(line) => self.drive(line, number, writer),
+            Ok(Line::Serve(line)) => self.serve(line, number, writer),
             Err(LineFault::BadLine) => Err(PlayFault::BadLine(number)),
             Err(LineFault::NoMemory) => Err(PlayFault::NoMemory),
         }
@@ -178,12 +180,22 @@ impl Stage {
         }
     }
 
-    // A new cache. The one before it is gone.
-    fn new_cache<W: Write>(&mut self, writer: &mut W) -> Result<(), PlayFault>
+    // A new cache. The one before it is gone with its clients, unless the new one is refused.
+    fn new_cache<W: Write>(
+        &mut self,
+        session: u16,
+        intervals: Intervals,
+        writer: &mut W,
+    ) -> Result<(), PlayFault>
         ensures { IfErr result IsOutside }
     {
-        self.cache = Some(ScriptCache::new(self.alloc));
-        write_answer(writer, Answer::Done(0))?;
+        match ScriptCache::new(self.alloc, session, intervals) {
+            Ok(cache) => {
+                self.cache = Some(cache);
+                write_answer(writer, Answer::Done(0))?;
+            }
+            Err(refusal) => write_answer(writer, Answer::Refused(refusal.number()))?,
+        }
         Ok(())
     }
 
@@ -200,9 +212,24 @@ impl Stage {
         }
     }
 
+    fn serve<W: Write>(
+        &mut self,
+        line: CacheLine,
+        number: u64,
+        writer: &mut W,
+    ) -> Result<(), PlayFault>
+        ensures { IfErr result (NamesLine number) }
+    {
+        let Some(cache) = &mut self.cache else {
+            return Err(PlayFault::BadLine(number));
+        };
+        cache.serve(line, self.taken.as_mut_slice(), writer)?;
+        Ok(())
+    }
+
     fn drive<W: Write>(
         &mut self,
-        line: Line<'_>,
+        line: SpeakerLine<'_>,
         number: u64,
         writer: &mut W,
     ) -> Result<(), PlayFault>
@@ -213,19 +240,24 @@ impl Stage {
         };
         let room = self.taken.as_mut_slice();
         match line {
-            Line::Speaker(_) | Line::Cache(..) | Line::Load => {
-                return Err(PlayFault::BadLine(number));
-            }
-            Line::Peer(slot, conf) => command(speaker, Command::AddPeer(slot, conf), writer)?,
-            Line::Enable(slot) => command(speaker, Command::Enable(slot), writer)?,
-            Line::Reach(prefix, cost) => command(speaker, Command::Reach(prefix, cost), writer)?,
-            Line::Up(slot) => step(speaker, Event::Up(slot), writer)?,
-            Line::Fail(slot) => step(speaker, Event::Fail(slot), writer)?,
-            Line::Bytes(slot, octets) => {
+            SpeakerLine::Peer(slot, conf) => command(
+                speaker,
+                Command::AddPeer(slot, conf),
+                writer,
+            )?,
+            SpeakerLine::Enable(slot) => command(speaker, Command::Enable(slot), writer)?,
+            SpeakerLine::Reach(prefix, cost) => command(
+                speaker,
+                Command::Reach(prefix, cost),
+                writer,
+            )?,
+            SpeakerLine::Up(slot) => step(speaker, Event::Up(slot), writer)?,
+            SpeakerLine::Fail(slot) => step(speaker, Event::Fail(slot), writer)?,
+            SpeakerLine::Bytes(slot, octets) => {
                 step(speaker, Event::Bytes(slot, octets.as_slice()), writer)?
             }
-            Line::Take(slot, max) => take(speaker, slot, max, room, writer)?,
-            Line::Show(table) => show(speaker, table, writer)?,
+            SpeakerLine::Take(slot, max) => take(speaker, slot, max, room, writer)?,
+            SpeakerLine::Show(table) => show(speaker, table, writer)?,
         }
         Ok(())
     }

@@ -1,5 +1,6 @@
 //! Transcripts of scripts and their answers, a file for a subject.
 
+mod cache;
 mod commands;
 mod export;
 mod payload_list;
