@@ -1,7 +1,9 @@
 pub mod CacheTable
 pub mod Intervals
+pub mod PduContents
 pub mod PduFaults
 pub mod PduSpelling
 pub mod PduStream
+pub mod PduTypes
 pub mod Receiving
 pub mod Responses

@@ -1,4 +1,4 @@
-use Rattle.std.specs.Prelude.{◌&&◌, ◌||◌, ◌==◌, ℕ, nat_le, nat_lt, if◌then◌else◌, Bool, true, false, not, List, [], ◌∷◌, Option, Some, None}
+use Rattle.std.specs.Prelude.{◌&&◌, ◌||◌, ◌==◌, ℕ, if◌then◌else◌, Bool, true, false, not, List, [], ◌∷◌, Option, Some, None}
 use Rattle.rtr_codec.specs.declared.fault.ErrorCode.{ErrorCode}
 use Rattle.rtr_codec.specs.declared.fault.ErrorCode.TheVariants.{CorruptData, InternalError, NoDataAvailable, InvalidRequest, UnsupportedVersion, UnsupportedType, WithdrawalOfUnknownRecord, DuplicateAnnouncement, UnexpectedVersion}
 use Rattle.rtr_codec.specs.declared.fault.PduFault.{PduFault}
@@ -6,7 +6,10 @@ use Rattle.rtr_codec.specs.declared.fault.PduFault.TheVariants.{Unanswered, Head
 use Rattle.rtr_codec.specs.declared.place.End.{End}
 use Rattle.rtr_codec.specs.declared.place.End.TheVariants.{Cache, Client}
 use Rattle.rtr_codec.specs.declared.place.Place.{Place}
-use Rattle.rtr_codec.specs.PduSpelling.{kind_at, told_length, version_at}
+use Rattle.rtr_codec.specs.declared.header.PduType.{PduType}
+use Rattle.rtr_codec.specs.declared.header.PduType.TheVariants.{ErrorReport}
+use Rattle.rtr_codec.specs.PduContents.{kind_at, told_length, version_at}
+use Rattle.rtr_codec.specs.PduTypes.{is_lawful_length, type_of}
 
 -- What is wrong with a PDU, in the order in which it is looked for (RFC 8210 section 12; the order is our own).
 
@@ -22,20 +25,15 @@ number_of WithdrawalOfUnknownRecord = 6
 number_of DuplicateAnnouncement = 7
 number_of UnexpectedVersion = 8
 
--- the types of PDUs (RFC 8210 section 5)
-abbrev pub is_type : ℕ → Bool
-is_type kind = nat_le kind 4 || (nat_le 6 kind && nat_le kind 10)
+-- no type has this octet
+abbrev pub is_unknown : Option PduType → Bool
+is_unknown None = true
+is_unknown (Some kind) = false
 
--- the lengths that a PDU of a type may have
-abbrev pub is_lawful_length : ℕ → ℕ → Bool
-is_lawful_length kind told =
-    if (kind == 0) || (kind == 1) then told == 12
-    else (if (kind == 2) || ((kind == 3) || (kind == 8)) then told == 8
-    else (if kind == 4 then told == 20
-    else (if kind == 6 then told == 32
-    else (if kind == 7 then told == 24
-    else (if kind == 9 then nat_le 32 told && nat_le told 4096
-    else nat_le 16 told && nat_le told 4096)))))
+-- a PDU of this type may not have this length
+abbrev pub is_unlawful : Option PduType → ℕ → Bool
+is_unlawful None told = false
+is_unlawful (Some kind) told = not (is_lawful_length kind told)
 
 -- whether the end that reads is the client's
 abbrev pub is_client : End → Bool
@@ -58,7 +56,7 @@ version_code is_first = if is_first then UnsupportedVersion else UnexpectedVersi
 -- an Error Report with a faulty header
 abbrev pub is_faulty_report : List ℕ → Bool
 is_faulty_report octets =
-    (kind_at octets == 10) && (not (version_at octets == 1) || not (is_lawful_length 10 (told_length octets)))
+    (kind_at octets == 10) && (not (version_at octets == 1) || not (is_lawful_length ErrorReport (told_length octets)))
 
 -- the first fault whose test holds
 abbrev pub first_fault : List (Bool × PduFault) → Option PduFault
@@ -71,8 +69,8 @@ header_fault place octets =
     first_fault
     ((is_faulty_report octets, Unanswered)
     ∷ (is_other_version place octets, Header (version_code place.is_first))
-    ∷ (not (is_type (kind_at octets)), Header UnsupportedType)
-    ∷ (not (is_lawful_length (kind_at octets) (told_length octets)), Header CorruptData)
+    ∷ (is_unknown (type_of (kind_at octets)), Header UnsupportedType)
+    ∷ (is_unlawful (type_of (kind_at octets)) (told_length octets), Header CorruptData)
     ∷ [])
 
 -- the code of the Error Report that answers a fault; none where there is no answer

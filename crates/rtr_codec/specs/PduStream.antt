@@ -5,7 +5,8 @@ use Rattle.rtr_codec.specs.declared.place.Place.{Place}
 use Rattle.rtr_codec.specs.declared.reading.Step.{Step}
 use Rattle.rtr_codec.specs.declared.reading.Step.TheVariants.{Need, Whole, Faulty}
 use Rattle.rtr_codec.specs.PduFaults.{header_fault}
-use Rattle.rtr_codec.specs.PduSpelling.{Content, Serial_notify, Serial_query, Reset_query, Cache_response, Announce, Withdraw, Ipv6_prefix, End_of_data, Cache_reset, Router_key, Error_report, content_at, content_of, told_length}
+use Rattle.rtr_codec.specs.PduSpelling.{Content, Serial_notify, Serial_query, Reset_query, Cache_response, Announce, Withdraw, Ipv6_prefix, End_of_data, Cache_reset, Router_key, Error_report, content_of}
+use Rattle.rtr_codec.specs.PduContents.{content_at, told_length}
 
 -- The PDUs of a stream of octets (RFC 8210 section 5). The pieces in which the octets come are no part of it.
 

@@ -9,6 +9,7 @@
 #![tactic(auto)]
 
 mod fault;
+mod header;
 mod intervals;
 mod pdu;
 mod place;
@@ -17,9 +18,10 @@ mod receiving;
 mod writing;
 
 pub use fault::{ErrorCode, PduFault};
+pub use header::{HEADER_OCTETS, MAX_PDU, PduType};
 pub use intervals::Intervals;
 pub use pdu::Pdu;
 pub use place::{End, Place};
-pub use reading::{HEADER_OCTETS, MAX_PDU, Step, needed, read};
+pub use reading::{Step, needed, read};
 pub use receiving::Receiver;
 pub use writing::write;
