@@ -1,0 +1,24 @@
+//! A cache of the RPKI-to-Router protocol: it publishes sets of payloads to routers, over connections that its caller
+//! holds (RFC 8210).
+//!
+//! What happens is handed in, one event a call, and what goes out is taken from each client's ring. A call makes of
+//! each client what the rows of `rtr_codec`'s table say, and at its end what a response has left is queued while the
+//! ring has room (`specs/CacheTable.antt` of `rtr_codec`). A response belongs to the version that was the newest when
+//! its query was read, to its end. A load, a client that comes up and the beginning of a response take memory; where
+//! it is refused a load and a new client change nothing, and of the rest only the client that asked is closed.
+#![tactic(auto)]
+
+mod cache;
+mod event;
+mod publisher;
+mod refusal;
+mod response;
+mod sender;
+mod served;
+
+pub use cache::{CACHE_CLIENTS, Cache};
+pub use event::{CacheEvent, CacheReport};
+pub use refusal::CacheRefusal;
+
+#[cfg(test)]
+mod tests;

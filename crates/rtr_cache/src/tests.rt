@@ -1,0 +1,2 @@
+//! Rows of the cache's table.
+mod rows;
