@@ -105,7 +105,7 @@ impl Line<'_> {
                 let octets = octets(alloc, hex)?;
                 Ok(Line::Serve(CacheLine::Bytes(key, octets)))
             }
-            words => line(words).ok_or(LineFault::BadLine),
+            words => line_of(words).ok_or(LineFault::BadLine),
         }
     }
 }
@@ -121,7 +121,7 @@ fn octets(alloc: Global, hex: &str) -> Result<Vec<u8>, LineFault> {
     }
 }
 
-fn line<'a>(words: &[&'a str]) -> Option<Line<'a>> {
+fn line_of<'a>(words: &[&'a str]) -> Option<Line<'a>> {
     let line = match words {
         ["speaker", asn, identifier, "nocache"] => Line::Speaker(Config {
             asn: Asn(number(asn)?),
