@@ -29,25 +29,28 @@ item_of octets (Some fault) = if length octets == 8 then Some (FaultyPdu fault o
 unfoldable pub meaning : Place → List ℕ → Option Item
 meaning place octets = if nat_lt (length octets) 8 then None else item_of octets (header_fault place octets)
 
--- whether an item is a Cache Response
+-- whether a PDU is a Cache Response
+abbrev pub is_cache_response : Content → Bool
+is_cache_response (Serial_notify session serial) = false
+is_cache_response (Serial_query session serial) = false
+is_cache_response Reset_query = false
+is_cache_response (Cache_response session) = true
+is_cache_response (Announce payload) = false
+is_cache_response (Withdraw payload) = false
+is_cache_response (Ipv6_prefix body) = false
+is_cache_response (End_of_data session serial intervals) = false
+is_cache_response Cache_reset = false
+is_cache_response (Router_key body) = false
+is_cache_response (Error_report code quoted) = false
+
 abbrev pub is_response : Item → Bool
-is_response (WholePdu (Cache_response session) octets) = true
-is_response (WholePdu (Serial_notify session serial) octets) = false
-is_response (WholePdu (Serial_query session serial) octets) = false
-is_response (WholePdu Reset_query octets) = false
-is_response (WholePdu (Announce payload) octets) = false
-is_response (WholePdu (Withdraw payload) octets) = false
-is_response (WholePdu (Ipv6_prefix body) octets) = false
-is_response (WholePdu (End_of_data session serial intervals) octets) = false
-is_response (WholePdu Cache_reset octets) = false
-is_response (WholePdu (Router_key body) octets) = false
-is_response (WholePdu (Error_report code quoted) octets) = false
+is_response (WholePdu content octets) = is_cache_response content
 is_response (FaultyPdu fault octets) = false
 
 -- the place behind an item
 abbrev pub place_after : Place → Option Item → Place
 place_after place None = place
-place_after place (Some item) = record { end = place.end; is_first = false; has_response = place.has_response || is_response item }
+place_after place (Some item) = record { end = place.end; is_first = false; has_response = is_response item || place.has_response }
 
 -- what is unread once the octets are this item: nothing behind a PDU, all from a fault on
 abbrev pub left_over : List ℕ → Option Item → List ℕ

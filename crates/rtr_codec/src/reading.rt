@@ -122,8 +122,10 @@ fn read_change(octets: &[u8]) -> Option<Pdu<'_>>
 fn read_payload(bits: u32, len: u8, max_len: u8, asn: u32) -> Option<Vrp>
     ensures { result ≡ payload_of bits len max_len asn }
 {
-    let prefix = Prefix::new(bits, len).ok()?;
-    Vrp::new(prefix, max_len, Asn(asn)).ok()
+    match Prefix::new(bits, len) {
+        Ok(prefix) => Vrp::new(prefix, max_len, Asn(asn)).ok(),
+        Err(_) => None,
+    }
 }
 
 // An End of Data (RFC 8210 section 5.8).

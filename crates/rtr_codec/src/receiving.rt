@@ -1,7 +1,8 @@
 //! One end's reading of a connection.
 ghost use Rattle.std.specs.Prelude.{◌≡◌, ◌≤◌, ◌<◌, min, length, take};
-ghost use Rattle.rtr_codec.specs.PduStream.{Wants, meaning, needed_of};
-ghost use Rattle.rtr_codec.specs.Receiving.{Reception, beginning, item_shown, received};
+ghost use Rattle.rtr_codec.specs.PduSpelling.{content_of};
+ghost use Rattle.rtr_codec.specs.PduStream.{Tells, Wants, is_cache_response, meaning, needed_of};
+ghost use Rattle.rtr_codec.specs.Receiving.{Reception, UsesAll, beginning, emptied, item_shown, passed_by, received};
 
 use crate::pdu::Pdu;
 use crate::place::{End, Place};
@@ -57,19 +58,53 @@ impl Receiver {
     /// What stands at the front of what came.
     pub fn front(&self) -> Step<'_>
         ensures item { meaning self.now.place self.now.part ≡ item_shown self.now.part result }
+        ensures all { UsesAll self.now.part result }
+        ensures tells { Tells self.now.place self.now.part result }
     {
         read(self.part.as_slice(), self.place)
     }
 
-    /// Goes on behind the PDU at the front. Behind a fault nothing is read.
-    pub fn pass(&mut self) {
-        let has_response = self.place.has_response
-            || matches!(self.front(), Step::Whole(Pdu::CacheResponse { .. }, _));
+    /// What came and no PDU has taken: all octets of the PDU or fault at the front, where one stands there.
+    pub fn octets(&self) -> &[u8]
+        ensures { result.now ≡ self.now.part }
+    {
+        self.part.as_slice()
+    }
+
+    /// Where on the connection the PDU at the front stands.
+    pub fn place(&self) -> Place
+        ensures { result ≡ self.now.place }
+    {
+        self.place
+    }
+
+    /// Goes on behind the PDU or fault at the front, where one stands there.
+    pub fn pass(&mut self)
+        ensures { self.new ≡ passed_by self.old (meaning self.old.place self.old.part) }
+    {
+        let is_response = match self.front() {
+            Step::Need => return,
+            Step::Whole(pdu, _) => says_response(&pdu),
+            Step::Faulty(..) => false,
+        };
         self.place = Place {
             end: self.place.end,
             is_first: false,
-            has_response,
+            has_response: is_response || self.place.has_response,
         };
         self.part.clear();
     }
+
+    /// Drops what came and no PDU has taken.
+    pub fn clear(&mut self)
+        ensures { self.new ≡ emptied self.old }
+    {
+        self.part.clear();
+    }
+}
+
+fn says_response(pdu: &Pdu<'_>) -> bool
+    ensures { result ≡ is_cache_response (content_of pdu.now) }
+{
+    matches!(pdu, Pdu::CacheResponse { .. })
 }
