@@ -31,8 +31,7 @@ front_is_whole place octets least fits sound =
     let back = drop (told_length octets) octets in
     let parts : take (told_length octets) octets ++ drop (told_length octets) octets ≡ octets = take-append-drop told octets in
     let count : length (take (told_length octets) octets) ≡ told_length octets = length-take-le told octets fits in
-    let whole : 8 ≤ length (take (told_length octets) octets) = omega (arith, count, least) in
-    (
+    let whole : 8 ≤ length (take (told_length octets) octets) = omega (arith, count, least) in (
       whole,
       sym (header_fault-append place front back whole) ∙ ap (header_fault place) parts ∙ sound,
       count ∙ sym (ap told_length parts) ∙ told_length-append front back whole,

@@ -212,8 +212,7 @@ ended_push place part octet (whole, inr h) =
     let longer : length (part ++ octet ∷ []) ≡ length part + 1 = length-append part (octet ∷ []) in
     let still : header_fault place (part ++ octet ∷ []) ≡ None = header_fault-append place part (octet ∷ []) whole ∙ h.0 in
     let told : told_length (part ++ octet ∷ []) ≡ told_length part = told_length-append part (octet ∷ []) whole in
-    let past : told_length part ≤ length part = h.1 in
-    (
+    let past : told_length part ≤ length part = h.1 in (
       meaning-cut place (part ++ octet ∷ []) (omega (arith, longer, whole)) still (λ e. omega (arith, longer, told, past, e)),
       (omega (arith, longer, whole), inr (still, omega (arith, longer, told, past))),
     )
@@ -316,7 +315,7 @@ pub told_length-bounds : (place : Place) (octets : List ℕ) → header_fault pl
 unfolding header_fault
 told_length-bounds place octets sound =
     let both = last_pass (is_faulty_report octets) (is_other_version place octets) (is_unknown (type_of (kind_at octets))) (is_unlawful (type_of (kind_at octets)) (told_length octets))
-      Unanswered _ (Header UnsupportedType) (Header CorruptData) sound in
+    Unanswered _ (Header UnsupportedType) (Header CorruptData) sound in
     told_bounds (type_of (kind_at octets)) (told_length octets) both.0 both.1
 
 -- how many octets are wanted, by cases

@@ -8,7 +8,6 @@ use crate::pdu::Pdu;
 use crate::place::{End, Place};
 use crate::reading::{Step, needed, read};
 use arrayvec::ArrayVec;
-use std::cmp::min;
 use std::marker::Model;
 
 /// What came on a connection and no PDU has taken: at most one PDU or fault, however the stream is cut.
@@ -50,7 +49,7 @@ impl Receiver {
         ensures exact { self.new ≡ received self.old (take result octets.now) }
         ensures goes_on { Wants self.old.place self.old.part → 0 < length octets.now → 0 < result }
     {
-        let count = min(needed(self.part.as_slice(), self.place), octets.len());
+        let count = needed(self.part.as_slice(), self.place).min(octets.len());
         let _fits = self.part.try_extend_from_slice(&octets[..count]);
         count
     }

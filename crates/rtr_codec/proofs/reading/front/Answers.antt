@@ -7,8 +7,7 @@ use Rattle.rtr_codec.proofs.reading.front.Goals as goal
 pub returns-in-Some : goal.returns-in-Some
 returns-in-Some c =
     let told : c.in-Ok.header.length ≡ told_length c.args.octets.now = c.in-Ok.ensures.told in
-    let least : 8 ≤ c.in-Ok.header.length = omega (arith, told, (told_length-bounds c.args.place c.args.octets.now c.in-Ok.ensures.fault).0) in
-    (
+    let least : 8 ≤ c.in-Ok.header.length = omega (arith, told, (told_length-bounds c.args.place c.args.octets.now c.in-Ok.ensures.fault).0) in (
       least,
       c.in-Ok.ensures.most,
       c.if-octets-header.false,
