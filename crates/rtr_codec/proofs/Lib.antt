@@ -1,3 +1,5 @@
 pub mod Payloads
 pub mod ReaderAnswers
+pub mod Spellings
+pub mod StreamPieces
 pub mod Streams

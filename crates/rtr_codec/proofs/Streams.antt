@@ -9,7 +9,7 @@ use Rattle.rtr_codec.specs.declared.header.PduType.TheVariants.{SerialNotify, Se
 use Rattle.rtr_codec.specs.declared.place.Place.{Place}
 use Rattle.rtr_codec.specs.PduContents.{content_at, kind_at, told_length}
 use Rattle.rtr_codec.specs.PduFaults.{header_fault, is_faulty_report, is_other_version, is_unknown, is_unlawful}
-use Rattle.rtr_codec.specs.PduStream.{Item, WholePdu, FaultyPdu, Wants, item_with, item_of, meaning, with_front, place_after, left_over, completed, pdus_from, unread_from, place_from, wanted_of, needed_of}
+use Rattle.rtr_codec.specs.PduStream.{Item, WholePdu, FaultyPdu, Wants, item_with, item_of, meaning, with_front, place_after, left_over, completed, pdus_from, unread_from, place_from, GoesOn, needed_of}
 use Rattle.rtr_codec.specs.PduTypes.{is_lawful_length, type_of}
 
 -- Streams of PDUs: what stands at the front, and what more octets make of it.
@@ -121,25 +121,25 @@ place_from-append place part [] more = refl
 place_from-append place part (octet ∷ octets) more =
     place_from-append (place_after place (completed place part octet)) (left_over (part ++ octet ∷ []) (completed place part octet)) octets more
 
--- octets of a stream, read as one item or none, and what follows them
-abbrev pub GoesOn : Place → List ℕ → List ℕ → Option Item → List ℕ → List ℕ → Type 0
-GoesOn place part octets found whole more =
+-- the same, with what is read named
+abbrev GoesOnBehind : Place → List ℕ → List ℕ → Option Item → List ℕ → List ℕ → Type 0
+GoesOnBehind place part octets found whole more =
     (pdus_from place part (octets ++ more) ≡ with_front found (pdus_from (place_after place found) (left_over whole found) more))
     × (unread_from place part (octets ++ more) ≡ unread_from (place_after place found) (left_over whole found) more)
     × (place_from place part (octets ++ more) ≡ place_from (place_after place found) (left_over whole found) more)
 
 last_octet :
     (place : Place) (part : List ℕ) (octet : ℕ) (more : List ℕ) (item : Item) → meaning place (part ++ octet ∷ []) ≡ Some item
-    → GoesOn place part (octet ∷ []) (Some item) (part ++ octet ∷ []) more
+    → GoesOnBehind place part (octet ∷ []) (Some item) (part ++ octet ∷ []) more
 last_octet place part octet more item found = (rw (found, pdus_from) refl, rw (found, unread_from) refl, rw (found, place_from) refl)
 
 -- an item at the front of what is left is read first
 item_first :
     (place : Place) (part : List ℕ) (octet : ℕ) (back more whole : List ℕ) (item : Item) → whole ≡ part ++ octet ∷ back
-    → meaning place whole ≡ Some item → GoesOn place part (octet ∷ back) (Some item) whole more
+    → meaning place whole ≡ Some item → GoesOnBehind place part (octet ∷ back) (Some item) whole more
 item_first place part octet [] more whole item e h =
     let found : meaning place (part ++ octet ∷ []) ≡ Some item = ap (meaning place) (sym e) ∙ h in
-    subst (λ (octets : List ℕ). GoesOn place part (octet ∷ []) (Some item) octets more) (sym e) (last_octet place part octet more item found)
+    subst (λ (octets : List ℕ). GoesOnBehind place part (octet ∷ []) (Some item) octets more) (sym e) (last_octet place part octet more item found)
 item_first place part octet (next ∷ back) more whole item e h =
     let again_is : whole ≡ (part ++ octet ∷ []) ++ next ∷ back = e ∙ sym (append_assoc part (octet ∷ []) (next ∷ back)) in
     let none : meaning place (part ++ octet ∷ []) ≡ None = front_is_none place (part ++ octet ∷ []) (next ∷ back) item (ap (meaning place) (sym again_is) ∙ h) (omega arith) in
@@ -151,7 +151,7 @@ unfolding meaning
 meaning-nil place = refl
 
 -- an item in front, then more
-pub item-then : (place : Place) (octets more : List ℕ) (item : Item) → meaning place octets ≡ Some item → GoesOn place [] octets (Some item) octets more
+pub item-then : (place : Place) (octets more : List ℕ) (item : Item) → meaning place octets ≡ Some item → GoesOn place [] octets (Some item) more
 item-then place [] more item h = absurd (some_is_not_none (meaning place []) item h (meaning-nil place))
 item-then place (octet ∷ octets) more item h = item_first place [] octet octets more (octet ∷ octets) item refl h
 
@@ -187,7 +187,7 @@ wants-then place part (octet ∷ octets) h =
     let again = wants-then place (part ++ octet ∷ []) octets still in
     (rw (none, pdus_from) again.0, rw (none, unread_from) (again.1 ∙ sym again_is), rw (none, place_from) again.2)
 
-pub wants-then_more : (place : Place) (part octets more : List ℕ) → Wants place (part ++ octets) → GoesOn place part octets None (part ++ octets) more
+pub wants-then_more : (place : Place) (part octets more : List ℕ) → Wants place (part ++ octets) → GoesOn place part octets None more
 wants-then_more place part octets more h =
     let none = wants-then place part octets h in (
       pdus_from-append place part octets more ∙ rw (none.0, none.1, none.2) refl,
@@ -386,16 +386,37 @@ needed-item place part item h = needed_by_length place part item (cases_lt (leng
 
 goes_on_by :
     (place : Place) (part : List ℕ) (octet : ℕ) (back more : List ℕ) → Becomes place (part ++ octet ∷ back)
-    → GoesOn place part (octet ∷ back) (meaning place (part ++ octet ∷ back)) (part ++ octet ∷ back) more
+    → GoesOn place part (octet ∷ back) (meaning place (part ++ octet ∷ back)) more
 goes_on_by place part octet back more (inl h) =
-    subst (λ (found : Option Item). GoesOn place part (octet ∷ back) found (part ++ octet ∷ back) more)
+    subst (λ (found : Option Item). GoesOn place part (octet ∷ back) found more)
     (sym (wants_none place (part ++ octet ∷ back) h)) (wants-then_more place part (octet ∷ back) more h)
 goes_on_by place part octet back more (inr h) =
-    subst (λ (found : Option Item). GoesOn place part (octet ∷ back) found (part ++ octet ∷ back) more)
+    subst (λ (found : Option Item). GoesOn place part (octet ∷ back) found more)
     (sym h.1) (item_first place part octet back more (part ++ octet ∷ back) h.0 refl h.1)
 
 pub goes_on :
     (place : Place) (part piece more : List ℕ) → Wants place part → 0 < length piece → length piece ≤ needed_of place part
-    → GoesOn place part piece (meaning place (part ++ piece)) (part ++ piece) more
+    → GoesOn place part piece (meaning place (part ++ piece)) more
 goes_on place part [] more h some fits = absurd (omega (arith, some))
 goes_on place part (octet ∷ back) more h some fits = goes_on_by place part octet back more (becomes place part (octet ∷ back) h fits)
+
+-- an item is no front of another
+pub only_whole : (place : Place) (octets more : List ℕ) (item other : Item) → meaning place octets ≡ Some item → meaning place (octets ++ more) ≡ Some other → more ≡ []
+only_whole place octets [] item other h k = refl
+only_whole place octets (octet ∷ more) item other h k =
+    absurd (some_is_not_none _ item h (front_is_none place octets (octet ∷ more) other k (omega arith)))
+
+-- octets that are an item end there
+ended_by_fault :
+    (place : Place) (octets : List ℕ) (item : Item) (found : Option PduFault) → header_fault place octets ≡ found → 8 ≤ length octets → meaning place octets ≡ Some item
+    → (length octets ≡ told_length octets) ⊎ (length octets ≡ told_length octets → ⊥) → Ended place octets
+ended_by_fault place octets item None sound whole h (inl all) = (whole, inr (sound, omega (arith, all)))
+ended_by_fault place octets item None sound whole h (inr other) = absurd (some_is_not_none _ item h (meaning-cut place octets whole sound other))
+ended_by_fault place octets item (Some fault) faulty whole h all = (whole, inl (fault, faulty))
+
+ended_by_length : (place : Place) (octets : List ℕ) (item : Item) → (length octets < 8) ⊎ (8 ≤ length octets) → meaning place octets ≡ Some item → Ended place octets
+ended_by_length place octets item (inl short) h = absurd (some_is_not_none _ item h (meaning-short place octets short))
+ended_by_length place octets item (inr whole) h = ended_by_fault place octets item _ refl whole h (cases_eq (length octets) (told_length octets))
+
+pub item_ended : (place : Place) (octets : List ℕ) (item : Item) → meaning place octets ≡ Some item → Ended place octets
+item_ended place octets item h = ended_by_length place octets item (cases_lt (length octets) 8) h

@@ -1,4 +1,4 @@
-use Rattle.std.specs.Prelude.{◌+◌, ℕ, List, [], ◌∷◌, ◌++◌, length}
+use Rattle.std.specs.Prelude.{◌≡◌, ◌≤◌, ◌<◌, ◌+◌, ◌^◌, ℕ, List, [], ◌∷◌, ◌++◌, length}
 use Rattle.std.specs.Int.{w16, w32, to_be_bytes}
 use Rattle.net_prefix.specs.declared.payload.Vrp.{Vrp}
 use Rattle.rtr_codec.specs.declared.intervals.Intervals.{Intervals}
@@ -65,3 +65,32 @@ spelling (End_of_data session serial intervals) = pdu_octets 7 session (to_be_by
 spelling Cache_reset = pdu_octets 8 0 []
 spelling (Router_key body) = pdu_octets 9 0 body
 spelling (Error_report code quoted) = pdu_octets 10 code (report_octets quoted)
+
+-- how many octets they are
+abbrev pub length_of : Content → ℕ
+length_of (Serial_notify session serial) = 12
+length_of (Serial_query session serial) = 12
+length_of Reset_query = 8
+length_of (Cache_response session) = 8
+length_of (Announce payload) = 20
+length_of (Withdraw payload) = 20
+length_of (Ipv6_prefix body) = 8 + length body
+length_of (End_of_data session serial intervals) = 24
+length_of Cache_reset = 8
+length_of (Router_key body) = 8 + length body
+length_of (Error_report code quoted) = 16 + length quoted
+
+-- each number fits its field, and the length is one that a PDU of the type may have (RFC 8210 section 5; no PDU of over 4,096 octets is read)
+abbrev pub IsLawful : Content → Type 0
+IsLawful (Serial_notify session serial) = (session < 2 ^ 16) × (serial < 2 ^ 32)
+IsLawful (Serial_query session serial) = (session < 2 ^ 16) × (serial < 2 ^ 32)
+IsLawful Reset_query = Unit {0}
+IsLawful (Cache_response session) = session < 2 ^ 16
+IsLawful (Announce payload) = (payload.prefix.bits < 2 ^ 32) × (payload.asn.0 < 2 ^ 32)
+IsLawful (Withdraw payload) = (payload.prefix.bits < 2 ^ 32) × (payload.asn.0 < 2 ^ 32)
+IsLawful (Ipv6_prefix body) = length body ≡ 24
+IsLawful (End_of_data session serial intervals) =
+    (session < 2 ^ 16) × (serial < 2 ^ 32) × (intervals.refresh < 2 ^ 32) × (intervals.retry < 2 ^ 32) × (intervals.expire < 2 ^ 32)
+IsLawful Cache_reset = Unit {0}
+IsLawful (Router_key body) = (24 ≤ length body) × (8 + length body ≤ 4096)
+IsLawful (Error_report code quoted) = (code < 2 ^ 16) × (16 + length quoted ≤ 4096)

@@ -93,6 +93,30 @@ pdus place stream = pdus_from place [] stream
 abbrev pub unread : Place → List ℕ → List ℕ
 unread place stream = unread_from place [] stream
 
+-- what a reader of pieces finds that keeps what is unread
+abbrev pub pdus_of_pieces : Place → List ℕ → List (List ℕ) → List Item
+pdus_of_pieces place part [] = []
+pdus_of_pieces place part (piece ∷ pieces) = pdus_from place part piece ++ pdus_of_pieces (place_from place part piece) (unread_from place part piece) pieces
+
+-- and what it keeps at the end
+abbrev pub unread_of_pieces : Place → List ℕ → List (List ℕ) → List ℕ
+unread_of_pieces place part [] = part
+unread_of_pieces place part (piece ∷ pieces) = unread_of_pieces (place_from place part piece) (unread_from place part piece) pieces
+
+-- the octets complete this item or none behind what is unread, and those behind them are read behind it
+abbrev pub GoesOn : Place → List ℕ → List ℕ → Option Item → List ℕ → Type 0
+GoesOn place part octets found more =
+    (pdus_from place part (octets ++ more) ≡ with_front found (pdus_from (place_after place found) (left_over (part ++ octets) found) more))
+    × (unread_from place part (octets ++ more) ≡ unread_from (place_after place found) (left_over (part ++ octets) found) more)
+    × (place_from place part (octets ++ more) ≡ place_from (place_after place found) (left_over (part ++ octets) found) more)
+
+-- the octets are read as this PDU, whatever follows them
+abbrev pub IsReadFirst : Place → List ℕ → Content → Type 0
+IsReadFirst place octets content =
+    (more : List ℕ)
+    → (pdus place (octets ++ more) ≡ WholePdu content octets ∷ pdus (place_after place (Some (WholePdu content octets))) more)
+    × (unread place (octets ++ more) ≡ unread (place_after place (Some (WholePdu content octets))) more)
+
 -- What a reader answers for the front of a stream.
 
 -- no whole header, or a header without a fault before the end of its PDU

@@ -15,6 +15,7 @@ mod pdu;
 mod place;
 mod reading;
 mod receiving;
+mod stream;
 mod writing;
 
 pub use fault::{ErrorCode, PduFault};

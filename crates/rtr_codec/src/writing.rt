@@ -1,7 +1,7 @@
 //! PDUs written (RFC 8210 section 5).
 ghost use Rattle.std.specs.Prelude.{◌≡◌, ◌≤◌, ◌+◌, ◌∷◌, ◌++◌, [], length};
 ghost use Rattle.std.specs.Int.{w16, w32, to_be_bytes};
-ghost use Rattle.rtr_codec.specs.PduSpelling.{content_of, interval_octets, payload_octets, pdu_octets, report_octets, spelling};
+ghost use Rattle.rtr_codec.specs.PduSpelling.{content_of, interval_octets, length_of, payload_octets, pdu_octets, report_octets, spelling};
 ghost use Rattle.rtr_codec.specs.PduTypes.{octet_of};
 
 use crate::header::{PduType, VERSION};
@@ -13,8 +13,9 @@ use net_prefix::Vrp;
 /// Writes the PDU. What it quotes or carries leaves it within the buffer's 64 octets.
 #[tactic(auto, unfolding(crate::specs::PduSpelling::spelling))]
 pub fn write(pdu: &Pdu<'_>, out: &mut ArrayVec<u8, 64>)
-    requires { length (spelling (content_of pdu.now)) ≤ 64 }
+    requires { length_of (content_of pdu.now) ≤ 64 }
     ensures octets { out.new.items ≡ spelling (content_of pdu.now) }
+    ensures len { length out.new.items ≡ length_of (content_of pdu.now) }
 {
     match pdu {
         Pdu::SerialNotify { session, serial } => {
