@@ -1,0 +1,57 @@
+use Rattle.std.specs.Prelude.{◌+◌, ◌-◌, ◌^◌, ◌≤◌, ℕ, nat_lt, if◌then◌else◌, Option, Some, None, ⊤}
+use Rattle.ov_programs.specs.declared.wire.Accepted.{Accepted}
+use Rattle.ov_programs.specs.declared.wire.Accepted.TheVariants.{Connection, Nothing as NoneWaits, Fault as AcceptFault}
+use Rattle.ov_programs.specs.declared.wire.Received.{Received}
+use Rattle.ov_programs.specs.declared.wire.Received.TheVariants.{Octets as Came, Nothing as NoneCame, End, Fault as ReadFault}
+use Rattle.ov_programs.specs.declared.wire.Sent.{Sent}
+use Rattle.ov_programs.specs.declared.wire.Sent.TheVariants.{Octets as Went, Nothing as NoneWent, Fault as WriteFault}
+
+-- What the calls of a wire make of its counts: each fault and each end of input is counted as it is answered.
+
+-- a count goes on by one, and stays at the greatest u64
+abbrev pub one_more : ℕ → ℕ
+one_more count = if nat_lt count (2 ^ 64 - 1) then count + 1 else count
+
+-- the faults behind a connect
+abbrev pub faults_connecting : {S : Type 0} → Option S → ℕ → ℕ
+faults_connecting (Some socket) faults = faults
+faults_connecting None faults = one_more faults
+
+-- the faults behind an accept
+abbrev pub faults_accepting : {S : Type 0} → Accepted S → ℕ → ℕ
+faults_accepting (Connection socket address) faults = faults
+faults_accepting NoneWaits faults = faults
+faults_accepting AcceptFault faults = one_more faults
+
+-- the faults behind a read
+abbrev pub faults_receiving : Received → ℕ → ℕ
+faults_receiving (Came count) faults = faults
+faults_receiving NoneCame faults = faults
+faults_receiving End faults = faults
+faults_receiving ReadFault faults = one_more faults
+
+-- the ends of input behind a read
+abbrev pub ends_receiving : Received → ℕ → ℕ
+ends_receiving (Came count) ends = ends
+ends_receiving NoneCame ends = ends
+ends_receiving End ends = one_more ends
+ends_receiving ReadFault ends = ends
+
+-- the faults behind a write
+abbrev pub faults_sending : Sent → ℕ → ℕ
+faults_sending (Went count) faults = faults
+faults_sending NoneWent faults = faults
+faults_sending WriteFault faults = one_more faults
+
+-- a read puts no more octets into a buffer than it holds
+abbrev pub FitsIn : ℕ → Received → Type 0
+FitsIn len (Came count) = count ≤ len
+FitsIn len NoneCame = ⊤
+FitsIn len End = ⊤
+FitsIn len ReadFault = ⊤
+
+-- a write sends no more octets than it was handed
+abbrev pub FitsInSent : ℕ → Sent → Type 0
+FitsInSent len (Went count) = count ≤ len
+FitsInSent len NoneWent = ⊤
+FitsInSent len WriteFault = ⊤

@@ -1,0 +1,69 @@
+//! What the programs' mains do.
+
+use crate::cache_loop::CacheLoop;
+use crate::fault::ExitFault;
+use crate::net_wire::NetWire;
+use crate::settings::CacheSettings;
+use crate::words::read_words;
+use rtr_cache::{Cache, CacheEvent};
+use std::alloc::AllocGlobal;
+use std::io::Write;
+use std::net::{Net, TcpListener, TcpStream};
+use std::rt::{Clock, Files};
+use std::time::{Duration, Instant};
+use std::{fs, thread};
+use vrp_csv::read_list;
+
+/// How long a program rests between two turns (own choice).
+const PAUSE_MILLISECONDS: u64 = 1;
+
+/// `ovcache SETTINGS TURNS`: a cache that serves the list of its settings for so many turns. It prints nothing on its
+/// output; a fault has its line on `errors`. The answer is the exit status.
+pub fn main_cache<R, O: Write, E: Write>(
+    rt: &R,
+    words: &[String],
+    _output: &mut O,
+    errors: &mut E,
+) -> u8
+where
+    R: Net<Listener = TcpListener, Stream = TcpStream> + Files + Clock + AllocGlobal,
+{
+    match run_cache(rt, words) {
+        Ok(()) => 0,
+        Err(fault) => {
+            // Where errors can't be written, the status is all that tells.
+            let _told = writeln!(errors, "ovcache: {fault}");
+            fault.status()
+        }
+    }
+}
+
+fn run_cache<R>(rt: &R, words: &[String]) -> Result<(), ExitFault>
+where
+    R: Net<Listener = TcpListener, Stream = TcpStream> + Files + Clock + AllocGlobal,
+{
+    let (path, turns) = read_words(words)?;
+    let octets = fs::read(rt, path)?;
+    let settings = CacheSettings::read(rt.alloc(), octets.as_slice())?;
+    let cache = load_cache(rt, &settings)?;
+    let wire = NetWire::listening(rt, settings.listen)?;
+    let mut served = CacheLoop::new(rt.alloc(), wire, cache)?;
+    let start = Instant::now(rt)?;
+    for _ in 0..turns {
+        served.turn(start.elapsed(rt)?.as_secs())?;
+        thread::sleep(rt, Duration::from_millis(PAUSE_MILLISECONDS));
+    }
+    Ok(())
+}
+
+// The cache of the settings, with their list.
+fn load_cache<R: Files + AllocGlobal>(
+    rt: &R,
+    settings: &CacheSettings,
+) -> Result<Cache, ExitFault> {
+    let mut cache = Cache::new(rt.alloc(), settings.session, settings.intervals)?;
+    let list = fs::open(rt, settings.csv.as_str())?;
+    let loaded = read_list(rt.alloc(), list)?;
+    let _serial = cache.step(CacheEvent::Load(&loaded.set))?;
+    Ok(cache)
+}

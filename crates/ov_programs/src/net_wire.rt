@@ -1,0 +1,149 @@
+//! The system's TCP sockets.
+ghost use Rattle.std.specs.Prelude.{◌≡◌};
+ghost use Rattle.ov_programs.specs.Wires.{one_more};
+
+use crate::wire::{Accepted, Received, Sent, Wire};
+use mio::net::TcpStream;
+use std::io::{self, ErrorKind, Read, Write};
+use std::net::{self, Net, OpenListener, SocketAddr, TcpListener};
+
+/// TCP sockets that don't wait, and the listener whose connections are accepted.
+#[derive(Drop)]
+pub struct NetWire<'a, R: Net<Listener = TcpListener, Stream = net::TcpStream>> {
+    net: &'a R,
+    listener: Option<TcpListener>,
+    faults: u64,
+    ends: u64,
+}
+
+impl<'a, R: Net<Listener = TcpListener, Stream = net::TcpStream>> NetWire<'a, R> {
+    /// A wire that only connects.
+    pub fn new(net: &'a R) -> Self {
+        NetWire {
+            net,
+            listener: None,
+            faults: 0,
+            ends: 0,
+        }
+    }
+
+    /// A wire that listens at the address too.
+    pub fn listening(net: &'a R, address: SocketAddr) -> io::Result<Self> {
+        let listener = TcpListener::bind(net, address)?;
+        listener.set_nonblocking(true)?;
+        Ok(NetWire {
+            net,
+            listener: Some(listener),
+            faults: 0,
+            ends: 0,
+        })
+    }
+
+    /// Where the wire listens, if it does.
+    pub fn local_address(&self) -> Option<SocketAddr> {
+        match &self.listener {
+            Some(listener) => listener.local_addr().ok(),
+            None => None,
+        }
+    }
+
+    // Counts a fault.
+    fn fail(&mut self)
+        ensures { self.new ≡ record self.old { faults = one_more self.old.faults } }
+    {
+        self.faults = self.faults.saturating_add(1);
+    }
+}
+
+impl<R: Net<Listener = TcpListener, Stream = net::TcpStream>> Wire for NetWire<'_, R> {
+    type Socket = TcpStream;
+
+    ghost fault_count = { λ wire. wire.faults };
+
+    ghost end_count = { λ wire. wire.ends };
+
+    fn connect(&mut self, address: SocketAddr) -> Option<TcpStream> {
+        match TcpStream::connect(self.net, address) {
+            Ok(stream) => Some(stream),
+            Err(_) => {
+                self.fail();
+                None
+            }
+        }
+    }
+
+    fn accept(&mut self) -> Accepted<TcpStream> {
+        let Some(listener) = &self.listener else {
+            return Accepted::Nothing;
+        };
+        match accept_from(listener) {
+            Ok((stream, address)) => Accepted::Connection(stream, address),
+            Err(error) if is_of_one_connection(error.kind()) => Accepted::Nothing,
+            Err(_) => {
+                self.fail();
+                Accepted::Fault
+            }
+        }
+    }
+
+    fn read(&mut self, socket: &mut TcpStream, buf: &mut [u8]) -> Received {
+        match socket.read(buf) {
+            Ok(0) => {
+                self.ends = self.ends.saturating_add(1);
+                Received::End
+            }
+            Ok(count) => Received::Octets(count),
+            Err(error) if is_not_yet(error.kind()) => Received::Nothing,
+            Err(_) => {
+                self.fail();
+                Received::Fault
+            }
+        }
+    }
+
+    fn write(&mut self, socket: &mut TcpStream, octets: &[u8]) -> Sent {
+        match socket.write(octets) {
+            Ok(count) => Sent::Octets(count),
+            Err(error) if is_not_yet(error.kind()) => Sent::Nothing,
+            Err(_) => {
+                self.fail();
+                Sent::Fault
+            }
+        }
+    }
+
+    fn close(&mut self, _socket: TcpStream) {}
+
+    fn faults(&self) -> u64 {
+        self.faults
+    }
+
+    fn ends(&self) -> u64 {
+        self.ends
+    }
+}
+
+// The next connection, made one that doesn't wait.
+fn accept_from(listener: &TcpListener) -> io::Result<(TcpStream, SocketAddr)> {
+    let (stream, address) = listener.accept()?;
+    stream.set_nonblocking(true)?;
+    Ok((TcpStream::from_std(stream), address))
+}
+
+// Whether a call would have to wait.
+fn is_not_yet(kind: ErrorKind) -> bool {
+    matches!(kind, ErrorKind::WouldBlock | ErrorKind::Interrupted)
+}
+
+// Whether a fault of `accept` is one of the connection that came, which is gone then, and not one of the listener.
+fn is_of_one_connection(kind: ErrorKind) -> bool {
+    is_not_yet(kind)
+        || matches!(
+            kind,
+            ErrorKind::ConnectionAborted
+                | ErrorKind::ConnectionReset
+                | ErrorKind::HostUnreachable
+                | ErrorKind::NetworkUnreachable
+                | ErrorKind::NetworkDown
+        )
+}

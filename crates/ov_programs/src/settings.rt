@@ -1,0 +1,116 @@
+//! The settings of the programs, in TOML.
+
+use rtr_codec::Intervals;
+use std::alloc::{AllocError, AllocFailed, Global};
+use std::net::SocketAddr;
+use std::str;
+use thiserror::Error;
+use toml::Table;
+
+/// Why settings can't be had of a text.
+#[derive(Clone, Copy, Debug, PartialEq, Eq, Error)]
+pub enum SettingsFault {
+    /// The text isn't TOML, lacks a key, or a key has a value that it can't have.
+    #[error("the settings are no settings")]
+    Settings,
+    /// There is no memory to read them.
+    #[error("there is no memory for the settings")]
+    NoMemory,
+}
+
+impl From<AllocError> for SettingsFault {
+    fn from(_error: AllocError) -> SettingsFault {
+        SettingsFault::NoMemory
+    }
+}
+
+/// What `ovcache` is told by its settings.
+#[derive(Drop)]
+pub struct CacheSettings {
+    /// Where it listens.
+    pub listen: SocketAddr,
+    /// The path of its payload list.
+    pub csv: String,
+    /// Its session.
+    pub session: u16,
+    /// What each End of Data tells.
+    pub intervals: Intervals,
+}
+
+impl CacheSettings {
+    /// The settings that the octets of a file tell: `listen`, `csv` and `session`, and `refresh`, `retry` and `expire`
+    /// where they aren't the usual ones. Keys of other names are passed over.
+    pub fn read(alloc: Global, octets: &[u8]) -> Result<CacheSettings, SettingsFault> {
+        let Ok(text) = str::from_utf8(octets) else {
+            return Err(SettingsFault::Settings);
+        };
+        let table = read_table(alloc, text)?;
+        let Ok(listen) = text_of(&table, "listen")?.parse::<SocketAddr>() else {
+            return Err(SettingsFault::Settings);
+        };
+        let csv = String::from_str(alloc, text_of(&table, "csv")?)?;
+        let session = session_of(&table)?;
+        let intervals = intervals_of(&table)?;
+        Ok(CacheSettings {
+            listen,
+            csv,
+            session,
+            intervals,
+        })
+    }
+}
+
+// The table that a text spells.
+fn read_table(alloc: Global, text: &str) -> Result<Table, SettingsFault> {
+    match toml::table_from_str(alloc, text) {
+        Ok(table) => Ok(table),
+        Err(error) if error.is_memory() => Err(SettingsFault::NoMemory),
+        Err(_) => Err(SettingsFault::Settings),
+    }
+}
+
+// The text at a key that has to be there.
+fn text_of<'a>(table: &'a Table, key: &str) -> Result<&'a str, SettingsFault> {
+    let Some(value) = table.get(key) else {
+        return Err(SettingsFault::Settings);
+    };
+    match value.as_str() {
+        Some(text) => Ok(text),
+        None => Err(SettingsFault::Settings),
+    }
+}
+
+// The session, which has to be there.
+fn session_of(table: &Table) -> Result<u16, SettingsFault> {
+    match number_of(table, "session")? {
+        Some(number) => u16::try_from(number).map_err(|_| SettingsFault::Settings),
+        None => Err(SettingsFault::Settings),
+    }
+}
+
+// The intervals; one whose key isn't there is the usual one.
+fn intervals_of(table: &Table) -> Result<Intervals, SettingsFault> {
+    let intervals = Intervals {
+        refresh: number_of(table, "refresh")?.unwrap_or(Intervals::USUAL.refresh),
+        retry: number_of(table, "retry")?.unwrap_or(Intervals::USUAL.retry),
+        expire: number_of(table, "expire")?.unwrap_or(Intervals::USUAL.expire),
+    };
+    if !intervals.are_lawful() {
+        return Err(SettingsFault::Settings);
+    }
+    Ok(intervals)
+}
+
+// The number at a key, if the key is there.
+fn number_of(table: &Table, key: &str) -> Result<Option<u32>, SettingsFault> {
+    let Some(value) = table.get(key) else {
+        return Ok(None);
+    };
+    let Some(number) = value.as_integer() else {
+        return Err(SettingsFault::Settings);
+    };
+    match u32::try_from(number) {
+        Ok(number) => Ok(Some(number)),
+        Err(_) => Err(SettingsFault::Settings),
+    }
+}

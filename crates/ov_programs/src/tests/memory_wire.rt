@@ -1,0 +1,287 @@
+//! Each call of a wire fails once: its client is gone, and all others go on.
+ghost use Rattle.std.specs.Prelude.{◌≡◌, if◌then◌else◌, length};
+ghost use Rattle.ov_programs.specs.Wires.{one_more};
+
+use crate::{Accepted, CacheLoop, LoopFault, Received, Sent, Wire};
+use net_prefix::{Asn, Prefix, Vrp};
+use rtr_cache::{Cache, CacheEvent};
+use rtr_codec::Intervals;
+use std::alloc::AllocGlobal;
+use std::cmp::min;
+use std::collections::BTreeSet;
+use std::net::{Ipv4Addr, SocketAddr, SocketAddrV4};
+use std::process::Abort;
+use std::test::Fail;
+
+// The most octets of a read and of a write.
+const READ_OCTETS: usize = 5;
+
+const WRITE_OCTETS: usize = 7;
+
+const RESET_QUERY: [u8; 8] = [1, 2, 0, 0, 0, 0, 0, 8];
+
+// The list of 10.0.0.0/16 up to length 24 of AS65002, at serial 1 of session 7.
+#[rattlefmt::skip]
+const LIST: [u8; 52] = [
+    1, 3, 0, 7, 0, 0, 0, 8,
+    1, 4, 0, 0, 0, 0, 0, 20, 1, 16, 24, 0, 10, 0, 0, 0, 0, 0, 0xFD, 0xEA,
+    1, 7, 0, 7, 0, 0, 0, 24, 0, 0, 0, 1, 0, 0, 0x0E, 0x10, 0, 0, 2, 0x58, 0, 0, 0x1C, 0x20,
+];
+
+// A Reset Query of a version that the cache doesn't speak, and the Error Report that quotes it.
+const STRANGE_QUERY: [u8; 8] = [2, 2, 0, 0, 0, 0, 0, 8];
+
+#[rattlefmt::skip]
+const UNSUPPORTED: [u8; 24] = [
+    1, 10, 0, 4, 0, 0, 0, 24, 0, 0, 0, 8,
+    2, 2, 0, 0, 0, 0, 0, 8,
+    0, 0, 0, 0,
+];
+
+// The other side of a connection.
+#[derive(Clone, Copy, Debug, PartialEq, Eq)]
+struct Router {
+    is_strange: bool,
+    // How many octets of its query have gone.
+    asked: usize,
+    // How many octets of the answer that it awaits have come.
+    answered: usize,
+    // Whether another octet came than the one that it awaits.
+    is_misled: bool,
+    is_closed: bool,
+}
+
+const ASKING: Router = Router {
+    is_strange: false,
+    asked: 0,
+    answered: 0,
+    is_misled: false,
+    is_closed: false,
+};
+
+const STRANGE: Router = Router {
+    is_strange: true,
+    asked: 0,
+    answered: 0,
+    is_misled: false,
+    is_closed: false,
+};
+
+impl Router {
+    fn query(&self) -> &'static [u8] {
+        if self.is_strange {
+            &STRANGE_QUERY
+        } else {
+            &RESET_QUERY
+        }
+    }
+
+    fn answer(&self) -> &'static [u8] {
+        if self.is_strange { &UNSUPPORTED } else { &LIST }
+    }
+
+    // Sends the next octets of the query.
+    fn ask(&mut self, buf: &mut [u8]) -> usize {
+        let query = self.query();
+        let rest = query.get(self.asked..).unwrap_or(&[]);
+        let count = min(rest.len(), min(buf.len(), READ_OCTETS));
+        buf[..count].copy_from_slice(&rest[..count]);
+        self.asked = self.asked.saturating_add(count);
+        count
+    }
+
+    // Takes the first octets that come.
+    fn hear(&mut self, octets: &[u8]) -> usize {
+        let count = min(octets.len(), WRITE_OCTETS);
+        for octet in &octets[..count] {
+            if self.answer().get(self.answered) != Some(octet) {
+                self.is_misled = true;
+            }
+            self.answered = self.answered.saturating_add(1);
+        }
+        count
+    }
+
+    fn has_its_answer(&self) -> bool {
+        !self.is_misled && self.answered == self.answer().len()
+    }
+}
+
+#[derive(Clone, Copy, Debug, PartialEq, Eq)]
+enum Call {
+    Connect,
+    Accept,
+    OfRouter(usize),
+}
+
+// Three routers that connect one after another; one call of the wire fails.
+#[derive(Clone, Copy, Drop)]
+struct MemoryWire {
+    routers: [Router; 3],
+    accepted: usize,
+    calls: u64,
+    fails_at: u64,
+    failed: Option<Call>,
+    faults: u64,
+    ends: u64,
+}
+
+#[derive(Drop)]
+struct Plug(usize);
+
+impl MemoryWire {
+    fn failing_at(fails_at: u64) -> MemoryWire {
+        MemoryWire {
+            routers: [ASKING, STRANGE, ASKING],
+            accepted: 0,
+            calls: 0,
+            fails_at,
+            failed: None,
+            faults: 0,
+            ends: 0,
+        }
+    }
+
+    // Counts a call, and whether it fails.
+    fn fails(&mut self, call: Call) -> bool
+        ensures faults { self.new.faults ≡ (if result then one_more self.old.faults else self.old.faults) }
+        ensures ends { self.new.ends ≡ self.old.ends }
+    {
+        self.calls = self.calls.saturating_add(1);
+        if self.calls != self.fails_at {
+            return false;
+        }
+        self.failed = Some(call);
+        self.faults = self.faults.saturating_add(1);
+        true
+    }
+}
+
+impl Wire for MemoryWire {
+    type Socket = Plug;
+
+    ghost fault_count = { λ wire. wire.faults };
+
+    ghost end_count = { λ wire. wire.ends };
+
+    fn connect(&mut self, _address: SocketAddr) -> Option<Plug> {
+        if self.fails(Call::Connect) {
+            return None;
+        }
+        Some(Plug(0))
+    }
+
+    fn accept(&mut self) -> Accepted<Plug> {
+        if self.fails(Call::Accept) {
+            return Accepted::Fault;
+        }
+        if self.accepted >= self.routers.len() {
+            return Accepted::Nothing;
+        }
+        let plug = Plug(self.accepted);
+        self.accepted += 1;
+        let address = SocketAddrV4::new(Ipv4Addr::LOCALHOST, 0);
+        Accepted::Connection(plug, SocketAddr::V4(address))
+    }
+
+    fn read(&mut self, socket: &mut Plug, buf: &mut [u8]) -> Received {
+        if self.fails(Call::OfRouter(socket.0)) {
+            return Received::Fault;
+        }
+        match self.routers.get_mut(socket.0) {
+            Some(router) => match router.ask(buf) {
+                0 => Received::Nothing,
+                count => Received::Octets(count),
+            },
+            None => Received::Nothing,
+        }
+    }
+
+    fn write(&mut self, socket: &mut Plug, octets: &[u8]) -> Sent {
+        if self.fails(Call::OfRouter(socket.0)) {
+            return Sent::Fault;
+        }
+        match self.routers.get_mut(socket.0) {
+            Some(router) => Sent::Octets(router.hear(octets)),
+            None => Sent::Nothing,
+        }
+    }
+
+    fn close(&mut self, socket: Plug) {
+        if let Some(router) = self.routers.get_mut(socket.0) {
+            router.is_closed = true;
+        }
+    }
+
+    fn faults(&self) -> u64 {
+        self.faults
+    }
+
+    fn ends(&self) -> u64 {
+        self.ends
+    }
+}
+
+// What twenty turns have led to.
+#[derive(Drop)]
+struct Served {
+    wire: MemoryWire,
+    fault: Option<LoopFault>,
+    lost: u64,
+    closed: u64,
+}
+
+fn serve(rt: &impl AllocGlobal, fails_at: u64) -> Result<Served, Fail> {
+    let mut set = BTreeSet::new(rt.alloc());
+    let _ = set.insert(Vrp::new(Prefix::parse("10.0.0.0/16")?, 24, Asn(65_002))?)?;
+    let mut cache = Cache::new(rt.alloc(), 7, Intervals::USUAL)?;
+    let _ = cache.step(CacheEvent::Load(&set))?;
+    let mut turns = CacheLoop::new(rt.alloc(), MemoryWire::failing_at(fails_at), cache)?;
+    let mut fault = None;
+    for now in 0..20 {
+        if let Err(stop) = turns.turn(now) {
+            fault = Some(stop);
+            break;
+        }
+    }
+    Ok(Served {
+        wire: *turns.wire(),
+        fault,
+        lost: turns.lost(),
+        closed: turns.closed(),
+    })
+}
+
+// Each router but one has its answer, and is connected unless it asked strangely.
+fn others_are_served(rt: &impl Abort, routers: &[Router], failed: Option<usize>) {
+    for (place, router) in routers.iter().enumerate() {
+        if failed != Some(place) {
+            assert!(rt; router.has_its_answer(), "{place} of {routers:?}");
+            assert_eq!(rt; router.is_closed, router.is_strange);
+        }
+    }
+}
+
+#[test]
+fn a_failing_call_costs_one_client(rt: HostRuntime) -> Result<(), Fail> {
+    for fails_at in 1..1_000 {
+        let served = serve(&rt, fails_at)?;
+        match served.wire.failed {
+            Some(Call::OfRouter(failed)) => {
+                assert_eq!(rt; served.fault, None);
+                let gone = served.wire.routers.get(failed).ok_or("no router")?;
+                assert!(rt; gone.is_closed, "{fails_at}");
+                others_are_served(&rt, &served.wire.routers, Some(failed));
+            }
+            Some(_) => assert_eq!(rt; served.fault, Some(LoopFault::Accept)),
+            None => {
+                others_are_served(&rt, &served.wire.routers, None);
+                assert_eq!(rt; (served.lost, served.closed), (1, 1));
+                assert!(rt; fails_at > 50, "{fails_at}");
+                return Ok(());
+            }
+        }
+    }
+    assert!(rt; false, "each run had a fault");
+    Ok(())
+}

@@ -1,0 +1,146 @@
+//! Each text of `ovcache` with its exit status.
+
+use crate::main_cache;
+use std::net::TcpListener;
+use std::test::Fail;
+use std::{env, fs, process};
+
+const LIST: &str = "ASN,IP Prefix,Max Length,Trust Anchor\nAS65002,10.0.0.0/16,24,ta\n";
+
+// All but the list's path.
+const SETTINGS: &str = "listen = \"127.0.0.1:0\"\nsession = 7\n";
+
+// What the program printed, and its exit status.
+#[derive(Drop)]
+struct Ended {
+    output: Vec<u8>,
+    errors: Vec<u8>,
+    status: u8,
+}
+
+impl Ended {
+    fn is(&self, status: u8, errors: &str) -> bool {
+        self.status == status
+            && self.output.is_empty()
+            && self.errors.as_slice() == errors.as_bytes()
+    }
+}
+
+// A path of this process alone.
+fn path_of(rt: &HostRuntime, name: &str) -> Result<String, Fail> {
+    let number = process::id(rt.process());
+    let mut path = env::temp_dir(rt)?;
+    path.push(format!(in rt.alloc(); "ovcache-{number}-{name}")?.as_str())?;
+    Ok(String::from_str(rt.alloc(), path.as_str())?)
+}
+
+fn run(rt: &HostRuntime, words: &[&str]) -> Result<Ended, Fail> {
+    let mut strings = Vec::new(rt.alloc());
+    for word in words {
+        strings.push(String::from_str(rt.alloc(), word)?)?;
+    }
+    let mut output = Vec::new(rt.alloc());
+    let mut errors = Vec::new(rt.alloc());
+    let status = main_cache(rt, strings.as_slice(), &mut output, &mut errors);
+    Ok(Ended {
+        output,
+        errors,
+        status,
+    })
+}
+
+// Runs on settings with the path of this list.
+fn run_with(
+    rt: &HostRuntime,
+    name: &str,
+    settings: &str,
+    list: &str,
+    turns: &str,
+) -> Result<Ended, Fail> {
+    let list_path = path_of(rt, format!(in rt.alloc(); "{name}.csv")?.as_str())?;
+    let settings_path = path_of(rt, format!(in rt.alloc(); "{name}.toml")?.as_str())?;
+    fs::write(rt, list_path.as_str(), list)?;
+    let text = format!(in rt.alloc(); "csv = \"{list_path}\"\n{settings}")?;
+    fs::write(rt, settings_path.as_str(), text.as_str())?;
+    let ended = run(rt, &[settings_path.as_str(), turns])?;
+    fs::remove_file(rt, list_path.as_str())?;
+    fs::remove_file(rt, settings_path.as_str())?;
+    Ok(ended)
+}
+
+#[test]
+fn wrong_words_are_arguments(rt: HostRuntime) -> Result<(), Fail> {
+    let wrong = "ovcache: arguments\n";
+    assert!(rt; run(&rt, &[])?.is(1, wrong));
+    assert!(rt; run(&rt, &["no_such_file"])?.is(1, wrong));
+    assert!(rt; run(&rt, &["no_such_file", "1", "2"])?.is(1, wrong));
+    for turns in ["", "+1", "-1", " 1", "1a", "0x1", "18446744073709551616"] {
+        assert!(rt; run(&rt, &["no_such_file", turns])?.is(1, wrong), "{turns}");
+    }
+    Ok(())
+}
+
+// Settings but for the list's path.
+const GOOD_SETTINGS: [&str; 3] = [
+    SETTINGS,
+    "session = 0\nlisten = \"127.0.0.1:0\"\nrefresh = 1\nretry = 7200\nexpire = 172800\n",
+    "session = 65535\nlisten = \"127.0.0.1:0\"\nother = [1]\n[table]\nsession = \"no\"\n",
+];
+
+const BAD_SETTINGS: [&str; 15] = [
+    "listen = \"127.0.0.1:0\"\nsession = 7\nno toml",
+    "listen = \"127.0.0.1:0\"\n",
+    "session = 7\n",
+    "listen = \"127.0.0.1\"\nsession = 7\n",
+    "listen = \"localhost:323\"\nsession = 7\n",
+    "listen = 323\nsession = 7\n",
+    "listen = \"127.0.0.1:0\"\nsession = 65536\n",
+    "listen = \"127.0.0.1:0\"\nsession = -1\n",
+    "listen = \"127.0.0.1:0\"\nsession = \"7\"\n",
+    "listen = \"127.0.0.1:0\"\nsession = 7\nrefresh = 0\n",
+    "listen = \"127.0.0.1:0\"\nsession = 7\nrefresh = \"1\"\n",
+    "listen = \"127.0.0.1:0\"\nsession = 7\nretry = 7201\n",
+    "listen = \"127.0.0.1:0\"\nsession = 7\nexpire = 599\n",
+    "listen = \"127.0.0.1:0\"\nsession = 7\nexpire = 4294967896\n",
+    "listen = \"127.0.0.1:0\"\nsession = 7\nrefresh = 7200\nexpire = 7200\n",
+];
+
+#[test]
+fn settings_are_told(rt: HostRuntime) -> Result<(), Fail> {
+    for settings in GOOD_SETTINGS {
+        let ended = run_with(&rt, "good", settings, LIST, "2")?;
+        assert!(rt; ended.is(0, ""), "{settings}");
+    }
+    for settings in BAD_SETTINGS {
+        let ended = run_with(&rt, "bad", settings, "no list", "2")?;
+        assert!(rt; ended.is(1, "ovcache: settings\n"), "{settings}");
+    }
+    Ok(())
+}
+
+#[test]
+fn a_refused_list_is_told_before_the_port_is_taken(rt: HostRuntime) -> Result<(), Fail> {
+    let holder = TcpListener::bind(&rt, "127.0.0.1:0")?;
+    let address = holder.local_addr()?;
+    let taken = format!(in rt.alloc(); "listen = \"{address}\"\nsession = 7\n")?;
+    let ended = run_with(&rt, "refused", taken.as_str(), "no list", "2")?;
+    assert!(rt; ended.is(1, "ovcache: settings\n"));
+    let ended = run_with(&rt, "taken", taken.as_str(), LIST, "2")?;
+    assert!(rt; ended.is(2, "ovcache: device\n"));
+    Ok(())
+}
+
+#[test]
+fn a_file_that_cant_be_read_is_a_device(rt: HostRuntime) -> Result<(), Fail> {
+    let settings_path = path_of(&rt, "missing.toml")?;
+    assert!(rt; run(&rt, &[settings_path.as_str(), "2"])?.is(2, "ovcache: device\n"));
+    let text = format!(in rt.alloc(); "csv = \"no_such_list\"\n{SETTINGS}")?;
+    fs::write(&rt, settings_path.as_str(), text.as_str())?;
+    let ended = run(&rt, &[settings_path.as_str(), "2"])?;
+    fs::write(&rt, settings_path.as_str(), SETTINGS)?;
+    let lacking = run(&rt, &[settings_path.as_str(), "2"])?;
+    fs::remove_file(&rt, settings_path.as_str())?;
+    assert!(rt; ended.is(2, "ovcache: device\n"));
+    assert!(rt; lacking.is(1, "ovcache: settings\n"));
+    Ok(())
+}
