@@ -1,5 +1,7 @@
 pub mod Payloads
+pub mod Queueing
 pub mod ReaderAnswers
+pub mod ReadResponses
 pub mod Spellings
 pub mod StreamPieces
 pub mod Streams

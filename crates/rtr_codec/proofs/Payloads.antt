@@ -1,6 +1,4 @@
-use std.HLevel.{prop→path_p}
 use Rattle.std.proofs.Common.{◌≡◌, ◌≤◌, ◌%◌, ◌==◌, ℕ, Bool, true, false, nat_le, Option, Some, None, Result, Ok, Err, MatchResult, inl, inr, refl, ap, sym, subst, ◌∙◌, arith}
-use Rattle.std.proofs.Props.{props}
 use Rattle.std.proofs.lemmas.Bool.{leb-true, leb-false, eqb-true, eqb-false}
 use Rattle.std.specs.Result.{result_ok}
 use Rattle.net_prefix.specs.Cover.{HasNoHostBits, block_size}
@@ -11,6 +9,7 @@ use Rattle.net_prefix.specs.declared.fault.PrefixFault.{PrefixFault}
 use Rattle.net_prefix.specs.declared.fault.PrefixFault.TheVariants.{LenOver32, HostBits, Text, MaxRange, Cut}
 use Rattle.net_prefix.specs.declared.prefix.Prefix.{Prefix}
 use Rattle.net_prefix.specs.declared.payload.Vrp.{Vrp}
+use Rattle.net_prefix.proofs.PayloadSets.{same_payload}
 use Rattle.net_prefix.proofs.Prefixes.{same_prefix}
 use Rattle.rtr_codec.specs.PduContents.{prefix_if, prefix_of, payload_if, payload_with, payload_of}
 
@@ -50,16 +49,6 @@ pub prefix_of-none : (bits len : ℕ) (fault : PrefixFault) → IsNoPrefix bits 
 unfolding prefix_of
 prefix_of-none bits len fault h = prefix_if-none bits len fault (nat_le len 32) (bits % block_size len == 0) refl refl h
 
--- payloads of the same parts are one
-same_payload : (p q : Vrp) → p.prefix ≡ q.prefix → p.max_len ≡ q.max_len → p.asn ≡ q.asn → p ≡ q
-same_payload p q prefix max_len asn = λ i. record {
-  prefix = prefix i;
-  max_len = max_len i;
-  asn = asn i;
-  reaches = prop→path_p (λ j. (prefix j).len ≤ max_len j) (hlevel props) p.reaches q.reaches i;
-  short = prop→path_p (λ j. max_len j ≤ 32) (hlevel props) p.short q.short i;
-}
-
 -- the parts of a payload are that payload
 payload_if-is :
     (prefix : Prefix) (max_len asn : ℕ) (payload : Vrp) (reaches short : Bool) (tells : nat_le prefix.len max_len ≡ reaches) (says : nat_le max_len 32 ≡ short)
@@ -74,9 +63,7 @@ payload_if-is prefix max_len asn payload true false tells says prefix_is max_is 
     let short = payload.short in
     absurd (omega (arith, over, short, max_is))
 payload_if-is prefix max_len asn payload true true tells says prefix_is max_is asn_is =
-    let number : Asn = record { 0 = asn } in
-    let same : number ≡ payload.asn = ap (λ (n : ℕ). let a : Asn = record { 0 = n } in a) (sym asn_is) in
-    ap (λ (p : Vrp). Some p) (same_payload (record { prefix = prefix; max_len = max_len; asn = record { 0 = asn }; reaches = leb-true prefix.len max_len tells; short = leb-true max_len 32 says }) payload (sym prefix_is) (sym max_is) same)
+    ap (λ (p : Vrp). Some p) (same_payload (record { prefix = prefix; max_len = max_len; asn = record { 0 = asn }; reaches = leb-true prefix.len max_len tells; short = leb-true max_len 32 says }) payload (sym prefix_is) (sym max_is) (sym asn_is))
 
 pub payload_with-is :
     (prefix : Prefix) (max_len asn : ℕ) (payload : Vrp) → payload.prefix ≡ prefix → payload.max_len ≡ max_len → payload.asn.0 ≡ asn

@@ -15,6 +15,7 @@ mod pdu;
 mod place;
 mod reading;
 mod receiving;
+mod responses;
 mod stream;
 mod writing;
 
