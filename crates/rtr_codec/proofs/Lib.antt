@@ -4,4 +4,5 @@ pub mod ReaderAnswers
 pub mod ReadResponses
 pub mod Spellings
 pub mod StreamPieces
+pub mod StreamSplits
 pub mod Streams

@@ -11,7 +11,7 @@ use Rattle.rtr_codec.specs.declared.reading.Step.TheVariants.{Need, Whole, Fault
 use Rattle.rtr_codec.specs.PduContents.{content_at, content_by, kind_at, told_length}
 use Rattle.rtr_codec.specs.PduFaults.{header_fault}
 use Rattle.rtr_codec.specs.PduSpelling.{Content, content_of}
-use Rattle.rtr_codec.specs.PduStream.{Item, WholePdu, FaultyPdu, Wants, HasFault, Tells, IsFront, item_with, meaning, needed_of, pdus_from}
+use Rattle.rtr_codec.specs.PduStream.{Item, WholePdu, FaultyPdu, Wants, HasFault, Tells, IsFront, item_with, meaning, needed_of, pdus_from, unread_from}
 use Rattle.rtr_codec.specs.PduTypes.{type_of}
 use Rattle.rtr_codec.specs.Receiving.{Reception, IsOneAtMost, UsesAll, item_shown}
 use Rattle.rtr_codec.proofs.Streams.{Ended, told_length-append, told_length-bounds, header_fault-append, meaning-fault, meaning-whole, meaning-cut, meaning-past, some_is_not_none, item-then, wants-then, wants_none, fault_ends, becomes, needed-item}
@@ -19,10 +19,10 @@ use Rattle.rtr_codec.proofs.Streams.{Ended, told_length-append, told_length-boun
 -- A reader's answer, and the stream.
 
 -- octets have a header without a fault, and are as many as it tells
-abbrev IsWhole : Place → List ℕ → Type 0
+abbrev pub IsWhole : Place → List ℕ → Type 0
 IsWhole place octets = (8 ≤ length octets) × (header_fault place octets ≡ None) × (length octets ≡ told_length octets)
 
-front_is_whole :
+pub front_is_whole :
     (place : Place) (octets : List ℕ) → 8 ≤ told_length octets → told_length octets ≤ length octets → header_fault place octets ≡ None
     → IsWhole place (take (told_length octets) octets)
 front_is_whole place octets least fits sound =
@@ -37,7 +37,7 @@ front_is_whole place octets least fits sound =
       count ∙ sym (ap told_length parts) ∙ told_length-append front back whole,
     )
 
-whole_is : (place : Place) (octets : List ℕ) (content : Option Content) → IsWhole place octets → content_at octets ≡ content → meaning place octets ≡ Some (item_with octets content)
+pub whole_is : (place : Place) (octets : List ℕ) (content : Option Content) → IsWhole place octets → content_at octets ≡ content → meaning place octets ≡ Some (item_with octets content)
 whole_is place octets content h e = meaning-whole place octets h.0 h.1 h.2 ∙ ap (λ (c : Option Content). Some (item_with octets c)) e
 
 front_faulty :
@@ -52,16 +52,19 @@ regroup : (n : ℕ) (octets more : List ℕ) → octets ++ more ≡ take n octet
 regroup n octets more = ap (λ (x : List ℕ). x ++ more) (sym (take-append-drop n octets)) ∙ append_assoc (take n octets) (drop n octets) more
 
 -- a fault in front is all
-fault_front :
+pub fault_front :
     (place : Place) (octets quoted more : List ℕ) (fault : PduFault) → HasFault place octets fault quoted
-    → pdus_from place [] (octets ++ more) ≡ FaultyPdu fault quoted ∷ []
+    → (pdus_from place [] (octets ++ more) ≡ FaultyPdu fault quoted ∷ []) × (unread_from place [] (octets ++ more) ≡ octets ++ more)
 fault_front place octets quoted more fault (inl h) =
     let front = take 8 octets in
     let rest = drop 8 octets ++ more in
     let found = front_faulty place octets fault h.0 h.1 in
-    let all = fault_ends place front rest fault (meaning-fault place front fault found.0 found.1) (omega (arith, found.0), inl (fault, found.1)) in
-    ap (pdus_from place []) (regroup 8 octets more) ∙ all.0 ∙ ap (λ (x : List ℕ). FaultyPdu fault x ∷ []) (sym h.2)
+    let all = fault_ends place front rest fault (meaning-fault place front fault found.0 found.1) (omega (arith, found.0), inl (fault, found.1)) in (
+      ap (pdus_from place []) (regroup 8 octets more) ∙ all.0 ∙ ap (λ (x : List ℕ). FaultyPdu fault x ∷ []) (sym h.2),
+      ap (unread_from place []) (regroup 8 octets more) ∙ all.1 ∙ sym (regroup 8 octets more),
+    )
 fault_front place octets quoted more fault (inr h) =
+    let told = told_length octets in
     let front = take (told_length octets) octets in
     let rest = drop (told_length octets) octets ++ more in
     let least : 8 ≤ told_length octets = (told_length-bounds place octets h.1).0 in
@@ -69,9 +72,11 @@ fault_front place octets quoted more fault (inr h) =
     let none : content_at front ≡ None = ap content_at (sym h.4) ∙ h.5 in
     let payload : fault ≡ Payload = h.3 in
     let ended : Ended place front = (found.0, inr (found.1, omega (arith, found.2))) in
-    let all = fault_ends place front rest Payload (whole_is place front None found none) ended in
-    ap (pdus_from place []) (regroup (told_length octets) octets more) ∙ all.0
-    ∙ ap (λ (x : List ℕ). FaultyPdu Payload x ∷ []) (sym h.4) ∙ ap (λ (f : PduFault). FaultyPdu f quoted ∷ []) (sym payload)
+    let all = fault_ends place front rest Payload (whole_is place front None found none) ended in (
+      ap (pdus_from place []) (regroup told octets more) ∙ all.0
+          ∙ ap (λ (x : List ℕ). FaultyPdu Payload x ∷ []) (sym h.4) ∙ ap (λ (f : PduFault). FaultyPdu f quoted ∷ []) (sym payload),
+      ap (unread_from place []) (regroup told octets more) ∙ all.1 ∙ sym (regroup told octets more),
+    )
 
 -- the answer is the front of the stream
 pub is_front : (place : Place) (octets : List ℕ) (step : Step) → Tells place octets step → IsFront place octets step
@@ -82,15 +87,15 @@ is_front place octets (Whole pdu used) h = λ more.
     let found_used : IsWhole place (take used octets) = subst (λ (n : ℕ). IsWhole place (take n octets)) (sym told) found in
     let item = whole_is place (take used octets) (Some (content_of pdu)) found_used h.5 in
     ap (pdus_from place []) (regroup used octets more) ∙ (item-then place (take used octets) (drop used octets ++ more) _ item).0
-is_front place octets (Faulty fault quoted) h = λ more. fault_front place octets quoted.now more fault h
+is_front place octets (Faulty fault quoted) h = λ more. (fault_front place octets quoted.now more fault h).0
 
 -- where no more than one item came, the answer shows it
 
-whole_if_item : (place : Place) (part : List ℕ) (item : Item) → meaning place part ≡ Some item → 8 ≤ length part → header_fault place part ≡ None → (length part ≡ told_length part) ⊎ (length part ≡ told_length part → ⊥) → IsWhole place part
+pub whole_if_item : (place : Place) (part : List ℕ) (item : Item) → meaning place part ≡ Some item → 8 ≤ length part → header_fault place part ≡ None → (length part ≡ told_length part) ⊎ (length part ≡ told_length part → ⊥) → IsWhole place part
 whole_if_item place part item h whole sound (inl all) = (whole, sound, all)
 whole_if_item place part item h whole sound (inr other) = absurd (some_is_not_none _ item h (meaning-cut place part whole sound other))
 
-eight_if_item : (place : Place) (part : List ℕ) (item : Item) (fault : PduFault) → meaning place part ≡ Some item → 8 ≤ length part → header_fault place part ≡ Some fault → (length part ≡ 8) ⊎ (length part ≡ 8 → ⊥) → length part ≡ 8
+pub eight_if_item : (place : Place) (part : List ℕ) (item : Item) (fault : PduFault) → meaning place part ≡ Some item → 8 ≤ length part → header_fault place part ≡ Some fault → (length part ≡ 8) ⊎ (length part ≡ 8 → ⊥) → length part ≡ 8
 eight_if_item place part item fault h whole faulty (inl eight) = eight
 eight_if_item place part item fault h whole faulty (inr other) =
     absurd (some_is_not_none _ item h (meaning-past place part fault (omega (arith, whole, other)) faulty))

@@ -36,7 +36,7 @@ header_fault-append place front back whole =
     rw (version, kind, told) refl
 
 -- the item of octets by cases: too few for a header, a faulty header, a header without a fault
-meaning-short : (place : Place) (octets : List ℕ) → length octets < 8 → meaning place octets ≡ None
+pub meaning-short : (place : Place) (octets : List ℕ) → length octets < 8 → meaning place octets ≡ None
 unfolding meaning
 meaning-short place octets short = rw (lt-ltb (length octets) 8 short) refl
 
@@ -217,7 +217,7 @@ ended_push place part octet (whole, inr h) =
       (omega (arith, longer, whole), inr (still, omega (arith, longer, told, past))),
     )
 
-ended-then :
+pub ended-then :
     (place : Place) (part octets : List ℕ) → Ended place part
     → (pdus_from place part octets ≡ []) × (unread_from place part octets ≡ part ++ octets) × (place_from place part octets ≡ place)
 ended-then place part [] h = (refl, sym (append-nil part), refl)
@@ -248,7 +248,7 @@ sound_later false false false true x y z w other h = absurd cc
 sound_later false false false false x y z w other h = refl
 
 -- the place behind a fault
-abbrev later : Place → Place
+abbrev pub later : Place → Place
 later place = record { end = place.end; is_first = false; has_response = place.has_response }
 
 header_fault-faulty_later : (place : Place) (octets : List ℕ) (fault : PduFault) → header_fault place octets ≡ Some fault → (found : PduFault) × (header_fault (later place) octets ≡ Some found)
@@ -263,16 +263,16 @@ header_fault-sound_later place octets sound =
     sound_later (is_faulty_report octets) (is_other_version place octets) (is_unknown (type_of (kind_at octets))) (is_unlawful (type_of (kind_at octets)) (told_length octets))
     Unanswered _ (Header UnsupportedType) (Header CorruptData) (Header UnexpectedVersion) sound
 
+pub ended_later : (place : Place) (octets : List ℕ) → Ended place octets → Ended (later place) octets
+ended_later place octets (whole, inl faulty) = (whole, inl (header_fault-faulty_later place octets faulty.0 faulty.1))
+ended_later place octets (whole, inr sound) = (whole, inr (header_fault-sound_later place octets sound.0, sound.1))
+
 pub fault_ends :
     (place : Place) (octets more : List ℕ) (fault : PduFault) → meaning place octets ≡ Some (FaultyPdu fault octets) → Ended place octets
     → (pdus_from place [] (octets ++ more) ≡ FaultyPdu fault octets ∷ []) × (unread_from place [] (octets ++ more) ≡ octets ++ more)
-fault_ends place octets more fault h (whole, inl faulty) =
+fault_ends place octets more fault h ended =
     let first = item-then place octets more (FaultyPdu fault octets) h in
-    let again = ended-then (later place) octets more (whole, inl (header_fault-faulty_later place octets faulty.0 faulty.1)) in
-    (first.0 ∙ ap (λ (items : List Item). FaultyPdu fault octets ∷ items) again.0, first.1 ∙ again.1)
-fault_ends place octets more fault h (whole, inr sound) =
-    let first = item-then place octets more (FaultyPdu fault octets) h in
-    let again = ended-then (later place) octets more (whole, inr (header_fault-sound_later place octets sound.0, sound.1)) in
+    let again = ended-then (later place) octets more (ended_later place octets ended) in
     (first.0 ∙ ap (λ (items : List Item). FaultyPdu fault octets ∷ items) again.0, first.1 ∙ again.1)
 
 -- a header without a fault tells a length from 8 to 4,096
@@ -381,6 +381,14 @@ needed_by_length place part item (inr whole) h = needed_by_fault place part item
 
 pub needed-item : (place : Place) (part : List ℕ) (item : Item) → meaning place part ≡ Some item → needed_of place part ≡ 0
 needed-item place part item h = needed_by_length place part item (cases_lt (length part) 8) h
+
+-- a rest that wants more wants at least one octet
+pub needed-some : (place : Place) (part : List ℕ) → Wants place part → 1 ≤ needed_of place part
+needed-some place part (inl few) = let needed : needed_of place part ≡ 8 - length part = needed-short place part few in omega (arith, needed, few)
+needed-some place part (inr h) =
+    let needed : needed_of place part ≡ told_length part - length part = needed-long place part h.0 h.1 in
+    let fewer : length part < told_length part = h.2 in
+    omega (arith, needed, fewer)
 
 -- one piece of a stream, of no more octets than are wanted, and what follows it
 

@@ -20,6 +20,25 @@ abbrev pub item_with : List ℕ → Option Content → Item
 item_with octets None = FaultyPdu Payload octets
 item_with octets (Some content) = WholePdu content octets
 
+-- the octets are this PDU, from the first to the last: a header without a fault, as many octets as it tells, and a payload where there is to be one
+pub record IsPdu (place : Place) (octets : List ℕ) (content : Content) : Type 0 where
+  pub whole_header : 8 ≤ length octets
+  pub sound : header_fault place octets ≡ None
+  pub length_is : length octets ≡ told_length octets
+  pub content_is : content_at octets ≡ Some content
+
+-- a fault stands at the front: of the header, with its 8 octets, or of a whole IPv4 Prefix, with all of it
+abbrev pub HasFault : Place → List ℕ → PduFault → List ℕ → Type 0
+HasFault place octets fault quoted =
+    ((8 ≤ length octets) × (header_fault place octets ≡ Some fault) × (quoted ≡ take 8 octets))
+    ⊎ ((8 ≤ length octets) × (header_fault place octets ≡ None) × (told_length octets ≤ length octets)
+    × (fault ≡ Payload) × (quoted ≡ take (told_length octets) octets) × (content_at quoted ≡ None))
+
+-- no whole PDU stands at the front, and no fault
+pub record HasNoItem (place : Place) (octets : List ℕ) : Type 0 where
+  pub no_pdu : (front back : List ℕ) (content : Content) → octets ≡ front ++ back → ¬ (IsPdu place front content)
+  pub no_fault : (fault : PduFault) (quoted : List ℕ) → ¬ (HasFault place octets fault quoted)
+
 -- the item that octets with a whole header are: a faulty header has 8 octets
 abbrev pub item_of : List ℕ → Option PduFault → Option Item
 item_of octets None = if length octets == told_length octets then Some (item_with octets (content_at octets)) else None
@@ -51,6 +70,13 @@ is_response (FaultyPdu fault octets) = false
 abbrev pub place_after : Place → Option Item → Place
 place_after place None = place
 place_after place (Some item) = record { end = place.end; is_first = false; has_response = is_response item || place.has_response }
+
+-- the stream is these PDUs one after another, and then the rest: with no item at its front, or with the fault that ends the stream
+abbrev pub Splits : Place → List ℕ → List Item → List ℕ → Type 0
+Splits place stream [] rest = (stream ≡ rest) × HasNoItem place rest
+Splits place stream (WholePdu content octets ∷ items) rest =
+    (more : List ℕ) × IsPdu place octets content × (stream ≡ octets ++ more) × Splits (place_after place (Some (WholePdu content octets))) more items rest
+Splits place stream (FaultyPdu fault quoted ∷ items) rest = (items ≡ []) × (stream ≡ rest) × HasFault place rest fault quoted
 
 -- what is unread once the octets are this item: nothing behind a PDU, all from a fault on
 abbrev pub left_over : List ℕ → Option Item → List ℕ
@@ -123,13 +149,6 @@ IsReadFirst place octets content =
 abbrev pub Wants : Place → List ℕ → Type 0
 Wants place octets =
     (length octets < 8) ⊎ ((8 ≤ length octets) × (header_fault place octets ≡ None) × (length octets < told_length octets))
-
--- a fault stands at the front: of the header, with its 8 octets, or of a whole IPv4 Prefix, with all of it
-abbrev pub HasFault : Place → List ℕ → PduFault → List ℕ → Type 0
-HasFault place octets fault quoted =
-    ((8 ≤ length octets) × (header_fault place octets ≡ Some fault) × (quoted ≡ take 8 octets))
-    ⊎ ((8 ≤ length octets) × (header_fault place octets ≡ None) × (told_length octets ≤ length octets)
-    × (fault ≡ Payload) × (quoted ≡ take (told_length octets) octets) × (content_at quoted ≡ None))
 
 -- what a reader answers: its PDU is the octets up to the length that the header tells
 abbrev pub Tells : Place → List ℕ → Step → Type 0

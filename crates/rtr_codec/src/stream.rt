@@ -4,7 +4,13 @@ ghost use Rattle.std.specs.List.{concat};
 ghost use Rattle.rtr_codec.specs.declared.fault.PduFault.{PduFault};
 ghost use Rattle.rtr_codec.specs.declared.place.Place.{Place};
 ghost use Rattle.rtr_codec.specs.PduSpelling.{Content, IsLawful, length_of, spelling};
-ghost use Rattle.rtr_codec.specs.PduStream.{FaultyPdu, GoesOn, IsReadFirst, Item, Wants, meaning, needed_of, pdus, pdus_of_pieces, unread, unread_of_pieces};
+ghost use Rattle.rtr_codec.specs.PduStream.{FaultyPdu, GoesOn, IsReadFirst, Item, Splits, Wants, meaning, needed_of, pdus, pdus_of_pieces, unread, unread_of_pieces};
+
+/// A stream is its PDUs one after another and then what is unread, and it is so in no other way.
+pub fn only_pdus()
+    ensures some { (place : Place) (stream : List ℕ) → Splits place stream (pdus place stream) (unread place stream) }
+    ensures one { (place : Place) (stream rest : List ℕ) (items : List Item) → Splits place stream items rest → (items ≡ pdus place stream) × (rest ≡ unread place stream) }
+{}
 
 /// However a stream is cut, its pieces read one after another hold its PDUs.
 pub fn pieces_are_the_stream()
