@@ -26,4 +26,15 @@ pub use pdu::Pdu;
 pub use place::{End, Place};
 pub use reading::{Step, needed, read};
 pub use receiving::Receiver;
+pub use responses::{
+    queueing_changes_no_more, queueing_keeps_what_is_said, queueing_leaves_room,
+    queueing_stops_at_a_full_ring, response_gives_the_version, response_is_short,
+};
+pub use stream::{
+    fault_ends_the_stream, no_pdu_begins_another, only_pdus, pieces_are_the_stream,
+    spelling_length, stream_goes_on, wanted_is_unread, written_is_read,
+};
 pub use writing::write;
+
+#[cfg(test)]
+mod tests;

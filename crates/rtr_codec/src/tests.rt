@@ -1,0 +1,3 @@
+//! PDUs in octets, as both ends send them.
+mod octets;
+mod rows;
