@@ -1,3 +1,4 @@
 pub mod Exits
 pub mod Turns
 pub mod Wires
+pub mod Words

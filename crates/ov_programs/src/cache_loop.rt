@@ -5,7 +5,7 @@ ghost use Rattle.ov_programs.specs.Turns.{LosesAsCounted, LosesNoMore, counts_ad
 use crate::fault::LoopFault;
 use crate::link::{Link, Visit};
 use crate::wire::{Accepted, Wire};
-use rtr_cache::{Cache, CacheEvent, CacheReport};
+use rtr_cache::{Cache, CacheEvent};
 use std::alloc::{AllocError, Allocator, Global};
 use std::marker::Model;
 
@@ -98,26 +98,22 @@ impl<W: Wire + Drop, A: Allocator + Clone> CacheLoop<W, A> {
         ensures same { self.new.counts ≡ self.old.counts }
         ensures err { result ≢ Err LoopFault.Accept }
     {
-        let up = self.cache.step(CacheEvent::<Global>::Up);
-        let Ok(
-            CacheReport {
-                client: Some(client),
-                ..
-            },
-        ) = up
-        else {
+        let Some(client) = self.new_client() else {
             self.wire.close(socket);
             return Ok(());
         };
-        let Ok(alloc) = self.alloc.clone() else {
-            return Err(LoopFault::NoMemory);
-        };
-        let Ok(link) = Link::new(alloc, client, socket) else {
-            return Err(LoopFault::NoMemory);
-        };
-        match self.links.push(link) {
-            Ok(()) => Ok(()),
-            Err(_) => Err(LoopFault::NoMemory),
+        let link = Link::new(self.alloc.clone()?, client, socket)?;
+        self.links.push(link).map_err(AllocError::from)?;
+        Ok(())
+    }
+
+    // The key of a new client, unless the cache refuses it.
+    fn new_client(&mut self) -> Option<u64>
+        ensures { self.new ≡ self.old }
+    {
+        match self.cache.step(CacheEvent::<Global>::Up) {
+            Ok(report) => report.client,
+            Err(_) => None,
         }
     }
 

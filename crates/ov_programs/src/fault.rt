@@ -1,6 +1,8 @@
 //! What ends a program.
 ghost use Rattle.std.specs.Prelude.{◌≡◌};
-ghost use Rattle.ov_programs.specs.Exits.{status_of};
+ghost use Rattle.ov_programs.specs.Exits.{exit_of_list, exit_of_refusal, exit_of_settings, status_of};
+ghost use Rattle.ov_programs.specs.declared.fault.ExitFault.TheVariants.{Device};
+ghost use Rattle.ov_programs.specs.declared.fault.LoopFault.TheVariants.{NoMemory};
 
 use crate::settings::SettingsFault;
 use rtr_cache::CacheRefusal;
@@ -18,6 +20,14 @@ pub enum LoopFault {
     /// There is no memory for a connection that was accepted.
     #[error("there is no memory for a connection")]
     NoMemory,
+}
+
+impl From<AllocError> for LoopFault {
+    ghost from_gives = { λ _ fault. fault ≡ NoMemory };
+
+    fn from(_error: AllocError) -> LoopFault {
+        LoopFault::NoMemory
+    }
 }
 
 /// What a program prints behind its name before it ends, and its exit status.
@@ -47,24 +57,32 @@ impl ExitFault {
 }
 
 impl From<io::Error> for ExitFault {
+    ghost from_gives = { λ _ exit. exit ≡ Device };
+
     fn from(_error: io::Error) -> ExitFault {
         ExitFault::Device
     }
 }
 
 impl From<AllocError> for ExitFault {
+    ghost from_gives = { λ _ exit. exit ≡ Device };
+
     fn from(_error: AllocError) -> ExitFault {
         ExitFault::Device
     }
 }
 
 impl From<LoopFault> for ExitFault {
+    ghost from_gives = { λ _ exit. exit ≡ Device };
+
     fn from(_fault: LoopFault) -> ExitFault {
         ExitFault::Device
     }
 }
 
 impl From<SettingsFault> for ExitFault {
+    ghost from_gives = { λ fault exit. exit ≡ exit_of_settings fault };
+
     fn from(fault: SettingsFault) -> ExitFault {
         match fault {
             SettingsFault::Settings => ExitFault::Settings,
@@ -74,6 +92,8 @@ impl From<SettingsFault> for ExitFault {
 }
 
 impl From<CsvFault> for ExitFault {
+    ghost from_gives = { λ refused exit. exit ≡ exit_of_list refused.fault };
+
     fn from(refused: CsvFault) -> ExitFault {
         match refused.fault {
             RowFault::Io | RowFault::NoMemory => ExitFault::Device,
@@ -83,6 +103,8 @@ impl From<CsvFault> for ExitFault {
 }
 
 impl From<CacheRefusal> for ExitFault {
+    ghost from_gives = { λ refusal exit. exit ≡ exit_of_refusal refusal };
+
     fn from(refusal: CacheRefusal) -> ExitFault {
         match refusal {
             CacheRefusal::NoMemory => ExitFault::Device,

@@ -1,4 +1,6 @@
 //! What the programs' mains do.
+ghost use Rattle.std.specs.Prelude.{◌≡◌, ◌≢◌, ◌≤◌, ℕ, List, Err, IfErr};
+ghost use Rattle.ov_programs.specs.Words.{IsCall};
 
 use crate::cache_loop::CacheLoop;
 use crate::fault::ExitFault;
@@ -27,6 +29,8 @@ pub fn main_cache<R, O: Write, E: Write>(
 ) -> u8
 where
     R: Net<Listener = TcpListener, Stream = TcpStream> + Files + Clock + AllocGlobal,
+    ensures words { ((path : List ℕ) (turns : ℕ) → ¬ (IsCall words.now path turns)) → result ≡ 1 }
+    ensures range { result ≤ 2 }
 {
     match run_cache(rt, words) {
         Ok(()) => 0,
@@ -41,6 +45,8 @@ where
 fn run_cache<R>(rt: &R, words: &[String]) -> Result<(), ExitFault>
 where
     R: Net<Listener = TcpListener, Stream = TcpStream> + Files + Clock + AllocGlobal,
+    ensures wrong { ((path : List ℕ) (turns : ℕ) → ¬ (IsCall words.now path turns)) → result ≡ Err ExitFault.Arguments }
+    ensures right { (path : List ℕ) (turns : ℕ) → IsCall words.now path turns → result ≢ Err ExitFault.Arguments }
 {
     let (path, turns) = read_words(words)?;
     let octets = fs::read(rt, path)?;
@@ -57,10 +63,9 @@ where
 }
 
 // The cache of the settings, with their list.
-fn load_cache<R: Files + AllocGlobal>(
-    rt: &R,
-    settings: &CacheSettings,
-) -> Result<Cache, ExitFault> {
+fn load_cache<R: Files + AllocGlobal>(rt: &R, settings: &CacheSettings) -> Result<Cache, ExitFault>
+    ensures { IfErr result (λ fault. fault ≢ ExitFault.Arguments) }
+{
     let mut cache = Cache::new(rt.alloc(), settings.session, settings.intervals)?;
     let list = fs::open(rt, settings.csv.as_str())?;
     let loaded = read_list(rt.alloc(), list)?;

@@ -1,9 +1,10 @@
 //! What waits to be written to a connection.
-ghost use Rattle.std.specs.Prelude.{◌≡◌, ◌≤◌, ◌+◌, vec_len, length};
+ghost use Rattle.std.specs.Prelude.{◌≡◌, ◌≤◌, ◌↔◌, [], IfOk, IsTrue, drop, length};
 
 use crate::cache_loop::TURN_OCTETS;
 use rtr_cache::Cache;
 use std::alloc::{AllocError, Allocator, Global};
+use std::marker::Model;
 
 /// The octets that were taken of the cache and not yet written.
 #[derive(Drop)]
@@ -11,13 +12,23 @@ pub struct Outgoing<A: Allocator = Global> {
     octets: Vec<u8, A>,
     from: usize,
     to: usize,
-    ghost in_order: { from ≤ to },
-    ghost in_bounds: { to ≤ vec_len octets },
+}
+
+impl<A: Allocator> Model for Outgoing<A> {
+    ghost use Rattle.std.specs.Prelude.{ℕ, List, ◌≤◌, slice_range, vec_len};
+
+    ghost Value = { List ℕ };
+
+    ghost view = { λ outgoing. slice_range outgoing.octets.items outgoing.from outgoing.to };
+
+    ghost invariant = { λ outgoing. (outgoing.from ≤ outgoing.to) × (outgoing.to ≤ vec_len outgoing.octets) };
 }
 
 impl<A: Allocator + Clone> Outgoing<A> {
     /// None.
-    pub fn new(alloc: A) -> Result<Self, AllocError> {
+    pub fn new(alloc: A) -> Result<Self, AllocError>
+        ensures { IfOk result (λ outgoing. outgoing ≡ []) }
+    {
         Ok(Outgoing {
             octets: vec![in alloc; 0; TURN_OCTETS]?,
             from: 0,
@@ -26,13 +37,15 @@ impl<A: Allocator + Clone> Outgoing<A> {
     }
 
     /// Whether there are none.
-    pub fn is_empty(&self) -> bool {
+    pub fn is_empty(&self) -> bool
+        ensures { IsTrue result ↔ (self.now ≡ []) }
+    {
         self.from == self.to
     }
 
     /// What they are.
     pub fn octets(&self) -> &[u8]
-        ensures { length result.now + self.now.from ≡ self.now.to }
+        ensures { result.now ≡ self.now }
     {
         &self.octets[self.from..self.to]
     }
@@ -49,7 +62,8 @@ impl<A: Allocator + Clone> Outgoing<A> {
 
     /// So many of them were written.
     pub fn pass(&mut self, count: usize)
-        requires { self.old.from + count ≤ self.old.to }
+        requires { count ≤ length self.old }
+        ensures { self.new ≡ drop count self.old }
     {
         self.from += count;
     }

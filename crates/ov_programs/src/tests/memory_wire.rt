@@ -1,12 +1,12 @@
 //! Each call of a wire fails once: its client is gone, and all others go on.
-ghost use Rattle.std.specs.Prelude.{◌≡◌, if◌then◌else◌, length};
+ghost use Rattle.std.specs.Prelude.{◌≡◌, ◌≤◌, if◌then◌else◌, length};
 ghost use Rattle.ov_programs.specs.Wires.{one_more};
 
 use crate::{Accepted, CacheLoop, LoopFault, Received, Sent, Wire};
 use net_prefix::{Asn, Prefix, Vrp};
 use rtr_cache::{Cache, CacheEvent};
 use rtr_codec::Intervals;
-use std::alloc::AllocGlobal;
+use std::alloc::{AllocGlobal, Global};
 use std::cmp::min;
 use std::collections::BTreeSet;
 use std::net::{Ipv4Addr, SocketAddr, SocketAddrV4};
@@ -81,7 +81,9 @@ impl Router {
     }
 
     // Sends the next octets of the query.
-    fn ask(&mut self, buf: &mut [u8]) -> usize {
+    fn ask(&mut self, buf: &mut [u8]) -> usize
+        ensures { result ≤ length buf.new }
+    {
         let query = self.query();
         let rest = query.get(self.asked..).unwrap_or(&[]);
         let count = min(rest.len(), min(buf.len(), READ_OCTETS));
@@ -91,7 +93,9 @@ impl Router {
     }
 
     // Takes the first octets that come.
-    fn hear(&mut self, octets: &[u8]) -> usize {
+    fn hear(&mut self, octets: &[u8]) -> usize
+        ensures { result ≤ length octets.now }
+    {
         let count = min(octets.len(), WRITE_OCTETS);
         for octet in &octets[..count] {
             if self.answer().get(self.answered) != Some(octet) {
@@ -231,11 +235,15 @@ struct Served {
     closed: u64,
 }
 
-fn serve(rt: &impl AllocGlobal, fails_at: u64) -> Result<Served, Fail> {
+// Serves the routers beside so many clients that say nothing.
+fn serve(rt: &impl AllocGlobal, silent: u64, fails_at: u64) -> Result<Served, Fail> {
     let mut set = BTreeSet::new(rt.alloc());
     let _ = set.insert(Vrp::new(Prefix::parse("10.0.0.0/16")?, 24, Asn(65_002))?)?;
     let mut cache = Cache::new(rt.alloc(), 7, Intervals::USUAL)?;
     let _ = cache.step(CacheEvent::Load(&set))?;
+    for _ in 0..silent {
+        let _ = cache.step(CacheEvent::<Global>::Up)?;
+    }
     let mut turns = CacheLoop::new(rt.alloc(), MemoryWire::failing_at(fails_at), cache)?;
     let mut fault = None;
     for now in 0..20 {
@@ -265,7 +273,7 @@ fn others_are_served(rt: &impl Abort, routers: &[Router], failed: Option<usize>)
 #[test]
 fn a_failing_call_costs_one_client(rt: HostRuntime) -> Result<(), Fail> {
     for fails_at in 1..1_000 {
-        let served = serve(&rt, fails_at)?;
+        let served = serve(&rt, 0, fails_at)?;
         match served.wire.failed {
             Some(Call::OfRouter(failed)) => {
                 assert_eq!(rt; served.fault, None);
@@ -283,5 +291,19 @@ fn a_failing_call_costs_one_client(rt: HostRuntime) -> Result<(), Fail> {
         }
     }
     assert!(rt; false, "each run had a fault");
+    Ok(())
+}
+
+#[test]
+fn a_refused_client_is_closed_and_the_others_are_served(rt: HostRuntime) -> Result<(), Fail> {
+    let served = serve(&rt, 254, 0)?;
+    assert_eq!(rt; served.fault, None);
+    others_are_served(&rt, &served.wire.routers, Some(2));
+    let refused = Router {
+        is_closed: true,
+        ..ASKING
+    };
+    assert_eq!(rt; served.wire.routers[2], refused);
+    assert_eq!(rt; (served.lost, served.closed), (1, 1));
     Ok(())
 }

@@ -1,0 +1,16 @@
+use Rattle.std.specs.Prelude.{◌≡◌, ◌<◌, ◌^◌, ℕ, List, [], ◌∷◌, String, string_bytes}
+use Rattle.std.specs.declared.alloc.Global.{Global}
+use Rattle.std.specs.Str.Parse.{IsNumeral, digits_value}
+
+-- The words behind a program's name.
+
+-- the text is one decimal digit or more, which write this number within u64
+abbrev pub WritesTurns : List ℕ → ℕ → Type 0
+WritesTurns text turns = IsNumeral 10 text × (turns ≡ digits_value 10 text) × (turns < 2 ^ 64)
+
+-- the words are the path of the settings and a number of turns
+abbrev pub IsCall : List (String Global) → List ℕ → ℕ → Type 0
+IsCall [] path turns = ⊥
+IsCall (settings ∷ []) path turns = ⊥
+IsCall (settings ∷ count ∷ []) path turns = (path ≡ string_bytes settings) × WritesTurns (string_bytes count) turns
+IsCall (settings ∷ count ∷ more ∷ words) path turns = ⊥
