@@ -70,13 +70,6 @@ impl Receiver {
         self.part.as_slice()
     }
 
-    /// Where on the connection the PDU at the front stands.
-    pub fn place(&self) -> Place
-        ensures { result ≡ self.now.place }
-    {
-        self.place
-    }
-
     /// Goes on behind the PDU or fault at the front, where one stands there.
     pub fn pass(&mut self)
         ensures { self.new ≡ passed_by self.old (meaning self.old.place self.old.part) }
@@ -86,12 +79,12 @@ impl Receiver {
             Step::Whole(pdu, _) => says_response(&pdu),
             Step::Faulty(..) => false,
         };
+        self.clear();
         self.place = Place {
             end: self.place.end,
             is_first: false,
             has_response: is_response || self.place.has_response,
         };
-        self.part.clear();
     }
 
     /// Drops what came and no PDU has taken.

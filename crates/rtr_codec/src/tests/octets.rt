@@ -147,7 +147,7 @@ fn a_stream_has_its_pdus_however_it_is_cut(rt: HostRuntime) {
         );
         let second = received(&mut receiver, &RESPONSE[cut..]);
         assert_eq!(rt; first.saturating_add(second), 4, "cut at {cut}");
-        assert!(rt; receiver.octets().is_empty() && receiver.place() == LATER);
+        assert!(rt; receiver.octets().is_empty());
     }
 }
 
