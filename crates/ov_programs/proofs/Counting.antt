@@ -1,4 +1,4 @@
-use Rattle.std.proofs.Common.{◌≡◌, ◌≤◌, ◌<◌, ◌+◌, ◌-◌, ◌^◌, ℕ, refl, arith}
+use Rattle.std.proofs.Common.{refl, arith}
 use Rattle.ov_programs.specs.Turns.{Counts, AreBelowGreatest, Rises, LosesAsCounted, LosesNoMore}
 
 -- What turns count, one visit after another.

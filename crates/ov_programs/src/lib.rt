@@ -1,4 +1,12 @@
-//! The turns of the programs over sockets, and what their mains do.
+//! The programs over sockets: the turns of a cache, its settings, and what its main does.
+//!
+//! `CacheLoop` serves the clients of a `rtr_cache` (RFC 8210) over a `Wire`, sockets that don't wait. A turn returns
+//! whatever the wire does. In one that doesn't end the program just as many clients are lost as the wire told faults
+//! and ends of input and the loop closed connections of clients that the cache had closed, while no count is at the
+//! greatest u64; one that ends the program loses none (`specs/Turns.antt`). While octets wait for a connection, nothing
+//! more is taken for it. `main_cache` reads the words exactly (`specs/Words.antt`), and tells what the operator has to
+//! mend from what the system didn't give (`specs/Exits.antt`). What sockets, files and the clock do, how settings are
+//! read, and what is printed, is shown by tests. Nothing is encrypted, and routers aren't told apart.
 #![tactic(auto)]
 
 mod cache_loop;

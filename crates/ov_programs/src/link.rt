@@ -1,5 +1,5 @@
 //! One client's connection.
-ghost use Rattle.std.specs.Prelude.{◌≡◌};
+ghost use Rattle.std.specs.Prelude.{◌≡◌, ◌≢◌, ℕ, [], drop};
 ghost use Rattle.ov_programs.specs.Turns.{ends_visiting, faults_visiting};
 
 use crate::outgoing::Outgoing;
@@ -67,6 +67,7 @@ impl<S: Drop, A: Allocator + Clone> Link<S, A> {
 
     // Writes what was taken, and takes more where all of it is written.
     fn send<W: Wire<Socket = S>>(&mut self, wire: &mut W, cache: &mut Cache<A>) -> Visit
+        ensures waits { self.old.outgoing ≢ [] → (cache.new ≡ cache.old) × ((count : ℕ) × (self.new.outgoing ≡ drop count self.old.outgoing)) }
         ensures faults { W.fault_count wire.new ≡ faults_visiting result (W.fault_count wire.old) }
         ensures ends { W.end_count wire.new ≡ ends_visiting result (W.end_count wire.old) }
     {

@@ -50,8 +50,10 @@ impl<A: Allocator + Clone> Outgoing<A> {
         &self.octets[self.from..self.to]
     }
 
-    /// Takes what the cache has queued for the client, as much as fits.
-    pub fn take(&mut self, cache: &mut Cache<A>, client: u64) {
+    /// Takes what the cache has queued for the client, as much as fits, where none wait.
+    pub fn take(&mut self, cache: &mut Cache<A>, client: u64)
+        requires { self.old ≡ [] }
+    {
         let count = match cache.take(client, self.octets.as_mut_slice()) {
             Ok(count) => count,
             Err(_) => 0,

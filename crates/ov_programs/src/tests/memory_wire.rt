@@ -38,10 +38,20 @@ const UNSUPPORTED: [u8; 24] = [
     0, 0, 0, 0,
 ];
 
+#[derive(Clone, Copy, Debug, PartialEq, Eq)]
+enum Kind {
+    // It takes its list and stays.
+    Staying,
+    // It takes its list and then sends no more.
+    Leaving,
+    // It speaks another version.
+    Strange,
+}
+
 // The other side of a connection.
 #[derive(Clone, Copy, Debug, PartialEq, Eq)]
 struct Router {
-    is_strange: bool,
+    kind: Kind,
     // How many octets of its query have gone.
     asked: usize,
     // How many octets of the answer that it awaits have come.
@@ -51,33 +61,29 @@ struct Router {
     is_closed: bool,
 }
 
-const ASKING: Router = Router {
-    is_strange: false,
-    asked: 0,
-    answered: 0,
-    is_misled: false,
-    is_closed: false,
-};
-
-const STRANGE: Router = Router {
-    is_strange: true,
-    asked: 0,
-    answered: 0,
-    is_misled: false,
-    is_closed: false,
-};
-
 impl Router {
+    fn new(kind: Kind) -> Router {
+        Router {
+            kind,
+            asked: 0,
+            answered: 0,
+            is_misled: false,
+            is_closed: false,
+        }
+    }
+
     fn query(&self) -> &'static [u8] {
-        if self.is_strange {
-            &STRANGE_QUERY
-        } else {
-            &RESET_QUERY
+        match self.kind {
+            Kind::Staying | Kind::Leaving => &RESET_QUERY,
+            Kind::Strange => &STRANGE_QUERY,
         }
     }
 
     fn answer(&self) -> &'static [u8] {
-        if self.is_strange { &UNSUPPORTED } else { &LIST }
+        match self.kind {
+            Kind::Staying | Kind::Leaving => &LIST,
+            Kind::Strange => &UNSUPPORTED,
+        }
     }
 
     // Sends the next octets of the query.
@@ -109,6 +115,10 @@ impl Router {
     fn has_its_answer(&self) -> bool {
         !self.is_misled && self.answered == self.answer().len()
     }
+
+    fn has_left(&self) -> bool {
+        self.kind == Kind::Leaving && self.has_its_answer()
+    }
 }
 
 #[derive(Clone, Copy, Debug, PartialEq, Eq)]
@@ -136,7 +146,11 @@ struct Plug(usize);
 impl MemoryWire {
     fn failing_at(fails_at: u64) -> MemoryWire {
         MemoryWire {
-            routers: [ASKING, STRANGE, ASKING],
+            routers: [
+                Router::new(Kind::Leaving),
+                Router::new(Kind::Strange),
+                Router::new(Kind::Staying),
+            ],
             accepted: 0,
             calls: 0,
             fails_at,
@@ -192,12 +206,16 @@ impl Wire for MemoryWire {
         if self.fails(Call::OfRouter(socket.0)) {
             return Received::Fault;
         }
-        match self.routers.get_mut(socket.0) {
-            Some(router) => match router.ask(buf) {
-                0 => Received::Nothing,
-                count => Received::Octets(count),
-            },
-            None => Received::Nothing,
+        let Some(router) = self.routers.get_mut(socket.0) else {
+            return Received::Nothing;
+        };
+        if router.has_left() {
+            self.ends = self.ends.saturating_add(1);
+            return Received::End;
+        }
+        match router.ask(buf) {
+            0 => Received::Nothing,
+            count => Received::Octets(count),
         }
     }
 
@@ -260,12 +278,12 @@ fn serve(rt: &impl AllocGlobal, silent: u64, fails_at: u64) -> Result<Served, Fa
     })
 }
 
-// Each router but one has its answer, and is connected unless it asked strangely.
+// Each router but one has its answer, and is connected just where it stays.
 fn others_are_served(rt: &impl Abort, routers: &[Router], failed: Option<usize>) {
     for (place, router) in routers.iter().enumerate() {
         if failed != Some(place) {
             assert!(rt; router.has_its_answer(), "{place} of {routers:?}");
-            assert_eq!(rt; router.is_closed, router.is_strange);
+            assert_eq!(rt; router.is_closed, router.kind != Kind::Staying);
         }
     }
 }
@@ -274,17 +292,19 @@ fn others_are_served(rt: &impl Abort, routers: &[Router], failed: Option<usize>)
 fn a_failing_call_costs_one_client(rt: HostRuntime) -> Result<(), Fail> {
     for fails_at in 1..1_000 {
         let served = serve(&rt, 0, fails_at)?;
+        let told = served.wire.faults.saturating_add(served.wire.ends);
         match served.wire.failed {
             Some(Call::OfRouter(failed)) => {
                 assert_eq!(rt; served.fault, None);
                 let gone = served.wire.routers.get(failed).ok_or("no router")?;
                 assert!(rt; gone.is_closed, "{fails_at}");
                 others_are_served(&rt, &served.wire.routers, Some(failed));
+                assert_eq!(rt; served.lost, told.saturating_add(served.closed));
             }
             Some(_) => assert_eq!(rt; served.fault, Some(LoopFault::Accept)),
             None => {
                 others_are_served(&rt, &served.wire.routers, None);
-                assert_eq!(rt; (served.lost, served.closed), (1, 1));
+                assert_eq!(rt; (served.lost, told, served.closed), (2, 1, 1));
                 assert!(rt; fails_at > 50, "{fails_at}");
                 return Ok(());
             }
@@ -301,9 +321,9 @@ fn a_refused_client_is_closed_and_the_others_are_served(rt: HostRuntime) -> Resu
     others_are_served(&rt, &served.wire.routers, Some(2));
     let refused = Router {
         is_closed: true,
-        ..ASKING
+        ..Router::new(Kind::Staying)
     };
     assert_eq!(rt; served.wire.routers[2], refused);
-    assert_eq!(rt; (served.lost, served.closed), (1, 1));
+    assert_eq!(rt; (served.lost, served.wire.ends, served.closed), (2, 1, 1));
     Ok(())
 }
