@@ -1,1 +1,2 @@
+pub mod CacheState
 pub mod CacheNumbers

@@ -1,5 +1,10 @@
 //! The cache.
 
+ghost use Rattle.std.specs.Prelude.{◌≡◌, OnErr, length};
+ghost use Rattle.std.specs.Option.{option_map};
+ghost use Rattle.rtr_codec.specs.CacheTable.{notified, pumped};
+ghost use Rattle.rtr_cache.specs.CacheState.{AllAreNotified, ComesUp, GoesDown, HandsOut, HearsOctets, IsNew, Loads, OthersStay, Steps, Ticks, client_at, transport_of};
+
 use crate::event::{CacheEvent, CacheReport};
 use crate::publisher::Publisher;
 use crate::refusal::CacheRefusal;
@@ -22,9 +27,19 @@ pub struct Cache<A: Allocator = Global> {
     clients: Slab<ServedClient<A>, A>,
 }
 
+impl<A: Allocator> Model for Cache<A> {
+    ghost use Rattle.rtr_cache.specs.CacheState.{CacheState};
+
+    ghost Value = { CacheState };
+
+    ghost view = { λ c. record { shared = c.publisher; clients = c.clients.slots } };
+}
+
 impl<A: Allocator + Clone> Cache<A> {
     /// A cache without a set and without clients, at the moment 0.
-    pub fn new(alloc: A, session: u16, intervals: Intervals) -> Result<Self, CacheRefusal> {
+    pub fn new(alloc: A, session: u16, intervals: Intervals) -> Result<Self, CacheRefusal>
+        ensures { IsNew session intervals result }
+    {
         if !intervals.are_lawful() {
             return Err(CacheRefusal::Range);
         }
@@ -45,23 +60,25 @@ impl<A: Allocator + Clone> Cache<A> {
     pub fn step<B: Allocator>(
         &mut self,
         event: CacheEvent<'_, B>,
-    ) -> Result<CacheReport, CacheRefusal> {
-        let mut report = CacheReport {
-            client: None,
-            serial: None,
-        };
+    ) -> Result<CacheReport, CacheRefusal>
+        ensures does { Steps self.old event.entry result self.new }
+        ensures err { OnErr result (self.new ≡ self.old) }
+    {
         match event {
-            CacheEvent::Load(set) => report.serial = Some(self.load(set)?),
-            CacheEvent::Up => report.client = Some(self.up()?),
-            CacheEvent::Bytes(key, octets) => self.receive(key, octets)?,
-            CacheEvent::Down(key) => self.down(key)?,
-            CacheEvent::Tick(now) => self.tick(now)?,
+            CacheEvent::Load(set) => self.load(set),
+            CacheEvent::Up => self.come_up(),
+            CacheEvent::Bytes(key, octets) => self.hear(key, octets),
+            CacheEvent::Down(key) => self.go_down(key),
+            CacheEvent::Tick(now) => self.tick(now),
         }
-        Ok(report)
     }
 
     /// Hands out the first octets that are queued to the client, as many as there are and fit, and answers how many.
-    pub fn take(&mut self, key: u64, buf: &mut [u8]) -> Result<usize, CacheRefusal> {
+    pub fn take(&mut self, key: u64, buf: &mut [u8]) -> Result<usize, CacheRefusal>
+        ensures does { HandsOut self.old key buf.old result buf.new self.new }
+        ensures err { OnErr result (self.new ≡ self.old) }
+        ensures nothing { OnErr result (buf.new ≡ buf.old) }
+    {
         match self.clients.get_mut(key as usize) {
             Some(client) => Ok(client.take(buf)),
             None => Err(CacheRefusal::NoClient),
@@ -69,24 +86,32 @@ impl<A: Allocator + Clone> Cache<A> {
     }
 
     /// What stands between the client and its connection.
-    pub fn transport(&self, key: u64) -> Transport {
+    pub fn transport(&self, key: u64) -> Transport
+        ensures { result ≡ transport_of (client_at self.now key) }
+    {
         match self.clients.get(key as usize) {
             Some(client) => client.transport(),
             None => Transport::None,
         }
     }
 
-    fn load<B: Allocator>(&mut self, set: &BTreeSet<Vrp, B>) -> Result<u32, CacheRefusal> {
+    fn load<B: Allocator>(&mut self, set: &BTreeSet<Vrp, B>) -> Result<CacheReport, CacheRefusal>
+        ensures does { Loads self.old set.now.keys result self.new }
+        ensures err { OnErr result (self.new ≡ self.old) }
+    {
         match self.publisher.publish(set) {
             Ok(serial) => {
                 self.notify_clients();
-                Ok(serial)
+                Ok(CacheReport::of_serial(serial))
             }
             Err(_) => Err(CacheRefusal::NoMemory),
         }
     }
 
-    fn up(&mut self) -> Result<u64, CacheRefusal> {
+    fn come_up(&mut self) -> Result<CacheReport, CacheRefusal>
+        ensures does { ComesUp self.old result self.new }
+        ensures err { OnErr result (self.new ≡ self.old) }
+    {
         if self.clients.len() >= CACHE_CLIENTS {
             return Err(CacheRefusal::Full);
         }
@@ -97,43 +122,65 @@ impl<A: Allocator + Clone> Cache<A> {
             return Err(CacheRefusal::NoMemory);
         };
         match self.clients.insert(client) {
-            Ok(key) => Ok(key as u64),
+            Ok(key) => Ok(CacheReport::of_client(key as u64)),
             Err(_) => Err(CacheRefusal::NoMemory),
         }
     }
 
-    fn receive(&mut self, key: u64, octets: &[u8]) -> Result<(), CacheRefusal> {
+    fn hear(&mut self, key: u64, octets: &[u8]) -> Result<CacheReport, CacheRefusal>
+        ensures does { HearsOctets self.old key octets.now result self.new }
+        ensures err { OnErr result (self.new ≡ self.old) }
+    {
         match self.clients.get_mut(key as usize) {
             Some(client) => {
                 client.receive(&self.publisher, octets);
-                Ok(())
+                Ok(CacheReport::NOTHING)
             }
             None => Err(CacheRefusal::NoClient),
         }
     }
 
-    fn down(&mut self, key: u64) -> Result<(), CacheRefusal> {
+    fn go_down(&mut self, key: u64) -> Result<CacheReport, CacheRefusal>
+        ensures does { GoesDown self.old key result self.new }
+        ensures err { OnErr result (self.new ≡ self.old) }
+    {
         match self.clients.try_remove(key as usize) {
-            Some(_) => Ok(()),
+            Some(_) => Ok(CacheReport::NOTHING),
             None => Err(CacheRefusal::NoClient),
         }
     }
 
-    fn tick(&mut self, now: u64) -> Result<(), CacheRefusal> {
+    fn tick(&mut self, now: u64) -> Result<CacheReport, CacheRefusal>
+        ensures does { Ticks self.old now result self.new }
+        ensures err { OnErr result (self.new ≡ self.old) }
+    {
         if now < self.publisher.now() {
             return Err(CacheRefusal::ClockBack);
         }
         self.publisher.tick(now);
         self.notify_clients();
-        Ok(())
+        Ok(CacheReport::NOTHING)
     }
 
     // At a Load and at a Tick, by rising key.
-    fn notify_clients(&mut self) {
+    fn notify_clients(&mut self)
+        ensures shared { self.new.shared ≡ self.old.shared }
+        ensures all { AllAreNotified self.old self.new }
+    {
         for key in 0..self.clients.capacity() {
-            if let Some(client) = self.clients.get_mut(key) {
-                client.notify(&self.publisher);
-            }
+            self.notify_client(key);
+        }
+    }
+
+    // The client of this key, if there is one.
+    fn notify_client(&mut self, key: usize)
+        ensures shared { self.new.shared ≡ self.old.shared }
+        ensures client { client_at self.new key ≡ option_map (λ conn. pumped (notified self.old.shared conn)) (client_at self.old key) }
+        ensures others { OthersStay self.old key self.new }
+        ensures slots { length self.new.clients ≡ length self.old.clients }
+    {
+        if let Some(client) = self.clients.get_mut(key) {
+            client.notify(&self.publisher);
         }
     }
 }

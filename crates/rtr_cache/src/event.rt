@@ -1,4 +1,6 @@
 //! What happens to a cache, and what it answers.
+ghost use Rattle.std.specs.Prelude.{◌≡◌};
+ghost use Rattle.rtr_cache.specs.CacheState.{tells_client, tells_serial};
 
 use net_prefix::Vrp;
 use std::alloc::{Allocator, Global};
@@ -25,4 +27,30 @@ pub struct CacheReport {
     pub client: Option<u64>,
     /// The serial of the set that was loaded.
     pub serial: Option<u32>,
+}
+
+impl CacheReport {
+    /// Nothing to tell.
+    pub(crate) const NOTHING: CacheReport = CacheReport {
+        client: None,
+        serial: None,
+    };
+
+    pub(crate) fn of_client(key: u64) -> CacheReport
+        ensures { result ≡ tells_client key }
+    {
+        CacheReport {
+            client: Some(key),
+            serial: None,
+        }
+    }
+
+    pub(crate) fn of_serial(serial: u32) -> CacheReport
+        ensures { result ≡ tells_serial serial }
+    {
+        CacheReport {
+            client: None,
+            serial: Some(serial),
+        }
+    }
 }
