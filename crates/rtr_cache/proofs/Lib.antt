@@ -1,1 +1,5 @@
-mod Notifying
+pub mod Hearing
+pub mod Notifying
+pub mod Queueing
+pub mod SpelledLengths
+pub mod WholeVersions

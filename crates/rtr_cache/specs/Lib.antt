@@ -1,2 +1,4 @@
-pub mod CacheState
 pub mod CacheNumbers
+pub mod CacheState
+pub mod Sending
+pub mod Unsaid

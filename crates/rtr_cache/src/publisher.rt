@@ -1,4 +1,9 @@
 //! What all clients of a cache share.
+ghost use Rattle.std.specs.Prelude.{◌≡◌, [], IfOk, OnOk, OnErr, IsSome, true, false};
+ghost use Rattle.rtr_codec.specs.CacheTable.{Shared};
+ghost use Rattle.rtr_codec.specs.PduSpelling.{Serial_notify, content_of};
+ghost use Rattle.rtr_cache.specs.Unsaid.{is_published, kept_response, whole_response};
+ghost use Rattle.vrp_delta.specs.Versions.{is_newest_set, kept_after, newest_serial, version_of};
 
 use crate::response::{Response, Terms};
 use net_prefix::Vrp;
@@ -14,18 +19,28 @@ pub struct Publisher<A: Allocator = Global> {
     alloc: A,
     terms: Terms,
     versions: Versions<A>,
-    now: u64,
+    moment: u64,
+}
+
+impl<A: Allocator> Model for Publisher<A> {
+    ghost use Rattle.rtr_codec.specs.CacheTable.{Shared};
+
+    ghost Value = { Shared };
+
+    ghost view = { λ p. record { session = p.terms.session; intervals = p.terms.intervals; kept = p.versions; now = p.moment } };
 }
 
 impl<A: Allocator + Clone> Publisher<A> {
     /// Nothing is published, and the moment is 0.
-    pub fn new(alloc: A, terms: Terms) -> Result<Self, AllocError> {
+    pub fn new(alloc: A, terms: Terms) -> Result<Self, AllocError>
+        ensures { IfOk result (λ p. p ≡ record { session = terms.session; intervals = terms.intervals; kept = []; now = 0 }) }
+    {
         let versions = Versions::new(alloc.clone()?);
         Ok(Publisher {
             alloc,
             terms,
             versions,
-            now: 0,
+            moment: 0,
         })
     }
 
@@ -35,17 +50,26 @@ impl<A: Allocator + Clone> Publisher<A> {
     }
 
     /// Publishes the set and answers its serial.
-    pub fn publish<B: Allocator>(&mut self, set: &BTreeSet<Vrp, B>) -> Result<u32, AllocError> {
+    pub fn publish<B: Allocator>(&mut self, set: &BTreeSet<Vrp, B>) -> Result<u32, AllocError>
+        ensures kept { OnOk result (self.new ≡ record self.old { kept = kept_after self.old.kept set.now.keys }) }
+        ensures serial { IfOk result (λ serial. serial ≡ newest_serial self.new.kept) }
+        ensures err { OnErr result (self.new ≡ self.old) }
+        ensures news { OnErr result (is_newest_set self.old.kept set.now.keys ≡ false) }
+    {
         self.versions.publish(set)
     }
 
     /// Whether a set was published.
-    pub fn has_version(&self) -> bool {
+    pub fn has_version(&self) -> bool
+        ensures { result ≡ is_published self.now.kept }
+    {
         self.versions.current().is_some()
     }
 
     /// The serial of the newest version, and 0 before the first.
-    pub fn newest_serial(&self) -> u32 {
+    pub fn newest_serial(&self) -> u32
+        ensures { result ≡ newest_serial self.now.kept }
+    {
         match self.versions.current() {
             Some(newest) => newest.serial(),
             None => 0,
@@ -53,7 +77,10 @@ impl<A: Allocator + Clone> Publisher<A> {
     }
 
     /// The response with the newest version, where there is one.
-    pub fn whole_version(&self) -> Result<Option<Response<A>>, AllocError> {
+    pub fn whole_version(&self) -> Result<Option<Response<A>>, AllocError>
+        ensures response { IfOk result (λ response. response ≡ whole_response self.now self.now.kept) }
+        ensures refused { OnErr result (is_published self.now.kept ≡ true) }
+    {
         match self.versions.current() {
             Some(newest) => {
                 let response = Response::of_version(self.alloc.clone()?, self.terms, newest)?;
@@ -64,7 +91,9 @@ impl<A: Allocator + Clone> Publisher<A> {
     }
 
     /// The response with what changed from a serial to the newest version, where the serial is kept.
-    pub fn change_since(&self, serial: u32) -> Result<Option<Response<A>>, AllocError> {
+    pub fn change_since(&self, serial: u32) -> Result<Option<Response<A>>, AllocError>
+        ensures response { IfOk result (λ response. response ≡ kept_response self.now serial self.now.kept) }
+    {
         match self.versions.delta_from(serial)? {
             Some(change) => {
                 let alloc = self.alloc.clone()?;
@@ -77,12 +106,16 @@ impl<A: Allocator + Clone> Publisher<A> {
     }
 
     /// The session that is served.
-    pub fn session(&self) -> u16 {
+    pub fn session(&self) -> u16
+        ensures { result ≡ self.now.session }
+    {
         self.terms.session
     }
 
     /// A Serial Notify of the newest version.
-    pub fn notify(&self) -> Pdu<'static> {
+    pub fn notify(&self) -> Pdu<'static>
+        ensures { content_of result ≡ Serial_notify self.now.session (newest_serial self.now.kept) }
+    {
         Pdu::SerialNotify {
             session: self.terms.session,
             serial: self.newest_serial(),
@@ -90,12 +123,16 @@ impl<A: Allocator + Clone> Publisher<A> {
     }
 
     /// The moment.
-    pub fn now(&self) -> u64 {
-        self.now
+    pub fn now(&self) -> u64
+        ensures { result ≡ self.now.now }
+    {
+        self.moment
     }
 
     /// The moment is this one, where that isn't earlier.
-    pub fn tick(&mut self, now: u64) {
-        self.now = now;
+    pub fn tick(&mut self, now: u64)
+        ensures { self.new ≡ record self.old { now = now } }
+    {
+        self.moment = now;
     }
 }

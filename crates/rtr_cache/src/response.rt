@@ -1,8 +1,13 @@
 //! A response in progress.
+ghost use Rattle.std.specs.Prelude.{◌≡◌, ◌∷◌, [], IfOk};
+ghost use Rattle.rtr_codec.specs.PduSpelling.{content_of};
+ghost use Rattle.rtr_codec.specs.Responses.{response};
+ghost use Rattle.rtr_cache.specs.Unsaid.{IsResponsePart, IsUnsaid, change_response, left_of};
 
 use net_prefix::Vrp;
 use rtr_codec::{Intervals, Pdu};
 use std::alloc::{AllocError, Allocator, Global};
+use std::collections::VecDeque;
 use std::marker::Model;
 use vrp_delta::{Delta, Snapshot};
 
@@ -19,79 +24,82 @@ pub struct Terms {
 pub struct Response<A: Allocator = Global> {
     terms: Terms,
     serial: u32,
-    withdrawn: Vec<Vrp, A>,
-    announced: Vec<Vrp, A>,
     is_begun: bool,
-    // How many payloads are said.
-    place: usize,
+    withdrawn: VecDeque<Vrp, A>,
+    announced: VecDeque<Vrp, A>,
+}
+
+impl<A: Allocator> Model for Response<A> {
+    ghost use Rattle.std.specs.Prelude.{List};
+    ghost use Rattle.rtr_codec.specs.PduSpelling.{Content};
+    ghost use Rattle.rtr_cache.specs.Unsaid.{payloads_of, unsaid};
+
+    ghost Value = { List Content };
+
+    ghost view = { λ r. unsaid r.is_begun r.terms.session r.terms.intervals r.serial (payloads_of (record { withdrawn = r.withdrawn.items; announced = r.announced.items })) };
 }
 
 impl<A: Allocator + Clone> Response<A> {
-    /// The response that tells what changed up to a version.
+    /// The response that tells what changed up to the version of a serial.
     pub fn of_change(
         alloc: A,
         terms: Terms,
         serial: u32,
         change: &Delta<A>,
-    ) -> Result<Self, AllocError> {
+    ) -> Result<Self, AllocError>
+        ensures { IfOk result (λ r. r ≡ change_response terms.session terms.intervals serial change.now) }
+    {
         let withdrawn = change.withdrawn.iter().copied().collect(alloc.clone()?)?;
         let announced = change.announced.iter().copied().collect(alloc)?;
-        Ok(Self::begin(terms, serial, withdrawn, announced))
+        Ok(Response {
+            terms,
+            serial,
+            is_begun: false,
+            withdrawn,
+            announced,
+        })
     }
 
     /// The response that tells a whole version.
-    pub fn of_version(alloc: A, terms: Terms, version: &Snapshot<A>) -> Result<Self, AllocError> {
-        let withdrawn = Vec::new(alloc.clone()?);
+    pub fn of_version(alloc: A, terms: Terms, version: &Snapshot<A>) -> Result<Self, AllocError>
+        ensures { IfOk result (λ r. r ≡ response terms.session terms.intervals version.now []) }
+    {
+        let withdrawn = VecDeque::new(alloc.clone()?);
         let announced = version.payloads().iter().copied().collect(alloc)?;
-        Ok(Self::begin(terms, version.serial(), withdrawn, announced))
+        Ok(Response {
+            terms,
+            serial: version.serial(),
+            is_begun: false,
+            withdrawn,
+            announced,
+        })
     }
 }
 
 impl<A: Allocator> Response<A> {
-    fn begin(terms: Terms, serial: u32, withdrawn: Vec<Vrp, A>, announced: Vec<Vrp, A>) -> Self {
-        Response {
-            terms,
-            serial,
-            withdrawn,
-            announced,
-            is_begun: false,
-            place: 0,
-        }
-    }
-
     /// The next PDU, and what is still to be said behind it.
-    pub fn next(self) -> (Pdu<'static>, Option<Self>) {
+    pub fn next(self) -> (Pdu<'static>, Option<Self>)
+        ensures exact { self ≡ content_of result.0 ∷ left_of result.1 }
+        ensures more { IsUnsaid result.1 }
+        ensures short { IsResponsePart (content_of result.0) }
+    {
         let mut rest = self;
+        let session = rest.terms.session;
         if !rest.is_begun {
             rest.is_begun = true;
-            let session = rest.terms.session;
             return (Pdu::CacheResponse { session }, Some(rest));
         }
-        match rest.payload() {
-            Some(pdu) => {
-                rest.place += 1;
-                (pdu, Some(rest))
-            }
-            None => (rest.end(), None),
+        if let Some(payload) = rest.withdrawn.pop_front() {
+            return (Pdu::Withdrawal(payload), Some(rest));
         }
-    }
-
-    // The withdrawals come first.
-    fn payload(&self) -> Option<Pdu<'static>> {
-        if let Some(payload) = self.withdrawn.get(self.place) {
-            return Some(Pdu::Withdrawal(*payload));
+        if let Some(payload) = rest.announced.pop_front() {
+            return (Pdu::Announcement(payload), Some(rest));
         }
-        match self.announced.get(self.place - self.withdrawn.len()) {
-            Some(payload) => Some(Pdu::Announcement(*payload)),
-            None => None,
-        }
-    }
-
-    fn end(&self) -> Pdu<'static> {
-        Pdu::EndOfData {
-            session: self.terms.session,
-            serial: self.serial,
-            intervals: self.terms.intervals,
-        }
+        let end = Pdu::EndOfData {
+            session,
+            serial: rest.serial,
+            intervals: rest.terms.intervals,
+        };
+        (end, None)
     }
 }

@@ -1,10 +1,19 @@
 //! What a cache says on one connection.
+ghost use Rattle.std.specs.Prelude.{◌≡◌, ◌≤◌, ◌+◌, ◌++◌, Bool, ℕ, List, IfOk, length, min, take, drop, true, false};
+ghost use Rattle.std.specs.Option.{option_map};
+ghost use Rattle.rtr_codec.specs.CacheTable.{answers, closed, fails, has_room, hears_fault, hears_pdu, is_due, is_news, notified, pumped, quoted_of, reset_query, serial_query, wants_notify};
+ghost use Rattle.rtr_codec.specs.PduSpelling.{Error_report, content_of, spelling};
+ghost use Rattle.rtr_codec.specs.PduStream.{meaning};
+ghost use Rattle.rtr_codec.specs.PduFaults.{number_of};
+ghost use Rattle.rtr_codec.specs.declared.fault.ErrorCode.TheVariants.{NoDataAvailable};
+ghost use Rattle.vrp_delta.specs.Versions.{Version, newest_serial};
+ghost use Rattle.rtr_cache.specs.Sending.{HearsFront, IsNext, behind_pdu, conn_of, fresh_sending, put, said};
 
 use crate::publisher::Publisher;
 use crate::response::Response;
 use arrayvec::ArrayVec;
 use circular_buffer::HeapCircularBuffer;
-use rtr_codec::{ErrorCode, Pdu, PduFault, write};
+use rtr_codec::{ErrorCode, Pdu, PduFault, Receiver, Step, write};
 use std::alloc::{AllocError, Allocator, Global};
 use std::marker::Model;
 
@@ -16,6 +25,9 @@ pub const ROOM_FOR_PDU: usize = 128;
 
 /// The seconds from one Serial Notify to the next (RFC 8210 section 5.2).
 const SECONDS_BETWEEN_NOTIFIES: u64 = 60;
+
+/// The most octets of a PDU that an Error Report quotes (own choice).
+const QUOTED_OCTETS: usize = 32;
 
 /// All of one client's end but what it has not yet read.
 #[derive(Drop)]
@@ -30,9 +42,22 @@ pub struct Sender<A: Allocator = Global> {
     notified: Option<u64>,
 }
 
+impl<A: Allocator> Model for Sender<A> {
+    ghost use Rattle.rtr_cache.specs.Sending.{IsInOrder, Sending};
+    ghost use Rattle.rtr_cache.specs.Unsaid.{left_of};
+
+    ghost Value = { Sending };
+
+    ghost view = { λ s. record { is_open = s.is_open; ring = s.ring.items; left = left_of s.response; told = s.told; notified = s.notified } };
+
+    ghost invariant = { λ s. IsInOrder s.is_open s.ring.items s.ring.capacity s.response };
+}
+
 impl<A: Allocator> Sender<A> {
     /// The beginning of a connection.
-    pub fn new(alloc: A) -> Result<Self, AllocError> {
+    pub fn new(alloc: A) -> Result<Self, AllocError>
+        ensures { IfOk result (λ s. s ≡ fresh_sending) }
+    {
         let ring = HeapCircularBuffer::with_capacity(alloc, RING_OCTETS)?;
         Ok(Sender {
             is_open: true,
@@ -44,55 +69,87 @@ impl<A: Allocator> Sender<A> {
     }
 
     /// Whether the cache has not closed the connection.
-    pub fn is_open(&self) -> bool {
+    pub fn is_open(&self) -> bool
+        ensures { result ≡ self.now.is_open }
+    {
         self.is_open
     }
 
     /// Hands out the first octets of the ring, as many as there are and fit, and answers how many.
-    pub fn take(&mut self, buf: &mut [u8]) -> usize {
+    pub fn take(&mut self, buf: &mut [u8]) -> usize
+        ensures count { result ≡ min (length buf.old) (length self.old.ring) }
+        ensures octets { buf.new ≡ take result self.old.ring ++ drop result buf.old }
+        ensures exact { self.new ≡ record self.old { ring = drop result self.old.ring } }
+    {
         self.ring.read_into(buf)
     }
 
     /// Queues what the response has left while there is room.
-    pub fn pump(&mut self) {
+    pub fn pump(&mut self)
+        ensures { (is_first : Bool) (unread : List ℕ) → conn_of is_first unread self.new ≡ pumped (conn_of is_first unread self.old) }
+    {
         while self.has_room() {
-            let Some(response) = self.response.take() else {
+            let Some(pdu) = self.next_pdu() else {
                 return;
             };
-            let (pdu, rest) = response.next();
-            self.response = rest;
             self.say(&pdu);
         }
     }
 
-    /// The header of a PDU, or the payload in it, is faulty.
-    pub fn hear_fault(&mut self, fault: PduFault, quoted: &[u8]) {
+    // The header of a PDU, or the payload of a whole one, is faulty.
+    fn hear_fault(&mut self, fault: PduFault, octets: &[u8])
+        requires { self.old.is_open ≡ true }
+        ensures { behind_pdu self.new ≡ hears_fault (behind_pdu self.old) octets.now fault }
+    {
         match fault {
             PduFault::Unanswered => self.close(),
-            PduFault::Header(code) => self.fail(code, quoted),
-            PduFault::Payload => self.fail(ErrorCode::CorruptData, quoted),
+            PduFault::Header(code) => self.fail(code, octets),
+            PduFault::Payload => self.fail(ErrorCode::CorruptData, octets),
         }
     }
 
-    fn has_room(&self) -> bool {
-        RING_OCTETS - self.ring.len() >= ROOM_FOR_PDU
+    // The next PDU of the response in progress.
+    fn next_pdu(&mut self) -> Option<Pdu<'static>>
+        ensures { IsNext self.old self.new (option_map content_of result) }
+    {
+        let response = self.response.take()?;
+        let (pdu, rest) = response.next();
+        self.response = rest;
+        Some(pdu)
+    }
+
+    fn has_room(&self) -> bool
+        ensures { result ≡ has_room self.now.ring }
+    {
+        self.ring.len() + ROOM_FOR_PDU <= RING_OCTETS
     }
 
     // Nothing more is read or said. What is queued can still be taken.
-    fn close(&mut self) {
+    fn close(&mut self)
+        ensures exact { behind_pdu self.new ≡ closed (behind_pdu self.old) }
+        ensures room { self.old.is_open ≡ true → length self.new.ring + 80 ≤ 65536 }
+    {
         self.is_open = false;
         self.response = None;
     }
 
     // Closes with an Error Report.
-    fn fail(&mut self, code: ErrorCode, quoted: &[u8]) {
+    #[tactic(auto, using(crate::proofs::SpelledLengths::report_length))]
+    fn fail(&mut self, code: ErrorCode, octets: &[u8])
+        requires { self.old.is_open ≡ true }
+        ensures { behind_pdu self.new ≡ fails (behind_pdu self.old) code (quoted_of octets.now) }
+    {
         self.close();
         let code = code.number();
+        let quoted = quoted_of(octets);
         self.put(&Pdu::ErrorReport { code, quoted });
     }
 
     // An answer of one PDU, after which the connection stays where there is room for it.
-    fn answer(&mut self, pdu: &Pdu<'_>) {
+    fn answer(&mut self, pdu: &Pdu<'_>)
+        requires { length (spelling (content_of pdu.now)) ≤ 48 }
+        ensures { behind_pdu self.new ≡ answers (behind_pdu self.old) (content_of pdu.now) }
+    {
         if self.has_room() {
             self.put(pdu);
         } else {
@@ -101,7 +158,11 @@ impl<A: Allocator> Sender<A> {
     }
 
     // Queues a PDU that may tell a serial.
-    fn say(&mut self, pdu: &Pdu<'_>) {
+    fn say(&mut self, pdu: &Pdu<'_>)
+        requires short { length (spelling (content_of pdu.now)) ≤ 48 }
+        requires room { length self.old.ring + 128 ≤ 65536 }
+        ensures { self.new ≡ said self.old (content_of pdu.now) }
+    {
         match pdu {
             Pdu::EndOfData { serial, .. } | Pdu::SerialNotify { serial, .. } => {
                 self.told = Some(*serial);
@@ -111,7 +172,12 @@ impl<A: Allocator> Sender<A> {
         self.put(pdu);
     }
 
-    fn put(&mut self, pdu: &Pdu<'_>) {
+    fn put(&mut self, pdu: &Pdu<'_>)
+        requires short { length (spelling (content_of pdu.now)) ≤ 48 }
+        requires fits { length self.old.ring + length (spelling (content_of pdu.now)) ≤ 65536 }
+        requires room { self.old.is_open ≡ true → length self.old.ring + 128 ≤ 65536 }
+        ensures { self.new ≡ put self.old (content_of pdu.now) }
+    {
         let mut octets = ArrayVec::new();
         write(pdu, &mut octets);
         self.ring.fill_from_slice(octets.as_slice());
@@ -119,21 +185,39 @@ impl<A: Allocator> Sender<A> {
 }
 
 impl<A: Allocator + Clone> Sender<A> {
-    /// A whole PDU came. `quoted` is what an Error Report quotes of it.
-    pub fn hear(&mut self, publisher: &Publisher<A>, pdu: &Pdu<'_>, quoted: &[u8]) {
+    /// Hears what stands at the front of what came, if it is whole or faulty.
+    pub fn hear_front(&mut self, publisher: &Publisher<A>, receiver: &Receiver)
+        requires { self.old.is_open ≡ true }
+        ensures { HearsFront publisher.now (meaning receiver.now.place receiver.now.part) self.old self.new }
+    {
+        match receiver.front() {
+            Step::Need => {}
+            Step::Whole(pdu, _) => self.hear(publisher, &pdu, receiver.octets()),
+            Step::Faulty(fault, _) => self.hear_fault(fault, receiver.octets()),
+        }
+    }
+
+    // A whole PDU came, of these octets.
+    fn hear(&mut self, publisher: &Publisher<A>, pdu: &Pdu<'_>, octets: &[u8])
+        requires { self.old.is_open ≡ true }
+        ensures { (refused : Bool) × (behind_pdu self.new ≡ hears_pdu publisher.now refused (behind_pdu self.old) octets.now (content_of pdu.now)) }
+    {
         match pdu {
             Pdu::ErrorReport { .. } => self.close(),
             Pdu::SerialQuery { session, serial } if self.response.is_none() => {
-                self.answer_serial(publisher, *session, *serial, quoted);
+                self.answer_serial(publisher, *session, *serial, octets);
             }
-            Pdu::ResetQuery if self.response.is_none() => self.answer_reset(publisher, quoted),
+            Pdu::ResetQuery if self.response.is_none() => self.answer_reset(publisher, octets),
             // Anything else, and a query while a response is in progress.
-            _ => self.fail(ErrorCode::InvalidRequest, quoted),
+            _ => self.fail(ErrorCode::InvalidRequest, octets),
         }
     }
 
     /// At a Load and at a Tick: queues a Serial Notify where the client is to get one.
-    pub fn notify(&mut self, publisher: &Publisher<A>) {
+    #[tactic(auto, using(crate::proofs::SpelledLengths::notify_length))]
+    pub fn notify(&mut self, publisher: &Publisher<A>)
+        ensures { (is_first : Bool) (unread : List ℕ) → conn_of is_first unread self.new ≡ notified publisher.now (conn_of is_first unread self.old) }
+    {
         if self.wants_notify(publisher) {
             self.say(&publisher.notify());
             self.notified = Some(publisher.now());
@@ -141,18 +225,22 @@ impl<A: Allocator + Clone> Sender<A> {
     }
 
     // RFC 8210 section 5.3.
+    #[tactic(auto, using(crate::proofs::SpelledLengths::reset_length))]
     fn answer_serial(
         &mut self,
         publisher: &Publisher<A>,
         session: u16,
         serial: u32,
-        quoted: &[u8],
-    ) {
+        octets: &[u8],
+    )
+        requires { self.old.is_open ≡ true }
+        ensures { (refused : Bool) × (behind_pdu self.new ≡ serial_query publisher.now refused (behind_pdu self.old) octets.now session serial publisher.now.kept) }
+    {
         if !publisher.has_version() {
-            return self.answer_no_data(quoted);
+            return self.answer_no_data(octets);
         }
         if session != publisher.session() {
-            return self.fail(ErrorCode::CorruptData, quoted);
+            return self.fail(ErrorCode::CorruptData, octets);
         }
         match publisher.change_since(serial) {
             Ok(Some(response)) => self.response = Some(response),
@@ -162,20 +250,29 @@ impl<A: Allocator + Clone> Sender<A> {
     }
 
     // RFC 8210 section 5.4.
-    fn answer_reset(&mut self, publisher: &Publisher<A>, quoted: &[u8]) {
+    fn answer_reset(&mut self, publisher: &Publisher<A>, octets: &[u8])
+        requires { self.old.is_open ≡ true }
+        ensures { (refused : Bool) × (behind_pdu self.new ≡ reset_query publisher.now refused (behind_pdu self.old) octets.now publisher.now.kept) }
+    {
         match publisher.whole_version() {
             Ok(Some(response)) => self.response = Some(response),
-            Ok(None) => self.answer_no_data(quoted),
+            Ok(None) => self.answer_no_data(octets),
             Err(_) => self.fail(ErrorCode::InternalError, &[]),
         }
     }
 
-    fn answer_no_data(&mut self, quoted: &[u8]) {
+    #[tactic(auto, using(crate::proofs::SpelledLengths::report_length))]
+    fn answer_no_data(&mut self, octets: &[u8])
+        ensures { behind_pdu self.new ≡ answers (behind_pdu self.old) (Error_report (number_of NoDataAvailable) (quoted_of octets.now)) }
+    {
         let code = ErrorCode::NoDataAvailable.number();
+        let quoted = quoted_of(octets);
         self.answer(&Pdu::ErrorReport { code, quoted });
     }
 
-    fn wants_notify(&self, publisher: &Publisher<A>) -> bool {
+    fn wants_notify(&self, publisher: &Publisher<A>) -> bool
+        ensures { result ≡ wants_notify publisher.now (behind_pdu self.now) }
+    {
         self.is_open
             && self.is_news(publisher.newest_serial())
             && self.response.is_none()
@@ -184,17 +281,30 @@ impl<A: Allocator + Clone> Sender<A> {
     }
 
     // A client that was told no serial waits for its first response.
-    fn is_news(&self, newest: u32) -> bool {
+    fn is_news(&self, newest: u32) -> bool
+        ensures { (kept : List Version) → newest ≡ newest_serial kept → result ≡ is_news kept self.now.told }
+    {
         match self.told {
             Some(serial) => newest != serial,
             None => false,
         }
     }
 
-    fn is_due(&self, now: u64) -> bool {
+    fn is_due(&self, now: u64) -> bool
+        ensures { result ≡ is_due now self.now.notified }
+    {
         match self.notified {
             Some(moment) => now.saturating_sub(moment) >= SECONDS_BETWEEN_NOTIFIES,
             None => true,
         }
     }
+}
+
+// What an Error Report quotes of a PDU.
+#[tactic(auto, using(crate::proofs::SpelledLengths::quoted_min))]
+fn quoted_of(octets: &[u8]) -> &[u8]
+    ensures octets { result.now ≡ quoted_of octets.now }
+    ensures short { length result.now ≤ 32 }
+{
+    &octets[..octets.len().min(QUOTED_OCTETS)]
 }
