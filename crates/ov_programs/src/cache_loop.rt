@@ -79,7 +79,10 @@ impl<W: Wire + Drop, A: Allocator + Clone> CacheLoop<W, A> {
     }
 
     /// The wire.
-    pub fn wire(&self) -> &W {
+    pub fn wire(&self) -> &W
+        ensures faults { W.fault_count result.now ≡ self.now.counts.faults }
+        ensures ends { W.end_count result.now ≡ self.now.counts.ends }
+    {
         &self.wire
     }
 

@@ -1,6 +1,6 @@
 //! A router without a program of its own takes a list over a loopback socket.
 
-use crate::{CacheLoop, NetWire};
+use crate::{Accepted, CacheLoop, NetWire, Received, Sent, Wire};
 use net_prefix::{Asn, Prefix, Vrp};
 use rtr_cache::{Cache, CacheEvent};
 use rtr_codec::Intervals;
@@ -75,5 +75,50 @@ fn a_router_takes_each_payload_over_a_socket(rt: HostRuntime) -> Result<(), Fail
     let taken = taken_in_turns(&rt, &mut turns, router)?;
     assert_eq!(rt; taken.as_slice(), expected(rt.alloc())?.as_slice());
     assert_eq!(rt; turns.lost(), 0);
+    Ok(())
+}
+
+// What comes next on a connection.
+fn received<W: Wire>(wire: &mut W, socket: &mut W::Socket) -> Received {
+    for _ in 0..100_000 {
+        match wire.read(socket, &mut [0; 8]) {
+            Received::Nothing => {}
+            received => return received,
+        }
+    }
+    Received::Nothing
+}
+
+// The next connection.
+fn accepted<W: Wire>(wire: &mut W) -> Option<W::Socket> {
+    for _ in 0..100_000 {
+        match wire.accept() {
+            Accepted::Connection(socket, _) => return Some(socket),
+            Accepted::Nothing => {}
+            Accepted::Fault => return None,
+        }
+    }
+    None
+}
+
+#[test]
+fn a_wire_tells_what_another_sends_and_its_end(rt: HostRuntime) -> Result<(), Fail> {
+    let mut server = NetWire::listening(&rt, "127.0.0.1:0".parse()?)?;
+    let address = server.local_address().ok_or("no address")?;
+    assert!(rt; matches!(server.accept(), Accepted::Nothing));
+    let mut router = NetWire::new(&rt);
+    assert_eq!(rt; router.local_address(), None);
+    let mut near = router.connect(address).ok_or("no connection")?;
+    let mut far = accepted(&mut server).ok_or("none accepted")?;
+    assert_eq!(rt; server.read(&mut far, &mut [0; 8]), Received::Nothing);
+    assert_eq!(rt; router.write(&mut near, &[1, 2, 3]), Sent::Octets(3));
+    assert_eq!(rt; received(&mut server, &mut far), Received::Octets(3));
+    assert_eq!(rt; server.ends(), 0);
+    router.close(near);
+    assert_eq!(rt; received(&mut server, &mut far), Received::End);
+    assert_eq!(rt;
+        (server.ends(), server.faults(), router.faults()),
+        (1, 0, 0)
+    );
     Ok(())
 }
