@@ -18,3 +18,7 @@ pub mod Commands
 pub mod Takes
 pub mod ListedEvents
 pub mod ShownRoutes
+pub mod MergedPrefixes
+pub mod WaitingLists
+pub mod OneBest
+pub mod WaitingRuns

@@ -216,7 +216,7 @@ named_before (d ∷ seen) e q named other =
       | inr later ↦ rw (named_before seen e q later other) (or_true (is_at (prefix_cmp q) d.0))
     ]
 
-same_from_is_prefix : (p q : Prefix) → is_prefix p q ≡ true → p ≡ q
+pub same_from_is_prefix : (p q : Prefix) → is_prefix p q ≡ true → p ≡ q
 same_from_is_prefix p q h = let parts = parts_from_is_prefix p q h in same_prefix p q parts.0 parts.1
 
 kept_more : (export : Prefix → Option (List ℕ)) (p : Prefix) (now new : Linked) (q : Prefix) (b : Bool) → is_prefix p q ≡ b → Announced export p now new

@@ -64,7 +64,7 @@ loc_rib_after config call r s queue links conf all queues =
     ∙ sym (tables_queued (export_to s) queue s links queues)
 
 -- the kept export is the run's
-export_of_run : (config : Config) (r : Run) (s : SpeakerState) (slot : ℕ) (peer : ConfiguredPeer) (prefix : Prefix) → tables_after config r ≡ tables_of s → configuration_of config r ≡ s.conf
+pub export_of_run : (config : Config) (r : Run) (s : SpeakerState) (slot : ℕ) (peer : ConfiguredPeer) (prefix : Prefix) → tables_after config r ≡ tables_of s → configuration_of config r ≡ s.conf
     → IsLocRib (tables_of s) s.loc_rib → peer_at s.conf slot ≡ Some peer
     → IsExport (tables_after config r) (export_peer_of (configuration_of config r) slot peer) prefix (export_to s slot prefix)
 export_of_run config r s slot peer prefix tables conf is configured =

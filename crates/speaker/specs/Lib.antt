@@ -12,3 +12,4 @@ pub mod Agreement
 pub mod Moves
 pub mod FirstRefusal
 pub mod Shown
+pub mod Waiting

@@ -8,6 +8,7 @@
 mod choosing;
 mod config;
 mod event;
+mod laws;
 mod link;
 mod queueing;
 mod receiving;
@@ -17,13 +18,16 @@ mod step;
 #[cfg(test)]
 mod tests;
 mod views;
+mod waiting;
 
 pub use bgp_attr::{Attrs, Mode};
 pub use bgp_conf::{Command, PeerConf, Refusal};
 pub use bgp_fsm::State;
 pub use config::Config;
 pub use event::{Event, Report};
+pub use laws::one_export;
 pub use net_prefix::Transport;
 pub use runs::{Trace, run};
 pub use step::Speaker;
-pub use views::{AdjRibIn, BestRoute, HeldRoutes, LocRib, WaitingPrefixes};
+pub use views::{AdjRibIn, BestRoute, HeldRoutes, LocRib};
+pub use waiting::WaitingPrefixes;

@@ -1,8 +1,11 @@
 //! The views of a speaker: its sessions and tables, as operators see them.
-ghost use Rattle.std.specs.Prelude.{◌≡◌, map};
+ghost use Rattle.std.specs.Prelude.{◌≡◌, ◌≤◌, ◌<◌, ◌+◌, ◌↔◌, [], Contains, length, map, unwrap_or};
 ghost use Rattle.std.specs.Option.{option_map};
 ghost use Rattle.std.specs.Iterator.{YieldsFirst, YieldsFirstBy, item_count};
+ghost use Rattle.std.specs.List.Sorted.{IsStrictlySortedBy};
 ghost use Rattle.std.specs.Map.{lookup};
+ghost use Rattle.bgp_peer.specs.SentMessages.{ring_of};
+ghost use Rattle.net_prefix.specs.PrefixOrder.{prefix_cmp};
 ghost use Rattle.net_prefix.specs.declared.prefix.Prefix.{Prefix as ThePrefix};
 ghost use Rattle.rib_out.specs.Held.{held_at, is_prefix};
 ghost use Rattle.speaker.specs.AdjRibIn.{route};
@@ -12,19 +15,17 @@ ghost use Rattle.speaker.specs.Runs.{Run, history};
 ghost use Rattle.speaker.specs.declared.config.Config.{Config};
 ghost use Rattle.speaker.specs.Tables.{link_at, session_at};
 ghost use Rattle.speaker.specs.Shown.{held_by, routes_of, shown_of, transport_at};
+ghost use Rattle.speaker.specs.Waiting.{IsWaiting, IsWaitingIn, waiting_of};
 
-use crate::link::Link;
-use crate::queueing::{Octets, export};
 use crate::step::Speaker;
+use crate::waiting::{Waiting, WaitingPrefixes};
 use bgp_attr::Attrs;
 use bgp_fsm::State;
 use decision::Candidate;
-use export_rules::ExportPeer;
 use net_prefix::{Prefix, Transport};
 use std::alloc::{Allocator, Global};
 use std::collections::btree_map;
 use std::marker::Model;
-use std::ops::Bound;
 
 /// A row of Loc-RIB: a prefix, the slot of its best route, and that route's degree of preference.
 #[derive(Clone, Copy, Debug, PartialEq, Eq)]
@@ -134,86 +135,6 @@ impl<'a, A: Allocator> Iterator for HeldRoutes<'a, A> {
     }
 }
 
-/// The prefixes of which a slot's peer doesn't hold just what is exported to it, in rising order.
-#[derive(Drop)]
-pub struct WaitingPrefixes<'a, A: Allocator = Global> {
-    waiting: Option<Waiting<'a, A>>,
-}
-
-impl<A: Allocator + Clone> Iterator for WaitingPrefixes<'_, A> {
-    type Item = Prefix;
-
-    fn next(&mut self) -> Option<Prefix> {
-        match &mut self.waiting {
-            Some(waiting) => waiting.next_waiting(),
-            None => None,
-        }
-    }
-}
-
-// A walk over the prefixes of Loc-RIB and of what an Established peer holds.
-#[derive(Drop)]
-struct Waiting<'a, A: Allocator> {
-    speaker: &'a Speaker<A>,
-    link: &'a Link<A>,
-    peer: ExportPeer,
-    after: Option<Prefix>,
-    // At most how many prefixes are still to be looked at.
-    left: u64,
-}
-
-impl<'a, A: Allocator + Clone> Waiting<'a, A> {
-    fn new(speaker: &'a Speaker<A>, link: &'a Link<A>, peer: ExportPeer) -> Self {
-        Waiting {
-            speaker,
-            link,
-            peer,
-            after: None,
-            left: u64::MAX,
-        }
-    }
-
-    fn next_waiting(&mut self) -> Option<Prefix> {
-        let mut octets = Octets::new();
-        while self.left > 0 {
-            self.left -= 1;
-            let prefix = self.next_known()?;
-            self.after = Some(prefix);
-            if self.is_waiting(prefix, &mut octets) {
-                return Some(prefix);
-            }
-        }
-        None
-    }
-
-    // The least prefix above that Loc-RIB or the peer has.
-    fn next_known(&self) -> Option<Prefix> {
-        let above = match &self.after {
-            Some(prefix) => Bound::Excluded(prefix),
-            None => Bound::Unbounded,
-        };
-        let speaker = self.speaker;
-        let link = self.link;
-        let best = speaker.ribs.loc_rib.range((above, Bound::Unbounded)).next();
-        let held = link.adj_out.prefix_after(self.after);
-        match (best, held) {
-            (Some((best, _)), Some(held)) => Some(held.min(*best)),
-            (Some((best, _)), None) => Some(*best),
-            (None, held) => held,
-        }
-    }
-
-    fn is_waiting(&self, prefix: Prefix, octets: &mut Octets) -> bool {
-        let speaker = self.speaker;
-        let link = self.link;
-        if export(&speaker.ribs, &self.peer, prefix, octets) {
-            !link.adj_out.holds(prefix, octets.as_slice())
-        } else {
-            link.adj_out.get(prefix).is_some()
-        }
-    }
-}
-
 impl<A: Allocator + Clone> Speaker<A> {
     /// The state of a slot's session; none where the slot isn't configured.
     pub fn session(&self, slot: u8) -> Option<State>
@@ -275,18 +196,35 @@ impl<A: Allocator + Clone> Speaker<A> {
 
     /// The prefixes of which a slot's peer doesn't hold just what is exported to it, in rising order; none
     /// where its session isn't Established.
-    pub fn waiting(&self, slot: u8) -> WaitingPrefixes<'_, A> {
+    pub fn waiting(&self, slot: u8) -> WaitingPrefixes<'_, A>
+        // Each once.
+        ensures rising { IsStrictlySortedBy prefix_cmp result }
+        ensures kept { (prefix : ThePrefix) → Contains result prefix ↔ IsWaiting self.now slot prefix }
+        ensures agrees { (config : Config) (r : Run) (prefix : ThePrefix) → Agrees config r self.now → Contains result prefix ↔ IsWaitingIn config r slot prefix }
+        // Where 8,192 octets of the ring are free, nothing waits.
+        ensures settled { (config : Config) (r : Run) → Agrees config r self.now → slot < 64 → length (ring_of (history config slot r)) + 8192 ≤ 65536 → result ≡ [] }
+    {
+        self.waiting_rows(slot)
+    }
+
+    fn waiting_rows(&self, slot: u8) -> WaitingPrefixes<'_, A>
+        ensures all { result ≡ waiting_of self.now slot }
+        ensures rising { IsStrictlySortedBy prefix_cmp result }
+    {
         WaitingPrefixes {
-            waiting: self.waiting_of(slot),
+            waiting: self.waiting_walk(slot),
         }
     }
 
-    fn waiting_of(&self, slot: u8) -> Option<Waiting<'_, A>> {
+    fn waiting_walk(&self, slot: u8) -> Option<Waiting<'_, A>>
+        ensures all { unwrap_or result [] ≡ waiting_of self.now slot }
+        ensures rising { IsStrictlySortedBy prefix_cmp (unwrap_or result []) }
+    {
         let peer = self.export_peer(slot)?;
         let link = self.links.get(&slot)?;
         if link.peer.state() != State::Established {
             return None;
         }
-        Some(Waiting::new(self, link, peer))
+        Some(Waiting::new(&self.ribs, link, peer))
     }
 }

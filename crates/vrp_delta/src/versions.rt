@@ -1,5 +1,5 @@
 //! The versions that were published.
-ghost use Rattle.std.specs.Prelude.{◌≡◌, ◌≢◌, ◌↔◌, ℕ, List, [], false, take, IsTrue, IfSome, IfNone, OnOk, OnErr, IfOk, slice_get};
+ghost use Rattle.std.specs.Prelude.{◌≡◌, ◌≢◌, ◌↔◌, ℕ, List, [], false, take, IsTrue, IsSome, IfSome, IfNone, OnOk, OnErr, IfOk, slice_get};
 ghost use Rattle.std.specs.List.{All, AllPairs, Contains};
 ghost use Rattle.std.specs.Option.{option_copied};
 ghost use Rattle.net_prefix.specs.declared.payload.Vrp.{Vrp};
@@ -102,7 +102,8 @@ impl<A: Allocator + Clone> Versions<A> {
 
     /// What changed from the version of the serial to the newest one, where that version is kept.
     pub fn delta_from(&self, serial: u32) -> Result<Option<Delta<A>>, AllocError>
-        ensures { IfOk result (λ delta. delta ≡ change_from self.now serial) }
+        ensures delta { IfOk result (λ delta. delta ≡ change_from self.now serial) }
+        ensures refused { OnErr result (IsSome (version_of self.now serial)) }
     {
         let Some(newest) = self.current() else {
             return Ok(None);

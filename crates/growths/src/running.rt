@@ -1,0 +1,114 @@
+//! The events of the first path by `run`, where the nth request for memory is refused.
+use crate::first_path::{CONFIG, Call, REACHABLE, calls};
+use net_prefix::Prefix;
+use refusing::Refusing;
+use speaker::{Command, Event, Refusal, Report, run};
+use std::alloc::{AllocError, Allocator, Global};
+use std::process::Abort;
+use std::test::Fail;
+
+// What the refused growth came to.
+#[derive(Clone, Copy, Debug, PartialEq, Eq)]
+enum Ending {
+    // There was none.
+    Whole,
+    // There is no trace.
+    NoTrace,
+    // A command was refused, and the speaker went on.
+    WentOn,
+    // A call stopped the speaker.
+    Stopped,
+}
+
+fn events_of<'a>(alloc: Global, calls: &[Call<'a>]) -> Result<Vec<Event<'a>>, AllocError> {
+    let mut events = Vec::new(alloc);
+    for call in calls {
+        if let Call::Step(event) = call {
+            events.push(*event)?;
+        }
+    }
+    Ok(events)
+}
+
+fn slot_of(event: Event<'_>) -> Option<u8> {
+    match event {
+        Event::Up(slot) | Event::Fail(slot) | Event::Bytes(slot, _) => Some(slot),
+        Event::Command(Command::AddPeer(slot, _) | Command::Enable(slot)) => Some(slot),
+        Event::Command(Command::Reach(_, _)) => None,
+    }
+}
+
+// The answers behind the first refused one: the speaker has stopped, or goes on without what was commanded.
+fn behind(
+    rt: &impl Abort,
+    refused: Event<'_>,
+    events: &[Event<'_>],
+    answers: &[Result<Report, Refusal>],
+) -> Ending {
+    if answers
+        .iter()
+        .all(|answer| *answer == Err(Refusal::NoMemory))
+    {
+        return Ending::Stopped;
+    }
+    assert!(rt; matches!(refused, Event::Command(_)));
+    for (event, answer) in events.iter().zip(answers) {
+        let lacks_slot = slot_of(*event).is_some() && slot_of(*event) == slot_of(refused);
+        let wanted = if lacks_slot {
+            Err(Refusal::BadSlot)
+        } else {
+            Ok(Report::NOTHING)
+        };
+        assert_eq!(rt; *answer, wanted);
+    }
+    Ending::WentOn
+}
+
+fn judge(rt: &impl Abort, events: &[Event<'_>], answers: &[Result<Report, Refusal>]) -> Ending {
+    assert_eq!(rt; answers.len(), events.len());
+    let mut later = events.iter();
+    let mut rest = answers;
+    while let (Some(event), Some((answer, behind_it))) = (later.next(), rest.split_first()) {
+        if *answer != Ok(Report::NOTHING) {
+            assert_eq!(rt; *answer, Err(Refusal::NoMemory));
+            return behind(rt, *event, later.as_slice(), behind_it);
+        }
+        rest = behind_it;
+    }
+    Ending::Whole
+}
+
+fn play<A: Allocator + Clone>(rt: &impl Abort, heap: A, events: &[Event<'_>]) -> Ending {
+    match run(heap, CONFIG, events) {
+        Ok(trace) => judge(rt, events, trace.answers.as_slice()),
+        Err(why) => {
+            assert_eq!(rt; why, Refusal::NoMemory);
+            Ending::NoTrace
+        }
+    }
+}
+
+// How the run ends, by n, until nothing is refused.
+fn endings(rt: &impl Abort, alloc: Global, events: &[Event<'_>]) -> Result<Vec<Ending>, Fail> {
+    let mut endings = Vec::new(alloc);
+    for nth in 1..1_000u64 {
+        let heap = Refusing::new(alloc, nth);
+        let ending = play(rt, &heap, events);
+        assert_eq!(rt; heap.has_refused(), ending != Ending::Whole);
+        if ending == Ending::Whole {
+            return Ok(endings);
+        }
+        endings.push(ending)?;
+    }
+    panic!(rt; "the run makes no end of requests");
+}
+
+#[test]
+fn a_run_answers_44_or_has_it_among_its_answers(rt: HostRuntime) -> Result<(), Fail> {
+    let events = events_of(rt.alloc(), &calls(Prefix::parse(REACHABLE)?))?;
+    let endings = endings(&rt, rt.alloc(), events.as_slice())?;
+    for ending in [Ending::NoTrace, Ending::WentOn, Ending::Stopped] {
+        assert!(rt; endings.contains(&ending), "{ending:?}");
+    }
+    Ok(())
+}

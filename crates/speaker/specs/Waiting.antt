@@ -1,0 +1,85 @@
+use Rattle.std.specs.Prelude.{◌≡◌, ◌≢◌, ℕ, Bool, true, false, not, List, [], ◌∷◌, Option, Some, None, filter}
+use Rattle.std.specs.Map.{keys_of}
+use Rattle.std.specs.Set.{sorted_merge}
+use Rattle.std.specs.Option.{option_map}
+use Rattle.std.specs.Str.{bytes_eq}
+use Rattle.bgp_attr.specs.PathAttributes.{PathAttributes}
+use Rattle.bgp_conf.specs.Configuration.{peer_at}
+use Rattle.bgp_conf.specs.declared.conf.ConfiguredPeer.{ConfiguredPeer}
+use Rattle.bgp_fsm.specs.declared.state.State.{State}
+use Rattle.bgp_fsm.specs.declared.state.State.TheVariants.{Idle, Connect, Active, OpenSent, OpenConfirm, Established}
+use Rattle.bgp_peer.specs.SessionInputs.{session}
+use Rattle.decision.specs.declared.candidate.Candidate.{Candidate}
+use Rattle.export_rules.specs.declared.export.ExportPeer.{ExportPeer}
+use Rattle.net_prefix.specs.PrefixOrder.{prefix_cmp}
+use Rattle.net_prefix.specs.declared.prefix.Prefix.{Prefix}
+use Rattle.rib_in.specs.declared.adj_in.RouteKey.{RouteKey}
+use Rattle.rib_out.specs.Held.{held_at}
+use Rattle.speaker.specs.Agreement.{tables_after}
+use Rattle.speaker.specs.Export.{IsExport, export_in, export_peer_of, export_to}
+use Rattle.speaker.specs.Held.{held}
+use Rattle.speaker.specs.Linked.{Linked}
+use Rattle.speaker.specs.Runs.{Run, configuration_of, history}
+use Rattle.speaker.specs.SpeakerState.{SpeakerState}
+use Rattle.speaker.specs.Tables.{link_at}
+use Rattle.speaker.specs.declared.config.Config.{Config}
+
+-- The prefixes that wait: a peer doesn't hold of them just what is exported to it (RFC 4271 sections 3.2 and 9.2).
+
+-- the slot's session is Established, and its peer doesn't hold of the prefix just what is exported to it
+pub record IsWaiting (s : SpeakerState) (slot : ℕ) (prefix : Prefix) : Type 0 where
+  pub peer : ConfiguredPeer
+  pub link : Linked
+  pub configured : peer_at s.conf slot ≡ Some peer
+  pub linked : link_at s.links slot ≡ Some link
+  pub established : link.peer.session.state ≡ Established
+  pub differs : held_at link.adj_out prefix ≢ export_to s slot prefix
+
+-- after a run, the slot's session is Established, and its peer doesn't hold of the prefix just what is exported to it
+pub record IsWaitingIn (config : Config) (r : Run) (slot : ℕ) (prefix : Prefix) : Type 0 where
+  pub peer : ConfiguredPeer
+  pub export : Option (List ℕ)
+  pub configured : peer_at (configuration_of config r) slot ≡ Some peer
+  pub established : (session (history config slot r)).state ≡ Established
+  pub is_export : IsExport (tables_after config r) (export_peer_of (configuration_of config r) slot peer) prefix export
+  pub differs : held (history config slot r) prefix ≢ export
+
+-- both are the same octets, or there are none of both
+abbrev pub is_same : Option (List ℕ) → Option (List ℕ) → Bool
+is_same None None = true
+is_same None (Some octets) = false
+is_same (Some octets) None = false
+is_same (Some octets) (Some others) = bytes_eq octets others
+
+-- of these prefixes, those of which other octets are held than are exported
+abbrev pub differing : (Prefix → Option (List ℕ)) → (Prefix → Option (List ℕ)) → List Prefix → List Prefix
+differing held export prefixes = filter (λ prefix. not (is_same (held prefix) (export prefix))) prefixes
+
+-- the prefixes of Loc-RIB and those that a peer holds, each once
+abbrev pub known_prefixes : List (Prefix × Candidate) → List (Prefix × List ℕ) → List Prefix
+known_prefixes loc_rib held = sorted_merge prefix_cmp true (keys_of loc_rib) (keys_of held)
+
+-- a prefix, where there is one, and those behind it
+abbrev pub first_of : Option Prefix → List Prefix → List Prefix
+first_of None prefixes = []
+first_of (Some prefix) prefixes = prefix ∷ prefixes
+
+-- only an Established peer is owed anything
+abbrev pub if_established : State → List Prefix → List Prefix
+if_established Idle prefixes = []
+if_established Connect prefixes = []
+if_established Active prefixes = []
+if_established OpenSent prefixes = []
+if_established OpenConfirm prefixes = []
+if_established Established prefixes = prefixes
+
+-- the known prefixes that wait of this slot, as the tables stand
+abbrev pub waiting_at : List (Prefix × Candidate) → List (RouteKey × PathAttributes) → Option ExportPeer → Option Linked → List Prefix
+waiting_at loc_rib adj_in None found = []
+waiting_at loc_rib adj_in (Some peer) None = []
+waiting_at loc_rib adj_in (Some peer) (Some l) =
+    if_established l.peer.session.state (differing (held_at l.adj_out) (export_in loc_rib adj_in peer) (known_prefixes loc_rib l.adj_out))
+
+-- the known prefixes that wait of a slot
+abbrev pub waiting_of : SpeakerState → ℕ → List Prefix
+waiting_of s slot = waiting_at s.loc_rib s.adj_in (option_map (export_peer_of s.conf slot) (peer_at s.conf slot)) (link_at s.links slot)
