@@ -9,9 +9,9 @@ use Rattle.rtr_codec.specs.declared.place.End.TheVariants.{Cache}
 use Rattle.rtr_codec.specs.declared.place.Place.{Place}
 use Rattle.rtr_codec.specs.CacheTable.{Conn, Shared, answers, begins, closed, fails, has_room, hears, hears_all, hears_fault, hears_item, hears_octets, hears_pdu, place_of, quoted_of, reset_query, serial_answer, serial_query, unless_busy}
 use Rattle.rtr_codec.specs.PduSpelling.{Content, Serial_notify, Serial_query, Reset_query, Cache_response, Announce, Withdraw, Ipv6_prefix, End_of_data, Cache_reset, Router_key, Error_report}
-use Rattle.rtr_codec.specs.PduStream.{Item, WholePdu, FaultyPdu, Wants, is_cache_response, is_response, meaning, needed_of, pdus_from, place_after, unread_from, with_front}
+use Rattle.rtr_codec.specs.PduStream.{GoesOn, Item, WholePdu, FaultyPdu, Wants, is_cache_response, is_response, meaning, needed_of, pdus_from, place_after, unread_from, with_front}
 use Rattle.rtr_codec.specs.Receiving.{Reception, passed_by, received}
-use Rattle.rtr_codec.proofs.Streams.{Becomes, GoesOn, becomes, goes_on, some_is_not_none}
+use Rattle.rtr_codec.proofs.Streams.{Becomes, becomes, goes_on, some_is_not_none}
 use Rattle.vrp_delta.specs.Versions.{Version, version_of}
 use Rattle.rtr_cache.specs.Sending.{HearsFront, IsReceiving, Sending, behind_pdu, conn_of}
 
@@ -130,7 +130,7 @@ hears_octets-open shared refused conn octets is_open = chosen conn.is_open _ _ i
 -- octets that complete nothing
 pub piece-none :
     (shared : Shared) (later : List Bool) (is_first : Bool) (part piece rest : List ℕ) (s : Sending) → s.is_open ≡ true
-    → GoesOn (record { end = Cache; is_first = is_first; has_response = false }) part piece None (part ++ piece) rest
+    → GoesOn (record { end = Cache; is_first = is_first; has_response = false }) part piece None rest
     → hears_octets shared later (conn_of is_first part s) (piece ++ rest) ≡ hears_octets shared later (conn_of is_first (part ++ piece) s) rest
 piece-none shared later is_first part piece rest s is_open on =
     let place : Place = record { end = Cache; is_first = is_first; has_response = false } in
@@ -166,7 +166,7 @@ item_heard shared refused later is_first unread s item items is_open =
 -- octets that complete an item
 pub piece-some :
     (shared : Shared) (refused : Bool) (later : List Bool) (is_first : Bool) (part piece rest : List ℕ) (s : Sending) (item : Item) → s.is_open ≡ true
-    → GoesOn (record { end = Cache; is_first = is_first; has_response = false }) part piece (Some item) (part ++ piece) rest
+    → GoesOn (record { end = Cache; is_first = is_first; has_response = false }) part piece (Some item) rest
     → hears_octets shared (refused ∷ later) (conn_of is_first part s) (piece ++ rest) ≡ hears_octets shared later (hears_item shared refused (conn_of false [] s) item) rest
 piece-some shared refused later is_first part piece rest s (WholePdu content octets) is_open on =
     let place : Place = record { end = Cache; is_first = is_first; has_response = false } in
@@ -198,7 +198,7 @@ GoesOnWith shared r s octets r' s' rest =
 
 front_by_item :
     (shared : Shared) (is_first : Bool) (part piece rest : List ℕ) (s s' : Sending) (found : Option Item) → s.is_open ≡ true
-    → GoesOn (record { end = Cache; is_first = is_first; has_response = false }) part piece found (part ++ piece) rest
+    → GoesOn (record { end = Cache; is_first = is_first; has_response = false }) part piece found rest
     → HearsFront shared found s s'
     → GoesOnWith shared (record { place = record { end = Cache; is_first = is_first; has_response = false }; part = part }) s (piece ++ rest)
     (passed_by (record { place = record { end = Cache; is_first = is_first; has_response = false }; part = part ++ piece }) found) s' rest

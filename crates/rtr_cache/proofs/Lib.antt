@@ -1,5 +1,5 @@
 pub mod Hearing
 pub mod Notifying
 pub mod Queueing
-pub mod SpelledLengths
+pub mod Quoting
 pub mod WholeVersions

@@ -1,9 +1,10 @@
 -- What queueing makes of a connection.
-use Rattle.std.proofs.Common.{◌≡◌, ◌+◌, ◌≤◌, ℕ, Bool, true, false, nat_le, List, [], ◌∷◌, ◌++◌, Option, length, refl, ap, sym, subst, ◌∙◌, if◌then◌else◌}
+use Rattle.std.proofs.Common.{◌≡◌, ◌+◌, ◌≤◌, ℕ, Bool, true, false, nat_le, List, [], ◌∷◌, ◌++◌, Option, length, refl, ap, sym, subst, ◌∙◌, lit≤, if◌then◌else◌}
 use Rattle.rtr_codec.specs.CacheTable.{Conn, Shared, has_room, notified, pumped, queued, queues, wants_notify}
-use Rattle.rtr_codec.specs.PduSpelling.{Content, spelling}
+use Rattle.rtr_codec.specs.PduSpelling.{Content, Serial_notify, Serial_query, Reset_query, Cache_response, Announce, Withdraw, Ipv6_prefix, End_of_data, Cache_reset, Router_key, Error_report, length_of, spelling}
 use Rattle.rtr_codec.specs.Receiving.{Reception}
 use Rattle.rtr_cache.specs.Sending.{IsReceiving, Sending, conn_of, said}
+use Rattle.rtr_cache.specs.Unsaid.{IsResponsePart}
 
 -- both branches of a choice
 either : (b : Bool) (x x' y y' : Conn) → x ≡ x' → y ≡ y' → (if b then x else y) ≡ (if b then x' else y')
@@ -74,3 +75,17 @@ pumped_same_open old new is = ap (λ (conn : Conn). conn.is_open) is ∙ pumped-
 
 pub notified_same_open : (shared : Shared) (old new : Sending) → conn_of false [] new ≡ notified shared (conn_of false [] old) → new.is_open ≡ old.is_open
 notified_same_open shared old new is = ap (λ (conn : Conn). conn.is_open) is ∙ notified-open shared (conn_of false [] old)
+
+-- a PDU of a response is short
+pub part_is_short : (content : Content) → IsResponsePart content → length_of content ≤ 48
+part_is_short (Cache_response session) part = lit≤ tt
+part_is_short (Announce payload) part = lit≤ tt
+part_is_short (Withdraw payload) part = lit≤ tt
+part_is_short (End_of_data session serial intervals) part = lit≤ tt
+part_is_short (Serial_notify session serial) part = absurd part
+part_is_short (Serial_query session serial) part = absurd part
+part_is_short Reset_query part = absurd part
+part_is_short (Ipv6_prefix body) part = absurd part
+part_is_short Cache_reset part = absurd part
+part_is_short (Router_key body) part = absurd part
+part_is_short (Error_report code quoted) part = absurd part

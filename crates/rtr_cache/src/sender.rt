@@ -2,7 +2,7 @@
 ghost use Rattle.std.specs.Prelude.{◌≡◌, ◌≤◌, ◌+◌, ◌++◌, Bool, ℕ, List, IfOk, length, min, take, drop, true, false};
 ghost use Rattle.std.specs.Option.{option_map};
 ghost use Rattle.rtr_codec.specs.CacheTable.{answers, closed, fails, has_room, hears_fault, hears_pdu, is_due, is_news, notified, pumped, quoted_of, reset_query, serial_query, wants_notify};
-ghost use Rattle.rtr_codec.specs.PduSpelling.{Error_report, content_of, spelling};
+ghost use Rattle.rtr_codec.specs.PduSpelling.{Error_report, content_of, length_of};
 ghost use Rattle.rtr_codec.specs.PduStream.{meaning};
 ghost use Rattle.rtr_codec.specs.PduFaults.{number_of};
 ghost use Rattle.rtr_codec.specs.declared.fault.ErrorCode.TheVariants.{NoDataAvailable};
@@ -134,7 +134,6 @@ impl<A: Allocator> Sender<A> {
     }
 
     // Closes with an Error Report.
-    #[tactic(auto, using(crate::proofs::SpelledLengths::report_length))]
     fn fail(&mut self, code: ErrorCode, octets: &[u8])
         requires { self.old.is_open ≡ true }
         ensures { behind_pdu self.new ≡ fails (behind_pdu self.old) code (quoted_of octets.now) }
@@ -147,7 +146,7 @@ impl<A: Allocator> Sender<A> {
 
     // An answer of one PDU, after which the connection stays where there is room for it.
     fn answer(&mut self, pdu: &Pdu<'_>)
-        requires { length (spelling (content_of pdu.now)) ≤ 48 }
+        requires { length_of (content_of pdu.now) ≤ 48 }
         ensures { behind_pdu self.new ≡ answers (behind_pdu self.old) (content_of pdu.now) }
     {
         if self.has_room() {
@@ -159,7 +158,7 @@ impl<A: Allocator> Sender<A> {
 
     // Queues a PDU that may tell a serial.
     fn say(&mut self, pdu: &Pdu<'_>)
-        requires short { length (spelling (content_of pdu.now)) ≤ 48 }
+        requires short { length_of (content_of pdu.now) ≤ 48 }
         requires room { length self.old.ring + 128 ≤ 65536 }
         ensures { self.new ≡ said self.old (content_of pdu.now) }
     {
@@ -173,8 +172,8 @@ impl<A: Allocator> Sender<A> {
     }
 
     fn put(&mut self, pdu: &Pdu<'_>)
-        requires short { length (spelling (content_of pdu.now)) ≤ 48 }
-        requires fits { length self.old.ring + length (spelling (content_of pdu.now)) ≤ 65536 }
+        requires short { length_of (content_of pdu.now) ≤ 48 }
+        requires fits { length self.old.ring + length_of (content_of pdu.now) ≤ 65536 }
         requires room { self.old.is_open ≡ true → length self.old.ring + 128 ≤ 65536 }
         ensures { self.new ≡ put self.old (content_of pdu.now) }
     {
@@ -214,7 +213,6 @@ impl<A: Allocator + Clone> Sender<A> {
     }
 
     /// At a Load and at a Tick: queues a Serial Notify where the client is to get one.
-    #[tactic(auto, using(crate::proofs::SpelledLengths::notify_length))]
     pub fn notify(&mut self, publisher: &Publisher<A>)
         ensures { (is_first : Bool) (unread : List ℕ) → conn_of is_first unread self.new ≡ notified publisher.now (conn_of is_first unread self.old) }
     {
@@ -225,7 +223,6 @@ impl<A: Allocator + Clone> Sender<A> {
     }
 
     // RFC 8210 section 5.3.
-    #[tactic(auto, using(crate::proofs::SpelledLengths::reset_length))]
     fn answer_serial(
         &mut self,
         publisher: &Publisher<A>,
@@ -261,7 +258,6 @@ impl<A: Allocator + Clone> Sender<A> {
         }
     }
 
-    #[tactic(auto, using(crate::proofs::SpelledLengths::report_length))]
     fn answer_no_data(&mut self, octets: &[u8])
         ensures { behind_pdu self.new ≡ answers (behind_pdu self.old) (Error_report (number_of NoDataAvailable) (quoted_of octets.now)) }
     {
@@ -301,7 +297,7 @@ impl<A: Allocator + Clone> Sender<A> {
 }
 
 // What an Error Report quotes of a PDU.
-#[tactic(auto, using(crate::proofs::SpelledLengths::quoted_min))]
+#[tactic(auto, using(crate::proofs::Quoting::quoted_min))]
 fn quoted_of(octets: &[u8]) -> &[u8]
     ensures octets { result.now ≡ quoted_of octets.now }
     ensures short { length result.now ≤ 32 }

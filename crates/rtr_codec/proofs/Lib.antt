@@ -1,3 +1,4 @@
+pub mod CacheSteps
 pub mod Payloads
 pub mod Queueing
 pub mod ReaderAnswers

@@ -1,4 +1,4 @@
-use Rattle.std.proofs.Common.{◌≡◌, ◌≤◌, ◌%◌, ◌==◌, ℕ, Bool, true, false, nat_le, Option, Some, None, Result, Ok, Err, MatchResult, inl, inr, refl, ap, sym, subst, ◌∙◌, arith}
+use Rattle.std.proofs.Common.{◌≡◌, ◌%◌, ◌==◌, ℕ, Bool, true, false, nat_le, Some, None, Result, Ok, Err, MatchResult, inl, inr, refl, ap, sym, subst, arith}
 use Rattle.std.proofs.lemmas.Bool.{leb-true, leb-false, eqb-true, eqb-false}
 use Rattle.std.specs.Result.{result_ok}
 use Rattle.net_prefix.specs.Cover.{HasNoHostBits, block_size}
@@ -11,7 +11,7 @@ use Rattle.net_prefix.specs.declared.prefix.Prefix.{Prefix}
 use Rattle.net_prefix.specs.declared.payload.Vrp.{Vrp}
 use Rattle.net_prefix.proofs.PayloadSets.{same_payload}
 use Rattle.net_prefix.proofs.Prefixes.{same_prefix}
-use Rattle.rtr_codec.specs.PduContents.{prefix_if, prefix_of, payload_if, payload_with, payload_of}
+use Rattle.rtr_codec.specs.PduContents.{prefix_if, prefix_of, payload_if, payload_with}
 
 -- A payload is its numbers.
 

@@ -1,6 +1,6 @@
-use Rattle.std.proofs.Common.{◌≡◌, ◌≢◌, ◌≤◌, ◌<◌, ◌+◌, ℕ, Bool, true, false, nat_le, if◌then◌else◌, List, [], ◌∷◌, ◌++◌, length, refl, ap, sym, ◌∙◌, arith, append_assoc, length-append}
+use Rattle.std.proofs.Common.{◌≡◌, ◌≢◌, ◌≤◌, ◌<◌, ◌+◌, ℕ, Bool, true, false, nat_le, if◌then◌else◌, List, [], ◌∷◌, ◌++◌, length, refl, ◌∙◌, arith, append_assoc, length-append}
 use Rattle.std.proofs.lemmas.Bool.{leb-true, leb-false, and_parts}
-use Rattle.rtr_codec.specs.CacheTable.{Conn, has_room, queued, queues, pumped}
+use Rattle.rtr_codec.specs.CacheTable.{Conn, has_room, queued, queues}
 use Rattle.rtr_codec.specs.PduSpelling.{Content, length_of, spelling}
 use Rattle.rtr_codec.specs.Responses.{are_short, spellings}
 use Rattle.rtr_codec.proofs.Spellings.{length-spelling}

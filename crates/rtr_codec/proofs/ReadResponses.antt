@@ -1,11 +1,11 @@
 use Rattle.std.proofs.Common.{◌≡◌, ℕ, Bool, true, false, not, nat_le, ◌&&◌, ◌||◌, List, [], ◌∷◌, ◌++◌, map, refl, ap, sym, ◌∙◌}
 use Rattle.std.specs.Cmp.{Equal-is}
 use Rattle.std.specs.BTreeMap.{is_at}
-use Rattle.std.specs.List.{AllByRecursion, filter, list_all}
+use Rattle.std.specs.List.{AllByRecursion}
 use Rattle.std.specs.List.Sorted.{IsStrictlySortedBy}
 use Rattle.std.specs.Ordering.{is_eq}
 use Rattle.std.specs.declared.cmp.Ordering.{Ordering}
-use Rattle.std.specs.declared.cmp.Ordering.TheVariants.{Less, Equal, Greater}
+use Rattle.std.specs.declared.cmp.Ordering.TheVariants.{Less, Equal}
 use Rattle.std.proofs.lemmas.Bool.{and_from, and_parts, or_right}
 use Rattle.std.proofs.lemmas.Cmp.{alike_right, eq_by_cmp_equiv, tied_itself}
 use Rattle.std.proofs.lemmas.List.Kept.{IsStrictlySortedBy-filter}
@@ -14,7 +14,7 @@ use Rattle.net_prefix.specs.PayloadOrder.{payload_cmp}
 use Rattle.net_prefix.specs.PayloadSets.{IsPayloadSet, has, out, put}
 use Rattle.net_prefix.proofs.PayloadSets.{payload_cmp_total, has-out, has-put, out-is_set, put-is_set, same_set}
 use Rattle.rtr_codec.specs.declared.intervals.Intervals.{Intervals}
-use Rattle.rtr_codec.specs.PduSpelling.{Content, Announce, Cache_response, End_of_data, Withdraw, length_of}
+use Rattle.rtr_codec.specs.PduSpelling.{Content, Announce, End_of_data, Withdraw, length_of}
 use Rattle.rtr_codec.specs.Responses.{are_changes, are_short, is_change, changed, changed_by, changes_between, response}
 use Rattle.vrp_delta.specs.Delta.{lacked}
 use Rattle.vrp_delta.specs.Versions.{Version}

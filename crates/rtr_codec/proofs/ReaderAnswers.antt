@@ -11,9 +11,9 @@ use Rattle.rtr_codec.specs.declared.reading.Step.TheVariants.{Need, Whole, Fault
 use Rattle.rtr_codec.specs.PduContents.{content_at, content_by, kind_at, told_length}
 use Rattle.rtr_codec.specs.PduFaults.{header_fault}
 use Rattle.rtr_codec.specs.PduSpelling.{Content, content_of}
-use Rattle.rtr_codec.specs.PduStream.{Item, WholePdu, FaultyPdu, Wants, HasFault, Tells, IsFront, item_with, meaning, needed_of, pdus_from, unread_from}
+use Rattle.rtr_codec.specs.PduStream.{Item, FaultyPdu, HasFault, Tells, IsFront, item_with, meaning, needed_of, pdus_from, unread_from}
 use Rattle.rtr_codec.specs.PduTypes.{type_of}
-use Rattle.rtr_codec.specs.Receiving.{Reception, IsOneAtMost, UsesAll, item_shown}
+use Rattle.rtr_codec.specs.Receiving.{IsOneAtMost, UsesAll, item_shown}
 use Rattle.rtr_codec.proofs.Streams.{Ended, told_length-append, told_length-bounds, header_fault-append, meaning-fault, meaning-whole, meaning-cut, meaning-past, some_is_not_none, item-then, wants-then, wants_none, fault_ends, becomes, needed-item}
 
 -- A reader's answer, and the stream.

@@ -1,14 +1,14 @@
-use Rattle.std.proofs.Common.{◌≡◌, ◌≤◌, ◌<◌, ◌+◌, ◌*◌, ◌^◌, ◌/◌, ◌%◌, ◌==◌, ◌&&◌, ◌||◌, not, ℕ, true, false, nat_le, List, [], ◌∷◌, ◌++◌, length, take, drop, get_or, Option, Some, None, refl, ap, sym, ◌∙◌, arith, append_assoc, length-append}
+use Rattle.std.proofs.Common.{◌≡◌, ◌≤◌, ◌<◌, ◌+◌, ◌*◌, ◌^◌, ◌/◌, ◌%◌, ◌==◌, ◌&&◌, ◌||◌, not, ℕ, true, false, nat_le, List, [], ◌++◌, length, take, drop, Option, Some, None, refl, ap, sym, ◌∙◌, arith, length-append}
 use Rattle.std.proofs.lemmas.Bool.{eq-eqb, le-leb, and_from}
 use Rattle.std.proofs.lemmas.List.{take_at}
 use Rattle.std.specs.Option.{option_map, option_and_then}
-use Rattle.std.specs.Int.{w16, w32, to_be_bytes}
+use Rattle.std.specs.Int.{w32, to_be_bytes}
 use Rattle.net_prefix.specs.declared.payload.Vrp.{Vrp}
 use Rattle.rtr_codec.specs.declared.header.PduType.{PduType}
 use Rattle.rtr_codec.specs.declared.header.PduType.TheVariants.{SerialNotify, SerialQuery, ResetQuery, CacheResponse, Ipv4Prefix, Ipv6Prefix, EndOfData, CacheReset, RouterKey, ErrorReport}
 use Rattle.rtr_codec.specs.declared.intervals.Intervals.{Intervals}
 use Rattle.rtr_codec.specs.declared.place.Place.{Place}
-use Rattle.rtr_codec.specs.PduContents.{two_at, four_at, version_at, told_length, kind_at, payload_at, payload_of, payload_with, prefix_of, change_of, content_by, content_at}
+use Rattle.rtr_codec.specs.PduContents.{two_at, four_at, version_at, told_length, kind_at, payload_at, payload_of, payload_with, change_of, content_by, content_at}
 use Rattle.rtr_codec.specs.PduFaults.{header_fault, is_faulty_report}
 use Rattle.rtr_codec.specs.PduSpelling.{Content, Serial_notify, Serial_query, Reset_query, Cache_response, Announce, Withdraw, Ipv6_prefix, End_of_data, Cache_reset, Router_key, Error_report, IsLawful, length_of, pdu_octets, payload_octets, interval_octets, report_octets, spelling}
 use Rattle.rtr_codec.specs.PduStream.{WholePdu, IsReadFirst, item_with, meaning}

@@ -7,7 +7,7 @@ use Rattle.rtr_codec.specs.declared.place.Place.{Place}
 use Rattle.rtr_codec.specs.PduContents.{content_at, told_length}
 use Rattle.rtr_codec.specs.PduFaults.{header_fault}
 use Rattle.rtr_codec.specs.PduSpelling.{Content}
-use Rattle.rtr_codec.specs.PduStream.{Item, WholePdu, FaultyPdu, IsPdu, HasFault, HasNoItem, Splits, Wants, item_with, meaning, place_after, pdus_from, unread_from, pdus, unread}
+use Rattle.rtr_codec.specs.PduStream.{Item, WholePdu, FaultyPdu, IsPdu, HasFault, HasNoItem, Splits, Wants, meaning, place_after, pdus_from, unread_from, pdus, unread}
 use Rattle.rtr_codec.proofs.ReaderAnswers.{IsWhole, front_is_whole, whole_is, fault_front, whole_if_item, eight_if_item}
 use Rattle.rtr_codec.proofs.Streams.{later, ended-then, ended_later, item_ended, told_length-append, told_length-bounds, header_fault-append, meaning-fault, meaning-short, some_is_not_none, item-then, wants-then, wants_none, wants_front, becomes, needed-some}
 

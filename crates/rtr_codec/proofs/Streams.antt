@@ -1,15 +1,15 @@
-use Rattle.std.proofs.Common.{◌≡◌, ◌≤◌, ◌<◌, ◌+◌, ◌-◌, ℕ, Bool, true, false, not, ◌==◌, nat_le, ◌&&◌, if◌then◌else◌, List, [], ◌∷◌, ◌++◌, length, take, drop, get_or, Option, Some, None, ◌⊎◌, inl, inr, refl, ap, sym, subst, ◌∙◌, arith, append_assoc, append-nil, length-append}
+use Rattle.std.proofs.Common.{◌≡◌, ◌≤◌, ◌<◌, ◌+◌, ◌-◌, ℕ, Bool, true, false, ◌==◌, nat_le, ◌&&◌, if◌then◌else◌, List, [], ◌∷◌, ◌++◌, length, get_or, Option, Some, None, ◌⊎◌, inl, inr, refl, ap, sym, subst, ◌∙◌, arith, append_assoc, append-nil, length-append}
 use Rattle.std.proofs.lemmas.Bool.{le-ltb, lt-ltb, leb-true, eqb-true, eq-eqb, ne_eqb, and_parts, not-false, cases_lt, cases_eq}
 use Rattle.std.proofs.lemmas.List.{get_or_append_left}
 use Rattle.rtr_codec.specs.declared.fault.ErrorCode.TheVariants.{UnsupportedType, CorruptData, UnexpectedVersion}
 use Rattle.rtr_codec.specs.declared.fault.PduFault.{PduFault}
-use Rattle.rtr_codec.specs.declared.fault.PduFault.TheVariants.{Unanswered, Header, Payload}
+use Rattle.rtr_codec.specs.declared.fault.PduFault.TheVariants.{Unanswered, Header}
 use Rattle.rtr_codec.specs.declared.header.PduType.{PduType}
 use Rattle.rtr_codec.specs.declared.header.PduType.TheVariants.{SerialNotify, SerialQuery, ResetQuery, CacheResponse, Ipv4Prefix, Ipv6Prefix, EndOfData, CacheReset, RouterKey, ErrorReport}
 use Rattle.rtr_codec.specs.declared.place.Place.{Place}
 use Rattle.rtr_codec.specs.PduContents.{content_at, kind_at, told_length}
 use Rattle.rtr_codec.specs.PduFaults.{header_fault, is_faulty_report, is_other_version, is_unknown, is_unlawful}
-use Rattle.rtr_codec.specs.PduStream.{Item, WholePdu, FaultyPdu, Wants, item_with, item_of, meaning, with_front, place_after, left_over, completed, pdus_from, unread_from, place_from, GoesOn, needed_of}
+use Rattle.rtr_codec.specs.PduStream.{Item, FaultyPdu, Wants, item_with, item_of, meaning, with_front, place_after, left_over, completed, pdus_from, unread_from, place_from, GoesOn, needed_of}
 use Rattle.rtr_codec.specs.PduTypes.{is_lawful_length, type_of}
 
 -- Streams of PDUs: what stands at the front, and what more octets make of it.

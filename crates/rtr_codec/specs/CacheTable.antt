@@ -125,10 +125,14 @@ abbrev pub hears_all : Shared → List Bool → Conn → List Item → Conn
 hears_all shared refused conn [] = conn
 hears_all shared refused conn (item ∷ items) = hears_all shared (drop 1 refused) (hears shared (first_refused refused) conn item) items
 
--- what octets that come make of an open connection: the PDUs that they complete are heard, the rest of them stays unread
+-- what octets that come behind some unread ones make of an open connection: the PDUs that they complete are heard, the rest of them stays unread
+abbrev pub hears_from : Shared → List Bool → Conn → Place → List ℕ → List ℕ → Conn
+hears_from shared refused conn place part octets =
+    hears_all shared refused (record conn { unread = unread_from place part octets }) (pdus_from place part octets)
+
+-- what octets that come make of an open connection
 abbrev pub hears_open : Shared → List Bool → Conn → List ℕ → Conn
-hears_open shared refused conn octets =
-    hears_all shared refused (record conn { unread = unread_from (place_of conn) conn.unread octets }) (pdus_from (place_of conn) conn.unread octets)
+hears_open shared refused conn octets = hears_from shared refused conn (place_of conn) conn.unread octets
 
 -- what octets that come make of a connection
 abbrev pub hears_octets : Shared → List Bool → Conn → List ℕ → Conn

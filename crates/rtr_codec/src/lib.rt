@@ -10,6 +10,7 @@
 
 mod fault;
 mod header;
+mod hearing;
 mod intervals;
 mod pdu;
 mod place;
@@ -21,6 +22,7 @@ mod writing;
 
 pub use fault::{ErrorCode, PduFault};
 pub use header::{HEADER_OCTETS, MAX_PDU, PduType};
+pub use hearing::{closed_connection_hears_nothing, octets_are_heard_piece_by_piece};
 pub use intervals::Intervals;
 pub use pdu::Pdu;
 pub use place::{End, Place};

@@ -2,12 +2,11 @@ use Rattle.std.proofs.Common.{◌≡◌, true, false, sym, ap, ◌∙◌}
 use Rattle.rtr_codec.specs.CacheTable.{Conn, has_room, pumped}
 use Rattle.rtr_codec.specs.PduSpelling.{content_of}
 use Rattle.rtr_cache.specs.Sending.{Sending, conn_of, said}
-use Rattle.rtr_cache.proofs.Queueing.{pumped-said, pumped-full}
-use Rattle.rtr_cache.proofs.SpelledLengths.{part_length}
+use Rattle.rtr_cache.proofs.Queueing.{part_is_short, pumped-said, pumped-full}
 use Rattle.rtr_cache.proofs.sender.Sender.pump.Goals as goal
 
 pub say-requires-clause-short : goal.say-requires-clause-short
-say-requires-clause-short g c = part_length (content_of c.in-Some.pdu) c.in-Some.ensures.2
+say-requires-clause-short g c = part_is_short (content_of c.in-Some.pdu) c.in-Some.ensures.2
 
 pub loop-self-preserved : goal.loop-self-preserved
 loop-self-preserved g c = λ is_first unread.
