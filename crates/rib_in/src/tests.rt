@@ -1,8 +1,8 @@
 //! The table on its happy path, and a refused growth.
 use crate::{AdjIn, RibFault};
 use bgp_attr::{Attrs, PeerKind, read_attrs};
-use linked_list_allocator::LocalHeap;
 use net_prefix::{Asn, Prefix};
+use refusing::Refusing;
 use std::alloc::Allocator;
 use std::process::Abort;
 use std::rc::Rc;
@@ -46,31 +46,42 @@ fn the_latest_route_of_each_slot_is_kept(rt: HostRuntime) -> Result<(), Fail> {
     Ok(())
 }
 
-// Fills the table until a growth is refused. Answers whether one was.
+// Fills the table, and asks again where a growth is refused. Answers how often one was.
 fn fill<A: Allocator + Clone>(
     rt: &impl Abort,
     mut table: AdjIn<A>,
     attrs: &Rc<Attrs<A>, A>,
-) -> Result<bool, Fail> {
-    let first = Prefix::new(0, 24)?;
+) -> Result<u32, Fail> {
+    let mut refused = 0u32;
     for number in 0..64u32 {
         let prefix = Prefix::new(number * 256, 24)?;
         if let Err(fault) = table.announce(0, prefix, attrs.clone()?) {
+            refused = refused.saturating_add(1);
             assert_eq!(rt; fault.number(), 20);
             assert!(rt; table.get(0, prefix).is_none());
-            assert!(rt; number == 0 || table.get(0, first).is_some());
-            return Ok(true);
+            let mut kept = 0u32;
+            for (_, slot, _) in table.routes() {
+                assert_eq!(rt; slot, 0);
+                kept = kept.saturating_add(1);
+            }
+            assert_eq!(rt; kept, number);
+            table.announce(0, prefix, attrs.clone()?)?;
         }
     }
-    Ok(false)
+    Ok(refused)
 }
 
 #[test]
 fn a_refused_growth_leaves_the_table(rt: HostRuntime) -> Result<(), Fail> {
-    let heap = LocalHeap::new(rt.alloc(), 2_048)?;
-    let attrs = shared(&rt, &heap)?;
-    assert!(rt; fill(&rt, AdjIn::new(&heap), &attrs)?);
-    let attrs = shared(&rt, rt.alloc())?;
-    assert!(rt; !fill(&rt, AdjIn::new(rt.alloc()), &attrs)?);
-    Ok(())
+    for nth in 1..1_000u64 {
+        let heap = Refusing::new(rt.alloc(), nth);
+        let ample = Refusing::new(rt.alloc(), u64::MAX);
+        let attrs = shared(&rt, &ample)?;
+        let refused = fill(&rt, AdjIn::new(&heap), &attrs)?;
+        if !heap.has_refused() {
+            assert_eq!(rt; refused, 0);
+            return Ok(());
+        }
+    }
+    panic!(rt; "no end");
 }

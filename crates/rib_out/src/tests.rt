@@ -1,6 +1,6 @@
 //! The table on its happy path, and a refused growth.
 use crate::AdjOut;
-use linked_list_allocator::LocalHeap;
+use refusing::Refusing;
 use net_prefix::Prefix;
 use std::alloc::Allocator;
 use std::process::Abort;
@@ -29,24 +29,38 @@ fn the_peer_holds_what_it_was_last_sent(rt: HostRuntime) -> Result<(), Fail> {
     Ok(())
 }
 
-// Fills the table until a growth is refused. Answers whether one was.
-fn fill<A: Allocator + Clone>(rt: &impl Abort, mut table: AdjOut<A>) -> Result<bool, Fail> {
-    let first = Prefix::new(0, 24)?;
+// Fills the table, and asks again where a growth is refused. Answers how often one was.
+fn fill<A: Allocator + Clone>(rt: &impl Abort, heap: A) -> Result<u32, Fail> {
+    let Ok(mut table) = AdjOut::new(heap) else {
+        return Ok(1);
+    };
+    let mut refused = 0u32;
     for number in 0..64u32 {
         let prefix = Prefix::new(number * 256, 24)?;
         if table.announce(prefix, &[7; 40]).is_err() {
+            refused = refused.saturating_add(1);
             assert!(rt; table.get(prefix).is_none());
-            assert!(rt; number == 0 || table.holds(first, &[7; 40]));
-            return Ok(true);
+            let mut held = 0u32;
+            for (_, octets) in table.held() {
+                assert_eq!(rt; octets, [7; 40].as_slice());
+                held = held.saturating_add(1);
+            }
+            assert_eq!(rt; held, number);
+            assert!(rt; table.announce(prefix, &[7; 40]).is_ok());
         }
     }
-    Ok(false)
+    Ok(refused)
 }
 
 #[test]
 fn a_refused_growth_leaves_the_table(rt: HostRuntime) -> Result<(), Fail> {
-    let heap = LocalHeap::new(rt.alloc(), 2_048)?;
-    assert!(rt; fill(&rt, AdjOut::new(&heap)?)?);
-    assert!(rt; !fill(&rt, AdjOut::new(rt.alloc())?)?);
-    Ok(())
+    for nth in 1..1_000u64 {
+        let heap = Refusing::new(rt.alloc(), nth);
+        let refused = fill(&rt, &heap)?;
+        if !heap.has_refused() {
+            assert_eq!(rt; refused, 0);
+            return Ok(());
+        }
+    }
+    panic!(rt; "no end");
 }
