@@ -7,9 +7,9 @@ use Rattle.rtr_codec.specs.declared.fault.PduFault.{PduFault}
 use Rattle.rtr_codec.specs.declared.fault.PduFault.TheVariants.{Unanswered, Header, Payload}
 use Rattle.rtr_codec.specs.declared.place.End.TheVariants.{Cache}
 use Rattle.rtr_codec.specs.declared.place.Place.{Place}
-use Rattle.rtr_codec.specs.CacheTable.{Conn, Shared, answers, begins, closed, fails, has_room, hears, hears_all, hears_fault, hears_item, hears_octets, hears_pdu, place_of, quoted_of, reset_query, serial_answer, serial_query, unless_busy}
+use Rattle.rtr_codec.specs.CacheTable.{Conn, Shared, begins, closed, fails, has_room, hears_all, hears_fault, hears_item, hears_octets, hears_pdu, place_of, quoted_of, reset_query, serial_answer, serial_query, unless_busy}
 use Rattle.rtr_codec.specs.PduSpelling.{Content, Serial_notify, Serial_query, Reset_query, Cache_response, Announce, Withdraw, Ipv6_prefix, End_of_data, Cache_reset, Router_key, Error_report}
-use Rattle.rtr_codec.specs.PduStream.{GoesOn, Item, WholePdu, FaultyPdu, Wants, is_cache_response, is_response, meaning, needed_of, pdus_from, place_after, unread_from, with_front}
+use Rattle.rtr_codec.specs.PduStream.{GoesOn, Item, WholePdu, FaultyPdu, Wants, is_cache_response, is_response, meaning, needed_of, pdus_from, unread_from}
 use Rattle.rtr_codec.specs.Receiving.{Reception, passed_by, received}
 use Rattle.rtr_codec.proofs.Streams.{Becomes, becomes, goes_on, some_is_not_none}
 use Rattle.vrp_delta.specs.Versions.{Version, version_of}
@@ -262,9 +262,9 @@ front_at shared is_first part s s' octets count wants is_open count_is some hear
     let on = goes_on (at_cache is_first) part (take count octets) (drop count octets) wants (omega (arith, size, some)) fits in
     let found = meaning (at_cache is_first) (part ++ take count octets) in (
       subst (λ (all : List ℕ). GoesOnWith shared (record { place = at_cache is_first; part = part }) s all (passed_by (record { place = at_cache is_first; part = part ++ take count octets }) found) s' (drop count octets))
-      (take-append-drop count octets) (front_by_item shared is_first part (take count octets) (drop count octets) s s' found is_open on heard),
+          (take-append-drop count octets) (front_by_item shared is_first part (take count octets) (drop count octets) s s' found is_open on heard),
       receiving_by_item shared is_first (part ++ take count octets) s s' found is_open
-      (λ none. wants_by (at_cache is_first) (part ++ take count octets) (becomes (at_cache is_first) part (take count octets) wants fits) none) heard,
+          (λ none. wants_by (at_cache is_first) (part ++ take count octets) (becomes (at_cache is_first) part (take count octets) wants fits) none) heard,
     )
 
 -- what a call for the front does

@@ -1,5 +1,5 @@
 -- Clients notified one after another, by rising key.
-use Rattle.std.proofs.Common.{rules, arith, ◌≡◌, ◌≢◌, ◌⊎◌, refl, sym, ap, ◌∙◌, inl, inr, zero, suc, length, ℕ, ◌+◌, ◌<◌, ◌≤◌, Option, Some, None, List, slice_index_or}
+use Rattle.std.proofs.Common.{arith, ◌≡◌, ◌≢◌, ◌⊎◌, refl, sym, ap, ◌∙◌, inl, inr, zero, suc, length, ℕ, ◌+◌, ◌<◌, ◌≤◌, Option, None}
 use Rattle.std.proofs.lemmas.Bool.{cases_eq}
 use Rattle.std.proofs.lemmas.List.{get_or_past}
 use Rattle.std.specs.Option.{option_map}

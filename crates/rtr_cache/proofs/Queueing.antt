@@ -1,7 +1,7 @@
 -- What queueing makes of a connection.
-use Rattle.std.proofs.Common.{◌≡◌, ◌+◌, ◌≤◌, ℕ, Bool, true, false, nat_le, List, [], ◌∷◌, ◌++◌, Option, length, refl, ap, sym, subst, ◌∙◌, lit≤, if◌then◌else◌}
+use Rattle.std.proofs.Common.{◌≡◌, ◌≤◌, ℕ, Bool, true, false, List, [], ◌∷◌, refl, ap, sym, ◌∙◌, lit≤, if◌then◌else◌}
 use Rattle.rtr_codec.specs.CacheTable.{Conn, Shared, has_room, notified, pumped, queued, queues, wants_notify}
-use Rattle.rtr_codec.specs.PduSpelling.{Content, Serial_notify, Serial_query, Reset_query, Cache_response, Announce, Withdraw, Ipv6_prefix, End_of_data, Cache_reset, Router_key, Error_report, length_of, spelling}
+use Rattle.rtr_codec.specs.PduSpelling.{Content, Serial_notify, Serial_query, Reset_query, Cache_response, Announce, Withdraw, Ipv6_prefix, End_of_data, Cache_reset, Router_key, Error_report, length_of}
 use Rattle.rtr_codec.specs.Receiving.{Reception}
 use Rattle.rtr_cache.specs.Sending.{IsReceiving, Sending, conn_of, said}
 use Rattle.rtr_cache.specs.Unsaid.{IsResponsePart}

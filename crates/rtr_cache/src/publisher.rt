@@ -93,6 +93,7 @@ impl<A: Allocator + Clone> Publisher<A> {
     /// The response with what changed from a serial to the newest version, where the serial is kept.
     pub fn change_since(&self, serial: u32) -> Result<Option<Response<A>>, AllocError>
         ensures response { IfOk result (λ response. response ≡ kept_response self.now serial self.now.kept) }
+        ensures refused { OnErr result (IsSome (version_of self.now.kept serial)) }
     {
         match self.versions.delta_from(serial)? {
             Some(change) => {

@@ -223,13 +223,7 @@ impl<A: Allocator + Clone> Sender<A> {
     }
 
     // RFC 8210 section 5.3.
-    fn answer_serial(
-        &mut self,
-        publisher: &Publisher<A>,
-        session: u16,
-        serial: u32,
-        octets: &[u8],
-    )
+    fn answer_serial(&mut self, publisher: &Publisher<A>, session: u16, serial: u32, octets: &[u8])
         requires { self.old.is_open ≡ true }
         ensures { (refused : Bool) × (behind_pdu self.new ≡ serial_query publisher.now refused (behind_pdu self.old) octets.now session serial publisher.now.kept) }
     {

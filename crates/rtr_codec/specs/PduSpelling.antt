@@ -80,6 +80,20 @@ length_of Cache_reset = 8
 length_of (Router_key body) = 8 + length body
 length_of (Error_report code quoted) = 16 + length quoted
 
+-- what a PDU carries unread has a length that its type allows
+abbrev pub CarriesLawfully : Content → Type 0
+CarriesLawfully (Serial_notify session serial) = Unit {0}
+CarriesLawfully (Serial_query session serial) = Unit {0}
+CarriesLawfully Reset_query = Unit {0}
+CarriesLawfully (Cache_response session) = Unit {0}
+CarriesLawfully (Announce payload) = Unit {0}
+CarriesLawfully (Withdraw payload) = Unit {0}
+CarriesLawfully (Ipv6_prefix body) = length body ≡ 24
+CarriesLawfully (End_of_data session serial intervals) = Unit {0}
+CarriesLawfully Cache_reset = Unit {0}
+CarriesLawfully (Router_key body) = 24 ≤ length body
+CarriesLawfully (Error_report code quoted) = Unit {0}
+
 -- each number fits its field, and the length is one that a PDU of the type may have (RFC 8210 section 5; no PDU of over 4,096 octets is read)
 abbrev pub IsLawful : Content → Type 0
 IsLawful (Serial_notify session serial) = (session < 2 ^ 16) × (serial < 2 ^ 32)

@@ -1,11 +1,13 @@
 //! PDUs of the RPKI-to-Router protocol, version 1: cut out of a stream of octets, read and written (RFC 8210
 //! sections 5 and 12).
 //!
-//! A stream is its PDUs one after another and then what is unread; the pieces in which it comes are no part of that,
-//! and a fault ends it. `read` answers what stands at the front of a stream for the end that reads it: the first PDU,
-//! its fault, or that more octets are needed. What `write` writes is read again as that PDU, whatever follows it. The
-//! rows of a cache's table and its responses are defined here too (`specs/CacheTable.antt`), below both ends of a
-//! connection. Nothing here keeps a state, takes memory or sends.
+//! A stream is its PDUs one after another and then what is unread, and it is so in no other way; the pieces in which
+//! it comes are no part of that, and a fault ends it. `read` answers what stands at the front of a stream for the end
+//! that reads it: the first PDU, its fault, or that more octets are needed. A `Receiver` keeps what came and no PDU has
+//! taken. What `write` writes is read again as that PDU, whatever follows it. The rows of a cache's table and its
+//! responses are defined here too (`specs/CacheTable.antt`), below both ends of a connection, with their laws: a
+//! response leads from the old set to that of its version, and no queueing loses a part of it. Nothing here takes
+//! memory or sends.
 #![tactic(auto)]
 
 mod fault;

@@ -1,5 +1,5 @@
-use Rattle.std.proofs.Common.{◌≡◌, ◌∙◌, sym, ap, length, arith, ◌≤◌}
-use Rattle.rtr_cache.proofs.Notifying.{AreNotifiedBelow, all_notified, none_notified, one_more_notified}
+use Rattle.std.proofs.Common.{ap, length, arith}
+use Rattle.rtr_cache.proofs.Notifying.{all_notified, none_notified, one_more_notified}
 use Rattle.rtr_cache.proofs.cache.Cache.notify_clients.Goals as goal
 
 pub loop-key-init : goal.loop-key-init

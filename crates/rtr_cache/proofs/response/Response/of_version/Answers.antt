@@ -1,6 +1,4 @@
-use Rattle.std.proofs.Common.{◌≡◌, sym, ◌∙◌, rules, List}
-use Rattle.std.proofs.lemmas.Grind.{common_steps}
-use Rattle.net_prefix.specs.declared.payload.Vrp.{Vrp}
+use Rattle.std.proofs.Common.{◌≡◌, rules}
 use Rattle.rtr_cache.proofs.WholeVersions.{lacked_by_nothing}
 use Rattle.rtr_cache.proofs.response.Response.of_version.Goals as goal
 

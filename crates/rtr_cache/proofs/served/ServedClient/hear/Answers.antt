@@ -1,4 +1,4 @@
-use Rattle.std.proofs.Common.{◌≡◌, false, [], length, List, ℕ, refl, sym, ap, ◌∙◌, arith}
+use Rattle.std.proofs.Common.{◌≡◌, false, [], List, ℕ, refl, sym, ap, ◌∙◌, arith}
 use Rattle.std.proofs.lemmas.Grind.{common_steps}
 use Rattle.rtr_codec.specs.CacheTable.{hears_octets}
 use Rattle.rtr_cache.proofs.Hearing.{hears_octets-closed, hears_octets-nothing}
