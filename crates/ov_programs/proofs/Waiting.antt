@@ -11,6 +11,10 @@ slice_range-further octets from to count within =
     ∙ sym (drop-take count (to - (from + count)) (drop from octets))
     ∙ ap (λ n. drop count (take n (drop from octets))) whole
 
+-- what waits from the start of the buffer on
+pub slice_range-front : (octets : List ℕ) (to : ℕ) → slice_range octets 0 to ≡ take to octets
+slice_range-front octets to = ap (λ n. take n octets) (omega arith)
+
 -- no more octets wait than the places are apart
 pub length-slice_range : (octets : List ℕ) (from to : ℕ) → length (slice_range octets from to) ≤ to - from
 length-slice_range octets from to = omega (arith, length-take (to - from) (drop from octets))

@@ -1,4 +1,5 @@
 pub mod Exits
+pub mod TurnOctets
 pub mod Turns
 pub mod Wires
 pub mod Words

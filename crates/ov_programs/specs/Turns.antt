@@ -1,4 +1,6 @@
-use Rattle.std.specs.Prelude.{◌≡◌, ◌≤◌, ◌<◌, ◌+◌, ◌-◌, ◌^◌, ℕ, Result, Ok, Err}
+use Rattle.std.specs.Prelude.{◌≡◌, ◌≤◌, ◌<◌, ◌+◌, ◌-◌, ◌^◌, ℕ, Bool, List, Some, Result, Ok, Err}
+use Rattle.rtr_cache.specs.CacheState.{CacheState, client_at}
+use Rattle.rtr_codec.specs.CacheTable.{Conn, hears_octets, pumped}
 use Rattle.ov_programs.specs.Wires.{one_more}
 use Rattle.ov_programs.specs.declared.fault.LoopFault.{LoopFault}
 use Rattle.ov_programs.specs.declared.fault.LoopFault.TheVariants.{Accept, NoMemory}
@@ -80,3 +82,9 @@ pub record Rises (old new : Counts) : Type 0 where
 pub record LosesAsCounted (old new : Counts) : Type 0 where
   pub rises : Rises old new
   pub lost : AreBelowGreatest new → new.lost + (old.faults + old.ends + old.closed) ≡ old.lost + (new.faults + new.ends + new.closed)
+
+-- octets of a client are heard by its end of the connection alone, PDU by PDU; refused says where memory refused what a query needs
+abbrev pub IsHeard : CacheState → ℕ → List ℕ → CacheState → Type 0
+IsHeard old client octets new =
+    (conn : Conn) → client_at old client ≡ Some conn
+    → (refused : List Bool) × (client_at new client ≡ Some (pumped (hears_octets old.shared refused conn octets)))

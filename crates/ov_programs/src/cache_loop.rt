@@ -162,9 +162,7 @@ impl<W: Wire + Drop, A: Allocator + Clone> CacheLoop<W, A> {
         ensures { self.new ≡ loses self.old }
     {
         let link = self.links.swap_remove(place);
-        let client = link.client();
-        link.close(&mut self.wire);
-        let _gone = self.cache.step(CacheEvent::<Global>::Down(client));
+        link.close(&mut self.wire, &mut self.cache);
         self.lost = self.lost.saturating_add(1);
     }
 }

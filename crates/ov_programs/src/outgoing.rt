@@ -1,5 +1,8 @@
 //! What waits to be written to a connection.
-ghost use Rattle.std.specs.Prelude.{◌≡◌, ◌≤◌, ◌↔◌, [], IfOk, IsTrue, drop, length};
+ghost use Rattle.std.specs.Prelude.{◌≡◌, ◌≤◌, ◌↔◌, [], IfOk, IsTrue, None, Some, drop, length, take};
+ghost use Rattle.rtr_cache.specs.CacheState.{OthersStay, client_at};
+ghost use Rattle.rtr_codec.specs.CacheTable.{Conn};
+ghost use Rattle.ov_programs.specs.TurnOctets.{turn_octets};
 
 use crate::cache_loop::TURN_OCTETS;
 use rtr_cache::Cache;
@@ -15,17 +18,19 @@ pub struct Outgoing<A: Allocator = Global> {
 }
 
 impl<A: Allocator> Model for Outgoing<A> {
-    ghost use Rattle.std.specs.Prelude.{ℕ, List, ◌≤◌, slice_range, vec_len};
+    ghost use Rattle.std.specs.Prelude.{ℕ, List, ◌≡◌, ◌≤◌, slice_range, vec_len};
+    ghost use Rattle.ov_programs.specs.TurnOctets.{turn_octets};
 
     ghost Value = { List ℕ };
 
     ghost view = { λ outgoing. slice_range outgoing.octets.items outgoing.from outgoing.to };
 
-    ghost invariant = { λ outgoing. (outgoing.from ≤ outgoing.to) × (outgoing.to ≤ vec_len outgoing.octets) };
+    ghost invariant = { λ outgoing. (outgoing.from ≤ outgoing.to) × (outgoing.to ≤ vec_len outgoing.octets) × (vec_len outgoing.octets ≡ turn_octets) };
 }
 
 impl<A: Allocator + Clone> Outgoing<A> {
     /// None.
+    #[tactic(auto, unfolding(crate::specs::TurnOctets::turn_octets))]
     pub fn new(alloc: A) -> Result<Self, AllocError>
         ensures { IfOk result (λ outgoing. outgoing ≡ []) }
     {
@@ -53,11 +58,11 @@ impl<A: Allocator + Clone> Outgoing<A> {
     /// Takes what the cache has queued for the client, as much as fits, where none wait.
     pub fn take(&mut self, cache: &mut Cache<A>, client: u64)
         requires { self.old ≡ [] }
+        ensures handed { (conn : Conn) → client_at cache.old client ≡ Some conn → self.new ≡ take turn_octets conn.ring }
+        ensures absent { client_at cache.old client ≡ None → self.new ≡ [] }
+        ensures others { OthersStay cache.old client cache.new }
     {
-        let count = match cache.take(client, self.octets.as_mut_slice()) {
-            Ok(count) => count,
-            Err(_) => 0,
-        };
+        let count = take_into(cache, client, self.octets.as_mut_slice());
         self.from = 0;
         self.to = count;
     }
@@ -68,5 +73,18 @@ impl<A: Allocator + Clone> Outgoing<A> {
         ensures { self.new ≡ drop count self.old }
     {
         self.from += count;
+    }
+}
+
+// Takes what the cache has queued for the client, as much as the buffer holds.
+fn take_into<A: Allocator + Clone>(cache: &mut Cache<A>, client: u64, buf: &mut [u8]) -> usize
+    ensures bound { result ≤ length buf.new }
+    ensures handed { (conn : Conn) → client_at cache.old client ≡ Some conn → take result buf.new ≡ take (length buf.old) conn.ring }
+    ensures absent { client_at cache.old client ≡ None → result ≡ 0 }
+    ensures others { OthersStay cache.old client cache.new }
+{
+    match cache.take(client, buf) {
+        Ok(count) => count,
+        Err(_) => 0,
     }
 }

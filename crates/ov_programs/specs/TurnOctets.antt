@@ -1,0 +1,7 @@
+use Rattle.std.specs.Prelude.{ℕ}
+
+-- How much a turn carries on a connection.
+
+-- the most octets that a turn reads of a connection, and the most that wait to be written to it
+unfoldable pub turn_octets : ℕ
+turn_octets = 4096
