@@ -1,6 +1,7 @@
 //! One client's connection.
 ghost use Rattle.std.specs.Prelude.{◌≡◌, ◌≢◌, ℕ, [], IfOk, None, Some, drop, take};
-ghost use Rattle.rtr_cache.specs.CacheState.{OthersStay, client_at};
+ghost use Rattle.net_prefix.specs.declared.transport.Transport.TheVariants.{Closing};
+ghost use Rattle.rtr_cache.specs.CacheState.{OthersStay, client_at, transport_of};
 ghost use Rattle.rtr_codec.specs.CacheTable.{Conn};
 ghost use Rattle.ov_programs.specs.Turns.{IsHeard, ends_visiting, faults_visiting};
 
@@ -51,6 +52,7 @@ impl<S: Drop, A: Allocator + Clone> Link<S, A> {
         cache: &mut Cache<A>,
         buf: &mut [u8],
     ) -> Visit
+        ensures closed { result ≡ Visit.Closed → (transport_of (client_at cache.new self.old.client) ≡ Closing) × (self.new.outgoing ≡ []) }
         ensures others { OthersStay cache.old self.old.client cache.new }
         ensures client { self.new.client ≡ self.old.client }
         ensures faults { W.fault_count wire.new ≡ faults_visiting result (W.fault_count wire.old) }
@@ -88,6 +90,7 @@ impl<S: Drop, A: Allocator + Clone> Link<S, A> {
     // Writes what was taken, and takes more where all of it is written.
     fn send<W: Wire<Socket = S>>(&mut self, wire: &mut W, cache: &mut Cache<A>) -> Visit
         ensures waits { self.old.outgoing ≢ [] → (cache.new ≡ cache.old) × ((count : ℕ) × (self.new.outgoing ≡ drop count self.old.outgoing)) }
+        ensures closed { result ≡ Visit.Closed → (transport_of (client_at cache.new self.old.client) ≡ Closing) × (self.new.outgoing ≡ []) }
         ensures others { OthersStay cache.old self.old.client cache.new }
         ensures client { self.new.client ≡ self.old.client }
         ensures faults { W.fault_count wire.new ≡ faults_visiting result (W.fault_count wire.old) }
