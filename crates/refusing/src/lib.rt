@@ -1,9 +1,12 @@
 //! For tests: an allocator that refuses one request.
 //!
 //! `Refusing` asks the heap behind it for every block but the nth, which it refuses, and takes every block back. So a
-//! test has each growth of a run refused in turn: n is 1, 2, .., until a run ends before the nth request. A vector
-//! that grows makes one request. What a cell holds no contract can say: `counted` says which request is refused, and
-//! `has_refused` tells a test that it was made.
+//! test has each growth of a run refused in turn: n is 1, 2, .., until a run ends before the nth request. A list that
+//! grows makes one request. A list that is made of an iterator asks again for less where it is refused room for all;
+//! one `Refusing` over another of the same n refuses that too, since the second sees what the first passes on.
+//!
+//! What a cell holds no contract can say: `counted` says which request is refused, and `has_refused` tells a test that
+//! it was made.
 #![tactic(auto)]
 
 ghost use Rattle.std.specs.Prelude.{◌≡◌, ◌≤◌, ℕ, suc, IfSome};

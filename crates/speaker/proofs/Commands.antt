@@ -1,4 +1,4 @@
-use Rattle.std.proofs.Common.{◌≡◌, ◌≢◌, ◌==◌, ◌&&◌, ◌||◌, ℕ, Bool, true, false, List, [], ◌∷◌, Option, Some, None, is_none, nat_le, cond, refl, sym, ap, ◌∙◌, subst}
+use Rattle.std.proofs.Common.{◌≡◌, ◌≢◌, ◌<◌, ◌==◌, ◌&&◌, ◌||◌, ℕ, Bool, true, false, List, [], ◌∷◌, Option, Some, None, is_none, nat_le, cond, refl, sym, ap, ◌∙◌, subst}
 use Rattle.std.proofs.lemmas.Bool.{eq-eqb, ne_eqb, eqb-true}
 use Rattle.std.specs.BTreeMap.{is_at}
 use Rattle.std.specs.Ordering.{nat_cmp}
@@ -11,7 +11,7 @@ use Rattle.bgp_conf.specs.declared.command.Command.TheVariants.{AddPeer, Enable,
 use Rattle.bgp_conf.specs.declared.command.PeerConf.{PeerConf}
 use Rattle.bgp_conf.specs.declared.conf.ConfiguredPeer.{ConfiguredPeer}
 use Rattle.bgp_conf.specs.declared.refusal.Refusal.{Refusal}
-use Rattle.bgp_conf.proofs.Accepted.{peer_at-from_accepted}
+use Rattle.bgp_conf.proofs.Accepted.{peer_at-from_accepted, slot-from_accepted}
 use Rattle.bgp_fsm.specs.SessionTable.{effects_of}
 use Rattle.bgp_fsm.specs.Transports.{transport_of, transport_at}
 use Rattle.bgp_fsm.specs.declared.input.Input.{Input}
@@ -126,6 +126,7 @@ pub holds_reach : (config : Config) (r : Run) (prefix : Prefix) (cost : ℕ) (ol
 holds_reach config r prefix cost old new h conf peers config_same links adj_in stopped = record {
   config_is = config_same ∙ h.config_is;
   conf = conf ∙ ap (λ c. conf_after c (Reach prefix cost)) h.conf;
+  within = λ t peer at. h.within t peer (sym (peers t) ∙ at);
   slots = λ t. let P : Option ConfiguredPeer → Type 0 = λ x. SlotAgrees config x (link_at old.links t) (route_at old.adj_in t) (history config t r) in
       rw (links, adj_in) (subst P (sym (peers t)) (h.slots t));
   running = stopped ∙ h.running;
@@ -134,6 +135,14 @@ holds_reach config r prefix cost old new h conf peers config_same links adj_in s
 unlinked_from : (config : Config) (found : Option Linked) (routes : Prefix → Option PathAttributes) (h : List happens.Event) → SlotAgrees config None found routes h → (prefix : Prefix) → routes prefix ≡ None
 unlinked_from config None routes h a = a.1
 unlinked_from config (Some l) routes h a = absurd a
+
+-- with a new peer each has one of the 64 slots
+added_within : (slot t : ℕ) (before : Option ConfiguredPeer) (peer found : ConfiguredPeer) → slot < 64 → (before ≡ Some found → t < 64) → cond (t == slot) (Some peer) before ≡ Some found → t < 64
+added_within slot t before peer found below within at = by_slot (t == slot) refl at
+  where
+    by_slot : (b : Bool) → (t == slot) ≡ b → cond b (Some peer) before ≡ Some found → t < 64
+    by_slot true same is = rw (eqb-true t slot same) below
+    by_slot false other is = within is
 
 -- a new peer
 pub holds_added : (config : Config) (r : Run) (slot : ℕ) (peer : PeerConf) (old new : SpeakerState) → Holds config r old → first_refusal old.conf 0 (AddPeer slot peer) ≡ None
@@ -147,6 +156,7 @@ holds_added config r slot peer old new h may conf peers put config_same adj_in s
     record {
       config_is = config_same ∙ h.config_is;
       conf = conf ∙ ap (λ c. conf_after c (AddPeer slot peer)) h.conf;
+      within = λ t found at. added_within slot t (peer_at old.conf t) (configured_of peer) found (slot-from_accepted old.conf 0 slot peer may) (h.within t found) (sym (peers t) ∙ at);
       slots =
           slots_changed config old.conf new.conf (link_at old.links) (link_at new.links) old.adj_in new.adj_in (λ t. history config t r) (λ t. history config t (turn (Command_call (AddPeer slot peer)) [] ∷ r)) slot h.slots
           (λ t other. peers t ∙ rw (ne_eqb t slot other) refl)

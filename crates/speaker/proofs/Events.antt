@@ -39,6 +39,7 @@ pub holds_put : (config : Config) (r1 r2 : Run) (slot : ℕ) (l : Linked) (old n
 holds_put config r1 r2 slot l old new h conf keeps put routes histories here = record {
   config_is = keeps.config ∙ h.config_is;
   conf = keeps.conf ∙ h.conf ∙ sym conf;
+  within = rw keeps.conf h.within;
   slots =
       slots_changed config old.conf new.conf (link_at old.links) (link_at new.links) old.adj_in new.adj_in (λ t. history config t r1) (λ t. history config t r2) slot h.slots
       (λ t other. ap (λ c. peer_at c t) keeps.conf)
@@ -201,6 +202,7 @@ pub holds_same : (config : Config) (r1 r2 : Run) (s : SpeakerState) → configur
 holds_same config r1 r2 s conf same h = record {
   config_is = h.config_is;
   conf = h.conf ∙ sym conf;
+  within = h.within;
   slots = λ t. let P : List happens.Event → Type 0 = λ x. SlotAgrees config (peer_at s.conf t) (link_at s.links t) (route_at s.adj_in t) x in subst P (sym (same t)) (h.slots t);
   running = h.running;
 }

@@ -19,11 +19,12 @@ agrees_new config = record {
   holds = record {
     config_is = refl;
     conf = refl;
+    within = λ slot peer at. absurd (cc);
     slots = λ slot. (refl, λ prefix. refl);
     running = refl;
   };
   loc_rib = λ prefix c is. let none = is.made.configured in absurd (cc);
-  settled = λ s peer below configured. absurd (cc);
+  settled = λ s peer configured. absurd (cc);
   thrifty = tt;
 }
 
@@ -42,6 +43,7 @@ agrees_same config r old new same a = record {
   holds = record {
     config_is = same.config ∙ a.holds.config_is;
     conf = same.conf ∙ a.holds.conf;
+    within = rw same.conf a.holds.within;
     slots = λ t. rw (same.conf, same.links t, same.adj_in) (a.holds.slots t);
     running = same.stopped ∙ a.holds.running;
   };

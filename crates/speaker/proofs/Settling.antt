@@ -138,14 +138,15 @@ agrees_after config call r s new queue holds thrifty is keeps stopped queues ser
       holds = record {
         config_is = keeps.config ∙ holds.config_is;
         conf = keeps.conf ∙ holds.conf;
+        within = rw keeps.conf holds.within;
         slots = rw (keeps.conf, keeps.adj_in) slots;
         running = stopped ∙ holds.running;
       };
       loc_rib = rw keeps.loc_rib (subst P (sym tables) is);
-      settled = λ slot peer below configured established room prefix.
+      settled = λ slot peer configured established room prefix.
           let here : peer_at s.conf slot ≡ Some peer = ap (λ c. peer_at c slot) (sym conf) ∙ configured in
           let A : Option ConfiguredPeer → Type 0 = λ x. SlotAgrees config x (link_at new.links slot) (route_at s.adj_in slot) (history config slot (turn call queue ∷ r)) in
-          served_slot config (turn call queue ∷ r) s slot peer _ (link_at new.links) refl tables conf is here (λ l linked. served slot peer l below here linked) (subst A here (slots slot)) established room prefix;
+          served_slot config (turn call queue ∷ r) s slot peer _ (link_at new.links) refl tables conf is here (λ l linked. served slot peer l (holds.within slot peer here) here linked) (subst A here (slots slot)) established room prefix;
       thrifty = (are_owed config call r s queue (link_at new.links) conf holds.slots is queues, thrifty);
     }
 
@@ -153,5 +154,5 @@ agrees_after config call r s new queue holds thrifty is keeps stopped queues ser
 pub holds_chosen : (config : Config) (r : Run) (old new : SpeakerState) (loc_rib : List (Prefix × Candidate)) → new ≡ record old { loc_rib = loc_rib } → Holds config r old → Holds config r new
 holds_chosen config r old new loc_rib is h =
     let P : SpeakerState → Type 0 = λ s. Holds config r s in
-    let same : Holds config r (record old { loc_rib = loc_rib }) = record { config_is = h.config_is; conf = h.conf; slots = h.slots; running = h.running } in
+    let same : Holds config r (record old { loc_rib = loc_rib }) = record { config_is = h.config_is; conf = h.conf; within = h.within; slots = h.slots; running = h.running } in
     subst P (sym is) same

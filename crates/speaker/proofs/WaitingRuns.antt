@@ -126,16 +126,16 @@ waiting_agrees config r s slot q a = (
 )
 
 -- where 8,192 octets of the ring are free, nothing waits
-settled_none : (config : Config) (r : Run) (s : SpeakerState) (slot : ℕ) (q : Prefix) → Agrees config r s → slot < 64 → length (ring_of (history config slot r)) + 8192 ≤ 65536
+settled_none : (config : Config) (r : Run) (s : SpeakerState) (slot : ℕ) (q : Prefix) → Agrees config r s → length (ring_of (history config slot r)) + 8192 ≤ 65536
     → IsWaitingIn config r slot q → ⊥
-settled_none config r s slot q a below room w =
+settled_none config r s slot q a room w =
     w.differs (same_export (tables_after config r) (export_peer_of (configuration_of config r) slot w.peer) q (held (history config slot r) q) w.export
-    (a.settled slot w.peer below w.configured w.established room q) w.is_export)
+    (a.settled slot w.peer w.configured w.established room q) w.is_export)
 
 empty : (prefixes : List Prefix) → ((q : Prefix) → Contains prefixes q → ⊥) → prefixes ≡ []
 empty [] none = refl
 empty (p ∷ prefixes) none = absurd (none p (0, omega arith, refl))
 
-pub waiting_settled : (config : Config) (r : Run) (s : SpeakerState) (slot : ℕ) → Agrees config r s → slot < 64 → length (ring_of (history config slot r)) + 8192 ≤ 65536 → waiting_of s slot ≡ []
-waiting_settled config r s slot a below room =
-    empty (waiting_of s slot) (λ q listed. settled_none config r s slot q a below room ((waiting_agrees config r s slot q a).0 listed))
+pub waiting_settled : (config : Config) (r : Run) (s : SpeakerState) (slot : ℕ) → Agrees config r s → length (ring_of (history config slot r)) + 8192 ≤ 65536 → waiting_of s slot ≡ []
+waiting_settled config r s slot a room =
+    empty (waiting_of s slot) (λ q listed. settled_none config r s slot q a room ((waiting_agrees config r s slot q a).0 listed))

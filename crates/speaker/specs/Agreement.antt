@@ -59,7 +59,7 @@ SlotAgrees config (Some peer) (Some l) routes h = SlotIs config peer l routes h
 -- where 8,192 octets are free, the peer of each Established slot holds its export
 abbrev pub IsSettled : Config → Run → Type 0
 IsSettled config r =
-    (s : ℕ) (peer : ConfiguredPeer) → s < 64 → peer_at (configuration_of config r) s ≡ Some peer
+    (s : ℕ) (peer : ConfiguredPeer) → peer_at (configuration_of config r) s ≡ Some peer
     → (session (history config s r)).state ≡ Established → length (ring_of (history config s r)) + 8192 ≤ 65536
     → (prefix : Prefix) → IsExport (tables_after config r) (export_peer_of (configuration_of config r) s peer) prefix (held (history config s r) prefix)
 
@@ -87,6 +87,8 @@ IsThrifty config (now ∷ r) = AreOwed config now.call r now.queued × IsThrifty
 pub record Holds (config : Config) (r : Run) (s : SpeakerState) : Type 0 where
   pub config_is : s.config ≡ config
   pub conf : s.conf ≡ configuration_of config r
+  -- each peer has one of the 64 slots
+  pub within : (slot : ℕ) (peer : ConfiguredPeer) → peer_at s.conf slot ≡ Some peer → slot < 64
   pub slots : (slot : ℕ) → SlotAgrees config (peer_at s.conf slot) (link_at s.links slot) (route_at s.adj_in slot) (history config slot r)
   pub running : s.stopped ≡ false
 

@@ -10,10 +10,12 @@ mod config;
 mod event;
 mod laws;
 mod link;
+mod obeying;
 mod queueing;
 mod receiving;
 mod ribs;
 mod runs;
+mod slot_events;
 mod step;
 #[cfg(test)]
 mod tests;

@@ -1,6 +1,7 @@
 //! A list of events, played on a new speaker.
-ghost use Rattle.std.specs.Prelude.{IfOk};
+ghost use Rattle.std.specs.Prelude.{◌≡◌, ◌⊎◌, true, IfErr, IfOk, IsErr};
 ghost use Rattle.speaker.specs.Agreement.{IsPlayed};
+ghost use Rattle.speaker.specs.SpeakerState.{is_out_of_range};
 
 use crate::config::Config;
 use crate::event::{Event, Report};
@@ -23,7 +24,11 @@ pub fn run<A: Allocator + Clone>(
     events: &[Event<'_>],
 ) -> Result<Trace<A>, Refusal>
     // The answers lead to a run that the speaker agrees with, as far as want of memory has not stopped it.
-    ensures { IfOk result (λ trace. IsPlayed config events.now trace.answers.items trace.speaker) }
+    ensures played { IfOk result (λ trace. IsPlayed config events.now trace.answers.items trace.speaker) }
+    // Where the settings are out of range there is no run, and 33 tells that and nothing else.
+    ensures refused { is_out_of_range config ≡ true → IsErr result }
+    ensures range { result ≡ Err Refusal.Range → is_out_of_range config ≡ true }
+    ensures err { IfErr result (λ why. (why ≡ Refusal.Range) ⊎ (why ≡ Refusal.NoMemory)) }
 {
     let Ok(for_speaker) = alloc.clone() else {
         return Err(Refusal::NoMemory);

@@ -1,23 +1,14 @@
 //! The speaker and its calls.
-ghost use Rattle.std.specs.Prelude.{◌≡◌, ◌≢◌, ◌≤◌, ◌<◌, ◌⊎◌, ◌↔◌, ◌++◌, ℕ, List, [], ◌∷◌, true, false, Option, length, min, take, drop, MatchOption, MatchResult, IfErr, OnOk, OnErr, IfOk, IsSome, ◌&&◌, ◌==◌, None, Some, if◌then◌else◌};
-ghost use Rattle.std.specs.Ordering.{nat_cmp};
-ghost use Rattle.std.specs.BTreeMap.{is_at};
+ghost use Rattle.std.specs.Prelude.{◌≡◌, ◌≢◌, ◌<◌, ◌⊎◌, ◌↔◌, ◌++◌, ℕ, [], ◌∷◌, true, false, length, min, take, drop, MatchOption, MatchResult, IfErr, OnOk, OnErr, IfOk, None, Some};
 ghost use Rattle.bgp_conf.specs.Configuration.{AddressesDiffer, peer_at};
 ghost use Rattle.bgp_conf.specs.declared.conf.ConfiguredPeer.{ConfiguredPeer as ThePeer};
-ghost use Rattle.bgp_conf.specs.FirstRefusal.{first_refusal};
-ghost use Rattle.bgp_conf.specs.declared.command.Command.TheVariants.{AddPeer as AddsPeer};
 ghost use Rattle.std.specs.Option.{option_map};
 ghost use Rattle.bgp_fsm.specs.Transports.{transport_of};
-ghost use Rattle.bgp_fsm.specs.declared.input.Input.TheVariants as input;
-ghost use Rattle.bgp_peer.specs.Slot.{enabled, opened, failed, taken_input};
-ghost use Rattle.net_prefix.specs.declared.prefix.Prefix.{Prefix as ThePrefix};
-ghost use Rattle.rib_in.specs.LatestRoutes.{route_at};
-ghost use Rattle.bgp_msg.specs.MessageStream.{meaning};
-ghost use Rattle.speaker.specs.Moves.{Hands, Moves, Pushes, TakesItem, taken_of};
-ghost use Rattle.speaker.specs.Runs.{terms_in, Call, Run, turn, call_of, Bytes_call, Command_call, Take_call};
+ghost use Rattle.speaker.specs.Moves.{Hands};
+ghost use Rattle.speaker.specs.Runs.{Call, Run, turn, call_of, Take_call};
 ghost use Rattle.speaker.specs.Agreement.{Agrees, Holds, IsThrifty};
 ghost use Rattle.speaker.specs.declared.config.Config.{Config as TheConfig};
-ghost use Rattle.speaker.specs.Tables.{session_at, link_at};
+ghost use Rattle.speaker.specs.Tables.{link_at};
 ghost use Rattle.speaker.specs.Linked.{Linked};
 ghost use Rattle.speaker.specs.Export.{export_to, export_peer_of};
 ghost use Rattle.speaker.specs.Queueing.{Queue, QueuesAll, IsServed};
@@ -27,14 +18,11 @@ use crate::config::Config;
 use crate::event::{Event, Report};
 use crate::link::Link;
 use crate::queueing::serve;
-use crate::receiving::take_front;
 use crate::ribs::Ribs;
-use bgp_conf::{Command, Conf, PEER_SLOTS, PeerConf, Refusal};
-use bgp_fsm::{Effects, Input, State};
-use bgp_msg::{Expected, Open};
+use bgp_conf::{Command, Conf, PEER_SLOTS, Refusal};
+use bgp_fsm::State;
 use export_rules::ExportPeer;
 use net_prefix::{Asn, Transport};
-use rib_in::AdjIn;
 use std::alloc::{AllocError, Allocator, Global};
 use std::collections::BTreeMap;
 use std::marker::Model;
@@ -42,8 +30,8 @@ use std::marker::Model;
 /// A BGP speaker (RFC 4271): its peers' sessions, Adj-RIB-In, Loc-RIB and what each peer was sent.
 #[derive(Drop)]
 pub struct Speaker<A: Allocator = Global> {
-    alloc: A,
-    config: Config,
+    pub(crate) alloc: A,
+    pub(crate) config: Config,
     pub(crate) conf: Conf<A>,
     pub(crate) links: BTreeMap<u8, Link<A>, A>,
     pub(crate) ribs: Ribs<A>,
@@ -244,168 +232,6 @@ impl<A: Allocator + Clone> Speaker<A> {
         }
     }
 
-    // Makes the tables after a command that isn't refused.
-    fn obey(&mut self, command: &Command<'_>) -> Result<(), AllocError>
-        requires { first_refusal self.old.conf 0 command.now ≡ None }
-        ensures err { OnErr result (IsAsBefore self.old self.new) }
-        ensures ok { OnOk result ((config : TheConfig) (r : Run) → Holds config r self.old → Holds config (turn (Command_call command.now) [] ∷ r) self.new) }
-    {
-        match *command {
-            Command::AddPeer(slot, conf) => self.add_peer(command, slot, &conf),
-            Command::Enable(slot) => {
-                self.enable(slot);
-                Ok(())
-            }
-            Command::Reach(_, _) => self.conf.apply(command),
-        }
-    }
-
-    fn add_peer(
-        &mut self,
-        command: &Command<'_>,
-        slot: u8,
-        conf: &PeerConf<'_>,
-    ) -> Result<(), AllocError>
-        requires accepted { first_refusal self.old.conf 0 command.now ≡ None }
-        requires adds { command.now ≡ AddsPeer slot conf.now }
-        ensures err { OnErr result (IsAsBefore self.old self.new) }
-        ensures ok { OnOk result ((config : TheConfig) (r : Run) → Holds config r self.old → Holds config (turn (Command_call command.now) [] ∷ r) self.new) }
-    {
-        let own = Open {
-            asn: self.config.asn,
-            hold_time: conf.hold,
-            identifier: self.config.identifier,
-        };
-        let link = Link::new(self.alloc.clone()?, own, conf.mode)?;
-        let before = self.links.insert(slot, link)?;
-        match self.conf.apply(command) {
-            Ok(()) => Ok(()),
-            Err(refused) => {
-                put_back(&mut self.links, slot, before);
-                Err(refused)
-            }
-        }
-    }
-
-    fn enable(&mut self, slot: u8)
-        ensures { (l : Linked) → link_at self.old.links slot ≡ Some l → Moves slot l (enabled l.peer) input.Start self.old self.new }
-    {
-        let Some(link) = self.links.get_mut(&slot) else {
-            return;
-        };
-        let effects = link.enable();
-        forget(&mut self.ribs.adj_in, slot, effects.left);
-    }
-
-    fn up(&mut self, slot: u8)
-        ensures { (l : Linked) → link_at self.old.links slot ≡ Some l → Moves slot l (opened l.peer) input.Up self.old self.new }
-    {
-        let Some(link) = self.links.get_mut(&slot) else {
-            return;
-        };
-        let effects = link.up();
-        forget(&mut self.ribs.adj_in, slot, effects.left);
-    }
-
-    fn fail(&mut self, slot: u8)
-        ensures { (l : Linked) → link_at self.old.links slot ≡ Some l → Moves slot l (failed l.peer) input.Fail self.old self.new }
-    {
-        let Some(link) = self.links.get_mut(&slot) else {
-            return;
-        };
-        let effects = link.fail();
-        forget(&mut self.ribs.adj_in, slot, effects.left);
-    }
-
-    // The message at the front of the slot's rest is this input.
-    fn input(&mut self, slot: u8, heard: Input)
-        ensures { (l : Linked) → link_at self.old.links slot ≡ Some l → Moves slot l (taken_input l.peer heard) heard self.old self.new }
-    {
-        let Some(link) = self.links.get_mut(&slot) else {
-            return;
-        };
-        let effects = link.input(heard);
-        forget(&mut self.ribs.adj_in, slot, effects.left);
-    }
-
-    // Takes octets that come, message by message. What comes after the session has closed is dropped.
-    fn hear(&mut self, slot: u8, octets: &[u8]) -> Result<(), AllocError>
-        ensures { OnOk result ((config : TheConfig) (r : Run) (peer : ThePeer) → Holds config r self.old → peer_at self.old.conf slot ≡ Some peer
-            → Holds config (turn (Bytes_call slot octets.now) [] ∷ r) self.new) }
-    {
-        let mut rest = octets;
-        while !rest.is_empty() {
-            let taken = match self.hear_front(slot, rest) {
-                Ok(taken) => taken,
-                Err(refused) => return Err(refused),
-            };
-            if taken == 0 {
-                return Ok(());
-            }
-            let (_, behind) = rest.split_at(taken);
-            rest = behind;
-        }
-        Ok(())
-    }
-
-    // Takes octets up to the end of the message at the front, and that message; answers how many.
-    fn hear_front(&mut self, slot: u8, octets: &[u8]) -> Result<usize, AllocError>
-        ensures within { IfOk result (λ taken. taken ≤ length octets.now) }
-        ensures heard { IfOk result (λ taken. (config : TheConfig) (r : Run) (done : List ℕ) (peer : ThePeer) → Holds config (turn (Bytes_call slot done) [] ∷ r) self.old
-            → peer_at self.old.conf slot ≡ Some peer → Holds config (turn (Bytes_call slot (done ++ take taken octets.now)) [] ∷ r) self.new) }
-        ensures shut { IfOk result (λ taken. (config : TheConfig) (r : Run) (done : List ℕ) (peer : ThePeer) → Holds config (turn (Bytes_call slot done) [] ∷ r) self.old
-            → peer_at self.old.conf slot ≡ Some peer → taken ≡ 0 → 0 < length octets.now → Holds config (turn (Bytes_call slot (done ++ octets.now)) [] ∷ r) self.new) }
-    {
-        let taken = self.push(slot, octets);
-        if taken == 0 {
-            return Ok(0);
-        }
-        match self.take_message(slot) {
-            Ok(()) => Ok(taken),
-            Err(refused) => Err(refused),
-        }
-    }
-
-    // Takes octets up to the end of the message at the front of an open connection, and answers how many.
-    fn push(&mut self, slot: u8, octets: &[u8]) -> usize
-        ensures within { result ≤ length octets.now }
-        ensures count { (l : Linked) → link_at self.old.links slot ≡ Some l → result ≡ taken_of l.peer octets.now }
-        ensures pushes { (l : Linked) → link_at self.old.links slot ≡ Some l → Pushes slot l (take result octets.now) self.old self.new }
-    {
-        match self.links.get_mut(&slot) {
-            Some(link) => link.push(octets),
-            None => 0,
-        }
-    }
-
-    // Takes the message at the front of the slot's rest, if it is whole or its header is faulty.
-    fn take_message(&mut self, slot: u8) -> Result<(), AllocError>
-        ensures { OnOk result ((l : Linked) (peer : ThePeer) → link_at self.old.links slot ≡ Some l → peer_at self.old.conf slot ≡ Some peer
-            → TakesItem slot (terms_in self.old.config peer) l (meaning l.peer.rest) self.old self.new) }
-    {
-        let Some(peer) = self.conf.peer(slot) else {
-            return Ok(());
-        };
-        let expected = Expected {
-            peer_asn: peer.asn,
-            own_asn: self.config.asn,
-            own_identifier: self.config.identifier,
-        };
-        let Some(link) = self.links.get(&slot) else {
-            return Ok(());
-        };
-        let alloc = &self.alloc;
-        let adj_in = &mut self.ribs.adj_in;
-        let heard = match take_front(alloc, adj_in, slot, &peer, expected, link) {
-            Ok(heard) => heard,
-            Err(refused) => return Err(refused),
-        };
-        if let Some(input) = heard {
-            self.input(slot, input);
-        }
-        Ok(())
-    }
-
     // The end of each step: Loc-RIB is chosen, and the peers are queued what they are owed.
     fn settle(&mut self) -> Result<(), AllocError>
         ensures chosen { OnOk result (IsLocRib (tables_of self.new) self.new.loc_rib) }
@@ -469,33 +295,5 @@ impl<A: Allocator + Clone> Speaker<A> {
             own: self.conf.own(),
             local: peer.local,
         })
-    }
-}
-
-// Leaving Established removes all routes of the session.
-fn forget<A: Allocator + Clone>(adj_in: &mut AdjIn<A>, slot: u8, left: bool)
-    ensures { (s : ℕ) (prefix : ThePrefix) → route_at adj_in.new s prefix ≡ (if left && s == slot then None else route_at adj_in.old s prefix) }
-{
-    if left {
-        adj_in.drop_slot(slot);
-    }
-}
-
-// Makes a slot what it was before it was written.
-fn put_back<A: Allocator + Clone>(
-    links: &mut BTreeMap<u8, Link<A>, A>,
-    slot: u8,
-    before: Option<Link<A>>,
-)
-    requires { IsSome (link_at links.old.entries slot) }
-    ensures { (s : ℕ) → link_at links.new.entries s ≡ (if is_at (nat_cmp slot) s then before else link_at links.old.entries s) }
-{
-    match before {
-        Some(link) => {
-            let _there = links.insert(slot, link);
-        }
-        None => {
-            links.remove(&slot);
-        }
     }
 }

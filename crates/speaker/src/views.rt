@@ -202,7 +202,7 @@ impl<A: Allocator + Clone> Speaker<A> {
         ensures kept { (prefix : ThePrefix) → Contains result prefix ↔ IsWaiting self.now slot prefix }
         ensures agrees { (config : Config) (r : Run) (prefix : ThePrefix) → Agrees config r self.now → Contains result prefix ↔ IsWaitingIn config r slot prefix }
         // Where 8,192 octets of the ring are free, nothing waits.
-        ensures settled { (config : Config) (r : Run) → Agrees config r self.now → slot < 64 → length (ring_of (history config slot r)) + 8192 ≤ 65536 → result ≡ [] }
+        ensures settled { (config : Config) (r : Run) → Agrees config r self.now → length (ring_of (history config slot r)) + 8192 ≤ 65536 → result ≡ [] }
     {
         self.waiting_rows(slot)
     }

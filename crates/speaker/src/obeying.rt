@@ -1,0 +1,83 @@
+//! What commands do to the tables.
+ghost use Rattle.std.specs.Prelude.{◌≡◌, ℕ, [], ◌∷◌, OnOk, OnErr, IsSome, None, Some, if◌then◌else◌};
+ghost use Rattle.std.specs.Ordering.{nat_cmp};
+ghost use Rattle.std.specs.BTreeMap.{is_at};
+ghost use Rattle.bgp_conf.specs.FirstRefusal.{first_refusal};
+ghost use Rattle.bgp_conf.specs.declared.command.Command.TheVariants.{AddPeer as AddsPeer};
+ghost use Rattle.speaker.specs.Runs.{Run, turn, Command_call};
+ghost use Rattle.speaker.specs.Agreement.{Holds};
+ghost use Rattle.speaker.specs.declared.config.Config.{Config as TheConfig};
+ghost use Rattle.speaker.specs.Tables.{link_at};
+
+use crate::link::Link;
+use crate::step::Speaker;
+use bgp_conf::{Command, PeerConf};
+use bgp_msg::Open;
+use std::alloc::{AllocError, Allocator};
+use std::collections::BTreeMap;
+
+impl<A: Allocator + Clone> Speaker<A> {
+    ghost use Rattle.speaker.specs.SpeakerState.{IsAsBefore};
+
+    // Makes the tables after a command that isn't refused.
+    pub(crate) fn obey(&mut self, command: &Command<'_>) -> Result<(), AllocError>
+        requires { first_refusal self.old.conf 0 command.now ≡ None }
+        ensures err { OnErr result (IsAsBefore self.old self.new) }
+        ensures ok { OnOk result ((config : TheConfig) (r : Run) → Holds config r self.old → Holds config (turn (Command_call command.now) [] ∷ r) self.new) }
+    {
+        match *command {
+            Command::AddPeer(slot, conf) => self.add_peer(command, slot, &conf),
+            Command::Enable(slot) => {
+                self.enable(slot);
+                Ok(())
+            }
+            Command::Reach(_, _) => self.conf.apply(command),
+        }
+    }
+
+    fn add_peer(
+        &mut self,
+        command: &Command<'_>,
+        slot: u8,
+        conf: &PeerConf<'_>,
+    ) -> Result<(), AllocError>
+        requires accepted { first_refusal self.old.conf 0 command.now ≡ None }
+        requires adds { command.now ≡ AddsPeer slot conf.now }
+        ensures err { OnErr result (IsAsBefore self.old self.new) }
+        ensures ok { OnOk result ((config : TheConfig) (r : Run) → Holds config r self.old → Holds config (turn (Command_call command.now) [] ∷ r) self.new) }
+    {
+        let own = Open {
+            asn: self.config.asn,
+            hold_time: conf.hold,
+            identifier: self.config.identifier,
+        };
+        let link = Link::new(self.alloc.clone()?, own, conf.mode)?;
+        let before = self.links.insert(slot, link)?;
+        match self.conf.apply(command) {
+            Ok(()) => Ok(()),
+            Err(refused) => {
+                put_back(&mut self.links, slot, before);
+                Err(refused)
+            }
+        }
+    }
+}
+
+// Makes a slot what it was before it was written.
+fn put_back<A: Allocator + Clone>(
+    links: &mut BTreeMap<u8, Link<A>, A>,
+    slot: u8,
+    before: Option<Link<A>>,
+)
+    requires { IsSome (link_at links.old.entries slot) }
+    ensures { (s : ℕ) → link_at links.new.entries s ≡ (if is_at (nat_cmp slot) s then before else link_at links.old.entries s) }
+{
+    match before {
+        Some(link) => {
+            let _there = links.insert(slot, link);
+        }
+        None => {
+            links.remove(&slot);
+        }
+    }
+}

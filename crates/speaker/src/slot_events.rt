@@ -1,0 +1,152 @@
+//! What happens to one slot: its operator enables it, its connection stands or fails, octets come.
+ghost use Rattle.std.specs.Prelude.{◌≡◌, ◌≤◌, ◌<◌, ◌++◌, ℕ, List, [], ◌∷◌, length, take, OnOk, IfOk, ◌&&◌, ◌==◌, None, Some, if◌then◌else◌};
+ghost use Rattle.bgp_conf.specs.Configuration.{peer_at};
+ghost use Rattle.bgp_conf.specs.declared.conf.ConfiguredPeer.{ConfiguredPeer as ThePeer};
+ghost use Rattle.bgp_fsm.specs.declared.input.Input.TheVariants as input;
+ghost use Rattle.bgp_peer.specs.Slot.{enabled, opened, failed, taken_input};
+ghost use Rattle.net_prefix.specs.declared.prefix.Prefix.{Prefix as ThePrefix};
+ghost use Rattle.rib_in.specs.LatestRoutes.{route_at};
+ghost use Rattle.bgp_msg.specs.MessageStream.{meaning};
+ghost use Rattle.speaker.specs.Moves.{Moves, Pushes, TakesItem, taken_of};
+ghost use Rattle.speaker.specs.Runs.{terms_in, Run, turn, Bytes_call};
+ghost use Rattle.speaker.specs.Agreement.{Holds};
+ghost use Rattle.speaker.specs.declared.config.Config.{Config as TheConfig};
+ghost use Rattle.speaker.specs.Tables.{link_at};
+ghost use Rattle.speaker.specs.Linked.{Linked};
+
+use crate::receiving::take_front;
+use crate::step::Speaker;
+use bgp_fsm::Input;
+use bgp_msg::Expected;
+use rib_in::AdjIn;
+use std::alloc::{AllocError, Allocator};
+
+impl<A: Allocator + Clone> Speaker<A> {
+    pub(crate) fn enable(&mut self, slot: u8)
+        ensures { (l : Linked) → link_at self.old.links slot ≡ Some l → Moves slot l (enabled l.peer) input.Start self.old self.new }
+    {
+        let Some(link) = self.links.get_mut(&slot) else {
+            return;
+        };
+        let effects = link.enable();
+        forget(&mut self.ribs.adj_in, slot, effects.left);
+    }
+
+    pub(crate) fn up(&mut self, slot: u8)
+        ensures { (l : Linked) → link_at self.old.links slot ≡ Some l → Moves slot l (opened l.peer) input.Up self.old self.new }
+    {
+        let Some(link) = self.links.get_mut(&slot) else {
+            return;
+        };
+        let effects = link.up();
+        forget(&mut self.ribs.adj_in, slot, effects.left);
+    }
+
+    pub(crate) fn fail(&mut self, slot: u8)
+        ensures { (l : Linked) → link_at self.old.links slot ≡ Some l → Moves slot l (failed l.peer) input.Fail self.old self.new }
+    {
+        let Some(link) = self.links.get_mut(&slot) else {
+            return;
+        };
+        let effects = link.fail();
+        forget(&mut self.ribs.adj_in, slot, effects.left);
+    }
+
+    // The message at the front of the slot's rest is this input.
+    fn input(&mut self, slot: u8, heard: Input)
+        ensures { (l : Linked) → link_at self.old.links slot ≡ Some l → Moves slot l (taken_input l.peer heard) heard self.old self.new }
+    {
+        let Some(link) = self.links.get_mut(&slot) else {
+            return;
+        };
+        let effects = link.input(heard);
+        forget(&mut self.ribs.adj_in, slot, effects.left);
+    }
+
+    // Takes octets that come, message by message. What comes after the session has closed is dropped.
+    pub(crate) fn hear(&mut self, slot: u8, octets: &[u8]) -> Result<(), AllocError>
+        ensures { OnOk result ((config : TheConfig) (r : Run) (peer : ThePeer) → Holds config r self.old → peer_at self.old.conf slot ≡ Some peer
+            → Holds config (turn (Bytes_call slot octets.now) [] ∷ r) self.new) }
+    {
+        let mut rest = octets;
+        while !rest.is_empty() {
+            let taken = match self.hear_front(slot, rest) {
+                Ok(taken) => taken,
+                Err(refused) => return Err(refused),
+            };
+            if taken == 0 {
+                return Ok(());
+            }
+            let (_, behind) = rest.split_at(taken);
+            rest = behind;
+        }
+        Ok(())
+    }
+
+    // Takes octets up to the end of the message at the front, and that message; answers how many.
+    fn hear_front(&mut self, slot: u8, octets: &[u8]) -> Result<usize, AllocError>
+        ensures within { IfOk result (λ taken. taken ≤ length octets.now) }
+        ensures heard { IfOk result (λ taken. (config : TheConfig) (r : Run) (done : List ℕ) (peer : ThePeer) → Holds config (turn (Bytes_call slot done) [] ∷ r) self.old
+            → peer_at self.old.conf slot ≡ Some peer → Holds config (turn (Bytes_call slot (done ++ take taken octets.now)) [] ∷ r) self.new) }
+        ensures shut { IfOk result (λ taken. (config : TheConfig) (r : Run) (done : List ℕ) (peer : ThePeer) → Holds config (turn (Bytes_call slot done) [] ∷ r) self.old
+            → peer_at self.old.conf slot ≡ Some peer → taken ≡ 0 → 0 < length octets.now → Holds config (turn (Bytes_call slot (done ++ octets.now)) [] ∷ r) self.new) }
+    {
+        let taken = self.push(slot, octets);
+        if taken == 0 {
+            return Ok(0);
+        }
+        match self.take_message(slot) {
+            Ok(()) => Ok(taken),
+            Err(refused) => Err(refused),
+        }
+    }
+
+    // Takes octets up to the end of the message at the front of an open connection, and answers how many.
+    fn push(&mut self, slot: u8, octets: &[u8]) -> usize
+        ensures within { result ≤ length octets.now }
+        ensures count { (l : Linked) → link_at self.old.links slot ≡ Some l → result ≡ taken_of l.peer octets.now }
+        ensures pushes { (l : Linked) → link_at self.old.links slot ≡ Some l → Pushes slot l (take result octets.now) self.old self.new }
+    {
+        match self.links.get_mut(&slot) {
+            Some(link) => link.push(octets),
+            None => 0,
+        }
+    }
+
+    // Takes the message at the front of the slot's rest, if it is whole or its header is faulty.
+    fn take_message(&mut self, slot: u8) -> Result<(), AllocError>
+        ensures { OnOk result ((l : Linked) (peer : ThePeer) → link_at self.old.links slot ≡ Some l → peer_at self.old.conf slot ≡ Some peer
+            → TakesItem slot (terms_in self.old.config peer) l (meaning l.peer.rest) self.old self.new) }
+    {
+        let Some(peer) = self.conf.peer(slot) else {
+            return Ok(());
+        };
+        let expected = Expected {
+            peer_asn: peer.asn,
+            own_asn: self.config.asn,
+            own_identifier: self.config.identifier,
+        };
+        let Some(link) = self.links.get(&slot) else {
+            return Ok(());
+        };
+        let alloc = &self.alloc;
+        let adj_in = &mut self.ribs.adj_in;
+        let heard = match take_front(alloc, adj_in, slot, &peer, expected, link) {
+            Ok(heard) => heard,
+            Err(refused) => return Err(refused),
+        };
+        if let Some(input) = heard {
+            self.input(slot, input);
+        }
+        Ok(())
+    }
+}
+
+// Leaving Established removes all routes of the session.
+fn forget<A: Allocator + Clone>(adj_in: &mut AdjIn<A>, slot: u8, left: bool)
+    ensures { (s : ℕ) (prefix : ThePrefix) → route_at adj_in.new s prefix ≡ (if left && s == slot then None else route_at adj_in.old s prefix) }
+{
+    if left {
+        adj_in.drop_slot(slot);
+    }
+}
