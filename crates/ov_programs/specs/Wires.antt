@@ -8,6 +8,15 @@ use Rattle.ov_programs.specs.declared.wire.Sent.TheVariants.{Octets as Went, Not
 
 -- What the calls of a wire make of its counts: each fault and each end of input is counted as it is answered.
 
+-- what a wire of sockets has told
+pub record WireCounts : Type 0 where
+  pub faults : ℕ
+  pub ends : ℕ
+
+-- before its first call
+abbrev pub nothing_told : WireCounts
+nothing_told = record { faults = 0; ends = 0 }
+
 -- a count goes on by one, and stays at the greatest u64
 abbrev pub one_more : ℕ → ℕ
 one_more count = if nat_lt count (2 ^ 64 - 1) then count + 1 else count

@@ -13,7 +13,7 @@ use std::alloc::{AllocError, Allocator, Global};
 
 /// What a visit to a connection found.
 #[derive(Clone, Copy, Debug, PartialEq, Eq)]
-pub enum Visit {
+pub(crate) enum Visit {
     /// The connection goes on.
     Stays,
     /// The wire failed.
@@ -26,7 +26,7 @@ pub enum Visit {
 
 /// A client of the cache and its connection.
 #[derive(Drop)]
-pub struct Link<S, A: Allocator = Global> {
+pub(crate) struct Link<S, A: Allocator = Global> {
     client: u64,
     socket: S,
     outgoing: Outgoing<A>,

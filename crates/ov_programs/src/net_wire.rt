@@ -1,10 +1,11 @@
 //! The system's TCP sockets.
-ghost use Rattle.std.specs.Prelude.{◌≡◌};
-ghost use Rattle.ov_programs.specs.Wires.{one_more};
+ghost use Rattle.std.specs.Prelude.{◌≡◌, IfOk};
+ghost use Rattle.ov_programs.specs.Wires.{nothing_told, one_more};
 
 use crate::wire::{Accepted, Received, Sent, Wire};
 use mio::net::TcpStream;
 use std::io::{self, ErrorKind, Read, Write};
+use std::marker::Model;
 use std::net::{self, Net, OpenListener, SocketAddr, TcpListener};
 
 /// TCP sockets that don't wait, and the listener whose connections are accepted.
@@ -16,9 +17,19 @@ pub struct NetWire<'a, R: Net<Listener = TcpListener, Stream = net::TcpStream>> 
     ends: u64,
 }
 
+impl<'a, R: Net<Listener = TcpListener, Stream = net::TcpStream>> Model for NetWire<'a, R> {
+    ghost use Rattle.ov_programs.specs.Wires.{WireCounts};
+
+    ghost Value = { WireCounts };
+
+    ghost view = { λ wire. record { faults = wire.faults; ends = wire.ends } };
+}
+
 impl<'a, R: Net<Listener = TcpListener, Stream = net::TcpStream>> NetWire<'a, R> {
     /// A wire that only connects.
-    pub fn new(net: &'a R) -> Self {
+    pub fn new(net: &'a R) -> Self
+        ensures { result ≡ nothing_told }
+    {
         NetWire {
             net,
             listener: None,
@@ -28,7 +39,9 @@ impl<'a, R: Net<Listener = TcpListener, Stream = net::TcpStream>> NetWire<'a, R>
     }
 
     /// A wire that listens at the address too.
-    pub fn listening(net: &'a R, address: SocketAddr) -> io::Result<Self> {
+    pub fn listening(net: &'a R, address: SocketAddr) -> io::Result<Self>
+        ensures { IfOk result (λ wire. wire ≡ nothing_told) }
+    {
         let listener = TcpListener::bind(net, address)?;
         listener.set_nonblocking(true)?;
         Ok(NetWire {

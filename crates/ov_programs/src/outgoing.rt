@@ -11,7 +11,7 @@ use std::marker::Model;
 
 /// The octets that were taken of the cache and not yet written.
 #[derive(Drop)]
-pub struct Outgoing<A: Allocator = Global> {
+pub(crate) struct Outgoing<A: Allocator = Global> {
     octets: Vec<u8, A>,
     from: usize,
     to: usize,
