@@ -1,4 +1,6 @@
 //! The settings of the programs, in TOML.
+ghost use Rattle.std.specs.Prelude.{◌≡◌, IfOk, true};
+ghost use Rattle.rtr_codec.specs.Intervals.{are_lawful};
 
 use rtr_codec::Intervals;
 use std::alloc::{AllocError, AllocFailed, Global};
@@ -40,7 +42,9 @@ pub struct CacheSettings {
 impl CacheSettings {
     /// The settings that the octets of a file tell: `listen`, `csv` and `session`, and `refresh`, `retry` and `expire`
     /// where they aren't the usual ones. Keys of other names are passed over.
-    pub fn read(alloc: Global, octets: &[u8]) -> Result<CacheSettings, SettingsFault> {
+    pub fn read(alloc: Global, octets: &[u8]) -> Result<CacheSettings, SettingsFault>
+        ensures { IfOk result (λ settings. are_lawful settings.intervals ≡ true) }
+    {
         let Ok(text) = str::from_utf8(octets) else {
             return Err(SettingsFault::Settings);
         };
@@ -89,7 +93,9 @@ fn session_of(table: &Table) -> Result<u16, SettingsFault> {
 }
 
 // The intervals; one whose key isn't there is the usual one.
-fn intervals_of(table: &Table) -> Result<Intervals, SettingsFault> {
+fn intervals_of(table: &Table) -> Result<Intervals, SettingsFault>
+    ensures { IfOk result (λ intervals. are_lawful intervals ≡ true) }
+{
     let intervals = Intervals {
         refresh: number_of(table, "refresh")?.unwrap_or(Intervals::USUAL.refresh),
         retry: number_of(table, "retry")?.unwrap_or(Intervals::USUAL.retry),
