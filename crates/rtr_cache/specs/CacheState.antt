@@ -1,4 +1,4 @@
-use Rattle.std.specs.Prelude.{◌≡◌, ◌≢◌, ◌⊎◌, ◌<◌, ◌≤◌, ◌++◌, ℕ, Bool, true, false, List, [], Option, Some, None, Result, Ok, Err, count_by, drop, if◌then◌else◌, is_some, length, min, slice_index_or, take}
+use Rattle.std.specs.Prelude.{◌≡◌, ◌≢◌, ◌⊎◌, ◌<◌, ◌≤◌, ◌++◌, ◌+◌, ℕ, Bool, true, false, List, [], Option, Some, None, IfSome, Result, Ok, Err, count_by, drop, if◌then◌else◌, is_some, length, min, slice_index_or, take}
 use Rattle.std.specs.Option.{option_map}
 use Rattle.net_prefix.specs.declared.payload.Vrp.{Vrp}
 use Rattle.net_prefix.specs.declared.transport.Transport.{Transport}
@@ -113,3 +113,11 @@ HandsOut old key buf (Err why) buf_after new = (why ≡ NoClient) × (client_at 
 abbrev pub transport_of : Option Conn → Transport
 transport_of None = transports.None
 transport_of (Some conn) = if conn.is_open then transports.Open else transports.Closing
+
+-- something is left of a response only where fewer than 128 octets of the ring are free
+abbrev pub IsAtRest : Conn → Type 0
+IsAtRest conn = conn.left ≢ [] → 65536 < length conn.ring + 128
+
+-- so it is of every client
+abbrev pub AllAreAtRest : CacheState → Type 0
+AllAreAtRest cache = (key : ℕ) → IfSome (client_at cache key) IsAtRest

@@ -3,7 +3,7 @@
 ghost use Rattle.std.specs.Prelude.{◌≡◌, OnErr, length};
 ghost use Rattle.std.specs.Option.{option_map};
 ghost use Rattle.rtr_codec.specs.CacheTable.{notified, pumped};
-ghost use Rattle.rtr_cache.specs.CacheState.{AllAreNotified, ComesUp, GoesDown, HandsOut, HearsOctets, IsNew, Loads, OthersStay, Steps, Ticks, client_at, transport_of};
+ghost use Rattle.rtr_cache.specs.CacheState.{AllAreAtRest, AllAreNotified, ComesUp, GoesDown, HandsOut, HearsOctets, IsNew, Loads, OthersStay, Steps, Ticks, client_at, transport_of};
 
 use crate::event::{CacheEvent, CacheReport};
 use crate::publisher::Publisher;
@@ -63,6 +63,18 @@ impl<A: Allocator + Clone> Cache<A> {
     ) -> Result<CacheReport, CacheRefusal>
         ensures does { Steps self.old event.entry result self.new }
         ensures err { OnErr result (self.new ≡ self.old) }
+        ensures rest { AllAreAtRest self.old → AllAreAtRest self.new }
+    {
+        self.happen(event)
+    }
+
+    // As below: the private method says what it does, and that clients are at rest follows from that.
+    fn happen<B: Allocator>(
+        &mut self,
+        event: CacheEvent<'_, B>,
+    ) -> Result<CacheReport, CacheRefusal>
+        ensures does { Steps self.old event.entry result self.new }
+        ensures err { OnErr result (self.new ≡ self.old) }
     {
         match event {
             CacheEvent::Load(set) => self.load(set),
@@ -75,6 +87,15 @@ impl<A: Allocator + Clone> Cache<A> {
 
     /// Hands out the first octets that are queued to the client, as many as there are and fit, and answers how many.
     pub fn take(&mut self, key: u64, buf: &mut [u8]) -> Result<usize, CacheRefusal>
+        ensures does { HandsOut self.old key buf.old result buf.new self.new }
+        ensures err { OnErr result (self.new ≡ self.old) }
+        ensures nothing { OnErr result (buf.new ≡ buf.old) }
+        ensures rest { AllAreAtRest self.old → AllAreAtRest self.new }
+    {
+        self.hand_out(key, buf)
+    }
+
+    fn hand_out(&mut self, key: u64, buf: &mut [u8]) -> Result<usize, CacheRefusal>
         ensures does { HandsOut self.old key buf.old result buf.new self.new }
         ensures err { OnErr result (self.new ≡ self.old) }
         ensures nothing { OnErr result (buf.new ≡ buf.old) }
