@@ -1,0 +1,191 @@
+//! A cache that loads and serves, where requests for memory are refused.
+use net_prefix::{Asn, Prefix, Transport, Vrp};
+use refusing::Refusing;
+use rtr_cache::{Cache, CacheEvent, CacheRefusal};
+use rtr_codec::Intervals;
+use std::alloc::{Allocator, Global};
+use std::collections::BTreeSet;
+use std::process::Abort;
+use std::test::Fail;
+
+const RESET_QUERY: [u8; 8] = [1, 2, 0, 0, 0, 0, 0, 8];
+
+const SERIAL_QUERY: [u8; 12] = [1, 1, 0, 7, 0, 0, 0, 12, 0, 0, 0, 1];
+
+// Cache Response, the payload 10.0.1.0/24-24 AS65002, End of Data of serial 1.
+#[rattlefmt::skip]
+const FIRST_VERSION: [u8; 52] = [
+    1, 3, 0, 7, 0, 0, 0, 8,
+    1, 4, 0, 0, 0, 0, 0, 20, 1, 24, 24, 0, 10, 0, 1, 0, 0, 0, 0xFD, 0xEA,
+    1, 7, 0, 7, 0, 0, 0, 24, 0, 0, 0, 1, 0, 0, 0x0E, 0x10, 0, 0, 0x02, 0x58, 0, 0, 0x1C, 0x20,
+];
+
+// Cache Response, that payload as a withdrawal and 10.0.2.0/24-24 AS65002 as an announcement, End of Data of serial 2.
+#[rattlefmt::skip]
+const CHANGE: [u8; 72] = [
+    1, 3, 0, 7, 0, 0, 0, 8,
+    1, 4, 0, 0, 0, 0, 0, 20, 0, 24, 24, 0, 10, 0, 1, 0, 0, 0, 0xFD, 0xEA,
+    1, 4, 0, 0, 0, 0, 0, 20, 1, 24, 24, 0, 10, 0, 2, 0, 0, 0, 0xFD, 0xEA,
+    1, 7, 0, 7, 0, 0, 0, 24, 0, 0, 0, 2, 0, 0, 0x0E, 0x10, 0, 0, 0x02, 0x58, 0, 0, 0x1C, 0x20,
+];
+
+// A Serial Notify of serial 2.
+const NOTIFY: [u8; 12] = [1, 0, 0, 7, 0, 0, 0, 12, 0, 0, 0, 2];
+
+// An Error Report of an internal error, which quotes nothing.
+const INTERNAL_ERROR: [u8; 16] = [1, 10, 0, 1, 0, 0, 0, 16, 0, 0, 0, 0, 0, 0, 0, 0];
+
+// A call of the cache whose only client has the key 0, and what it answers with memory.
+#[derive(Clone, Copy)]
+enum Call<'a> {
+    // The serial of the set.
+    Load(&'a BTreeSet<Vrp>, u32),
+    Up,
+    // The octets that the client is sent.
+    Take(&'a [u8]),
+    Query(&'a [u8], &'a [u8]),
+}
+
+#[derive(Clone, Copy, Debug, PartialEq, Eq)]
+enum Answer {
+    AsWithMemory,
+    NoMemory,
+    Other,
+}
+
+// What was refused, and was right when it was asked for again.
+#[derive(Clone, Copy, Debug, PartialEq, Eq)]
+enum Ending {
+    Nothing,
+    Cache,
+    Load,
+    Up,
+    Query,
+}
+
+fn step<A: Allocator + Clone>(
+    cache: &mut Cache<A>,
+    event: CacheEvent<'_>,
+    client: Option<u64>,
+    serial: Option<u32>,
+) -> Answer {
+    match cache.step(event) {
+        Ok(report) if report.client == client && report.serial == serial => Answer::AsWithMemory,
+        Err(CacheRefusal::NoMemory) => Answer::NoMemory,
+        _ => Answer::Other,
+    }
+}
+
+fn answer_to<A: Allocator + Clone>(cache: &mut Cache<A>, call: Call<'_>) -> Answer {
+    match call {
+        Call::Load(set, serial) => step(cache, CacheEvent::Load(set), None, Some(serial)),
+        Call::Up => step(cache, CacheEvent::Up, Some(0), None),
+        Call::Take(told) => taken(cache, told),
+        Call::Query(query, told) => {
+            if step(cache, CacheEvent::Bytes(0, query), None, None) != Answer::AsWithMemory {
+                return Answer::Other;
+            }
+            taken(cache, told)
+        }
+    }
+}
+
+fn taken<A: Allocator + Clone>(cache: &mut Cache<A>, told: &[u8]) -> Answer {
+    let mut buf = [0u8; 200];
+    match cache.take(0, &mut buf) {
+        Ok(taken) if buf.get(..taken) == Some(told) => Answer::AsWithMemory,
+        Ok(taken) if buf.get(..taken) == Some(&INTERNAL_ERROR) => Answer::NoMemory,
+        _ => Answer::Other,
+    }
+}
+
+// The call was refused: nothing else has changed, so that it is answered when it is made again. A query has closed its
+// client, and another one makes it.
+fn again<A: Allocator + Clone>(rt: &impl Abort, cache: &mut Cache<A>, call: Call<'_>) -> Ending {
+    let ending = match call {
+        Call::Load(..) => Ending::Load,
+        Call::Up => Ending::Up,
+        Call::Take(_) => Ending::Nothing,
+        Call::Query(..) => {
+            assert_eq!(rt; cache.transport(0), Transport::Closing);
+            assert_eq!(rt;
+                step(cache, CacheEvent::Down(0), None, None),
+                Answer::AsWithMemory
+            );
+            assert_eq!(rt;
+                step(cache, CacheEvent::Up, Some(0), None),
+                Answer::AsWithMemory
+            );
+            Ending::Query
+        }
+    };
+    assert_eq!(rt; answer_to(cache, call), Answer::AsWithMemory);
+    ending
+}
+
+// Plays the calls on a cache over the heap.
+fn play<B: Allocator>(rt: &impl Abort, heap: &Refusing<B>, calls: &[Call<'_>]) -> Ending {
+    let mut cache = match Cache::new(heap, 7, Intervals::USUAL) {
+        Ok(cache) => cache,
+        Err(why) => {
+            assert_eq!(rt; why, CacheRefusal::NoMemory);
+            return Ending::Cache;
+        }
+    };
+    let mut ending = Ending::Nothing;
+    for call in calls {
+        match answer_to(&mut cache, *call) {
+            Answer::AsWithMemory => {}
+            answer => {
+                assert_eq!(rt; answer, Answer::NoMemory);
+                assert!(rt; heap.has_refused() && ending == Ending::Nothing);
+                ending = again(rt, &mut cache, *call);
+            }
+        }
+    }
+    ending
+}
+
+fn one_payload(alloc: Global, prefix: &str) -> Result<BTreeSet<Vrp>, Fail> {
+    let mut set = BTreeSet::new(alloc);
+    let _new = set.insert(Vrp::new(Prefix::parse(prefix)?, 24, Asn(65_002))?)?;
+    Ok(set)
+}
+
+fn calls<'a>(first: &'a BTreeSet<Vrp>, second: &'a BTreeSet<Vrp>) -> [Call<'a>; 6] {
+    [
+        Call::Load(first, 1),
+        Call::Up,
+        Call::Query(&RESET_QUERY, &FIRST_VERSION),
+        Call::Load(second, 2),
+        Call::Take(&NOTIFY),
+        Call::Query(&SERIAL_QUERY, &CHANGE),
+    ]
+}
+
+// How the calls end, by n, until none is refused.
+fn endings(rt: &impl Abort, alloc: Global, calls: &[Call<'_>]) -> Result<Vec<Ending>, Fail> {
+    let mut endings = Vec::new(alloc);
+    for nth in 1..1_000u64 {
+        let heap = Refusing::new(alloc, nth);
+        let ending = play(rt, &heap, calls);
+        if !heap.has_refused() {
+            assert_eq!(rt; ending, Ending::Nothing);
+            return Ok(endings);
+        }
+        endings.push(ending)?;
+    }
+    panic!(rt; "the calls make no end of requests");
+}
+
+#[test]
+fn a_refused_growth_of_a_cache_is_that_of_one_call(rt: HostRuntime) -> Result<(), Fail> {
+    let alloc = rt.alloc();
+    let first = one_payload(alloc, "10.0.1.0/24")?;
+    let second = one_payload(alloc, "10.0.2.0/24")?;
+    let endings = endings(&rt, alloc, &calls(&first, &second))?;
+    assert!(rt; endings.contains(&Ending::Load));
+    assert!(rt; endings.contains(&Ending::Up));
+    assert!(rt; endings.contains(&Ending::Query));
+    Ok(())
+}
