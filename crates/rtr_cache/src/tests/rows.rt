@@ -1,123 +1,145 @@
-use crate::{Cache, CacheEvent, CacheRefusal};
-use net_prefix::{Asn, Prefix, Transport, Vrp};
-use rtr_codec::Intervals;
-use std::alloc::{AllocGlobal, Global};
-use std::collections::BTreeSet;
+use super::{INTERVALS, RESET_QUERY, answers, is_sent, load, step};
+use crate::{CACHE_CLIENTS, Cache, CacheEvent, CacheRefusal};
+use net_prefix::Transport;
+use std::alloc::AllocGlobal;
 use std::process::Abort;
 use std::test::Fail;
 
-const INTERVALS: Intervals = Intervals {
-    refresh: 3600,
-    retry: 600,
-    expire: 7200,
-};
-
-fn payload(bits: u32, len: u8, max_len: u8, asn: u32) -> Result<Vrp, Fail> {
-    Ok(Vrp::new(Prefix::new(bits, len)?, max_len, Asn(asn))?)
-}
-
-fn load(
-    rt: &(impl AllocGlobal + Abort),
-    cache: &mut Cache,
-    payloads: &[Vrp],
-) -> Result<Option<u32>, Fail> {
-    let mut set = BTreeSet::new(rt.alloc());
-    for payload in payloads {
-        let _ = set.insert(*payload)?;
-    }
-    Ok(cache.step(CacheEvent::Load(&set))?.serial)
-}
-
-fn hear(
-    rt: &(impl AllocGlobal + Abort),
-    cache: &mut Cache,
-    key: u64,
-    octets: &str,
-) -> Result<(), Fail> {
-    let octets = hex::decode(rt.alloc(), octets)?;
-    let event: CacheEvent<'_, Global> = CacheEvent::Bytes(key, octets.as_slice());
-    let _ = cache.step(event)?;
-    Ok(())
-}
-
-fn taken(rt: &(impl AllocGlobal + Abort), cache: &mut Cache, key: u64) -> Result<String, Fail> {
-    let mut buf = [0; 999];
-    let count = cache.take(key, &mut buf)?;
-    if count > buf.len() {
-        return Ok(String::new(rt.alloc()));
-    }
-    Ok(hex::encode_upper(rt.alloc(), &buf[..count])?)
-}
-
-fn up(cache: &mut Cache) -> Result<u64, Fail> {
-    let event: CacheEvent<'_, Global> = CacheEvent::Up;
-    Ok(cache.step(event)?.client.ok_or("no key")?)
-}
+const NO_DATA: &str = "010A00020000001800000008010200000000000800000000";
 
 #[test]
 fn without_a_set_there_is_no_data(rt: HostRuntime) -> Result<(), Fail> {
     let mut cache = Cache::new(rt.alloc(), 7, INTERVALS)?;
-    let key = up(&mut cache)?;
-    hear(&rt, &mut cache, key, "0102000000000008")?;
+    let _ = step(&mut cache, CacheEvent::Up)?;
+    answers(&rt, &mut cache, 0, RESET_QUERY, NO_DATA, Transport::Open)?;
+    answers(&rt, &mut cache, 0, RESET_QUERY, NO_DATA, Transport::Open)?;
     assert_eq!(rt;
-        taken(&rt, &mut cache, key)?.as_str(),
-        "010A00020000001800000008010200000000000800000000"
+        step(&mut cache, CacheEvent::Down(1)),
+        Err(CacheRefusal::NoClient)
     );
-    assert_eq!(rt; cache.transport(key), Transport::Open);
-    hear(&rt, &mut cache, key, "0102000000000008")?;
-    assert_eq!(rt;
-        taken(&rt, &mut cache, key)?.as_str(),
-        "010A00020000001800000008010200000000000800000000"
-    );
-    let other = up(&mut cache)?;
-    hear(&rt, &mut cache, other, "0002000000000008")?;
-    assert_eq!(rt;
-        taken(&rt, &mut cache, other)?.as_str(),
-        "010A00040000001800000008000200000000000800000000"
-    );
-    assert_eq!(rt; cache.transport(other), Transport::Closing);
-    hear(&rt, &mut cache, other, "0102000000000008")?;
-    assert_eq!(rt; taken(&rt, &mut cache, other)?.as_str(), "");
-    let down: CacheEvent<'_, Global> = CacheEvent::Down(other);
-    let _ = cache.step(down)?;
-    assert_eq!(rt; cache.transport(other), Transport::None);
-    let down: CacheEvent<'_, Global> = CacheEvent::Down(other);
-    assert_eq!(rt; cache.step(down), Err(CacheRefusal::NoClient));
+    Ok(())
+}
+
+#[test]
+fn another_version_closes_and_nothing_more_is_heard(rt: HostRuntime) -> Result<(), Fail> {
+    let mut cache = Cache::new(rt.alloc(), 7, INTERVALS)?;
+    let _ = step(&mut cache, CacheEvent::Up)?;
+    let report = "010A00040000001800000008000200000000000800000000";
+    answers(
+        &rt,
+        &mut cache,
+        0,
+        "0002000000000008",
+        report,
+        Transport::Closing,
+    )?;
+    answers(&rt, &mut cache, 0, RESET_QUERY, "", Transport::Closing)?;
+    let _ = step(&mut cache, CacheEvent::Down(0))?;
+    assert_eq!(rt; cache.transport(0), Transport::None);
+    assert_eq!(rt; cache.take(0, &mut [0]), Err(CacheRefusal::NoClient));
     Ok(())
 }
 
 #[test]
 fn a_kept_serial_gets_what_changed(rt: HostRuntime) -> Result<(), Fail> {
     let mut cache = Cache::new(rt.alloc(), 7, INTERVALS)?;
-    let other = payload(0x0A01_0000, 16, 16, 65003)?;
+    assert_eq!(rt; load(rt.alloc(), &mut cache, 1)?, Some(1));
+    assert_eq!(rt; load(rt.alloc(), &mut cache, 2)?, Some(2));
+    assert_eq!(rt; load(rt.alloc(), &mut cache, 2)?, Some(2));
+    let _ = step(&mut cache, CacheEvent::Up)?;
+    let change =
+        "01030007000000080104000000000014001818000A0001000000FDEA0104000000000014011818000A0002000000FDEA01070007000000180000000200000E100000025800001C20";
+    answers(
+        &rt,
+        &mut cache,
+        0,
+        "010100070000000C00000001",
+        change,
+        Transport::Open,
+    )?;
+    let nothing = "010300070000000801070007000000180000000200000E100000025800001C20";
+    answers(
+        &rt,
+        &mut cache,
+        0,
+        "010100070000000C00000002",
+        nothing,
+        Transport::Open,
+    )?;
+    answers(
+        &rt,
+        &mut cache,
+        0,
+        "010100070000000C00000000",
+        "0108000000000008",
+        Transport::Open,
+    )?;
+    Ok(())
+}
+
+// A client that has just come up is closed by these octets, and sent this report.
+fn closes(rt: &(impl AllocGlobal + Abort), octets: &str, report: &str) -> Result<(), Fail> {
+    let mut cache = Cache::new(rt.alloc(), 7, INTERVALS)?;
+    assert_eq!(rt; load(rt.alloc(), &mut cache, 1)?, Some(1));
+    let _ = step(&mut cache, CacheEvent::Up)?;
+    answers(rt, &mut cache, 0, octets, report, Transport::Closing)
+}
+
+// No query; a query of another session; a query while another is answered; an Error Report, which is never answered.
+#[test]
+fn what_cannot_be_answered_closes(rt: HostRuntime) -> Result<(), Fail> {
+    closes(
+        &rt,
+        "0108000000000008",
+        "010A00030000001800000008010800000000000800000000",
+    )?;
+    closes(
+        &rt,
+        "010100080000000C00000001",
+        "010A00000000001C0000000C010100080000000C0000000100000000",
+    )?;
+    closes(
+        &rt,
+        "01020000000000080102000000000008",
+        "010A00030000001800000008010200000000000800000000",
+    )?;
+    closes(&rt, "010A0002000000100000000000000000", "")
+}
+
+#[test]
+fn a_notify_goes_60_seconds_after_the_last(rt: HostRuntime) -> Result<(), Fail> {
+    let mut cache = Cache::new(rt.alloc(), 7, INTERVALS)?;
+    assert_eq!(rt; load(rt.alloc(), &mut cache, 1)?, Some(1));
+    let _ = step(&mut cache, CacheEvent::Up)?;
+    let nothing = "010300070000000801070007000000180000000100000E100000025800001C20";
+    answers(
+        &rt,
+        &mut cache,
+        0,
+        "010100070000000C00000001",
+        nothing,
+        Transport::Open,
+    )?;
+    assert_eq!(rt; load(rt.alloc(), &mut cache, 2)?, Some(2));
+    is_sent(&rt, &mut cache, 0, "010000070000000C00000002")?;
+    let _ = step(&mut cache, CacheEvent::Tick(59))?;
+    assert_eq!(rt; load(rt.alloc(), &mut cache, 3)?, Some(3));
+    is_sent(&rt, &mut cache, 0, "")?;
+    let _ = step(&mut cache, CacheEvent::Tick(60))?;
+    is_sent(&rt, &mut cache, 0, "010000070000000C00000003")?;
     assert_eq!(rt;
-        load(
-            &rt,
-            &mut cache,
-            &[payload(0x0A00_0000, 16, 24, 65002)?, other]
-        )?,
-        Some(1)
+        step(&mut cache, CacheEvent::Tick(59)),
+        Err(CacheRefusal::ClockBack)
     );
-    assert_eq!(rt;
-        load(
-            &rt,
-            &mut cache,
-            &[payload(0x0A00_0000, 16, 25, 65002)?, other]
-        )?,
-        Some(2)
-    );
-    let key = up(&mut cache)?;
-    hear(&rt, &mut cache, key, "010100070000000C00000001")?;
-    assert_eq!(rt;
-        taken(&rt, &mut cache, key)?.as_str(),
-        "01030007000000080104000000000014001018000A0000000000FDEA0104000000000014011019000A0000000000FDEA01070007000000180000000200000E100000025800001C20"
-    );
-    hear(&rt, &mut cache, key, "010100070000000C00000002")?;
-    assert_eq!(rt;
-        taken(&rt, &mut cache, key)?.as_str(),
-        "010300070000000801070007000000180000000200000E100000025800001C20"
-    );
-    hear(&rt, &mut cache, key, "010100070000000C00000000")?;
-    assert_eq!(rt; taken(&rt, &mut cache, key)?.as_str(), "0108000000000008");
+    Ok(())
+}
+
+#[test]
+fn as_many_clients_are_served_as_a_cache_holds(rt: HostRuntime) -> Result<(), Fail> {
+    let mut cache = Cache::new(rt.alloc(), 7, INTERVALS)?;
+    for _ in 0..CACHE_CLIENTS {
+        let _ = step(&mut cache, CacheEvent::Up)?;
+    }
+    assert_eq!(rt; step(&mut cache, CacheEvent::Up), Err(CacheRefusal::Full));
     Ok(())
 }
