@@ -1,7 +1,7 @@
 //! The table on its happy path, and a refused growth.
 use crate::AdjOut;
-use refusing::Refusing;
 use net_prefix::Prefix;
+use refusing::Refusing;
 use std::alloc::Allocator;
 use std::process::Abort;
 use std::test::Fail;
