@@ -1,5 +1,5 @@
 -- After each call every client is at rest.
-use Rattle.std.proofs.Common.{◌≡◌, ◌≢◌, ◌⊎◌, ◌+◌, ◌<◌, ℕ, List, [], ◌∷◌, Option, Some, None, IfSome, Result, Ok, Err, OnErr, inl, inr, drop, length, refl, subst, sym, ◌∙◌}
+use Rattle.std.proofs.Common.{◌≡◌, ◌⊎◌, ℕ, List, Option, Some, None, IfSome, Result, Ok, Err, OnErr, inl, inr, drop, refl, subst, sym}
 use Rattle.std.proofs.lemmas.Bool.{cases_eq}
 use Rattle.std.specs.Option.{option_map}
 use Rattle.rtr_codec.specs.CacheTable.{Conn, Shared, fresh_conn, hears_octets, notified, pumped}
