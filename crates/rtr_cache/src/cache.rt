@@ -28,11 +28,13 @@ pub struct Cache<A: Allocator = Global> {
 }
 
 impl<A: Allocator> Model for Cache<A> {
-    ghost use Rattle.rtr_cache.specs.CacheState.{CacheState};
+    ghost use Rattle.rtr_cache.specs.CacheState.{AllAreAtRest, CacheState};
 
     ghost Value = { CacheState };
 
     ghost view = { λ c. record { shared = c.publisher; clients = c.clients.slots } };
+
+    ghost invariant = { λ c. AllAreAtRest (record { shared = c.publisher; clients = c.clients.slots }) };
 }
 
 impl<A: Allocator + Clone> Cache<A> {
@@ -63,26 +65,18 @@ impl<A: Allocator + Clone> Cache<A> {
     ) -> Result<CacheReport, CacheRefusal>
         ensures does { Steps self.old event.entry result self.new }
         ensures err { OnErr result (self.new ≡ self.old) }
-        ensures rest { AllAreAtRest self.old → AllAreAtRest self.new }
+        ensures rest { AllAreAtRest self.new }
     {
-        self.happen(event)
-    }
-
-    // As below: the private method says what it does, and that clients are at rest follows from that.
-    fn happen<B: Allocator>(
-        &mut self,
-        event: CacheEvent<'_, B>,
-    ) -> Result<CacheReport, CacheRefusal>
-        ensures does { Steps self.old event.entry result self.new }
-        ensures err { OnErr result (self.new ≡ self.old) }
-    {
-        match event {
+        let result = match event {
             CacheEvent::Load(set) => self.load(set),
             CacheEvent::Up => self.come_up(),
             CacheEvent::Bytes(key, octets) => self.hear(key, octets),
             CacheEvent::Down(key) => self.go_down(key),
             CacheEvent::Tick(now) => self.tick(now),
-        }
+        };
+        // Each client is at rest between any two calls, and so here.
+        let _ = &self.clients;
+        result
     }
 
     /// Hands out the first octets that are queued to the client, as many as there are and fit, and answers how many.
@@ -90,15 +84,7 @@ impl<A: Allocator + Clone> Cache<A> {
         ensures does { HandsOut self.old key buf.old result buf.new self.new }
         ensures err { OnErr result (self.new ≡ self.old) }
         ensures nothing { OnErr result (buf.new ≡ buf.old) }
-        ensures rest { AllAreAtRest self.old → AllAreAtRest self.new }
-    {
-        self.hand_out(key, buf)
-    }
-
-    fn hand_out(&mut self, key: u64, buf: &mut [u8]) -> Result<usize, CacheRefusal>
-        ensures does { HandsOut self.old key buf.old result buf.new self.new }
-        ensures err { OnErr result (self.new ≡ self.old) }
-        ensures nothing { OnErr result (buf.new ≡ buf.old) }
+        ensures rest { AllAreAtRest self.new }
     {
         match self.clients.get_mut(key as usize) {
             Some(client) => Ok(client.take(buf)),
