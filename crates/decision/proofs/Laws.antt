@@ -6,12 +6,13 @@ use Rattle.decision.specs.declared.candidate.Candidate.{Candidate}
 use Rattle.decision.specs.Selection.{unbeaten, has_greater_degree, has_fewer_ases, has_lower_origin, is_external_alone, has_lower_cost, has_lower_identifier, has_lower_address, selection, IsSelected}
 use Rattle.decision.proofs.One.{Among, among_unbeaten, among_selection, before_address}
 
-at_among : (cs : List Candidate) (k : ℕ) (d : Candidate) → k < length cs → Among (slice_index_or cs k d) cs
+-- what stands at a place is a member
+pub at_among : (cs : List Candidate) (k : ℕ) (d : Candidate) → k < length cs → Among (slice_index_or cs k d) cs
 at_among [] k d h = absurd (omega arith)
 at_among (c ∷ cs) zero d h = inl refl
 at_among (c ∷ cs) (suc k) d h = inr (at_among cs k d (omega arith))
 
-contains_among : (cs : List Candidate) (x : Candidate) → Among x cs → Contains cs x
+pub contains_among : (cs : List Candidate) (x : Candidate) → Among x cs → Contains cs x
 contains_among [] x at = absurd at
 contains_among (c ∷ cs) x (inl is) = (0, omega arith, is)
 contains_among (c ∷ cs) x (inr at) =
@@ -36,7 +37,7 @@ filter_among p (c ∷ cs) x (inl is) e = subst (λ y. Among y (cond (p c) (c ∷
 filter_among p (c ∷ cs) x (inr at) e = kept_other (p c) c x (filter p cs) (filter_among p cs x at e)
 
 -- a member that no member beats is left
-unbeaten_among : (beats : Candidate → Candidate → Bool) (cs : List Candidate) (x : Candidate) → Among x cs → ((y : Candidate) → Among y cs → beats y x ≡ false) → Among x (unbeaten beats cs)
+pub unbeaten_among : (beats : Candidate → Candidate → Bool) (cs : List Candidate) (x : Candidate) → Among x cs → ((y : Candidate) → Among y cs → beats y x ≡ false) → Among x (unbeaten beats cs)
 unfolding unbeaten
 unbeaten_among beats cs x at none = filter_among (λ c. not (list_any (λ d. beats d c) cs)) cs x at (ap not (any_none (λ d. beats d x) cs none))
 
@@ -51,7 +52,7 @@ among_fewest cs x at =
     (among_unbeaten has_lower_cost _ x
     (among_unbeaten has_lower_identifier _ x at).0).0).0).0
 
-among_one : (cs : List Candidate) (x : Candidate) → IsSelected cs x → Among x (selection cs)
+pub among_one : (cs : List Candidate) (x : Candidate) → IsSelected cs x → Among x (selection cs)
 among_one cs x is = subst (Among x) (sym is) (inl refl)
 
 shortest_of : (cs : List Candidate) (x y : Candidate) → Among x (selection cs) → Among y cs → y.degree ≡ x.degree → x.path_length ≤ y.path_length

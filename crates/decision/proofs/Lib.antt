@@ -1,3 +1,4 @@
 pub mod Best
 pub mod One
 pub mod Laws
+pub mod SameMembers

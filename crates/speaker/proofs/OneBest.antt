@@ -1,10 +1,8 @@
-use Rattle.std.proofs.Common.{◌≡◌, ◌<◌, ◌||◌, ℕ, zero, suc, Bool, true, false, not, cond, inl, inr, List, [], ◌∷◌, Option, Some, None, MatchOption, Contains, filter, length, slice_index_or, arith, refl, sym, ap, ◌∙◌, subst}
-use Rattle.std.specs.List.{list_any}
+use Rattle.std.proofs.Common.{◌≡◌, ◌↔◌, ℕ, inl, inr, List, Option, Some, None, MatchOption, Contains, refl, sym, ap, ◌∙◌}
 use Rattle.bgp_attr.specs.PathAttributes.{PathAttributes}
-use Rattle.decision.specs.Selection.{unbeaten, has_greater_degree, has_fewer_ases, has_lower_origin, is_external_alone, has_lower_cost, has_lower_identifier, has_lower_address, selection}
 use Rattle.decision.specs.declared.candidate.Candidate.{Candidate}
 use Rattle.decision.proofs.Laws.{selected_member}
-use Rattle.decision.proofs.One.{Among, among_unbeaten}
+use Rattle.decision.proofs.SameMembers.{same_selected}
 use Rattle.export_rules.specs.Export.{export_at}
 use Rattle.export_rules.specs.declared.export.ExportPeer.{ExportPeer}
 use Rattle.net_prefix.specs.declared.prefix.Prefix.{Prefix}
@@ -15,79 +13,12 @@ use Rattle.speaker.specs.Tables.{Tables, best_at}
 
 -- A prefix has at most one best route, and one export to a peer.
 
-among_from_contains : (cs : List Candidate) (k : ℕ) (x : Candidate) → k < length cs → slice_index_or cs k x ≡ x → Among x cs
-among_from_contains [] k x within is = absurd (omega arith)
-among_from_contains (c ∷ cs) zero x within is = inl is
-among_from_contains (c ∷ cs) (suc k) x within is = inr (among_from_contains cs k x (omega arith) is)
-
-contains_from_among : (cs : List Candidate) (x : Candidate) → Among x cs → Contains cs x
-contains_from_among [] x at = absurd at
-contains_from_among (c ∷ cs) x (inl is) = (0, omega arith, is)
-contains_from_among (c ∷ cs) x (inr at) = let rest = contains_from_among cs x at in (suc rest.0, omega (arith, rest.1), rest.2)
-
-none_passes : (test : Candidate → Bool) (cs : List Candidate) → ((y : Candidate) → Among y cs → test y ≡ false) → list_any test cs ≡ false
-none_passes test [] none = refl
-none_passes test (c ∷ cs) none = ap (λ b. b || list_any test cs) (none c (inl refl)) ∙ none_passes test cs (λ y at. none y (inr at))
-
-left_first : (b : Bool) (c x : Candidate) (left : List Candidate) → b ≡ true → c ≡ x → Among x (cond b (c ∷ left) left)
-left_first true c x left passes is = inl is
-left_first false c x left passes is = cc
-
-left_later : (b : Bool) (c x : Candidate) (left : List Candidate) → Among x left → Among x (cond b (c ∷ left) left)
-left_later true c x left at = inr at
-left_later false c x left at = at
-
-among_left : (test : Candidate → Bool) (cs : List Candidate) (x : Candidate) → Among x cs → test x ≡ true → Among x (filter test cs)
-among_left test [] x at passes = absurd at
-among_left test (c ∷ cs) x (inl is) passes = left_first (test c) c x (filter test cs) (ap test is ∙ passes) is
-among_left test (c ∷ cs) x (inr at) passes = left_later (test c) c x (filter test cs) (among_left test cs x at passes)
-
--- a member that no member beats stays
-among_stays : (beats : Candidate → Candidate → Bool) (cs : List Candidate) (x : Candidate) → Among x cs → ((y : Candidate) → Among y cs → beats y x ≡ false) → Among x (unbeaten beats cs)
-unfolding unbeaten
-among_stays beats cs x at free = among_left (λ c. not (list_any (λ d. beats d c) cs)) cs x at (ap not (none_passes (λ d. beats d x) cs free))
-
--- the lists have the same members
-record SameMembers (cs ds : List Candidate) : Type 0 where
-  there : (x : Candidate) → Among x cs → Among x ds
-  back : (x : Candidate) → Among x ds → Among x cs
-
-stays_there : (beats : Candidate → Candidate → Bool) (cs ds : List Candidate) → SameMembers cs ds → (x : Candidate) → Among x (unbeaten beats cs) → Among x (unbeaten beats ds)
-stays_there beats cs ds same x at =
-    let left = among_unbeaten beats cs x at in
-    among_stays beats ds x (same.there x left.0) (λ y among. left.1 y (same.back y among))
-
-same_step : (beats : Candidate → Candidate → Bool) (cs ds : List Candidate) → SameMembers cs ds → SameMembers (unbeaten beats cs) (unbeaten beats ds)
-same_step beats cs ds same = record {
-  there = stays_there beats cs ds same;
-  back = stays_there beats ds cs (record { there = same.back; back = same.there });
-}
-
-same_selection : (cs ds : List Candidate) → SameMembers cs ds → SameMembers (selection cs) (selection ds)
-same_selection cs ds same =
-    same_step has_lower_address _ _
-    (same_step has_lower_identifier _ _
-    (same_step has_lower_cost _ _
-    (same_step is_external_alone _ _
-    (same_step has_lower_origin _ _
-    (same_step has_fewer_ases _ _
-    (same_step has_greater_degree cs ds same))))))
-
-one_among : (c d : Candidate) → Among c (d ∷ []) → c ≡ d
-one_among c d (inl is) = sym is
-one_among c d (inr at) = absurd at
-
-listed_there : (t : Tables) (prefix : Prefix) (cs ds : List Candidate) → AreCandidates t prefix cs → AreCandidates t prefix ds → (x : Candidate) → Among x cs → Among x ds
-listed_there t prefix cs ds are others x at =
-    let listed : Contains ds x = (others x).1 ((are x).0 (contains_from_among cs x at)) in
-    among_from_contains ds listed.0 x listed.1 listed.2
+same_candidates : (t : Tables) (prefix : Prefix) (cs ds : List Candidate) → AreCandidates t prefix cs → AreCandidates t prefix ds → (x : Candidate) → Contains cs x ↔ Contains ds x
+same_candidates t prefix cs ds are others x = (λ at. (others x).1 ((are x).0 at), λ at. (are x).1 ((others x).0 at))
 
 -- a prefix has at most one best route
 pub same_best : (t : Tables) (prefix : Prefix) (c d : Candidate) → IsBest t prefix c → IsBest t prefix d → c ≡ d
-same_best t prefix c d best other =
-    let same = same_selection best.0 other.0 (record { there = listed_there t prefix best.0 other.0 best.1 other.1; back = listed_there t prefix other.0 best.0 other.1 best.1 }) in
-    let selected : Among c (selection best.0) = subst (λ left. Among c left) (sym best.2) (inl refl) in
-    one_among c d (subst (λ left. Among c left) other.2 (same.there c selected))
+same_best t prefix c d best other = same_selected best.0 other.0 c d (same_candidates t prefix best.0 other.0 best.1 other.1) best.2 other.2
 
 -- a best route is a candidate
 pub best_is_candidate : (t : Tables) (prefix : Prefix) (c : Candidate) → IsBest t prefix c → IsCandidate t prefix c
