@@ -1,5 +1,5 @@
 //! A list of events, played on a new speaker.
-ghost use Rattle.std.specs.Prelude.{◌≡◌, ◌⊎◌, true, IfErr, IfOk, IsErr};
+ghost use Rattle.std.specs.Prelude.{◌≡◌, ◌⊎◌, ◌↔◌, true, IfErr, IfOk};
 ghost use Rattle.speaker.specs.Agreement.{IsPlayed};
 ghost use Rattle.speaker.specs.SpeakerState.{is_out_of_range};
 
@@ -25,19 +25,18 @@ pub fn run<A: Allocator + Clone>(
 ) -> Result<Trace<A>, Refusal>
     // The answers lead to a run that the speaker agrees with, as far as want of memory has not stopped it.
     ensures played { IfOk result (λ trace. IsPlayed config events.now trace.answers.items trace.speaker) }
-    // Where the settings are out of range there is no run, and 33 tells that and nothing else.
-    ensures refused { is_out_of_range config ≡ true → IsErr result }
-    ensures range { result ≡ Err Refusal.Range → is_out_of_range config ≡ true }
+    // 33 is the answer exactly where the settings are out of range.
+    ensures range { (result ≡ Err Refusal.Range) ↔ (is_out_of_range config ≡ true) }
     ensures err { IfErr result (λ why. (why ≡ Refusal.Range) ⊎ (why ≡ Refusal.NoMemory)) }
 {
-    let Ok(for_speaker) = alloc.clone() else {
-        return Err(Refusal::NoMemory);
-    };
-    let mut speaker = match Speaker::new(for_speaker, config) {
+    let mut speaker = match Speaker::new(alloc, config) {
         Ok(speaker) => speaker,
         Err(refused) => return Err(refused),
     };
-    let mut answers = Vec::new(alloc);
+    let Ok(for_answers) = speaker.alloc.clone() else {
+        return Err(Refusal::NoMemory);
+    };
+    let mut answers = Vec::new(for_answers);
     for event in events {
         let answer = speaker.step(*event);
         if answers.push(answer).is_err() {
