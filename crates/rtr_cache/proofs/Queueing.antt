@@ -1,8 +1,9 @@
 -- What queueing makes of a connection.
 use Rattle.std.proofs.Common.{◌≡◌, ◌≤◌, ℕ, Bool, true, false, List, [], ◌∷◌, refl, ap, sym, ◌∙◌, lit≤, if◌then◌else◌}
 use Rattle.rtr_codec.specs.CacheTable.{Conn, Shared, has_room, notified, pumped, queued, queues, wants_notify}
-use Rattle.rtr_codec.specs.PduSpelling.{Content, Serial_notify, Serial_query, Reset_query, Cache_response, Announce, Withdraw, Ipv6_prefix, End_of_data, Cache_reset, Router_key, Error_report, length_of}
+use Rattle.rtr_codec.specs.PduSpelling.{Content, Cache_response, Announce, Withdraw, End_of_data, length_of}
 use Rattle.rtr_codec.specs.Receiving.{Reception}
+use Rattle.rtr_codec.proofs.Queueing.{same-queues}
 use Rattle.rtr_cache.specs.Sending.{IsReceiving, Sending, conn_of, said}
 use Rattle.rtr_cache.specs.Unsaid.{IsResponsePart}
 
@@ -32,11 +33,7 @@ pumped-said is_first unread s content rest room first =
     queues-left (queued (conn_of is_first unread s) content) rest rest
     ∙ sym (with_contents (conn_of is_first unread s) s.left (content ∷ rest) first ∙ first_queued (has_room s.ring) _ _ room)
 
--- with nothing left, and with no room, all stays
-pub pumped-idle : (is_first : Bool) (unread : List ℕ) (s : Sending) → s.left ≡ [] → pumped (conn_of is_first unread s) ≡ conn_of is_first unread s
-pumped-idle is_first unread s nothing =
-    with_contents (conn_of is_first unread s) s.left [] nothing ∙ ap (λ (left : List Content). record (conn_of is_first unread s) { left = left }) (sym nothing)
-
+-- with no room all stays
 full : (b : Bool) (x y : Conn) → b ≡ false → (if b then x else y) ≡ y
 full true x y room = cc
 full false x y room = refl
@@ -53,13 +50,6 @@ either_open : (b is_open : Bool) (x y : Conn) → x.is_open ≡ is_open → y.is
 either_open true is_open x y first second = first
 either_open false is_open x y first second = second
 
-queues-open : (conn : Conn) (contents : List Content) → (queues conn contents).is_open ≡ conn.is_open
-queues-open conn [] = refl
-queues-open conn (content ∷ contents) = either_open (has_room conn.ring) conn.is_open _ _ (queues-open (queued conn content) contents) refl
-
-pumped-open : (conn : Conn) → (pumped conn).is_open ≡ conn.is_open
-pumped-open conn = queues-open conn conn.left
-
 notified-open : (shared : Shared) (conn : Conn) → (notified shared conn).is_open ≡ conn.is_open
 notified-open shared conn = either_open (wants_notify shared conn) conn.is_open _ _ refl refl
 
@@ -71,7 +61,7 @@ still_receiving r old new receiving same = record {
 }
 
 pub pumped_same_open : (old new : Sending) → conn_of false [] new ≡ pumped (conn_of false [] old) → new.is_open ≡ old.is_open
-pumped_same_open old new is = ap (λ (conn : Conn). conn.is_open) is ∙ pumped-open (conn_of false [] old)
+pumped_same_open old new is = ap (λ (conn : Conn). conn.is_open) is ∙ (same-queues (conn_of false [] old) old.left).0
 
 pub notified_same_open : (shared : Shared) (old new : Sending) → conn_of false [] new ≡ notified shared (conn_of false [] old) → new.is_open ≡ old.is_open
 notified_same_open shared old new is = ap (λ (conn : Conn). conn.is_open) is ∙ notified-open shared (conn_of false [] old)
@@ -82,10 +72,4 @@ part_is_short (Cache_response session) part = lit≤ tt
 part_is_short (Announce payload) part = lit≤ tt
 part_is_short (Withdraw payload) part = lit≤ tt
 part_is_short (End_of_data session serial intervals) part = lit≤ tt
-part_is_short (Serial_notify session serial) part = absurd part
-part_is_short (Serial_query session serial) part = absurd part
-part_is_short Reset_query part = absurd part
-part_is_short (Ipv6_prefix body) part = absurd part
-part_is_short Cache_reset part = absurd part
-part_is_short (Router_key body) part = absurd part
-part_is_short (Error_report code quoted) part = absurd part
+part_is_short content part = absurd part

@@ -11,9 +11,9 @@ use Rattle.rtr_codec.specs.declared.reading.Step.TheVariants.{Need, Whole, Fault
 use Rattle.rtr_codec.specs.PduContents.{content_at, content_by, kind_at, told_length}
 use Rattle.rtr_codec.specs.PduFaults.{header_fault}
 use Rattle.rtr_codec.specs.PduSpelling.{Content, content_of}
-use Rattle.rtr_codec.specs.PduStream.{Item, FaultyPdu, HasFault, Tells, IsFront, item_with, meaning, needed_of, pdus_from, unread_from}
+use Rattle.rtr_codec.specs.PduStream.{Item, FaultyPdu, HasFault, Tells, IsFront, Wants, item_with, meaning, needed_of, pdus_from, unread_from}
 use Rattle.rtr_codec.specs.PduTypes.{type_of}
-use Rattle.rtr_codec.specs.Receiving.{IsOneAtMost, UsesAll, item_shown}
+use Rattle.rtr_codec.specs.Receiving.{IsOneAtMost, Reception, UsesAll, item_shown, passed_by}
 use Rattle.rtr_codec.proofs.Streams.{Ended, told_length-append, told_length-bounds, header_fault-append, meaning-fault, meaning-whole, meaning-cut, meaning-past, some_is_not_none, item-then, wants-then, wants_none, fault_ends, becomes, needed-item}
 
 -- A reader's answer, and the stream.
@@ -164,5 +164,9 @@ one_at_most_push place part octets count (inr h) fits =
     let same : part ++ take count octets ≡ part = ap (λ (n : ℕ). part ++ take n octets) nothing ∙ append-nil part in
     inr (h.0, ap (meaning place) same ∙ h.1)
 
-pub one_at_most_start : (place : Place) → IsOneAtMost (record { place = place; part = [] })
-one_at_most_start place = inl (inl (omega arith))
+-- once the item is passed, where one stands there, more octets are wanted
+pub wants_passed :
+    (r : Reception) (found : Option Item) → IsOneAtMost r → meaning r.place r.part ≡ found → Wants (passed_by r found).place (passed_by r found).part
+wants_passed r None (inl wants) none = wants
+wants_passed r None (inr item) none = absurd (some_is_not_none _ item.0 item.1 none)
+wants_passed r (Some item) one is_item = inl (omega arith)

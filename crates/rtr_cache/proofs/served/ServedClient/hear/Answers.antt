@@ -1,7 +1,7 @@
 use Rattle.std.proofs.Common.{◌≡◌, false, [], List, ℕ, refl, sym, ap, ◌∙◌, arith}
 use Rattle.std.proofs.lemmas.Grind.{common_steps}
 use Rattle.rtr_codec.specs.CacheTable.{hears_octets}
-use Rattle.rtr_cache.proofs.Hearing.{hears_octets-closed, hears_octets-nothing}
+use Rattle.rtr_codec.proofs.CacheSteps.{hears_octets-closed, hears_octets-nil}
 use Rattle.rtr_cache.proofs.served.ServedClient.hear.Goals as goal
 
 pub loop-rest-init : goal.loop-rest-init
@@ -17,7 +17,7 @@ pub returns-else-not-is_empty : goal.returns-else-not-is_empty
 returns-else-not-is_empty g c =
     let before = c.loop-rest.invariant [] in
     let nothing : c.loop-rest.rest.now ≡ [] = grind (arith, common_steps) in
-    (before.0, sym (before.1 ∙ ap (λ (rest : List ℕ). hears_octets c.args.publisher.now [] c.loop-rest.self rest) nothing ∙ hears_octets-nothing c.args.publisher.now [] c.loop-rest.self))
+    (before.0, sym (before.1 ∙ ap (λ (rest : List ℕ). hears_octets c.args.publisher.now [] c.loop-rest.self rest) nothing ∙ hears_octets-nil c.args.publisher.now [] c.loop-rest.self))
 
 pub returns-after-loop-rest : goal.returns-after-loop-rest
 returns-after-loop-rest g c =
