@@ -9,21 +9,13 @@ use Rattle.bgp_msg.specs.declared.open_message.Expected.{Expected}
 use Rattle.bgp_msg.specs.MessageSpelling.{Part, part_at, before, parts_within, parts_of, parts_form, or_else, asn_told, first_asn, capabilities_of}
 use Rattle.bgp_msg.specs.MessageFaults.{first_fault, is_other, has_other_parameter, hold_time_at, identifier_at, open_fault}
 use Rattle.bgp_msg.specs.OpenParts.{parameters_behind, parameters_of, told_fault, proposal_fault, fault_found}
-use Rattle.bgp_msg.proofs.OpenParts.{parts_of-step, parts_of-cut}
+use Rattle.bgp_msg.proofs.OpenParts.{parts_of-step, parts_of-cut, or_else-assoc, or_else-none}
 
 -- The reader of an OPEN finds its first fault.
 
 -- what capabilities tell behind others
 abbrev told_with : Bool → Option ℕ → List Part → Bool × Option ℕ
 told_with only asn capabilities = (only, or_else asn (first_asn capabilities))
-
-or_else-assoc : (a b c : Option ℕ) → or_else (or_else a b) c ≡ or_else a (or_else b c)
-or_else-assoc None b c = refl
-or_else-assoc (Some x) b c = refl
-
-or_else-none : (a : Option ℕ) → or_else a None ≡ a
-or_else-none None = refl
-or_else-none (Some x) = refl
 
 first_asn-append : (capabilities more : List Part) → first_asn (capabilities ++ more) ≡ or_else (first_asn capabilities) (first_asn more)
 first_asn-append [] more = refl

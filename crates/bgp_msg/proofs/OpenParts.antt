@@ -60,11 +60,11 @@ parts_of-nil (o ∷ os) h =
     let k : length (o ∷ os) ≡ 0 = eqb-true _ _ (sym h) in
     absurd (omega (arith, k))
 
-or_else-assoc : (a b c : Option ℕ) → or_else (or_else a b) c ≡ or_else a (or_else b c)
+pub or_else-assoc : (a b c : Option ℕ) → or_else (or_else a b) c ≡ or_else a (or_else b c)
 or_else-assoc None b c = refl
 or_else-assoc (Some x) b c = refl
 
-or_else-none : (a : Option ℕ) → or_else a None ≡ a
+pub or_else-none : (a : Option ℕ) → or_else a None ≡ a
 or_else-none None = refl
 or_else-none (Some x) = refl
 

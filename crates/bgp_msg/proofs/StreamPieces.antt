@@ -1,7 +1,8 @@
-use Rattle.std.proofs.Common.{◌≡◌, ℕ, List, [], ◌∷◌, ◌++◌, Option, Some, None, refl, ap, sym, ◌∙◌}
+use Rattle.std.proofs.Common.{◌≡◌, ℕ, List, [], ◌∷◌, ◌++◌, Option, Some, None, refl, ap, sym, ◌∙◌, append-nil}
 use Rattle.std.specs.List.{concat}
 use Rattle.bgp_msg.proofs.Streams.{unread-unread}
-use Rattle.bgp_msg.specs.MessageStream.{Item, completed, left_over, with_front, messages_from, unread_from, messages, unread, messages_of_pieces, unread_of_pieces}
+use Rattle.bgp_msg.specs.declared.frame.MessageType.{MessageType}
+use Rattle.bgp_msg.specs.MessageStream.{Item, WholeMessage, IsReadFirst, completed, left_over, with_front, messages_from, unread_from, messages, unread, messages_of_pieces, unread_of_pieces}
 
 -- A stream goes on where it stopped.
 
@@ -51,6 +52,13 @@ unread-nil = refl
 pub messages-nil : messages [] ≡ []
 unfolding messages
 messages-nil = refl
+
+-- octets that are read as a message, whatever follows them, are read as it alone
+pub read_alone : (octets : List ℕ) (kind : MessageType) (body : List ℕ) → IsReadFirst octets kind body → (messages octets ≡ WholeMessage kind body ∷ []) × (unread octets ≡ [])
+read_alone octets kind body h = (
+  ap messages (sym (append-nil octets)) ∙ (h []).0 ∙ ap (λ (items : List Item). WholeMessage kind body ∷ items) messages-nil,
+  ap unread (sym (append-nil octets)) ∙ (h []).1 ∙ unread-nil,
+)
 
 pieces_from : (part : List ℕ) (pieces : List (List ℕ)) → (messages_of_pieces part pieces ≡ messages_from part (concat pieces)) × (unread_of_pieces part pieces ≡ unread_from part (concat pieces))
 pieces_from part [] = (refl, refl)

@@ -155,6 +155,9 @@ wants_by_length front back false is_long (inr h) =
 pub wants_none : (octets front back : List ℕ) → Wants octets → octets ≡ front ++ back → meaning front ≡ None
 wants_none octets front back h e = wants_by_length front back _ refl (subst Wants e h)
 
+pub meaning-wants : (octets : List ℕ) → Wants octets → meaning octets ≡ None
+meaning-wants octets h = wants_none octets octets [] h (sym (append-nil octets))
+
 none_whole :
     (part octets : List ℕ) → Wants (part ++ octets) → (messages_from part octets ≡ []) × (unread_from part octets ≡ part ++ octets)
 none_whole part [] h = (refl, sym (append-nil part))
@@ -170,7 +173,7 @@ past_header octets fault long faulty =
     meaning-long octets (omega (arith, long)) ∙ ap (item_of octets) faulty
     ∙ rw (ne_eqb (length octets) 19 (λ e. omega (arith, e, long))) refl
 
-at_header : (octets : List ℕ) (fault : HeaderFault) → length octets ≡ 19 → header_fault octets ≡ Some fault → meaning octets ≡ Some (FaultyHeader fault)
+pub at_header : (octets : List ℕ) (fault : HeaderFault) → length octets ≡ 19 → header_fault octets ≡ Some fault → meaning octets ≡ Some (FaultyHeader fault)
 at_header octets fault nineteen faulty =
     meaning-long octets (omega (arith, nineteen)) ∙ ap (item_of octets) faulty ∙ rw (eq-eqb (length octets) 19 nineteen) refl
 
@@ -258,7 +261,7 @@ sound_if_wanted : (octets : List ℕ) → Wants octets → 19 ≤ length octets 
 sound_if_wanted octets (inl few) whole = absurd (omega (arith, few, whole))
 sound_if_wanted octets (inr h) whole = h.1
 
-some_is_not_none : {X : Type 0} (found : Option X) (x : X) → found ≡ Some x → found ≡ None → ⊥
+pub some_is_not_none : {X : Type 0} (found : Option X) (x : X) → found ≡ Some x → found ≡ None → ⊥
 some_is_not_none found x e f = absurd cc
 
 pub none-from_wants : (octets : List ℕ) → Wants octets → HasNoItem octets
@@ -281,7 +284,7 @@ split stream (FaultyHeader fault ∷ items) rest h =
     (ap (λ (x : List Item). FaultyHeader fault ∷ x) h.0 ∙ sym found.0, sym h.1 ∙ sym found.1)
 
 -- what one more octet makes of a rest that wants more: still such a rest, a message, or a faulty header
-abbrev Becomes : List ℕ → Type 0
+abbrev pub Becomes : List ℕ → Type 0
 Becomes octets =
     Wants octets
     ⊎ (((kind : MessageType) × IsMessage octets kind (drop 19 octets))
@@ -340,7 +343,7 @@ splits_step :
     → Splits_from part (octet ∷ octets)
 splits_step part octets octet (inl h) again anew =
     let all : (part ++ octet ∷ []) ++ octets ≡ part ++ octet ∷ octets = append_assoc part (octet ∷ []) octets in
-    let none : meaning (part ++ octet ∷ []) ≡ None = wants_none (part ++ octet ∷ []) (part ++ octet ∷ []) [] h (sym (append-nil (part ++ octet ∷ []))) in
+    let none : meaning (part ++ octet ∷ []) ≡ None = meaning-wants (part ++ octet ∷ []) h in
     let rest = subst (λ (x : List ℕ). Splits x (messages_from (part ++ octet ∷ []) octets) (unread_from (part ++ octet ∷ []) octets)) all (again h) in
     rw (none, messages_from, unread_from) rest
 splits_step part octets octet (inr (inl h)) again anew =

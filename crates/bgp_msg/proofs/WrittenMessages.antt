@@ -8,7 +8,7 @@ use Rattle.bgp_msg.specs.declared.frame.MessageType.TheVariants.{Open, Update, K
 use Rattle.bgp_msg.specs.declared.open_message.Expected.{Expected}
 use Rattle.bgp_msg.specs.MessageSpelling.{Part, is_lawful_length, header_of, message_of, marker, open_of, open_body, update_of, update_body, update_parts, update_parts_behind, counted_at, parts_within, parameters_at, capabilities_at, asn_at, first_asn}
 use Rattle.bgp_msg.specs.MessageFaults.{has_other_parameter, hold_time_at, identifier_at, open_fault}
-use Rattle.bgp_msg.specs.MessageStream.{IsReadFirst}
+use Rattle.bgp_msg.specs.MessageStream.{IsMessage, IsReadFirst}
 use Rattle.bgp_msg.proofs.Streams.{message-then}
 use Rattle.bgp_msg.proofs.Spellings.{spelling_is_message}
 
@@ -110,14 +110,20 @@ update_is withdrawn attributes announced =
     ap (λ (n : ℕ). header_of Update n ++ body) count
     ∙ sym (regroup (header_of Update (23 + length withdrawn + length attributes + length announced)) (to_be_bytes w16 (length withdrawn)) withdrawn (to_be_bytes w16 (length attributes)) attributes announced)
 
-pub update_first :
+pub update_is_message :
     (withdrawn attributes announced : List ℕ) → 23 + length withdrawn + length attributes + length announced ≤ 4096
-    → IsReadFirst (update_of withdrawn attributes announced) Update (update_body withdrawn attributes announced)
-update_first withdrawn attributes announced fits =
+    → IsMessage (update_of withdrawn attributes announced) Update (update_body withdrawn attributes announced)
+update_is_message withdrawn attributes announced fits =
     let body = update_body withdrawn attributes announced in
     let count = update_length withdrawn attributes announced in
     let may : is_lawful_length Update (19 + length (update_body withdrawn attributes announced)) ≡ true = le-leb 23 _ (omega (arith, count)) in
-    subst (λ (x : List ℕ). IsReadFirst x Update body) (update_is withdrawn attributes announced) (written_first Update body may (omega (arith, count, fits)))
+    subst (λ (x : List ℕ). IsMessage x Update body) (update_is withdrawn attributes announced) (spelling_is_message Update body may (omega (arith, count, fits)))
+
+pub update_first :
+    (withdrawn attributes announced : List ℕ) → 23 + length withdrawn + length attributes + length announced ≤ 4096
+    → IsReadFirst (update_of withdrawn attributes announced) Update (update_body withdrawn attributes announced)
+update_first withdrawn attributes announced fits = λ more.
+    message-then (update_of withdrawn attributes announced) more Update (update_body withdrawn attributes announced) (update_is_message withdrawn attributes announced fits)
 
 two_octets : (n : ℕ) → n < 2 ^ 16 → n / 256 % 256 * 256 + n % 256 ≡ n
 two_octets n small = omega arith

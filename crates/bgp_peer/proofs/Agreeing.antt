@@ -9,7 +9,7 @@ use Rattle.bgp_msg.specs.declared.frame.MessageType.TheVariants.{Update}
 use Rattle.bgp_msg.specs.declared.open_message.Open.{Open as OpenMessage}
 use Rattle.bgp_msg.specs.MessageStream.{Item, WholeMessage, FaultyHeader, completed, left_over, unread}
 use Rattle.bgp_msg.proofs.Streams.{message-then}
-use Rattle.bgp_msg.proofs.StreamPieces.{unread-push, unread-anew, unread-nil}
+use Rattle.bgp_msg.proofs.StreamPieces.{unread-push, unread-anew, unread-nil, read_alone}
 use Rattle.bgp_fsm.specs.declared.state.State.TheVariants.{Established}
 use Rattle.bgp_fsm.specs.declared.input.Input.{Input}
 use Rattle.bgp_fsm.specs.declared.input.Input.TheVariants.{Start, Up, Fail}
@@ -159,7 +159,7 @@ agrees-input h p part octet item connected some a =
 
 -- an UPDATE is a whole message
 pub update_whole : (update : List ℕ) → IsUpdateMessage update → unread update ≡ []
-update_whole update u = ap unread (sym (append-nil update)) ∙ (message-then update [] Update u.0 u.1).1 ∙ unread-nil
+update_whole update u = (read_alone update Update u.0 (λ more. message-then update more Update u.0 u.1)).1
 
 -- an UPDATE is queued
 pub agrees-queue :

@@ -1,13 +1,9 @@
 -- While its connection stands, a history leaves a stream with no item at its front.
-use Rattle.std.proofs.Common.{◌≡◌, ℕ, List, [], ◌∷◌, ◌++◌, Option, Some, None, ◌⊎◌, inl, inr, length, drop, refl, ap, sym, subst, ◌∙◌, arith}
+use Rattle.std.proofs.Common.{◌≡◌, ℕ, List, [], ◌∷◌, ◌++◌, Option, Some, None, inl, inr, drop, refl, ap, sym, subst, ◌∙◌, arith}
 use Rattle.std.specs.Option.{option_map}
-use Rattle.std.proofs.lemmas.Bool.{le-ltb, eq-eqb}
 use Rattle.net_prefix.specs.declared.transport.Transport.TheVariants.{Open as Connected}
-use Rattle.bgp_msg.specs.declared.frame.MessageType.{MessageType}
-use Rattle.bgp_msg.specs.declared.fault.HeaderFault.{HeaderFault}
-use Rattle.bgp_msg.specs.MessageFaults.{header_fault}
-use Rattle.bgp_msg.specs.MessageStream.{Item, WholeMessage, FaultyHeader, Wants, IsMessage, meaning, completed, left_over, unread}
-use Rattle.bgp_msg.proofs.Streams.{becomes, meaning-message}
+use Rattle.bgp_msg.specs.MessageStream.{Item, WholeMessage, FaultyHeader, Wants, meaning, completed, left_over, unread}
+use Rattle.bgp_msg.proofs.Streams.{Becomes, becomes, meaning-message, at_header, some_is_not_none}
 use Rattle.bgp_msg.proofs.StreamPieces.{unread-push, unread-nil}
 use Rattle.bgp_fsm.specs.declared.input.Input.{Input}
 use Rattle.bgp_fsm.specs.declared.session.Session.{Session}
@@ -33,26 +29,16 @@ session-octet h octet = with_input-after (terms_of h) (input_at h octet) (inputs
 pub wants-nil : Wants []
 wants-nil = inl (omega arith)
 
--- a faulty header is an item with its last octet
-pub at_header : (octets : List ℕ) (fault : HeaderFault) → length octets ≡ 19 → header_fault octets ≡ Some fault → meaning octets ≡ Some (FaultyHeader fault)
-unfolding meaning
-at_header octets fault nineteen faulty = rw (le-ltb (length octets) 19 (omega (arith, nineteen)), faulty, eq-eqb (length octets) 19 nineteen) refl
-
 -- one more octet, and still nothing is whole
 pub wants-more : (part : List ℕ) (octet : ℕ) → Wants part → completed part octet ≡ None → Wants (part ++ octet ∷ [])
 wants-more part octet h none = still (part ++ octet ∷ []) (becomes part octet h) none
   where
-    still :
-        (octets : List ℕ)
-        → (Wants octets ⊎ (((kind : MessageType) × IsMessage octets kind (drop 19 octets)) ⊎ ((fault : HeaderFault) × (length octets ≡ 19) × (header_fault octets ≡ Some fault))))
-        → meaning octets ≡ None → Wants octets
+    still : (octets : List ℕ) → Becomes octets → meaning octets ≡ None → Wants octets
     still octets (inl k) none = k
     still octets (inr (inl k)) none =
-        let whole : meaning octets ≡ Some (WholeMessage k.0 (drop 19 octets)) = meaning-message _ _ _ k.1 in
-        cc
+        absurd (some_is_not_none _ _ (meaning-message octets k.0 (drop 19 octets) k.1) none)
     still octets (inr (inr k)) none =
-        let faulty : meaning octets ≡ Some (FaultyHeader k.0) = at_header octets k.0 k.1 k.2 in
-        cc
+        absurd (some_is_not_none _ _ (at_header octets k.0 k.1 k.2) none)
 
 -- what one more octet leaves unread of a stream whose connection still stands
 after_octet :

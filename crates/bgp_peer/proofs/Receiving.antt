@@ -1,29 +1,24 @@
 -- Octets up to the end of the item at the front of a stream.
-use Rattle.std.proofs.Common.{◌≡◌, ◌+◌, ◌-◌, ◌≤◌, ◌<◌, ℕ, List, [], ◌∷◌, ◌++◌, Some, None, inl, inr, length, take, drop, refl, ap, sym, subst, ◌∙◌, arith, append_assoc, append-nil, length-append, length-drop}
-use Rattle.std.proofs.lemmas.Bool.{le-ltb, lt-ltb}
+use Rattle.std.proofs.Common.{◌≡◌, ◌+◌, ◌-◌, ◌≤◌, ◌<◌, ℕ, List, [], ◌∷◌, ◌++◌, Some, None, inl, inr, length, refl, ap, sym, subst, ◌∙◌, arith, append_assoc, append-nil, length-append}
 use Rattle.std.proofs.lemmas.List.{take_all}
 use Rattle.net_prefix.specs.declared.transport.Transport.TheVariants.{Open as Connected}
 use Rattle.bgp_msg.specs.declared.fault.HeaderFault.{HeaderFault}
+use Rattle.bgp_msg.specs.declared.frame.Frame.{Frame}
 use Rattle.bgp_msg.specs.declared.frame.Step.{Step}
 use Rattle.bgp_msg.specs.declared.frame.Step.TheVariants.{Need, Message, Faulty}
 use Rattle.bgp_msg.specs.MessageSpelling.{told_length}
 use Rattle.bgp_msg.specs.MessageFaults.{header_fault}
-use Rattle.bgp_msg.specs.MessageStream.{Item, Wants, Tells, meaning, needed_of}
-use Rattle.bgp_msg.proofs.Streams.{wants_none, meaning-message, told_length-append, header_fault-append}
+use Rattle.bgp_msg.specs.MessageStream.{Item, IsMessage, Wants, Tells, meaning, needed_of}
+use Rattle.bgp_msg.proofs.Streams.{meaning-wants, meaning-message, at_header, told_length-append, header_fault-append}
+use Rattle.bgp_msg.proofs.ReaderAnswers.{answer_is_message}
 use Rattle.bgp_fsm.specs.declared.input.Input.{Input}
 use Rattle.bgp_fsm.specs.Transports.{transport_of}
 use Rattle.bgp_peer.specs.Slot.{Slot, pushed, taken_input, IsWholeRest, item_of_step}
 use Rattle.bgp_peer.specs.SessionInputs.{Event, Octet, session, onto, terms_of, input_of}
 use Rattle.bgp_peer.specs.Agreement.{PeerAgrees, IsHearing, holding}
-use Rattle.bgp_peer.proofs.Connections.{connected_wants, at_header}
+use Rattle.bgp_peer.proofs.Connections.{connected_wants}
+use Rattle.bgp_peer.proofs.Rests.{needed-short, needed-long}
 use Rattle.bgp_peer.proofs.Agreeing.{agrees-octet, agrees-input}
-
--- what is wanted, by cases: of a header, or behind a header without a fault
-needed-short : (octets : List ℕ) → length octets < 19 → needed_of octets ≡ 19 - length octets
-needed-short octets short = rw (lt-ltb (length octets) 19 short) refl
-
-needed-long : (octets : List ℕ) → 19 ≤ length octets → header_fault octets ≡ None → needed_of octets ≡ told_length octets - length octets
-needed-long octets whole sound = rw (le-ltb (length octets) 19 whole, sound) refl
 
 -- where more than one octet is wanted, one octet leaves all but one wanted
 pub needed-push :
@@ -65,7 +60,7 @@ heard-one h p octet connected a = (
 
 heard-nothing : (h : List Event) (p : Slot) → Wants p.rest → PeerAgrees h p → HasHeard h p
 heard-nothing h p wants a =
-    let none : meaning p.rest ≡ None = wants_none p.rest p.rest [] wants (sym (append-nil p.rest)) in
+    let none : meaning p.rest ≡ None = meaning-wants p.rest wants in
     (λ e. a, λ item some. cc)
 
 heard-wanted :
@@ -76,7 +71,7 @@ heard-wanted h p (octet ∷ []) connected wants few a = heard-one h p octet conn
 heard-wanted h p (octet ∷ next ∷ octets) connected wants few a =
     let more : 1 < needed_of p.rest = omega (arith, few) in
     let step = needed-push p.rest octet wants more in
-    let none : meaning (p.rest ++ octet ∷ []) ≡ None = wants_none (p.rest ++ octet ∷ []) (p.rest ++ octet ∷ []) [] step.0 (sym (append-nil (p.rest ++ octet ∷ []))) in
+    let none : meaning (p.rest ++ octet ∷ []) ≡ None = meaning-wants (p.rest ++ octet ∷ []) step.0 in
     let fewer : length (next ∷ octets) ≤ needed_of (p.rest ++ octet ∷ []) = omega (arith, few, step.1) in
     subst (λ rest. HasHeard (onto (next ∷ octets) (Octet octet ∷ h)) (holding rest p)) (append_assoc p.rest (octet ∷ []) (next ∷ octets))
     (heard-wanted (Octet octet ∷ h) (pushed p (octet ∷ [])) (next ∷ octets) connected step.0 fewer (agrees-octet h p octet connected none a))
@@ -104,19 +99,17 @@ agrees-hearing h p item input hearing is =
     subst (λ (x : List Event). PeerAgrees x (taken_input p (input_of p.session.state (terms_of x) item))) (sym hearing.history_is) taken in
     subst (λ (x : Input). PeerAgrees h (taken_input p x)) (sym is) so
 
+-- a message that uses the whole rest is the rest
+whole_answer : (rest : List ℕ) (frame : Frame) (used : ℕ) → Tells rest (Message frame used) → used ≡ length rest → IsMessage rest frame.kind frame.body.now
+whole_answer rest frame used h whole =
+    subst (λ (x : List ℕ). IsMessage x frame.kind frame.body.now) (take_all used rest (omega (arith, whole))) (answer_is_message rest frame used h)
+
 -- a reader's answer is the item that the rest is, where the rest goes no further
 pub front-item :
     (rest : List ℕ) (step : Step) → Tells rest step → IsWholeRest rest step
     → ((fault : HeaderFault) → 19 ≤ length rest → header_fault rest ≡ Some fault → length rest ≡ 19)
     → meaning rest ≡ item_of_step step
-front-item rest Need h whole alone = wants_none rest rest [] h (sym (append-nil rest))
+front-item rest Need h whole alone = meaning-wants rest h
 front-item rest (Message frame used) h whole alone =
-    let all : take (used - 19) (drop 19 rest) ≡ drop 19 rest = take_all (used - 19) (drop 19 rest) (omega (arith, length-drop 19 rest, whole)) in
-    meaning-message rest frame.kind frame.body.now record {
-      whole_header = omega (arith, h.0, h.2);
-      sound = h.7;
-      kind_is = h.6;
-      length_is = sym whole ∙ h.5;
-      body_is = h.4 ∙ all;
-    }
+    meaning-message rest frame.kind frame.body.now (whole_answer rest frame used h whole)
 front-item rest (Faulty fault) h whole alone = at_header rest fault (alone fault h.0 h.1) h.1

@@ -1,149 +1,70 @@
--- The rest never goes beyond the message at its front.
-use Rattle.std.proofs.Common.{◌≡◌, ◌+◌, ◌-◌, ◌≤◌, ◌<◌, ℕ, Bool, true, false, ◌||◌, nat_lt, List, [], ◌++◌, Option, Some, None, length, get_or, arith, length-append, refl, sym, ap, subst, ◌∙◌, if◌then◌else◌, not}
-use Rattle.std.proofs.lemmas.Grind.{common_steps}
-use Rattle.std.proofs.lemmas.List.{get_or_append_left, append-nil}
+-- Octets that are wanted don't take the rest beyond the item at its front.
+use Rattle.std.proofs.Common.{◌≡◌, ◌-◌, ◌≤◌, ◌<◌, ℕ, List, [], ◌++◌, Option, Some, None, ◌⊎◌, inl, inr, length, arith, length-append, refl, sym, ap, subst, ◌∙◌, append-nil}
+use Rattle.std.proofs.lemmas.Bool.{le-ltb, lt-ltb, cases_lt}
+use Rattle.std.proofs.lemmas.List.{nil_from_length}
 use Rattle.bgp_msg.specs.declared.fault.HeaderFault.{HeaderFault}
-use Rattle.bgp_msg.specs.MessageSpelling.{told_length, has_marker}
+use Rattle.bgp_msg.specs.MessageSpelling.{told_length}
 use Rattle.bgp_msg.specs.MessageFaults.{header_fault}
 use Rattle.bgp_msg.specs.MessageStream.{needed_of}
-use Rattle.bgp_msg.proofs.Streams.{header_fault-append}
+use Rattle.bgp_msg.proofs.Streams.{told_length-append, told_length-lawful, header_fault-append, some_is_not_none}
+use Rattle.bgp_peer.specs.Slot.{IsInOrder}
 
--- where no row holds, the second doesn't
-second-passes :
-    {F : Type 0} (a b : Bool) (x y : F) (others : Option F)
-    → (if a then Some x else (if b then Some y else others)) ≡ None → b ≡ false
-second-passes true b x y others none = grind arith
-second-passes false true x y others none = grind arith
-second-passes false false x y others none = refl
+-- what is wanted, by cases: of a header, behind a header without a fault, behind a faulty one
+pub needed-short : (octets : List ℕ) → length octets < 19 → needed_of octets ≡ 19 - length octets
+needed-short octets short = rw (lt-ltb (length octets) 19 short) refl
 
--- a length that is neither below 19 nor above 4096
-lawful : (told : ℕ) → nat_lt told 19 || nat_lt 4096 told ≡ false → 19 ≤ told
-lawful told passes = grind (arith, common_steps)
+pub needed-long : (octets : List ℕ) → 19 ≤ length octets → header_fault octets ≡ None → needed_of octets ≡ told_length octets - length octets
+needed-long octets whole sound = rw (le-ltb (length octets) 19 whole, sound) refl
 
--- a header without a fault tells at least its own length
-told-least : (octets : List ℕ) → header_fault octets ≡ None → 19 ≤ told_length octets
-unfolding header_fault
-told-least octets none =
-    let passes : nat_lt (told_length octets) 19 || nat_lt 4096 (told_length octets) ≡ false =
-    second-passes (not (has_marker octets)) (nat_lt (told_length octets) 19 || nat_lt 4096 (told_length octets)) _ _ _ none in
-    lawful (told_length octets) passes
+needed-fault : (octets : List ℕ) (fault : HeaderFault) → 19 ≤ length octets → header_fault octets ≡ Some fault → needed_of octets ≡ 0
+needed-fault octets fault whole faulty = rw (le-ltb (length octets) 19 whole, faulty) refl
 
--- octets that are added behind the header leave the length that it tells
-told-append : (rest octets : List ℕ) → 19 ≤ length rest → told_length (rest ++ octets) ≡ told_length rest
-told-append rest octets whole =
-    let high : get_or (rest ++ octets) 16 0 ≡ get_or rest 16 0 = get_or_append_left rest octets 0 16 (omega arith) in
-    let low : get_or (rest ++ octets) 17 0 ≡ get_or rest 17 0 = get_or_append_left rest octets 0 17 (omega arith) in
-    grind (arith, high, low)
+-- how far octets that are wanted reach: to the end of the header, to the end of its message, or nowhere
+abbrev Reaches : List ℕ → List ℕ → Type 0
+Reaches rest octets =
+    (length (rest ++ octets) ≤ 19)
+    ⊎ (((19 ≤ length rest) × (header_fault rest ≡ None) × (length (rest ++ octets) ≤ told_length rest))
+    ⊎ (octets ≡ []))
 
--- within the header: the header is no longer than what it tells
-within_header :
-    (rest octets : List ℕ) → length rest < 19 → length octets ≤ needed_of rest
-    → header_fault (rest ++ octets) ≡ None → length (rest ++ octets) ≤ told_length (rest ++ octets)
-within_header rest octets short few none =
-    let least : 19 ≤ told_length (rest ++ octets) = told-least _ none in
-    let few_more : length octets ≤ 19 - length rest = grind (arith, common_steps) in
-    let both : length (rest ++ octets) ≡ length rest + length octets = length-append rest octets in
-    omega arith
+reaches_by_fault :
+    (rest octets : List ℕ) (found : Option HeaderFault) → header_fault rest ≡ found → 19 ≤ length rest
+    → (header_fault rest ≡ None → length rest ≤ told_length rest) → length octets ≤ needed_of rest → Reaches rest octets
+reaches_by_fault rest octets None sound long within few =
+    inr (inl (long, sound, omega (arith, length-append rest octets, within sound, few, needed-long rest long sound)))
+reaches_by_fault rest octets (Some fault) faulty long within few =
+    inr (inr (nil_from_length octets (omega (arith, few, needed-fault rest fault long faulty))))
 
--- behind a header without a fault: up to the length that it tells
-behind_header :
-    (rest octets : List ℕ) → 19 ≤ length rest → header_fault rest ≡ None
-    → length rest ≤ told_length rest → length octets ≤ needed_of rest
-    → length (rest ++ octets) ≤ told_length (rest ++ octets)
-behind_header rest octets long sound within few =
-    let few_more : length octets ≤ told_length rest - length rest = grind (arith, common_steps, sound) in
-    let both : length (rest ++ octets) ≡ length rest + length octets = length-append rest octets in
-    let told : told_length (rest ++ octets) ≡ told_length rest = told-append rest octets long in
-    omega arith
+reaches :
+    (rest octets : List ℕ) → (length rest < 19) ⊎ (19 ≤ length rest)
+    → (19 ≤ length rest → header_fault rest ≡ None → length rest ≤ told_length rest) → length octets ≤ needed_of rest → Reaches rest octets
+reaches rest octets (inl short) within few = inl (omega (arith, length-append rest octets, few, needed-short rest short, short))
+reaches rest octets (inr long) within few = reaches_by_fault rest octets _ refl long (within long) few
 
--- behind a faulty header: nothing
-behind_fault :
-    (rest octets : List ℕ) (fault : HeaderFault) → 19 ≤ length rest → header_fault rest ≡ Some fault
-    → length octets ≤ needed_of rest → header_fault (rest ++ octets) ≡ None → ⊥
-behind_fault rest octets fault long faulty few none =
-    let nothing : length octets ≡ 0 = grind (arith, common_steps, faulty) in
-    let empty : octets ≡ [] = grind (arith, common_steps, nothing) in
-    let same : rest ++ octets ≡ rest = rw empty (append-nil rest) in
-    let sound : header_fault rest ≡ None = ap header_fault (sym same) ∙ none in
-    grind (arith, sound, faulty)
+-- so the rest stays within the message at its front
+one_message-push :
+    (rest octets : List ℕ) → Reaches rest octets → (19 ≤ length rest → header_fault rest ≡ None → length rest ≤ told_length rest)
+    → 19 ≤ length (rest ++ octets) → header_fault (rest ++ octets) ≡ None → length (rest ++ octets) ≤ told_length (rest ++ octets)
+one_message-push rest octets (inl short) within whole sound = omega (arith, short, (told_length-lawful _ sound).0)
+one_message-push rest octets (inr (inl h)) within whole sound = omega (arith, h.2, told_length-append rest octets h.0)
+one_message-push rest octets (inr (inr none)) within whole sound =
+    subst (λ (x : List ℕ). 19 ≤ length x → header_fault x ≡ None → length x ≤ told_length x) (sym (ap (λ x. rest ++ x) none ∙ append-nil rest)) within whole sound
 
-by_fault :
-    (rest octets : List ℕ) (fault : Option HeaderFault) → header_fault rest ≡ fault → 19 ≤ length rest
-    → (19 ≤ length rest → header_fault rest ≡ None → length rest ≤ told_length rest)
-    → length octets ≤ needed_of rest → header_fault (rest ++ octets) ≡ None
-    → length (rest ++ octets) ≤ told_length (rest ++ octets)
-by_fault rest octets None sound long before few none = behind_header rest octets long sound (before long sound) few
-by_fault rest octets (Some fault) faulty long before few none = absurd (behind_fault rest octets fault long faulty few none)
+-- and a faulty header stays alone
+header_alone-push :
+    (rest octets : List ℕ) (fault : HeaderFault) → Reaches rest octets → ((fault : HeaderFault) → 19 ≤ length rest → header_fault rest ≡ Some fault → length rest ≡ 19)
+    → 19 ≤ length (rest ++ octets) → header_fault (rest ++ octets) ≡ Some fault → length (rest ++ octets) ≡ 19
+header_alone-push rest octets fault (inl short) alone whole faulty = omega (arith, short, whole)
+header_alone-push rest octets fault (inr (inl h)) alone whole faulty =
+    absurd (some_is_not_none _ fault faulty (header_fault-append rest octets h.0 ∙ h.1))
+header_alone-push rest octets fault (inr (inr none)) alone whole faulty =
+    subst (λ (x : List ℕ). (fault : HeaderFault) → 19 ≤ length x → header_fault x ≡ Some fault → length x ≡ 19) (sym (ap (λ x. rest ++ x) none ∙ append-nil rest)) alone fault whole faulty
 
-by_length :
-    (rest octets : List ℕ) (short : Bool) → nat_lt (length rest) 19 ≡ short
-    → (19 ≤ length rest → header_fault rest ≡ None → length rest ≤ told_length rest)
-    → length octets ≤ needed_of rest → header_fault (rest ++ octets) ≡ None
-    → length (rest ++ octets) ≤ told_length (rest ++ octets)
-by_length rest octets true is_short before few none =
-    let short : length rest < 19 = grind (arith, common_steps, is_short) in
-    within_header rest octets short few none
-by_length rest octets false is_long before few none =
-    let long : 19 ≤ length rest = grind (arith, common_steps, is_long) in
-    by_fault rest octets (header_fault rest) refl long before few none
-
--- octets up to the end of the message at the front don't go beyond it
-pub one_message-append :
-    (rest octets : List ℕ)
-    → (19 ≤ length rest → header_fault rest ≡ None → length rest ≤ told_length rest)
-    → length octets ≤ needed_of rest → header_fault (rest ++ octets) ≡ None
-    → length (rest ++ octets) ≤ told_length (rest ++ octets)
-one_message-append rest octets before few none = by_length rest octets _ refl before few none
-
--- so do at most as many octets as the message at the front still wants
-pub one_message-push :
-    (rest new octets : List ℕ) → new ≡ rest ++ octets → length octets ≤ needed_of rest
-    → (19 ≤ length rest → header_fault rest ≡ None → length rest ≤ told_length rest)
-    → header_fault new ≡ None → length new ≤ told_length new
-one_message-push rest new octets added few before none =
-    let sound : header_fault (rest ++ octets) ≡ None = ap header_fault (sym added) ∙ none in
-    rw added (one_message-append rest octets before few sound)
-
--- a faulty header stays alone: within it no octet beyond its last is wanted, and behind it none
-header_within :
-    (rest octets : List ℕ) → length rest < 19 → length octets ≤ needed_of rest → 19 ≤ length (rest ++ octets) → length (rest ++ octets) ≡ 19
-header_within rest octets short few whole =
-    let few_more : length octets ≤ 19 - length rest = grind (arith, common_steps) in
-    omega (arith, length-append rest octets, few_more, whole, short)
-
-nothing_behind :
-    (rest octets : List ℕ) (fault : HeaderFault) → 19 ≤ length rest → header_fault rest ≡ Some fault → length octets ≤ needed_of rest → octets ≡ []
-nothing_behind rest octets fault long faulty few =
-    let nothing : length octets ≡ 0 = grind (arith, common_steps, faulty) in
-    grind (arith, common_steps, nothing)
-
-some_is_not_none : (found : Option HeaderFault) (fault : HeaderFault) → found ≡ Some fault → found ≡ None → ⊥
-some_is_not_none found fault some none = cc
-
-header_by_fault :
-    (rest octets : List ℕ) (found : Option HeaderFault) (fault : HeaderFault) → header_fault rest ≡ found → 19 ≤ length rest
-    → ((fault : HeaderFault) → 19 ≤ length rest → header_fault rest ≡ Some fault → length rest ≡ 19)
-    → length octets ≤ needed_of rest → header_fault (rest ++ octets) ≡ Some fault → length (rest ++ octets) ≡ 19
-header_by_fault rest octets None fault sound long before few faulty =
-    absurd (some_is_not_none _ fault faulty (header_fault-append rest octets long ∙ sound))
-header_by_fault rest octets (Some first) fault first_faulty long before few faulty =
-    ap (λ (x : List ℕ). length (rest ++ x)) (nothing_behind rest octets first long first_faulty few) ∙ ap length (append-nil rest) ∙ before first long first_faulty
-
-header_by_length :
-    (rest octets : List ℕ) (fault : HeaderFault) (short : Bool) → nat_lt (length rest) 19 ≡ short
-    → ((fault : HeaderFault) → 19 ≤ length rest → header_fault rest ≡ Some fault → length rest ≡ 19)
-    → length octets ≤ needed_of rest → 19 ≤ length (rest ++ octets) → header_fault (rest ++ octets) ≡ Some fault → length (rest ++ octets) ≡ 19
-header_by_length rest octets fault true is_short before few whole faulty =
-    let short : length rest < 19 = grind (arith, common_steps, is_short) in
-    header_within rest octets short few whole
-header_by_length rest octets fault false is_long before few whole faulty =
-    let long : 19 ≤ length rest = grind (arith, common_steps, is_long) in
-    header_by_fault rest octets (header_fault rest) fault refl long before few faulty
-
-pub header_alone-push :
-    (rest new octets : List ℕ) (fault : HeaderFault) → new ≡ rest ++ octets → length octets ≤ needed_of rest
-    → ((fault : HeaderFault) → 19 ≤ length rest → header_fault rest ≡ Some fault → length rest ≡ 19)
-    → 19 ≤ length new → header_fault new ≡ Some fault → length new ≡ 19
-header_alone-push rest new octets fault added few before whole faulty =
-    let found : length (rest ++ octets) ≡ 19 = header_by_length rest octets fault _ refl before few (subst (λ (x : List ℕ). 19 ≤ length x) added whole) (ap header_fault (sym added) ∙ faulty) in
-    ap length added ∙ found
+pub in_order-append : (rest octets ring : List ℕ) (capacity : ℕ) → length octets ≤ needed_of rest → IsInOrder rest ring capacity → IsInOrder (rest ++ octets) ring capacity
+in_order-append rest octets ring capacity few o =
+    let far : Reaches rest octets = reaches rest octets (cases_lt (length rest) 19) o.one_message few in
+    record {
+      capacity_is = o.capacity_is;
+      fits = o.fits;
+      one_message = one_message-push rest octets far o.one_message;
+      header_alone = λ fault. header_alone-push rest octets fault far o.header_alone;
+    }

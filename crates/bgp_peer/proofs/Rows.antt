@@ -1,12 +1,11 @@
 -- What the rows of the session table leave of a connection, and what they say.
-use Rattle.std.proofs.Common.{◌≡◌, ◌≢◌, ℕ, Bool, true, false, ◌+◌, List, [], Option, Some, None, length, nat_le, if◌then◌else◌, refl, ap, sym, subst, ◌∙◌, append-nil}
+use Rattle.std.proofs.Common.{◌≡◌, ◌≢◌, ℕ, Bool, true, false, ◌+◌, List, [], Option, Some, None, length, nat_le, if◌then◌else◌, refl, ap, subst}
 use Rattle.bgp_attr.specs.declared.peer.Mode.{Mode}
 use Rattle.bgp_attr.specs.declared.peer.Mode.TheVariants.{Passive, Active as Opener}
 use Rattle.net_prefix.specs.declared.transport.Transport.TheVariants.{None as NoConnection, Opening, Open as Connected, Closing}
 use Rattle.bgp_msg.specs.declared.frame.MessageType.TheVariants.{Open as OpenType, Update as UpdateType, Notification as NotificationType, Keepalive as KeepaliveType}
-use Rattle.bgp_msg.specs.MessageSpelling.{header_of, open_of}
 use Rattle.bgp_msg.specs.MessageStream.{Item, WholeMessage, FaultyHeader, unread}
-use Rattle.bgp_msg.proofs.StreamPieces.{unread-nil}
+use Rattle.bgp_msg.proofs.StreamPieces.{unread-nil, read_alone}
 use Rattle.bgp_msg.proofs.WrittenMessages.{keepalive_first, open_first}
 use Rattle.bgp_fsm.specs.declared.state.State.{State}
 use Rattle.bgp_fsm.specs.declared.state.State.TheVariants.{Idle, Connect, Active, OpenSent, OpenConfirm, Established}
@@ -98,8 +97,8 @@ start_connects_nothing s h = starts_at s.state s refl h
 -- what a row says is whole
 octets_whole : (message : Option Outgoing) → unread (octets_of message) ≡ []
 octets_whole None = unread-nil
-octets_whole (Some (Open own)) = ap unread (sym (append-nil (open_of own.asn.0 own.hold_time own.identifier))) ∙ (open_first own.asn.0 own.hold_time own.identifier []).1 ∙ unread-nil
-octets_whole (Some Keepalive) = ap unread (sym (append-nil (header_of KeepaliveType 19))) ∙ (keepalive_first []).1 ∙ unread-nil
+octets_whole (Some (Open own)) = (read_alone _ _ _ (open_first own.asn.0 own.hold_time own.identifier)).1
+octets_whole (Some Keepalive) = (read_alone _ _ _ keepalive_first).1
 
 whole_or_none : (room : Bool) (octets : List ℕ) → unread octets ≡ [] → unread (if room then octets else []) ≡ []
 whole_or_none true octets whole = whole

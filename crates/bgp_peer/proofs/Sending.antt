@@ -1,12 +1,11 @@
 -- What is queued on a connection, read as messages.
-use Rattle.std.proofs.Common.{◌≡◌, ◌+◌, ℕ, Bool, true, false, List, [], ◌∷◌, ◌++◌, Option, Some, None, inl, inr, length, nat_le, if◌then◌else◌, ap, sym, subst, ◌∙◌, arith, append-nil}
-use Rattle.bgp_msg.specs.declared.frame.MessageType.{MessageType}
+use Rattle.std.proofs.Common.{◌≡◌, ◌+◌, ℕ, Bool, true, false, List, [], ◌∷◌, ◌++◌, Option, Some, None, inl, inr, length, nat_le, if◌then◌else◌, ap, ◌∙◌, arith}
 use Rattle.bgp_msg.specs.declared.frame.MessageType.TheVariants.{Open as OpenType, Update, Keepalive as KeepaliveType}
-use Rattle.bgp_msg.specs.MessageSpelling.{open_body, update_of, update_body}
-use Rattle.bgp_msg.specs.MessageStream.{Item, WholeMessage, FaultyHeader, IsMessage, IsReadFirst, Splits, messages, unread}
+use Rattle.bgp_msg.specs.MessageSpelling.{open_body, update_body}
+use Rattle.bgp_msg.specs.MessageStream.{Item, WholeMessage, FaultyHeader, Splits, messages, unread}
 use Rattle.bgp_msg.proofs.Streams.{message-then, none-from_wants, splits}
-use Rattle.bgp_msg.proofs.StreamPieces.{messages-push, messages-anew, messages-nil, unread-nil}
-use Rattle.bgp_msg.proofs.WrittenMessages.{keepalive_first, open_first, update_first}
+use Rattle.bgp_msg.proofs.StreamPieces.{messages-push, messages-anew, messages-nil, read_alone}
+use Rattle.bgp_msg.proofs.WrittenMessages.{keepalive_first, open_first, update_is_message}
 use Rattle.bgp_fsm.specs.declared.session.Outgoing.{Outgoing}
 use Rattle.bgp_fsm.specs.declared.session.Outgoing.TheVariants.{Open, Keepalive}
 use Rattle.bgp_peer.specs.Slot.{octets_of}
@@ -32,28 +31,10 @@ are_messages octets (FaultyHeader fault ∷ items) rest h none =
 pub sent_are_messages : SentAreMessages
 sent_are_messages h p a = are_messages (sent h) _ _ (splits (sent h)) a.whole
 
--- octets that are read as one message are that message
-read_alone : (octets : List ℕ) (kind : MessageType) (body : List ℕ) → IsReadFirst octets kind body → (messages octets ≡ WholeMessage kind body ∷ []) × (unread octets ≡ [])
-read_alone octets kind body h = (
-  ap messages (sym (append-nil octets)) ∙ (h []).0 ∙ ap (λ (items : List Item). WholeMessage kind body ∷ items) messages-nil,
-  ap unread (sym (append-nil octets)) ∙ (h []).1 ∙ unread-nil,
-)
-
-one_message : (octets : List ℕ) (kind : MessageType) (body : List ℕ) → Splits octets (WholeMessage kind body ∷ []) [] → IsMessage octets kind body
-one_message octets kind body h =
-    let all : octets ≡ h.0 = h.3 ∙ ap (λ (more : List ℕ). h.0 ++ more) h.4.0 ∙ append-nil h.0 in
-    subst (λ (x : List ℕ). IsMessage x kind body) (sym all) h.2
-
-is_message : (octets : List ℕ) (kind : MessageType) (body : List ℕ) → IsReadFirst octets kind body → IsMessage octets kind body
-is_message octets kind body h =
-    let alone = read_alone octets kind body h in
-    let parts : Splits octets (messages octets) [] = subst (λ (rest : List ℕ). Splits octets (messages octets) rest) alone.1 (splits octets) in
-    one_message octets kind body (subst (λ (items : List Item). Splits octets items []) alone.0 parts)
-
 pub written_is_update : WrittenIsUpdate
 written_is_update withdrawn attributes announced fits = (
   update_body withdrawn attributes announced,
-  is_message (update_of withdrawn attributes announced) Update (update_body withdrawn attributes announced) (update_first withdrawn attributes announced fits),
+  update_is_message withdrawn attributes announced fits,
 )
 
 pub queued_is_read_last : QueuedIsReadLast
