@@ -1,5 +1,4 @@
 pub mod Rests
-pub mod Hearing
 pub mod Rows
 pub mod Connections
 pub mod Agreeing

@@ -9,11 +9,12 @@ use Rattle.bgp_msg.specs.declared.frame.Step.TheVariants.{Need, Message, Faulty}
 use Rattle.bgp_msg.specs.MessageSpelling.{told_length}
 use Rattle.bgp_msg.specs.MessageFaults.{header_fault}
 use Rattle.bgp_msg.specs.MessageStream.{Item, IsMessage, Wants, Tells, meaning, needed_of}
-use Rattle.bgp_msg.proofs.Streams.{meaning-wants, meaning-message, at_header, told_length-append, header_fault-append}
+use Rattle.bgp_msg.proofs.Streams.{meaning-wants, meaning-message, at_header, message-then, wants-then, fault-then, told_length-append, header_fault-append}
+use Rattle.bgp_msg.proofs.StreamPieces.{read_alone}
 use Rattle.bgp_msg.proofs.ReaderAnswers.{answer_is_message}
 use Rattle.bgp_fsm.specs.declared.input.Input.{Input}
 use Rattle.bgp_fsm.specs.Transports.{transport_of}
-use Rattle.bgp_peer.specs.Slot.{Slot, pushed, taken_input, IsWholeRest, item_of_step}
+use Rattle.bgp_peer.specs.Slot.{Slot, pushed, taken_input, IsWholeRest, HoldsOnly, item_of_step}
 use Rattle.bgp_peer.specs.SessionInputs.{Event, Octet, session, onto, terms_of, input_of}
 use Rattle.bgp_peer.specs.Agreement.{PeerAgrees, IsHearing, holding}
 use Rattle.bgp_peer.proofs.Connections.{connected_wants}
@@ -113,3 +114,10 @@ front-item rest Need h whole alone = meaning-wants rest h
 front-item rest (Message frame used) h whole alone =
     meaning-message rest frame.kind frame.body.now (whole_answer rest frame used h whole)
 front-item rest (Faulty fault) h whole alone = at_header rest fault (alone fault h.0 h.1) h.1
+
+-- and all that it holds
+pub front-only : (rest : List ℕ) (step : Step) → Tells rest step → IsWholeRest rest step → HoldsOnly rest step
+front-only rest Need h whole = wants-then rest h
+front-only rest (Message frame used) h whole =
+    read_alone rest frame.kind frame.body.now (λ more. message-then rest more frame.kind frame.body.now (whole_answer rest frame used h whole))
+front-only rest (Faulty fault) h whole = fault-then rest fault h.0 h.1

@@ -2,5 +2,4 @@ pub mod Slot
 pub mod SessionInputs
 pub mod SentMessages
 pub mod Agreement
-pub mod HeardMessages
 pub mod Laws

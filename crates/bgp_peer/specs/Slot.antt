@@ -8,7 +8,7 @@ use Rattle.bgp_msg.specs.MessageSpelling.{told_length, open_of, header_of}
 use Rattle.bgp_msg.specs.declared.frame.MessageType.TheVariants.{Keepalive as KeepaliveMessage}
 use Rattle.bgp_msg.specs.declared.fault.HeaderFault.{HeaderFault}
 use Rattle.bgp_msg.specs.MessageFaults.{header_fault}
-use Rattle.bgp_msg.specs.MessageStream.{Item, WholeMessage, FaultyHeader}
+use Rattle.bgp_msg.specs.MessageStream.{Item, WholeMessage, FaultyHeader, messages, unread, with_front, left_over}
 use Rattle.bgp_fsm.specs.declared.input.Input.{Input}
 use Rattle.bgp_fsm.specs.declared.input.Input.TheVariants.{Start, Up, Fail}
 use Rattle.bgp_fsm.specs.declared.session.Session.{Session}
@@ -40,6 +40,10 @@ abbrev pub item_of_step : Step → Option Item
 item_of_step Need = None
 item_of_step (Message frame used) = Some (WholeMessage frame.kind frame.body.now)
 item_of_step (Faulty fault) = Some (FaultyHeader fault)
+
+-- that item, if there is one, is all that the rest holds
+abbrev pub HoldsOnly : List ℕ → Step → Type 0
+HoldsOnly rest step = (messages rest ≡ with_front (item_of_step step) []) × (unread rest ≡ left_over rest (item_of_step step))
 
 -- the octets of what a row queues (RFC 4271 section 4)
 abbrev pub octets_of : Option Outgoing → List ℕ

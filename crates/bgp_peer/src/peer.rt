@@ -6,11 +6,10 @@ ghost use Rattle.bgp_fsm.specs.SessionTable.{effects_of};
 ghost use Rattle.bgp_fsm.specs.Transports.{transport_of};
 ghost use Rattle.bgp_fsm.specs.declared.state.State.{State};
 ghost use Rattle.bgp_fsm.specs.declared.input.Input.TheVariants.{Start, Up, Fail};
-ghost use Rattle.bgp_msg.specs.MessageStream.{Item, Tells, Wants, meaning, messages, needed_of, unread};
+ghost use Rattle.bgp_msg.specs.MessageStream.{Item, Tells, Wants, meaning, needed_of};
 ghost use Rattle.bgp_peer.specs.Agreement.{PeerAgrees, IsHearing, IsUpdateMessage};
-ghost use Rattle.bgp_peer.specs.HeardMessages.{HoldsOnly, IsHeard};
 ghost use Rattle.bgp_peer.specs.SessionInputs.{Event, Configured, Enabled, Opened, Failed, Queued, Handed, terms_of, input_of, onto};
-ghost use Rattle.bgp_peer.specs.Slot.{Slot, configured, enabled, opened, failed, pushed, taken_input, said, queued, handed, IsWholeRest, item_of_step};
+ghost use Rattle.bgp_peer.specs.Slot.{Slot, configured, enabled, opened, failed, pushed, taken_input, said, queued, handed, IsWholeRest, HoldsOnly, item_of_step};
 
 use arrayvec::ArrayVec;
 use bgp_attr::Mode;
@@ -104,7 +103,6 @@ impl<A: Allocator> Peer<A> {
         ensures exact { self.new ≡ pushed self.old (take result octets.now) }
         ensures goes_on { Wants self.old.rest → 0 < length octets.now → 0 < result }
         ensures short { length self.new.rest ≤ 4096 }
-        ensures heard { (stream : List ℕ) (heard : List Item) → IsHeard stream heard self.old.rest → IsHeard (stream ++ take result octets.now) heard self.new.rest }
         ensures agrees { (h : List Event) → PeerAgrees h self.old → transport_of self.old.session ≡ Connected → meaning self.new.rest ≡ None → PeerAgrees (onto (take result octets.now) h) self.new }
         ensures hears { (h : List Event) (item : Item) → PeerAgrees h self.old → transport_of self.old.session ≡ Connected → meaning self.new.rest ≡ Some item → IsHearing (onto (take result octets.now) h) item self.new }
     {
@@ -152,7 +150,6 @@ impl<A: Allocator> Peer<A> {
     /// The connection stands. What was queued or came before is dropped.
     pub fn up(&mut self, now: u64) -> Effects
         ensures exact { self.new ≡ opened self.old }
-        ensures heard { IsHeard [] [] self.new.rest }
         ensures effects { result ≡ effects_of Up self.old.session }
         ensures agrees { (h : List Event) → PeerAgrees h self.old → PeerAgrees (Opened ∷ h) self.new }
     {
@@ -189,7 +186,6 @@ impl<A: Allocator> Peer<A> {
     /// The message at the front is this input. The message is dropped, and what its row says is queued.
     pub fn input(&mut self, input: Input, now: u64) -> Effects
         ensures exact { self.new ≡ taken_input self.old input }
-        ensures heard { (stream : List ℕ) (heard : List Item) → IsHeard stream heard self.old.rest → unread self.old.rest ≡ [] → IsHeard stream (heard ++ messages self.old.rest) self.new.rest }
         ensures effects { result ≡ effects_of input self.old.session }
         ensures agrees { (h : List Event) (item : Item) → IsHearing h item self.old → input ≡ input_of self.old.session.state (terms_of h) item → PeerAgrees h self.new }
     {

@@ -1,12 +1,7 @@
-use Rattle.std.proofs.Common.{ap, take}
+use Rattle.std.proofs.Common.{take}
 use Rattle.bgp_peer.specs.SessionInputs.{onto}
-use Rattle.bgp_peer.specs.Slot.{Slot}
-use Rattle.bgp_peer.proofs.Hearing.{heard-append}
 use Rattle.bgp_peer.proofs.Receiving.{HasHeard, agrees-push}
 use Rattle.bgp_peer.proofs.peer.Peer.push.Goals as goal
-
-pub returns-clause-heard : goal.returns-clause-heard
-returns-clause-heard g c stream heard h = heard-append stream _ (take c.receive.result c.args.octets.now) _ heard (ap (λ (s : Slot). s.rest) c.receive.ensures.exact) h
 
 pub returns-clause-agrees : goal.returns-clause-agrees
 returns-clause-agrees g c = λ h a connected none.
