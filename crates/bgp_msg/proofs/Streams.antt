@@ -78,13 +78,10 @@ message_first part octet (next ∷ back) more kind body h =
     let again = message_first (part ++ octet ∷ []) next back more kind body (rw append_assoc h) in
     (rw (none, messages_from) again.0, rw (none, unread_from) again.1)
 
--- where no row of a list of tests holds, the later ones don't
-second_passes :
-    {F : Type 0} (a b : Bool) (x y : F) (others : Option F)
-    → (if a then Some x else (if b then Some y else others)) ≡ None → (b ≡ false) × (others ≡ None)
-second_passes true b x y others none = absurd cc
-second_passes false true x y others none = absurd cc
-second_passes false false x y others none = (refl, none)
+-- where no row of a list of tests holds, the first doesn't, nor do the others
+passes : {F : Type 0} (test : Bool) (fault : F) (others : Option F) → (if test then Some fault else others) ≡ None → (test ≡ false) × (others ≡ None)
+passes true fault others none = absurd cc
+passes false fault others none = (refl, none)
 
 lawful : (told : ℕ) → nat_lt told 19 || nat_lt 4096 told ≡ false → (19 ≤ told) × (told ≤ 4096)
 lawful told passes =
@@ -95,26 +92,21 @@ lawful told passes =
 pub told_length-lawful : (octets : List ℕ) → header_fault octets ≡ None → (19 ≤ told_length octets) × (told_length octets ≤ 4096)
 unfolding header_fault
 told_length-lawful octets none =
-    let passes = second_passes (not (has_marker octets)) (nat_lt (told_length octets) 19 || nat_lt 4096 (told_length octets)) _ _ _ none in
-    lawful (told_length octets) passes.0
+    let marked = passes (not (has_marker octets)) _ _ none in
+    let told = passes (nat_lt (told_length octets) 19 || nat_lt 4096 (told_length octets)) _ _ marked.1 in
+    lawful (told_length octets) told.0
 
 known : (found : Option MessageType) → is_unknown found ≡ false → (kind : MessageType) × (found ≡ Some kind)
 known None h = absurd cc
 known (Some kind) h = (kind, refl)
 
-third_passes :
-    {F : Type 0} (a b c : Bool) (x y z : F) (others : Option F)
-    → (if a then Some x else (if b then Some y else (if c then Some z else others))) ≡ None → c ≡ false
-third_passes true b c x y z others none = absurd cc
-third_passes false true c x y z others none = absurd cc
-third_passes false false true x y z others none = absurd cc
-third_passes false false false x y z others none = refl
-
 -- a header without a fault has a type
 pub known_kind : (octets : List ℕ) → header_fault octets ≡ None → (kind : MessageType) × (kind_at (get_or octets 18 0) ≡ Some kind)
 unfolding header_fault
 known_kind octets none =
-    known (kind_at (get_or octets 18 0)) (third_passes (not (has_marker octets)) (nat_lt (told_length octets) 19 || nat_lt 4096 (told_length octets)) (is_unknown (kind_at (get_or octets 18 0))) _ _ _ _ none)
+    let marked = passes (not (has_marker octets)) _ _ none in
+    let told = passes (nat_lt (told_length octets) 19 || nat_lt 4096 (told_length octets)) _ _ marked.1 in
+    known (kind_at (get_or octets 18 0)) (passes (is_unknown (kind_at (get_or octets 18 0))) _ _ told.1).0
 
 -- the octets up to the length that a header without a fault tells are a message
 pub message_at_front :
