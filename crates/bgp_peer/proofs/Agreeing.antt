@@ -69,7 +69,7 @@ pub ring-is : (h : List Event) (p : Slot) → PeerAgrees h p → ring_of h ≡ p
 ring-is h p a = ap (drop (length (given h))) (sym a.ring) ∙ drop_at (given h) p.ring (length (given h)) refl
 
 -- the connection of the slot stands where that of its history does
-stands : (h : List Event) (p : Slot) → PeerAgrees h p → transport_of p.session ≡ Connected → transport_of (session h) ≡ Connected
+pub stands : (h : List Event) (p : Slot) → PeerAgrees h p → transport_of p.session ≡ Connected → transport_of (session h) ≡ Connected
 stands h p a connected = ap transport_of (sym a.session) ∙ connected
 
 -- what the row of an octet's item says is whole

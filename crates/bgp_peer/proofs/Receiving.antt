@@ -1,8 +1,7 @@
 -- Octets up to the end of the item at the front of a stream.
-use Rattle.std.proofs.Common.{◌≡◌, ◌+◌, ◌-◌, ◌≤◌, ◌<◌, ℕ, List, [], ◌∷◌, ◌++◌, Some, None, inl, inr, length, refl, ap, sym, subst, ◌∙◌, arith, append_assoc, append-nil, length-append}
+use Rattle.std.proofs.Common.{◌≡◌, ◌+◌, ◌-◌, ◌≤◌, ◌<◌, ℕ, List, [], ◌∷◌, ◌++◌, Some, None, inl, inr, length, take, min, refl, sym, subst, ◌∙◌, arith, append_assoc, append-nil, length-append}
 use Rattle.std.proofs.lemmas.List.{take_all}
 use Rattle.net_prefix.specs.declared.transport.Transport.TheVariants.{Open as Connected}
-use Rattle.bgp_msg.specs.declared.fault.HeaderFault.{HeaderFault}
 use Rattle.bgp_msg.specs.declared.frame.Frame.{Frame}
 use Rattle.bgp_msg.specs.declared.frame.Step.{Step}
 use Rattle.bgp_msg.specs.declared.frame.Step.TheVariants.{Need, Message, Faulty}
@@ -14,12 +13,12 @@ use Rattle.bgp_msg.proofs.StreamPieces.{read_alone}
 use Rattle.bgp_msg.proofs.ReaderAnswers.{answer_is_message}
 use Rattle.bgp_fsm.specs.declared.input.Input.{Input}
 use Rattle.bgp_fsm.specs.Transports.{transport_of}
-use Rattle.bgp_peer.specs.Slot.{Slot, pushed, taken_input, IsWholeRest, HoldsOnly, item_of_step}
-use Rattle.bgp_peer.specs.SessionInputs.{Event, Octet, session, onto, terms_of, input_of}
+use Rattle.bgp_peer.specs.Slot.{Slot, pushed, taken_input, IsInOrder, IsWholeRest, HoldsOnly, item_of_step}
+use Rattle.bgp_peer.specs.SessionInputs.{Event, Octet, onto, terms_of, input_of}
 use Rattle.bgp_peer.specs.Agreement.{PeerAgrees, IsHearing, holding}
 use Rattle.bgp_peer.proofs.Connections.{connected_wants}
-use Rattle.bgp_peer.proofs.Rests.{needed-short, needed-long}
-use Rattle.bgp_peer.proofs.Agreeing.{agrees-octet, agrees-input}
+use Rattle.bgp_peer.proofs.Rests.{needed-short, needed-long, wanted-take}
+use Rattle.bgp_peer.proofs.Agreeing.{stands, agrees-octet, agrees-input}
 
 -- where more than one octet is wanted, one octet leaves all but one wanted
 pub needed-push :
@@ -80,14 +79,15 @@ heard-wanted h p (octet ∷ next ∷ octets) connected wants few a =
 -- a slot whose connection stands wants more octets
 pub wants-agreed : (h : List Event) (p : Slot) → PeerAgrees h p → transport_of p.session ≡ Connected → Wants p.rest
 wants-agreed h p a connected =
-    let stands : transport_of (session h) ≡ Connected = ap transport_of (sym a.session) ∙ connected in
-    subst Wants (sym (a.rest stands)) (connected_wants h stands)
+    let standing = stands h p a connected in
+    subst Wants (sym (a.rest standing)) (connected_wants h standing)
 
 -- octets that are wanted come
 pub agrees-push :
-    (h : List Event) (p : Slot) (octets : List ℕ) → length octets ≤ needed_of p.rest → PeerAgrees h p → transport_of p.session ≡ Connected
-    → HasHeard (onto octets h) (pushed p octets)
-agrees-push h p octets few a connected = heard-wanted h p octets connected (wants-agreed h p a connected) few a
+    (h : List Event) (p : Slot) (octets : List ℕ) (count : ℕ) → count ≡ min (needed_of p.rest) (length octets) → PeerAgrees h p
+    → transport_of p.session ≡ Connected → HasHeard (onto (take count octets) h) (pushed p (take count octets))
+agrees-push h p octets count wanted a connected =
+    heard-wanted h p (take count octets) connected (wants-agreed h p a connected) (wanted-take p.rest octets count wanted) a
 
 -- the item is taken
 pub agrees-hearing :
@@ -105,15 +105,13 @@ whole_answer : (rest : List ℕ) (frame : Frame) (used : ℕ) → Tells rest (Me
 whole_answer rest frame used h whole =
     subst (λ (x : List ℕ). IsMessage x frame.kind frame.body.now) (take_all used rest (omega (arith, whole))) (answer_is_message rest frame used h)
 
--- a reader's answer is the item that the rest is, where the rest goes no further
+-- a reader's answer is the item that the rest is
 pub front-item :
-    (rest : List ℕ) (step : Step) → Tells rest step → IsWholeRest rest step
-    → ((fault : HeaderFault) → 19 ≤ length rest → header_fault rest ≡ Some fault → length rest ≡ 19)
-    → meaning rest ≡ item_of_step step
-front-item rest Need h whole alone = meaning-wants rest h
-front-item rest (Message frame used) h whole alone =
+    (rest ring : List ℕ) (capacity : ℕ) (step : Step) → Tells rest step → IsWholeRest rest step → IsInOrder rest ring capacity → meaning rest ≡ item_of_step step
+front-item rest ring capacity Need h whole o = meaning-wants rest h
+front-item rest ring capacity (Message frame used) h whole o =
     meaning-message rest frame.kind frame.body.now (whole_answer rest frame used h whole)
-front-item rest (Faulty fault) h whole alone = at_header rest fault (alone fault h.0 h.1) h.1
+front-item rest ring capacity (Faulty fault) h whole o = at_header rest fault (o.header_alone fault h.0 h.1) h.1
 
 -- and all that it holds
 pub front-only : (rest : List ℕ) (step : Step) → Tells rest step → IsWholeRest rest step → HoldsOnly rest step

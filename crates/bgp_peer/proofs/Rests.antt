@@ -1,7 +1,8 @@
 -- Octets that are wanted don't take the rest beyond the item at its front.
-use Rattle.std.proofs.Common.{◌≡◌, ◌-◌, ◌≤◌, ◌<◌, ℕ, List, [], ◌++◌, Option, Some, None, ◌⊎◌, inl, inr, length, arith, length-append, refl, sym, ap, subst, ◌∙◌, append-nil}
+use Rattle.std.proofs.Common.{◌≡◌, ◌-◌, ◌≤◌, ◌<◌, ℕ, List, [], ◌++◌, Option, Some, None, ◌⊎◌, inl, inr, length, take, min, arith, length-append, refl, sym, ap, subst, ◌∙◌, append-nil}
 use Rattle.std.proofs.lemmas.Bool.{le-ltb, lt-ltb, cases_lt}
-use Rattle.std.proofs.lemmas.List.{nil_from_length}
+use Rattle.std.proofs.lemmas.Grind.{common_steps}
+use Rattle.std.proofs.lemmas.List.{nil_from_length, length-take}
 use Rattle.bgp_msg.specs.declared.fault.HeaderFault.{HeaderFault}
 use Rattle.bgp_msg.specs.MessageSpelling.{told_length}
 use Rattle.bgp_msg.specs.MessageFaults.{header_fault}
@@ -18,6 +19,9 @@ needed-long octets whole sound = rw (le-ltb (length octets) 19 whole, sound) ref
 
 needed-fault : (octets : List ℕ) (fault : HeaderFault) → 19 ≤ length octets → header_fault octets ≡ Some fault → needed_of octets ≡ 0
 needed-fault octets fault whole faulty = rw (le-ltb (length octets) 19 whole, faulty) refl
+
+pub wanted-take : (rest octets : List ℕ) (count : ℕ) → count ≡ min (needed_of rest) (length octets) → length (take count octets) ≤ needed_of rest
+wanted-take rest octets count wanted = grind (arith, common_steps, wanted, length-take count octets)
 
 -- how far octets that are wanted reach: to the end of the header, to the end of its message, or nowhere
 abbrev Reaches : List ℕ → List ℕ → Type 0
@@ -59,12 +63,14 @@ header_alone-push rest octets fault (inr (inl h)) alone whole faulty =
 header_alone-push rest octets fault (inr (inr none)) alone whole faulty =
     subst (λ (x : List ℕ). (fault : HeaderFault) → 19 ≤ length x → header_fault x ≡ Some fault → length x ≡ 19) (sym (ap (λ x. rest ++ x) none ∙ append-nil rest)) alone fault whole faulty
 
-pub in_order-append : (rest octets ring : List ℕ) (capacity : ℕ) → length octets ≤ needed_of rest → IsInOrder rest ring capacity → IsInOrder (rest ++ octets) ring capacity
-in_order-append rest octets ring capacity few o =
-    let far : Reaches rest octets = reaches rest octets (cases_lt (length rest) 19) o.one_message few in
+pub in_order-push :
+    (rest octets ring : List ℕ) (capacity count : ℕ) → count ≡ min (needed_of rest) (length octets) → IsInOrder rest ring capacity
+    → IsInOrder (rest ++ take count octets) ring capacity
+in_order-push rest octets ring capacity count wanted o =
+    let far : Reaches rest (take count octets) = reaches rest (take count octets) (cases_lt (length rest) 19) o.one_message (wanted-take rest octets count wanted) in
     record {
       capacity_is = o.capacity_is;
       fits = o.fits;
-      one_message = one_message-push rest octets far o.one_message;
-      header_alone = λ fault. header_alone-push rest octets fault far o.header_alone;
+      one_message = one_message-push rest (take count octets) far o.one_message;
+      header_alone = λ fault. header_alone-push rest (take count octets) fault far o.header_alone;
     }

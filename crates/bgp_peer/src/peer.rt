@@ -2,7 +2,7 @@
 ghost use Rattle.std.specs.Prelude.{◌≡◌, ◌+◌, ◌≤◌, ◌<◌, length, take, drop, min, ◌∷◌, ◌++◌, IfOk, ℕ, List, [], None, Some};
 ghost use Rattle.net_prefix.specs.declared.asn.Asn.{Asn};
 ghost use Rattle.net_prefix.specs.declared.transport.Transport.TheVariants.{Open as Connected};
-ghost use Rattle.bgp_fsm.specs.SessionTable.{effects_of};
+ghost use Rattle.bgp_fsm.specs.SessionTable.{effects_of, session_after};
 ghost use Rattle.bgp_fsm.specs.Transports.{transport_of};
 ghost use Rattle.bgp_fsm.specs.declared.state.State.{State};
 ghost use Rattle.bgp_fsm.specs.declared.input.Input.TheVariants.{Start, Up, Fail};
@@ -53,13 +53,6 @@ impl<A: Allocator> Peer<A> {
         ensures exact { IfOk result (λ p. p ≡ configured own mode) }
         ensures agrees { IfOk result (λ p. (h : List Event) (peer_asn : Asn) → PeerAgrees (Configured (record { own = own; mode = mode; peer_asn = peer_asn }) ∷ h) p) }
     {
-        Self::idle(alloc, own, mode)
-    }
-
-    // As below: the private method says what it makes of the slot, and the agreement with any history follows from that.
-    fn idle(alloc: A, own: Open, mode: Mode) -> Result<Self, AllocError>
-        ensures { IfOk result (λ p. p ≡ configured own mode) }
-    {
         let ring = HeapCircularBuffer::with_capacity(alloc, RING_OCTETS)?;
         Ok(Peer {
             session: Session::new(own, mode),
@@ -106,16 +99,6 @@ impl<A: Allocator> Peer<A> {
         ensures agrees { (h : List Event) → PeerAgrees h self.old → transport_of self.old.session ≡ Connected → meaning self.new.rest ≡ None → PeerAgrees (onto (take result octets.now) h) self.new }
         ensures hears { (h : List Event) (item : Item) → PeerAgrees h self.old → transport_of self.old.session ≡ Connected → meaning self.new.rest ≡ Some item → IsHearing (onto (take result octets.now) h) item self.new }
     {
-        self.receive(octets)
-    }
-
-    fn receive(&mut self, octets: &[u8]) -> usize
-        ensures count { result ≡ min (needed_of self.old.rest) (length octets.now) }
-        ensures few { length (take result octets.now) ≤ needed_of self.old.rest }
-        ensures exact { self.new ≡ pushed self.old (take result octets.now) }
-        ensures goes_on { Wants self.old.rest → 0 < length octets.now → 0 < result }
-        ensures short { length self.new.rest ≤ 4096 }
-    {
         let count = wanted(self.rest.as_slice(), octets.len());
         append(&octets[..count], &mut self.rest);
         count
@@ -137,13 +120,6 @@ impl<A: Allocator> Peer<A> {
         ensures effects { result ≡ effects_of Start self.old.session }
         ensures agrees { (h : List Event) → PeerAgrees h self.old → PeerAgrees (Enabled ∷ h) self.new }
     {
-        self.start(now)
-    }
-
-    fn start(&mut self, now: u64) -> Effects
-        ensures exact { self.new ≡ enabled self.old }
-        ensures effects { result ≡ effects_of Start self.old.session }
-    {
         self.session.input(Input::Start, now)
     }
 
@@ -153,15 +129,7 @@ impl<A: Allocator> Peer<A> {
         ensures effects { result ≡ effects_of Up self.old.session }
         ensures agrees { (h : List Event) → PeerAgrees h self.old → PeerAgrees (Opened ∷ h) self.new }
     {
-        self.connect(now)
-    }
-
-    fn connect(&mut self, now: u64) -> Effects
-        ensures exact { self.new ≡ opened self.old }
-        ensures effects { result ≡ effects_of Up self.old.session }
-    {
-        self.clear();
-        let effects = self.session.input(Input::Up, now);
+        let effects = self.reset(Input::Up, now);
         self.say(effects.message);
         effects
     }
@@ -172,15 +140,7 @@ impl<A: Allocator> Peer<A> {
         ensures effects { result ≡ effects_of Fail self.old.session }
         ensures agrees { (h : List Event) → PeerAgrees h self.old → PeerAgrees (Failed ∷ h) self.new }
     {
-        self.lose(now)
-    }
-
-    fn lose(&mut self, now: u64) -> Effects
-        ensures exact { self.new ≡ failed self.old }
-        ensures effects { result ≡ effects_of Fail self.old.session }
-    {
-        self.clear();
-        self.session.input(Input::Fail, now)
+        self.reset(Input::Fail, now)
     }
 
     /// The message at the front is this input. The message is dropped, and what its row says is queued.
@@ -189,15 +149,7 @@ impl<A: Allocator> Peer<A> {
         ensures effects { result ≡ effects_of input self.old.session }
         ensures agrees { (h : List Event) (item : Item) → IsHearing h item self.old → input ≡ input_of self.old.session.state (terms_of h) item → PeerAgrees h self.new }
     {
-        self.judge(input, now)
-    }
-
-    fn judge(&mut self, input: Input, now: u64) -> Effects
-        ensures exact { self.new ≡ taken_input self.old input }
-        ensures effects { result ≡ effects_of input self.old.session }
-    {
-        self.rest.clear();
-        let effects = self.session.input(input, now);
+        let effects = self.hear(input, now);
         self.say(effects.message);
         effects
     }
@@ -209,13 +161,6 @@ impl<A: Allocator> Peer<A> {
         ensures exact { self.new ≡ queued self.old message.now }
         ensures agrees { (h : List Event) → PeerAgrees h self.old → IsUpdateMessage message.now → length self.old.ring + 8192 ≤ 65536 → PeerAgrees (Queued message.now ∷ h) self.new }
     {
-        self.put(message);
-    }
-
-    fn put(&mut self, message: &[u8])
-        requires { length self.old.ring + length message.now ≤ 65536 }
-        ensures { self.new ≡ queued self.old message.now }
-    {
         self.ring.fill_from_slice(message);
     }
 
@@ -226,22 +171,25 @@ impl<A: Allocator> Peer<A> {
         ensures exact { self.new ≡ handed self.old result }
         ensures agrees { (h : List Event) → PeerAgrees h self.old → PeerAgrees (Handed (take result buf.new) ∷ h) self.new }
     {
-        self.hand_out(buf)
-    }
-
-    fn hand_out(&mut self, buf: &mut [u8]) -> usize
-        ensures count { result ≡ min (length buf.old) (length self.old.ring) }
-        ensures octets { buf.new ≡ take result self.old.ring ++ drop result buf.old }
-        ensures exact { self.new ≡ handed self.old result }
-    {
         self.ring.read_into(buf)
     }
 
-    fn clear(&mut self)
-        ensures { self.new ≡ record { session = self.old.session; rest = []; ring = [] } }
+    // What was queued or came is dropped, and the session takes this input.
+    fn reset(&mut self, input: Input, now: u64) -> Effects
+        ensures exact { self.new ≡ record { session = session_after input self.old.session; rest = []; ring = [] } }
+        ensures effects { result ≡ effects_of input self.old.session }
+    {
+        self.ring.clear();
+        self.hear(input, now)
+    }
+
+    // What came is dropped, and the session takes this input.
+    fn hear(&mut self, input: Input, now: u64) -> Effects
+        ensures exact { self.new ≡ record { session = session_after input self.old.session; rest = []; ring = self.old.ring } }
+        ensures effects { result ≡ effects_of input self.old.session }
     {
         self.rest.clear();
-        self.ring.clear();
+        self.session.input(input, now)
     }
 
     // Queues what a row says, where an UPDATE would find room.
@@ -271,7 +219,6 @@ impl<A: Allocator> Peer<A> {
 fn wanted(rest: &[u8], available: usize) -> usize
     requires { length rest.now ≤ 4096 }
     ensures count { result ≡ min (needed_of rest.now) available }
-    ensures few { result ≤ needed_of rest.now }
     ensures within { result ≤ available }
     ensures fits { length rest.now + result ≤ 4096 }
 {
