@@ -35,12 +35,13 @@ const NOTIFY: [u8; 12] = [1, 0, 0, 7, 0, 0, 0, 12, 0, 0, 0, 2];
 // An Error Report of an internal error, which quotes nothing.
 const INTERNAL_ERROR: [u8; 16] = [1, 10, 0, 1, 0, 0, 0, 16, 0, 0, 0, 0, 0, 0, 0, 0];
 
-// A call of the cache whose only client has the key 0, and what it answers with memory.
+// A call of the cache, of whose clients the one of the key 0 asks, and what it answers with memory.
 #[derive(Clone, Copy)]
 enum Call<'a> {
     // The serial of the set.
     Load(&'a BTreeSet<Vrp>, u32),
-    Up,
+    // The key of the client.
+    Up(u64),
     // The octets that the client is sent.
     Take(&'a [u8]),
     Query(&'a [u8], &'a [u8]),
@@ -79,7 +80,7 @@ fn step<A: Allocator + Clone>(
 fn answer_to<A: Allocator + Clone>(cache: &mut Cache<A>, call: Call<'_>) -> Answer {
     match call {
         Call::Load(set, serial) => step(cache, CacheEvent::Load(set), None, Some(serial)),
-        Call::Up => step(cache, CacheEvent::Up, Some(0), None),
+        Call::Up(key) => step(cache, CacheEvent::Up, Some(key), None),
         Call::Take(told) => taken(cache, told),
         Call::Query(query, told) => {
             if step(cache, CacheEvent::Bytes(0, query), None, None) != Answer::AsWithMemory {
@@ -99,27 +100,36 @@ fn taken<A: Allocator + Clone>(cache: &mut Cache<A>, told: &[u8]) -> Answer {
     }
 }
 
+// Makes the call again until it is answered. The request behind the refused one is refused too.
+fn at_last<A: Allocator + Clone>(rt: &impl Abort, cache: &mut Cache<A>, call: Call<'_>) {
+    match answer_to(cache, call) {
+        Answer::AsWithMemory => {}
+        answer => {
+            assert_eq!(rt; answer, Answer::NoMemory);
+            assert_eq!(rt; answer_to(cache, call), Answer::AsWithMemory);
+        }
+    }
+}
+
 // The call was refused: nothing else has changed, so that it is answered when it is made again. A query has closed its
-// client, and another one makes it.
+// client and no other, and another one makes it.
 fn again<A: Allocator + Clone>(rt: &impl Abort, cache: &mut Cache<A>, call: Call<'_>) -> Ending {
     let ending = match call {
         Call::Load(..) => Ending::Load,
-        Call::Up => Ending::Up,
+        Call::Up(_) => Ending::Up,
         Call::Take(_) => Ending::Nothing,
         Call::Query(..) => {
             assert_eq!(rt; cache.transport(0), Transport::Closing);
+            assert_eq!(rt; cache.transport(1), Transport::Open);
             assert_eq!(rt;
                 step(cache, CacheEvent::Down(0), None, None),
                 Answer::AsWithMemory
             );
-            assert_eq!(rt;
-                step(cache, CacheEvent::Up, Some(0), None),
-                Answer::AsWithMemory
-            );
+            at_last(rt, cache, Call::Up(0));
             Ending::Query
         }
     };
-    assert_eq!(rt; answer_to(cache, call), Answer::AsWithMemory);
+    at_last(rt, cache, call);
     ending
 }
 
@@ -152,10 +162,11 @@ fn one_payload(alloc: Global, prefix: &str) -> Result<BTreeSet<Vrp>, Fail> {
     Ok(set)
 }
 
-fn calls<'a>(first: &'a BTreeSet<Vrp>, second: &'a BTreeSet<Vrp>) -> [Call<'a>; 6] {
+fn calls<'a>(first: &'a BTreeSet<Vrp>, second: &'a BTreeSet<Vrp>) -> [Call<'a>; 7] {
     [
         Call::Load(first, 1),
-        Call::Up,
+        Call::Up(0),
+        Call::Up(1),
         Call::Query(&RESET_QUERY, &FIRST_VERSION),
         Call::Load(second, 2),
         Call::Take(&NOTIFY),
@@ -163,16 +174,19 @@ fn calls<'a>(first: &'a BTreeSet<Vrp>, second: &'a BTreeSet<Vrp>) -> [Call<'a>; 
     ]
 }
 
-// How the calls end, by n, until none is refused.
+// How the calls end, by n, until none is refused. Two requests in a row are refused, since a list that is refused room
+// for all that comes asks again, for less.
 fn endings(rt: &impl Abort, alloc: Global, calls: &[Call<'_>]) -> Result<Vec<Ending>, Fail> {
     let mut endings = Vec::new(alloc);
     for nth in 1..1_000u64 {
-        let heap = Refusing::new(alloc, nth);
+        let behind = Refusing::new(alloc, nth);
+        let heap = Refusing::new(&behind, nth);
         let ending = play(rt, &heap, calls);
         if !heap.has_refused() {
             assert_eq!(rt; ending, Ending::Nothing);
             return Ok(endings);
         }
+        assert_ne!(rt; ending, Ending::Nothing, "{nth}");
         endings.push(ending)?;
     }
     panic!(rt; "the calls make no end of requests");

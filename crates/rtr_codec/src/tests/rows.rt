@@ -34,11 +34,14 @@ const UNSUPPORTED_TYPE: PduFault = PduFault::Header(ErrorCode::UnsupportedType);
 const CORRUPT_DATA: PduFault = PduFault::Header(ErrorCode::CorruptData);
 
 #[rattlefmt::skip]
-const HEADERS: [([u8; 8], Place, PduFault); 16] = [
+const HEADERS: [([u8; 8], Place, PduFault); 20] = [
     // An Error Report of another version, or of a wrong length.
     ([0, 10, 0, 0, 0, 0, 0, 16],      AT_CACHE,         PduFault::Unanswered),
+    ([0, 10, 0, 0, 0, 0, 0, 16],      AT_LOADED_CLIENT, PduFault::Unanswered),
+    ([1, 10, 0, 0, 0, 0, 0, 15],      AT_CACHE,         PduFault::Unanswered),
     ([1, 10, 0, 0, 0, 0, 0, 15],      AT_CLIENT,        PduFault::Unanswered),
     ([1, 10, 0, 0, 0, 0, 0x10, 1],    AT_CACHE_LATER,   PduFault::Unanswered),
+    ([1, 10, 0, 0, 0, 0, 0x10, 1],    AT_LOADED_CLIENT, PduFault::Unanswered),
     // Another version.
     ([0, 2, 0, 0, 0, 0, 0, 8],        AT_CACHE,         UNSUPPORTED_VERSION),
     ([2, 2, 0, 0, 0, 0, 0, 8],        AT_CACHE_LATER,   UNEXPECTED_VERSION),
@@ -54,6 +57,7 @@ const HEADERS: [([u8; 8], Place, PduFault); 16] = [
     ([1, 4, 0, 0, 0, 0, 0, 21],       AT_CLIENT,        CORRUPT_DATA),
     ([1, 7, 0, 7, 0, 0, 1, 24],       AT_CLIENT,        CORRUPT_DATA),
     ([1, 9, 0, 0, 0, 0, 0, 31],       AT_LOADED_CLIENT, CORRUPT_DATA),
+    ([1, 9, 0, 0, 0, 0, 0x10, 1],     AT_CACHE,         CORRUPT_DATA),
     ([1, 9, 0, 0, 0, 0, 0x10, 1],     AT_LOADED_CLIENT, CORRUPT_DATA),
 ];
 
@@ -102,7 +106,9 @@ fn headers_are_judged_with_their_eighth_octet(rt: HostRuntime) {
 fn payloads_are_judged_with_their_last_octet(rt: HostRuntime) {
     for octets in PAYLOADS {
         let faulty = Step::Faulty(PduFault::Payload, &octets);
+        assert_eq!(rt; read(&octets, AT_CACHE), faulty, "{octets:?}");
         assert_eq!(rt; read(&octets, AT_LOADED_CLIENT), faulty, "{octets:?}");
+        assert_eq!(rt; read(&octets[..19], AT_CACHE), Step::Need);
         assert_eq!(rt; read(&octets[..19], AT_LOADED_CLIENT), Step::Need);
     }
 }

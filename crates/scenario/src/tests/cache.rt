@@ -1,7 +1,7 @@
 //! Clients of a cache: queries, responses, errors and Notifies.
 
-use super::transcript::{answers, plays};
-use std::alloc::{AllocError, Global};
+use super::transcript::{Transcript, answers, compare, plays};
+use std::alloc::Global;
 use std::test::Fail;
 
 const QUERIES_WITHOUT_A_SET: &str = "
@@ -125,32 +125,38 @@ fn a_kept_serial_gets_what_changed_since(rt: HostRuntime) -> Result<(), Fail> {
     plays(&rt, rt.alloc(), &[DELTAS])
 }
 
-// What the client of a cache with 18 versions is sent: version n is the one payload 10.0.n.0/24-24 AS65002.
-const OF_EIGHTEEN_VERSIONS: [&str; 3] = [
-    "01030007000000080104000000000014001818000A0002000000FDEA0104000000000014011818000A0012000000FDEA01070007000000180000001200000E100000025800001C20",
-    "0108000000000008",
-    "010300070000000801070007000000180000001200000E100000025800001C20",
+// The serial that a client of a cache with 18 versions asks about, and what it is sent.
+#[rattlefmt::skip]
+const OF_EIGHTEEN_VERSIONS: [(&str, &str); 3] = [
+    ("00000002", "01030007000000080104000000000014001818000A0002000000FDEA0104000000000014011818000A0012000000FDEA01070007000000180000001200000E100000025800001C20"),
+    ("00000001", "0108000000000008"),
+    ("00000012", "010300070000000801070007000000180000001200000E100000025800001C20"),
 ];
 
 #[test]
 fn sixteen_versions_are_kept_before_the_newest(rt: HostRuntime) -> Result<(), Fail> {
     let alloc = rt.alloc();
-    let mut script = String::new(alloc);
-    writeln!(script, "cache 7 3600 600 7200")?;
+    let mut transcript = eighteen_versions(alloc)?;
+    writeln!(transcript.script, "cup")?;
+    writeln!(transcript.told, "client 0")?;
+    for (serial, answer) in OF_EIGHTEEN_VERSIONS {
+        writeln!(
+            transcript.script,
+            "cbytes 0 010100070000000C{serial}\nctake 0 999"
+        )?;
+        writeln!(transcript.told, "ok\nout {answer}")?;
+    }
+    transcript.play(&rt, alloc)
+}
+
+// A cache with 18 versions: version n is the one payload 10.0.n.0/24-24 AS65002.
+fn eighteen_versions(alloc: Global) -> Result<Transcript, Fail> {
+    let mut transcript = Transcript::read(alloc, &["> cache 7 3600 600 7200\nok"])?;
     for version in 1..19u8 {
-        load_slash_24s(&mut script, version, 1)?;
+        load_slash_24s(&mut transcript.script, version, 1)?;
+        writeln!(transcript.told, "ok serial {version} rows 1 skipped 0")?;
     }
-    writeln!(script, "cup")?;
-    for serial in ["00000002", "00000001", "00000012"] {
-        writeln!(script, "cbytes 0 010100070000000C{serial}\nctake 0 999")?;
-    }
-    let found = answers(alloc, script.as_bytes())?;
-    let mut takes = found.lines().filter_map(|line| line.strip_prefix("out "));
-    for told in OF_EIGHTEEN_VERSIONS {
-        assert_eq!(rt; takes.next(), Some(told));
-    }
-    assert_eq!(rt; takes.next(), None);
-    Ok(())
+    Ok(transcript)
 }
 
 #[test]
@@ -161,15 +167,29 @@ fn a_response_is_one_version_across_a_load(rt: HostRuntime) -> Result<(), Fail> 
     load_slash_24s(&mut script, 0, 4_000)?;
     writeln!(script, "cup\ncbytes 0 0102000000000008\nctake 0 10000")?;
     load_slash_24s(&mut script, 0, 1)?;
-    writeln!(script, "ctake 0 100000\nctake 0 100000\nctake 0 100000")?;
+    for _ in 0..4 {
+        writeln!(script, "ctake 0 100000")?;
+    }
     writeln!(script, "ctick 1\nctake 0 99")?;
-    let found = answers(alloc, script.as_bytes())?;
-    let told = response_of_4000(alloc)?;
-    assert_eq!(rt; taken(alloc, &found)?.as_str(), told.as_str());
+    let told = told_across_a_load(alloc)?;
+    compare(&rt, &answers(alloc, script.as_bytes())?, &told);
     Ok(())
 }
 
-// The whole response of serial 1, and the Notify of serial 2 behind it.
+// The first take hands out 10,000 octets, the second what the ring then holds, the third the rest of the response.
+fn told_across_a_load(alloc: Global) -> Result<String, Fail> {
+    let response = response_of_4000(alloc)?;
+    let (first, behind) = response.split_at(2 * 10_000);
+    let (second, rest) = behind.split_at(2 * 65_428);
+    let mut told = String::new(alloc);
+    writeln!(told, "ok\nok serial 1 rows 4000 skipped 0\nclient 0\nok")?;
+    writeln!(told, "out {first}\nok serial 2 rows 1 skipped 0")?;
+    writeln!(told, "out {second}\nout {rest}\nout -\nout -\nok")?;
+    writeln!(told, "out 010000070000000C00000002")?;
+    Ok(told)
+}
+
+// The whole response of serial 1.
 fn response_of_4000(alloc: Global) -> Result<String, Fail> {
     let mut octets = String::new(alloc);
     write!(octets, "0103000700000008")?;
@@ -181,19 +201,6 @@ fn response_of_4000(alloc: Global) -> Result<String, Fail> {
         )?;
     }
     write!(octets, "01070007000000180000000100000E100000025800001C20")?;
-    write!(octets, "010000070000000C00000002")?;
-    Ok(octets)
-}
-
-// The octets of all takes, one behind the other.
-fn taken(alloc: Global, answers: &str) -> Result<String, AllocError> {
-    let mut octets = String::new(alloc);
-    for line in answers.lines() {
-        match line.strip_prefix("out ") {
-            Some("-") | None => {}
-            Some(hex) => octets.push_str(hex)?,
-        }
-    }
     Ok(octets)
 }
 
