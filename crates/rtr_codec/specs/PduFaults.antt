@@ -72,9 +72,3 @@ header_fault place octets =
     ∷ (is_unknown (type_of (kind_at octets)), Header UnsupportedType)
     ∷ (is_unlawful (type_of (kind_at octets)) (told_length octets), Header CorruptData)
     ∷ [])
-
--- the code of the Error Report that answers a fault; none where there is no answer
-abbrev pub code_of : PduFault → Option ErrorCode
-code_of Unanswered = None
-code_of (Header code) = Some code
-code_of Payload = Some CorruptData

@@ -179,8 +179,9 @@ fn a_response_is_one_version_across_a_load(rt: HostRuntime) -> Result<(), Fail> 
 // The first take hands out 10,000 octets, the second what the ring then holds, the third the rest of the response.
 fn told_across_a_load(alloc: Global) -> Result<String, Fail> {
     let response = response_of_4000(alloc)?;
-    let (first, behind) = response.split_at(2 * 10_000);
-    let (second, rest) = behind.split_at(2 * 65_428);
+    let first = response.get(..2 * 10_000).unwrap_or("");
+    let second = response.get(2 * 10_000..2 * 75_428).unwrap_or("");
+    let rest = response.get(2 * 75_428..).unwrap_or("");
     let mut told = String::new(alloc);
     writeln!(told, "ok\nok serial 1 rows 4000 skipped 0\nclient 0\nok")?;
     writeln!(told, "out {first}\nok serial 2 rows 1 skipped 0")?;
