@@ -17,8 +17,6 @@ mod path_writing;
 mod peer;
 mod prepending;
 mod reading;
-#[cfg(test)]
-mod tests;
 mod writing;
 
 pub use as_path::{AsPath, Segment, SegmentKind, neighbor_as, origin_as};

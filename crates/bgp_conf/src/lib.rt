@@ -9,8 +9,6 @@
 mod command;
 mod conf;
 mod refusal;
-#[cfg(test)]
-mod tests;
 
 pub use command::{Command, PeerConf};
 pub use conf::{Conf, ConfiguredPeer, MAX_REACH, PEER_SLOTS};

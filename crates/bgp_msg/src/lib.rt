@@ -26,6 +26,3 @@ pub use update::{
     written_update_is_read,
 };
 pub use writing::{write_announcement, write_keepalive, write_open, write_withdrawal};
-
-#[cfg(test)]
-mod tests;

@@ -8,8 +8,6 @@
 mod candidate;
 mod meter;
 mod selection;
-#[cfg(test)]
-mod tests;
 
 pub use candidate::{Candidate, LOCAL_SLOT, MAX_CANDIDATES};
 pub use meter::Meter;

@@ -5,7 +5,5 @@
 #![tactic(auto)]
 
 mod export;
-#[cfg(test)]
-mod tests;
 
 pub use export::{ExportPeer, MAX_EXPORTED_ATTRIBUTES, export_of};

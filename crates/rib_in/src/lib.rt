@@ -11,6 +11,3 @@ mod fault;
 
 pub use adj_in::{AdjIn, RouteKey, Routes};
 pub use fault::RibFault;
-
-#[cfg(test)]
-mod tests;

@@ -8,6 +8,3 @@
 mod adj_out;
 
 pub use adj_out::{AdjOut, HeldRoutes};
-
-#[cfg(test)]
-mod tests;

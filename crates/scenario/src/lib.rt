@@ -5,7 +5,7 @@
 //! language doesn't have ends the run with its number, a `load` without an `end` with that of the `load`; what the
 //! lines before it answered has been written by then. Proved is that no script makes a function go wrong, that a
 //! number is digits alone, and that a bad line names its own number, counted from 1; what a script answers is shown
-//! by the transcripts in `tests`. No sockets and no clock are here: octets and commands stand in the script.
+//! by the crate transcripts. No sockets and no clock are here: octets and commands stand in the script.
 #![tactic(auto)]
 
 mod answer;
@@ -13,8 +13,6 @@ mod cache;
 mod fields;
 mod line;
 mod script;
-#[cfg(test)]
-mod tests;
 
 pub use answer::Answer;
 pub use line::{CacheLine, Line, LineFault, SpeakerLine, Table};

@@ -11,8 +11,6 @@ mod header;
 mod list;
 mod meaning;
 mod row;
-#[cfg(test)]
-mod tests;
 
 pub use fault::{CsvFault, RowFault};
 pub use list::{Loaded, read_list};

@@ -17,6 +17,3 @@ pub use fault::DeltaFault;
 pub use versions::{
     KEPT_VERSIONS, Snapshot, Versions, newest_are_kept, same_sets_are_equal, serials_name_versions,
 };
-
-#[cfg(test)]
-mod tests;

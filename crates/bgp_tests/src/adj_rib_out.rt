@@ -1,0 +1,66 @@
+//! The table on its happy path, and a refused growth.
+use net_prefix::Prefix;
+use refusing::Refusing;
+use rib_out::AdjOut;
+use std::alloc::Allocator;
+use std::process::Abort;
+use std::test::Fail;
+
+#[test]
+fn the_peer_holds_what_it_was_last_sent(rt: HostRuntime) -> Result<(), Fail> {
+    let low = Prefix::new(0x0a00_0000, 16)?;
+    let high = Prefix::new(0x0a00_0000, 24)?;
+    let mut table = AdjOut::new(rt.alloc())?;
+    table.announce(high, b"three")?;
+    table.announce(low, b"one")?;
+    table.announce(low, b"two")?;
+    assert!(rt; table.holds(low, b"two"));
+    assert!(rt; !table.holds(low, b"one"));
+    assert_eq!(rt; table.prefix_after(None), Some(low));
+    assert_eq!(rt; table.prefix_after(Some(low)), Some(high));
+    table.withdraw(low);
+    assert!(rt; table.get(low).is_none());
+    for (prefix, octets) in table.held() {
+        assert_eq!(rt; prefix, high);
+        assert_eq!(rt; octets, b"three".as_slice());
+    }
+    table.clear();
+    assert_eq!(rt; table.prefix_after(None), None);
+    Ok(())
+}
+
+// Fills the table, and asks again where a growth is refused. Answers how often one was.
+fn fill<A: Allocator + Clone>(rt: &impl Abort, heap: A) -> Result<u32, Fail> {
+    let Ok(mut table) = AdjOut::new(heap) else {
+        return Ok(1);
+    };
+    let mut refused = 0u32;
+    for number in 0..64u32 {
+        let prefix = Prefix::new(number * 256, 24)?;
+        if table.announce(prefix, &[7; 40]).is_err() {
+            refused = refused.saturating_add(1);
+            assert!(rt; table.get(prefix).is_none());
+            let mut held = 0u32;
+            for (_, octets) in table.held() {
+                assert_eq!(rt; octets, [7; 40].as_slice());
+                held = held.saturating_add(1);
+            }
+            assert_eq!(rt; held, number);
+            assert!(rt; table.announce(prefix, &[7; 40]).is_ok());
+        }
+    }
+    Ok(refused)
+}
+
+#[test]
+fn a_refused_growth_leaves_the_table(rt: HostRuntime) -> Result<(), Fail> {
+    for nth in 1..1_000u64 {
+        let heap = Refusing::new(rt.alloc(), nth);
+        let refused = fill(&rt, &heap)?;
+        if !heap.has_refused() {
+            assert_eq!(rt; refused, 0);
+            return Ok(());
+        }
+    }
+    panic!(rt; "no end");
+}

@@ -1,0 +1,197 @@
+//! Octets from outside.
+
+use arrayvec::ArrayVec;
+use bgp_attr::{
+    AsPath, AttributeType, Attrs, AttrsToWrite, Class, Origin, PeerKind, SegmentKind, UpdateFault,
+    neighbor_as, origin_as, prepend, read_attrs, write_attrs,
+};
+use net_prefix::Asn;
+use std::test::Fail;
+
+const PEER: PeerKind = PeerKind::External(Asn(65001));
+
+const OWN: Asn = Asn(65000);
+
+#[rattlefmt::skip]
+const RECEIVED: [u8; 20] = [
+    0x40, 1, 1, 0,
+    0x40, 2, 6, 2, 1, 0, 0, 0xFD, 0xE9,
+    0x40, 3, 4, 0xC0, 0, 2, 0x0B,
+];
+
+// The same in another order, with low flag bits, the partial bit, and lengths of two octets.
+#[rattlefmt::skip]
+const SPELLED_OTHERWISE: [u8; 22] = [
+    0x60, 3, 4, 0xC0, 0, 2, 0x0B,
+    0x5F, 2, 0, 6, 2, 1, 0, 0, 0xFD, 0xE9,
+    0x50, 1, 0, 1, 0,
+];
+
+// AS_SEQUENCE 65001, AS_SET {65005, 65006}.
+#[rattlefmt::skip]
+const WITH_A_SET: [u8; 19] = [
+    0x40, 2, 16, 2, 1, 0, 0, 0xFD, 0xE9, 1, 2, 0, 0, 0xFD, 0xED, 0, 0, 0xFD, 0xEE,
+];
+
+#[rattlefmt::skip]
+const PREPENDED: [u8; 13] = [0x40, 2, 10, 2, 2, 0, 0, 0xFD, 0xE8, 0, 0, 0xFD, 0xE9];
+
+#[rattlefmt::skip]
+const BEHIND_A_FULL_SEGMENT: [u8; 12] = [0x50, 2, 4, 4, 2, 1, 0, 0, 0xFD, 0xE8, 2, 0xFF];
+
+// What is wrong with the octets, and the subcode; none where they cannot be told to the peer.
+#[rattlefmt::skip]
+const FAULTS: [(&str, &[u8], Option<u8>); 20] = [
+    ("no length",                &[0x40, 1],                                      Some(1)),
+    ("cut off",                  &[0x40, 1, 2, 0],                                Some(1)),
+    ("half a length",            &[0x50, 2, 0],                                   Some(1)),
+    ("twice",                    &[0x40, 1, 1, 0, 0x40, 1, 1, 0],                 Some(1)),
+    ("twice, and wrong",         &[0x40, 1, 1, 0, 0xC0, 1, 1, 3],                 Some(1)),
+    ("wrong before cut off",     &[0x40, 1, 1, 3, 0x40],                          Some(6)),
+    ("optional",                 &[0xC0, 1, 1, 0],                                Some(4)),
+    ("not transitive",           &[0x00, 1, 2, 0, 0],                             Some(4)),
+    ("two octets of origin",     &[0x40, 1, 2, 0, 3],                             Some(5)),
+    ("three octets of next hop", &[0x40, 3, 3, 0, 0, 0],                          Some(5)),
+    ("origin 3",                 &[0x40, 1, 1, 3],                                Some(6)),
+    ("loopback",                 &[0x40, 3, 4, 0x7F, 0, 0, 1],                    Some(8)),
+    ("multicast",                &[0x40, 3, 4, 224, 0, 0, 1],                     Some(8)),
+    ("no first AS",              &[0x40, 2, 0],                                   Some(11)),
+    ("another first AS",         &[0x40, 2, 6, 2, 1, 0, 0, 0, 1],                 Some(11)),
+    ("a set first",              &[0x40, 2, 6, 1, 1, 0, 0, 0xFD, 0xE9],           Some(11)),
+    ("AS 0",                     &[0x40, 2, 10, 2, 2, 0, 0, 0xFD, 0xE9, 0, 0, 0, 0], Some(11)),
+    ("a segment of no AS",       &[0x40, 2, 8, 2, 1, 0, 0, 0xFD, 0xE9, 2, 0],     Some(11)),
+    ("a segment of type 3",      &[0x40, 2, 6, 3, 1, 0, 0, 0xFD, 0xE9],           Some(11)),
+    ("not supported",            &[0x80, 4, 4, 0, 0, 0, 0],                       None),
+];
+
+#[test]
+fn what_came_is_written_again(rt: HostRuntime) -> Result<(), Fail> {
+    let attrs = read_attrs(rt.alloc(), &RECEIVED, PEER)?;
+    assert_eq!(rt; attrs.missing(), None);
+    assert_eq!(rt; attrs.origin(), Some(Origin::Igp));
+    assert_eq!(rt; attrs.next_hop(), Some(0xC000_020B));
+    let mut out = ArrayVec::new();
+    assert!(rt; write_attrs(&attrs.as_received(), &mut out));
+    assert_eq!(rt; out.as_slice(), RECEIVED.as_slice());
+    Ok(())
+}
+
+#[test]
+fn several_spellings_are_read_alike(rt: HostRuntime) -> Result<(), Fail> {
+    let attrs = read_attrs(rt.alloc(), &SPELLED_OTHERWISE, PEER)?;
+    let mut out = ArrayVec::new();
+    assert!(rt; write_attrs(&attrs.as_received(), &mut out));
+    assert_eq!(rt; out.as_slice(), RECEIVED.as_slice());
+    Ok(())
+}
+
+#[test]
+fn a_missing_next_hop_is_told(rt: HostRuntime) -> Result<(), Fail> {
+    let attrs = read_attrs(rt.alloc(), &RECEIVED[..13], PEER)?;
+    assert_eq!(rt; attrs.missing(), Some(AttributeType::NextHop));
+    Ok(())
+}
+
+#[test]
+fn a_path_is_told_by_its_segments(rt: HostRuntime) -> Result<(), Fail> {
+    let attrs = read_attrs(rt.alloc(), &WITH_A_SET, PEER)?;
+    assert_eq!(rt; attrs.missing(), Some(AttributeType::Origin));
+    assert!(rt; attrs.as_path().is_some_and(is_the_path_with_a_set));
+    Ok(())
+}
+
+fn is_the_path_with_a_set(path: &AsPath) -> bool {
+    let [first, second] = path.segments() else {
+        return false;
+    };
+    first.kind() == SegmentKind::Sequence
+        && second.kind() == SegmentKind::Set
+        && first.asns() == [Asn(65001)].as_slice()
+        && second.asns() == [Asn(65005), Asn(65006)].as_slice()
+        && path.length() == 2
+        && path.contains(Asn(65006))
+        && !path.contains(OWN)
+        && origin_as(path, OWN).is_none()
+        && neighbor_as(path, OWN) == Asn(65001)
+}
+
+#[test]
+fn an_as_joins_the_first_sequence(rt: HostRuntime) -> Result<(), Fail> {
+    let attrs = read_attrs(rt.alloc(), &RECEIVED, PEER)?;
+    let mut out = ArrayVec::new();
+    assert!(rt; write_prepended(&attrs, &mut out));
+    assert_eq!(rt; out.as_slice(), PREPENDED.as_slice());
+    Ok(())
+}
+
+#[test]
+fn an_as_begins_a_segment_before_a_full_one(rt: HostRuntime) -> Result<(), Fail> {
+    let mut octets = vec![in rt.alloc(); 0x50, 2, 0x03, 0xFE, 2, 0xFF]?;
+    for _ in 0..255 {
+        octets.extend_from_slice(&[0, 0, 0xFD, 0xE9])?;
+    }
+    let attrs = read_attrs(rt.alloc(), octets.as_slice(), PEER)?;
+    let mut out = ArrayVec::new();
+    assert!(rt; write_prepended(&attrs, &mut out));
+    assert!(rt; out.as_slice().starts_with(&BEHIND_A_FULL_SEGMENT));
+    Ok(())
+}
+
+#[test]
+fn the_first_fault_is_told(rt: HostRuntime) -> Result<(), Fail> {
+    for (what, octets, wanted) in FAULTS {
+        let Err(fault) = read_attrs(rt.alloc(), octets, PEER) else {
+            return Err(Fail::new(what));
+        };
+        assert_eq!(rt; fault.subcode(), wanted, "{what}");
+    }
+    Ok(())
+}
+
+#[test]
+fn a_fault_tells_the_whole_attribute(rt: HostRuntime) -> Result<(), Fail> {
+    let octets = [0x40, 3, 4, 0xC0, 0, 2, 0x0B, 0x40, 1, 1, 3];
+    let Err(fault) = read_attrs(rt.alloc(), &octets, PEER) else {
+        return Err(Fail::new("origin 3"));
+    };
+    assert_eq!(rt; fault.code(), Some(3));
+    assert_eq!(rt; fault.data(), [0x40, 1, 1, 3].as_slice());
+    assert_eq!(rt; fault.number(), None);
+    assert_eq!(rt; UpdateFault::NoMemory.number(), Some(21));
+    Ok(())
+}
+
+#[test]
+fn an_internal_path_begins_with_any_as(rt: HostRuntime) -> Result<(), Fail> {
+    let empty = read_attrs(rt.alloc(), &[0x40, 2, 0], PeerKind::Internal)?;
+    assert_eq!(rt; empty.as_path().map(|path| path.length()), Some(0));
+    let other = [0x40, 2, 6, 2, 1, 0, 0, 0, 1];
+    let attrs = read_attrs(rt.alloc(), &other, PeerKind::Internal)?;
+    assert_eq!(rt; attrs.as_path().map(|path| path.length()), Some(1));
+    Ok(())
+}
+
+#[test]
+fn types_have_their_codes(rt: HostRuntime) -> Result<(), Fail> {
+    let next_hop = AttributeType::from_octet(3);
+    assert_eq!(rt; next_hop, Some(AttributeType::NextHop));
+    assert_eq!(rt; AttributeType::NextHop.octet(), 3);
+    assert_eq!(rt; AttributeType::NextHop.class(), Class::WellKnown);
+    assert_eq!(rt; AttributeType::NextHop.length(), Some(4));
+    assert_eq!(rt; AttributeType::NextHop.written_flags(), 0x40);
+    assert_eq!(rt; Origin::from_octet(2), Some(Origin::Incomplete));
+    assert_eq!(rt; Origin::Incomplete.octet(), 2);
+    Ok(())
+}
+
+fn write_prepended(attrs: &Attrs, out: &mut ArrayVec<u8, 4096>) -> bool {
+    let Some(path) = attrs.as_path() else {
+        return false;
+    };
+    let prepended = AttrsToWrite {
+        origin: None,
+        as_path: Some(prepend(path, OWN, 1)),
+        next_hop: None,
+    };
+    write_attrs(&prepended, out)
+}

@@ -1,0 +1,18 @@
+//! Tests alone, of the crates below the speaker: octets from outside, the rows of their tables, and tables of routes
+//! with each growth refused in turn. A file is named for what it tests.
+#![tactic(auto)]
+
+#[cfg(test)]
+mod adj_rib_in;
+#[cfg(test)]
+mod adj_rib_out;
+#[cfg(test)]
+mod attributes;
+#[cfg(test)]
+mod commands;
+#[cfg(test)]
+mod export;
+#[cfg(test)]
+mod messages;
+#[cfg(test)]
+mod selection;

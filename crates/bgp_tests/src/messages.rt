@@ -1,0 +1,238 @@
+//! Messages in octets, as peers send them.
+use arrayvec::ArrayVec;
+use bgp_attr::{AttributeType, PeerKind, UpdateFault};
+use bgp_msg::{
+    Expected, Fault, Frame, HeaderFault, MessageType, Open, OpenFault, Step, Update, needed, read,
+    read_open, read_update, write_announcement, write_keepalive, write_open, write_withdrawal,
+};
+use net_prefix::{Asn, Prefix};
+use std::test::Fail;
+
+// ORIGIN IGP, AS_PATH 65001, NEXT_HOP 192.0.2.11.
+const ATTRIBUTES: [u8; 20] = [
+    0x40, 1, 1, 0, 0x40, 2, 6, 2, 1, 0, 0, 0xFD, 0xE9, 0x40, 3, 4, 0xC0, 0, 2, 0x0B,
+];
+
+const OWN_OPEN: [u8; 21] = [
+    0, 0x25, 1, 4, 0xFD, 0xE8, 0, 0xB4, 0xC0, 0, 2, 1, 8, 2, 6, 0x41, 4, 0, 0, 0xFD, 0xE8,
+];
+
+// The octets behind a marker.
+fn marked(octets: &[u8]) -> ArrayVec<u8, 4096> {
+    let mut message = ArrayVec::new();
+    let _marker = message.try_extend_from_slice(&[255; 16]);
+    let _fits = message.try_extend_from_slice(octets);
+    message
+}
+
+// The body of an UPDATE that withdraws 10.0.1.0/24 and announces what is handed in.
+fn body_with(announced: &[u8]) -> ArrayVec<u8, 4096> {
+    let mut body = ArrayVec::new();
+    let _withdrawn = body.try_extend_from_slice(&[0, 4, 0x18, 10, 0, 1, 0, 0x14]);
+    let _attributes = body.try_extend_from_slice(&ATTRIBUTES);
+    let _announced = body.try_extend_from_slice(announced);
+    body
+}
+
+// An OPEN of AS 65001: hold time 90, identifier 1.1.1.1, the capability of AS numbers of four octets.
+const PEER_OPEN: [u8; 21] = [
+    0, 0x25, 1, 4, 0xFD, 0xE9, 0, 0x5A, 1, 1, 1, 1, 8, 2, 6, 0x41, 4, 0, 0, 0xFD, 0xE9,
+];
+
+// An UPDATE that withdraws and announces 10.0.1.0/24.
+fn update_of_one_prefix() -> ArrayVec<u8, 4096> {
+    let mut message = marked(&[0, 0x33, 2]);
+    let body = body_with(&[0x18, 10, 0, 1]);
+    let _fits = message.try_extend_from_slice(body.as_slice());
+    message
+}
+
+// Whether each front of the message is waited for, and the whole of it is a message, whatever follows.
+fn is_read_when_whole(message: &[u8], kind: MessageType) -> bool {
+    for count in 0..message.len() {
+        if read(&message[..count]) != Step::Need || needed(&message[..count]) == 0 {
+            return false;
+        }
+    }
+    let mut more: ArrayVec<u8, 4096> = ArrayVec::new();
+    let _fits = more.try_extend_from_slice(message);
+    let _fits = more.try_extend_from_slice(&[255, 0]);
+    let is_whole = match (read(message), read(more.as_slice())) {
+        (Step::Message(alone, used), Step::Message(first, used_of_more)) => {
+            alone.kind == kind && first == alone && used == message.len() && used_of_more == used
+        }
+        _ => false,
+    };
+    is_whole
+}
+
+#[test]
+fn a_message_is_waited_for_octet_by_octet(rt: HostRuntime) {
+    assert!(rt; is_read_when_whole(marked(&[0, 0x13, 4]).as_slice(), MessageType::Keepalive));
+    assert!(rt; is_read_when_whole(marked(&PEER_OPEN).as_slice(), MessageType::Open));
+    assert!(rt; is_read_when_whole(update_of_one_prefix().as_slice(), MessageType::Update));
+}
+
+#[test]
+fn headers_are_judged_in_order(rt: HostRuntime) {
+    let told_18 = HeaderFault::BadMessageLength(18);
+    assert!(rt; read(marked(&[0, 0x12, 4]).as_slice()) == Step::Faulty(told_18));
+    assert!(rt;
+        read(marked(&[0x10, 1, 2]).as_slice()) == Step::Faulty(HeaderFault::BadMessageLength(4097))
+    );
+    assert!(rt;
+        read(marked(&[0, 0x14, 4]).as_slice()) == Step::Faulty(HeaderFault::BadMessageLength(20))
+    );
+    assert!(rt;
+        read(marked(&[0, 0x13, 5]).as_slice()) == Step::Faulty(HeaderFault::BadMessageType(5))
+    );
+    assert!(rt; read(&[0; 19]) == Step::Faulty(HeaderFault::ConnectionNotSynchronized));
+    let fault = Fault::Header(told_18);
+    let mut octets = ArrayVec::new();
+    fault.write_data(&mut octets);
+    assert!(rt; octets.as_slice() == [0, 0x12].as_slice());
+    assert!(rt; fault.code() == Some(1) && fault.subcode() == Some(2));
+}
+
+#[test]
+fn a_keepalive_is_whole_with_its_19th_octet(rt: HostRuntime) {
+    let mut message = ArrayVec::new();
+    write_keepalive(&mut message);
+    assert!(rt; message.as_slice() == marked(&[0, 0x13, 4]).as_slice());
+    assert!(rt;
+        matches!(
+            read(message.as_slice()),
+            Step::Message(
+                Frame {
+                    kind: MessageType::Keepalive,
+                    ..
+                },
+                19
+            )
+        )
+    );
+    assert!(rt; needed(message.as_slice()) == 0);
+    let cut = marked(&[0, 0x13]);
+    assert!(rt; read(cut.as_slice()) == Step::Need);
+    assert!(rt; needed(cut.as_slice()) == 1);
+    assert!(rt; needed(marked(&[0, 0x25, 1]).as_slice()) == 18);
+}
+
+#[test]
+fn opens_are_written_and_read(rt: HostRuntime) {
+    let own = Open {
+        asn: Asn(65000),
+        hold_time: 180,
+        identifier: 0xC0000201,
+    };
+    let mut message = ArrayVec::new();
+    write_open(&own, &mut message);
+    assert!(rt; message.as_slice() == marked(&OWN_OPEN).as_slice());
+    let expected = Expected {
+        peer_asn: Asn(65000),
+        own_asn: Asn(65001),
+        own_identifier: 0x01010101,
+    };
+    assert!(rt; read_open(&OWN_OPEN[3..], expected) == Ok(own));
+    let other = Expected {
+        peer_asn: Asn(65002),
+        own_asn: Asn(65001),
+        own_identifier: 0x01010101,
+    };
+    assert!(rt; read_open(&OWN_OPEN[3..], other) == Err(OpenFault::BadPeerAs));
+    let none = [4, 0xFD, 0xE8, 0, 0xB4, 0xC0, 0, 2, 1, 0];
+    let fault = OpenFault::UnsupportedCapability(Asn(65001));
+    assert!(rt; read_open(&none, expected) == Err(fault));
+    assert!(rt; fault.data().as_slice() == [0x41, 4, 0, 0, 0xFD, 0xE9].as_slice());
+    assert!(rt; fault.code() == 2 && fault.subcode() == 7);
+}
+
+#[test]
+fn faulty_opens_are_told_apart(rt: HostRuntime) {
+    let expected = Expected {
+        peer_asn: Asn(65001),
+        own_asn: Asn(65000),
+        own_identifier: 0xC0000201,
+    };
+    let peer = Open {
+        asn: Asn(65001),
+        hold_time: 90,
+        identifier: 0x01010101,
+    };
+    assert!(rt; read_open(&PEER_OPEN[3..], expected) == Ok(peer));
+    let version_3 = [
+        3, 0xFD, 0xE9, 0, 0x5A, 1, 1, 1, 1, 8, 2, 6, 0x41, 4, 0, 0, 0xFD, 0xE9,
+    ];
+    let fault = OpenFault::UnsupportedVersion;
+    assert!(rt; read_open(&version_3, expected) == Err(fault));
+    assert!(rt; fault.subcode() == 1 && fault.data().as_slice() == [0, 4].as_slice());
+    let hold_2 = [
+        4, 0xFD, 0xE9, 0, 2, 1, 1, 1, 1, 8, 2, 6, 0x41, 4, 0, 0, 0xFD, 0xE9,
+    ];
+    assert!(rt; read_open(&hold_2, expected) == Err(OpenFault::UnacceptableHoldTime));
+    let cut = [
+        4, 0xFD, 0xE9, 0, 0x5A, 1, 1, 1, 1, 8, 2, 6, 0x41, 5, 0, 0, 0xFD, 0xE9,
+    ];
+    assert!(rt; read_open(&cut, expected) == Err(OpenFault::MalformedParameters));
+    let other = [
+        4, 0xFD, 0xE9, 0, 0x5A, 1, 1, 1, 1, 8, 1, 6, 0x41, 4, 0, 0, 0xFD, 0xE9,
+    ];
+    assert!(rt; read_open(&other, expected) == Err(OpenFault::UnsupportedParameter));
+}
+
+#[test]
+fn updates_name_their_prefixes(rt: HostRuntime) -> Result<(), Fail> {
+    let kind = PeerKind::External(Asn(65001));
+    let body = body_with(&[0x18, 10, 0, 0, 0x17, 10, 0, 1]);
+    let update = read_update(rt.alloc(), body.as_slice(), kind)
+        .ok()
+        .ok_or("an UPDATE")?;
+    let mut withdrawn = update.withdrawn();
+    assert!(rt; withdrawn.next() == Prefix::new(0x0A000100, 24).ok());
+    assert!(rt; withdrawn.next() == None);
+    let mut announced = update.announced();
+    assert!(rt; announced.next() == Prefix::new(0x0A000000, 24).ok());
+    assert!(rt; announced.next() == Prefix::new(0x0A000000, 23).ok());
+    assert!(rt; announced.next() == None);
+    assert!(rt; update.attrs().next_hop() == Some(0xC000020B));
+    assert!(rt; update.into_attrs().next_hop() == Some(0xC000020B));
+    let nothing = read_update(rt.alloc(), &[0, 0, 0, 0], kind)
+        .ok()
+        .ok_or("an UPDATE")?;
+    assert!(rt; nothing.announced().next() == None);
+    Ok(())
+}
+
+#[test]
+fn faulty_updates_are_refused(rt: HostRuntime) {
+    let kind = PeerKind::External(Asn(65001));
+    let long = body_with(&[0x21, 10, 0, 0, 0, 0]);
+    let fault = read_update(rt.alloc(), long.as_slice(), kind).err();
+    assert!(rt; fault == Some(UpdateFault::InvalidNetworkField));
+    let fault = read_update(rt.alloc(), &[0, 0, 0, 0, 0x18, 10, 0, 1], kind).err();
+    assert!(rt; matches!(fault, Some(UpdateFault::MissingWellKnown(_))));
+    assert!(rt;
+        read_update(rt.alloc(), &[0, 1, 0, 0], kind).err()
+            == Some(UpdateFault::MalformedAttributeList)
+    );
+    // ORIGIN and AS_PATH without NEXT_HOP, and 10.0.1.0/24.
+    let no_next_hop = [
+        0, 0, 0, 13, 0x40, 1, 1, 0, 0x40, 2, 6, 2, 1, 0, 0, 0xFD, 0xE9, 0x18, 10, 0, 1,
+    ];
+    let fault = read_update(rt.alloc(), &no_next_hop, kind).err();
+    assert!(rt; fault == Some(UpdateFault::MissingWellKnown(AttributeType::NextHop)));
+}
+
+#[test]
+fn updates_are_written(rt: HostRuntime) -> Result<(), Fail> {
+    let prefix = Prefix::new(0x0A000100, 24).ok().ok_or("a prefix")?;
+    let mut message = ArrayVec::new();
+    write_withdrawal(&[prefix], &mut message);
+    assert!(rt; message.as_slice() == marked(&[0, 0x1B, 2, 0, 4, 0x18, 10, 0, 1, 0, 0]).as_slice());
+    write_announcement(&ATTRIBUTES, &[prefix], &mut message);
+    let mut wanted = marked(&[0, 0x2F, 2, 0, 0, 0, 0x14]);
+    let _fits = wanted.try_extend_from_slice(&ATTRIBUTES);
+    let _fits = wanted.try_extend_from_slice(&[0x18, 10, 0, 1]);
+    assert!(rt; message.as_slice() == wanted.as_slice());
+    Ok(())
+}

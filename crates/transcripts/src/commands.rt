@@ -1,0 +1,167 @@
+//! Lines that are none, and commands that are refused.
+
+use crate::transcript::{BOTH_COME_UP, TWO_PEERS, answers, plays};
+use scenario::{PlayFault, play};
+use std::test::Fail;
+
+// Lines that the language doesn't have.
+const BAD_LINES: [&str; 38] = [
+    "hello",
+    "speaker 65000 192.0.2.1 nocache",
+    "speaker 65000 192.0.2.1 cache",
+    "speaker 65000 192.0.2.1",
+    "peer 0 65001 192.0.2.11 192.0.2.1 passive 180 all",
+    "peer 0 65001 192.0.2.11 192.0.2.1 passive 180 all ",
+    "peer 0 65001 192.0.2.11 192.0.2.1 passive 180 all all all",
+    "peer 0 65001 192.0.2.11 192.0.2.1 Passive 180 all all",
+    "peer 0 65001 192.0.2.256 192.0.2.1 passive 180 all all",
+    "peer 0 65001 192.0.2.011 192.0.2.1 passive 180 all all",
+    "peer 0 65001 192.0.2 192.0.2.1 passive 180 all all",
+    "peer 0 65001 192.0.2.11 192.0.2.1 passive 65536 all all",
+    "peer 0 4294967296 192.0.2.11 192.0.2.1 passive 180 all all",
+    "peer 256 65001 192.0.2.11 192.0.2.1 passive 180 all all",
+    "enable",
+    "enable 0 0",
+    "enable  0",
+    " enable 0",
+    "enable 0 ",
+    "enable +0",
+    "enable -1",
+    "enable 256",
+    "enable 0x1",
+    "reach 192.0.2.1/24 10",
+    "reach 192.0.2.0/33 10",
+    "reach 192.0.2.0 10",
+    "reach 192.0.2.0/24 4294967296",
+    "bytes 0",
+    "bytes 0 ",
+    "bytes 0 F",
+    "bytes 0 FG",
+    "bytes 0 FF FF",
+    "take 0 4294967296",
+    "show",
+    "show payloads",
+    "show in",
+    "show held 256",
+    "tick 1",
+];
+
+#[test]
+fn a_line_that_the_language_lacks_ends_the_run(rt: HostRuntime) -> Result<(), Fail> {
+    let alloc = rt.alloc();
+    for line in BAD_LINES {
+        let script = format!(in alloc; "speaker 65000 192.0.2.1 nocache\n{line}\nshow rib\n")?;
+        let found = answers(alloc, script.as_bytes())?;
+        assert_eq!(rt; found.as_str(), "ok\nline 2: bad line\n", "{line}");
+    }
+    Ok(())
+}
+
+// Scripts whose line ends, comments and numbers are out of the ordinary, and what they answer.
+const UNUSUAL: [(&[u8], &str); 9] = [
+    (b"", ""),
+    (b"# \xC3\xA9\n\n\r\n#", ""),
+    (b"show rib", "line 1: bad line\n"),
+    (b"\n# a comment\n\nup 0\n", "line 4: bad line\n"),
+    (b"speaker 65000 192.0.2.1 nocache", "ok\n"),
+    (
+        b"speaker 65000 192.0.2.1 nocache\r\nshow rib\r\n",
+        "ok\nend\n",
+    ),
+    (
+        b"speaker 0065000 192.0.2.1 nocache\ntake 063 1\n",
+        "ok\nrefused 40\n",
+    ),
+    (
+        b"speaker 65000 192.0.2.1 nocache\nshow \xC3\xA9\n",
+        "ok\nline 2: bad line\n",
+    ),
+    (
+        b"speaker 0 192.0.2.1 nocache\nspeaker 1 192.0.2.1 nocache\n",
+        "refused 33\nok\n",
+    ),
+];
+
+#[test]
+fn comments_line_ends_and_leading_zeros_pass(rt: HostRuntime) -> Result<(), Fail> {
+    let alloc = rt.alloc();
+    for (script, told) in UNUSUAL {
+        let found = answers(alloc, script)?;
+        assert_eq!(rt; found.as_str(), told);
+    }
+    Ok(())
+}
+
+const REFUSED_COMMANDS: &str = "
+> peer 64 65003 192.0.2.13 192.0.2.1 passive 180 all all
+refused 40
+> peer 0 65003 192.0.2.13 192.0.2.1 passive 180 all all
+refused 43
+> peer 2 65003 192.0.2.12 192.0.2.1 passive 180 all all
+refused 45
+> peer 2 65000 192.0.2.13 192.0.2.1 passive 180 all all
+refused 33
+> peer 2 0 192.0.2.13 192.0.2.1 passive 180 all all
+refused 33
+> peer 2 65003 192.0.2.13 192.0.2.1 active 180 all all
+refused 33
+> peer 2 65003 192.0.2.13 192.0.2.1 passive 2 all all
+refused 33
+> peer 2 65003 192.0.2.13 192.0.2.1 passive 180 all another
+refused 30
+> enable 2
+refused 40
+> show sessions
+0 Active
+1 Active
+end
+";
+
+#[test]
+fn commands_are_refused_and_change_nothing(rt: HostRuntime) -> Result<(), Fail> {
+    plays(&rt, rt.alloc(), &[TWO_PEERS, REFUSED_COMMANDS])
+}
+
+const REFUSED_EVENTS: &str = "
+> bytes 9 00
+refused 40
+> up 2
+refused 40
+> fail 255
+refused 40
+> take 2 10
+refused 40
+> up 0
+refused 42
+> show in 9
+end
+> show held 200
+end
+> show waiting 64
+end
+> fail 0
+ok
+> bytes 0 00
+refused 42
+> show sessions
+0 Idle
+1 Established
+end
+";
+
+#[test]
+fn events_are_refused_where_they_do_not_fit(rt: HostRuntime) -> Result<(), Fail> {
+    plays(&rt, rt.alloc(), &[TWO_PEERS, BOTH_COME_UP, REFUSED_EVENTS])
+}
+
+// The answer is `ok` and a line feed.
+#[test]
+fn a_writer_without_room_is_a_device_fault(rt: HostRuntime) {
+    let script: &[u8] = b"speaker 65000 192.0.2.1 nocache";
+    let mut octets = [0u8; 2];
+    let mut room = octets.as_mut_slice();
+    assert_eq!(rt; play(rt.alloc(), script, &mut room), Err(PlayFault::Device));
+    let mut octets = [0u8; 3];
+    let mut room = octets.as_mut_slice();
+    assert_eq!(rt; play(rt.alloc(), script, &mut room), Ok(()));
+}

@@ -1,0 +1,79 @@
+//! What is announced, and what waits.
+
+use crate::transcript::{BOTH_COME_UP, MARKER, TWO_PEERS, Transcript, plays};
+use std::alloc::{AllocError, Global};
+use std::test::Fail;
+
+// The ASes that follow the first one in a segment of 255.
+fn following_ases(alloc: Global) -> Result<String, AllocError> {
+    let mut text = String::new(alloc);
+    for asn in 70_000u32..70_254 {
+        write!(text, "{asn:08X}")?;
+    }
+    Ok(text)
+}
+
+#[test]
+fn a_full_segment_is_prepended_by_a_new_one(rt: HostRuntime) -> Result<(), Fail> {
+    let alloc = rt.alloc();
+    let ases = following_ases(alloc)?;
+    let received = format!(in alloc;
+        "> bytes 0 M 0428 02 0000 040D 40010100 500203FE 02FF 0000FDE9 {ases} 400304C000020B 180A0001\nok\n"
+    )?;
+    let sent = format!(in alloc;
+        "> take 1 9999\nout M 042E 02 0000 0413 40010100 50020404 0201 0000FDE8 02FF 0000FDE9 {ases} 400304C0000201 180A0001\n"
+    )?;
+    plays(
+        &rt,
+        alloc,
+        &[TWO_PEERS, BOTH_COME_UP, received.as_str(), sent.as_str()],
+    )
+}
+
+// Of 2,000 prefixes that slot 0 announces, 1,125 UPDATEs of 51 octets are queued: 8,161 octets are free then.
+const ANNOUNCED: u16 = 2000;
+
+const QUEUED: u16 = 1125;
+
+fn announce(transcript: &mut Transcript, index: u16) -> Result<(), AllocError> {
+    let attributes = "4001010040020602010000FDE9400304C000020B";
+    writeln!(
+        transcript.script,
+        "bytes 0 {MARKER}002F0200000014{attributes}180A{index:04X}"
+    )?;
+    writeln!(transcript.told, "ok")
+}
+
+fn show_waiting(transcript: &mut Transcript, queued: u16) -> Result<(), AllocError> {
+    writeln!(transcript.script, "show waiting 1")?;
+    for index in queued..ANNOUNCED {
+        let (high, low) = (index / 256, index % 256);
+        writeln!(transcript.told, "10.{high}.{low}.0/24")?;
+    }
+    writeln!(transcript.told, "end")
+}
+
+fn take_some(transcript: &mut Transcript, count: u16, octets: &str) -> Result<(), AllocError> {
+    writeln!(transcript.script, "take 1 {count}")?;
+    writeln!(transcript.told, "out {octets}")
+}
+
+#[test]
+fn a_full_ring_lets_prefixes_wait(rt: HostRuntime) -> Result<(), Fail> {
+    let alloc = rt.alloc();
+    let mut transcript = Transcript::read(alloc, &[TWO_PEERS, BOTH_COME_UP])?;
+    for index in 0..ANNOUNCED {
+        announce(&mut transcript, index)?;
+    }
+    show_waiting(&mut transcript, QUEUED)?;
+    // 30 octets taken leave 8,191 free: nothing is queued. One more makes room for the next UPDATE.
+    take_some(
+        &mut transcript,
+        30,
+        "FFFFFFFFFFFFFFFFFFFFFFFFFFFFFFFF003302000000184001010040020A",
+    )?;
+    show_waiting(&mut transcript, QUEUED)?;
+    take_some(&mut transcript, 1, "02")?;
+    show_waiting(&mut transcript, QUEUED + 1)?;
+    transcript.play(&rt, alloc)
+}

@@ -1,0 +1,24 @@
+//! Tests alone: scripts and their answers, a file for a subject.
+//!
+//! `transcript` says how a script is written down and compared. The scripts go through `scenario::play`, so each of
+//! them runs all that stands below it.
+#![tactic(auto)]
+
+#[cfg(test)]
+mod cache;
+#[cfg(test)]
+mod cache_pdus;
+#[cfg(test)]
+mod commands;
+#[cfg(test)]
+mod export;
+#[cfg(test)]
+mod payload_list;
+#[cfg(test)]
+mod selection;
+#[cfg(test)]
+mod sessions;
+#[cfg(test)]
+mod transcript;
+#[cfg(test)]
+mod updates;

@@ -1,0 +1,128 @@
+//! How a transcript is read: `> ` marks a line that is handed in, the lines below it are its answers. `M` stands
+//! for the marker of a message, and spaces within octets are for the eye.
+
+use scenario::play;
+use std::alloc::{AllocError, Global};
+use std::process::Abort;
+use std::test::Fail;
+
+pub const MARKER: &str = "FFFFFFFFFFFFFFFFFFFFFFFFFFFFFFFF";
+
+/// A speaker and two peers that are enabled.
+pub const TWO_PEERS: &str = "
+> speaker 65000 192.0.2.1 nocache
+ok
+> reach 192.0.2.0/24 10
+ok
+> peer 0 65001 192.0.2.11 192.0.2.1 passive 180 all all
+ok
+> peer 1 65002 192.0.2.12 192.0.2.1 passive 180 all all
+ok
+> enable 0
+ok
+> enable 1
+ok
+";
+
+/// Both sessions come up, and what was queued is taken.
+pub const BOTH_COME_UP: &str = "
+> up 0
+ok
+> up 1
+ok
+> bytes 0 M 0025 01 04 FDE9 005A 01010101 08 02 06 4104 0000FDE9
+ok
+> bytes 1 M 0025 01 04 FDEA 005A 02020202 08 02 06 4104 0000FDEA
+ok
+> bytes 0 M 0013 04
+ok
+> bytes 1 M 0013 04
+ok
+> take 0 1000
+out M 0025 01 04 FDE8 00B4 C0000201 08 02 06 4104 0000FDE8 M 0013 04
+> take 1 1000
+out M 0025 01 04 FDE8 00B4 C0000201 08 02 06 4104 0000FDE8 M 0013 04
+";
+
+/// What a script answers, a line for each answer; a fault that ends it is the last.
+pub fn answers(alloc: Global, script: &[u8]) -> Result<String, Fail> {
+    let mut written = Vec::new(alloc);
+    let fault = play(alloc, script, &mut written).err();
+    let mut answers = String::from_utf8_lossy(alloc, written.as_slice())?;
+    if let Some(fault) = fault {
+        writeln!(answers, "{fault}")?;
+    }
+    Ok(answers)
+}
+
+/// The lines that are handed in, and the answers that are told.
+#[derive(Drop)]
+pub struct Transcript {
+    pub script: String,
+    pub told: String,
+}
+
+impl Transcript {
+    /// The transcript whose parts follow each other.
+    pub fn read(alloc: Global, parts: &[&str]) -> Result<Transcript, AllocError> {
+        let mut script = String::new(alloc);
+        let mut told = String::new(alloc);
+        for part in parts {
+            for line in part.lines() {
+                match line.strip_prefix("> ") {
+                    Some(line) => push_line(&mut script, line)?,
+                    None => push_line(&mut told, line)?,
+                }
+            }
+        }
+        Ok(Transcript { script, told })
+    }
+
+    /// Plays what is handed in, and compares the answers.
+    pub fn play(&self, rt: &impl Abort, alloc: Global) -> Result<(), Fail> {
+        let found = answers(alloc, self.script.as_bytes())?;
+        compare(rt, &found, &self.told);
+        Ok(())
+    }
+}
+
+/// Plays a transcript and compares the answers.
+pub fn plays(rt: &impl Abort, alloc: Global, parts: &[&str]) -> Result<(), Fail> {
+    Transcript::read(alloc, parts)?.play(rt, alloc)
+}
+
+/// Compares answers line by line.
+pub fn compare(rt: &impl Abort, found: &str, told: &str) {
+    for (number, (line, wanted)) in found.lines().zip(told.lines()).enumerate() {
+        assert_eq!(rt; line, wanted, "answer {number}");
+    }
+    assert_eq!(rt; found.lines().count(), told.lines().count());
+}
+
+fn push_line(text: &mut String, line: &str) -> Result<(), AllocError> {
+    if line.is_empty() {
+        return Ok(());
+    }
+    match line.split_once(" M ") {
+        None => text.push_str(line)?,
+        Some((words, octets)) => {
+            text.push_str(words)?;
+            text.push(' ')?;
+            text.push_str(MARKER)?;
+            push_octets(text, octets)?;
+        }
+    }
+    text.push('\n')
+}
+
+// Octets without the spaces, and with each marker written out.
+fn push_octets(text: &mut String, octets: &str) -> Result<(), AllocError> {
+    for letter in octets.chars() {
+        match letter {
+            ' ' => {}
+            'M' => text.push_str(MARKER)?,
+            _ => text.push(letter)?,
+        }
+    }
+    Ok(())
+}
