@@ -1,13 +1,17 @@
 //! What is wrong with a message, and what a NOTIFICATION says of it (RFC 4271 section 6).
-ghost use Rattle.std.specs.Prelude.{◌≡◌, ◌≤◌, length};
+ghost use Rattle.std.specs.Prelude.{◌≡◌, ◌≤◌, take};
 ghost use Rattle.bgp_msg.specs.MessageFaults.{header_subcode, header_data, open_subcode, open_data, fault_code, fault_subcode, fault_data};
 
 use crate::open_message::four_octet_as;
+use crate::writing::append;
 use arrayvec::ArrayVec;
 use bgp_attr::UpdateFault;
 use byteorder::{BigEndian, ByteOrder};
 use net_prefix::Asn;
 use thiserror::Error;
+
+/// The most octets of the data of a NOTIFICATION: a message without its header, its code and its subcode.
+const MAX_DATA: usize = 4075;
 
 /// What is wrong with a header (RFC 4271 section 6.1).
 #[derive(Clone, Copy, Debug, PartialEq, Eq, Error)]
@@ -155,15 +159,24 @@ impl Fault<'_> {
         }
     }
 
-    /// Writes the data that a NOTIFICATION carries, where a message has room for it.
+    /// Writes the data that a NOTIFICATION carries: of a longer attribute than any message holds, as much as one has
+    /// room for.
     pub fn write_data(&self, out: &mut ArrayVec<u8, 4096>)
-        ensures { length (fault_data self.now) ≤ 4096 → out.new.items ≡ fault_data self.now }
+        ensures { out.new.items ≡ take 4075 (fault_data self.now) }
     {
-        out.clear();
-        let _fits = match self {
-            Fault::Header(fault) => out.try_extend_from_slice(fault.data().as_slice()),
-            Fault::Open(fault) => out.try_extend_from_slice(fault.data().as_slice()),
-            Fault::Update(fault) => out.try_extend_from_slice(fault.data()),
-        };
+        match self {
+            Fault::Header(fault) => write_front(fault.data().as_slice(), MAX_DATA, out),
+            Fault::Open(fault) => write_front(fault.data().as_slice(), MAX_DATA, out),
+            Fault::Update(fault) => write_front(fault.data(), MAX_DATA, out),
+        }
     }
+}
+
+// Writes the octets anew, so many of them at most.
+fn write_front(octets: &[u8], most: usize, out: &mut ArrayVec<u8, 4096>)
+    requires { most ≤ 4096 }
+    ensures { out.new.items ≡ take most octets.now }
+{
+    out.clear();
+    append(&octets[..octets.len().min(most)], out);
 }

@@ -40,7 +40,7 @@ pub fn write_keepalive(out: &mut ArrayVec<u8, 4096>)
 /// Writes an UPDATE that withdraws these prefixes.
 #[tactic(auto, unfolding(crate::specs::MessageSpelling::update_of))]
 pub fn write_withdrawal(prefixes: &[Prefix], out: &mut ArrayVec<u8, 4096>)
-    requires { 5 * length prefixes.now ≤ 4073 }
+    requires { 23 + length (wire_form prefixes.now) ≤ 4096 }
     ensures octets { out.new.items ≡ update_of (wire_form prefixes.now) [] [] }
     ensures len { length out.new.items ≡ 23 + length (wire_form prefixes.now) }
     ensures least { 23 ≤ length out.new.items }
@@ -56,7 +56,7 @@ pub fn write_withdrawal(prefixes: &[Prefix], out: &mut ArrayVec<u8, 4096>)
 /// Writes an UPDATE that announces these prefixes with these octets of path attributes.
 #[tactic(auto, unfolding(crate::specs::MessageSpelling::update_of))]
 pub fn write_announcement(attrs: &[u8], prefixes: &[Prefix], out: &mut ArrayVec<u8, 4096>)
-    requires { length attrs.now + 5 * length prefixes.now ≤ 4073 }
+    requires { 23 + length attrs.now + length (wire_form prefixes.now) ≤ 4096 }
     ensures octets { out.new.items ≡ update_of [] attrs.now (wire_form prefixes.now) }
     ensures len { length out.new.items ≡ 23 + length attrs.now + length (wire_form prefixes.now) }
     ensures least { 23 ≤ length out.new.items }
@@ -93,7 +93,8 @@ fn begin(kind: MessageType, told: u16, out: &mut ArrayVec<u8, 4096>)
     append(&[kind.octet()], out);
 }
 
-fn append(octets: &[u8], out: &mut ArrayVec<u8, 4096>)
+// Writes these octets behind what is written.
+pub(crate) fn append(octets: &[u8], out: &mut ArrayVec<u8, 4096>)
     requires { length out.old.items + length octets.now ≤ 4096 }
     ensures octets { out.new.items ≡ out.old.items ++ octets.now }
     ensures len { length out.new.items ≡ length out.old.items + length octets.now }
@@ -122,10 +123,9 @@ fn append_u32(number: u32, out: &mut ArrayVec<u8, 4096>)
 }
 
 fn append_prefixes(prefixes: &[Prefix], out: &mut ArrayVec<u8, 4096>)
-    requires { length out.old.items + 5 * length prefixes.now ≤ 4096 }
+    requires { length out.old.items + length (wire_form prefixes.now) ≤ 4096 }
     ensures octets { out.new.items ≡ out.old.items ++ wire_form prefixes.now }
     ensures len { length out.new.items ≡ length out.old.items + length (wire_form prefixes.now) }
-    ensures most { length (wire_form prefixes.now) ≤ 5 * length prefixes.now }
 {
     for prefix in prefixes {
         append(prefix.to_octets().as_slice(), out);
@@ -134,9 +134,8 @@ fn append_prefixes(prefixes: &[Prefix], out: &mut ArrayVec<u8, 4096>)
 
 // How many octets the prefixes take in their wire form.
 fn wire_length(prefixes: &[Prefix]) -> u16
-    requires { 5 * length prefixes.now ≤ 4096 }
-    ensures value { result ≡ length (wire_form prefixes.now) }
-    ensures most { result ≤ 5 * length prefixes.now }
+    requires { length (wire_form prefixes.now) ≤ 4096 }
+    ensures { result ≡ length (wire_form prefixes.now) }
 {
     let mut total = 0;
     for prefix in prefixes {

@@ -1,14 +1,16 @@
 -- What a step keeps is what no member beats.
-use Rattle.std.proofs.Common.{◌≡◌, ℕ, Bool, true, false, not, ◌||◌, ◌&&◌, if◌then◌else◌, nat_lt, nat_le, min, max, List, [], ◌∷◌, fold, filter, Some, None, refl, sym, ◌∙◌, ap, arith}
-use Rattle.std.specs.List.{list_any}
+use Rattle.std.proofs.Common.{◌≡◌, ℕ, Bool, true, false, not, ◌||◌, ◌&&◌, if◌then◌else◌, nat_lt, nat_le, min, max, List, [], ◌∷◌, ◌++◌, fold, filter, Some, None, slice_get, unwrap_or, refl, sym, ◌∙◌, ap, arith}
+use Rattle.std.specs.List.{list_all, list_any}
+use Rattle.std.proofs.lemmas.List.Folds.{list_all-append}
 use Rattle.std.proofs.lemmas.List.Elements.{filter_agree}
 use Rattle.std.proofs.lemmas.Bool.Decides.{nat_tests}
 use Rattle.decision.specs.declared.candidate.Candidate.{Candidate}
 use Rattle.std.proofs.Math.Path.{fun_ext}
+use Rattle.decision.specs.declared.selection.Bound.{Bound}
 use Rattle.decision.specs.declared.selection.Step.{Step}
 use Rattle.decision.specs.declared.selection.Step.TheVariants.{FewestAses, LowestOrigin, ExternalFirst, LowestCost, LowestIdentifier, LowestAddress}
 use Rattle.decision.specs.Selection.{unbeaten, has_greater_degree}
-use Rattle.decision.specs.Steps.{beats, key_of, greatest_of, lowest_of}
+use Rattle.decision.specs.Steps.{beats, key_of, greatest_of, is_within, lower, lowest_of}
 
 or_turn : (a b c : Bool) → ((a || b) || c) ≡ (b || (a || c))
 or_turn true true c = refl
@@ -84,14 +86,63 @@ beats-key LowestCost = refl
 beats-key LowestIdentifier = refl
 beats-key LowestAddress = refl
 
+fold_some : (key : Candidate → ℕ) (m : ℕ) (cs : List Candidate) → fold (λ lowest c. Some (lower lowest (key c))) (Some m) cs ≡ Some (fold (λ lowest d. min (key d) lowest) m cs)
+fold_some key m [] = refl
+fold_some key m (c ∷ cs) = fold_some key (min (key c) m) cs
+
 -- what a step keeps, where there is a lowest number and where there is none
 pub step_keeps : (step : Step) (cs : List Candidate) (key : ℕ) → lowest_of (key_of step) cs ≡ Some key →
     filter (λ x. nat_le (key_of step x) key) cs ≡ unbeaten (beats step) cs
 step_keeps step [] key e = cc
 step_keeps step (c ∷ cs) key e =
+    let some : Some (fold (λ lowest d. min (key_of step d) lowest) (key_of step c) cs) ≡ Some key = sym (fold_some (key_of step) (key_of step c) cs) ∙ e in
     let is : fold (λ lowest d. min (key_of step d) lowest) (key_of step c) cs ≡ key = cc in
     ap (λ k. filter (λ x. nat_le (key_of step x) k) (c ∷ cs)) (sym is) ∙ lowest_unbeaten (key_of step) c cs ∙ ap (λ b. unbeaten b (c ∷ cs)) (beats-key step)
 
-pub step_keeps_none : (step : Step) (cs : List Candidate) → lowest_of (key_of step) cs ≡ None → [] ≡ unbeaten (beats step) cs
+pub step_keeps_none : (step : Step) (cs : List Candidate) → lowest_of (key_of step) cs ≡ None → cs ≡ unbeaten (beats step) cs
 step_keeps_none step [] e = none_unbeaten (beats step)
-step_keeps_none step (c ∷ cs) e = cc
+step_keeps_none step (c ∷ cs) e =
+    let some : Some (fold (λ lowest d. min (key_of step d) lowest) (key_of step c) cs) ≡ None = sym (fold_some (key_of step) (key_of step c) cs) ∙ e in
+    cc
+
+-- candidates within one bound more
+and_regroup : (a b c : Bool) → ((a && (b && true)) && c) ≡ (b && (a && c))
+and_regroup true true c = refl
+and_regroup true false c = refl
+and_regroup false true c = refl
+and_regroup false false c = refl
+
+within_more : (degree : ℕ) (bounds : List Bound) (step : Step) (most : ℕ) (c : Candidate)
+    → is_within degree (bounds ++ record { step = step; most = most } ∷ []) c ≡ (nat_le (key_of step c) most && is_within degree bounds c)
+within_more degree bounds step most c =
+    ap (λ b. b && nat_le degree c.degree) (list_all-append (λ (bound : Bound). nat_le (key_of bound.step c) bound.most) bounds (record { step = step; most = most } ∷ []))
+    ∙ and_regroup (list_all (λ (bound : Bound). nat_le (key_of bound.step c) bound.most) bounds) (nat_le (key_of step c) most) (nat_le degree c.degree)
+
+kept_by : (a b : Bool) (c : Candidate) (q : Candidate → Bool) (rest : List Candidate) → q c ≡ b
+    → (if b && a then c ∷ filter q rest else filter q rest) ≡ filter q (if a then c ∷ rest else rest)
+kept_by true true c q rest e = ap (λ x. if x then c ∷ filter q rest else filter q rest) (sym e)
+kept_by true false c q rest e = ap (λ x. if x then c ∷ filter q rest else filter q rest) (sym e)
+kept_by false true c q rest e = refl
+kept_by false false c q rest e = refl
+
+filter_twice : (p q : Candidate → Bool) (cs : List Candidate) → filter (λ c. q c && p c) cs ≡ filter q (filter p cs)
+filter_twice p q [] = refl
+filter_twice p q (c ∷ cs) =
+    ap (λ (rest : List Candidate). if q c && p c then c ∷ rest else rest) (filter_twice p q cs)
+    ∙ kept_by (p c) (q c) c q (filter p cs) refl
+
+pub left_more : (degree : ℕ) (bounds : List Bound) (step : Step) (most : ℕ) (cs : List Candidate)
+    → filter (is_within degree (bounds ++ record { step = step; most = most } ∷ [])) cs
+    ≡ filter (λ c. nat_le (key_of step c) most) (filter (is_within degree bounds) cs)
+left_more degree bounds step most cs =
+    filter_agree _ _ (λ c. within_more degree bounds step most c) cs
+    ∙ filter_twice (is_within degree bounds) (λ c. nat_le (key_of step c) most) cs
+
+-- the first of candidates, as a fold finds it
+first_kept : (c : Candidate) (cs : List Candidate) → fold (λ first d. Some (unwrap_or first d)) (Some c) cs ≡ Some c
+first_kept c [] = refl
+first_kept c (d ∷ cs) = first_kept c cs
+
+pub fold_first : (cs : List Candidate) → fold (λ first c. Some (unwrap_or first c)) None cs ≡ slice_get cs 0
+fold_first [] = refl
+fold_first (c ∷ cs) = first_kept c cs

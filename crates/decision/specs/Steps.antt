@@ -1,7 +1,10 @@
 -- The steps of the selection as the code names them.
-use Rattle.std.specs.Prelude.{ℕ, Bool, Option, None, Some, List, [], ◌∷◌, fold, max, min, if◌then◌else◌}
+use Rattle.std.specs.Prelude.{ℕ, Bool, Option, None, Some, List, fold, filter, max, min, nat_le, ◌&&◌, if◌then◌else◌}
 use Rattle.bgp_attr.specs.PathAttributes.{origin_octet}
 use Rattle.decision.specs.declared.candidate.Candidate.{Candidate}
+use Rattle.std.specs.List.{list_all}
+use Rattle.decision.specs.declared.selection.Bound.{Bound}
+use Rattle.decision.specs.declared.selection.Left.{Left}
 use Rattle.decision.specs.declared.selection.Step.{Step}
 use Rattle.decision.specs.declared.selection.Step.TheVariants.{FewestAses, LowestOrigin, ExternalFirst, LowestCost, LowestIdentifier, LowestAddress}
 use Rattle.decision.specs.Selection.{has_fewer_ases, has_lower_origin, is_external_alone, has_lower_cost, has_lower_identifier, has_lower_address}
@@ -24,11 +27,27 @@ key_of LowestCost c = c.cost
 key_of LowestIdentifier c = c.identifier
 key_of LowestAddress c = c.address
 
+-- the lower one of two numbers, of which the first may be none
+abbrev pub lower : Option ℕ → ℕ → ℕ
+lower None key = key
+lower (Some lowest) key = min key lowest
+
 -- the lowest of the numbers
 abbrev pub lowest_of : (Candidate → ℕ) → List Candidate → Option ℕ
-lowest_of key [] = None
-lowest_of key (c ∷ cs) = Some (fold (λ lowest d. min (key d) lowest) (key c) cs)
+lowest_of key cs = fold (λ lowest c. Some (lower lowest (key c))) None cs
 
 -- the greatest degree of preference
 abbrev pub greatest_of : List Candidate → ℕ
 greatest_of cs = fold (λ greatest c. max c.degree greatest) 0 cs
+
+-- no number of the candidate is above the bound of its step
+abbrev pub is_bounded_by : List Bound → Candidate → Bool
+is_bounded_by bounds c = list_all (λ bound. nat_le (key_of bound.step c) bound.most) bounds
+
+-- nor is its degree below this one
+abbrev pub is_within : ℕ → List Bound → Candidate → Bool
+is_within degree bounds c = is_bounded_by bounds c && nat_le degree c.degree
+
+-- the candidates that are left
+abbrev pub left_of : Left → List Candidate
+left_of left = filter (λ c. is_within left.degree left.bounds.items c) left.candidates.now

@@ -1,15 +1,12 @@
 //! The steps of the selection.
-ghost use Rattle.std.specs.Prelude.{◌≡◌, ◌≢◌, ◌≤◌, ◌+◌, ◌-◌, ◌^◌, [], filter, length, min, nat_le, All, Contains, IfSome, MatchOption, slice_get};
+ghost use Rattle.std.specs.Prelude.{◌≡◌, ◌≢◌, ◌≤◌, ◌+◌, ◌-◌, ◌^◌, ◌<◌, [], fold, length, min, None, Some, unwrap_or, All, Contains, IfSome, MatchOption, slice_get};
 ghost use Rattle.decision.specs.Selection.{AreDistinct, IsSelected, has_greater_degree, selection, unbeaten};
-ghost use Rattle.decision.specs.Steps.{beats, greatest_of, key_of, lowest_of};
+ghost use Rattle.decision.specs.Steps.{beats, greatest_of, is_bounded_by, is_within, key_of, left_of, lower, lowest_of};
 ghost use Rattle.decision.specs.declared.candidate.Candidate.{Candidate as Route};
 
-use crate::candidate::{Candidate, MAX_CANDIDATES};
+use crate::candidate::Candidate;
 use crate::meter::Meter;
 use arrayvec::ArrayVec;
-
-// The candidates that are left.
-type Left = ArrayVec<Candidate, MAX_CANDIDATES>;
 
 // The steps that break ties (RFC 4271 section 9.1.2.2).
 #[derive(Clone, Copy)]
@@ -38,9 +35,103 @@ impl Step {
     }
 }
 
+// What a step leaves: the candidates whose number is this one or below.
+#[derive(Clone, Copy)]
+struct Bound {
+    step: Step,
+    most: u32,
+}
+
+impl Default for Bound {
+    ghost use Rattle.decision.specs.declared.selection.Step.TheVariants.{FewestAses};
+
+    ghost is_default = { λ bound. bound ≡ record { step = FewestAses; most = 0 } };
+
+    fn default() -> Bound {
+        Bound {
+            step: Step::FewestAses,
+            most: 0,
+        }
+    }
+}
+
+// The candidates that are left: those of this degree of preference and above, and within the bounds of the steps so far.
+#[derive(Drop)]
+struct Left<'a> {
+    candidates: &'a [Candidate],
+    degree: u64,
+    bounds: ArrayVec<Bound, 6>,
+}
+
+impl<'a> Left<'a> {
+    // Whether the candidate is left.
+    fn holds(&self, candidate: &Candidate) -> bool
+        ensures { result ≡ is_within self.now.degree self.now.bounds.items candidate.now }
+    {
+        self.is_bounded(candidate) && self.degree <= candidate.degree
+    }
+
+    // Whether it is within the bounds.
+    fn is_bounded(&self, candidate: &Candidate) -> bool
+        ensures { result ≡ is_bounded_by self.now.bounds.items candidate.now }
+    {
+        self.bounds
+            .iter()
+            .all(|bound| bound.step.key(candidate) <= bound.most)
+    }
+
+    // The first of them.
+    fn first(&self) -> Option<Candidate>
+        ensures { result ≡ fold (λ first c. Some (unwrap_or first c)) None (left_of self.now) }
+    {
+        self.candidates
+            .iter()
+            .filter(|candidate| self.holds(candidate))
+            .fold(None, |first, candidate| {
+                Some(first.unwrap_or(*candidate))
+            })
+    }
+
+    // Those of the lowest key.
+    fn lowest(mut self, step: Step) -> Left<'a>
+        requires { length self.bounds.items < 6 }
+        ensures left { left_of result ≡ unbeaten (beats step) (left_of self.entry) }
+        ensures steps { length result.bounds.items ≤ length self.entry.bounds.items + 1 }
+    {
+        match self.lowest_key(step) {
+            Some(most) => {
+                self.bounds.push(Bound { step, most });
+                self
+            }
+            None => self,
+        }
+    }
+
+    // Their lowest key.
+    fn lowest_key(&self, step: Step) -> Option<u32>
+        ensures { result ≡ lowest_of (key_of step) (left_of self.now) }
+    {
+        self.candidates
+            .iter()
+            .filter(|candidate| self.holds(candidate))
+            .fold(None, |lowest, candidate| {
+                Some(lower_of(lowest, step.key(candidate)))
+            })
+    }
+}
+
+// The lower one of two keys, of which the first may be none.
+fn lower_of(lowest: Option<u32>, key: u32) -> u32
+    ensures { result ≡ lower lowest key }
+{
+    match lowest {
+        Some(lowest) => key.min(lowest),
+        None => key,
+    }
+}
+
 /// The candidate that the selection leaves (RFC 4271 sections 9.1.1 and 9.1.2.2), and none where there are none.
 pub fn choose(meter: &mut Meter, candidates: &[Candidate]) -> Option<Candidate>
-    requires few { length candidates.now ≤ MAX_CANDIDATES }
     requires distinct { AreDistinct candidates.now }
     ensures counted { meter.new.count ≡ min (meter.old.count + 1) (2 ^ 64 - 1) }
     ensures selected { MatchOption result (candidates.now ≡ []) (λ c. IsSelected candidates.now c) }
@@ -56,7 +147,6 @@ pub fn choose(meter: &mut Meter, candidates: &[Candidate]) -> Option<Candidate>
 
 // A candidate alone needs no steps.
 fn best_of(candidates: &[Candidate]) -> Option<Candidate>
-    requires few { length candidates.now ≤ MAX_CANDIDATES }
     requires distinct { AreDistinct candidates.now }
     ensures { MatchOption result (candidates.now ≡ []) (λ c. IsSelected candidates.now c) }
 {
@@ -68,26 +158,28 @@ fn best_of(candidates: &[Candidate]) -> Option<Candidate>
 
 // What the selection leaves of more than one candidate.
 fn selected(candidates: &[Candidate]) -> Option<Candidate>
-    requires few { length candidates.now ≤ MAX_CANDIDATES }
     ensures { result ≡ slice_get (selection candidates.now) 0 }
 {
     let left = preferred(candidates);
-    let left = lowest(left.as_slice(), Step::FewestAses); // (a)
-    let left = lowest(left.as_slice(), Step::LowestOrigin); // (b)
-    let left = lowest(left.as_slice(), Step::ExternalFirst); // (d)
-    let left = lowest(left.as_slice(), Step::LowestCost); // (e)
-    let left = lowest(left.as_slice(), Step::LowestIdentifier); // (f)
-    let left = lowest(left.as_slice(), Step::LowestAddress); // (g)
-    left.first().copied()
+    let left = left.lowest(Step::FewestAses); // (a)
+    let left = left.lowest(Step::LowestOrigin); // (b)
+    let left = left.lowest(Step::ExternalFirst); // (d)
+    let left = left.lowest(Step::LowestCost); // (e)
+    let left = left.lowest(Step::LowestIdentifier); // (f)
+    let left = left.lowest(Step::LowestAddress); // (g)
+    left.first()
 }
 
 // The candidates of the greatest degree of preference.
-fn preferred(candidates: &[Candidate]) -> Left
-    requires { length candidates.now ≤ MAX_CANDIDATES }
-    ensures { result.items ≡ unbeaten has_greater_degree candidates.now }
+fn preferred(candidates: &[Candidate]) -> Left<'_>
+    ensures left { left_of result ≡ unbeaten has_greater_degree candidates.now }
+    ensures steps { result.bounds.items ≡ [] }
 {
-    let greatest = greatest_degree(candidates);
-    from_degree(candidates, greatest)
+    Left {
+        candidates,
+        degree: greatest_degree(candidates),
+        bounds: ArrayVec::new(),
+    }
 }
 
 // The greatest degree of preference of the candidates.
@@ -97,58 +189,6 @@ fn greatest_degree(candidates: &[Candidate]) -> u64
     candidates
         .iter()
         .fold(0, |greatest, candidate| candidate.degree.max(greatest))
-}
-
-// The candidates of this degree of preference and above.
-fn from_degree(candidates: &[Candidate], degree: u64) -> Left
-    requires { length candidates.now ≤ MAX_CANDIDATES }
-    ensures { result.items ≡ filter (λ c. nat_le degree c.degree) candidates.now }
-{
-    let mut kept = Left::new();
-    for candidate in candidates {
-        if degree <= candidate.degree {
-            kept.push(*candidate);
-        }
-    }
-    kept
-}
-
-// The candidates of the lowest key.
-fn lowest(candidates: &[Candidate], step: Step) -> Left
-    requires { length candidates.now ≤ MAX_CANDIDATES }
-    ensures { result.items ≡ unbeaten (beats step) candidates.now }
-{
-    match lowest_key(candidates, step) {
-        Some(key) => up_to_key(candidates, step, key),
-        None => Left::new(),
-    }
-}
-
-// The lowest key of the candidates.
-fn lowest_key(candidates: &[Candidate], step: Step) -> Option<u32>
-    ensures { result ≡ lowest_of (key_of step) candidates.now }
-{
-    let (first, rest) = candidates.split_first()?;
-    Some(
-        rest.iter().fold(
-            step.key(first),
-            |lowest, candidate| step.key(candidate).min(lowest),
-        ),
-    )
-}
-
-// The candidates of this key and below.
-fn up_to_key(candidates: &[Candidate], step: Step, key: u32) -> Left
-    requires { length candidates.now ≤ MAX_CANDIDATES }
-    ensures { result.items ≡ filter (λ c. nat_le (key_of step c) key) candidates.now }
-{
-    let mut kept = Left::new();
-    for candidate in candidates {
-        if step.key(candidate) <= key {
-            kept.push(*candidate);
-        }
-    }
-    kept
 }
 
 /// Distinct candidates, of which there is one at least, leave one.
