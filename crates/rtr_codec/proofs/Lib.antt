@@ -3,6 +3,7 @@ pub mod Payloads
 pub mod Queueing
 pub mod ReaderAnswers
 pub mod ReadResponses
+pub mod SpelledPdus
 pub mod Spellings
 pub mod StreamPieces
 pub mod StreamSplits

@@ -7,3 +7,4 @@ pub mod PduStream
 pub mod PduTypes
 pub mod Receiving
 pub mod Responses
+pub mod SpelledPdus

@@ -35,22 +35,34 @@ content_of CacheReset = Cache_reset
 content_of (RouterKey body) = Router_key body.now
 content_of (ErrorReport code quoted) = Error_report code quoted.now
 
--- a PDU: version 1, its type, two octets of its own, the length of the whole PDU, and what follows
-abbrev pub pdu_octets : ℕ → ℕ → List ℕ → List ℕ
-pdu_octets kind two body = 1 ∷ kind ∷ (to_be_bytes w16 two ++ (to_be_bytes w32 (8 + length body) ++ body))
+-- a PDU: its version, its type, two octets of its own, the length of the whole PDU, and what follows
+abbrev pub versioned_octets : ℕ → ℕ → ℕ → List ℕ → List ℕ
+versioned_octets version kind two body = version ∷ kind ∷ (to_be_bytes w16 two ++ (to_be_bytes w32 (8 + length body) ++ body))
 
--- an IPv4 Prefix behind its header (RFC 8210 section 5.6)
+-- a PDU of version 1
+abbrev pub pdu_octets : ℕ → ℕ → List ℕ → List ℕ
+pdu_octets kind two body = versioned_octets 1 kind two body
+
+-- an IPv4 Prefix behind its header: its flags, the lengths, an octet to spare, the address, the AS (RFC 8210 section 5.6)
+abbrev pub prefix_octets : ℕ → ℕ → Vrp → List ℕ
+prefix_octets flags spare payload =
+    flags ∷ payload.prefix.len ∷ payload.max_len ∷ spare ∷ (to_be_bytes w32 payload.prefix.bits ++ to_be_bytes w32 payload.asn.0)
+
+-- as it is written: the octet of no meaning is 0
 abbrev pub payload_octets : ℕ → Vrp → List ℕ
-payload_octets flags payload =
-    flags ∷ payload.prefix.len ∷ payload.max_len ∷ 0 ∷ (to_be_bytes w32 payload.prefix.bits ++ to_be_bytes w32 payload.asn.0)
+payload_octets flags payload = prefix_octets flags 0 payload
 
 -- the seconds of an End of Data (RFC 8210 section 5.8)
 abbrev pub interval_octets : Intervals → List ℕ
 interval_octets i = to_be_bytes w32 i.refresh ++ (to_be_bytes w32 i.retry ++ to_be_bytes w32 i.expire)
 
--- an Error Report behind its header: what it quotes behind the count of it, and an empty text (RFC 8210 section 5.11)
+-- an Error Report behind its header: a count, what it quotes, and what stands behind that (RFC 8210 section 5.11)
+abbrev pub quoting_octets : ℕ → List ℕ → List ℕ → List ℕ
+quoting_octets count quoted text = to_be_bytes w32 count ++ (quoted ++ text)
+
+-- as it is written: the count is that of what it quotes, and the text is empty
 abbrev pub report_octets : List ℕ → List ℕ
-report_octets quoted = to_be_bytes w32 (length quoted) ++ (quoted ++ to_be_bytes w32 0)
+report_octets quoted = quoting_octets (length quoted) quoted (to_be_bytes w32 0)
 
 -- the octets that are written for what a PDU says
 unfoldable pub spelling : Content → List ℕ

@@ -35,7 +35,7 @@ pub use responses::{
     queueing_stops_at_a_full_ring, response_gives_the_version, response_is_short,
 };
 pub use stream::{
-    fault_ends_the_stream, no_pdu_begins_another, only_pdus, pieces_are_the_stream,
+    fault_ends_the_stream, no_pdu_begins_another, only_pdus, pdu_is_spelled, pieces_are_the_stream,
     spelling_length, stream_goes_on, wanted_is_unread, written_is_read,
 };
 pub use writing::write;

@@ -5,6 +5,7 @@ ghost use Rattle.rtr_codec.specs.PduContents.{content_by, four_at, payload_at, p
 ghost use Rattle.rtr_codec.specs.PduSpelling.{content_of};
 ghost use Rattle.rtr_codec.specs.PduStream.{IsFront, Tells, Wants, needed_of};
 ghost use Rattle.rtr_codec.specs.PduTypes.{least_length};
+ghost use Rattle.rtr_codec.specs.SpelledPdus.{IsSpelled};
 
 use crate::fault::PduFault;
 use crate::header::{HEADER_OCTETS, PduType, read_header, u16_at, u32_at};
@@ -29,6 +30,7 @@ pub enum Step<'a> {
 pub fn read(octets: &[u8], place: Place) -> Step<'_>
     ensures tells { Tells place octets.now result }
     ensures stream { IsFront place octets.now result }
+    ensures spelled { IsSpelled place octets.now result }
 {
     front(octets, place)
 }

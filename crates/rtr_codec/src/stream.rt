@@ -4,7 +4,8 @@ ghost use Rattle.std.specs.List.{concat};
 ghost use Rattle.rtr_codec.specs.declared.fault.PduFault.{PduFault};
 ghost use Rattle.rtr_codec.specs.declared.place.Place.{Place};
 ghost use Rattle.rtr_codec.specs.PduSpelling.{Content, IsLawful, length_of, spelling};
-ghost use Rattle.rtr_codec.specs.PduStream.{FaultyPdu, GoesOn, IsReadFirst, Item, Splits, Wants, meaning, needed_of, pdus, pdus_of_pieces, unread, unread_of_pieces};
+ghost use Rattle.rtr_codec.specs.PduStream.{FaultyPdu, GoesOn, IsPdu, IsReadFirst, Item, Splits, Wants, meaning, needed_of, pdus, pdus_of_pieces, unread, unread_of_pieces};
+ghost use Rattle.rtr_codec.specs.SpelledPdus.{AreOctets, Spells};
 
 /// A stream is its PDUs one after another and then what is unread, and it is so in no other way.
 pub fn only_pdus()
@@ -45,4 +46,10 @@ pub fn written_is_read()
 /// How long what is written is.
 pub fn spelling_length()
     ensures { (content : Content) → length (spelling content) ≡ length_of content }
+{}
+
+/// Octets are a PDU, as a reader finds it, exactly where they spell what it says.
+pub fn pdu_is_spelled()
+    ensures read { (place : Place) (octets : List ℕ) (content : Content) → Spells place octets content → IsPdu place octets content }
+    ensures spelled { (place : Place) (octets : List ℕ) (content : Content) → AreOctets octets → IsPdu place octets content → Spells place octets content }
 {}
