@@ -1,4 +1,5 @@
 pub mod StateNames
+pub mod StateTests
 pub mod SessionTable
 pub mod Transports
 pub mod Laws

@@ -1,0 +1,46 @@
+-- What the rows of the session table make of Established, of the connection and of what is said.
+use Rattle.std.proofs.Common.{◌≡◌, ◌≢◌, ◌&&◌, Bool, true, false, not, None, refl, rules, arith}
+use Rattle.std.proofs.lemmas.Grind.{common_steps}
+use Rattle.net_prefix.specs.declared.transport.Transport.TheVariants.{Open as Connected}
+use Rattle.bgp_fsm.specs.declared.input.Input.{Input}
+use Rattle.bgp_fsm.specs.declared.input.Input.TheVariants.{Start, Up, Fail, Fault}
+use Rattle.bgp_fsm.specs.declared.session.Session.{Session}
+use Rattle.bgp_fsm.specs.SessionTable.{row_at, nothing, session_after, effects_of}
+use Rattle.bgp_fsm.specs.StateTests.{is_established, is_message}
+use Rattle.bgp_fsm.specs.Transports.{transport_of}
+
+-- `left` tells that Established ends
+pub left_is : (input : Input) (s : Session) → (effects_of input s).left ≡ (is_established s.state && not (is_established (session_after input s).state))
+left_is input s = grind (arith, common_steps)
+
+-- `entered` tells that Established begins
+pub entered_is : (input : Input) (s : Session) → (effects_of input s).entered ≡ (not (is_established s.state) && is_established (session_after input s).state)
+entered_is input s = grind (arith, common_steps)
+
+-- Established begins by a message
+pub enters_by_message : (input : Input) (s : Session) → is_established s.state ≡ false → is_established (session_after input s).state ≡ true → is_message input ≡ true
+enters_by_message input s other enters = grind (arith, common_steps)
+
+-- while the connection stands, Established doesn't end
+pub stays_established : (input : Input) (s : Session) → transport_of (session_after input s) ≡ Connected → is_established s.state ≡ true → is_established (session_after input s).state ≡ true
+stays_established input s stands is = grind (arith, common_steps)
+
+-- the connection of an Established session stands
+pub established_stands : (s : Session) → is_established s.state ≡ true → transport_of s ≡ Connected
+established_stands s is = grind (arith, common_steps)
+
+-- a lost connection ends Established
+pub fail_ends : (s : Session) → is_established (session_after Fail s).state ≡ false
+fail_ends s = grind (arith, common_steps)
+
+-- a connection stands where it stood, or where it comes up
+pub stood_before : (input : Input) (s : Session) → input ≢ Up → transport_of (session_after input s) ≡ Connected → transport_of s ≡ Connected
+stood_before input s other stands = grind (arith, common_steps)
+
+-- after a fault no connection stands
+pub fault_closes : (s : Session) → transport_of (session_after Fault s) ≢ Connected
+fault_closes s = grind (arith, common_steps)
+
+-- without a connection no message is more than nothing
+pub message_ignored : (input : Input) (s : Session) → is_message input ≡ true → transport_of s ≢ Connected → row_at s.state input s ≡ (s, nothing)
+message_ignored input s is shut = grind (arith, common_steps)
