@@ -94,6 +94,9 @@ pub const UP_TO_ROUTE: usize = 12;
 /// What the next hop of the UPDATE lies under.
 pub const REACHABLE: &str = "192.0.2.0/24";
 
+/// What the UPDATE announces.
+pub const ANNOUNCED_PREFIX: &str = "10.0.1.0/24";
+
 /// The calls, in order.
 pub fn calls(reachable: Prefix) -> [Call<'static>; 15] {
     [

@@ -1,8 +1,8 @@
 //! The events of the first path by `run`, where the nth request for memory is refused.
-use crate::first_path::{CONFIG, Call, REACHABLE, calls};
+use crate::first_path::{ANNOUNCED_PREFIX, CONFIG, Call, REACHABLE, UP_TO_ROUTE, calls};
 use net_prefix::Prefix;
 use refusing::Refusing;
-use speaker::{Command, Event, Refusal, Report, run};
+use speaker::{BestRoute, Command, Event, Refusal, Report, State, Transport, run};
 use std::alloc::{AllocError, Allocator, Global};
 use std::process::Abort;
 use std::test::Fail;
@@ -110,5 +110,29 @@ fn a_run_answers_44_or_has_it_among_its_answers(rt: HostRuntime) -> Result<(), F
     for ending in [Ending::NoTrace, Ending::WentOn, Ending::Stopped] {
         assert!(rt; endings.contains(&ending), "{ending:?}");
     }
+    Ok(())
+}
+
+#[test]
+fn a_run_shows_the_route_of_its_peer(rt: HostRuntime) -> Result<(), Fail> {
+    let all = calls(Prefix::parse(REACHABLE)?);
+    let mut events = events_of(rt.alloc(), &all[..UP_TO_ROUTE])?;
+    events.push(Event::Up(0))?;
+    let trace = run(rt.alloc(), CONFIG, events.as_slice())?;
+    let Some((last, answers)) = trace.answers.as_slice().split_last() else {
+        panic!(rt; "no answers");
+    };
+    assert_eq!(rt; *last, Err(Refusal::NotExpected));
+    assert_eq!(rt; answers.len(), UP_TO_ROUTE);
+    assert!(rt; answers.iter().all(|answer| *answer == Ok(Report::NOTHING)));
+    assert_eq!(rt; trace.speaker.session(0), Some(State::Established));
+    assert_eq!(rt; trace.speaker.transport(0), Transport::Open);
+    let best = BestRoute {
+        prefix: Prefix::parse(ANNOUNCED_PREFIX)?,
+        slot: 0,
+        degree: 100,
+    };
+    let routes: Vec<BestRoute> = trace.speaker.loc_rib().collect(rt.alloc())?;
+    assert_eq!(rt; routes.as_slice(), &[best]);
     Ok(())
 }

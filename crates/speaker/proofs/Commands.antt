@@ -1,6 +1,7 @@
 use Rattle.std.proofs.Common.{◌≡◌, ◌≢◌, ◌<◌, ◌==◌, ◌&&◌, ◌||◌, ℕ, Bool, true, false, List, [], ◌∷◌, Option, Some, None, is_none, nat_le, cond, refl, sym, ap, ◌∙◌, subst}
 use Rattle.std.proofs.lemmas.Bool.{eq-eqb, ne_eqb, eqb-true}
 use Rattle.std.specs.BTreeMap.{is_at}
+use Rattle.std.specs.Option.{option_map}
 use Rattle.std.specs.Ordering.{nat_cmp}
 use Rattle.bgp_conf.proofs.PrefixOrder.{is_eq-nat_cmp}
 use Rattle.bgp_attr.specs.PathAttributes.{PathAttributes}
@@ -40,7 +41,8 @@ use Rattle.speaker.proofs.SlotOctets.{slot_enabled, slot_opened, slot_failed}
 -- Connections that stand or fail, and commands, as the run with them has them.
 
 -- an accepted event of a slot: the slot is there, and its transport takes the event
-pub accepted : (found : Option Linked) (takes : Transport → Bool) → refused_at found takes ≡ None → (l : Linked) × (found ≡ Some l) × (takes (transport_of l.peer.session) ≡ true)
+pub accepted : (found : Option Linked) (takes : Transport → Bool) → refused_at (option_map (λ l. l.peer.session) found) takes ≡ None
+    → (l : Linked) × (found ≡ Some l) × (takes (transport_of l.peer.session) ≡ true)
 accepted None takes h = absurd (cc)
 accepted (Some l) takes h = (l, refl, accepted_by (takes (transport_of l.peer.session)) h)
   where

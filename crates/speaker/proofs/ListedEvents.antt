@@ -1,15 +1,18 @@
-use Rattle.std.proofs.Common.{◌≡◌, ◌++◌, ◌⊎◌, inl, inr, ℕ, zero, suc, true, false, length, replicate, OnOk, OnErr, IfErr, arith, append_assoc, length-append, List, [], ◌∷◌, Option, Some, None, Result, Ok, Err, refl, sym, ap, ◌∙◌, subst}
+use Rattle.std.proofs.Common.{◌≡◌, ◌++◌, ◌⊎◌, inl, inr, ℕ, zero, suc, true, false, length, replicate, cond, IfOk, IfErr, arith, append_assoc, length-append, List, [], ◌∷◌, Option, Some, None, Result, Ok, Err, refl, sym, ap, ◌∙◌, subst}
 use Rattle.std.specs.Option.{MatchOption}
 use Rattle.bgp_conf.specs.declared.refusal.Refusal.{Refusal}
 use Rattle.bgp_conf.specs.declared.refusal.Refusal.TheVariants.{NoMemory}
-use Rattle.speaker.specs.Agreement.{Agrees, HasRun, HasStopped, IsPlayed}
-use Rattle.speaker.specs.FirstRefusal.{refusal_of}
+use Rattle.speaker.specs.Agreement.{Agrees, tables_after}
+use Rattle.speaker.specs.FirstRefusal.{refusal_by, refusal_in, refusal_of, IsCommand, LacksMemory}
+use Rattle.speaker.specs.Played.{Follows, GoesOn, HasRun, HasStopped, IsPlayed}
 use Rattle.speaker.specs.Queueing.{Queue}
-use Rattle.speaker.specs.Runs.{Run, turn, call_of, Follows, GoesOn}
-use Rattle.speaker.specs.SpeakerState.{SpeakerState, IsAsBefore, started}
+use Rattle.speaker.specs.Runs.{Run, turn, call_of, report_of}
+use Rattle.speaker.specs.SpeakerState.{SpeakerState, IsAsBefore, started, tables_of}
+use Rattle.speaker.specs.Tables.{link_at}
 use Rattle.speaker.specs.declared.config.Config.{Config}
 use Rattle.speaker.specs.declared.event.Event.{Event}
 use Rattle.speaker.specs.declared.event.Report.{Report}
+use Rattle.speaker.proofs.Calls.{tables_same}
 
 -- Lists of events.
 
@@ -29,13 +32,19 @@ agrees_new config = record {
 }
 
 -- one more event with its answer
-pub follows_more : (before : Run) (events : List Event) (answers : List (Result Report Refusal)) (mid after : Run) (event : Event) (answer : Result Report Refusal)
-    → Follows before events answers mid → GoesOn mid event answer after → Follows before (events ++ event ∷ []) (answers ++ answer ∷ []) after
-follows_more before [] [] mid after event answer same on = (after, rw (← same) on, refl)
-follows_more before [] (a ∷ answers) mid after event answer follows on = absurd follows
-follows_more before (e ∷ events) [] mid after event answer follows on = absurd follows
-follows_more before (e ∷ events) (a ∷ answers) mid after event answer follows on =
-    (follows.0, follows.1, follows_more follows.0 events answers mid after event answer follows.2 on)
+follows_more : (config : Config) (before : Run) (events : List Event) (answers : List (Result Report Refusal)) (mid after : Run) (event : Event) (answer : Result Report Refusal)
+    → Follows config before events answers mid → GoesOn config mid event answer after → Follows config before (events ++ event ∷ []) (answers ++ answer ∷ []) after
+follows_more config before [] [] mid after event answer same on = (after, rw (← same) on, refl)
+follows_more config before [] (a ∷ answers) mid after event answer follows on = absurd follows
+follows_more config before (e ∷ events) [] mid after event answer follows on = absurd follows
+follows_more config before (e ∷ events) (a ∷ answers) mid after event answer follows on =
+    (follows.0, follows.1, follows_more config follows.0 events answers mid after event answer follows.2 on)
+
+-- a speaker that agrees with a run refuses an event as the run says
+pub refusal_same : (config : Config) (r : Run) (s : SpeakerState) (event : Event) → Agrees config r s → refusal_of s event ≡ refusal_in config r event
+refusal_same config r s event a =
+    let tables : tables_after config r ≡ tables_of s = tables_same config r s.conf (link_at s.links) s.adj_in (sym a.holds.conf) a.holds.slots in
+    ap (λ b. cond b (Some NoMemory) (refusal_by (tables_of s) event)) a.holds.running ∙ ap (λ t. refusal_by t event) (sym tables)
 
 -- nothing that others see has changed
 agrees_same : (config : Config) (r : Run) (old new : SpeakerState) → IsAsBefore old new → Agrees config r old → Agrees config r new
@@ -55,18 +64,28 @@ agrees_same config r old new same a = record {
 pub played_none : (config : Config) (s : SpeakerState) → s ≡ started config → IsPlayed config [] [] s
 played_none config s is = inl (record { r = []; follows = refl; agrees = rw is (agrees_new config) })
 
+-- what an accepted event leads to
+abbrev Accepts : Event → Report → SpeakerState → SpeakerState → Type 0
+Accepts event report s new =
+    (config : Config) (r : Run) → Agrees config r s → (queue : Queue) × (report ≡ report_of (turn (call_of event) queue)) × Agrees config (turn (call_of event) queue ∷ r) new
+
 -- an accepted event
-played_ok : (config : Config) (events : List Event) (answers : List (Result Report Refusal)) (event : Event) (report : Report) (s new : SpeakerState) → HasRun config events answers s
-    → ((config : Config) (r : Run) → Agrees config r s → (queue : Queue) × Agrees config (turn (call_of event) queue ∷ r) new)
-    → HasRun config (events ++ event ∷ []) (answers ++ Ok report ∷ []) new
-played_ok config events answers event report s new h agrees =
+played_ok : (config : Config) (events : List Event) (answers : List (Result Report Refusal)) (event : Event) (report : Report) (s new : SpeakerState) → (h : HasRun config events answers s)
+    → refusal_in config h.r event ≡ None → Accepts event report s new → HasRun config (events ++ event ∷ []) (answers ++ Ok report ∷ []) new
+played_ok config events answers event report s new h unrefused agrees =
     let more = agrees config h.r h.agrees in
-    record { r = turn (call_of event) more.0 ∷ h.r; follows = follows_more [] events answers h.r _ event (Ok report) h.follows (more.0, refl); agrees = more.1 }
+    record {
+      r = turn (call_of event) more.0 ∷ h.r;
+      follows = follows_more config [] events answers h.r _ event (Ok report) h.follows (unrefused, (more.0, refl, more.1));
+      agrees = more.2;
+    }
 
 -- a refused event stands as nothing
-played_err : (config : Config) (events : List Event) (answers : List (Result Report Refusal)) (event : Event) (why : Refusal) (s new : SpeakerState) → HasRun config events answers s
+played_err : (config : Config) (events : List Event) (answers : List (Result Report Refusal)) (event : Event) (why : Refusal) (s new : SpeakerState) → (h : HasRun config events answers s)
+    → MatchOption (refusal_in config h.r event) ((why ≡ NoMemory) × IsCommand event) (λ first. why ≡ first)
     → ((r : Run) → Agrees config r s → Agrees config r new) → HasRun config (events ++ event ∷ []) (answers ++ Err why ∷ []) new
-played_err config events answers event why s new h agrees = record { r = h.r; follows = follows_more [] events answers h.r h.r event (Err why) h.follows refl; agrees = agrees h.r h.agrees }
+played_err config events answers event why s new h first agrees =
+    record { r = h.r; follows = follows_more config [] events answers h.r h.r event (Err why) h.follows (refl, first); agrees = agrees h.r h.agrees }
 
 replicate_more : {X : Type 0} (n : ℕ) (x : X) → replicate n x ++ x ∷ [] ≡ replicate (suc n) x
 replicate_more zero x = refl
@@ -90,13 +109,14 @@ played_stopped config events answers next s new h same = record {
       ∙ ap (λ xs. h.answered ++ xs) (replicate_more (length (h.event ∷ h.behind)) (Err NoMemory) ∙ ap (λ n. replicate n (Err NoMemory)) (sym (longer h.event h.behind next)));
   follows = h.follows;
   agrees = h.agrees;
+  unrefused = h.unrefused;
   stopped = rw same h.stopped;
 }
 
 -- want of memory stops the speaker
-played_stops : (config : Config) (events : List Event) (answers : List (Result Report Refusal)) (event : Event) (s new : SpeakerState) → HasRun config events answers s → new.stopped ≡ true
-    → HasStopped config (events ++ event ∷ []) (answers ++ Err NoMemory ∷ []) new
-played_stops config events answers event s new h stopped = record {
+played_stops : (config : Config) (events : List Event) (answers : List (Result Report Refusal)) (event : Event) (s new : SpeakerState) → (h : HasRun config events answers s)
+    → refusal_in config h.r event ≡ None → new.stopped ≡ true → HasStopped config (events ++ event ∷ []) (answers ++ Err NoMemory ∷ []) new
+played_stops config events answers event s new h unrefused stopped = record {
   before = events;
   event = event;
   behind = [];
@@ -107,30 +127,47 @@ played_stops config events answers event s new h stopped = record {
   answers_are = refl;
   follows = h.follows;
   agrees = h.agrees;
+  unrefused = unrefused;
   stopped = stopped;
 }
 
 abbrev err_of : Refusal → Result Report Refusal
 err_of why = Err why
 
-refused_more : (config : Config) (events : List Event) (answers : List (Result Report Refusal)) (event : Event) (why : Refusal) (s new : SpeakerState) (first : Option Refusal) → HasRun config events answers s
-    → MatchOption first (why ≡ NoMemory) (λ w. (err_of why ≡ err_of w) × (new ≡ s)) → IsAsBefore s new ⊎ (new.stopped ≡ true)
-    → IsPlayed config (events ++ event ∷ []) (answers ++ Err why ∷ []) new
-refused_more config events answers event why s new (Some w) h refused memory = inl (played_err config events answers event why s new h (λ r a. rw refused.1 a))
-refused_more config events answers event why s new None h refused (inl same) = inl (played_err config events answers event why s new h (λ r a. agrees_same config r s new same a))
-refused_more config events answers event why s new None h refused (inr stopped) = rw refused (inr (played_stops config events answers event s new h stopped))
+-- what `Speaker::step` promises of a refusal
+abbrev Refuses : Option Refusal → Event → Result Report Refusal → SpeakerState → SpeakerState → Type 0
+Refuses first event answer s new = MatchOption first (IfErr answer (λ why. (why ≡ NoMemory) × LacksMemory event s new)) (λ why. (answer ≡ Err why) × (new ≡ s))
+
+unrefused : (first : Option Refusal) (event : Event) (report : Report) (s new : SpeakerState) → Refuses first event (Ok report) s new → first ≡ None
+unrefused None event report s new m = refl
+unrefused (Some why) event report s new m = absurd (let is = m.0 in cc)
+
+-- an answer that want of memory is
+lacking_more : (config : Config) (events : List Event) (answers : List (Result Report Refusal)) (event : Event) (why : Refusal) (s new : SpeakerState) → (h : HasRun config events answers s)
+    → refusal_in config h.r event ≡ None → why ≡ NoMemory → LacksMemory event s new → IsPlayed config (events ++ event ∷ []) (answers ++ Err why ∷ []) new
+lacking_more config events answers event why s new h none is (inl same) =
+    let M : Option Refusal → Type 0 = λ first. MatchOption first ((why ≡ NoMemory) × IsCommand event) (λ x. why ≡ x) in
+    inl (played_err config events answers event why s new h (subst M (sym none) (is, same.0)) (λ r a. agrees_same config r s new same.1 a))
+lacking_more config events answers event why s new h none is (inr stopped) = rw is (inr (played_stops config events answers event s new h none stopped))
+
+refused_more : (config : Config) (events : List Event) (answers : List (Result Report Refusal)) (event : Event) (why : Refusal) (s new : SpeakerState) (first : Option Refusal) → (h : HasRun config events answers s)
+    → refusal_in config h.r event ≡ first → Refuses first event (Err why) s new → IsPlayed config (events ++ event ∷ []) (answers ++ Err why ∷ []) new
+refused_more config events answers event why s new (Some w) h is m =
+    let same : why ≡ w = let answer : err_of why ≡ err_of w = m.0 in cc in
+    let M : Option Refusal → Type 0 = λ first. MatchOption first ((why ≡ NoMemory) × IsCommand event) (λ x. why ≡ x) in
+    inl (played_err config events answers event why s new h (subst M (sym is) same) (λ r a. rw m.1 a))
+refused_more config events answers event why s new None h is m = lacking_more config events answers event why s new h is m.0 m.1
 
 -- one more event
 pub played_more : (config : Config) (events : List Event) (answers : List (Result Report Refusal)) (event : Event) (answer : Result Report Refusal) (s new : SpeakerState)
-    → IsPlayed config events answers s
-    → OnOk answer ((config : Config) (r : Run) → Agrees config r s → (queue : Queue) × Agrees config (turn (call_of event) queue ∷ r) new)
-    → (s.stopped ≡ true → (answer ≡ Err NoMemory) × (new ≡ s))
-    → (s.stopped ≡ false → MatchOption (refusal_of s event) (IfErr answer (λ why. why ≡ NoMemory)) (λ why. (answer ≡ Err why) × (new ≡ s)))
-    → OnErr answer (IsAsBefore s new ⊎ (new.stopped ≡ true)) → IsPlayed config (events ++ event ∷ []) (answers ++ answer ∷ []) new
-played_more config events answers event (Ok report) s new (inl h) agrees stopped refused memory = inl (played_ok config events answers event report s new h agrees)
-played_more config events answers event (Ok report) s new (inr h) agrees stopped refused memory = absurd (let is = (stopped h.stopped).0 in cc)
-played_more config events answers event (Err why) s new (inl h) agrees stopped refused memory = refused_more config events answers event why s new (refusal_of s event) h (refused h.agrees.holds.running) memory
-played_more config events answers event (Err why) s new (inr h) agrees stopped refused memory =
-    let is = stopped h.stopped in
+    → IsPlayed config events answers s → IfOk answer (λ report. Accepts event report s new) → Refuses (refusal_of s event) event answer s new
+    → IsPlayed config (events ++ event ∷ []) (answers ++ answer ∷ []) new
+played_more config events answers event (Ok report) s new (inl h) agrees refused =
+    inl (played_ok config events answers event report s new h (sym (refusal_same config h.r s event h.agrees) ∙ unrefused (refusal_of s event) event report s new refused) agrees)
+played_more config events answers event (Err why) s new (inl h) agrees refused =
+    refused_more config events answers event why s new (refusal_of s event) h (sym (refusal_same config h.r s event h.agrees)) refused
+played_more config events answers event answer s new (inr h) agrees refused =
+    let P : Option Refusal → Type 0 = λ first. Refuses first event answer s new in
+    let is : Refuses (Some NoMemory) event answer s new = subst P (ap (λ b. cond b (Some NoMemory) (refusal_by (tables_of s) event)) h.stopped) refused in
     let W : Result Report Refusal → Type 0 = λ x. IsPlayed config (events ++ event ∷ []) (answers ++ x ∷ []) new in
     subst W (sym is.0) (inr (played_stopped config events answers event s new h is.1))

@@ -1,4 +1,4 @@
-use Rattle.std.specs.Prelude.{◌≡◌, ◌≢◌, ◌<◌, ◌≤◌, ◌+◌, ◌⊎◌, ◌++◌, ℕ, List, [], ◌∷◌, length, replicate, Option, Some, None, Result, Err, true, false}
+use Rattle.std.specs.Prelude.{◌≡◌, ◌≢◌, ◌<◌, ◌≤◌, ◌+◌, ℕ, List, [], ◌∷◌, length, Option, Some, None, true, false}
 use Rattle.std.specs.Option.{option_map}
 use Rattle.bgp_attr.specs.PathAttributes.{PathAttributes}
 use Rattle.bgp_conf.specs.Configuration.{peer_at}
@@ -17,11 +17,7 @@ use Rattle.speaker.specs.Held.{held, told_in, is_opening}
 use Rattle.speaker.specs.Linked.{Linked}
 use Rattle.speaker.specs.LocRib.{IsLocRib}
 use Rattle.speaker.specs.Queueing.{Queue, update_saying}
-use Rattle.bgp_conf.specs.declared.refusal.Refusal.{Refusal}
-use Rattle.bgp_conf.specs.declared.refusal.Refusal.TheVariants.{NoMemory}
-use Rattle.speaker.specs.declared.event.Event.{Event}
-use Rattle.speaker.specs.declared.event.Report.{Report}
-use Rattle.speaker.specs.Runs.{Call, Follows, Run, turn, configuration_of, history, terms_in}
+use Rattle.speaker.specs.Runs.{Call, Run, turn, configuration_of, history, terms_in}
 use Rattle.speaker.specs.SpeakerState.{SpeakerState}
 use Rattle.speaker.specs.Tables.{Tables, link_at}
 use Rattle.speaker.specs.declared.config.Config.{Config}
@@ -100,27 +96,3 @@ pub record Agrees (config : Config) (r : Run) (s : SpeakerState) : Type 0 where
   -- what each Established peer was sent, read back, is its export of Loc-RIB, save prefixes waiting behind a full ring
   pub settled : IsSettled config r
   pub thrifty : IsThrifty config r
-
--- the answers to these events lead to a run that the speaker agrees with
-pub record HasRun (config : Config) (events : List Event) (answers : List (Result Report Refusal)) (s : SpeakerState) : Type 0 where
-  pub r : Run
-  pub follows : Follows [] events answers r
-  pub agrees : Agrees config r s
-
--- they did so up to an event at which want of memory stopped the speaker; this event and all behind it were answered 44
-pub record HasStopped (config : Config) (events : List Event) (answers : List (Result Report Refusal)) (s : SpeakerState) : Type 0 where
-  pub before : List Event
-  pub event : Event
-  pub behind : List Event
-  pub answered : List (Result Report Refusal)
-  pub r : Run
-  pub last : SpeakerState
-  pub events_are : events ≡ before ++ event ∷ behind
-  pub answers_are : answers ≡ answered ++ replicate (length (event ∷ behind)) (Err NoMemory)
-  pub follows : Follows [] before answered r
-  pub agrees : Agrees config r last
-  pub stopped : s.stopped ≡ true
-
--- a list of events without takes was played
-abbrev pub IsPlayed : Config → List Event → List (Result Report Refusal) → SpeakerState → Type 0
-IsPlayed config events answers s = HasRun config events answers s ⊎ HasStopped config events answers s

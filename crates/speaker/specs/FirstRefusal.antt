@@ -1,17 +1,20 @@
-use Rattle.std.specs.Prelude.{Bool, true, false, if◌then◌else◌, Option, Some, None}
+use Rattle.std.specs.Prelude.{◌≡◌, ◌⊎◌, ℕ, Bool, true, false, is_none, if◌then◌else◌, Option, Some, None}
 use Rattle.net_prefix.specs.declared.transport.Transport.{Transport}
 use Rattle.net_prefix.specs.declared.transport.Transport.TheVariants.{None as NoConnection, Opening, Listening, Open, Closing}
 use Rattle.bgp_conf.specs.declared.refusal.Refusal.{Refusal}
-use Rattle.bgp_conf.specs.declared.refusal.Refusal.TheVariants.{BadSlot, NotExpected}
+use Rattle.bgp_conf.specs.declared.refusal.Refusal.TheVariants.{BadSlot, NotExpected, NoMemory}
 use Rattle.bgp_conf.specs.FirstRefusal.{first_refusal}
 use Rattle.bgp_fsm.specs.Transports.{transport_of}
+use Rattle.bgp_fsm.specs.declared.session.Session.{Session}
+use Rattle.speaker.specs.Agreement.{tables_after}
+use Rattle.speaker.specs.Runs.{Run}
+use Rattle.speaker.specs.SpeakerState.{SpeakerState, IsAsBefore, tables_of}
+use Rattle.speaker.specs.Tables.{Tables, link_at}
+use Rattle.speaker.specs.declared.config.Config.{Config}
 use Rattle.speaker.specs.declared.event.Event.{Event}
 use Rattle.speaker.specs.declared.event.Event.TheVariants.{Up, Fail, Bytes, Command}
-use Rattle.speaker.specs.Linked.{Linked}
-use Rattle.speaker.specs.Tables.{link_at}
-use Rattle.speaker.specs.SpeakerState.{SpeakerState}
 
--- When an event is refused (own choice: the order and the numbers).
+-- When a call is refused (own choice: the order and the numbers).
 
 -- a connection may come up
 abbrev pub awaits_up : Transport → Bool
@@ -38,13 +41,36 @@ may_bring_octets Open = true
 may_bring_octets Closing = true
 
 -- a slot that isn't configured is refused first, then one whose transport doesn't take the event
-abbrev pub refused_at : Option Linked → (Transport → Bool) → Option Refusal
+abbrev pub refused_at : Option Session → (Transport → Bool) → Option Refusal
 refused_at None takes = Some BadSlot
-refused_at (Some link) takes = if takes (transport_of link.peer.session) then None else Some NotExpected
+refused_at (Some session) takes = if takes (transport_of session) then None else Some NotExpected
 
--- the first refusal of an event
+-- the first refusal of an event by the configuration and the sessions
+abbrev pub refusal_by : Tables → Event → Option Refusal
+refusal_by t (Up slot) = refused_at (t.sessions slot) awaits_up
+refusal_by t (Fail slot) = refused_at (t.sessions slot) may_fail
+refusal_by t (Bytes slot octets) = refused_at (t.sessions slot) may_bring_octets
+refusal_by t (Command command) = first_refusal t.conf 0 command
+
+-- the first refusal of an event after a run
+abbrev pub refusal_in : Config → Run → Event → Option Refusal
+refusal_in config r event = refusal_by (tables_after config r) event
+
+-- the first refusal of an event by a speaker: one that want of memory has stopped answers 44 to whatever comes
 abbrev pub refusal_of : SpeakerState → Event → Option Refusal
-refusal_of s (Up slot) = refused_at (link_at s.links slot) awaits_up
-refusal_of s (Fail slot) = refused_at (link_at s.links slot) may_fail
-refusal_of s (Bytes slot octets) = refused_at (link_at s.links slot) may_bring_octets
-refusal_of s (Command command) = first_refusal s.conf 0 command
+refusal_of s event = if s.stopped then Some NoMemory else refusal_by (tables_of s) event
+
+-- the first refusal of a take by a speaker
+abbrev pub take_refusal_of : SpeakerState → ℕ → Option Refusal
+take_refusal_of s slot = if s.stopped then Some NoMemory else (if is_none (link_at s.links slot) then Some BadSlot else None)
+
+-- the operator asks for something
+abbrev pub IsCommand : Event → Type 0
+IsCommand (Up slot) = ⊥
+IsCommand (Fail slot) = ⊥
+IsCommand (Bytes slot octets) = ⊥
+IsCommand (Command command) = Unit {0}
+
+-- memory was refused to an event: a command has left the speaker as it was, or the speaker has stopped
+abbrev pub LacksMemory : Event → SpeakerState → SpeakerState → Type 0
+LacksMemory event old new = (IsCommand event × IsAsBefore old new) ⊎ (new.stopped ≡ true)

@@ -11,5 +11,6 @@ pub mod Runs
 pub mod Agreement
 pub mod Moves
 pub mod FirstRefusal
+pub mod Played
 pub mod Shown
 pub mod Waiting

@@ -1,10 +1,9 @@
-use Rattle.std.specs.Prelude.{◌≡◌, ℕ, ◌==◌, List, [], ◌∷◌, Result, Ok, Err, if◌then◌else◌}
+use Rattle.std.specs.Prelude.{ℕ, ◌==◌, List, [], ◌∷◌, false, if◌then◌else◌}
 use Rattle.bgp_conf.specs.Configuration.{Configuration}
 use Rattle.bgp_conf.specs.ConfAfter.{conf_after, configured_of}
 use Rattle.bgp_conf.specs.declared.command.Command.{Command}
 use Rattle.bgp_conf.specs.declared.command.Command.TheVariants.{AddPeer, Enable, Reach}
 use Rattle.bgp_conf.specs.declared.conf.ConfiguredPeer.{ConfiguredPeer}
-use Rattle.bgp_conf.specs.declared.refusal.Refusal.{Refusal}
 use Rattle.bgp_peer.specs.SessionInputs as slot
 use Rattle.bgp_peer.specs.SessionInputs.{Terms, Configured, Enabled, Opened, Failed, Octet, Queued, Handed, onto}
 use Rattle.speaker.specs.Queueing.{Queue}
@@ -30,6 +29,10 @@ pub record Turn : Type 0 where
 
 abbrev pub turn : Call → Queue → Turn
 turn call queued = record { call = call; queued = queued }
+
+-- what a call reports: as yet it opens no connection, and closes no session for want of memory
+abbrev pub report_of : Turn → Report
+report_of now = record { opened = 0; starved = 0; cache_opened = false; cache_starved = false }
 
 -- the accepted calls, the newest first
 abbrev pub Run : Type 0
@@ -86,15 +89,3 @@ queued_on s (now ∷ queue) h = if s == now.0 then Queued now.1 ∷ queued_on s 
 abbrev pub history : Config → ℕ → Run → List slot.Event
 history config s [] = []
 history config s (now ∷ r) = queued_on s now.queued (called config s now.call (history config s r))
-
--- one event leads from a run to the next: an accepted one with what it queued; a refused one stands as nothing
-abbrev pub GoesOn : Run → Event → Result Report Refusal → Run → Type 0
-GoesOn before event (Ok report) after = (queued : Queue) × (after ≡ turn (call_of event) queued ∷ before)
-GoesOn before event (Err refusal) after = after ≡ before
-
--- events with their answers lead from a run to another
-abbrev pub Follows : Run → List Event → List (Result Report Refusal) → Run → Type 0
-Follows before [] [] after = after ≡ before
-Follows before (event ∷ events) (answer ∷ answers) after = (mid : Run) × GoesOn before event answer mid × Follows mid events answers after
-Follows before [] (answer ∷ answers) after = ⊥
-Follows before (event ∷ events) [] after = ⊥

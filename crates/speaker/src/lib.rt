@@ -17,8 +17,6 @@ mod ribs;
 mod runs;
 mod slot_events;
 mod step;
-#[cfg(test)]
-mod tests;
 mod views;
 mod waiting;
 

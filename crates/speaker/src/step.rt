@@ -1,14 +1,14 @@
 //! The speaker and its calls.
-ghost use Rattle.std.specs.Prelude.{◌≡◌, ◌≢◌, ◌<◌, ◌⊎◌, ◌↔◌, ◌++◌, ℕ, [], ◌∷◌, true, false, length, min, take, drop, MatchOption, MatchResult, IfErr, OnOk, OnErr, IfOk, None, Some};
+ghost use Rattle.std.specs.Prelude.{◌≡◌, ◌≢◌, ◌<◌, ◌⊎◌, ◌↔◌, ◌++◌, ℕ, [], ◌∷◌, true, false, length, min, take, drop, MatchOption, MatchResult, IfErr, IsOk, OnOk, IfOk, None, Some};
 ghost use Rattle.bgp_conf.specs.Configuration.{AddressesDiffer, peer_at};
 ghost use Rattle.bgp_conf.specs.declared.conf.ConfiguredPeer.{ConfiguredPeer as ThePeer};
 ghost use Rattle.std.specs.Option.{option_map};
 ghost use Rattle.bgp_fsm.specs.Transports.{transport_of};
 ghost use Rattle.speaker.specs.Moves.{Hands};
-ghost use Rattle.speaker.specs.Runs.{Call, Run, turn, call_of, Take_call};
+ghost use Rattle.speaker.specs.Runs.{Call, Run, turn, call_of, report_of, Take_call};
 ghost use Rattle.speaker.specs.Agreement.{Agrees, Holds, IsThrifty};
 ghost use Rattle.speaker.specs.declared.config.Config.{Config as TheConfig};
-ghost use Rattle.speaker.specs.Tables.{link_at};
+ghost use Rattle.speaker.specs.Tables.{link_at, session_at};
 ghost use Rattle.speaker.specs.Linked.{Linked};
 ghost use Rattle.speaker.specs.Export.{export_to, export_peer_of};
 ghost use Rattle.speaker.specs.Queueing.{Queue, QueuesAll, IsServed};
@@ -58,8 +58,8 @@ impl<A: Allocator> Model for Speaker<A> {
 }
 
 impl<A: Allocator + Clone> Speaker<A> {
-    ghost use Rattle.speaker.specs.SpeakerState.{SpeakerState, tables_of, KeepsTables, IsAsBefore, started, is_out_of_range};
-    ghost use Rattle.speaker.specs.FirstRefusal.{refusal_of};
+    ghost use Rattle.speaker.specs.SpeakerState.{SpeakerState, tables_of, KeepsTables, started, is_out_of_range};
+    ghost use Rattle.speaker.specs.FirstRefusal.{refusal_by, refusal_of, take_refusal_of, LacksMemory};
 
     /// A speaker without peers. Refused by 33 where the AS or the identifier is 0, or a cache session is
     /// asked for (there is none yet), and by 44.
@@ -100,16 +100,14 @@ impl<A: Allocator + Clone> Speaker<A> {
     pub fn step(&mut self, event: Event<'_>) -> Result<Report, Refusal>
         // After each accepted event Loc-RIB is the selection over all candidates.
         ensures chosen { OnOk result (IsLocRib (tables_of self.new) self.new.loc_rib) }
-        // A speaker that want of memory has stopped answers 44, and nothing else.
-        ensures stopped { self.old.stopped ≡ true → (result ≡ Err Refusal.NoMemory) × (self.new ≡ self.old) }
-        // Else the first refusal is the answer, and the speaker stays as it was.
-        ensures refused { self.old.stopped ≡ false → MatchOption (refusal_of self.old event.entry)
-            (IfErr result (λ why. why ≡ Refusal.NoMemory))
+        // The first refusal is the answer, and the speaker stays as it was; where there is none, only want of memory is.
+        ensures refused { MatchOption (refusal_of self.old event.entry)
+            (IfErr result (λ why. (why ≡ Refusal.NoMemory) × LacksMemory event.entry self.old self.new))
             (λ why. (result ≡ Err why) × (self.new ≡ self.old)) }
-        // Whatever is refused, the speaker is as it was, or want of memory has stopped it.
-        ensures memory { OnErr result (IsAsBefore self.old self.new ⊎ (self.new.stopped ≡ true)) }
-        // For every run that the speaker agrees with, it agrees with that run followed by this event and what it queued.
-        ensures agrees { OnOk result ((config : TheConfig) (r : Run) → Agrees config r self.old → (queue : Queue) × Agrees config (turn (call_of event.entry) queue ∷ r) self.new) }
+        // For every run that the speaker agrees with, it agrees with that run followed by this event and what it queued,
+        // and this turn is what it reports.
+        ensures agrees { IfOk result (λ report. (config : TheConfig) (r : Run) → Agrees config r self.old
+            → (queue : Queue) × (report ≡ report_of (turn (call_of event.entry) queue)) × Agrees config (turn (call_of event.entry) queue ∷ r) self.new) }
     {
         if self.stopped {
             return Err(Refusal::NoMemory);
@@ -122,11 +120,11 @@ impl<A: Allocator + Clone> Speaker<A> {
 
     // An event that isn't refused.
     fn take_event(&mut self, event: Event<'_>) -> Result<Report, Refusal>
-        requires { refusal_of self.old event ≡ None }
+        requires { refusal_by (tables_of self.old) event ≡ None }
         ensures chosen { OnOk result (IsLocRib (tables_of self.new) self.new.loc_rib) }
-        ensures why { IfErr result (λ why. why ≡ Refusal.NoMemory) }
-        ensures memory { OnErr result (IsAsBefore self.old self.new ⊎ (self.new.stopped ≡ true)) }
-        ensures agrees { OnOk result ((config : TheConfig) (r : Run) → Agrees config r self.old → (queue : Queue) × Agrees config (turn (call_of event.entry) queue ∷ r) self.new) }
+        ensures memory { IfErr result (λ why. (why ≡ Refusal.NoMemory) × LacksMemory event.entry self.old self.new) }
+        ensures agrees { IfOk result (λ report. (config : TheConfig) (r : Run) → Agrees config r self.old
+            → (queue : Queue) × (report ≡ report_of (turn (call_of event.entry) queue)) × Agrees config (turn (call_of event.entry) queue ∷ r) self.new) }
     {
         match event {
             Event::Command(command) => {
@@ -157,19 +155,21 @@ impl<A: Allocator + Clone> Speaker<A> {
         Err(Refusal::NoMemory)
     }
 
-    /// Hands out the first octets of a slot's ring, as many as there are and fit. Refused by 40 where the
-    /// slot isn't configured.
+    /// Hands out the first octets of a slot's ring, as many as there are and fit, and queues again. Refused by 40
+    /// where the slot isn't configured. Where memory is refused to the queueing, the octets are handed out all
+    /// the same, and each later call answers 44.
     pub fn take(&mut self, slot: u8, buf: &mut [u8]) -> Result<(usize, Report), Refusal>
-        ensures stopped { self.old.stopped ≡ true → (result ≡ Err Refusal.NoMemory) × (self.new ≡ self.old) }
-        ensures not_configured { self.old.stopped ≡ false → link_at self.old.links slot ≡ None
-            → (result ≡ Err Refusal.BadSlot) × (self.new ≡ self.old) }
+        // The first refusal is the answer, and all stays as it was; where there is none, octets are handed out.
+        ensures refused { MatchOption (take_refusal_of self.old slot) (IsOk result) (λ why. (result ≡ Err why) × (self.new ≡ self.old) × (buf.new ≡ buf.old)) }
         // The ring's first octets are handed out, as many as are there and fit.
         ensures handed { IfOk result (λ taken. (l : Linked) → link_at self.old.links slot ≡ Some l
             → (taken.0 ≡ min (length buf.old) (length l.peer.ring)) × (buf.new ≡ take taken.0 l.peer.ring ++ drop taken.0 buf.old)) }
         ensures keeps { KeepsTables self.old self.new }
-        // For every run that the speaker agrees with, it agrees with that run followed by this call and what it queued.
+        // For every run that the speaker agrees with, it agrees with that run followed by this call and what it queued,
+        // where want of memory hasn't stopped it; and this turn is what it reports.
         ensures agrees { IfOk result (λ taken. (config : TheConfig) (r : Run) → Agrees config r self.old
-            → (queue : Queue) × Agrees config (turn (Take_call slot (take taken.0 buf.new)) queue ∷ r) self.new) }
+            → (queue : Queue) × (taken.1 ≡ report_of (turn (Take_call slot (take taken.0 buf.new)) queue))
+            × (self.new.stopped ≡ false → Agrees config (turn (Take_call slot (take taken.0 buf.new)) queue ∷ r) self.new)) }
     {
         if self.stopped {
             return Err(Refusal::NoMemory);
@@ -177,19 +177,14 @@ impl<A: Allocator + Clone> Speaker<A> {
         let Some(taken) = self.hand_out(slot, buf) else {
             return Err(Refusal::BadSlot);
         };
-        match self.queue_updates() {
-            Ok(()) => Ok((taken, Report::NOTHING)),
-            Err(_) => {
-                self.stopped = true;
-                Err(Refusal::NoMemory)
-            }
-        }
+        self.queue_or_stop();
+        Ok((taken, Report::NOTHING))
     }
 
     // Hands out the first octets of the ring of a configured slot, and answers how many.
     fn hand_out(&mut self, slot: u8, buf: &mut [u8]) -> Option<usize>
         ensures keeps { KeepsTables self.old self.new }
-        ensures none { link_at self.old.links slot ≡ None → (result ≡ None) × (self.new ≡ self.old) }
+        ensures none { link_at self.old.links slot ≡ None → (result ≡ None) × (self.new ≡ self.old) × (buf.new ≡ buf.old) }
         ensures some { (l : Linked) → link_at self.old.links slot ≡ Some l
             → MatchOption result ⊥ (λ taken. (taken ≡ min (length buf.old) (length l.peer.ring)) × (buf.new ≡ take taken l.peer.ring ++ drop taken buf.old)
             × Hands slot l taken self.old self.new) }
@@ -200,7 +195,7 @@ impl<A: Allocator + Clone> Speaker<A> {
 
     // The first refusal of an event, if there is one.
     fn check(&self, event: &Event<'_>) -> Result<(), Refusal>
-        ensures { MatchResult result (λ _. refusal_of self.now event.now ≡ None) (λ why. refusal_of self.now event.now ≡ Some why) }
+        ensures { MatchResult result (λ _. refusal_by (tables_of self.now) event.now ≡ None) (λ why. refusal_by (tables_of self.now) event.now ≡ Some why) }
     {
         match *event {
             Event::Up(slot) => match self.transport_at(slot) {
@@ -224,7 +219,7 @@ impl<A: Allocator + Clone> Speaker<A> {
 
     // The transport of a configured slot.
     fn transport_at(&self, slot: u8) -> Option<Transport>
-        ensures { result ≡ option_map (λ l. transport_of l.peer.session) (link_at self.now.links slot) }
+        ensures { result ≡ option_map transport_of (session_at self.now.links slot) }
     {
         match self.links.get(&slot) {
             Some(link) => Some(link.peer.transport()),
@@ -249,6 +244,18 @@ impl<A: Allocator + Clone> Speaker<A> {
     {
         let alloc = self.alloc.clone()?;
         self.ribs.choose_all(alloc, &self.conf, &self.links)
+    }
+
+    // Queues the UPDATEs that are owed; want of memory stops the speaker.
+    fn queue_or_stop(&mut self)
+        ensures keeps { KeepsTables self.old self.new }
+        ensures queues { self.new.stopped ≡ false → (queue : Queue) × QueuesAll (export_to self.old) queue (link_at self.old.links) (link_at self.new.links) }
+        ensures served { self.new.stopped ≡ false → (slot : ℕ) (peer : ThePeer) (l : Linked) → slot < 64 → peer_at self.old.conf slot ≡ Some peer → link_at self.new.links slot ≡ Some l → IsServed (export_to self.old slot) l }
+    {
+        match self.queue_updates() {
+            Ok(()) => {}
+            Err(_) => self.stopped = true,
+        }
     }
 
     // For each Established slot in rising order, the UPDATEs that it is owed, while its ring has room.

@@ -1,5 +1,5 @@
 use Rattle.std.proofs.Common.{take}
-use Rattle.speaker.specs.Agreement.{IsPlayed}
+use Rattle.speaker.specs.Played.{IsPlayed}
 use Rattle.speaker.proofs.runs.run.Given as goal
 
 abbrev pub invariant-loop-event : goal.invariant-loop-event

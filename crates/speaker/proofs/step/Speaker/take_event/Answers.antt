@@ -1,4 +1,4 @@
-use Rattle.std.proofs.Common.{[], ◌∷◌}
+use Rattle.std.proofs.Common.{[], ◌∷◌, refl}
 use Rattle.speaker.specs.Agreement.{Holds}
 use Rattle.speaker.specs.Runs.{turn, call_of}
 use Rattle.speaker.specs.FirstRefusal.{awaits_up, may_fail, may_bring_octets}
@@ -29,4 +29,5 @@ returns-in-Ok-clause-agrees g c = λ config r a.
           let heard = OnOk-got w.hear.result _ w.hear.ensures w.if-is_err-2.ensures.value in
           rw (w.self-is, w.in-Bytes.is) (heard config r peer.0 a.holds peer.1)
     ] in
-    c.in-Ok.ensures.agrees config (call_of c.args.event) r holds a.thrifty
+    let agrees = c.in-Ok.ensures.agrees config (call_of c.args.event) r holds a.thrifty in
+    (agrees.0, refl, agrees.1)
