@@ -133,6 +133,6 @@ fn a_run_shows_the_route_of_its_peer(rt: HostRuntime) -> Result<(), Fail> {
         degree: 100,
     };
     let routes: Vec<BestRoute> = trace.speaker.loc_rib().collect(rt.alloc())?;
-    assert_eq!(rt; routes.as_slice(), &[best]);
+    assert_eq!(rt; routes.as_slice(), [best].as_slice());
     Ok(())
 }

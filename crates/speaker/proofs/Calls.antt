@@ -96,7 +96,7 @@ export_best t adj_in peer prefix (Some c) routes best = export_found t c peer pr
 
 pub export_is : (t : Tables) (loc_rib : List (Prefix × Candidate)) (adj_in : List (RouteKey × PathAttributes)) (peer : ExportPeer) (prefix : Prefix)
     → ((s : ℕ) (p : Prefix) → t.routes s p ≡ route_at adj_in s p) → IsLocRib t loc_rib → IsExport t peer prefix (export_in loc_rib adj_in peer prefix)
-export_is t loc_rib adj_in peer prefix routes is = export_best t adj_in peer prefix (best_at loc_rib prefix) routes (is prefix)
+export_is t loc_rib adj_in peer prefix routes is = export_best t adj_in peer prefix (best_at loc_rib prefix) routes (is.best prefix)
 
 -- what is exported fits a message
 fitting_short : (b : Bool) (octets a : List ℕ) → nat_le (length octets) 4068 ≡ b → cond b (Some octets) None ≡ Some a → length a ≤ 4068

@@ -1,6 +1,8 @@
 use Rattle.std.proofs.Common.{◌≡◌, ◌⊎◌, ◌||◌, Bool, true, false, ℕ, List, [], ◌∷◌, ◌++◌, Option, Some, None, cond, refl, sym, ◌∙◌, subst, inl, inr, arith, append_assoc}
 use Rattle.std.specs.Option.{MatchOption}
 use Rattle.std.specs.BTreeMap.{is_at}
+use Rattle.std.specs.List.Sorted.{IsStrictlySortedBy}
+use Rattle.std.specs.Map.{keys_of}
 use Rattle.std.proofs.lemmas.Bool.Decides.{nat_tests}
 use Rattle.std.proofs.lemmas.List.{append-nil}
 use Rattle.bgp_attr.specs.PathAttributes.{PathAttributes}
@@ -123,16 +125,17 @@ whole_at t adj_in q (Some c) same h = h
 
 -- over all routes this is Loc-RIB
 pub chosen_all : (t : Tables) (adj_in seen : List (RouteKey × PathAttributes)) (chosen : List (Prefix × Candidate)) → ((slot : ℕ) (q : Prefix) → t.routes slot q ≡ route_at adj_in slot q)
-    → seen ≡ adj_in → ChosenSoFar t seen chosen → IsLocRib t chosen
+    → seen ≡ adj_in → ChosenSoFar t seen chosen → (q : Prefix) → MatchOption (best_at chosen q) (HasNoCandidate t q) (λ c. IsBest t q c)
 chosen_all t adj_in seen chosen same all before q = let here = rw all at (before q) in whole_at t adj_in q (best_at chosen q) (λ slot. same slot q) here
 
 -- chosen so far, and what is still to come
 pub record Goes (t : Tables) (adj_in seen rest : List (RouteKey × PathAttributes)) (chosen : List (Prefix × Candidate)) : Type 0 where
   pub whole : seen ++ rest ≡ adj_in
   pub so_far : ChosenSoFar t seen chosen
+  pub rising : IsStrictlySortedBy prefix_cmp (keys_of chosen)
 
-pub goes_first : (t : Tables) (adj_in rest : List (RouteKey × PathAttributes)) (chosen : List (Prefix × Candidate)) → rest ≡ adj_in → chosen ≡ [] → Goes t adj_in [] rest chosen
-goes_first t adj_in rest chosen all empty = record { whole = all; so_far = λ q. rw empty (inl refl) }
+pub goes_first : (t : Tables) (adj_in rest : List (RouteKey × PathAttributes)) (chosen : List (Prefix × Candidate)) → rest ≡ adj_in → chosen ≡ [] → IsStrictlySortedBy prefix_cmp (keys_of chosen) → Goes t adj_in [] rest chosen
+goes_first t adj_in rest chosen all empty rising = record { whole = all; so_far = λ q. rw empty (inl refl); rising = rising }
 
 one_more : (t : Tables) (adj_in seen rest next : List (RouteKey × PathAttributes)) (e : RouteKey × PathAttributes) → seen ++ rest ≡ adj_in → rest ≡ e ∷ next → (seen ++ e ∷ []) ++ next ≡ adj_in
 one_more t adj_in seen rest next e whole is = let here = rw is at whole in append_assoc seen (e ∷ []) next ∙ here
@@ -142,18 +145,20 @@ pub goes_none : (t : Tables) (adj_in seen rest next : List (RouteKey × PathAttr
 goes_none t adj_in seen rest next e chosen h is none = record {
   whole = one_more t adj_in seen rest next e h.whole is;
   so_far = chosen_none t seen e chosen h.so_far none;
+  rising = h.rising;
 }
 
 pub goes_put : (t : Tables) (adj_in seen rest next : List (RouteKey × PathAttributes)) (e : RouteKey × PathAttributes) (c : Candidate) (chosen new : List (Prefix × Candidate))
     → Goes t adj_in seen rest chosen → rest ≡ e ∷ next → IsBest t e.0.prefix c
-    → ((q : Prefix) → best_at new q ≡ cond (is_at (prefix_cmp e.0.prefix) q) (Some c) (best_at chosen q))
+    → ((q : Prefix) → best_at new q ≡ cond (is_at (prefix_cmp e.0.prefix) q) (Some c) (best_at chosen q)) → IsStrictlySortedBy prefix_cmp (keys_of new)
     → Goes t adj_in (seen ++ e ∷ []) next new
-goes_put t adj_in seen rest next e c chosen new h is best updates = record {
+goes_put t adj_in seen rest next e c chosen new h is best updates rising = record {
   whole = one_more t adj_in seen rest next e h.whole is;
   so_far = chosen_put t seen e c chosen new updates h.so_far best;
+  rising = rising;
 }
 
 pub goes_last : (t : Tables) (adj_in seen rest : List (RouteKey × PathAttributes)) (chosen : List (Prefix × Candidate)) → ((slot : ℕ) (q : Prefix) → t.routes slot q ≡ route_at adj_in slot q) → Goes t adj_in seen rest chosen → rest ≡ [] → IsLocRib t chosen
 goes_last t adj_in seen rest chosen same h empty =
     let here = rw empty at h.whole in
-    chosen_all t adj_in seen chosen same (sym (append-nil seen) ∙ here) h.so_far
+    record { rising = h.rising; best = chosen_all t adj_in seen chosen same (sym (append-nil seen) ∙ here) h.so_far }

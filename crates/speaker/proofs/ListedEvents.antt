@@ -13,6 +13,7 @@ use Rattle.speaker.specs.declared.config.Config.{Config}
 use Rattle.speaker.specs.declared.event.Event.{Event}
 use Rattle.speaker.specs.declared.event.Report.{Report}
 use Rattle.speaker.proofs.Calls.{tables_same}
+use Rattle.speaker.proofs.WaitingLists.{nothing_rises}
 
 -- Lists of events.
 
@@ -26,7 +27,7 @@ agrees_new config = record {
     slots = λ slot. (refl, λ prefix. refl);
     running = refl;
   };
-  loc_rib = λ prefix c is. let none = is.made.configured in absurd (cc);
+  loc_rib = record { rising = nothing_rises; best = λ prefix c is. let none = is.made.configured in absurd (cc) };
   settled = λ s peer configured. absurd (cc);
   thrifty = tt;
 }

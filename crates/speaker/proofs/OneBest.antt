@@ -35,7 +35,7 @@ both_found t prefix (Some c) (Some d) best other = ap Some (same_best t prefix c
 
 -- Loc-RIB has one entry of a prefix at most
 pub same_loc_rib : (t : Tables) (a b : List (Prefix × Candidate)) → IsLocRib t a → IsLocRib t b → (prefix : Prefix) → best_at a prefix ≡ best_at b prefix
-same_loc_rib t a b is also prefix = both_found t prefix (best_at a prefix) (best_at b prefix) (is prefix) (also prefix)
+same_loc_rib t a b is also prefix = both_found t prefix (best_at a prefix) (best_at b prefix) (is.best prefix) (also.best prefix)
 
 same_exported : (t : Tables) (peer : ExportPeer) (prefix : Prefix) (c d : Candidate) (one other : PathAttributes) (a b : Option (List ℕ)) → c ≡ d
     → t.routes c.slot prefix ≡ Some one → t.routes d.slot prefix ≡ Some other → a ≡ export_at c one peer → b ≡ export_at d other peer → a ≡ b

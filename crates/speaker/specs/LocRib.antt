@@ -1,6 +1,9 @@
 use Rattle.std.specs.Prelude.{MatchOption, List}
+use Rattle.std.specs.List.Sorted.{IsStrictlySortedBy}
+use Rattle.std.specs.Map.{keys_of}
 use Rattle.decision.specs.declared.candidate.Candidate.{Candidate}
 use Rattle.decision.specs.Selection.{IsSelected}
+use Rattle.net_prefix.specs.PrefixOrder.{prefix_cmp}
 use Rattle.net_prefix.specs.declared.prefix.Prefix.{Prefix}
 use Rattle.speaker.specs.Tables.{Tables, best_at}
 use Rattle.speaker.specs.Candidates.{IsCandidate, AreCandidates}
@@ -16,5 +19,7 @@ abbrev pub HasNoCandidate : Tables → Prefix → Type 0
 HasNoCandidate t prefix = (c : Candidate) → IsCandidate t prefix c → ⊥
 
 -- Loc-RIB has the best route of each prefix, and nothing of a prefix without candidates
-abbrev pub IsLocRib : Tables → List (Prefix × Candidate) → Type 0
-IsLocRib t routes = (prefix : Prefix) → MatchOption (best_at routes prefix) (HasNoCandidate t prefix) (λ c. IsBest t prefix c)
+pub record IsLocRib (t : Tables) (routes : List (Prefix × Candidate)) : Type 0 where
+  -- each prefix stands in it once
+  pub rising : IsStrictlySortedBy prefix_cmp (keys_of routes)
+  pub best : (prefix : Prefix) → MatchOption (best_at routes prefix) (HasNoCandidate t prefix) (λ c. IsBest t prefix c)

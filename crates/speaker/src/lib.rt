@@ -29,5 +29,5 @@ pub use laws::one_export;
 pub use net_prefix::Transport;
 pub use runs::{Trace, run};
 pub use step::Speaker;
-pub use views::{AdjRibIn, BestRoute, HeldRoutes, LocRib};
+pub use views::{AdjRibIn, BestRoute, HeldRoutes, LocRib, Payloads};
 pub use waiting::WaitingPrefixes;

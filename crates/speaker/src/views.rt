@@ -3,13 +3,15 @@ ghost use Rattle.std.specs.Prelude.{◌≡◌, ◌≤◌, ◌<◌, ◌+◌, ◌�
 ghost use Rattle.std.specs.Option.{option_map};
 ghost use Rattle.std.specs.Iterator.{YieldsFirst, YieldsFirstBy, item_count};
 ghost use Rattle.std.specs.List.Sorted.{IsStrictlySortedBy};
-ghost use Rattle.std.specs.Map.{lookup};
+ghost use Rattle.std.specs.Map.{keys_of, lookup};
 ghost use Rattle.bgp_peer.specs.SentMessages.{ring_of};
 ghost use Rattle.net_prefix.specs.PrefixOrder.{prefix_cmp};
 ghost use Rattle.net_prefix.specs.declared.prefix.Prefix.{Prefix as ThePrefix};
 ghost use Rattle.rib_out.specs.Held.{held_at, is_prefix};
 ghost use Rattle.speaker.specs.AdjRibIn.{route};
-ghost use Rattle.speaker.specs.Agreement.{Agrees};
+ghost use Rattle.decision.specs.declared.candidate.Candidate.{Candidate as TheCandidate};
+ghost use Rattle.speaker.specs.Agreement.{Agrees, tables_after};
+ghost use Rattle.speaker.specs.LocRib.{IsBest};
 ghost use Rattle.speaker.specs.Held.{held};
 ghost use Rattle.speaker.specs.Runs.{Run, history};
 ghost use Rattle.speaker.specs.declared.config.Config.{Config};
@@ -22,7 +24,7 @@ use crate::waiting::{Waiting, WaitingPrefixes};
 use bgp_attr::Attrs;
 use bgp_fsm::State;
 use decision::Candidate;
-use net_prefix::{Prefix, Transport};
+use net_prefix::{Prefix, Transport, Vrp};
 use std::alloc::{Allocator, Global};
 use std::collections::btree_map;
 use std::marker::Model;
@@ -65,6 +67,35 @@ impl Iterator for LocRib<'_> {
             slot: route.slot,
             degree: route.degree,
         })
+    }
+}
+
+/// Payloads in rising order.
+#[derive(Drop)]
+pub struct Payloads<'a> {
+    pub(crate) payloads: &'a [Vrp],
+}
+
+impl<'a> Model for Payloads<'a> {
+    ghost use Rattle.std.specs.Prelude.{List};
+    ghost use Rattle.net_prefix.specs.declared.payload.Vrp.{Vrp};
+
+    ghost Value = { List Vrp };
+
+    ghost view = { λ payloads. payloads.payloads.now };
+}
+
+impl Iterator for Payloads<'_> {
+    type Item = Vrp;
+
+    ghost next_gives = { YieldsFirst (λ rest. rest) };
+
+    ghost remaining = { item_count (λ rest. rest) };
+
+    fn next(&mut self) -> Option<Vrp> {
+        let (first, rest) = self.payloads.split_first()?;
+        self.payloads = rest;
+        Some(*first)
     }
 }
 
@@ -138,6 +169,13 @@ impl<'a, A: Allocator> Iterator for HeldRoutes<'a, A> {
 impl<A: Allocator + Clone> Speaker<A> {
     /// The state of a slot's session; none where the slot isn't configured.
     pub fn session(&self, slot: u8) -> Option<State>
+        ensures kept { result ≡ option_map (λ s. s.state) (session_at self.now.links slot) }
+        ensures agrees { (config : Config) (r : Run) → Agrees config r self.now → result ≡ option_map (λ s. s.state) ((tables_after config r).sessions slot) }
+    {
+        self.state_of(slot)
+    }
+
+    fn state_of(&self, slot: u8) -> Option<State>
         ensures { result ≡ option_map (λ s. s.state) (session_at self.now.links slot) }
     {
         let link = self.links.get(&slot)?;
@@ -146,6 +184,13 @@ impl<A: Allocator + Clone> Speaker<A> {
 
     /// What the transport of a slot is asked to do; `Transport::None` where the slot isn't configured.
     pub fn transport(&self, slot: u8) -> Transport
+        ensures kept { result ≡ transport_at (session_at self.now.links slot) }
+        ensures agrees { (config : Config) (r : Run) → Agrees config r self.now → result ≡ transport_at ((tables_after config r).sessions slot) }
+    {
+        self.transport_to(slot)
+    }
+
+    fn transport_to(&self, slot: u8) -> Transport
         ensures { result ≡ transport_at (session_at self.now.links slot) }
     {
         match self.links.get(&slot) {
@@ -156,16 +201,29 @@ impl<A: Allocator + Clone> Speaker<A> {
 
     /// Loc-RIB in rising order.
     pub fn loc_rib(&self) -> LocRib<'_>
-        ensures { result ≡ self.now.loc_rib }
+        // Each prefix once.
+        ensures rising { IsStrictlySortedBy prefix_cmp (keys_of result) }
+        ensures kept { result ≡ self.now.loc_rib }
+        ensures agrees { (config : Config) (r : Run) (prefix : ThePrefix) (c : TheCandidate) → Agrees config r self.now
+            → Contains result (prefix, c) ↔ IsBest (tables_after config r) prefix c }
     {
         LocRib {
             routes: self.ribs.loc_rib.iter(),
         }
     }
 
+    /// The payloads in force in rising order. There are none, since there is no cache session yet.
+    pub fn payloads(&self) -> Payloads<'_>
+        ensures { result ≡ [] }
+    {
+        Payloads { payloads: &[] }
+    }
+
     /// The routes that a slot's peer has announced and not taken back, in rising order; none where the slot
     /// isn't configured.
     pub fn adj_in(&self, slot: u8) -> AdjRibIn<'_, A>
+        // Each prefix once.
+        ensures rising { IsStrictlySortedBy prefix_cmp (keys_of result) }
         ensures kept { result ≡ routes_of slot self.now.adj_in }
         ensures agrees { (config : Config) (r : Run) (prefix : ThePrefix) → Agrees config r self.now → lookup (is_prefix prefix) result ≡ route (history config slot r) prefix }
     {
@@ -177,6 +235,8 @@ impl<A: Allocator + Clone> Speaker<A> {
 
     /// What a slot's peer holds of what it was sent, in rising order; nothing where the slot isn't configured.
     pub fn held(&self, slot: u8) -> HeldRoutes<'_, A>
+        // Each prefix once.
+        ensures rising { IsStrictlySortedBy prefix_cmp (keys_of result) }
         ensures kept { result ≡ held_by (link_at self.now.links slot) }
         ensures agrees { (config : Config) (r : Run) (prefix : ThePrefix) → Agrees config r self.now → held_at result prefix ≡ held (history config slot r) prefix }
     {
@@ -184,13 +244,14 @@ impl<A: Allocator + Clone> Speaker<A> {
     }
 
     fn held_rows(&self, slot: u8) -> HeldRoutes<'_, A>
-        ensures { result ≡ held_by (link_at self.now.links slot) }
+        ensures all { result ≡ held_by (link_at self.now.links slot) }
+        ensures rising { IsStrictlySortedBy prefix_cmp (keys_of result) }
     {
-        HeldRoutes {
-            held: match self.links.get(&slot) {
-                Some(link) => Some(link.adj_out.held()),
-                None => None,
+        match self.links.get(&slot) {
+            Some(link) => HeldRoutes {
+                held: Some(link.adj_out.held()),
             },
+            None => HeldRoutes { held: None },
         }
     }
 
