@@ -1,5 +1,5 @@
 -- Each thing that happens to a slot that is as a history leaves it leaves it as the longer history does.
-use Rattle.std.proofs.Common.{◌≡◌, ◌≢◌, ◌+◌, ◌≤◌, ℕ, List, [], ◌∷◌, ◌++◌, Option, Some, None, length, take, drop, refl, ap, sym, subst, ◌∙◌, append_assoc, append-nil}
+use Rattle.std.proofs.Common.{◌≡◌, ◌≢◌, ◌+◌, ◌≤◌, ℕ, false, List, [], ◌∷◌, ◌++◌, Option, Some, None, length, take, drop, refl, ap, sym, subst, ◌∙◌, append_assoc, append-nil}
 use Rattle.std.specs.Option.{option_map}
 use Rattle.std.proofs.lemmas.List.{drop_at, take-append-drop}
 use Rattle.net_prefix.specs.declared.asn.Asn.{Asn}
@@ -16,13 +16,14 @@ use Rattle.bgp_fsm.specs.declared.input.Input.TheVariants.{Start, Up, Fail}
 use Rattle.bgp_fsm.specs.declared.session.Session.{Session}
 use Rattle.bgp_fsm.specs.declared.session.Effects.{Effects}
 use Rattle.bgp_fsm.specs.SessionTable.{session_after, effects_of}
+use Rattle.bgp_fsm.specs.StateTests.{is_message}
 use Rattle.bgp_fsm.specs.Transports.{transport_of}
-use Rattle.bgp_peer.specs.Slot.{Slot, said, configured, enabled, opened, failed, pushed, taken_input, queued, handed}
-use Rattle.bgp_peer.specs.SessionInputs.{Event, Configured, Enabled, Opened, Failed, Octet, Queued, Handed, Terms, terms_of, stream, item_at, input_of, session, input_at, onto}
-use Rattle.bgp_peer.specs.SentMessages.{given, said_at, sent, ring_of}
+use Rattle.bgp_fsm.proofs.TableLaws.{fault_closes, stood_before}
+use Rattle.bgp_peer.specs.Slot.{Slot, said, kept, rest_after, configured, pushed, taken_input, queued, handed}
+use Rattle.bgp_peer.specs.SessionInputs.{Event, Configured, Signalled, Octet, Queued, Handed, terms_of, stream, item_at, input_of, listed, after, session, onto}
+use Rattle.bgp_peer.specs.SentMessages.{given, with_said, sent, ring_of}
 use Rattle.bgp_peer.specs.Agreement.{IsUpdateMessage, PeerAgrees, holding}
-use Rattle.bgp_peer.proofs.Rows.{fault_closes, start_connects_nothing, ignored, says_nothing, said_whole}
-use Rattle.bgp_peer.proofs.Connections.{after, session-octet}
+use Rattle.bgp_peer.proofs.Rows.{ignored, input_is_message, taken_message, kept_joins, kept_whole, said_joins, says_nothing, said_whole}
 
 -- a peer is configured
 pub agrees-new : (h : List Event) (own : OpenMessage) (mode : Mode) (peer_asn : Asn) → PeerAgrees (Configured record { own = own; mode = mode; peer_asn = peer_asn } ∷ h) (configured own mode)
@@ -34,33 +35,24 @@ agrees-new h own mode peer_asn = record {
   lawful = tt;
 }
 
--- the operator enables it
-pub agrees-enable : (h : List Event) (p : Slot) → PeerAgrees h p → PeerAgrees (Enabled ∷ h) (enabled p)
-agrees-enable h p a = record {
-  session = ap (session_after Start) a.session;
-  rest = λ e. a.rest (start_connects_nothing (session h) e);
-  ring = a.ring;
-  whole = a.whole;
-  lawful = a.lawful;
-}
+-- an input leaves what is unread of the stream, while the connection stands after it
+signal_rest :
+    (input : Input) (s : Session) (rest octets : List ℕ) → is_message input ≡ false → (transport_of s ≡ Connected → rest ≡ unread octets)
+    → transport_of (session_after input s) ≡ Connected → rest_after input rest ≡ unread (kept input octets)
+signal_rest Start s rest octets is same stands = same (stood_before Start s (λ e. cc) stands)
+signal_rest Up s rest octets is same stands = sym unread-nil
+signal_rest Fail s rest octets is same stands = sym unread-nil
+signal_rest input s rest octets is same stands = absurd (cc)
 
--- its connection stands
-pub agrees-up : (h : List Event) (p : Slot) → PeerAgrees h p → PeerAgrees (Opened ∷ h) (opened p)
-agrees-up h p a = record {
-  session = ap (session_after Up) a.session;
-  rest = λ e. sym unread-nil;
-  ring = ap (λ s. said (effects_of Up s).message []) a.session;
-  whole = said_whole (effects_of Up (session h)).message [];
-  lawful = a.lawful;
-}
-
--- its connection has failed
-pub agrees-fail : (h : List Event) (p : Slot) → PeerAgrees h p → PeerAgrees (Failed ∷ h) (failed p)
-agrees-fail h p a = record {
-  session = ap (session_after Fail) a.session;
-  rest = λ e. sym unread-nil;
-  ring = refl;
-  whole = unread-nil;
+-- an input that is no message
+pub agrees-signal : (h : List Event) (p : Slot) (input : Input) → is_message input ≡ false → PeerAgrees h p → PeerAgrees (Signalled input ∷ h) (taken_input p input)
+agrees-signal h p input is a = record {
+  session = ap (session_after input) a.session;
+  rest = λ stands. signal_rest input (session h) p.rest (stream h) is a.rest stands;
+  ring = ap (λ (s : Session). kept input (given h) ++ (kept input p.ring ++ said (effects_of input s).message (kept input p.ring))) a.session
+      ∙ said_joins (effects_of input (session h)).message (kept input (given h)) (kept input p.ring) (kept input (sent h)) (kept_joins input (given h) p.ring (sent h) a.ring);
+  whole = unread-anew (kept input (sent h)) (said (effects_of input (session h)).message (drop (length (kept input (given h))) (kept input (sent h)))) (kept_whole input (sent h) a.whole)
+      ∙ said_whole (effects_of input (session h)).message (drop (length (kept input (given h))) (kept input (sent h)));
   lawful = a.lawful;
 }
 
@@ -73,49 +65,69 @@ pub stands : (h : List Event) (p : Slot) → PeerAgrees h p → transport_of p.s
 stands h p a connected = ap transport_of (sym a.session) ∙ connected
 
 -- what the row of an octet's item says is whole
-said_at_whole : (input : Option Input) (s : Session) (ring : List ℕ) → unread (said_at input s ring) ≡ []
-said_at_whole None s ring = unread-nil
-said_at_whole (Some input) s ring = said_whole (effects_of input s).message ring
+said_octet_whole : (h : List Event) (item : Option Item) → unread (sent h) ≡ []
+    → unread (with_said (listed (option_map (input_of (session h).state (terms_of h)) item)) (session h) (given h) (sent h)) ≡ []
+said_octet_whole h None whole = whole
+said_octet_whole h (Some item) whole =
+    let message = (effects_of (input_of (session h).state (terms_of h) item) (session h)).message in
+    unread-anew (sent h) (said (effects_of (input_of (session h).state (terms_of h) item) (session h)).message (ring_of h)) whole
+    ∙ said_whole (effects_of (input_of (session h).state (terms_of h) item) (session h)).message (ring_of h)
 
-sent-octet_whole : (h : List Event) (octet : ℕ) → unread (sent h) ≡ [] → unread (sent (Octet octet ∷ h)) ≡ []
-sent-octet_whole h octet whole =
-    unread-anew (sent h) (said_at (input_at h octet) (session h) (ring_of h)) whole
-    ∙ said_at_whole (input_at h octet) (session h) (ring_of h)
+-- an octet that completes no item leaves the session and what was queued
+pub quiet_octet : (h : List Event) (octet : ℕ) → item_at h octet ≡ None → (session (Octet octet ∷ h) ≡ session h) × (sent (Octet octet ∷ h) ≡ sent h)
+quiet_octet h octet none = (
+  ap (λ item. after (listed (option_map (input_of (session h).state (terms_of h)) item)) (session h)) none,
+  ap (λ item. with_said (listed (option_map (input_of (session h).state (terms_of h)) item)) (session h) (given h) (sent h)) none,
+)
+
+-- one that completes this item is its input
+pub item_octet : (h : List Event) (octet : ℕ) (item : Item) → item_at h octet ≡ Some item
+    → (session (Octet octet ∷ h) ≡ session_after (input_of (session h).state (terms_of h) item) (session h))
+    × (sent (Octet octet ∷ h) ≡ sent h ++ said (effects_of (input_of (session h).state (terms_of h) item) (session h)).message (ring_of h))
+item_octet h octet item some = (
+  ap (λ found. after (listed (option_map (input_of (session h).state (terms_of h)) found)) (session h)) some,
+  ap (λ found. with_said (listed (option_map (input_of (session h).state (terms_of h)) found)) (session h) (given h) (sent h)) some,
+)
+
+-- the item that an octet completes, coming to an open connection
+pub item_of_rest : (h : List Event) (p : Slot) (octet : ℕ) (found : Option Item) → transport_of p.session ≡ Connected → completed p.rest octet ≡ found → PeerAgrees h p → item_at h octet ≡ found
+item_of_rest h p octet found connected is a = ap (λ rest. completed rest octet) (sym (a.rest (stands h p a connected))) ∙ is
 
 -- an octet comes that completes no item
 pub agrees-octet : (h : List Event) (p : Slot) (octet : ℕ) → transport_of p.session ≡ Connected → completed p.rest octet ≡ None
     → PeerAgrees h p → PeerAgrees (Octet octet ∷ h) (pushed p (octet ∷ []))
 agrees-octet h p octet connected none a =
     let read : p.rest ≡ unread (stream h) = a.rest (stands h p a connected) in
-    let no_item : item_at h octet ≡ None = ap (λ rest. completed rest octet) (sym read) ∙ none in
-    let no_input : input_at h octet ≡ None = ap (option_map (input_of (session h).state (terms_of h))) no_item in
+    let no_item : item_at h octet ≡ None = item_of_rest h p octet None connected none a in
+    let quiet = quiet_octet h octet no_item in
     record {
-      session = a.session ∙ ap (after (session h)) (sym no_input) ∙ sym (session-octet h octet);
+      session = a.session ∙ sym quiet.0;
       rest = λ e. ap (λ rest. rest ++ octet ∷ []) read ∙ ap (left_over (unread (stream h) ++ octet ∷ [])) (sym no_item) ∙ sym (unread-push (stream h) octet);
-      ring = a.ring ∙ sym (append-nil (sent h)) ∙ ap (λ input. sent h ++ said_at input (session h) (ring_of h)) (sym no_input);
-      whole = sent-octet_whole h octet a.whole;
+      ring = a.ring ∙ sym quiet.1;
+      whole = said_octet_whole h (item_at h octet) a.whole;
       lawful = a.lawful;
     }
 
 -- without a connection no octet changes anything
-after-ignored :
-    (s : Session) (terms : Terms) (item : Option Item) (ring : List ℕ) → transport_of s ≢ Connected
-    → (after s (option_map (input_of s.state terms) item) ≡ s) × (said_at (option_map (input_of s.state terms) item) s ring ≡ [])
-after-ignored s terms None ring shut = (refl, refl)
-after-ignored s terms (Some item) ring shut =
-    let nothing_done = ignored s terms item shut in
-    (ap (λ (row : Session × Effects). row.0) nothing_done, ap (λ (row : Session × Effects). said row.1.message ring) nothing_done ∙ says_nothing ring)
+pub shut_octet : (h : List Event) (octet : ℕ) (found : Option Item) → item_at h octet ≡ found → transport_of (session h) ≢ Connected
+    → (session (Octet octet ∷ h) ≡ session h) × (sent (Octet octet ∷ h) ≡ sent h)
+shut_octet h octet None is shut = quiet_octet h octet is
+shut_octet h octet (Some item) is shut =
+    let nothing_done = ignored (session h) (terms_of h) item shut in
+    let next = item_octet h octet item is in (
+      next.0 ∙ ap (λ (row : Session × Effects). row.0) nothing_done,
+      next.1 ∙ ap (λ (row : Session × Effects). sent h ++ said row.1.message (ring_of h)) nothing_done ∙ ap (λ octets. sent h ++ octets) (says_nothing (ring_of h)) ∙ append-nil (sent h),
+    )
 
 agrees-ignored : (h : List Event) (p : Slot) (octet : ℕ) → transport_of p.session ≢ Connected → PeerAgrees h p → PeerAgrees (Octet octet ∷ h) p
 agrees-ignored h p octet shut a =
     let shut_after : transport_of (session h) ≢ Connected = λ e. shut (ap transport_of a.session ∙ e) in
-    let same = after-ignored (session h) (terms_of h) (item_at h octet) (ring_of h) shut_after in
-    let session_same : session (Octet octet ∷ h) ≡ session h = session-octet h octet ∙ same.0 in
+    let same = shut_octet h octet _ refl shut_after in
     record {
-      session = a.session ∙ sym session_same;
-      rest = λ e. absurd (shut_after (ap transport_of (sym session_same) ∙ e));
-      ring = a.ring ∙ sym (append-nil (sent h)) ∙ ap (λ octets. sent h ++ octets) (sym same.1);
-      whole = sent-octet_whole h octet a.whole;
+      session = a.session ∙ sym same.0;
+      rest = λ e. absurd (shut_after (ap transport_of (sym same.0) ∙ e));
+      ring = a.ring ∙ sym same.1;
+      whole = said_octet_whole h (item_at h octet) a.whole;
       lawful = a.lawful;
     }
 
@@ -140,22 +152,17 @@ pub agrees-input :
     (h : List Event) (p : Slot) (part : List ℕ) (octet : ℕ) (item : Item) → transport_of p.session ≡ Connected → completed part octet ≡ Some item
     → PeerAgrees h (holding part p) → PeerAgrees (Octet octet ∷ h) (taken_input p (input_of p.session.state (terms_of h) item))
 agrees-input h p part octet item connected some a =
-    let read : part ≡ unread (stream h) = a.rest (stands h (holding part p) a connected) in
-    let some_item : item_at h octet ≡ Some item = ap (λ rest. completed rest octet) (sym read) ∙ some in
-    let input = input_of (session h).state (terms_of h) item in
-    let some_input : input_at h octet ≡ Some (input_of (session h).state (terms_of h) item) = ap (option_map (input_of (session h).state (terms_of h))) some_item in
-    let session_is : session (Octet octet ∷ h) ≡ session_after (input_of (session h).state (terms_of h) item) (session h) = session-octet h octet ∙ ap (after (session h)) some_input in
-    record {
-      session = ap (λ (s : Session). session_after (input_of s.state (terms_of h) item) s) a.session ∙ sym session_is;
-      rest = λ e. left_if_stands h octet item (ap transport_of (sym session_is) ∙ e) ∙ ap (left_over (unread (stream h) ++ octet ∷ [])) (sym some_item) ∙ sym (unread-push (stream h) octet);
-      ring = sym (append_assoc (given h) p.ring (said (effects_of (input_of p.session.state (terms_of h) item) p.session).message p.ring))
-          ∙ ap (λ octets. octets ++ said (effects_of (input_of p.session.state (terms_of h) item) p.session).message p.ring) a.ring
-          ∙ ap (λ (s : Session). sent h ++ said (effects_of (input_of s.state (terms_of h) item) s).message p.ring) a.session
-          ∙ ap (λ ring. sent h ++ said (effects_of (input_of (session h).state (terms_of h) item) (session h)).message ring) (sym (ring-is h (holding part p) a))
-          ∙ ap (λ found. sent h ++ said_at found (session h) (ring_of h)) (sym some_input);
-      whole = sent-octet_whole h octet a.whole;
+    let some_item : item_at h octet ≡ Some item = item_of_rest h (holding part p) octet (Some item) connected some a in
+    let next = item_octet h octet item some_item in
+    let state = ap (λ (s : Session). s.state) a.session in
+    rw (taken_message p (input_of p.session.state (terms_of h) item) (input_is_message p.session.state (terms_of h) item)) (record {
+      session = ap (λ (s : Session). session_after (input_of s.state (terms_of h) item) s) a.session ∙ sym next.0;
+      rest = λ e. left_if_stands h octet item (ap transport_of (sym next.0) ∙ e) ∙ ap (left_over (unread (stream h) ++ octet ∷ [])) (sym some_item) ∙ sym (unread-push (stream h) octet);
+      ring = ap (λ (s : Session). given h ++ (p.ring ++ said (effects_of (input_of s.state (terms_of h) item) s).message p.ring)) a.session
+          ∙ said_joins (effects_of (input_of (session h).state (terms_of h) item) (session h)).message (given h) p.ring (sent h) a.ring ∙ sym next.1;
+      whole = said_octet_whole h (item_at h octet) a.whole;
       lawful = a.lawful;
-    }
+    })
 
 -- an UPDATE is a whole message
 pub update_whole : (update : List ℕ) → IsUpdateMessage update → unread update ≡ []

@@ -1,29 +1,17 @@
 -- While its connection stands, a history leaves a stream with no item at its front.
-use Rattle.std.proofs.Common.{◌≡◌, ℕ, List, [], ◌∷◌, ◌++◌, Option, Some, None, inl, inr, drop, refl, ap, sym, subst, ◌∙◌, arith}
+use Rattle.std.proofs.Common.{◌≡◌, ℕ, List, [], ◌∷◌, ◌++◌, Option, Some, None, inl, inr, drop, refl, sym, subst, arith}
 use Rattle.std.specs.Option.{option_map}
 use Rattle.net_prefix.specs.declared.transport.Transport.TheVariants.{Open as Connected}
 use Rattle.bgp_msg.specs.MessageStream.{Item, WholeMessage, FaultyHeader, Wants, meaning, completed, left_over, unread}
 use Rattle.bgp_msg.proofs.Streams.{Becomes, becomes, meaning-message, at_header, some_is_not_none}
 use Rattle.bgp_msg.proofs.StreamPieces.{unread-push, unread-nil}
 use Rattle.bgp_fsm.specs.declared.input.Input.{Input}
-use Rattle.bgp_fsm.specs.declared.session.Session.{Session}
+use Rattle.bgp_fsm.specs.declared.input.Input.TheVariants.{Up, Fail}
 use Rattle.bgp_fsm.specs.SessionTable.{session_after}
 use Rattle.bgp_fsm.specs.Transports.{transport_of}
-use Rattle.bgp_peer.specs.SessionInputs.{Event, Configured, Enabled, Opened, Failed, Octet, Queued, Handed, Terms, terms_of, stream, item_at, input_of, table, with_input, inputs, session, input_at}
-use Rattle.bgp_peer.proofs.Rows.{fault_closes, start_connects_nothing}
-
--- the session after an input, where there is one
-abbrev pub after : Session → Option Input → Session
-after s None = s
-after s (Some input) = session_after input s
-
-with_input-after : (terms : Terms) (input : Option Input) (others : List Input) → table terms (with_input input others) ≡ after (table terms others) input
-with_input-after terms None others = refl
-with_input-after terms (Some input) others = refl
-
--- the session after one more octet
-pub session-octet : (h : List Event) (octet : ℕ) → session (Octet octet ∷ h) ≡ after (session h) (input_at h octet)
-session-octet h octet = with_input-after (terms_of h) (input_at h octet) (inputs h)
+use Rattle.bgp_fsm.proofs.TableLaws.{fault_closes, stood_before}
+use Rattle.bgp_peer.specs.Slot.{kept}
+use Rattle.bgp_peer.specs.SessionInputs.{Event, Configured, Signalled, Octet, Queued, Handed, terms_of, stream, item_at, input_of, listed, after, session}
 
 -- a rest with nothing at its front
 pub wants-nil : Wants []
@@ -43,28 +31,26 @@ wants-more part octet h none = still (part ++ octet ∷ []) (becomes part octet 
 -- what one more octet leaves unread of a stream whose connection still stands
 after_octet :
     (h : List Event) (octet : ℕ) (item : Option Item) → item_at h octet ≡ item
-    → transport_of (after (session h) (option_map (input_of (session h).state (terms_of h)) item)) ≡ Connected
+    → transport_of (after (listed (option_map (input_of (session h).state (terms_of h)) item)) (session h)) ≡ Connected
     → (transport_of (session h) ≡ Connected → Wants (unread (stream h)))
     → Wants (left_over (unread (stream h) ++ octet ∷ []) item)
 after_octet h octet None none stands before = wants-more (unread (stream h)) octet (before stands) none
 after_octet h octet (Some (WholeMessage kind body)) some stands before = wants-nil
 after_octet h octet (Some (FaultyHeader fault)) some stands before = absurd (fault_closes (session h) stands)
 
-wants-octet :
-    (h : List Event) (octet : ℕ) → transport_of (session (Octet octet ∷ h)) ≡ Connected
-    → (transport_of (session h) ≡ Connected → Wants (unread (stream h)))
-    → Wants (unread (stream h ++ octet ∷ []))
-wants-octet h octet stands before =
-    let stands_after : transport_of (after (session h) (input_at h octet)) ≡ Connected = ap transport_of (sym (session-octet h octet)) ∙ stands in
-    subst Wants (sym (unread-push (stream h) octet)) (after_octet h octet (item_at h octet) refl stands_after before)
+-- what an input leaves unread of it
+after_signal : (h : List Event) (input : Input) → transport_of (session_after input (session h)) ≡ Connected → (transport_of (session h) ≡ Connected → Wants (unread (stream h)))
+    → Wants (unread (kept input (stream h)))
+after_signal h Up stands before = subst Wants (sym unread-nil) wants-nil
+after_signal h Fail stands before = subst Wants (sym unread-nil) wants-nil
+after_signal h input stands before = before (stood_before input (session h) (λ is. cc) stands)
 
 -- while the connection stands, nothing whole stands at the front of what is unread
 pub connected_wants : (h : List Event) → transport_of (session h) ≡ Connected → Wants (unread (stream h))
 connected_wants [] stands = subst Wants (sym unread-nil) wants-nil
 connected_wants (Configured terms ∷ h) stands = subst Wants (sym unread-nil) wants-nil
-connected_wants (Enabled ∷ h) stands = connected_wants h (start_connects_nothing (session h) stands)
-connected_wants (Opened ∷ h) stands = subst Wants (sym unread-nil) wants-nil
-connected_wants (Failed ∷ h) stands = subst Wants (sym unread-nil) wants-nil
-connected_wants (Octet octet ∷ h) stands = wants-octet h octet stands (λ k. connected_wants h k)
+connected_wants (Signalled input ∷ h) stands = after_signal h input stands (λ k. connected_wants h k)
+connected_wants (Octet octet ∷ h) stands =
+    subst Wants (sym (unread-push (stream h) octet)) (after_octet h octet (item_at h octet) refl stands (λ k. connected_wants h k))
 connected_wants (Queued update ∷ h) stands = connected_wants h stands
 connected_wants (Handed octets ∷ h) stands = connected_wants h stands

@@ -1,98 +1,81 @@
 -- What the rows of the session table leave of a connection, and what they say.
-use Rattle.std.proofs.Common.{◌≡◌, ◌≢◌, ℕ, Bool, true, false, ◌+◌, List, [], Option, Some, None, length, nat_le, if◌then◌else◌, refl, ap, subst}
-use Rattle.bgp_attr.specs.declared.peer.Mode.{Mode}
-use Rattle.bgp_attr.specs.declared.peer.Mode.TheVariants.{Passive, Active as Opener}
-use Rattle.net_prefix.specs.declared.transport.Transport.TheVariants.{None as NoConnection, Opening, Open as Connected, Closing}
+use Rattle.std.proofs.Common.{◌≡◌, ◌≢◌, ℕ, Bool, true, false, ◌+◌, List, [], ◌++◌, Option, Some, None, length, drop, nat_le, if◌then◌else◌, refl, sym, ap, ◌∙◌, append_assoc}
+use Rattle.std.proofs.lemmas.List.{drop_at}
+use Rattle.bgp_attr.specs.AttributeFaults.{Fault as UpdateFault}
+use Rattle.net_prefix.specs.declared.transport.Transport.TheVariants.{Open as Connected}
+use Rattle.bgp_msg.specs.declared.fault.OpenFault.{OpenFault}
 use Rattle.bgp_msg.specs.declared.frame.MessageType.TheVariants.{Open as OpenType, Update as UpdateType, Notification as NotificationType, Keepalive as KeepaliveType}
+use Rattle.bgp_msg.specs.MessageFaults.{open_fault}
 use Rattle.bgp_msg.specs.MessageStream.{Item, WholeMessage, FaultyHeader, unread}
+use Rattle.bgp_msg.specs.UpdateMeaning.{update_fault}
 use Rattle.bgp_msg.proofs.StreamPieces.{unread-nil, read_alone}
 use Rattle.bgp_msg.proofs.WrittenMessages.{keepalive_first, open_first}
 use Rattle.bgp_fsm.specs.declared.state.State.{State}
-use Rattle.bgp_fsm.specs.declared.state.State.TheVariants.{Idle, Connect, Active, OpenSent, OpenConfirm, Established}
-use Rattle.bgp_fsm.specs.declared.input.Input.TheVariants.{Start, Fault}
+use Rattle.bgp_fsm.specs.declared.input.Input.{Input}
+use Rattle.bgp_fsm.specs.declared.input.Input.TheVariants.{Start, Up, Fail, Fault, Update}
 use Rattle.bgp_fsm.specs.declared.session.Outgoing.{Outgoing}
 use Rattle.bgp_fsm.specs.declared.session.Outgoing.TheVariants.{Open, Keepalive}
 use Rattle.bgp_fsm.specs.declared.session.Session.{Session}
-use Rattle.bgp_fsm.specs.SessionTable.{row_at, nothing, marked, begun, session_after}
-use Rattle.bgp_fsm.specs.Transports.{transport_of, transport_at, awaited_of}
-use Rattle.bgp_peer.specs.Slot.{octets_of, said}
-use Rattle.bgp_peer.specs.SessionInputs.{Terms, input_of}
+use Rattle.bgp_fsm.specs.SessionTable.{row_at, nothing, session_after, effects_of}
+use Rattle.bgp_fsm.specs.StateTests.{is_established, awaits_open, is_message}
+use Rattle.bgp_fsm.specs.Transports.{transport_of}
+use Rattle.bgp_fsm.proofs.TableLaws.{message_ignored}
+use Rattle.bgp_peer.specs.Slot.{Slot, octets_of, said, kept, taken_input}
+use Rattle.bgp_peer.specs.SessionInputs.{Terms, expected_of, kind_of, input_of, open_input, update_input}
 
--- without a connection no item of a stream is more than nothing
-ignored_at :
-    (state : State) (s : Session) (terms : Terms) (item : Item) → transport_at state s ≢ Connected
-    → row_at state (input_of state terms item) s ≡ (s, nothing)
-ignored_at Idle s terms (FaultyHeader fault) shut = refl
-ignored_at Idle s terms (WholeMessage OpenType body) shut = refl
-ignored_at Idle s terms (WholeMessage UpdateType body) shut = refl
-ignored_at Idle s terms (WholeMessage NotificationType body) shut = refl
-ignored_at Idle s terms (WholeMessage KeepaliveType body) shut = refl
-ignored_at Connect s terms (FaultyHeader fault) shut = refl
-ignored_at Connect s terms (WholeMessage OpenType body) shut = refl
-ignored_at Connect s terms (WholeMessage UpdateType body) shut = refl
-ignored_at Connect s terms (WholeMessage NotificationType body) shut = refl
-ignored_at Connect s terms (WholeMessage KeepaliveType body) shut = refl
-ignored_at Active s terms (FaultyHeader fault) shut = refl
-ignored_at Active s terms (WholeMessage OpenType body) shut = refl
-ignored_at Active s terms (WholeMessage UpdateType body) shut = refl
-ignored_at Active s terms (WholeMessage NotificationType body) shut = refl
-ignored_at Active s terms (WholeMessage KeepaliveType body) shut = refl
-ignored_at OpenSent s terms item shut = absurd (shut refl)
-ignored_at OpenConfirm s terms item shut = absurd (shut refl)
-ignored_at Established s terms item shut = absurd (shut refl)
+-- an item of a stream is a message
+open_is_message : (awaited : Bool) (terms : Terms) (body : List ℕ) (fault : Option OpenFault) → is_message (if awaited then open_input terms body fault else Fault) ≡ true
+open_is_message true terms body None = refl
+open_is_message true terms body (Some fault) = refl
+open_is_message false terms body fault = refl
 
+update_is_message : (read : Bool) (fault : Option UpdateFault) → is_message (if read then update_input fault else Update) ≡ true
+update_is_message true None = refl
+update_is_message true (Some fault) = refl
+update_is_message false fault = refl
+
+pub input_is_message : (state : State) (terms : Terms) (item : Item) → is_message (input_of state terms item) ≡ true
+input_is_message state terms (FaultyHeader fault) = refl
+input_is_message state terms (WholeMessage OpenType body) = open_is_message (awaits_open state) terms body (open_fault body (expected_of terms))
+input_is_message state terms (WholeMessage UpdateType body) = update_is_message (is_established state) (update_fault (kind_of terms) body)
+input_is_message state terms (WholeMessage NotificationType body) = refl
+input_is_message state terms (WholeMessage KeepaliveType body) = refl
+
+-- without a connection it is nothing
 pub ignored :
     (s : Session) (terms : Terms) (item : Item) → transport_of s ≢ Connected
     → row_at s.state (input_of s.state terms item) s ≡ (s, nothing)
-ignored s terms item shut = ignored_at s.state s terms item shut
+ignored s terms item shut = message_ignored (input_of s.state terms item) s (input_is_message s.state terms item) shut
 
--- neither in Idle nor in Active does a connection stand
-idle_is_shut : (closing : Bool) → (if closing then Closing else NoConnection) ≢ Connected
-idle_is_shut true = λ h. cc
-idle_is_shut false = λ h. cc
+-- a message is dropped from the rest, and leaves the connection's octets
+pub taken_message :
+    (p : Slot) (input : Input) → is_message input ≡ true
+    → taken_input p input ≡ record { session = session_after input p.session; rest = []; ring = p.ring ++ said (effects_of input p.session).message p.ring }
+taken_message p Start is = absurd (cc)
+taken_message p Up is = absurd (cc)
+taken_message p Fail is = absurd (cc)
+taken_message p input is = refl
 
-awaiting_is_shut : (mode : Mode) → awaited_of mode ≢ Connected
-awaiting_is_shut Opener = λ h. cc
-awaiting_is_shut Passive = λ h. cc
+-- an input leaves what stood behind what was handed out, or nothing of both
+pub kept_joins : (input : Input) (given ring sent : List ℕ) → given ++ ring ≡ sent → kept input given ++ kept input ring ≡ kept input sent
+kept_joins Start given ring sent joins = joins
+kept_joins Up given ring sent joins = refl
+kept_joins Fail given ring sent joins = refl
+kept_joins input given ring sent joins = joins
 
-connect_is_shut : Opening ≢ Connected
-connect_is_shut = λ h. cc
+pub kept_whole : (input : Input) (octets : List ℕ) → unread octets ≡ [] → unread (kept input octets) ≡ []
+kept_whole Start octets whole = whole
+kept_whole Up octets whole = unread-nil
+kept_whole Fail octets whole = unread-nil
+kept_whole input octets whole = whole
 
--- after a fault no connection stands
-closes_at : (state : State) (s : Session) → s.state ≡ state → transport_of (row_at state Fault s).0 ≢ Connected
-closes_at Idle s e = λ h. idle_is_shut s.closing (subst (λ t. transport_at t s ≡ Connected) e h)
-closes_at Connect s e = λ h. connect_is_shut (subst (λ t. transport_at t s ≡ Connected) e h)
-closes_at Active s e = λ h. awaiting_is_shut s.mode (subst (λ t. transport_at t s ≡ Connected) e h)
-closes_at OpenSent s e = idle_is_shut true
-closes_at OpenConfirm s e = idle_is_shut true
-closes_at Established s e = idle_is_shut true
-
-pub fault_closes : (s : Session) → transport_of (session_after Fault s) ≢ Connected
-fault_closes s = closes_at s.state s refl
-
--- the operator's enabling makes no connection stand
-begins_shut : (mode : Mode) (s : Session) → transport_of (begun mode s).0 ≢ Connected
-begins_shut Opener s = connect_is_shut
-begins_shut Passive s = awaiting_is_shut s.mode
-
-starts_idle :
-    (closing : Bool) (s : Session) → s.state ≡ Idle
-    → transport_of (if closing then (marked s, nothing) else begun s.mode s).0 ≢ Connected
-starts_idle true s e = λ h. idle_is_shut s.closing (subst (λ t. transport_at t (marked s) ≡ Connected) e h)
-starts_idle false s e = begins_shut s.mode s
-
-starts_at :
-    (state : State) (s : Session) → s.state ≡ state → transport_of (row_at state Start s).0 ≡ Connected
-    → transport_of s ≡ Connected
-starts_at Idle s e h = absurd (starts_idle s.closing s e h)
-starts_at Connect s e h = absurd (connect_is_shut (subst (λ t. transport_at t (marked s) ≡ Connected) e h))
-starts_at Active s e h = absurd (awaiting_is_shut s.mode (subst (λ t. transport_at t (marked s) ≡ Connected) e h))
-starts_at OpenSent s e h = ap (λ t. transport_at t s) e
-starts_at OpenConfirm s e h = ap (λ t. transport_at t s) e
-starts_at Established s e h = ap (λ t. transport_at t s) e
-
-pub start_connects_nothing : (s : Session) → transport_of (session_after Start s) ≡ Connected → transport_of s ≡ Connected
-start_connects_nothing s h = starts_at s.state s refl h
+-- what a row says stands behind the ring
+pub said_joins :
+    (message : Option Outgoing) (given ring sent : List ℕ) → given ++ ring ≡ sent
+    → given ++ (ring ++ said message ring) ≡ sent ++ said message (drop (length given) sent)
+said_joins message given ring sent joins =
+    let behind : drop (length given) sent ≡ ring = ap (drop (length given)) (sym joins) ∙ drop_at given ring (length given) refl in
+    sym (append_assoc given ring (said message ring)) ∙ ap (λ octets. octets ++ said message ring) joins ∙ ap (λ octets. sent ++ said message octets) (sym behind)
 
 -- what a row says is whole
 octets_whole : (message : Option Outgoing) → unread (octets_of message) ≡ []

@@ -6,7 +6,7 @@ use Rattle.bgp_msg.specs.MessageStream.{Item, IsMessage, completed, unread}
 use Rattle.bgp_fsm.specs.declared.state.State.TheVariants.{Established}
 use Rattle.bgp_fsm.specs.Transports.{transport_of}
 use Rattle.bgp_peer.specs.Slot.{Slot}
-use Rattle.bgp_peer.specs.SessionInputs.{Event, Configured, Enabled, Opened, Failed, Octet, Queued, Handed, stream, session}
+use Rattle.bgp_peer.specs.SessionInputs.{Event, Configured, Signalled, Octet, Queued, Handed, stream, session}
 use Rattle.bgp_peer.specs.SentMessages.{given, sent, ring_of}
 
 -- the octets are one UPDATE, from the first to the last
@@ -21,9 +21,7 @@ MayQueue h update = ((session h).state ≡ Established) × IsUpdateMessage updat
 abbrev pub Lawful : List Event → Type 0
 Lawful [] = Unit {0}
 Lawful (Configured terms ∷ h) = Unit {0}
-Lawful (Enabled ∷ h) = Lawful h
-Lawful (Opened ∷ h) = Lawful h
-Lawful (Failed ∷ h) = Lawful h
+Lawful (Signalled input ∷ h) = Lawful h
 Lawful (Octet octet ∷ h) = Lawful h
 Lawful (Queued update ∷ h) = MayQueue h update × Lawful h
 Lawful (Handed octets ∷ h) = Lawful h

@@ -1,9 +1,10 @@
 -- What happens to a slot, and what that is to its session (RFC 4271 sections 4.1 and 8.1).
-use Rattle.std.specs.Prelude.{ℕ, List, [], ◌∷◌, ◌++◌, Option, Some, None}
+use Rattle.std.specs.Prelude.{ℕ, List, [], ◌∷◌, ◌++◌, Option, Some, None, if◌then◌else◌}
 use Rattle.std.specs.Option.{option_map}
 use Rattle.net_prefix.specs.declared.asn.Asn.{Asn}
 use Rattle.bgp_attr.specs.declared.peer.Mode.{Mode}
 use Rattle.bgp_attr.specs.declared.peer.Mode.TheVariants.{Passive}
+use Rattle.bgp_attr.specs.declared.peer.PeerKind.{PeerKind}
 use Rattle.bgp_attr.specs.declared.peer.PeerKind.TheVariants.{External}
 use Rattle.bgp_attr.specs.AttributeFaults.{Fault as UpdateFault}
 use Rattle.bgp_msg.specs.declared.frame.MessageType.TheVariants.{Open as OpenType, Update as UpdateType, Notification as NotificationType, Keepalive as KeepaliveType}
@@ -14,11 +15,12 @@ use Rattle.bgp_msg.specs.MessageFaults.{open_fault, hold_time_at, identifier_at}
 use Rattle.bgp_msg.specs.MessageStream.{Item, WholeMessage, FaultyHeader, completed, unread}
 use Rattle.bgp_msg.specs.UpdateMeaning.{update_fault}
 use Rattle.bgp_fsm.specs.declared.state.State.{State}
-use Rattle.bgp_fsm.specs.declared.state.State.TheVariants.{Idle, Connect, Active, OpenSent, OpenConfirm, Established}
 use Rattle.bgp_fsm.specs.declared.input.Input.{Input}
-use Rattle.bgp_fsm.specs.declared.input.Input.TheVariants.{Start, Up, Fail, Open, Keepalive, Update, Notification, Fault}
+use Rattle.bgp_fsm.specs.declared.input.Input.TheVariants.{Open, Keepalive, Update, Notification, Fault}
 use Rattle.bgp_fsm.specs.declared.session.Session.{Session}
 use Rattle.bgp_fsm.specs.SessionTable.{fresh, session_after}
+use Rattle.bgp_fsm.specs.StateTests.{is_established, awaits_open}
+use Rattle.bgp_peer.specs.Slot.{kept}
 
 -- what a slot's peer is configured with: the OPEN that this side sends, which side opens the connection, the peer's AS
 pub record Terms : Type 0 where
@@ -29,35 +31,38 @@ pub record Terms : Type 0 where
 -- what happens to a slot
 pub data Event : Type 0 where
   Configured : (terms : Terms) → Event  -- a peer is configured, in place of any before
-  Enabled : Event  -- the operator enables it
-  Opened : Event  -- its connection stands
-  Failed : Event  -- the connection, or the attempt, has failed
+  Signalled : (input : Input) → Event  -- an input that no octet brings: the operator enables the peer, its connection stands or fails
   Octet : (octet : ℕ) → Event  -- an octet comes on the connection
   Queued : (update : List ℕ) → Event  -- an UPDATE is queued
   Handed : (octets : List ℕ) → Event  -- octets are handed out
+
+-- the terms of a peer that is configured, after a history, which has the newest first
+abbrev pub occupant : List Event → Option Terms
+occupant [] = None
+occupant (Configured terms ∷ h) = Some terms
+occupant (Signalled input ∷ h) = occupant h
+occupant (Octet octet ∷ h) = occupant h
+occupant (Queued update ∷ h) = occupant h
+occupant (Handed octets ∷ h) = occupant h
 
 -- the terms of a slot without a peer
 abbrev pub nobody : Terms
 nobody = record { own = record { asn = record { 0 = 0 }; hold_time = 0; identifier = 0 }; mode = Passive; peer_asn = record { 0 = 0 } }
 
--- the terms in force after a history, which has the newest first: those of the last configuration
+-- those of a peer, if there is one
+abbrev pub terms_from : Option Terms → Terms
+terms_from None = nobody
+terms_from (Some terms) = terms
+
+-- the terms in force after a history
 abbrev pub terms_of : List Event → Terms
-terms_of [] = nobody
-terms_of (Configured terms ∷ h) = terms
-terms_of (Enabled ∷ h) = terms_of h
-terms_of (Opened ∷ h) = terms_of h
-terms_of (Failed ∷ h) = terms_of h
-terms_of (Octet octet ∷ h) = terms_of h
-terms_of (Queued update ∷ h) = terms_of h
-terms_of (Handed octets ∷ h) = terms_of h
+terms_of h = terms_from (occupant h)
 
 -- the octets that came on the present connection, the oldest first
 abbrev pub stream : List Event → List ℕ
 stream [] = []
 stream (Configured terms ∷ h) = []
-stream (Enabled ∷ h) = stream h
-stream (Opened ∷ h) = []
-stream (Failed ∷ h) = []
+stream (Signalled input ∷ h) = kept input (stream h)
 stream (Octet octet ∷ h) = stream h ++ octet ∷ []
 stream (Queued update ∷ h) = stream h
 stream (Handed octets ∷ h) = stream h
@@ -69,6 +74,10 @@ item_at h octet = completed (unread (stream h)) octet
 -- what the peer's OPEN is judged against
 abbrev pub expected_of : Terms → Expected
 expected_of terms = record { peer_asn = terms.peer_asn; own_asn = terms.own.asn; own_identifier = terms.own.identifier }
+
+-- the kind of peer by whose rules its UPDATEs are judged: each is in another AS
+abbrev pub kind_of : Terms → PeerKind
+kind_of terms = External terms.peer_asn
 
 -- what an OPEN without a fault tells
 abbrev pub open_told : Terms → List ℕ → OpenMessage
@@ -87,50 +96,45 @@ update_input (Some fault) = Fault
 -- what an item of the stream is to a session in this state: only the body of a message that the state awaits is read
 abbrev pub input_of : State → Terms → Item → Input
 input_of state terms (FaultyHeader fault) = Fault
-input_of OpenSent terms (WholeMessage OpenType body) = open_input terms body (open_fault body (expected_of terms))
-input_of Idle terms (WholeMessage OpenType body) = Fault
-input_of Connect terms (WholeMessage OpenType body) = Fault
-input_of Active terms (WholeMessage OpenType body) = Fault
-input_of OpenConfirm terms (WholeMessage OpenType body) = Fault
-input_of Established terms (WholeMessage OpenType body) = Fault
-input_of Established terms (WholeMessage UpdateType body) = update_input (update_fault (External terms.peer_asn) body)
-input_of Idle terms (WholeMessage UpdateType body) = Update
-input_of Connect terms (WholeMessage UpdateType body) = Update
-input_of Active terms (WholeMessage UpdateType body) = Update
-input_of OpenSent terms (WholeMessage UpdateType body) = Update
-input_of OpenConfirm terms (WholeMessage UpdateType body) = Update
+input_of state terms (WholeMessage OpenType body) = if awaits_open state then open_input terms body (open_fault body (expected_of terms)) else Fault
+input_of state terms (WholeMessage UpdateType body) = if is_established state then update_input (update_fault (kind_of terms) body) else Update
 input_of state terms (WholeMessage KeepaliveType body) = Keepalive
 input_of state terms (WholeMessage NotificationType body) = Notification
 
--- the session after these inputs, of which the newest is first: the rows of the session table one after another
-abbrev pub table : Terms → List Input → Session
-table terms [] = fresh terms.own terms.mode
-table terms (input ∷ inputs) = session_after input (table terms inputs)
+-- an input, if there is one
+abbrev pub listed : Option Input → List Input
+listed None = []
+listed (Some input) = input ∷ []
 
--- an input, where there is one, and those before it
-abbrev pub with_input : Option Input → List Input → List Input
-with_input None inputs = inputs
-with_input (Some input) inputs = input ∷ inputs
+-- what an event is to a session in this state, the newest input first: an octet is the input that it completes
+abbrev pub inputs_at : State → List Event → Event → List Input
+inputs_at state h (Configured terms) = []
+inputs_at state h (Signalled input) = input ∷ []
+inputs_at state h (Octet octet) = listed (option_map (input_of state (terms_of h)) (item_at h octet))
+inputs_at state h (Queued update) = []
+inputs_at state h (Handed octets) = []
 
--- the inputs of the session since the last configuration, the newest first: an octet is the input that it completes
-abbrev pub inputs : List Event → List Input
-inputs [] = []
-inputs (Configured terms ∷ h) = []
-inputs (Enabled ∷ h) = Start ∷ inputs h
-inputs (Opened ∷ h) = Up ∷ inputs h
-inputs (Failed ∷ h) = Fail ∷ inputs h
-inputs (Octet octet ∷ h) =
-    with_input (option_map (input_of (table (terms_of h) (inputs h)).state (terms_of h)) (item_at h octet)) (inputs h)
-inputs (Queued update ∷ h) = inputs h
-inputs (Handed octets ∷ h) = inputs h
+-- a session after these inputs: the rows of the session table one after another
+abbrev pub after : List Input → Session → Session
+after [] s = s
+after (input ∷ inputs) s = session_after input (after inputs s)
+
+-- a configuration begins a session, in place of the one before
+abbrev pub restarted : Event → Session → Session
+restarted (Configured terms) s = fresh terms.own terms.mode
+restarted (Signalled input) s = s
+restarted (Octet octet) s = s
+restarted (Queued update) s = s
+restarted (Handed octets) s = s
 
 -- the session after a history
 abbrev pub session : List Event → Session
-session h = table (terms_of h) (inputs h)
+session [] = fresh nobody.own nobody.mode
+session (e ∷ h) = after (inputs_at (session h).state h e) (restarted e (session h))
 
--- the input that this octet completes, coming next
-abbrev pub input_at : List Event → ℕ → Option Input
-input_at h octet = option_map (input_of (session h).state (terms_of h)) (item_at h octet)
+-- what an event is to the session, coming next
+abbrev pub inputs_of : List Event → Event → List Input
+inputs_of h e = inputs_at (session h).state h e
 
 -- octets come one after another
 abbrev pub onto : List ℕ → List Event → List Event

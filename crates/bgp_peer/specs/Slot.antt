@@ -10,7 +10,7 @@ use Rattle.bgp_msg.specs.declared.fault.HeaderFault.{HeaderFault}
 use Rattle.bgp_msg.specs.MessageFaults.{header_fault}
 use Rattle.bgp_msg.specs.MessageStream.{Item, WholeMessage, FaultyHeader, messages, unread, with_front, left_over}
 use Rattle.bgp_fsm.specs.declared.input.Input.{Input}
-use Rattle.bgp_fsm.specs.declared.input.Input.TheVariants.{Start, Up, Fail}
+use Rattle.bgp_fsm.specs.declared.input.Input.TheVariants.{Start, Up, Fail, Open as OpenInput, Keepalive as KeepaliveInput, Update, Notification, Fault}
 use Rattle.bgp_fsm.specs.declared.session.Session.{Session}
 use Rattle.bgp_fsm.specs.declared.session.Outgoing.{Outgoing}
 use Rattle.bgp_fsm.specs.declared.session.Outgoing.TheVariants.{Open, Keepalive}
@@ -59,25 +59,39 @@ said message ring = if nat_le (length ring + 8192) 65536 then octets_of message 
 abbrev pub configured : OpenMessage → Mode → Slot
 configured own mode = record { session = fresh own mode; rest = []; ring = [] }
 
--- the operator enables the peer
-abbrev pub enabled : Slot → Slot
-enabled s = record { session = session_after Start s.session; rest = s.rest; ring = s.ring }
-
--- the connection stands: what was queued or came before is dropped, and the row's OPEN is queued
-abbrev pub opened : Slot → Slot
-opened s = record { session = session_after Up s.session; rest = []; ring = said (effects_of Up s.session).message [] }
-
--- the connection, or the attempt, has failed: what was queued or came is dropped
-abbrev pub failed : Slot → Slot
-failed s = record { session = session_after Fail s.session; rest = []; ring = [] }
-
 -- these octets have come
 abbrev pub pushed : Slot → List ℕ → Slot
 pushed s octets = record { session = s.session; rest = s.rest ++ octets; ring = s.ring }
 
--- the message in the rest is this input: it is dropped, and what its row says is queued
+-- what an input leaves of octets of the connection: a connection that comes up or fails leaves nothing of the one before
+abbrev pub kept : Input → List ℕ → List ℕ
+kept Start octets = octets
+kept Up octets = []
+kept Fail octets = []
+kept (OpenInput message) octets = octets
+kept KeepaliveInput octets = octets
+kept Update octets = octets
+kept Notification octets = octets
+kept Fault octets = octets
+
+-- what an input leaves of the rest: nothing of a message that it is
+abbrev pub rest_after : Input → List ℕ → List ℕ
+rest_after Start rest = rest
+rest_after Up rest = []
+rest_after Fail rest = []
+rest_after (OpenInput message) rest = []
+rest_after KeepaliveInput rest = []
+rest_after Update rest = []
+rest_after Notification rest = []
+rest_after Fault rest = []
+
+-- the session takes this input: what the input ends is dropped, and what its row says is queued
 abbrev pub taken_input : Slot → Input → Slot
-taken_input s input = record { session = session_after input s.session; rest = []; ring = s.ring ++ said (effects_of input s.session).message s.ring }
+taken_input s input = record {
+  session = session_after input s.session;
+  rest = rest_after input s.rest;
+  ring = kept input s.ring ++ said (effects_of input s.session).message (kept input s.ring);
+}
 
 -- a message is queued
 abbrev pub queued : Slot → List ℕ → Slot

@@ -1,15 +1,15 @@
 //! A slot: its session, the rest and the ring.
-ghost use Rattle.std.specs.Prelude.{◌≡◌, ◌+◌, ◌≤◌, ◌<◌, length, take, drop, min, ◌∷◌, ◌++◌, IfOk, ℕ, List, [], None, Some};
+ghost use Rattle.std.specs.Prelude.{◌≡◌, ◌+◌, ◌≤◌, ◌<◌, length, take, drop, min, ◌∷◌, ◌++◌, IfOk, ℕ, List, None, Some, false};
 ghost use Rattle.net_prefix.specs.declared.asn.Asn.{Asn};
 ghost use Rattle.net_prefix.specs.declared.transport.Transport.TheVariants.{Open as Connected};
-ghost use Rattle.bgp_fsm.specs.SessionTable.{effects_of, session_after};
+ghost use Rattle.bgp_fsm.specs.SessionTable.{effects_of};
 ghost use Rattle.bgp_fsm.specs.Transports.{transport_of};
 ghost use Rattle.bgp_fsm.specs.declared.state.State.{State};
-ghost use Rattle.bgp_fsm.specs.declared.input.Input.TheVariants.{Start, Up, Fail};
+ghost use Rattle.bgp_fsm.specs.StateTests.{is_message};
 ghost use Rattle.bgp_msg.specs.MessageStream.{Item, Tells, Wants, meaning, needed_of};
 ghost use Rattle.bgp_peer.specs.Agreement.{PeerAgrees, IsHearing, IsUpdateMessage};
-ghost use Rattle.bgp_peer.specs.SessionInputs.{Event, Configured, Enabled, Opened, Failed, Queued, Handed, terms_of, input_of, onto};
-ghost use Rattle.bgp_peer.specs.Slot.{Slot, configured, enabled, opened, failed, pushed, taken_input, said, queued, handed, IsWholeRest, HoldsOnly, item_of_step};
+ghost use Rattle.bgp_peer.specs.SessionInputs.{Event, Configured, Signalled, Queued, Handed, terms_of, input_of, onto};
+ghost use Rattle.bgp_peer.specs.Slot.{Slot, configured, pushed, kept, rest_after, taken_input, said, queued, handed, IsWholeRest, HoldsOnly, item_of_step};
 
 use arrayvec::ArrayVec;
 use bgp_attr::Mode;
@@ -114,52 +114,27 @@ impl<A: Allocator> Peer<A> {
         read(self.rest.as_slice())
     }
 
-    /// The operator enables the peer.
-    pub fn enable(&mut self, now: u64) -> Effects
-        ensures exact { self.new ≡ enabled self.old }
-        ensures effects { result ≡ effects_of Start self.old.session }
-        ensures agrees { (h : List Event) → PeerAgrees h self.old → PeerAgrees (Enabled ∷ h) self.new }
-    {
-        self.session.input(Input::Start, now)
-    }
-
-    /// The connection stands. What was queued or came before is dropped.
-    pub fn up(&mut self, now: u64) -> Effects
-        ensures exact { self.new ≡ opened self.old }
-        ensures effects { result ≡ effects_of Up self.old.session }
-        ensures agrees { (h : List Event) → PeerAgrees h self.old → PeerAgrees (Opened ∷ h) self.new }
-    {
-        let effects = self.reset(Input::Up, now);
-        self.say(effects.message);
-        effects
-    }
-
-    /// The connection, or the attempt, has failed. What was queued or came is dropped.
-    pub fn fail(&mut self, now: u64) -> Effects
-        ensures exact { self.new ≡ failed self.old }
-        ensures effects { result ≡ effects_of Fail self.old.session }
-        ensures agrees { (h : List Event) → PeerAgrees h self.old → PeerAgrees (Failed ∷ h) self.new }
-    {
-        self.reset(Input::Fail, now)
-    }
-
-    /// The message at the front is this input. The message is dropped, and what its row says is queued.
+    /// The session takes an input: the operator enables the peer, the connection stands or fails, or the message at
+    /// the front is this one. A message is dropped, what was queued or came on another connection too, and what the
+    /// row says is queued.
     pub fn input(&mut self, input: Input, now: u64) -> Effects
         ensures exact { self.new ≡ taken_input self.old input }
         ensures effects { result ≡ effects_of input self.old.session }
-        ensures agrees { (h : List Event) (item : Item) → IsHearing h item self.old → input ≡ input_of self.old.session.state (terms_of h) item → PeerAgrees h self.new }
+        ensures signalled { (h : List Event) → PeerAgrees h self.old → is_message input ≡ false → PeerAgrees (Signalled input ∷ h) self.new }
+        ensures heard { (h : List Event) (item : Item) → IsHearing h item self.old → input ≡ input_of self.old.session.state (terms_of h) item → PeerAgrees h self.new }
     {
-        let effects = self.hear(input, now);
+        self.make_way(input);
+        let effects = self.session.input(input, now);
         self.say(effects.message);
         effects
     }
 
-    /// Queues a message of an Established session.
+    /// Queues a message that fits.
     pub fn queue(&mut self, message: &[u8])
-        requires established { self.old.session.state ≡ State.Established }
-        requires free { length self.old.ring + length message.now ≤ 65536 }
+        requires { length self.old.ring + length message.now ≤ 65536 }
         ensures exact { self.new ≡ queued self.old message.now }
-        ensures agrees { (h : List Event) → PeerAgrees h self.old → IsUpdateMessage message.now → length self.old.ring + 8192 ≤ 65536 → PeerAgrees (Queued message.now ∷ h) self.new }
+        ensures agrees { (h : List Event) → PeerAgrees h self.old → self.old.session.state ≡ State.Established → IsUpdateMessage message.now
+            → length self.old.ring + 8192 ≤ 65536 → PeerAgrees (Queued message.now ∷ h) self.new }
     {
         self.ring.fill_from_slice(message);
     }
@@ -174,22 +149,18 @@ impl<A: Allocator> Peer<A> {
         self.ring.read_into(buf)
     }
 
-    // What was queued or came is dropped, and the session takes this input.
-    fn reset(&mut self, input: Input, now: u64) -> Effects
-        ensures exact { self.new ≡ record { session = session_after input self.old.session; rest = []; ring = [] } }
-        ensures effects { result ≡ effects_of input self.old.session }
+    // Drops what an input ends.
+    fn make_way(&mut self, input: Input)
+        ensures { self.new ≡ record { session = self.old.session; rest = rest_after input self.old.rest; ring = kept input self.old.ring } }
     {
-        self.ring.clear();
-        self.hear(input, now)
-    }
-
-    // What came is dropped, and the session takes this input.
-    fn hear(&mut self, input: Input, now: u64) -> Effects
-        ensures exact { self.new ≡ record { session = session_after input self.old.session; rest = []; ring = self.old.ring } }
-        ensures effects { result ≡ effects_of input self.old.session }
-    {
-        self.rest.clear();
-        self.session.input(input, now)
+        match input {
+            Input::Start => {}
+            Input::Up | Input::Fail => {
+                self.rest.clear();
+                self.ring.clear();
+            }
+            _ => self.rest.clear(),
+        }
     }
 
     // Queues what a row says, where an UPDATE would find room.

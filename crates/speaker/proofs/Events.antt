@@ -8,10 +8,10 @@ use Rattle.bgp_fsm.specs.SessionTable.{effects_of}
 use Rattle.bgp_fsm.specs.Transports.{transport_of}
 use Rattle.bgp_msg.specs.MessageStream.{Item, Wants, meaning, needed_of}
 use Rattle.bgp_peer.specs.SessionInputs as happens
-use Rattle.bgp_peer.specs.SessionInputs.{Enabled, Opened, Failed, Handed, onto, session, input_of, stream}
-use Rattle.bgp_peer.specs.Slot.{Slot, pushed, taken_input}
+use Rattle.bgp_peer.specs.SessionInputs.{Handed, onto, session, input_of, stream}
+use Rattle.bgp_peer.specs.Slot.{Slot, pushed}
 use Rattle.bgp_peer.proofs.Agreeing.{onto-append}
-use Rattle.bgp_peer.proofs.Connections.{connected_wants}
+use Rattle.bgp_peer.proofs.Receiving.{wants-agreed}
 use Rattle.net_prefix.specs.declared.prefix.Prefix.{Prefix}
 use Rattle.net_prefix.specs.declared.transport.Transport.{Transport}
 use Rattle.net_prefix.specs.declared.transport.Transport.TheVariants.{None as NoConnection, Opening, Listening, Open as Connected, Closing}
@@ -128,12 +128,10 @@ takes_found config r1 r2 slot peer l None old mid new is h conf histories config
     holds_put config r1 r2 slot l old new h conf (rest_kept old mid new keeps takes.2) (λ s. takes.0 s ∙ put s) (λ t other p. same t p) histories
     (subst P (sym configured) (same_routes config peer l (route_at old.adj_in slot) (route_at new.adj_in slot) (history config slot r2) (heard.0 is) (same slot)))
 takes_found config r1 r2 slot peer l (Some item) old mid new is h conf histories configured keeps put routes heard takes =
-    let input = input_of l.peer.session.state (terms_in config peer) item in
-    let l2 = moved l (taken_input l.peer (input_of l.peer.session.state (terms_in config peer) item)) (input_of l.peer.session.state (terms_in config peer) item) in
-    let P : Option ConfiguredPeer → Type 0 = λ x. SlotAgrees config x (Some (moved l (taken_input l.peer (input_of l.peer.session.state (terms_in config peer) item)) (input_of l.peer.session.state (terms_in config peer) item))) (route_at new.adj_in slot) (history config slot r2) in
-    holds_put config r1 r2 slot (moved l (taken_input l.peer (input_of l.peer.session.state (terms_in config peer) item)) (input_of l.peer.session.state (terms_in config peer) item)) old new h conf (rest_kept old mid new keeps takes.2)
-    (λ s. takes.0 s ∙ ap (λ other. cond (s == slot) (Some (moved l (taken_input l.peer (input_of l.peer.session.state (terms_in config peer) item)) (input_of l.peer.session.state (terms_in config peer) item))) other) (put s)
-    ∙ cond_again (s == slot) (Some (moved l (taken_input l.peer (input_of l.peer.session.state (terms_in config peer) item)) (input_of l.peer.session.state (terms_in config peer) item))) (Some l) (link_at old.links s))
+    let P : Option ConfiguredPeer → Type 0 = λ x. SlotAgrees config x (Some (moved l (input_of l.peer.session.state (terms_in config peer) item))) (route_at new.adj_in slot) (history config slot r2) in
+    holds_put config r1 r2 slot (moved l (input_of l.peer.session.state (terms_in config peer) item)) old new h conf (rest_kept old mid new keeps takes.2)
+    (λ s. takes.0 s ∙ ap (λ other. cond (s == slot) (Some (moved l (input_of l.peer.session.state (terms_in config peer) item))) other) (put s)
+    ∙ cond_again (s == slot) (Some (moved l (input_of l.peer.session.state (terms_in config peer) item))) (Some l) (link_at old.links s))
     (λ t other p. takes.1 t p ∙ rw (ne_eqb t slot other) (left_off (effects_of (input_of l.peer.session.state (terms_in config peer) item) l.peer.session).left (route_at mid.adj_in t p)) ∙ ap (λ table. route_at table t p) routes)
     histories
     (subst P (sym configured)
@@ -179,8 +177,7 @@ pub taken_shut : (config : Config) (r : Run) (slot : ℕ) (peer : ConfiguredPeer
     → Holds config r s → peer_at s.conf slot ≡ Some peer → link_at s.links slot ≡ Some l → taken_of l.peer octets ≡ 0 → 0 < length octets → transport_of l.peer.session ≢ Connected
 taken_shut config r slot peer l octets s h configured linked none some connected =
     let here = slot_is config r slot peer l s h configured linked in
-    let stands : transport_of (session (history config slot r)) ≡ Connected = ap transport_of (sym here.link.peer.session) ∙ connected in
-    let wants : Wants l.peer.rest = subst Wants (sym (here.link.peer.rest stands)) (connected_wants (history config slot r) stands) in
+    let wants : Wants l.peer.rest = wants-agreed (history config slot r) l.peer here.link.peer connected in
     let count : min (needed_of l.peer.rest) (length octets) ≡ 0 = ap (λ t. taken_on t l.peer.rest octets) (sym connected) ∙ none in
     absurd (omega (arith, wants_needs l.peer.rest wants, some, count))
 

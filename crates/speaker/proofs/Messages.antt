@@ -5,7 +5,6 @@ use Rattle.bgp_fsm.specs.SessionTable.{effects_of}
 use Rattle.bgp_fsm.specs.declared.input.Input.{Input}
 use Rattle.bgp_msg.specs.MessageStream.{Item}
 use Rattle.bgp_peer.specs.SessionInputs.{Terms, input_of}
-use Rattle.bgp_peer.specs.Slot.{taken_input}
 use Rattle.rib_in.specs.LatestRoutes.{route_at}
 use Rattle.speaker.specs.AdjRibIn.{update_heard}
 use Rattle.speaker.specs.Linked.{Linked}
@@ -23,12 +22,12 @@ rest_kept a b c h k = record { config = k.config ∙ h.config; conf = k.conf ∙
 
 takes_input : (slot : ℕ) (terms : Terms) (l : Linked) (item : Item) (heard : Input) (old mid new : SpeakerState)
     → heard ≡ input_of l.peer.session.state terms item → IsHeard slot (update_heard l.peer.session.state terms item) old.adj_in mid.adj_in
-    → KeepsRest old mid → ((s : ℕ) → link_at mid.links s ≡ link_at old.links s) → Moves slot l (taken_input l.peer heard) heard mid new
+    → KeepsRest old mid → ((s : ℕ) → link_at mid.links s ≡ link_at old.links s) → Moves slot l heard mid new
     → TakesItem slot terms l (Some item) old new
 takes_input slot terms l item heard old mid new is routes keeps links moves =
-    let F : Input → Type 0 = λ i. Moves slot l (taken_input l.peer i) i mid new in
+    let F : Input → Type 0 = λ i. Moves slot l i mid new in
     let here = subst F is moves in (
-      λ s. here.links s ∙ ap (λ other. cond (s == slot) (Some (moved l (taken_input l.peer (input_of l.peer.session.state terms item)) (input_of l.peer.session.state terms item))) other) (links s),
+      λ s. here.links s ∙ ap (λ other. cond (s == slot) (Some (moved l (input_of l.peer.session.state terms item))) other) (links s),
       λ s prefix. here.routes s prefix ∙ ap (λ r. cond ((effects_of (input_of l.peer.session.state terms item) l.peer.session).left && s == slot) None r) (routes s prefix),
       rest_kept old mid new keeps here.rest,
     )
@@ -36,7 +35,7 @@ takes_input slot terms l item heard old mid new is routes keeps links moves =
 -- an item is taken
 pub takes : (slot : ℕ) (terms : Terms) (l : Linked) (found : Option Item) (heard : Input) (old mid new : SpeakerState)
     → Some heard ≡ option_map (input_of l.peer.session.state terms) found → IsHeard slot (option_and_then (update_heard l.peer.session.state terms) found) old.adj_in mid.adj_in
-    → KeepsRest old mid → ((s : ℕ) → link_at mid.links s ≡ link_at old.links s) → Moves slot l (taken_input l.peer heard) heard mid new
+    → KeepsRest old mid → ((s : ℕ) → link_at mid.links s ≡ link_at old.links s) → Moves slot l heard mid new
     → TakesItem slot terms l found old new
 takes slot terms l None heard old mid new is routes keeps links moves = absurd (cc)
 takes slot terms l (Some item) heard old mid new is routes keeps links moves = takes_input slot terms l item heard old mid new (cc) routes keeps links moves

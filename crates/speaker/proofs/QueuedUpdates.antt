@@ -22,10 +22,12 @@ use Rattle.net_prefix.specs.declared.prefix.Prefix.{Prefix}
 use Rattle.rib_out.specs.Held.{is_prefix}
 use Rattle.speaker.specs.AdjRibIn.{is_among}
 use Rattle.speaker.specs.Agreement.{SlotIs}
-use Rattle.speaker.specs.Held.{told_by, told_from, told_in, held_in, is_opening}
+use Rattle.speaker.specs.Held.{told_by, told_from, told_in, held_in}
 use Rattle.speaker.specs.Linked.{Linked}
 use Rattle.speaker.specs.Queueing.{update_saying, IsOwed, rank_of}
 use Rattle.speaker.specs.declared.config.Config.{Config}
+use Rattle.bgp_fsm.specs.StateTests.{is_established}
+use Rattle.speaker.proofs.Histories.{route_stays}
 use Rattle.speaker.proofs.SentPrefixes.{told_in-append}
 
 -- What an UPDATE that is queued tells of prefixes, read back.
@@ -116,7 +118,7 @@ slot_queued config peer exports update l new routes h short owed s =
             ∙ sym (saying_tells owed.prefix (exports owed.prefix) (told_in (sent h) q) q owed.told.place (short owed.prefix))
             ∙ sym (told_in-append (sent h) (update_saying owed.prefix (exports owed.prefix)) q s.link.peer.whole)
             ∙ ap (λ state. held_in state (sent h ++ update_saying owed.prefix (exports owed.prefix)) q) (sym established);
-        silent = λ is_new p. let back = ap is_opening established in absurd (cc);
+        silent = λ k new p. let back = ap is_established established in absurd (cc);
       };
-      routes_are = s.routes_are;
+      routes_are = λ p. s.routes_are p ∙ sym (route_stays h p);
     })

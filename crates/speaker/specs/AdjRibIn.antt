@@ -4,13 +4,12 @@ use Rattle.std.specs.Option.{option_and_then}
 use Rattle.std.specs.Ordering.{is_eq}
 use Rattle.bgp_attr.specs.AttributeFaults.{Fault}
 use Rattle.bgp_attr.specs.PathAttributes.{PathAttributes}
-use Rattle.bgp_attr.specs.declared.peer.PeerKind.TheVariants.{External}
 use Rattle.bgp_fsm.specs.declared.state.State.{State}
-use Rattle.bgp_fsm.specs.declared.state.State.TheVariants.{Idle, Connect, Active, OpenSent, OpenConfirm, Established}
+use Rattle.bgp_fsm.specs.StateTests.{is_established}
 use Rattle.bgp_msg.specs.MessageStream.{Item, WholeMessage, FaultyHeader}
 use Rattle.bgp_msg.specs.UpdateMeaning.{UpdateBody, update_fault, update_in}
 use Rattle.bgp_msg.specs.declared.frame.MessageType.TheVariants.{Open, Update, Notification, Keepalive}
-use Rattle.bgp_peer.specs.SessionInputs.{Event, Terms, Configured, Enabled, Opened, Failed, Octet, Queued, Handed, terms_of, item_at, session}
+use Rattle.bgp_peer.specs.SessionInputs.{Event, Terms, Configured, Signalled, Octet, Queued, Handed, kind_of, terms_of, item_at, session}
 use Rattle.net_prefix.specs.PrefixOrder.{prefix_cmp}
 use Rattle.net_prefix.specs.declared.prefix.Prefix.{Prefix}
 
@@ -31,11 +30,6 @@ abbrev pub word_if : Option UpdateBody → Prefix → Option PathAttributes → 
 word_if None prefix before = before
 word_if (Some update) prefix before = word_of update prefix before
 
--- the latest route to a prefix, of UPDATEs with the newest first
-abbrev pub latest : List UpdateBody → Prefix → Option PathAttributes
-latest [] prefix = None
-latest (update ∷ updates) prefix = word_of update prefix (latest updates prefix)
-
 -- an UPDATE without a fault
 abbrev pub sound_update : List ℕ → Option Fault → Option UpdateBody
 sound_update body None = Some (update_in body)
@@ -45,44 +39,19 @@ sound_update body (Some fault) = None
 abbrev pub update_heard : State → Terms → Item → Option UpdateBody
 update_heard state terms (FaultyHeader fault) = None
 update_heard state terms (WholeMessage Open body) = None
-update_heard Established terms (WholeMessage Update body) = sound_update body (update_fault (External terms.peer_asn) body)
-update_heard Idle terms (WholeMessage Update body) = None
-update_heard Connect terms (WholeMessage Update body) = None
-update_heard Active terms (WholeMessage Update body) = None
-update_heard OpenSent terms (WholeMessage Update body) = None
-update_heard OpenConfirm terms (WholeMessage Update body) = None
+update_heard state terms (WholeMessage Update body) = if is_established state then sound_update body (update_fault (kind_of terms) body) else None
 update_heard state terms (WholeMessage Notification body) = None
 update_heard state terms (WholeMessage Keepalive body) = None
 
--- the UPDATE that this octet completes, coming next
-abbrev pub update_at : List Event → ℕ → Option UpdateBody
-update_at h octet = option_and_then (update_heard (session h).state (terms_of h)) (item_at h octet)
-
--- an UPDATE, where there is one, and those before it
-abbrev pub with_update : Option UpdateBody → List UpdateBody → List UpdateBody
-with_update None updates = updates
-with_update (Some update) updates = update ∷ updates
-
--- the UPDATEs of a run that is in this state now: none where it isn't Established
-abbrev pub updates_in : State → List UpdateBody → List UpdateBody
-updates_in Idle updates = []
-updates_in Connect updates = []
-updates_in Active updates = []
-updates_in OpenSent updates = []
-updates_in OpenConfirm updates = []
-updates_in Established updates = updates
-
--- the UPDATEs of the present Established run, the newest first
-abbrev pub run_updates : List Event → List UpdateBody
-run_updates [] = []
-run_updates (Configured terms ∷ h) = []
-run_updates (Enabled ∷ h) = updates_in (session (Enabled ∷ h)).state (run_updates h)
-run_updates (Opened ∷ h) = updates_in (session (Opened ∷ h)).state (run_updates h)
-run_updates (Failed ∷ h) = updates_in (session (Failed ∷ h)).state (run_updates h)
-run_updates (Octet octet ∷ h) = updates_in (session (Octet octet ∷ h)).state (with_update (update_at h octet) (run_updates h))
-run_updates (Queued update ∷ h) = run_updates h
-run_updates (Handed octets ∷ h) = run_updates h
+-- the UPDATE that an event brings, coming next
+abbrev pub brought : List Event → Event → Option UpdateBody
+brought h (Configured terms) = None
+brought h (Signalled input) = None
+brought h (Octet octet) = option_and_then (update_heard (session h).state (terms_of h)) (item_at h octet)
+brought h (Queued update) = None
+brought h (Handed octets) = None
 
 -- the route that a slot's peer announced last in its present Established run and that no later UPDATE of it names
 abbrev pub route : List Event → Prefix → Option PathAttributes
-route h prefix = latest (run_updates h) prefix
+route [] prefix = None
+route (e ∷ h) prefix = if is_established (session (e ∷ h)).state then word_if (brought h e) prefix (route h prefix) else None

@@ -4,16 +4,19 @@ use Rattle.bgp_attr.specs.PathAttributes.{PathAttributes}
 use Rattle.bgp_conf.specs.Configuration.{peer_at}
 use Rattle.bgp_conf.specs.declared.conf.ConfiguredPeer.{ConfiguredPeer}
 use Rattle.bgp_fsm.specs.declared.state.State.TheVariants.{Established}
+use Rattle.bgp_fsm.specs.StateTests.{is_established}
+use Rattle.bgp_fsm.specs.Transports.{transport_of}
 use Rattle.bgp_peer.specs.Agreement.{PeerAgrees}
 use Rattle.bgp_peer.specs.SentMessages.{ring_of, sent}
 use Rattle.bgp_peer.specs.SessionInputs as slot
 use Rattle.bgp_peer.specs.SessionInputs.{terms_of, session}
 use Rattle.net_prefix.specs.declared.prefix.Prefix.{Prefix}
+use Rattle.net_prefix.specs.declared.transport.Transport.TheVariants.{Open as Connected}
 use Rattle.rib_in.specs.LatestRoutes.{route_at}
 use Rattle.rib_out.specs.Held.{held_at}
 use Rattle.speaker.specs.AdjRibIn.{route}
 use Rattle.speaker.specs.Export.{IsExport, export_peer_of}
-use Rattle.speaker.specs.Held.{held, told_in, is_opening}
+use Rattle.speaker.specs.Held.{held, told_in}
 use Rattle.speaker.specs.Linked.{Linked}
 use Rattle.speaker.specs.LocRib.{IsLocRib}
 use Rattle.speaker.specs.Queueing.{Queue, update_saying}
@@ -37,7 +40,7 @@ pub record LinkAgrees (h : List slot.Event) (l : Linked) : Type 0 where
   pub peer : PeerAgrees h l.peer
   pub held : (prefix : Prefix) → held_at l.adj_out prefix ≡ held h prefix
   -- before Established nothing was told of any prefix
-  pub silent : is_opening (session h).state ≡ true → (prefix : Prefix) → told_in (sent h) prefix ≡ None
+  pub silent : transport_of (session h) ≡ Connected → is_established (session h).state ≡ false → (prefix : Prefix) → told_in (sent h) prefix ≡ None
 
 -- the slot of this peer and its routes are as this history leaves them
 pub record SlotIs (config : Config) (peer : ConfiguredPeer) (l : Linked) (routes : Prefix → Option PathAttributes) (h : List slot.Event) : Type 0 where

@@ -1,6 +1,6 @@
-use Rattle.std.specs.Prelude.{ℕ, Bool, true, false, List, [], ◌∷◌, Option, Some, None, if◌then◌else◌}
+use Rattle.std.specs.Prelude.{ℕ, List, [], ◌∷◌, Option, Some, None, if◌then◌else◌}
 use Rattle.bgp_fsm.specs.declared.state.State.{State}
-use Rattle.bgp_fsm.specs.declared.state.State.TheVariants.{Idle, Connect, Active, OpenSent, OpenConfirm, Established}
+use Rattle.bgp_fsm.specs.StateTests.{is_established}
 use Rattle.bgp_msg.specs.MessageSpelling.{front_prefixes, update_parts}
 use Rattle.bgp_msg.specs.MessageStream.{Item, WholeMessage, FaultyHeader, messages}
 use Rattle.bgp_msg.specs.declared.frame.MessageType.TheVariants.{Open, Update, Notification, Keepalive}
@@ -38,22 +38,8 @@ told_in octets prefix = told_from None (messages octets) prefix
 
 -- only an Established peer holds anything
 abbrev pub held_in : State → List ℕ → Prefix → Option (List ℕ)
-held_in Idle octets prefix = None
-held_in Connect octets prefix = None
-held_in Active octets prefix = None
-held_in OpenSent octets prefix = None
-held_in OpenConfirm octets prefix = None
-held_in Established octets prefix = told_in octets prefix
+held_in state octets prefix = if is_established state then told_in octets prefix else None
 
 -- the octets of the attributes of a prefix that a slot's peer holds: what it was sent on the present connection, folded
 abbrev pub held : List Event → Prefix → Option (List ℕ)
 held h prefix = held_in (session h).state (sent h) prefix
-
--- the connection stands, and the session isn't Established yet
-abbrev pub is_opening : State → Bool
-is_opening Idle = false
-is_opening Connect = false
-is_opening Active = false
-is_opening OpenSent = true
-is_opening OpenConfirm = true
-is_opening Established = false

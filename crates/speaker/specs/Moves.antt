@@ -4,15 +4,15 @@ use Rattle.bgp_fsm.specs.declared.input.Input.{Input}
 use Rattle.bgp_fsm.specs.declared.session.Effects.{Effects}
 use Rattle.bgp_peer.specs.Slot.{Slot, pushed, taken_input, handed}
 use Rattle.bgp_attr.specs.PathAttributes.{PathAttributes}
+use Rattle.bgp_attr.specs.declared.peer.PeerKind.{PeerKind}
 use Rattle.bgp_msg.specs.UpdateMeaning.{UpdateBody}
 use Rattle.bgp_msg.specs.declared.open_message.Expected.{Expected}
 use Rattle.bgp_msg.specs.MessageStream.{Item}
-use Rattle.bgp_peer.specs.SessionInputs.{Terms, expected_of, input_of}
+use Rattle.bgp_peer.specs.SessionInputs.{Terms, expected_of, kind_of, input_of}
 use Rattle.bgp_fsm.specs.Transports.{transport_of}
 use Rattle.bgp_msg.specs.MessageStream.{needed_of}
 use Rattle.net_prefix.specs.declared.transport.Transport.{Transport}
 use Rattle.net_prefix.specs.declared.transport.Transport.TheVariants.{None as NoConnection, Opening, Listening, Open as Connected, Closing}
-use Rattle.net_prefix.specs.declared.asn.Asn.{Asn}
 use Rattle.net_prefix.specs.declared.prefix.Prefix.{Prefix}
 use Rattle.rib_in.specs.declared.adj_in.RouteKey.{RouteKey}
 use Rattle.speaker.specs.AdjRibIn.{word_if, update_heard}
@@ -27,9 +27,9 @@ use Rattle.speaker.specs.Tables.{link_at}
 abbrev pub adj_out_after : Effects → List (Prefix × List ℕ) → List (Prefix × List ℕ)
 adj_out_after effects table = if effects.left || effects.entered then [] else table
 
--- the slot after an input that makes this of its session, its rest and its ring
-abbrev pub moved : Linked → Slot → Input → Linked
-moved l peer input = record { peer = peer; adj_out = adj_out_after (effects_of input l.peer.session) l.adj_out }
+-- the slot after an input
+abbrev pub moved : Linked → Input → Linked
+moved l input = record { peer = taken_input l.peer input; adj_out = adj_out_after (effects_of input l.peer.session) l.adj_out }
 
 -- the slot becomes another, and no other slot changes
 abbrev pub IsPut : ℕ → Linked → SpeakerState → SpeakerState → Type 0
@@ -48,15 +48,15 @@ pub record KeepsRest (old new : SpeakerState) : Type 0 where
   pub stopped : new.stopped ≡ old.stopped
 
 -- the input makes this of the slot and its routes, and of nothing else
-pub record Moves (slot : ℕ) (l : Linked) (peer : Slot) (input : Input) (old new : SpeakerState) : Type 0 where
-  pub links : IsPut slot (moved l peer input) old new
+pub record Moves (slot : ℕ) (l : Linked) (input : Input) (old new : SpeakerState) : Type 0 where
+  pub links : IsPut slot (moved l input) old new
   pub routes : IsDropped (effects_of input l.peer.session).left slot old new
   pub rest : KeepsRest old new
 
 -- the peer is judged by these terms
-pub record AreOf (terms : Terms) (expected : Expected) (peer_asn : Asn) : Type 0 where
+pub record AreOf (terms : Terms) (expected : Expected) (kind : PeerKind) : Type 0 where
   pub expected_is : expected ≡ expected_of terms
-  pub peer_is : peer_asn ≡ terms.peer_asn
+  pub kind_is : kind ≡ kind_of terms
 
 -- the UPDATE, where there is one, makes this of the slot's routes, and of no other ones
 abbrev pub IsHeard : ℕ → Option UpdateBody → List (RouteKey × PathAttributes) → List (RouteKey × PathAttributes) → Type 0
@@ -85,7 +85,7 @@ abbrev pub TakesItem : ℕ → Terms → Linked → Option Item → SpeakerState
 TakesItem slot terms l None old new =
     ((s : ℕ) → link_at new.links s ≡ link_at old.links s) × ((s : ℕ) (prefix : Prefix) → route_at new.adj_in s prefix ≡ route_at old.adj_in s prefix) × KeepsRest old new
 TakesItem slot terms l (Some item) old new =
-    IsPut slot (moved l (taken_input l.peer (input_of l.peer.session.state terms item)) (input_of l.peer.session.state terms item)) old new
+    IsPut slot (moved l (input_of l.peer.session.state terms item)) old new
     × ((s : ℕ) (prefix : Prefix) → route_at new.adj_in s prefix
     ≡ (if (effects_of (input_of l.peer.session.state terms item) l.peer.session).left && s == slot then None
     else (if s == slot then word_if (update_heard l.peer.session.state terms item) prefix (route_at old.adj_in s prefix) else route_at old.adj_in s prefix)))

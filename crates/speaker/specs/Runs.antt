@@ -4,12 +4,13 @@ use Rattle.bgp_conf.specs.ConfAfter.{conf_after, configured_of}
 use Rattle.bgp_conf.specs.declared.command.Command.{Command}
 use Rattle.bgp_conf.specs.declared.command.Command.TheVariants.{AddPeer, Enable, Reach}
 use Rattle.bgp_conf.specs.declared.conf.ConfiguredPeer.{ConfiguredPeer}
+use Rattle.bgp_fsm.specs.declared.input.Input.TheVariants.{Start, Up, Fail}
 use Rattle.bgp_peer.specs.SessionInputs as slot
-use Rattle.bgp_peer.specs.SessionInputs.{Terms, Configured, Enabled, Opened, Failed, Octet, Queued, Handed, onto}
+use Rattle.bgp_peer.specs.SessionInputs.{Terms, Configured, Signalled, Queued, Handed, onto}
 use Rattle.speaker.specs.Queueing.{Queue}
 use Rattle.speaker.specs.declared.config.Config.{Config}
 use Rattle.speaker.specs.declared.event.Event.{Event}
-use Rattle.speaker.specs.declared.event.Event.TheVariants.{Up, Fail, Bytes, Command as Commanded}
+use Rattle.speaker.specs.declared.event.Event.TheVariants.{Up as CameUp, Fail as HasFailed, Bytes, Command as Commanded}
 use Rattle.speaker.specs.declared.event.Report.{Report}
 
 -- The calls of a speaker, and what they are to each slot. A run has the newest call first.
@@ -40,8 +41,8 @@ Run = List Turn
 
 -- the call that an event is
 abbrev pub call_of : Event → Call
-call_of (Up slot) = Up_call slot
-call_of (Fail slot) = Fail_call slot
+call_of (CameUp slot) = Up_call slot
+call_of (HasFailed slot) = Fail_call slot
 call_of (Bytes slot octets) = Bytes_call slot octets.now
 call_of (Commanded command) = Command_call command
 
@@ -69,13 +70,13 @@ terms_in config peer = record {
 -- what a command is to a slot
 abbrev pub commanded : Config → ℕ → Command → List slot.Event → List slot.Event
 commanded config s (AddPeer slot peer) h = if s == slot then Configured (terms_in config (configured_of peer)) ∷ h else h
-commanded config s (Enable slot) h = if s == slot then Enabled ∷ h else h
+commanded config s (Enable slot) h = if s == slot then Signalled Start ∷ h else h
 commanded config s (Reach prefix cost) h = h
 
 -- what a call is to a slot
 abbrev pub called : Config → ℕ → Call → List slot.Event → List slot.Event
-called config s (Up_call slot) h = if s == slot then Opened ∷ h else h
-called config s (Fail_call slot) h = if s == slot then Failed ∷ h else h
+called config s (Up_call slot) h = if s == slot then Signalled Up ∷ h else h
+called config s (Fail_call slot) h = if s == slot then Signalled Fail ∷ h else h
 called config s (Bytes_call slot octets) h = if s == slot then onto octets h else h
 called config s (Command_call command) h = commanded config s command h
 called config s (Take_call slot octets) h = if s == slot then Handed octets ∷ h else h

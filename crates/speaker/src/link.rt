@@ -1,8 +1,7 @@
 //! One slot: its session, and what its peer was sent.
 ghost use Rattle.std.specs.Prelude.{◌≡◌, ◌≤◌, [], ◌++◌, IfOk, length, min, take, drop};
 ghost use Rattle.bgp_fsm.specs.SessionTable.{effects_of};
-ghost use Rattle.bgp_fsm.specs.declared.input.Input.TheVariants as input;
-ghost use Rattle.bgp_peer.specs.Slot.{configured, enabled, opened, failed, pushed, taken_input, handed};
+ghost use Rattle.bgp_peer.specs.Slot.{configured, pushed, handed};
 ghost use Rattle.speaker.specs.Moves.{adj_out_after, moved, taken_of};
 
 use bgp_attr::Mode;
@@ -39,42 +38,12 @@ impl<A: Allocator + Clone> Link<A> {
         Ok(Link { peer, adj_out })
     }
 
-    /// The operator enables the peer.
-    pub fn enable(&mut self) -> Effects
-        ensures link { self.new ≡ moved self.old (enabled self.old.peer) input.Start }
-        ensures effects { result ≡ effects_of input.Start self.old.peer.session }
+    /// The session takes an input, as `Peer::input`.
+    pub fn input(&mut self, input: Input, now: u64) -> Effects
+        ensures link { self.new ≡ moved self.old input }
+        ensures effects { result ≡ effects_of input self.old.peer.session }
     {
-        let effects = self.peer.enable(0);
-        self.follow(&effects);
-        effects
-    }
-
-    /// The connection stands.
-    pub fn up(&mut self) -> Effects
-        ensures link { self.new ≡ moved self.old (opened self.old.peer) input.Up }
-        ensures effects { result ≡ effects_of input.Up self.old.peer.session }
-    {
-        let effects = self.peer.up(0);
-        self.follow(&effects);
-        effects
-    }
-
-    /// The connection, or the attempt, has failed.
-    pub fn fail(&mut self) -> Effects
-        ensures link { self.new ≡ moved self.old (failed self.old.peer) input.Fail }
-        ensures effects { result ≡ effects_of input.Fail self.old.peer.session }
-    {
-        let effects = self.peer.fail(0);
-        self.follow(&effects);
-        effects
-    }
-
-    /// The message at the front of the rest is this input.
-    pub fn input(&mut self, heard: Input) -> Effects
-        ensures link { self.new ≡ moved self.old (taken_input self.old.peer heard) heard }
-        ensures effects { result ≡ effects_of heard self.old.peer.session }
-    {
-        let effects = self.peer.input(heard, 0);
+        let effects = self.peer.input(input, now);
         self.follow(&effects);
         effects
     }

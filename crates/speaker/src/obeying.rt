@@ -12,6 +12,7 @@ ghost use Rattle.speaker.specs.Tables.{link_at};
 use crate::link::Link;
 use crate::step::Speaker;
 use bgp_conf::{Command, PeerConf};
+use bgp_fsm::Input;
 use bgp_msg::Open;
 use std::alloc::{AllocError, Allocator};
 use std::collections::BTreeMap;
@@ -28,7 +29,7 @@ impl<A: Allocator + Clone> Speaker<A> {
         match *command {
             Command::AddPeer(slot, conf) => self.add_peer(command, slot, &conf),
             Command::Enable(slot) => {
-                self.enable(slot);
+                let _ = self.input(slot, Input::Start);
                 Ok(())
             }
             Command::Reach(_, _) => self.conf.apply(command),

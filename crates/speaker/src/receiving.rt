@@ -13,10 +13,8 @@ ghost use Rattle.speaker.specs.Moves.{AreOf, IsHeard};
 
 use crate::link::Link;
 use bgp_attr::{Attrs, PeerKind, UpdateFault};
-use bgp_conf::ConfiguredPeer;
 use bgp_fsm::{Input, State};
 use bgp_msg::{Expected, Frame, MessageType, Prefixes, Step, Update, read_open, read_update};
-use net_prefix::Asn;
 use rib_in::AdjIn;
 use std::alloc::{AllocError, Allocator};
 use std::rc::Rc;
@@ -27,13 +25,13 @@ pub fn take_front<A: Allocator + Clone>(
     alloc: &A,
     adj_in: &mut AdjIn<A>,
     slot: u8,
-    peer: &ConfiguredPeer,
+    kind: PeerKind,
     expected: Expected,
     link: &Link<A>,
 ) -> Result<Option<Input>, AllocError>
-    ensures input { IfOk result (λ found. (terms : Terms) → AreOf terms expected peer.now.asn
+    ensures input { IfOk result (λ found. (terms : Terms) → AreOf terms expected kind
         → found ≡ option_map (input_of link.now.peer.session.state terms) (meaning link.now.peer.rest)) }
-    ensures routes { OnOk result ((terms : Terms) → AreOf terms expected peer.now.asn
+    ensures routes { OnOk result ((terms : Terms) → AreOf terms expected kind
         → IsHeard slot (option_and_then (update_heard link.now.peer.session.state terms) (meaning link.now.peer.rest)) adj_in.old adj_in.new) }
 {
     match link.peer.front() {
@@ -44,7 +42,7 @@ pub fn take_front<A: Allocator + Clone>(
                 alloc,
                 adj_in,
                 slot,
-                peer.asn,
+                kind,
                 expected,
                 link.peer.state(),
                 frame,
@@ -61,27 +59,21 @@ fn judge<A: Allocator + Clone>(
     alloc: &A,
     adj_in: &mut AdjIn<A>,
     slot: u8,
-    peer_asn: Asn,
+    kind: PeerKind,
     expected: Expected,
     state: State,
     frame: Frame<'_>,
 ) -> Result<Input, AllocError>
-    ensures input { IfOk result (λ found. (terms : Terms) → AreOf terms expected peer_asn
+    ensures input { IfOk result (λ found. (terms : Terms) → AreOf terms expected kind
         → found ≡ input_of state terms (WholeMessage frame.entry.kind frame.entry.body.now)) }
-    ensures routes { OnOk result ((terms : Terms) → AreOf terms expected peer_asn
+    ensures routes { OnOk result ((terms : Terms) → AreOf terms expected kind
         → IsHeard slot (update_heard state terms (WholeMessage frame.entry.kind frame.entry.body.now)) adj_in.old adj_in.new) }
 {
     match (frame.kind, state) {
         (MessageType::Open, State::OpenSent) => Ok(judge_open(frame.body, expected)),
         (MessageType::Open, _) => Ok(Input::Fault),
         (MessageType::Update, State::Established) => {
-            judge_update(
-                alloc,
-                adj_in,
-                slot,
-                frame.body,
-                PeerKind::External(peer_asn),
-            )
+            judge_update(alloc, adj_in, slot, frame.body, kind)
         }
         (MessageType::Update, _) => Ok(Input::Update),
         (MessageType::Keepalive, _) => Ok(Input::Keepalive),

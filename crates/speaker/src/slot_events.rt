@@ -2,8 +2,7 @@
 ghost use Rattle.std.specs.Prelude.{◌≡◌, ◌≤◌, ◌<◌, ◌++◌, ℕ, List, [], ◌∷◌, length, take, OnOk, IfOk, ◌&&◌, ◌==◌, None, Some, if◌then◌else◌};
 ghost use Rattle.bgp_conf.specs.Configuration.{peer_at};
 ghost use Rattle.bgp_conf.specs.declared.conf.ConfiguredPeer.{ConfiguredPeer as ThePeer};
-ghost use Rattle.bgp_fsm.specs.declared.input.Input.TheVariants as input;
-ghost use Rattle.bgp_peer.specs.Slot.{enabled, opened, failed, taken_input};
+ghost use Rattle.bgp_fsm.specs.SessionTable.{effects_of};
 ghost use Rattle.net_prefix.specs.declared.prefix.Prefix.{Prefix as ThePrefix};
 ghost use Rattle.rib_in.specs.LatestRoutes.{route_at};
 ghost use Rattle.bgp_msg.specs.MessageStream.{meaning};
@@ -16,51 +15,24 @@ ghost use Rattle.speaker.specs.Linked.{Linked};
 
 use crate::receiving::take_front;
 use crate::step::Speaker;
-use bgp_fsm::Input;
+use bgp_attr::PeerKind;
+use bgp_fsm::{Effects, Input};
 use bgp_msg::Expected;
 use rib_in::AdjIn;
 use std::alloc::{AllocError, Allocator};
 
 impl<A: Allocator + Clone> Speaker<A> {
-    pub(crate) fn enable(&mut self, slot: u8)
-        ensures { (l : Linked) → link_at self.old.links slot ≡ Some l → Moves slot l (enabled l.peer) input.Start self.old self.new }
+    /// A slot's session takes an input. Where it leaves Established, its routes go.
+    pub(crate) fn input(&mut self, slot: u8, input: Input) -> Effects
+        ensures effects { (l : Linked) → link_at self.old.links slot ≡ Some l → result ≡ effects_of input l.peer.session }
+        ensures moves { (l : Linked) → link_at self.old.links slot ≡ Some l → Moves slot l input self.old self.new }
     {
         let Some(link) = self.links.get_mut(&slot) else {
-            return;
+            return Effects::NONE;
         };
-        let effects = link.enable();
+        let effects = link.input(input, 0);
         forget(&mut self.ribs.adj_in, slot, effects.left);
-    }
-
-    pub(crate) fn up(&mut self, slot: u8)
-        ensures { (l : Linked) → link_at self.old.links slot ≡ Some l → Moves slot l (opened l.peer) input.Up self.old self.new }
-    {
-        let Some(link) = self.links.get_mut(&slot) else {
-            return;
-        };
-        let effects = link.up();
-        forget(&mut self.ribs.adj_in, slot, effects.left);
-    }
-
-    pub(crate) fn fail(&mut self, slot: u8)
-        ensures { (l : Linked) → link_at self.old.links slot ≡ Some l → Moves slot l (failed l.peer) input.Fail self.old self.new }
-    {
-        let Some(link) = self.links.get_mut(&slot) else {
-            return;
-        };
-        let effects = link.fail();
-        forget(&mut self.ribs.adj_in, slot, effects.left);
-    }
-
-    // The message at the front of the slot's rest is this input.
-    fn input(&mut self, slot: u8, heard: Input)
-        ensures { (l : Linked) → link_at self.old.links slot ≡ Some l → Moves slot l (taken_input l.peer heard) heard self.old self.new }
-    {
-        let Some(link) = self.links.get_mut(&slot) else {
-            return;
-        };
-        let effects = link.input(heard);
-        forget(&mut self.ribs.adj_in, slot, effects.left);
+        effects
     }
 
     // Takes octets that come, message by message. What comes after the session has closed is dropped.
@@ -131,12 +103,13 @@ impl<A: Allocator + Clone> Speaker<A> {
         };
         let alloc = &self.alloc;
         let adj_in = &mut self.ribs.adj_in;
-        let heard = match take_front(alloc, adj_in, slot, &peer, expected, link) {
+        let kind = PeerKind::External(peer.asn);
+        let heard = match take_front(alloc, adj_in, slot, kind, expected, link) {
             Ok(heard) => heard,
             Err(refused) => return Err(refused),
         };
         if let Some(input) = heard {
-            self.input(slot, input);
+            let _ = self.input(slot, input);
         }
         Ok(())
     }

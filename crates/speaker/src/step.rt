@@ -20,7 +20,7 @@ use crate::link::Link;
 use crate::queueing::serve;
 use crate::ribs::Ribs;
 use bgp_conf::{Command, Conf, PEER_SLOTS, Refusal};
-use bgp_fsm::State;
+use bgp_fsm::{Input, State};
 use export_rules::ExportPeer;
 use net_prefix::{Asn, Transport};
 use std::alloc::{AllocError, Allocator, Global};
@@ -132,8 +132,12 @@ impl<A: Allocator + Clone> Speaker<A> {
                     return Err(Refusal::NoMemory);
                 }
             }
-            Event::Up(slot) => self.up(slot),
-            Event::Fail(slot) => self.fail(slot),
+            Event::Up(slot) => {
+                let _ = self.input(slot, Input::Up);
+            }
+            Event::Fail(slot) => {
+                let _ = self.input(slot, Input::Fail);
+            }
             Event::Bytes(slot, octets) => {
                 if self.hear(slot, octets).is_err() {
                     return self.stop();

@@ -7,4 +7,4 @@ pub returns-clause-exact : goal.returns-clause-exact
 returns-clause-exact g c = grind (arith, common_steps)
 
 pub returns-clause-agrees : goal.returns-clause-agrees
-returns-clause-agrees g c = λ h a update room. rw (returns-clause-exact g c) (agrees-queue h _ _ c.requires.established update room a)
+returns-clause-agrees g c = λ h a established update room. rw (returns-clause-exact g c) (agrees-queue h _ _ established update room a)

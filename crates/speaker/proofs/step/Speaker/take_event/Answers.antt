@@ -1,8 +1,9 @@
 use Rattle.std.proofs.Common.{[], ◌∷◌, refl}
 use Rattle.speaker.specs.Agreement.{Holds}
-use Rattle.speaker.specs.Runs.{turn, call_of}
+use Rattle.bgp_fsm.specs.declared.input.Input.TheVariants.{Up, Fail}
+use Rattle.speaker.specs.Runs.{turn, call_of, Up_call, Fail_call}
 use Rattle.speaker.specs.FirstRefusal.{awaits_up, may_fail, may_bring_octets}
-use Rattle.speaker.proofs.Commands.{accepted, peer_of, holds_up, holds_fail}
+use Rattle.speaker.proofs.Commands.{accepted, peer_of, holds_signalled, awaits_none}
 use Rattle.speaker.proofs.KeptTables.{OnOk-got}
 use Rattle.speaker.proofs.step.Speaker.take_event.Goals as goal
 use Rattle.speaker.proofs.step.Speaker.take_event.Goals.{in-Command+else-is_err, in-Up, in-Fail, in-Bytes+else-is_err-2}
@@ -17,11 +18,11 @@ returns-in-Ok-clause-agrees g c = λ config r a.
       | in-Up w ↦
           let may = rw w.in-Up.is at c.requires in
           let found = accepted _ awaits_up may in
-          rw (w.self-is, w.in-Up.is) (holds_up config r w.in-Up.slot found.0 c.args.self.now w.up.new.self a.holds found.1 found.2 (w.up.ensures found.0 found.1))
+          rw (w.self-is, w.in-Up.is) (holds_signalled config (Up_call w.in-Up.slot) r w.in-Up.slot found.0 Up c.args.self.now w.input.new.self a.holds found.1 refl (λ e. awaits_none _ found.2) (w.input.ensures.moves found.0 found.1) refl (λ t. refl))
       | in-Fail w ↦
           let may = rw w.in-Fail.is at c.requires in
           let found = accepted _ may_fail may in
-          rw (w.self-is, w.in-Fail.is) (holds_fail config r w.in-Fail.slot found.0 c.args.self.now w.fail.new.self a.holds found.1 (w.fail.ensures found.0 found.1))
+          rw (w.self-is, w.in-Fail.is) (holds_signalled config (Fail_call w.in-Fail.slot) r w.in-Fail.slot found.0 Fail c.args.self.now w.input-in-Fail.new.self a.holds found.1 refl (λ e. cc) (w.input-in-Fail.ensures.moves found.0 found.1) refl (λ t. refl))
       | in-Bytes+else-is_err-2 w ↦
           let may = rw w.in-Bytes.is at c.requires in
           let found = accepted _ may_bring_octets may in

@@ -11,11 +11,11 @@ returns-in-Some-heard g c = λ l peer linked configured.
     let peer_same : c.in-Some.peer ≡ peer = some_same _ _ _ c.in-Some.ensures configured_here in
     rw (← link_same, ← peer_same, ← c.self.view_is)
     (takes c.args.slot (terms_in c.self.inside.config c.in-Some.peer) c.in-Some-get.link.now _ c.in-Some-heard.input _ _ _
-    (sym c.in-Some-heard.is ∙ c.in-Ok.ensures.input _ (record { expected_is = refl; peer_is = refl }))
-    (c.in-Ok.ensures.routes _ (record { expected_is = refl; peer_is = refl }))
+    (sym c.in-Some-heard.is ∙ c.in-Ok.ensures.input (terms_in c.self.inside.config c.in-Some.peer) (record { expected_is = refl; kind_is = refl }))
+    (c.in-Ok.ensures.routes (terms_in c.self.inside.config c.in-Some.peer) (record { expected_is = refl; kind_is = refl }))
     (record { config = refl; conf = refl; loc_rib = refl; stopped = refl })
     (λ s. refl)
-    (c.input.ensures _ (sym c.in-Some-get.ensures.value)))
+    (c.input.ensures.moves _ (sym c.in-Some-get.ensures.value)))
 
 pub returns-in_default-heard : goal.returns-in_default-heard
 returns-in_default-heard g c = λ l peer linked configured.
@@ -25,7 +25,7 @@ returns-in_default-heard g c = λ l peer linked configured.
     let peer_same : c.in-Some.peer ≡ peer = some_same _ _ _ c.in-Some.ensures configured_here in
     rw (← link_same, ← peer_same, ← c.self.view_is)
     (takes_none c.args.slot (terms_in c.self.inside.config c.in-Some.peer) c.in-Some-get.link.now _ _ _
-    (sym c.in_default-heard.is ∙ c.in-Ok.ensures.input _ (record { expected_is = refl; peer_is = refl }))
-    (c.in-Ok.ensures.routes _ (record { expected_is = refl; peer_is = refl }))
+    (sym c.in_default-heard.is ∙ c.in-Ok.ensures.input (terms_in c.self.inside.config c.in-Some.peer) (record { expected_is = refl; kind_is = refl }))
+    (c.in-Ok.ensures.routes (terms_in c.self.inside.config c.in-Some.peer) (record { expected_is = refl; kind_is = refl }))
     (record { config = refl; conf = refl; loc_rib = refl; stopped = refl })
     (λ s. refl))
