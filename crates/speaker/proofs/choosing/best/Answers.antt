@@ -19,8 +19,8 @@ loop-slot-preserved g c =
       | in_default w ↦ rw w.candidates-is (ListsBelow-same _ _ c.loop-slot.slot c.loop-slot.candidates.items c.loop-slot.invariant w.in_default.ensures)
     ]
 
-pub choose-requires-clause-distinct : goal.choose-requires-clause-distinct
-choose-requires-clause-distinct g c = rw c.as_slice.ensures.value c.loop-slot.invariant.distinct
+pub choose-requires : goal.choose-requires
+choose-requires g c = record { distinct = rw c.as_slice.ensures.value c.loop-slot.invariant.distinct }
 
 pub returns : goal.returns
 returns g c =
