@@ -1,6 +1,6 @@
 use Rattle.std.specs.Prelude.{◌≡◌, ◌≤◌, ◌<◌, ◌+◌, ◌-◌, ◌^◌, ℕ, Bool, List, Some, Result, Ok, Err}
 use Rattle.rtr_cache.specs.CacheState.{CacheState, client_at}
-use Rattle.rtr_codec.specs.CacheTable.{Conn, hears_octets, pumped}
+use Rattle.rtr_cache.specs.CacheTable.{Conn, hears_octets, pumped}
 use Rattle.ov_programs.specs.Wires.{one_more}
 use Rattle.ov_programs.specs.declared.fault.LoopFault.{LoopFault}
 use Rattle.ov_programs.specs.declared.fault.LoopFault.TheVariants.{Accept, NoMemory}

@@ -2,7 +2,7 @@
 ghost use Rattle.std.specs.Prelude.{◌≡◌, ◌≢◌, ℕ, [], IfOk, None, Some, drop, take};
 ghost use Rattle.net_prefix.specs.declared.transport.Transport.TheVariants.{Closing};
 ghost use Rattle.rtr_cache.specs.CacheState.{OthersStay, client_at, transport_of};
-ghost use Rattle.rtr_codec.specs.CacheTable.{Conn};
+ghost use Rattle.rtr_cache.specs.CacheTable.{Conn};
 ghost use Rattle.ov_programs.specs.Turns.{IsHeard, ends_visiting, faults_visiting};
 
 use crate::outgoing::Outgoing;

@@ -1,7 +1,7 @@
 //! What waits to be written to a connection.
 ghost use Rattle.std.specs.Prelude.{◌≡◌, ◌≤◌, ◌↔◌, [], IfOk, IsTrue, None, Some, drop, length, take};
 ghost use Rattle.rtr_cache.specs.CacheState.{OthersStay, client_at};
-ghost use Rattle.rtr_codec.specs.CacheTable.{Conn};
+ghost use Rattle.rtr_cache.specs.CacheTable.{Conn};
 ghost use Rattle.ov_programs.specs.TurnOctets.{turn_octets};
 
 use crate::cache_loop::TURN_OCTETS;

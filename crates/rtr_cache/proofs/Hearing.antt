@@ -1,10 +1,10 @@
 -- What octets that come make of a connection, one PDU after another.
 use Rattle.std.proofs.Common.{◌≡◌, ◌≤◌, ◌<◌, ◌-◌, ℕ, Bool, true, List, [], ◌∷◌, ◌++◌, take, drop, min, Option, Some, None, inl, length, refl, ap, sym, subst, ◌∙◌, arith, length-drop}
 use Rattle.std.proofs.lemmas.List.{length-take-le, take-append-drop, take_all}
-use Rattle.rtr_codec.specs.CacheTable.{Conn, Shared, hears, hears_item, hears_octets, place_of}
+use Rattle.rtr_cache.specs.CacheTable.{Conn, Shared, hears, hears_item, hears_octets, place_of}
 use Rattle.rtr_codec.specs.PduStream.{Item, meaning, needed_of}
 use Rattle.rtr_codec.specs.Receiving.{Reception, passed_by, received}
-use Rattle.rtr_codec.proofs.CacheSteps.{IsPiece, hears-open, hears_octets-none, hears_octets-row}
+use Rattle.rtr_cache.proofs.CacheSteps.{IsPiece, hears-open, hears_octets-none, hears_octets-row}
 use Rattle.rtr_codec.proofs.ReaderAnswers.{one_at_most_push, wants_passed}
 use Rattle.rtr_cache.specs.Sending.{HearsFront, IsReceiving, Sending, behind_pdu, conn_of}
 

@@ -1,6 +1,10 @@
+pub mod CacheSteps
 pub mod Hearing
 pub mod Notifying
 pub mod Queueing
+pub mod QueueingLaws
 pub mod Quoting
 pub mod Resting
+pub mod Telling
+pub mod TellingHistories
 pub mod WholeVersions

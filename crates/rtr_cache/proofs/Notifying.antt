@@ -3,7 +3,7 @@ use Rattle.std.proofs.Common.{arith, ◌≡◌, ◌≢◌, ◌⊎◌, refl, sym,
 use Rattle.std.proofs.lemmas.Bool.{cases_eq}
 use Rattle.std.proofs.lemmas.List.{get_or_past}
 use Rattle.std.specs.Option.{option_map}
-use Rattle.rtr_codec.specs.CacheTable.{Conn, Shared, notified, pumped}
+use Rattle.rtr_cache.specs.CacheTable.{Conn, Shared, notified, pumped}
 use Rattle.rtr_cache.specs.CacheState.{AllAreNotified, CacheState, OthersStay, client_at}
 
 -- what a Load or a Tick makes of a client

@@ -1,9 +1,9 @@
 -- What queueing makes of a connection.
 use Rattle.std.proofs.Common.{◌≡◌, ◌≤◌, ℕ, Bool, true, false, List, [], ◌∷◌, refl, ap, sym, ◌∙◌, lit≤, if◌then◌else◌}
-use Rattle.rtr_codec.specs.CacheTable.{Conn, Shared, has_room, notified, pumped, queued, queues, wants_notify}
+use Rattle.rtr_cache.specs.CacheTable.{Conn, Shared, has_room, notified, pumped, queued, queues, wants_notify}
 use Rattle.rtr_codec.specs.PduSpelling.{Content, Cache_response, Announce, Withdraw, End_of_data, length_of}
 use Rattle.rtr_codec.specs.Receiving.{Reception}
-use Rattle.rtr_codec.proofs.Queueing.{same-queues}
+use Rattle.rtr_cache.proofs.QueueingLaws.{same-queues}
 use Rattle.rtr_cache.specs.Sending.{IsReceiving, Sending, conn_of, said}
 use Rattle.rtr_cache.specs.Unsaid.{IsResponsePart}
 

@@ -2,7 +2,7 @@
 use Rattle.std.proofs.Common.{◌≡◌, ◌≤◌, ◌<◌, ℕ, Bool, true, false, nat_lt, List, length, take, min, refl, sym, ◌∙◌, arith}
 use Rattle.std.proofs.lemmas.Grind.{common_steps}
 use Rattle.std.proofs.lemmas.List.{take_all}
-use Rattle.rtr_codec.specs.CacheTable.{quoted_of}
+use Rattle.rtr_cache.specs.CacheTable.{quoted_of}
 
 quoted-by : (octets : List ℕ) (short : Bool) → nat_lt (length octets) 32 ≡ short → take (min (length octets) 32) octets ≡ quoted_of octets
 quoted-by octets true is_short =

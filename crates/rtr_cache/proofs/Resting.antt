@@ -1,8 +1,8 @@
 -- Between any two calls every client is at rest.
 use Rattle.std.proofs.Common.{◌≡◌, ℕ, zero, suc, List, [], ◌∷◌, Option, Some, None, IfSome}
 use Rattle.std.proofs.Math.ListN.{get_or, set}
-use Rattle.rtr_codec.specs.CacheTable.{Conn, pumped}
-use Rattle.rtr_codec.proofs.Queueing.{full-queues}
+use Rattle.rtr_cache.specs.CacheTable.{Conn, pumped}
+use Rattle.rtr_cache.proofs.QueueingLaws.{full-queues}
 use Rattle.rtr_cache.specs.CacheState.{IsAtRest}
 
 -- a client is at rest once what its response has left is queued

@@ -3,7 +3,7 @@ use Rattle.std.specs.Option.{option_map}
 use Rattle.net_prefix.specs.declared.payload.Vrp.{Vrp}
 use Rattle.net_prefix.specs.declared.transport.Transport.{Transport}
 use Rattle.net_prefix.specs.declared.transport.Transport.TheVariants as transports
-use Rattle.rtr_codec.specs.CacheTable.{Conn, Shared, fresh_conn, hears_octets, notified, pumped}
+use Rattle.rtr_cache.specs.CacheTable.{Conn, Shared, fresh_conn, hears_octets, notified, pumped}
 use Rattle.rtr_codec.specs.Intervals.{are_lawful}
 use Rattle.rtr_codec.specs.declared.intervals.Intervals.{Intervals}
 use Rattle.rtr_cache.specs.declared.event.CacheEvent.{CacheEvent}

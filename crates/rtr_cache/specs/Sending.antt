@@ -1,6 +1,6 @@
 use Rattle.std.specs.Prelude.{◌≡◌, ◌≤◌, ◌+◌, ℕ, Bool, true, false, List, [], ◌∷◌, ◌++◌, length, Option, Some, None}
 use Rattle.rtr_codec.specs.declared.place.End.TheVariants.{Cache}
-use Rattle.rtr_codec.specs.CacheTable.{Conn, Shared, hears_item, told_by}
+use Rattle.rtr_cache.specs.CacheTable.{Conn, Shared, hears_item, told_by}
 use Rattle.rtr_codec.specs.PduSpelling.{Content, spelling}
 use Rattle.rtr_codec.specs.PduStream.{Item, Wants}
 use Rattle.rtr_codec.specs.Receiving.{Reception}

@@ -1,7 +1,7 @@
 use Rattle.std.specs.Prelude.{◌≡◌, ℕ, Bool, true, false, List, [], ◌∷◌, ◌++◌, map, Option, Some, None}
 use Rattle.std.specs.Option.{option_map}
 use Rattle.rtr_codec.specs.declared.intervals.Intervals.{Intervals}
-use Rattle.rtr_codec.specs.CacheTable.{Shared, is_idle}
+use Rattle.rtr_cache.specs.CacheTable.{Shared, is_idle}
 use Rattle.rtr_codec.specs.PduSpelling.{Content, Serial_notify, Serial_query, Reset_query, Cache_response, Announce, Withdraw, Ipv6_prefix, End_of_data, Cache_reset, Router_key, Error_report}
 use Rattle.rtr_codec.specs.Responses.{response}
 use Rattle.vrp_delta.specs.Delta.{Change}

@@ -1,9 +1,10 @@
 //! The cache.
 
-ghost use Rattle.std.specs.Prelude.{◌≡◌, OnErr, length};
+ghost use Rattle.std.specs.Prelude.{◌≡◌, ◌∷◌, List, OnErr, length};
 ghost use Rattle.std.specs.Option.{option_map};
-ghost use Rattle.rtr_codec.specs.CacheTable.{notified, pumped};
-ghost use Rattle.rtr_cache.specs.CacheState.{AllAreAtRest, AllAreNotified, ComesUp, GoesDown, HandsOut, HearsOctets, IsNew, Loads, OthersStay, Steps, Ticks, client_at, transport_of};
+ghost use Rattle.rtr_cache.specs.CacheTable.{notified, pumped};
+ghost use Rattle.rtr_cache.specs.CacheState.{AllAreAtRest, AllAreNotified, CacheState, ComesUp, GoesDown, HandsOut, HearsOctets, IsNew, Loads, OthersStay, Steps, Ticks, client_at, transport_of};
+ghost use Rattle.rtr_cache.specs.ClientHistory.{IsRun, Took, Turn, call_of, turn_of};
 
 use crate::event::{CacheEvent, CacheReport};
 use crate::publisher::Publisher;
@@ -66,6 +67,40 @@ impl<A: Allocator + Clone> Cache<A> {
         ensures does { Steps self.old event.entry result self.new }
         ensures err { OnErr result (self.new ≡ self.old) }
         ensures rest { AllAreAtRest self.new }
+        ensures agrees { (start : CacheState) (history : List Turn) → IsRun start history self.old → IsRun start (turn_of self.old (call_of event.entry result) ∷ history) self.new }
+    {
+        self.happen(event)
+    }
+
+    /// Hands out the first octets that are queued to the client, as many as there are and fit, and answers how many.
+    pub fn take(&mut self, key: u64, buf: &mut [u8]) -> Result<usize, CacheRefusal>
+        ensures does { HandsOut self.old key buf.old result buf.new self.new }
+        ensures err { OnErr result (self.new ≡ self.old) }
+        ensures nothing { OnErr result (buf.new ≡ buf.old) }
+        ensures rest { AllAreAtRest self.new }
+        ensures agrees { (start : CacheState) (history : List Turn) → IsRun start history self.old → IsRun start (turn_of self.old (Took key buf.old result buf.new) ∷ history) self.new }
+    {
+        self.hand_out(key, buf)
+    }
+
+    /// What stands between the client and its connection.
+    pub fn transport(&self, key: u64) -> Transport
+        ensures { result ≡ transport_of (client_at self.now key) }
+    {
+        match self.clients.get(key as usize) {
+            Some(client) => client.transport(),
+            None => Transport::None,
+        }
+    }
+
+    // By the event.
+    fn happen<B: Allocator>(
+        &mut self,
+        event: CacheEvent<'_, B>,
+    ) -> Result<CacheReport, CacheRefusal>
+        ensures does { Steps self.old event.entry result self.new }
+        ensures err { OnErr result (self.new ≡ self.old) }
+        ensures rest { AllAreAtRest self.new }
     {
         let result = match event {
             CacheEvent::Load(set) => self.load(set),
@@ -79,8 +114,7 @@ impl<A: Allocator + Clone> Cache<A> {
         result
     }
 
-    /// Hands out the first octets that are queued to the client, as many as there are and fit, and answers how many.
-    pub fn take(&mut self, key: u64, buf: &mut [u8]) -> Result<usize, CacheRefusal>
+    fn hand_out(&mut self, key: u64, buf: &mut [u8]) -> Result<usize, CacheRefusal>
         ensures does { HandsOut self.old key buf.old result buf.new self.new }
         ensures err { OnErr result (self.new ≡ self.old) }
         ensures nothing { OnErr result (buf.new ≡ buf.old) }
@@ -89,16 +123,6 @@ impl<A: Allocator + Clone> Cache<A> {
         match self.clients.get_mut(key as usize) {
             Some(client) => Ok(client.take(buf)),
             None => Err(CacheRefusal::NoClient),
-        }
-    }
-
-    /// What stands between the client and its connection.
-    pub fn transport(&self, key: u64) -> Transport
-        ensures { result ≡ transport_of (client_at self.now key) }
-    {
-        match self.clients.get(key as usize) {
-            Some(client) => client.transport(),
-            None => Transport::None,
         }
     }
 

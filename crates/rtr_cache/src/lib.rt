@@ -2,23 +2,27 @@
 //! holds (RFC 8210).
 //!
 //! What happens is handed in, one event a call, and what goes out is taken from each client's ring. A call makes of
-//! each client what the rows of `rtr_codec`'s table say, and at its end what a response has left is queued while the
-//! ring has room (`specs/CacheTable.antt` of `rtr_codec`). A response belongs to the version that was the newest when
+//! each client what the rows of the cache's table say, and at its end what a response has left is queued while the
+//! ring has room (`specs/CacheTable.antt`). A response belongs to the version that was the newest when
 //! its query was read, to its end. A load, a client that comes up and the beginning of a response take memory; where
 //! it is refused a load and a new client change nothing, and of the rest only the client that asked is closed.
 #![tactic(auto)]
 
 mod cache;
 mod event;
+mod laws;
 mod publisher;
 mod refusal;
 mod response;
 mod sender;
 mod served;
+mod table;
 
 pub use cache::{CACHE_CLIENTS, Cache};
 pub use event::{CacheEvent, CacheReport};
+pub use laws::clients_are_told_whole_versions;
 pub use refusal::CacheRefusal;
-
-#[cfg(test)]
-mod tests;
+pub use table::{
+    closed_connection_hears_nothing, octets_are_heard_piece_by_piece, queueing_changes_no_more,
+    queueing_keeps_what_is_said, queueing_leaves_room, queueing_stops_at_a_full_ring,
+};

@@ -1,6 +1,6 @@
 //! What all clients of a cache share.
 ghost use Rattle.std.specs.Prelude.{◌≡◌, [], IfOk, OnOk, OnErr, IsSome, true, false};
-ghost use Rattle.rtr_codec.specs.CacheTable.{Shared};
+ghost use Rattle.rtr_cache.specs.CacheTable.{Shared};
 ghost use Rattle.rtr_codec.specs.PduSpelling.{Serial_notify, content_of};
 ghost use Rattle.rtr_cache.specs.Unsaid.{is_published, kept_response, whole_response};
 ghost use Rattle.vrp_delta.specs.Versions.{is_newest_set, kept_after, newest_serial, version_of};
@@ -23,7 +23,7 @@ pub struct Publisher<A: Allocator = Global> {
 }
 
 impl<A: Allocator> Model for Publisher<A> {
-    ghost use Rattle.rtr_codec.specs.CacheTable.{Shared};
+    ghost use Rattle.rtr_cache.specs.CacheTable.{Shared};
 
     ghost Value = { Shared };
 

@@ -1,7 +1,7 @@
 //! What a cache says on one connection.
 ghost use Rattle.std.specs.Prelude.{◌≡◌, ◌≤◌, ◌+◌, ◌++◌, Bool, ℕ, List, IfOk, length, min, take, drop, true, false};
 ghost use Rattle.std.specs.Option.{option_map};
-ghost use Rattle.rtr_codec.specs.CacheTable.{answers, closed, fails, has_room, hears_fault, hears_pdu, is_due, is_news, notified, pumped, quoted_of, reset_query, serial_query, wants_notify};
+ghost use Rattle.rtr_cache.specs.CacheTable.{answers, closed, fails, has_room, hears_fault, hears_pdu, is_due, is_news, notified, pumped, quoted_of, reset_query, serial_query, wants_notify};
 ghost use Rattle.rtr_codec.specs.PduSpelling.{Error_report, content_of, length_of};
 ghost use Rattle.rtr_codec.specs.PduStream.{meaning};
 ghost use Rattle.rtr_codec.specs.PduFaults.{number_of};

@@ -1,7 +1,7 @@
 //! One client's end of a connection.
 ghost use Rattle.std.specs.Prelude.{◌≡◌, ◌≤◌, ◌<◌, ◌++◌, Bool, ℕ, List, IfOk, length, min, take, drop, true, false, if◌then◌else◌};
 ghost use Rattle.net_prefix.specs.declared.transport.Transport.TheVariants.{Open as Connected, Closing};
-ghost use Rattle.rtr_codec.specs.CacheTable.{fresh_conn, hears_octets, notified, pumped};
+ghost use Rattle.rtr_cache.specs.CacheTable.{fresh_conn, hears_octets, notified, pumped};
 
 use crate::publisher::Publisher;
 use crate::sender::Sender;
@@ -18,7 +18,7 @@ pub struct ServedClient<A: Allocator = Global> {
 }
 
 impl<A: Allocator> Model for ServedClient<A> {
-    ghost use Rattle.rtr_codec.specs.CacheTable.{Conn};
+    ghost use Rattle.rtr_cache.specs.CacheTable.{Conn};
     ghost use Rattle.rtr_cache.specs.Sending.{IsReceiving, conn_of};
 
     ghost Value = { Conn };

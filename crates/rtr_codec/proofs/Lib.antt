@@ -1,6 +1,4 @@
-pub mod CacheSteps
 pub mod Payloads
-pub mod Queueing
 pub mod ReaderAnswers
 pub mod ReadResponses
 pub mod SpelledPdus

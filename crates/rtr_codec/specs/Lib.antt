@@ -1,4 +1,3 @@
-pub mod CacheTable
 pub mod Intervals
 pub mod PduContents
 pub mod PduFaults

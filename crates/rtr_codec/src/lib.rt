@@ -4,15 +4,13 @@
 //! A stream is its PDUs one after another and then what is unread, and it is so in no other way; the pieces in which
 //! it comes are no part of that, and a fault ends it. `read` answers what stands at the front of a stream for the end
 //! that reads it: the first PDU, its fault, or that more octets are needed. A `Receiver` keeps what came and no PDU has
-//! taken. What `write` writes is read again as that PDU, whatever follows it. The rows of a cache's table and its
-//! responses are defined here too (`specs/CacheTable.antt`), below both ends of a connection, with their laws: a
-//! response leads from the old set to that of its version, and no queueing loses a part of it. Nothing here takes
-//! memory or sends.
+//! taken. What `write` writes is read again as that PDU, whatever follows it, and octets are read as a PDU exactly where
+//! they spell it, field by field (`specs/SpelledPdus.antt`). What a cache answers a query with is defined here too: a
+//! response leads from the old set to that of its version. Nothing here takes memory or sends.
 #![tactic(auto)]
 
 mod fault;
 mod header;
-mod hearing;
 mod intervals;
 mod pdu;
 mod place;
@@ -24,21 +22,14 @@ mod writing;
 
 pub use fault::{ErrorCode, PduFault};
 pub use header::{HEADER_OCTETS, MAX_PDU, PduType};
-pub use hearing::{closed_connection_hears_nothing, octets_are_heard_piece_by_piece};
 pub use intervals::Intervals;
 pub use pdu::Pdu;
 pub use place::{End, Place};
 pub use reading::{Step, needed, read};
 pub use receiving::Receiver;
-pub use responses::{
-    queueing_changes_no_more, queueing_keeps_what_is_said, queueing_leaves_room,
-    queueing_stops_at_a_full_ring, response_gives_the_version, response_is_short,
-};
+pub use responses::{response_gives_the_version, response_is_short};
 pub use stream::{
     fault_ends_the_stream, no_pdu_begins_another, only_pdus, pdu_is_spelled, pieces_are_the_stream,
     spelling_length, stream_goes_on, wanted_is_unread, written_is_read,
 };
 pub use writing::write;
-
-#[cfg(test)]
-mod tests;

@@ -1,4 +1,4 @@
-use Rattle.rtr_codec.specs.CacheTable.{hears_octets}
+use Rattle.rtr_cache.specs.CacheTable.{hears_octets}
 use Rattle.rtr_cache.proofs.Resting.{rests-pumped}
 use Rattle.rtr_cache.proofs.cache.Cache.hear.Goals as goal
 use Rattle.rtr_cache.proofs.cache.Cache.hear.Goals.{in-Some, in-None}

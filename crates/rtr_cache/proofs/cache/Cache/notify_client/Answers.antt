@@ -1,4 +1,4 @@
-use Rattle.rtr_codec.specs.CacheTable.{notified}
+use Rattle.rtr_cache.specs.CacheTable.{notified}
 use Rattle.rtr_cache.proofs.Resting.{rests-pumped}
 use Rattle.rtr_cache.proofs.cache.Cache.notify_client.Goals as goal
 use Rattle.rtr_cache.proofs.cache.Cache.notify_client.Goals.{in-Some, in_default}

@@ -1,5 +1,5 @@
 use Rattle.std.proofs.Common.{◌≡◌, true, false, sym, ap, ◌∙◌}
-use Rattle.rtr_codec.specs.CacheTable.{has_room, pumped}
+use Rattle.rtr_cache.specs.CacheTable.{has_room, pumped}
 use Rattle.rtr_codec.specs.PduSpelling.{content_of}
 use Rattle.rtr_cache.specs.Sending.{Sending, conn_of, said}
 use Rattle.rtr_cache.proofs.Queueing.{part_is_short, pumped-said, pumped-full}

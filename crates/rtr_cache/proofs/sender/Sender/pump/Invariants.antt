@@ -1,5 +1,5 @@
 use Rattle.std.proofs.Common.{◌≡◌, ℕ, Bool, List, length}
-use Rattle.rtr_codec.specs.CacheTable.{pumped}
+use Rattle.rtr_cache.specs.CacheTable.{pumped}
 use Rattle.rtr_cache.specs.Sending.{conn_of}
 use Rattle.rtr_cache.proofs.sender.Sender.pump.Given as goal
 

@@ -1,7 +1,7 @@
 use Rattle.std.proofs.Common.{◌≡◌, false, [], List, ℕ, refl, sym, ap, ◌∙◌, arith}
 use Rattle.std.proofs.lemmas.Grind.{common_steps}
-use Rattle.rtr_codec.specs.CacheTable.{hears_octets}
-use Rattle.rtr_codec.proofs.CacheSteps.{hears_octets-closed, hears_octets-nil}
+use Rattle.rtr_cache.specs.CacheTable.{hears_octets}
+use Rattle.rtr_cache.proofs.CacheSteps.{hears_octets-closed, hears_octets-nil}
 use Rattle.rtr_cache.proofs.served.ServedClient.hear.Goals as goal
 
 pub loop-rest-init : goal.loop-rest-init

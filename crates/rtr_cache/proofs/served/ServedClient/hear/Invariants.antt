@@ -1,5 +1,5 @@
 use Rattle.std.proofs.Common.{◌≡◌, Bool, List, length}
-use Rattle.rtr_codec.specs.CacheTable.{hears_octets}
+use Rattle.rtr_cache.specs.CacheTable.{hears_octets}
 use Rattle.rtr_cache.proofs.served.ServedClient.hear.Given as goal
 
 abbrev pub invariant-loop-rest : goal.invariant-loop-rest

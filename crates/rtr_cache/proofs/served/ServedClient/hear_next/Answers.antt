@@ -1,5 +1,5 @@
 use Rattle.std.proofs.Common.{◌≡◌, true, refl, ap, ◌∙◌, arith}
-use Rattle.rtr_codec.specs.CacheTable.{Conn}
+use Rattle.rtr_cache.specs.CacheTable.{Conn}
 use Rattle.rtr_cache.proofs.Hearing.{front_goes_on, front_receives}
 use Rattle.rtr_cache.proofs.served.ServedClient.hear_next.Goals as goal
 

@@ -1,5 +1,5 @@
 use Rattle.std.proofs.Common.{[], false, ap, ◌∙◌}
-use Rattle.rtr_codec.specs.CacheTable.{pumped}
+use Rattle.rtr_cache.specs.CacheTable.{pumped}
 use Rattle.rtr_cache.proofs.Queueing.{pumped_same_open, still_receiving}
 use Rattle.rtr_cache.proofs.served.ServedClient.receive.Goals as goal
 

@@ -1,5 +1,5 @@
 use Rattle.std.proofs.Common.{[], drop, false, ap, ◌∙◌}
-use Rattle.rtr_codec.specs.CacheTable.{Conn, pumped}
+use Rattle.rtr_cache.specs.CacheTable.{Conn, pumped}
 use Rattle.rtr_cache.specs.Sending.{Sending, conn_of}
 use Rattle.rtr_cache.proofs.Queueing.{pumped_same_open, still_receiving}
 use Rattle.rtr_cache.proofs.served.ServedClient.take.Goals as goal

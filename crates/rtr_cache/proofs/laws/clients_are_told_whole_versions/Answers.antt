@@ -1,0 +1,5 @@
+use Rattle.rtr_cache.proofs.TellingHistories.{told_whole}
+use Rattle.rtr_cache.proofs.laws.clients_are_told_whole_versions.Goals as goal
+
+pub returns : goal.returns
+returns c = told_whole

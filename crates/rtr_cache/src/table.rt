@@ -1,0 +1,40 @@
+//! The table of what a cache makes of a client's PDUs, `specs/CacheTable.antt`: its laws (RFC 8210 sections 5 to 8).
+ghost use Rattle.std.specs.Prelude.{◌≡◌, ◌≢◌, ◌<◌, ◌≤◌, ◌+◌, ◌++◌, Bool, List, [], None, Some, drop, false, if◌then◌else◌, length, true, ℕ};
+ghost use Rattle.rtr_cache.specs.CacheTable.{Conn, Shared, first_refused, hears, hears_all, hears_from, pumped, queues};
+ghost use Rattle.rtr_codec.specs.PduSpelling.{Content};
+ghost use Rattle.rtr_codec.specs.PduStream.{Item, Wants, meaning, needed_of, place_after};
+ghost use Rattle.rtr_codec.specs.Responses.{are_short, spellings};
+ghost use Rattle.rtr_codec.specs.declared.place.Place.{Place};
+
+/// No more octets than are wanted are one row, where they complete a PDU or a fault, and none where they don't. What
+/// follows them is heard behind it, unless the row closed the connection.
+pub fn octets_are_heard_piece_by_piece()
+    ensures none { (shared : Shared) (refused : List Bool) (conn : Conn) (place : Place) (part piece more : List ℕ) → Wants place part → 0 < length piece → length piece ≤ needed_of place part → meaning place (part ++ piece) ≡ None → hears_from shared refused conn place part (piece ++ more) ≡ hears_from shared refused conn place (part ++ piece) more }
+    ensures row { (shared : Shared) (refused : List Bool) (conn : Conn) (place : Place) (part piece more : List ℕ) (item : Item) → Wants place part → 0 < length piece → length piece ≤ needed_of place part → meaning place (part ++ piece) ≡ Some item → conn.is_open ≡ true → hears_from shared refused conn place part (piece ++ more) ≡ (let after = hears shared (first_refused refused) conn item in if after.is_open then hears_from shared (drop 1 refused) after (place_after place (Some item)) [] more else after) }
+    ensures end { (shared : Shared) (refused : List Bool) (conn : Conn) (place : Place) (part : List ℕ) → hears_from shared refused conn place part [] ≡ record conn { unread = part } }
+{}
+
+/// A closed connection hears nothing.
+pub fn closed_connection_hears_nothing()
+    ensures { (shared : Shared) (refused : List Bool) (conn : Conn) (items : List Item) → conn.is_open ≡ false → hears_all shared refused conn items ≡ conn }
+{}
+
+/// Queueing says what is left to say, in its order, once each.
+pub fn queueing_keeps_what_is_said()
+    ensures { (conn : Conn) (contents : List Content) → (queues conn contents).ring ++ spellings (queues conn contents).left ≡ conn.ring ++ spellings contents }
+{}
+
+/// A response is cut short only where fewer than 128 octets of the ring are free.
+pub fn queueing_stops_at_a_full_ring()
+    ensures { (conn : Conn) → (pumped conn).left ≢ [] → 65536 < length (pumped conn).ring + 128 }
+{}
+
+/// What is queued leaves as much of the ring free as is free, or 104 octets.
+pub fn queueing_leaves_room()
+    ensures { (conn : Conn) (contents : List Content) (most : ℕ) → are_short contents ≡ true → 65432 ≤ most → length conn.ring ≤ most → length (queues conn contents).ring ≤ most }
+{}
+
+/// Queueing changes the ring, what is left, and the serial that the client was told.
+pub fn queueing_changes_no_more()
+    ensures { (conn : Conn) (contents : List Content) → ((queues conn contents).is_open ≡ conn.is_open) × ((queues conn contents).is_first ≡ conn.is_first) × ((queues conn contents).unread ≡ conn.unread) × ((queues conn contents).notified ≡ conn.notified) }
+{}

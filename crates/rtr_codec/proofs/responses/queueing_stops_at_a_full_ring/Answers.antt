@@ -1,5 +1,0 @@
-use Rattle.rtr_codec.proofs.Queueing.{full-queues}
-use Rattle.rtr_codec.proofs.responses.queueing_stops_at_a_full_ring.Goals as goal
-
-pub returns : goal.returns
-returns c conn some = full-queues conn conn.left some

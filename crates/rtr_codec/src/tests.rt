@@ -1,3 +1,0 @@
-//! PDUs in octets, as both ends send them.
-mod octets;
-mod rows;
