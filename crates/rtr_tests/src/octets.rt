@@ -2,9 +2,9 @@
 ghost use Rattle.std.specs.Prelude.{◌≤◌};
 ghost use Rattle.rtr_codec.specs.PduSpelling.{content_of, length_of};
 
-use crate::{End, Intervals, Pdu, Place, Receiver, Step, needed, read, write};
 use arrayvec::ArrayVec;
 use net_prefix::{Asn, Prefix, Vrp};
+use rtr_codec::{End, Intervals, Pdu, Place, Receiver, Step, needed, read, write};
 use std::test::Fail;
 
 const RESET_QUERY: [u8; 8] = [1, 2, 0, 0, 0, 0, 0, 8];

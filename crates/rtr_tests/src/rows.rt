@@ -1,5 +1,5 @@
 //! The faults of PDUs, and the bounds of intervals, row by row.
-use crate::{End, ErrorCode, Intervals, Pdu, PduFault, Place, Step, needed, read};
+use rtr_codec::{End, ErrorCode, Intervals, Pdu, PduFault, Place, Step, needed, read};
 
 const AT_CACHE: Place = Place {
     end: End::Cache,
