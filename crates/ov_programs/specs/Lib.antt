@@ -1,5 +1,7 @@
 pub mod Exits
+pub mod Serving
 pub mod TurnOctets
 pub mod Turns
+pub mod Visiting
 pub mod Wires
 pub mod Words

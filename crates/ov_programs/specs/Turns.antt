@@ -1,6 +1,6 @@
-use Rattle.std.specs.Prelude.{◌≡◌, ◌≤◌, ◌<◌, ◌+◌, ◌-◌, ◌^◌, ℕ, Bool, List, Some, Result, Ok, Err}
+use Rattle.std.specs.Prelude.{◌≡◌, ◌≢◌, ◌≤◌, ◌<◌, ◌+◌, ◌-◌, ◌^◌, ℕ, List, [], Option, None, IsSome, Result, Ok, Err, slice_index_or}
 use Rattle.rtr_cache.specs.CacheState.{CacheState, client_at}
-use Rattle.rtr_cache.specs.CacheTable.{Conn, hears_octets, pumped}
+use Rattle.ov_programs.specs.Serving.{Connection, Standing}
 use Rattle.ov_programs.specs.Wires.{one_more}
 use Rattle.ov_programs.specs.declared.fault.LoopFault.{LoopFault}
 use Rattle.ov_programs.specs.declared.fault.LoopFault.TheVariants.{Accept, NoMemory}
@@ -16,14 +16,31 @@ pub record Counts : Type 0 where
   pub faults : ℕ
   pub ends : ℕ
 
--- a loop: how many connections it has, and what is counted
+-- a loop: what is counted, its cache, and the connection of each client under the client's key
 pub record Turns : Type 0 where
-  pub connections : ℕ
   pub counts : Counts
+  pub cache : CacheState
+  pub links : List (Option Connection)
+
+-- the connection of a client
+abbrev pub link_at : Turns → ℕ → Option Connection
+link_at turns key = slice_index_or turns.links key None
+
+-- what stands under a client's key
+abbrev pub standing_at : Turns → ℕ → Standing
+standing_at turns key = record { client = client_at turns.cache key; link = link_at turns key }
+
+-- each connection is one of a client that the cache has
+abbrev pub EachHasAClient : CacheState → List (Option Connection) → Type 0
+EachHasAClient cache links = (key : ℕ) → IsSome (slice_index_or links key None) → IsSome (client_at cache key)
 
 -- a loop before its first turn
-abbrev pub idle : ℕ → ℕ → Turns
-idle faults ends = record { connections = 0; counts = record { lost = 0; closed = 0; faults = faults; ends = ends } }
+abbrev pub idle : CacheState → ℕ → ℕ → Turns
+idle cache faults ends = record { counts = record { lost = 0; closed = 0; faults = faults; ends = ends }; cache = cache; links = [] }
+
+-- every key but this one stands as it stood
+abbrev pub OthersStand : Turns → ℕ → Turns → Type 0
+OthersStand old key new = (other : ℕ) → other ≢ key → standing_at new other ≡ standing_at old other
 
 -- the faults behind a visit
 abbrev pub faults_visiting : Visit → ℕ → ℕ
@@ -49,16 +66,16 @@ counts_admitting (Ok nothing) counts = counts
 counts_admitting (Err Accept) counts = fault_counted counts
 counts_admitting (Err NoMemory) counts = counts
 
--- a connection is closed and the cache told that it is gone
-abbrev pub loses : Turns → Turns
-loses turns = record turns { connections = turns.connections - 1; counts = record turns.counts { lost = one_more turns.counts.lost } }
+-- a client is lost
+abbrev pub counts_losing : Counts → Counts
+counts_losing counts = record counts { lost = one_more counts.lost }
 
--- what is done behind a visit that found this, whose faults and ends the wire has counted
-abbrev pub settled : Visit → Turns → Turns
-settled Stays turns = turns
-settled Faulty turns = loses turns
-settled Ended turns = loses turns
-settled Closed turns = loses (record turns { counts = record turns.counts { closed = one_more turns.counts.closed } })
+-- what a visit that found this is counted as, where the wire has counted its faults and ends
+abbrev pub counts_settling : Visit → Counts → Counts
+counts_settling Stays counts = counts
+counts_settling Faulty counts = counts_losing counts
+counts_settling Ended counts = counts_losing counts
+counts_settling Closed counts = counts_losing (record counts { closed = one_more counts.closed })
 
 -- no count is at the greatest u64
 pub record AreBelowGreatest (counts : Counts) : Type 0 where
@@ -82,9 +99,3 @@ pub record Rises (old new : Counts) : Type 0 where
 pub record LosesAsCounted (old new : Counts) : Type 0 where
   pub rises : Rises old new
   pub lost : AreBelowGreatest new → new.lost + (old.faults + old.ends + old.closed) ≡ old.lost + (new.faults + new.ends + new.closed)
-
--- octets of a client are heard by its end of the connection alone, PDU by PDU; refused says where memory refused what a query needs
-abbrev pub IsHeard : CacheState → ℕ → List ℕ → CacheState → Type 0
-IsHeard old client octets new =
-    (conn : Conn) → client_at old client ≡ Some conn
-    → (refused : List Bool) × (client_at new client ≡ Some (pumped (hears_octets old.shared refused conn octets)))

@@ -1,4 +1,4 @@
-use Rattle.std.specs.Prelude.{◌+◌, ◌-◌, ◌^◌, ◌≤◌, ℕ, nat_lt, if◌then◌else◌, Option, Some, None, ⊤}
+use Rattle.std.specs.Prelude.{◌≡◌, ◌+◌, ◌-◌, ◌^◌, ◌≤◌, ℕ, nat_lt, if◌then◌else◌, List, [], Option, Some, None, take, ⊤}
 use Rattle.ov_programs.specs.declared.wire.Accepted.{Accepted}
 use Rattle.ov_programs.specs.declared.wire.Accepted.TheVariants.{Connection, Nothing as NoneWaits, Fault as AcceptFault}
 use Rattle.ov_programs.specs.declared.wire.Received.{Received}
@@ -6,7 +6,7 @@ use Rattle.ov_programs.specs.declared.wire.Received.TheVariants.{Octets as Came,
 use Rattle.ov_programs.specs.declared.wire.Sent.{Sent}
 use Rattle.ov_programs.specs.declared.wire.Sent.TheVariants.{Octets as Went, Nothing as NoneWent, Fault as WriteFault}
 
--- What the calls of a wire make of its counts: each fault and each end of input is counted as it is answered.
+-- What the calls of a wire make of its counts (each fault and each end of input is counted as it is answered), and which octets they carry.
 
 -- what a wire of sockets has told
 pub record WireCounts : Type 0 where
@@ -64,3 +64,22 @@ abbrev pub FitsInSent : ℕ → Sent → Type 0
 FitsInSent len (Went count) = count ≤ len
 FitsInSent len NoneWent = ⊤
 FitsInSent len WriteFault = ⊤
+
+-- a connection that comes has carried nothing: given and taken say what was read from a socket and written to it
+abbrev pub ComesBlank : {S : Type 0} → (S → List ℕ) → (S → List ℕ) → Accepted S → Type 0
+ComesBlank given taken (Connection socket address) = (given socket ≡ []) × (taken socket ≡ [])
+ComesBlank given taken NoneWaits = ⊤
+ComesBlank given taken AcceptFault = ⊤
+
+-- the octets that a read has got into its buffer
+abbrev pub received : Received → List ℕ → List ℕ
+received (Came count) buf = take count buf
+received NoneCame buf = []
+received End buf = []
+received ReadFault buf = []
+
+-- the octets that a write has sent of those it was handed
+abbrev pub sent : Sent → List ℕ → List ℕ
+sent (Went count) octets = take count octets
+sent NoneWent octets = []
+sent WriteFault octets = []

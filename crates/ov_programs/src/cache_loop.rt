@@ -1,6 +1,9 @@
 //! The turns of a cache: routers connect, ask and are answered.
-ghost use Rattle.std.specs.Prelude.{◌≡◌, ◌≢◌, ◌<◌, Err, OnOk, IfOk, vec_len};
-ghost use Rattle.ov_programs.specs.Turns.{LosesAsCounted, LosesNoMore, counts_admitting, fault_counted, idle, loses, settled};
+ghost use Rattle.std.specs.Prelude.{◌≡◌, ◌≢◌, ◌<◌, ℕ, ⊤, [], None, Err, OnOk, OnErr, IfOk, IsSome, MatchOption, Some, length, slice_index_or, slice_set, vec_len};
+ghost use Rattle.rtr_cache.specs.CacheState.{OthersStay, client_at};
+ghost use Rattle.ov_programs.specs.Serving.{Admits, Turned, Visits, blank_link, shared_at, told};
+ghost use Rattle.ov_programs.specs.Turns.{LosesAsCounted, LosesNoMore, OthersStand, counts_admitting, counts_losing, counts_settling, fault_counted, idle, link_at, standing_at};
+ghost use Rattle.ov_programs.specs.Visiting.{Loses, IsNewClient};
 
 use crate::fault::LoopFault;
 use crate::link::{Link, Visit};
@@ -18,24 +21,26 @@ pub struct CacheLoop<W: Wire, A: Allocator = Global> {
     alloc: A,
     wire: W,
     cache: Cache<A>,
-    links: Vec<Link<W::Socket, A>, A>,
+    // The connection of the client of key k stands at place k.
+    links: Vec<Option<Link<W, A>>, A>,
     lost: u64,
     closed: u64,
 }
 
 impl<W: Wire, A: Allocator> Model for CacheLoop<W, A> {
-    ghost use Rattle.std.specs.Prelude.{vec_len};
-    ghost use Rattle.ov_programs.specs.Turns.{Turns};
+    ghost use Rattle.ov_programs.specs.Turns.{EachHasAClient, Turns};
 
     ghost Value = { Turns };
 
-    ghost view = { λ c. record { connections = vec_len c.links; counts = record { lost = c.lost; closed = c.closed; faults = W.fault_count c.wire; ends = W.end_count c.wire } } };
+    ghost view = { λ c. record { counts = record { lost = c.lost; closed = c.closed; faults = W.fault_count c.wire; ends = W.end_count c.wire }; cache = c.cache; links = c.links.items } };
+
+    ghost invariant = { λ c. EachHasAClient c.cache c.links.items };
 }
 
 impl<W: Wire + Drop, A: Allocator + Clone> CacheLoop<W, A> {
     /// The turns of this cache on this wire, before the first.
     pub fn new(alloc: A, wire: W, cache: Cache<A>) -> Result<Self, AllocError>
-        ensures { IfOk result (λ turns. turns ≡ idle (W.fault_count wire) (W.end_count wire)) }
+        ensures { IfOk result (λ turns. turns ≡ idle cache (W.fault_count wire) (W.end_count wire)) }
     {
         let links = Vec::new(alloc.clone()?);
         Ok(CacheLoop {
@@ -52,6 +57,9 @@ impl<W: Wire + Drop, A: Allocator + Clone> CacheLoop<W, A> {
     /// has queued for it goes out, and the cache is told the moment. A moment before the last one tells it nothing.
     #[tactic(auto, using(crate::proofs::Counting::loses_no_more))]
     pub fn turn(&mut self, now: u64) -> Result<(), LoopFault>
+        ensures serves { OnOk result ((key : ℕ) → Turned now self.old.cache.shared (standing_at self.old key) (standing_at self.new key)) }
+        ensures shared { OnOk result (self.new.cache.shared ≡ shared_at now self.old.cache.shared) }
+        ensures carries_nothing { OnErr result ((key : ℕ) → link_at self.new key ≡ link_at self.old key) }
         ensures lost { LosesNoMore self.old.counts self.new.counts }
         ensures ok { OnOk result (LosesAsCounted self.old.counts self.new.counts) }
         ensures accept { result ≡ Err LoopFault.Accept → self.new.counts ≡ fault_counted self.old.counts }
@@ -59,7 +67,7 @@ impl<W: Wire + Drop, A: Allocator + Clone> CacheLoop<W, A> {
     {
         self.admit()?;
         self.visit_all();
-        let _past = self.cache.step(CacheEvent::<Global>::Tick(now));
+        self.tell(now);
         Ok(())
     }
 
@@ -88,7 +96,10 @@ impl<W: Wire + Drop, A: Allocator + Clone> CacheLoop<W, A> {
 
     // Accepts a connection that waits. One whose client the cache refuses is closed.
     fn admit(&mut self) -> Result<(), LoopFault>
-        ensures { self.new.counts ≡ counts_admitting result self.old.counts }
+        ensures counts { self.new.counts ≡ counts_admitting result self.old.counts }
+        ensures admits { OnOk result ((key : ℕ) → Admits (standing_at self.old key) (standing_at self.new key)) }
+        ensures links { OnErr result ((key : ℕ) → link_at self.new key ≡ link_at self.old key) }
+        ensures shared { self.new.cache.shared ≡ self.old.cache.shared }
     {
         match self.wire.accept() {
             Accepted::Connection(socket, _) => self.bring_up(socket),
@@ -98,21 +109,28 @@ impl<W: Wire + Drop, A: Allocator + Clone> CacheLoop<W, A> {
     }
 
     fn bring_up(&mut self, socket: W::Socket) -> Result<(), LoopFault>
-        ensures same { self.new.counts ≡ self.old.counts }
+        requires given { W.given socket ≡ [] }
+        requires taken { W.taken socket ≡ [] }
+        ensures counts { self.new.counts ≡ self.old.counts }
+        ensures admits { OnOk result ((key : ℕ) → Admits (standing_at self.old key) (standing_at self.new key)) }
+        ensures links { OnErr result ((key : ℕ) → link_at self.new key ≡ link_at self.old key) }
+        ensures shared { self.new.cache.shared ≡ self.old.cache.shared }
         ensures err { result ≢ Err LoopFault.Accept }
     {
         let Some(client) = self.new_client() else {
             self.wire.close(socket);
             return Ok(());
         };
-        let link = Link::new(self.alloc.clone()?, client, socket)?;
-        self.links.push(link).map_err(AllocError::from)?;
+        let link = Link::new(self.alloc.clone()?, socket)?;
+        self.seat(client as usize, link)?;
         Ok(())
     }
 
     // The key of a new client, unless the cache refuses it.
     fn new_client(&mut self) -> Option<u64>
-        ensures { self.new ≡ self.old }
+        ensures same { self.new ≡ record self.old { cache = self.new.cache } }
+        ensures comes { MatchOption result (self.new.cache ≡ self.old.cache) (λ key. IsNewClient self.old.cache key self.new.cache) }
+        ensures unused { MatchOption result ⊤ (λ key. link_at self.old key ≡ None) }
     {
         match self.cache.step(CacheEvent::<Global>::Up) {
             Ok(report) => report.client,
@@ -120,49 +138,108 @@ impl<W: Wire + Drop, A: Allocator + Clone> CacheLoop<W, A> {
         }
     }
 
-    #[tactic(auto, using(crate::proofs::Counting::loses_none, crate::proofs::Counting::loses_both))]
+    // Puts the connection of this client where it belongs.
+    fn seat(&mut self, client: usize, link: Link<W, A>) -> Result<(), AllocError>
+        requires { IsSome (client_at self.old.cache client) }
+        ensures same { self.new ≡ record self.old { links = self.new.links } }
+        ensures here { OnOk result (link_at self.new client ≡ Some link) }
+        ensures others { (key : ℕ) → key ≢ client → link_at self.new key ≡ link_at self.old key }
+        ensures err { OnErr result (link_at self.new client ≡ link_at self.old client) }
+    {
+        make_place(&mut self.links, client)?;
+        self.links[client] = Some(link);
+        Ok(())
+    }
+
     fn visit_all(&mut self)
-        ensures { LosesAsCounted self.old.counts self.new.counts }
+        ensures counts { LosesAsCounted self.old.counts self.new.counts }
+        ensures visits { (key : ℕ) → Visits self.old.cache.shared (standing_at self.old key) (standing_at self.new key) }
+        ensures shared { self.new.cache.shared ≡ self.old.cache.shared }
     {
         let mut buf = [0; TURN_OCTETS];
-        for place in (0..self.links.len()).rev() {
-            self.visit(place, &mut buf);
+        for client in 0..self.links.len() {
+            self.visit(client, &mut buf);
         }
     }
 
-    // Visits the connection at this place.
-    fn visit(&mut self, place: usize, buf: &mut [u8])
-        ensures { LosesAsCounted self.old.counts self.new.counts }
+    // Visits the connection of this client, if it has one.
+    fn visit(&mut self, client: usize, buf: &mut [u8])
+        requires { client < length self.old.links }
+        ensures counts { LosesAsCounted self.old.counts self.new.counts }
+        ensures visits { Visits self.old.cache.shared (standing_at self.old client) (standing_at self.new client) }
+        ensures others { OthersStand self.old client self.new }
+        ensures shared { self.new.cache.shared ≡ self.old.cache.shared }
+        ensures places { length self.new.links ≡ length self.old.links }
     {
-        let Some(link) = self.links.get_mut(place) else {
+        let Some(mut link) = take_out(&mut self.links, client) else {
             return;
         };
-        let visit = link.visit(&mut self.wire, &mut self.cache, buf);
-        self.settle(place, visit);
+        let visit = link.visit(client as u64, &mut self.wire, &mut self.cache, buf);
+        self.settle(client, link, visit);
     }
 
-    // Does what the visit to the connection at this place asks for.
-    fn settle(&mut self, place: usize, visit: Visit)
-        requires { place < self.old.connections }
-        ensures { self.new ≡ settled visit self.old }
+    // Does what the visit asks for: the connection is put back, or it ends.
+    fn settle(&mut self, client: usize, link: Link<W, A>, visit: Visit)
+        requires place { client < length self.old.links }
+        requires taken_out { link_at self.old client ≡ None }
+        requires served { visit ≡ Visit.Stays → IsSome (client_at self.old.cache client) }
+        ensures counts { self.new.counts ≡ counts_settling visit self.old.counts }
+        ensures stays { visit ≡ Visit.Stays → (self.new.cache ≡ self.old.cache) × (self.new.links ≡ slice_set self.old.links client (Some link)) }
+        ensures gone { visit ≢ Visit.Stays → Loses self.old.cache client self.new.cache × (self.new.links ≡ self.old.links) }
     {
         match visit {
-            Visit::Stays => {}
-            Visit::Faulty | Visit::Ended => self.lose(place),
+            Visit::Stays => self.links[client] = Some(link),
+            Visit::Faulty | Visit::Ended => self.lose(client, link),
             Visit::Closed => {
                 self.closed = self.closed.saturating_add(1);
-                self.lose(place);
+                self.lose(client, link);
             }
         }
     }
 
-    // Closes the connection at this place, where the last one stands then, and tells the cache that it is gone.
-    fn lose(&mut self, place: usize)
-        requires { place < self.old.connections }
-        ensures { self.new ≡ loses self.old }
+    // Ends the connection of this client, and tells the cache that it is gone.
+    fn lose(&mut self, client: usize, link: Link<W, A>)
+        requires { link_at self.old client ≡ None }
+        ensures counts { self.new.counts ≡ counts_losing self.old.counts }
+        ensures cache { Loses self.old.cache client self.new.cache }
+        ensures links { self.new.links ≡ self.old.links }
     {
-        let link = self.links.swap_remove(place);
-        link.close(&mut self.wire, &mut self.cache);
+        link.close(&mut self.wire);
+        let _report = self.cache.step(CacheEvent::<Global>::Down(client as u64));
         self.lost = self.lost.saturating_add(1);
     }
+
+    // Tells the cache the moment.
+    fn tell(&mut self, now: u64)
+        ensures counts { self.new.counts ≡ self.old.counts }
+        ensures tells { (key : ℕ) → standing_at self.new key ≡ told now self.old.cache.shared (standing_at self.old key) }
+        ensures shared { self.new.cache.shared ≡ shared_at now self.old.cache.shared }
+    {
+        let _past = self.cache.step(CacheEvent::<Global>::Tick(now));
+    }
+}
+
+// Makes places, with nothing at them, up to this one.
+fn make_place<T: Drop, A: Allocator>(
+    places: &mut Vec<Option<T>, A>,
+    place: usize,
+) -> Result<(), AllocError>
+    ensures place { OnOk result (place < length places.new.items) }
+    ensures same { (at : ℕ) → slice_index_or places.new.items at None ≡ slice_index_or places.old.items at None }
+{
+    while places.len() <= place {
+        if let Err(failed) = places.push(None) {
+            return Err(AllocError::from(failed));
+        }
+    }
+    Ok(())
+}
+
+// Takes what stands at this place.
+fn take_out<T: Drop, A: Allocator>(places: &mut Vec<Option<T>, A>, place: usize) -> Option<T>
+    requires { place < length places.old.items }
+    ensures taken { result ≡ slice_index_or places.old.items place None }
+    ensures left { places.new.items ≡ slice_set places.old.items place None }
+{
+    places[place].take()
 }

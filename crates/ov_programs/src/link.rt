@@ -1,15 +1,17 @@
 //! One client's connection.
-ghost use Rattle.std.specs.Prelude.{◌≡◌, ◌≢◌, ℕ, [], IfOk, None, Some, drop, take};
+ghost use Rattle.std.specs.Prelude.{◌≡◌, ◌≢◌, ◌++◌, [], IfOk, None, Some};
 ghost use Rattle.net_prefix.specs.declared.transport.Transport.TheVariants.{Closing};
 ghost use Rattle.rtr_cache.specs.CacheState.{OthersStay, client_at, transport_of};
 ghost use Rattle.rtr_cache.specs.CacheTable.{Conn};
-ghost use Rattle.ov_programs.specs.Turns.{IsHeard, ends_visiting, faults_visiting};
+ghost use Rattle.ov_programs.specs.Turns.{ends_visiting, faults_visiting};
+ghost use Rattle.ov_programs.specs.Visiting.{GivesHeard, IsHeard, IsServed, TakesHanded};
 
 use crate::outgoing::Outgoing;
 use crate::wire::{Received, Sent, Wire};
 use net_prefix::Transport;
 use rtr_cache::{Cache, CacheEvent};
 use std::alloc::{AllocError, Allocator, Global};
+use std::marker::Model;
 
 /// What a visit to a connection found.
 #[derive(Clone, Copy, Debug, PartialEq, Eq)]
@@ -24,87 +26,108 @@ pub(crate) enum Visit {
     Closed,
 }
 
-/// A client of the cache and its connection.
+/// A client's connection.
 #[derive(Drop)]
-pub(crate) struct Link<S, A: Allocator = Global> {
-    client: u64,
-    socket: S,
+pub(crate) struct Link<W: Wire, A: Allocator = Global> {
+    socket: W::Socket,
     outgoing: Outgoing<A>,
 }
 
-impl<S: Drop, A: Allocator + Clone> Link<S, A> {
-    /// The connection of this client.
-    pub fn new(alloc: A, client: u64, socket: S) -> Result<Self, AllocError>
-        ensures client { IfOk result (λ link. link.client ≡ client) }
-        ensures waits { IfOk result (λ link. link.outgoing ≡ []) }
+impl<W: Wire, A: Allocator> Model for Link<W, A> {
+    ghost use Rattle.ov_programs.specs.Serving.{Connection};
+
+    ghost Value = { Connection };
+
+    ghost view = { λ link. record { given = W.given link.socket; taken = W.taken link.socket; waiting = link.outgoing } };
+}
+
+impl<W: Wire, A: Allocator + Clone> Link<W, A> {
+    /// The connection of a client on this socket.
+    pub fn new(alloc: A, socket: W::Socket) -> Result<Self, AllocError>
+        ensures { IfOk result (λ link. link ≡ record { given = W.given socket; taken = W.taken socket; waiting = [] }) }
     {
         Ok(Link {
-            client,
             socket,
             outgoing: Outgoing::new(alloc)?,
         })
     }
 
-    /// What came is handed to the cache, and what the cache has queued goes out.
-    pub fn visit<W: Wire<Socket = S>>(
+    /// What came is handed to the cache as this client's, and what the cache has queued for it goes out.
+    pub fn visit(
         &mut self,
+        client: u64,
         wire: &mut W,
         cache: &mut Cache<A>,
         buf: &mut [u8],
     ) -> Visit
-        ensures closed { result ≡ Visit.Closed → (transport_of (client_at cache.new self.old.client) ≡ Closing) × (self.new.outgoing ≡ []) }
-        ensures others { OthersStay cache.old self.old.client cache.new }
-        ensures client { self.new.client ≡ self.old.client }
+        ensures serves { result ≡ Visit.Stays → (conn : Conn) → client_at cache.old client ≡ Some conn → IsServed cache.old client self.old conn cache.new self.new }
+        ensures closed { result ≡ Visit.Closed → (transport_of (client_at cache.new client) ≡ Closing) × (self.new.waiting ≡ []) }
+        ensures others { OthersStay cache.old client cache.new }
+        ensures shared { cache.new.shared ≡ cache.old.shared }
         ensures faults { W.fault_count wire.new ≡ faults_visiting result (W.fault_count wire.old) }
         ensures ends { W.end_count wire.new ≡ ends_visiting result (W.end_count wire.old) }
     {
-        match wire.read(&mut self.socket, buf) {
-            Received::Octets(count) => self.hear(cache, &buf[..count]),
-            Received::Nothing => {}
-            Received::End => return Visit::Ended,
-            Received::Fault => return Visit::Faulty,
+        match self.receive(client, wire, cache, buf) {
+            Visit::Stays => self.send(client, wire, cache),
+            gone => gone,
         }
-        self.send(wire, cache)
     }
 
-    /// Ends the connection, and tells the cache that the client is gone.
-    pub fn close<W: Wire<Socket = S>>(self, wire: &mut W, cache: &mut Cache<A>)
-        ensures gone { client_at cache.new self.client ≡ None }
-        ensures others { OthersStay cache.old self.client cache.new }
+    /// Ends the connection.
+    pub fn close(self, wire: &mut W)
         ensures faults { W.fault_count wire.new ≡ W.fault_count wire.old }
         ensures ends { W.end_count wire.new ≡ W.end_count wire.old }
     {
-        let Link { client, socket, .. } = self;
+        let Link { socket, .. } = self;
         wire.close(socket);
-        let _report = cache.step(CacheEvent::<Global>::Down(client));
     }
 
-    // Hands octets to the cache as this client's.
-    fn hear(&self, cache: &mut Cache<A>, octets: &[u8])
-        ensures heard { IsHeard cache.old self.now.client octets.now cache.new }
-        ensures others { OthersStay cache.old self.now.client cache.new }
-    {
-        let _report = cache.step(CacheEvent::<Global>::Bytes(self.client, octets));
-    }
-
-    // Writes what was taken, and takes more where all of it is written.
-    fn send<W: Wire<Socket = S>>(&mut self, wire: &mut W, cache: &mut Cache<A>) -> Visit
-        ensures waits { self.old.outgoing ≢ [] → (cache.new ≡ cache.old) × ((count : ℕ) × (self.new.outgoing ≡ drop count self.old.outgoing)) }
-        ensures closed { result ≡ Visit.Closed → (transport_of (client_at cache.new self.old.client) ≡ Closing) × (self.new.outgoing ≡ []) }
-        ensures others { OthersStay cache.old self.old.client cache.new }
-        ensures client { self.new.client ≡ self.old.client }
+    // Hands what came to the cache.
+    fn receive(&mut self, client: u64, wire: &mut W, cache: &mut Cache<A>, buf: &mut [u8]) -> Visit
+        ensures hears { result ≡ Visit.Stays → (conn : Conn) → client_at cache.old client ≡ Some conn → GivesHeard cache.old client self.old conn cache.new self.new }
+        ensures goes_on { result ≢ Visit.Closed }
+        ensures others { OthersStay cache.old client cache.new }
+        ensures shared { cache.new.shared ≡ cache.old.shared }
         ensures faults { W.fault_count wire.new ≡ faults_visiting result (W.fault_count wire.old) }
         ensures ends { W.end_count wire.new ≡ ends_visiting result (W.end_count wire.old) }
     {
+        let count = match wire.read(&mut self.socket, buf) {
+            Received::Octets(count) => count,
+            Received::Nothing => return Visit::Stays,
+            Received::End => return Visit::Ended,
+            Received::Fault => return Visit::Faulty,
+        };
+        hear(cache, client, &buf[..count]);
+        Visit::Stays
+    }
+
+    // Writes what was taken, and takes more where all of it is written.
+    fn send(&mut self, client: u64, wire: &mut W, cache: &mut Cache<A>) -> Visit
+        ensures takes { (conn : Conn) → client_at cache.old client ≡ Some conn → TakesHanded self.old conn cache.new client self.new }
+        ensures closed { result ≡ Visit.Closed → (transport_of (client_at cache.new client) ≡ Closing) × (self.new.waiting ≡ []) }
+        ensures others { OthersStay cache.old client cache.new }
+        ensures shared { cache.new.shared ≡ cache.old.shared }
+        ensures faults { W.fault_count wire.new ≡ faults_visiting result (W.fault_count wire.old) }
+        ensures ends { W.end_count wire.new ≡ ends_visiting result (W.end_count wire.old) }
+    {
+        self.outgoing.refill(cache, client);
         if self.outgoing.is_empty() {
-            self.outgoing.take(cache, self.client);
-        }
-        if self.outgoing.is_empty() {
-            return match cache.transport(self.client) {
+            return match cache.transport(client) {
                 Transport::Closing => Visit::Closed,
                 _ => Visit::Stays,
             };
         }
+        self.write(wire)
+    }
+
+    // Writes what was taken, as much as goes.
+    fn write(&mut self, wire: &mut W) -> Visit
+        ensures given { self.new.given ≡ self.old.given }
+        ensures taken { self.new.taken ++ self.new.waiting ≡ self.old.taken ++ self.old.waiting }
+        ensures goes_on { result ≢ Visit.Closed }
+        ensures faults { W.fault_count wire.new ≡ faults_visiting result (W.fault_count wire.old) }
+        ensures ends { W.end_count wire.new ≡ ends_visiting result (W.end_count wire.old) }
+    {
         match wire.write(&mut self.socket, self.outgoing.octets()) {
             Sent::Octets(count) => {
                 self.outgoing.pass(count);
@@ -114,4 +137,13 @@ impl<S: Drop, A: Allocator + Clone> Link<S, A> {
             Sent::Fault => Visit::Faulty,
         }
     }
+}
+
+// Hands octets to the cache as this client's.
+fn hear<A: Allocator + Clone>(cache: &mut Cache<A>, client: u64, octets: &[u8])
+    ensures heard { IsHeard cache.old client octets.now cache.new }
+    ensures others { OthersStay cache.old client cache.new }
+    ensures shared { cache.new.shared ≡ cache.old.shared }
+{
+    let _report = cache.step(CacheEvent::<Global>::Bytes(client, octets));
 }

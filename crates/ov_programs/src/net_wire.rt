@@ -1,12 +1,34 @@
 //! The system's TCP sockets.
-ghost use Rattle.std.specs.Prelude.{◌≡◌, IfOk};
+ghost use Rattle.std.specs.Prelude.{◌≡◌, [], IfOk};
 ghost use Rattle.ov_programs.specs.Wires.{nothing_told, one_more};
 
+use crate::log::{Log, Note};
 use crate::wire::{Accepted, Received, Sent, Wire};
 use mio::net::TcpStream;
 use std::io::{self, ErrorKind, Read, Write};
 use std::marker::Model;
 use std::net::{self, Net, OpenListener, SocketAddr, TcpListener};
+
+/// A TCP socket that doesn't wait. What it has carried stands in proofs alone.
+#[derive(Drop)]
+pub struct NetSocket {
+    stream: TcpStream,
+    given: Log,
+    taken: Log,
+}
+
+impl NetSocket {
+    fn new(stream: TcpStream) -> NetSocket
+        ensures given { result.given.octets ≡ [] }
+        ensures taken { result.taken.octets ≡ [] }
+    {
+        NetSocket {
+            stream,
+            given: Log::new(),
+            taken: Log::new(),
+        }
+    }
+}
 
 /// TCP sockets that don't wait, and the listener whose connections are accepted.
 #[derive(Drop)]
@@ -69,15 +91,19 @@ impl<'a, R: Net<Listener = TcpListener, Stream = net::TcpStream>> NetWire<'a, R>
 }
 
 impl<R: Net<Listener = TcpListener, Stream = net::TcpStream>> Wire for NetWire<'_, R> {
-    type Socket = TcpStream;
+    type Socket = NetSocket;
 
     ghost fault_count = { λ wire. wire.faults };
 
     ghost end_count = { λ wire. wire.ends };
 
-    fn connect(&mut self, address: SocketAddr) -> Option<TcpStream> {
+    ghost given = { λ socket. socket.given.octets };
+
+    ghost taken = { λ socket. socket.taken.octets };
+
+    fn connect(&mut self, address: SocketAddr) -> Option<NetSocket> {
         match TcpStream::connect(self.net, address) {
-            Ok(stream) => Some(stream),
+            Ok(stream) => Some(NetSocket::new(stream)),
             Err(_) => {
                 self.fail();
                 None
@@ -85,12 +111,12 @@ impl<R: Net<Listener = TcpListener, Stream = net::TcpStream>> Wire for NetWire<'
         }
     }
 
-    fn accept(&mut self) -> Accepted<TcpStream> {
+    fn accept(&mut self) -> Accepted<NetSocket> {
         let Some(listener) = &self.listener else {
             return Accepted::Nothing;
         };
         match accept_from(listener) {
-            Ok((stream, address)) => Accepted::Connection(stream, address),
+            Ok((stream, address)) => Accepted::Connection(NetSocket::new(stream), address),
             Err(error) if is_of_one_connection(error.kind()) => Accepted::Nothing,
             Err(_) => {
                 self.fail();
@@ -99,13 +125,17 @@ impl<R: Net<Listener = TcpListener, Stream = net::TcpStream>> Wire for NetWire<'
         }
     }
 
-    fn read(&mut self, socket: &mut TcpStream, buf: &mut [u8]) -> Received {
-        match socket.read(buf) {
+    fn read(&mut self, socket: &mut NetSocket, buf: &mut [u8]) -> Received {
+        match socket.stream.read(buf) {
             Ok(0) => {
                 self.ends = self.ends.saturating_add(1);
                 Received::End
             }
-            Ok(count) => Received::Octets(count),
+            Ok(count) => {
+                let octets = &buf[..count];
+                socket.given = socket.given.then(&Note { octets });
+                Received::Octets(count)
+            }
             Err(error) if is_not_yet(error.kind()) => Received::Nothing,
             Err(_) => {
                 self.fail();
@@ -114,9 +144,13 @@ impl<R: Net<Listener = TcpListener, Stream = net::TcpStream>> Wire for NetWire<'
         }
     }
 
-    fn write(&mut self, socket: &mut TcpStream, octets: &[u8]) -> Sent {
-        match socket.write(octets) {
-            Ok(count) => Sent::Octets(count),
+    fn write(&mut self, socket: &mut NetSocket, octets: &[u8]) -> Sent {
+        match socket.stream.write(octets) {
+            Ok(count) => {
+                let octets = &octets[..count];
+                socket.taken = socket.taken.then(&Note { octets });
+                Sent::Octets(count)
+            }
             Err(error) if is_not_yet(error.kind()) => Sent::Nothing,
             Err(_) => {
                 self.fail();
@@ -125,7 +159,7 @@ impl<R: Net<Listener = TcpListener, Stream = net::TcpStream>> Wire for NetWire<'
         }
     }
 
-    fn close(&mut self, _socket: TcpStream) {}
+    fn close(&mut self, _socket: NetSocket) {}
 
     fn faults(&self) -> u64 {
         self.faults

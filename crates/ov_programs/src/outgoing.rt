@@ -1,7 +1,8 @@
 //! What waits to be written to a connection.
-ghost use Rattle.std.specs.Prelude.{◌≡◌, ◌≤◌, ◌↔◌, [], IfOk, IsTrue, None, Some, drop, length, take};
+ghost use Rattle.std.specs.Prelude.{◌≡◌, ◌≤◌, ◌↔◌, ◌++◌, [], IfOk, IsTrue, Some, drop, length, take};
 ghost use Rattle.rtr_cache.specs.CacheState.{OthersStay, client_at};
-ghost use Rattle.rtr_cache.specs.CacheTable.{Conn};
+ghost use Rattle.rtr_cache.specs.CacheTable.{Conn, pumped};
+ghost use Rattle.ov_programs.specs.Serving.{handed_out, handing_out};
 ghost use Rattle.ov_programs.specs.TurnOctets.{turn_octets};
 
 use crate::cache_loop::TURN_OCTETS;
@@ -56,11 +57,23 @@ impl<A: Allocator + Clone> Outgoing<A> {
     }
 
     /// Takes what the cache has queued for the client, as much as fits, where none wait.
-    pub fn take(&mut self, cache: &mut Cache<A>, client: u64)
-        requires { self.old ≡ [] }
-        ensures handed { (conn : Conn) → client_at cache.old client ≡ Some conn → self.new ≡ take turn_octets conn.ring }
-        ensures absent { client_at cache.old client ≡ None → self.new ≡ [] }
+    pub fn refill(&mut self, cache: &mut Cache<A>, client: u64)
+        ensures handed { (conn : Conn) → client_at cache.old client ≡ Some conn → self.new ≡ self.old ++ handed_out conn self.old }
+        ensures client { (conn : Conn) → client_at cache.old client ≡ Some conn → client_at cache.new client ≡ Some (handing_out conn self.old) }
         ensures others { OthersStay cache.old client cache.new }
+        ensures shared { cache.new.shared ≡ cache.old.shared }
+    {
+        if self.is_empty() {
+            self.take(cache, client);
+        }
+    }
+
+    // Takes what the cache has queued for the client, as much as fits.
+    fn take(&mut self, cache: &mut Cache<A>, client: u64)
+        ensures handed { (conn : Conn) → client_at cache.old client ≡ Some conn → self.new ≡ take turn_octets conn.ring }
+        ensures client { (conn : Conn) → client_at cache.old client ≡ Some conn → client_at cache.new client ≡ Some (pumped (record conn { ring = drop turn_octets conn.ring })) }
+        ensures others { OthersStay cache.old client cache.new }
+        ensures shared { cache.new.shared ≡ cache.old.shared }
     {
         let count = take_into(cache, client, self.octets.as_mut_slice());
         self.from = 0;
@@ -80,8 +93,9 @@ impl<A: Allocator + Clone> Outgoing<A> {
 fn take_into<A: Allocator + Clone>(cache: &mut Cache<A>, client: u64, buf: &mut [u8]) -> usize
     ensures bound { result ≤ length buf.new }
     ensures handed { (conn : Conn) → client_at cache.old client ≡ Some conn → take result buf.new ≡ take (length buf.old) conn.ring }
-    ensures absent { client_at cache.old client ≡ None → result ≡ 0 }
+    ensures client { (conn : Conn) → client_at cache.old client ≡ Some conn → client_at cache.new client ≡ Some (pumped (record conn { ring = drop (length buf.old) conn.ring })) }
     ensures others { OthersStay cache.old client cache.new }
+    ensures shared { cache.new.shared ≡ cache.old.shared }
 {
     match cache.take(client, buf) {
         Ok(count) => count,

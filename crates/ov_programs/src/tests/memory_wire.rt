@@ -1,7 +1,8 @@
 //! Each call of a wire fails once: its client is gone, and all others go on.
-ghost use Rattle.std.specs.Prelude.{◌≡◌, ◌≤◌, if◌then◌else◌, length};
+ghost use Rattle.std.specs.Prelude.{◌≡◌, ◌≤◌, [], if◌then◌else◌, length};
 ghost use Rattle.ov_programs.specs.Wires.{one_more};
 
+use crate::log::{Log, Note};
 use crate::{Accepted, CacheLoop, LoopFault, Received, Sent, Wire};
 use net_prefix::{Asn, Prefix, Vrp};
 use rtr_cache::{Cache, CacheEvent};
@@ -140,8 +141,26 @@ struct MemoryWire {
     ends: u64,
 }
 
+// The socket of one router.
 #[derive(Drop)]
-struct Plug(usize);
+struct Plug {
+    router: usize,
+    given: Log,
+    taken: Log,
+}
+
+impl Plug {
+    fn new(router: usize) -> Plug
+        ensures given { result.given.octets ≡ [] }
+        ensures taken { result.taken.octets ≡ [] }
+    {
+        Plug {
+            router,
+            given: Log::new(),
+            taken: Log::new(),
+        }
+    }
+}
 
 impl MemoryWire {
     fn failing_at(fails_at: u64) -> MemoryWire {
@@ -182,11 +201,15 @@ impl Wire for MemoryWire {
 
     ghost end_count = { λ wire. wire.ends };
 
+    ghost given = { λ plug. plug.given.octets };
+
+    ghost taken = { λ plug. plug.taken.octets };
+
     fn connect(&mut self, _address: SocketAddr) -> Option<Plug> {
         if self.fails(Call::Connect) {
             return None;
         }
-        Some(Plug(0))
+        Some(Plug::new(0))
     }
 
     fn accept(&mut self) -> Accepted<Plug> {
@@ -196,17 +219,17 @@ impl Wire for MemoryWire {
         if self.accepted >= self.routers.len() {
             return Accepted::Nothing;
         }
-        let plug = Plug(self.accepted);
+        let plug = Plug::new(self.accepted);
         self.accepted += 1;
         let address = SocketAddrV4::new(Ipv4Addr::LOCALHOST, 0);
         Accepted::Connection(plug, SocketAddr::V4(address))
     }
 
     fn read(&mut self, socket: &mut Plug, buf: &mut [u8]) -> Received {
-        if self.fails(Call::OfRouter(socket.0)) {
+        if self.fails(Call::OfRouter(socket.router)) {
             return Received::Fault;
         }
-        let Some(router) = self.routers.get_mut(socket.0) else {
+        let Some(router) = self.routers.get_mut(socket.router) else {
             return Received::Nothing;
         };
         if router.has_left() {
@@ -215,22 +238,31 @@ impl Wire for MemoryWire {
         }
         match router.ask(buf) {
             0 => Received::Nothing,
-            count => Received::Octets(count),
+            count => {
+                let octets = &buf[..count];
+                socket.given = socket.given.then(&Note { octets });
+                Received::Octets(count)
+            }
         }
     }
 
     fn write(&mut self, socket: &mut Plug, octets: &[u8]) -> Sent {
-        if self.fails(Call::OfRouter(socket.0)) {
+        if self.fails(Call::OfRouter(socket.router)) {
             return Sent::Fault;
         }
-        match self.routers.get_mut(socket.0) {
-            Some(router) => Sent::Octets(router.hear(octets)),
+        match self.routers.get_mut(socket.router) {
+            Some(router) => {
+                let count = router.hear(octets);
+                let octets = &octets[..count];
+                socket.taken = socket.taken.then(&Note { octets });
+                Sent::Octets(count)
+            }
             None => Sent::Nothing,
         }
     }
 
     fn close(&mut self, socket: Plug) {
-        if let Some(router) = self.routers.get_mut(socket.0) {
+        if let Some(router) = self.routers.get_mut(socket.router) {
             router.is_closed = true;
         }
     }

@@ -1,8 +1,14 @@
 //! Each text of `ovcache` with its exit status.
 
 use crate::main_cache;
-use std::net::TcpListener;
+use std::alloc::{Alloc, AllocGlobal, Allocator, Global};
+use std::fs::{Metadata, OpenOptions};
+use std::io::{self, ErrorKind};
+use std::net::{Net, SocketAddr, TcpListener, TcpStream};
+use std::os::fd::OwnedFd;
+use std::rt::{Clock, Files};
 use std::test::Fail;
+use std::time::Duration;
 use std::{env, fs, process};
 
 const LIST: &str = "ASN,IP Prefix,Max Length,Trust Anchor\nAS65002,10.0.0.0/16,24,ta\n";
@@ -34,7 +40,10 @@ fn path_of(rt: &HostRuntime, name: &str) -> Result<String, Fail> {
     Ok(String::from_str(rt.alloc(), path.as_str())?)
 }
 
-fn run(rt: &HostRuntime, words: &[&str]) -> Result<Ended, Fail> {
+fn run<R>(rt: &R, words: &[&str]) -> Result<Ended, Fail>
+where
+    R: Net<Listener = TcpListener, Stream = TcpStream> + Files + Clock + AllocGlobal,
+{
     let mut strings = Vec::new(rt.alloc());
     for word in words {
         strings.push(String::from_str(rt.alloc(), word)?)?;
@@ -142,5 +151,109 @@ fn a_file_that_cant_be_read_is_a_device(rt: HostRuntime) -> Result<(), Fail> {
     fs::remove_file(&rt, settings_path.as_str())?;
     assert!(rt; ended.is(2, "ovcache: device\n"));
     assert!(rt; lacking.is(1, "ovcache: settings\n"));
+    Ok(())
+}
+
+// A host at which no connection can be accepted: what listens is a socket of a connection.
+#[derive(Clone, Copy, Drop)]
+struct Deaf<'a>(&'a HostRuntime);
+
+impl Net for Deaf<'_> {
+    type Stream = TcpStream;
+
+    type Listener = TcpListener;
+
+    fn bind(&self, addr: SocketAddr) -> io::Result<TcpListener> {
+        let listener = self.0.bind(addr)?;
+        let connected = self.0.connect(listener.local_addr()?)?;
+        Ok(TcpListener::from(OwnedFd::from(connected)))
+    }
+
+    fn connect(&self, addr: SocketAddr) -> io::Result<TcpStream> {
+        self.0.connect(addr)
+    }
+}
+
+impl Alloc for Deaf<'_> {
+    type A = Global;
+
+    fn alloc(&self) -> Global {
+        self.0.alloc()
+    }
+}
+
+impl Clock for Deaf<'_> {
+    fn monotonic(&self) -> io::Result<Duration> {
+        self.0.monotonic()
+    }
+
+    fn since_1970(&self) -> io::Result<Duration> {
+        self.0.since_1970()
+    }
+}
+
+fn none<T>() -> io::Result<T> {
+    Err(io::Error::from(ErrorKind::Unsupported))
+}
+
+impl Files for Deaf<'_> {
+    type File = <HostRuntime as Files>::File;
+
+    type Dir = <HostRuntime as Files>::Dir;
+
+    fn open_file(&self, how: &OpenOptions, path: &str) -> io::Result<Self::File> {
+        self.0.open_file(how, path)
+    }
+
+    fn open_dir(&self, path: &str) -> io::Result<Self::Dir> {
+        self.0.open_dir(path)
+    }
+
+    fn metadata(&self, path: &str) -> io::Result<Metadata> {
+        self.0.metadata(path)
+    }
+
+    fn symlink_metadata(&self, path: &str) -> io::Result<Metadata> {
+        self.0.symlink_metadata(path)
+    }
+
+    fn copy(&self, _from: &str, _to: &str) -> io::Result<u64> {
+        none()
+    }
+
+    fn rename(&self, _from: &str, _to: &str) -> io::Result<()> {
+        none()
+    }
+
+    fn remove_file(&self, _path: &str) -> io::Result<()> {
+        none()
+    }
+
+    fn create_dir(&self, _path: &str) -> io::Result<()> {
+        none()
+    }
+
+    fn remove_dir(&self, _path: &str) -> io::Result<()> {
+        none()
+    }
+
+    fn remove_dir_all<B: Allocator>(&self, _alloc: B, _path: &str) -> io::Result<()> {
+        none()
+    }
+}
+
+#[test]
+fn a_turn_that_cant_accept_is_a_device(rt: HostRuntime) -> Result<(), Fail> {
+    let list_path = path_of(&rt, "deaf.csv")?;
+    let settings_path = path_of(&rt, "deaf.toml")?;
+    fs::write(&rt, list_path.as_str(), LIST)?;
+    let text = format!(in rt.alloc(); "csv = \"{list_path}\"\n{SETTINGS}")?;
+    fs::write(&rt, settings_path.as_str(), text.as_str())?;
+    let without = run(&Deaf(&rt), &[settings_path.as_str(), "0"])?;
+    let with = run(&Deaf(&rt), &[settings_path.as_str(), "1"])?;
+    fs::remove_file(&rt, list_path.as_str())?;
+    fs::remove_file(&rt, settings_path.as_str())?;
+    assert!(rt; without.is(0, ""));
+    assert!(rt; with.is(2, "ovcache: device\n"));
     Ok(())
 }

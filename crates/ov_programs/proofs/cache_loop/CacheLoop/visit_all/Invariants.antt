@@ -1,5 +1,6 @@
-use Rattle.ov_programs.specs.Turns.{LosesAsCounted}
+use Rattle.std.proofs.Common.{◌≡◌, length}
+use Rattle.ov_programs.proofs.Standing.{AreVisitedBelow}
 use Rattle.ov_programs.proofs.cache_loop.CacheLoop.visit_all.Given as goal
 
-abbrev pub invariant-loop-place : goal.invariant-loop-place
-invariant-loop-place g l = LosesAsCounted l.fn.self.counts l.self.counts
+abbrev pub invariant-loop-client : goal.invariant-loop-client
+invariant-loop-client g l = AreVisitedBelow l.client l.fn.self l.self × (l.client-end ≡ length l.fn.self.links)
