@@ -1,9 +1,9 @@
 -- What the rows of the session table make of Established, of the connection and of what is said.
-use Rattle.std.proofs.Common.{◌≡◌, ◌≢◌, ◌&&◌, Bool, true, false, not, None, refl, rules, arith}
+use Rattle.std.proofs.Common.{◌≡◌, ◌≢◌, ◌&&◌, true, false, not, arith}
 use Rattle.std.proofs.lemmas.Grind.{common_steps}
 use Rattle.net_prefix.specs.declared.transport.Transport.TheVariants.{Open as Connected}
 use Rattle.bgp_fsm.specs.declared.input.Input.{Input}
-use Rattle.bgp_fsm.specs.declared.input.Input.TheVariants.{Start, Up, Fail, Fault}
+use Rattle.bgp_fsm.specs.declared.input.Input.TheVariants.{Up, Fail, Fault}
 use Rattle.bgp_fsm.specs.declared.session.Session.{Session}
 use Rattle.bgp_fsm.specs.SessionTable.{row_at, nothing, session_after, effects_of}
 use Rattle.bgp_fsm.specs.StateTests.{is_established, is_message}

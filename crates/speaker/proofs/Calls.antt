@@ -26,6 +26,7 @@ use Rattle.speaker.specs.SpeakerState.{SpeakerState}
 use Rattle.speaker.specs.Tables.{Tables, link_at, best_at}
 use Rattle.speaker.specs.declared.config.Config.{Config}
 use Rattle.speaker.proofs.QueuedUpdates.{slot_queued}
+use Rattle.speaker.proofs.SlotStates.{slot_agrees, slot_from, configured_from, slot_session}
 
 -- From the slots to the whole: what the selection reads, what is exported, and what a call queues.
 
@@ -56,19 +57,9 @@ slots_changed config conf conf2 links links2 adj_in adj_in2 hs hs2 slot all peer
 abbrev pub tables_in : Configuration → (ℕ → Option Linked) → List (RouteKey × PathAttributes) → Tables
 tables_in conf links adj_in = record { conf = conf; sessions = λ s. option_map (λ l. l.peer.session) (links s); routes = λ s prefix. route_at adj_in s prefix }
 
-slot_session : (config : Config) (peer : Option ConfiguredPeer) (l : Option Linked) (routes : Prefix → Option PathAttributes) (h : List happens.Event) → SlotAgrees config peer l routes h
-    → option_map (λ p. session h) peer ≡ option_map (λ x. x.peer.session) l
-slot_session config None None routes h a = refl
-slot_session config None (Some l) routes h a = absurd a
-slot_session config (Some peer) None routes h a = absurd a
-slot_session config (Some peer) (Some l) routes h a = ap Some (sym a.link.peer.session)
-
 pub slot_route : (config : Config) (peer : Option ConfiguredPeer) (l : Option Linked) (routes : Prefix → Option PathAttributes) (h : List happens.Event) (p : Prefix) → SlotAgrees config peer l routes h
     → route h p ≡ routes p
-slot_route config None None routes h p a = ap (λ x. route x p) a.0 ∙ sym (a.1 p)
-slot_route config None (Some l) routes h p a = absurd a
-slot_route config (Some peer) None routes h p a = absurd a
-slot_route config (Some peer) (Some l) routes h p a = sym (a.routes_are p)
+slot_route config peer l routes h p a = sym (a.routes_are p)
 
 -- the run's tables are those that are kept
 pub tables_same : (config : Config) (r : Run) (conf : Configuration) (links : ℕ → Option Linked) (adj_in : List (RouteKey × PathAttributes)) → configuration_of config r ≡ conf
@@ -141,8 +132,11 @@ off_slot config t slot call update queue r other = rw (ne_eqb t slot other) refl
 queued_at : (config : Config) (peer : Option ConfiguredPeer) (exports : Prefix → Option (List ℕ)) (update : List ℕ) (before after : Linked) (routes : Prefix → Option PathAttributes) (h : List happens.Event)
     → ((p : Prefix) (a : List ℕ) → exports p ≡ Some a → length a ≤ 4068) → IsOwed exports update before after
     → SlotAgrees config peer (Some before) routes h → SlotAgrees config peer (Some after) routes (Queued update ∷ h)
-queued_at config None exports update before after routes h short owed a = a
-queued_at config (Some peer) exports update before after routes h short owed a = slot_queued config peer exports update before after routes h short owed a
+queued_at config found exports update before after routes h short owed a =
+    let peer = configured_from config found (Some before) before routes h refl a in
+    let P : Option ConfiguredPeer → Type 0 = λ x. SlotAgrees config x (Some after) routes (Queued update ∷ h) in
+    let here = slot_from config found peer.0 (Some before) before routes h peer.1 refl a in
+    subst P (sym peer.1) (slot_agrees config peer.0 after routes (Queued update ∷ h) (slot_queued config peer.0 exports update before after routes h short owed here))
 
 -- what is queued leaves the slots as the run with it leaves them
 pub queue_slots : (config : Config) (call : Call) (r : Run) (s : SpeakerState) (queue : Queue) (links : ℕ → Option Linked)

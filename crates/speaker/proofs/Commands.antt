@@ -28,7 +28,9 @@ use Rattle.net_prefix.specs.declared.prefix.Prefix.{Prefix}
 use Rattle.net_prefix.specs.declared.transport.Transport.{Transport}
 use Rattle.net_prefix.specs.declared.transport.Transport.TheVariants.{Open as Connected}
 use Rattle.rib_in.specs.LatestRoutes.{route_at}
-use Rattle.speaker.specs.Agreement.{SlotIs, SlotAgrees, Holds}
+use Rattle.speaker.specs.Agreement.{SlotAgrees, Holds}
+use Rattle.speaker.proofs.Histories.{no_route}
+use Rattle.speaker.proofs.SlotStates.{SlotIs, slot_agrees, configured_from}
 use Rattle.speaker.specs.FirstRefusal.{refused_at, awaits_up}
 use Rattle.speaker.specs.Linked.{Linked}
 use Rattle.speaker.specs.Moves.{Moves, IsPut, moved}
@@ -53,15 +55,9 @@ accepted (Some l) takes h = (l, refl, accepted_by (takes (transport_of l.peer.se
     accepted_by false is = absurd (cc)
 
 -- a slot that is there is configured
-configured_from : (config : Config) (found : Option ConfiguredPeer) (l : Linked) (routes : Prefix → Option PathAttributes) (h : List happens.Event)
-    → SlotAgrees config found (Some l) routes h → (peer : ConfiguredPeer) × (found ≡ Some peer)
-configured_from config None l routes h a = absurd a
-configured_from config (Some peer) l routes h a = (peer, refl)
-
 pub peer_of : (config : Config) (r : Run) (slot : ℕ) (l : Linked) (s : SpeakerState) → Holds config r s → link_at s.links slot ≡ Some l → (peer : ConfiguredPeer) × (peer_at s.conf slot ≡ Some peer)
 peer_of config r slot l s h linked =
-    let L : Option Linked → Type 0 = λ x. SlotAgrees config (peer_at s.conf slot) x (route_at s.adj_in slot) (history config slot r) in
-    configured_from config (peer_at s.conf slot) l (route_at s.adj_in slot) (history config slot r) (subst L linked (h.slots slot))
+    configured_from config (peer_at s.conf slot) (link_at s.links slot) l (route_at s.adj_in slot) (history config slot r) linked (h.slots slot)
 
 left_here : (slot : ℕ) (left : Bool) (r : Option PathAttributes) → cond (left && slot == slot) None r ≡ cond left None r
 left_here slot true r = rw (eq-eqb slot slot refl) refl
@@ -87,13 +83,13 @@ holds_signalled config call r slot l input old new h linked is shut moves conf h
     let at : history config slot (turn call [] ∷ r) ≡ Signalled input ∷ history config slot r = histories slot ∙ rw (eq-eqb slot slot refl) refl in
     let other : input ≡ Up → is_established (session (history config slot r)).state ≡ false =
     λ up. not_yet (session (history config slot r)) _ refl (λ k. shut up (ap transport_of here.link.peer.session ∙ k)) in
-    let P : Option ConfiguredPeer → Type 0 = λ x. SlotAgrees config x (Some (moved l input)) (route_at new.adj_in slot) (history config slot (turn call [] ∷ r)) in
     let H : List happens.Event → Type 0 = λ x. SlotIs config peer.0 (moved l input) (route_at new.adj_in slot) x in
     holds_put config r (turn call [] ∷ r) slot (moved l input) old new h conf moves.rest moves.links
     (λ t away p. moves.routes t p ∙ left_there slot t (effects_of input l.peer.session).left (route_at old.adj_in t p) away)
     (λ t away. histories t ∙ rw (ne_eqb t slot away) refl)
-    (subst P (sym peer.1) (subst H (sym at) (slot_signalled config peer.0 l (route_at old.adj_in slot) (route_at new.adj_in slot) (history config slot r) input is other here
-    (λ p. moves.routes slot p ∙ left_here slot (effects_of input l.peer.session).left (route_at old.adj_in slot p)))))
+    peer.0 peer.1
+    (subst H (sym at) (slot_signalled config peer.0 l (route_at old.adj_in slot) (route_at new.adj_in slot) (history config slot r) input is other here
+    (λ p. moves.routes slot p ∙ left_here slot (effects_of input l.peer.session).left (route_at old.adj_in slot p))))
 
 -- where a connection may come up, none stands
 pub awaits_none : (t : Transport) → awaits_up t ≡ true → t ≢ Connected
@@ -124,10 +120,6 @@ holds_reach config r prefix cost old new h conf peers config_same links adj_in s
   running = stopped ∙ h.running;
 }
 
-unlinked_from : (config : Config) (found : Option Linked) (routes : Prefix → Option PathAttributes) (h : List happens.Event) → SlotAgrees config None found routes h → (prefix : Prefix) → routes prefix ≡ None
-unlinked_from config None routes h a = a.1
-unlinked_from config (Some l) routes h a = absurd a
-
 -- with a new peer each has one of the 64 slots
 added_within : (slot t : ℕ) (before : Option ConfiguredPeer) (peer found : ConfiguredPeer) → slot < 64 → (before ≡ Some found → t < 64) → cond (t == slot) (Some peer) before ≡ Some found → t < 64
 added_within slot t before peer found below within at = by_slot (t == slot) refl at
@@ -143,8 +135,8 @@ pub holds_added : (config : Config) (r : Run) (slot : ℕ) (peer : PeerConf) (ol
     → new.config ≡ old.config → new.adj_in ≡ old.adj_in → new.stopped ≡ old.stopped → Holds config (turn (Command_call (AddPeer slot peer)) [] ∷ r) new
 holds_added config r slot peer old new h may conf peers put config_same adj_in stopped =
     let free : peer_at old.conf slot ≡ None = peer_at-from_accepted old.conf 0 slot peer may in
-    let P : Option ConfiguredPeer → Type 0 = λ x. SlotAgrees config x (link_at old.links slot) (route_at old.adj_in slot) (history config slot r) in
-    let empty = unlinked_from config (link_at old.links slot) (route_at old.adj_in slot) (history config slot r) (subst P free (h.slots slot)) in
+    let before = h.slots slot in
+    let vacant : is_established (session (history config slot r)).state ≡ false = before.vacant (sym before.configured ∙ ap (option_map (terms_in config)) free) in
     record {
       config_is = config_same ∙ h.config_is;
       conf = conf ∙ ap (λ c. conf_after c (AddPeer slot peer)) h.conf;
@@ -155,15 +147,15 @@ holds_added config r slot peer old new h may conf peers put config_same adj_in s
           (λ t other. put t ∙ rw (ne_eqb t slot other) refl)
           (λ t other p. ap (λ table. route_at table t p) adj_in)
           (λ t other. rw (ne_eqb t slot other) refl)
-          (rw (peers slot, put slot, adj_in, eq-eqb slot slot refl) (record {
+          (rw (peers slot, put slot, adj_in, eq-eqb slot slot refl) (slot_agrees config (configured_of peer) _ (route_at old.adj_in slot) _ (record {
             terms = refl;
             link = record {
               peer = agrees-new (history config slot r) (terms_in config (configured_of peer)).own peer.mode peer.asn;
               held = λ p. refl;
               silent = λ k new p. absurd (cc);
             };
-            routes_are = empty;
-          }));
+            routes_are = λ p. before.routes_are p ∙ no_route (history config slot r) p vacant;
+          })));
       running = stopped ∙ h.running;
     }
 

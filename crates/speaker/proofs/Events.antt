@@ -1,6 +1,6 @@
 use Rattle.std.proofs.Common.{◌≡◌, ◌≢◌, ◌≤◌, ◌<◌, ◌==◌, ◌&&◌, inl, inr, ℕ, Bool, true, false, List, [], ◌∷◌, ◌++◌, Option, Some, None, length, take, min, cond, refl, sym, ap, ◌∙◌, subst, arith, append-nil, append_assoc}
-use Rattle.std.proofs.lemmas.Bool.{cases_eq, eq-eqb, ne_eqb, lt-ltb, le-ltb}
-use Rattle.std.proofs.lemmas.List.{length-take}
+use Rattle.std.proofs.lemmas.Bool.{cases_eq, eq-eqb, ne_eqb, eqb-true, lt-ltb, le-ltb}
+use Rattle.std.proofs.lemmas.List.{length-take, nil_from_length}
 use Rattle.bgp_attr.specs.PathAttributes.{PathAttributes}
 use Rattle.bgp_conf.specs.Configuration.{peer_at}
 use Rattle.bgp_conf.specs.declared.conf.ConfiguredPeer.{ConfiguredPeer}
@@ -17,7 +17,8 @@ use Rattle.net_prefix.specs.declared.transport.Transport.{Transport}
 use Rattle.net_prefix.specs.declared.transport.Transport.TheVariants.{None as NoConnection, Opening, Listening, Open as Connected, Closing}
 use Rattle.rib_in.specs.LatestRoutes.{route_at}
 use Rattle.speaker.specs.AdjRibIn.{update_heard, word_if}
-use Rattle.speaker.specs.Agreement.{SlotIs, SlotAgrees, Holds}
+use Rattle.speaker.specs.Agreement.{SlotAgrees, Holds}
+use Rattle.speaker.proofs.SlotStates.{SlotIs, slot_agrees, slot_from, linked_from}
 use Rattle.speaker.specs.Linked.{Linked}
 use Rattle.speaker.specs.Moves.{KeepsRest, IsPut, Pushes, TakesItem, moved, taken_on, taken_of}
 use Rattle.speaker.specs.Runs.{Run, turn, Bytes_call, configuration_of, history, terms_in}
@@ -35,8 +36,8 @@ use Rattle.speaker.proofs.SlotOctets.{slot_pushed, slot_taken, slot_shut, HeardS
 pub holds_put : (config : Config) (r1 r2 : Run) (slot : ℕ) (l : Linked) (old new : SpeakerState) → Holds config r1 old → configuration_of config r2 ≡ configuration_of config r1
     → KeepsRest old new → IsPut slot l old new → ((t : ℕ) → t ≢ slot → (p : Prefix) → route_at new.adj_in t p ≡ route_at old.adj_in t p)
     → ((t : ℕ) → t ≢ slot → history config t r2 ≡ history config t r1)
-    → SlotAgrees config (peer_at old.conf slot) (Some l) (route_at new.adj_in slot) (history config slot r2) → Holds config r2 new
-holds_put config r1 r2 slot l old new h conf keeps put routes histories here = record {
+    → (peer : ConfiguredPeer) → peer_at old.conf slot ≡ Some peer → SlotIs config peer l (route_at new.adj_in slot) (history config slot r2) → Holds config r2 new
+holds_put config r1 r2 slot l old new h conf keeps put routes histories peer configured here = record {
   config_is = keeps.config ∙ h.config_is;
   conf = keeps.conf ∙ h.conf ∙ sym conf;
   within = rw keeps.conf h.within;
@@ -45,7 +46,7 @@ holds_put config r1 r2 slot l old new h conf keeps put routes histories here = r
       (λ t other. ap (λ c. peer_at c t) keeps.conf)
       (λ t other. put t ∙ off t other)
       routes histories
-      (rw (keeps.conf, put slot, eq-eqb slot slot refl) here);
+      (rw (keeps.conf, put slot, eq-eqb slot slot refl, configured) (slot_agrees config peer l (route_at new.adj_in slot) (history config slot r2) here));
   running = keeps.stopped ∙ h.running;
 }
   where
@@ -53,23 +54,14 @@ holds_put config r1 r2 slot l old new h conf keeps put routes histories here = r
     off t other = rw (ne_eqb t slot other) refl
 
 -- a configured slot is there
-pub linked_from : (config : Config) (peer : ConfiguredPeer) (found : Option Linked) (routes : Prefix → Option PathAttributes) (h : List happens.Event) → SlotAgrees config (Some peer) found routes h
-    → (l : Linked) × (found ≡ Some l)
-linked_from config peer None routes h a = absurd a
-linked_from config peer (Some l) routes h a = (l, refl)
-
 pub slot_of : (config : Config) (r : Run) (slot : ℕ) (peer : ConfiguredPeer) (s : SpeakerState) → Holds config r s → peer_at s.conf slot ≡ Some peer
     → (l : Linked) × (link_at s.links slot ≡ Some l)
-slot_of config r slot peer s h configured =
-    let P : Option ConfiguredPeer → Type 0 = λ x. SlotAgrees config x (link_at s.links slot) (route_at s.adj_in slot) (history config slot r) in
-    linked_from config peer (link_at s.links slot) (route_at s.adj_in slot) (history config slot r) (subst P configured (h.slots slot))
+slot_of config r slot peer s h configured = linked_from config (peer_at s.conf slot) peer (link_at s.links slot) (route_at s.adj_in slot) (history config slot r) configured (h.slots slot)
 
 pub slot_is : (config : Config) (r : Run) (slot : ℕ) (peer : ConfiguredPeer) (l : Linked) (s : SpeakerState) → Holds config r s → peer_at s.conf slot ≡ Some peer → link_at s.links slot ≡ Some l
     → SlotIs config peer l (route_at s.adj_in slot) (history config slot r)
 slot_is config r slot peer l s h configured linked =
-    let P : Option ConfiguredPeer → Type 0 = λ x. SlotAgrees config x (link_at s.links slot) (route_at s.adj_in slot) (history config slot r) in
-    let L : Option Linked → Type 0 = λ x. SlotAgrees config (Some peer) x (route_at s.adj_in slot) (history config slot r) in
-    subst L linked (subst P configured (h.slots slot))
+    slot_from config (peer_at s.conf slot) peer (link_at s.links slot) l (route_at s.adj_in slot) (history config slot r) configured linked (h.slots slot)
 
 -- octets
 
@@ -123,19 +115,17 @@ takes_found : (config : Config) (r1 r2 : Run) (slot : ℕ) (peer : ConfiguredPee
     → HeardSlot config peer l (route_at old.adj_in slot) (history config slot r2)
     → TakesItem slot (terms_in config peer) l found mid new → Holds config r2 new
 takes_found config r1 r2 slot peer l None old mid new is h conf histories configured keeps put routes heard takes =
-    let P : Option ConfiguredPeer → Type 0 = λ x. SlotAgrees config x (Some l) (route_at new.adj_in slot) (history config slot r2) in
     let same : (t : ℕ) (p : Prefix) → route_at new.adj_in t p ≡ route_at old.adj_in t p = λ t p. takes.1 t p ∙ ap (λ table. route_at table t p) routes in
     holds_put config r1 r2 slot l old new h conf (rest_kept old mid new keeps takes.2) (λ s. takes.0 s ∙ put s) (λ t other p. same t p) histories
-    (subst P (sym configured) (same_routes config peer l (route_at old.adj_in slot) (route_at new.adj_in slot) (history config slot r2) (heard.0 is) (same slot)))
+    peer configured (same_routes config peer l (route_at old.adj_in slot) (route_at new.adj_in slot) (history config slot r2) (heard.0 is) (same slot))
 takes_found config r1 r2 slot peer l (Some item) old mid new is h conf histories configured keeps put routes heard takes =
-    let P : Option ConfiguredPeer → Type 0 = λ x. SlotAgrees config x (Some (moved l (input_of l.peer.session.state (terms_in config peer) item))) (route_at new.adj_in slot) (history config slot r2) in
     holds_put config r1 r2 slot (moved l (input_of l.peer.session.state (terms_in config peer) item)) old new h conf (rest_kept old mid new keeps takes.2)
     (λ s. takes.0 s ∙ ap (λ other. cond (s == slot) (Some (moved l (input_of l.peer.session.state (terms_in config peer) item))) other) (put s)
     ∙ cond_again (s == slot) (Some (moved l (input_of l.peer.session.state (terms_in config peer) item))) (Some l) (link_at old.links s))
     (λ t other p. takes.1 t p ∙ rw (ne_eqb t slot other) (left_off (effects_of (input_of l.peer.session.state (terms_in config peer) item) l.peer.session).left (route_at mid.adj_in t p)) ∙ ap (λ table. route_at table t p) routes)
     histories
-    (subst P (sym configured)
-    (slot_taken config peer l (route_at old.adj_in slot) (route_at new.adj_in slot) (history config slot r2) item (heard.1 item is)
+    peer configured
+    ((slot_taken config peer l (route_at old.adj_in slot) (route_at new.adj_in slot) (history config slot r2) item (heard.1 item is)
     (λ p. takes.1 slot p
     ∙ rw (eq-eqb slot slot refl) (left_on (effects_of (input_of l.peer.session.state (terms_in config peer) item) l.peer.session).left (word_if (update_heard l.peer.session.state (terms_in config peer) item) p (route_at mid.adj_in slot p)))
     ∙ ap (λ table. cond (effects_of (input_of l.peer.session.state (terms_in config peer) item) l.peer.session).left None (word_if (update_heard l.peer.session.state (terms_in config peer) item) p (route_at table slot p))) routes)))
@@ -166,11 +156,10 @@ holds_shut config r done slot peer l octets old new h configured linked shut pus
     let after = subst H on (slot_shut config peer l (route_at old.adj_in slot) (history config slot (turn (Bytes_call slot done) [] ∷ r)) octets shut here) in
     let R : List ℕ → Type 0 = λ x. SlotIs config peer (with_peer l (record { session = l.peer.session; rest = x; ring = l.peer.ring })) (route_at old.adj_in slot) (history config slot (turn (Bytes_call slot (done ++ octets)) [] ∷ r)) in
     let same = subst R (sym (append-nil l.peer.rest)) after in
-    let P : Option ConfiguredPeer → Type 0 = λ x. SlotAgrees config x (Some (with_peer l (pushed l.peer []))) (route_at new.adj_in slot) (history config slot (turn (Bytes_call slot (done ++ octets)) [] ∷ r)) in
     holds_put config (turn (Bytes_call slot done) [] ∷ r) (turn (Bytes_call slot (done ++ octets)) [] ∷ r) slot (with_peer l (pushed l.peer [])) old new h refl pushes.rest pushes.links
     (λ t other p. ap (λ table. route_at table t p) pushes.routes)
     (λ t other. bytes_off config slot (done ++ octets) r t other ∙ sym (bytes_off config slot done r t other))
-    (subst P (sym configured) (same_routes config peer (with_peer l (pushed l.peer [])) (route_at old.adj_in slot) (route_at new.adj_in slot) (history config slot (turn (Bytes_call slot (done ++ octets)) [] ∷ r)) same (λ p. ap (λ table. route_at table slot p) pushes.routes)))
+    peer configured (same_routes config peer (with_peer l (pushed l.peer [])) (route_at old.adj_in slot) (route_at new.adj_in slot) (history config slot (turn (Bytes_call slot (done ++ octets)) [] ∷ r)) same (λ p. ap (λ table. route_at table slot p) pushes.routes))
 
 -- a connection that takes nothing isn't open
 pub taken_shut : (config : Config) (r : Run) (slot : ℕ) (peer : ConfiguredPeer) (l : Linked) (octets : List ℕ) (s : SpeakerState)
@@ -255,3 +244,6 @@ some_left n is = elim (cases_eq n 0) [
   | inl none ↦ absurd (let back = eq-eqb n 0 none in cc)
   | inr some ↦ omega (arith, some)
 ]
+
+pub none_left : (octets : List ℕ) → true ≡ (length octets == 0) → octets ≡ []
+none_left octets is = nil_from_length octets (eqb-true (length octets) 0 (sym is))

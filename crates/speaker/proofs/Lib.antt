@@ -7,6 +7,7 @@ pub mod Slots
 pub mod RouteChanges
 pub mod SentPrefixes
 pub mod Histories
+pub mod SlotStates
 pub mod SlotEvents
 pub mod SlotOctets
 pub mod QueuedUpdates

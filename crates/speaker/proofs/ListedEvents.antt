@@ -24,7 +24,13 @@ agrees_new config = record {
     config_is = refl;
     conf = refl;
     within = λ slot peer at. absurd (cc);
-    slots = λ slot. (refl, λ prefix. refl);
+    slots = λ slot. record {
+      configured = refl;
+      there = refl;
+      link = λ l there. absurd (cc);
+      vacant = λ none. refl;
+      routes_are = λ prefix. refl;
+    };
     running = refl;
   };
   loc_rib = record { rising = nothing_rises; best = λ prefix c is. let none = is.made.configured in absurd (cc) };

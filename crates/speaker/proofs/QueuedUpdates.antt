@@ -21,13 +21,13 @@ use Rattle.net_prefix.specs.PrefixSpelling.{spelling_of, address_octets, octets_
 use Rattle.net_prefix.specs.declared.prefix.Prefix.{Prefix}
 use Rattle.rib_out.specs.Held.{is_prefix}
 use Rattle.speaker.specs.AdjRibIn.{is_among}
-use Rattle.speaker.specs.Agreement.{SlotIs}
 use Rattle.speaker.specs.Held.{told_by, told_from, told_in, held_in}
 use Rattle.speaker.specs.Linked.{Linked}
 use Rattle.speaker.specs.Queueing.{update_saying, IsOwed, rank_of}
 use Rattle.speaker.specs.declared.config.Config.{Config}
 use Rattle.bgp_fsm.specs.StateTests.{is_established}
 use Rattle.speaker.proofs.Histories.{route_stays}
+use Rattle.speaker.proofs.SlotStates.{SlotIs}
 use Rattle.speaker.proofs.SentPrefixes.{told_in-append}
 
 -- What an UPDATE that is queued tells of prefixes, read back.

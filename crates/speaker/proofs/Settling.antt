@@ -24,6 +24,7 @@ use Rattle.speaker.specs.Runs.{Call, Run, turn, configuration_of, history}
 use Rattle.speaker.specs.SpeakerState.{SpeakerState, KeepsTables, tables_of}
 use Rattle.speaker.specs.Tables.{Tables, link_at}
 use Rattle.speaker.specs.declared.config.Config.{Config}
+use Rattle.speaker.proofs.SlotStates.{configured_from, linked_from}
 use Rattle.speaker.proofs.Calls.{SlotsAgree, tables_in, tables_same, export_is, export_peer_found, queue_slots}
 
 -- The end of a call: what it queued is owed, and with room each peer holds its export.
@@ -74,16 +75,6 @@ export_of_run config r s slot peer prefix tables conf is configured =
     subst P (sym tables) (subst C (sym conf) (subst E (sym (export_peer_found s slot peer prefix configured))
     (export_is (tables_of s) s.loc_rib s.adj_in (export_peer_of s.conf slot peer) prefix (λ t p. refl) is)))
 
-held_before : (config : Config) (found : Option ConfiguredPeer) (l : Linked) (routes : Prefix → Option PathAttributes) (h : List happens.Event) (prefix : Prefix)
-    → SlotAgrees config found (Some l) routes h → held_at l.adj_out prefix ≡ held h prefix
-held_before config None l routes h prefix a = absurd a
-held_before config (Some peer) l routes h prefix a = a.link.held prefix
-
-configured_from : (config : Config) (found : Option ConfiguredPeer) (l : Linked) (routes : Prefix → Option PathAttributes) (h : List happens.Event)
-    → SlotAgrees config found (Some l) routes h → (peer : ConfiguredPeer) × (found ≡ Some peer)
-configured_from config None l routes h a = absurd a
-configured_from config (Some peer) l routes h a = (peer, refl)
-
 are_owed : (config : Config) (call : Call) (r : Run) (s : SpeakerState) (queue : Queue) (links : ℕ → Option Linked) → configuration_of config (turn call [] ∷ r) ≡ s.conf
     → SlotsAgree config s.conf (link_at s.links) s.adj_in (λ t. history config t (turn call [] ∷ r)) → IsLocRib (tables_of s) s.loc_rib
     → QueuesAll (export_to s) queue (link_at s.links) links → AreOwed config call r queue
@@ -95,8 +86,8 @@ are_owed config call r s (now ∷ queue) links conf all is queues =
     let before : SlotsAgree config s.conf mid s.adj_in (λ t. history config t (turn call queue ∷ r)) = queue_slots config call r s queue mid all queues.1 in
     let L : Option Linked → Type 0 = λ x. SlotAgrees config (peer_at s.conf now.0) x (route_at s.adj_in now.0) (history config now.0 (turn call queue ∷ r)) in
     let here = subst L owed.was (before now.0) in
-    let peer = configured_from config (peer_at s.conf now.0) owed.before (route_at s.adj_in now.0) (history config now.0 (turn call queue ∷ r)) here in
-    let held_is = held_before config (peer_at s.conf now.0) owed.before (route_at s.adj_in now.0) (history config now.0 (turn call queue ∷ r)) owed.owed.prefix here in (
+    let peer = configured_from config (peer_at s.conf now.0) (Some owed.before) owed.before (route_at s.adj_in now.0) (history config now.0 (turn call queue ∷ r)) refl here in
+    let held_is = (here.link owed.before refl).held owed.owed.prefix in (
       record {
         peer = peer.0;
         prefix = owed.owed.prefix;
@@ -116,11 +107,13 @@ served_slot : (config : Config) (r : Run) (s : SpeakerState) (slot : ℕ) (peer 
     → SlotAgrees config (Some peer) found (route_at s.adj_in slot) (history config slot r)
     → (session (history config slot r)).state ≡ Established → length (ring_of (history config slot r)) + 8192 ≤ 65536 → (prefix : Prefix)
     → IsExport (tables_after config r) (export_peer_of (configuration_of config r) slot peer) prefix (held (history config slot r) prefix)
-served_slot config r s slot peer None links is tables conf chosen configured served a established room prefix = absurd a
+served_slot config r s slot peer None links is tables conf chosen configured served a established room prefix =
+    let there = linked_from config (Some peer) peer None (route_at s.adj_in slot) (history config slot r) refl a in
+    let never = there.1 in absurd (cc)
 served_slot config r s slot peer (Some l) links is tables conf chosen configured served a established room prefix =
-    let state : l.peer.session.state ≡ Established = ap (λ (x : Session). x.state) a.link.peer.session ∙ established in
-    let free : length l.peer.ring + 8192 ≤ 65536 = subst (λ ring. length ring + 8192 ≤ 65536) (ring-is (history config slot r) l.peer a.link.peer) room in
-    let holds : held (history config slot r) prefix ≡ export_to s slot prefix = sym (a.link.held prefix) ∙ served l is state free prefix in
+    let state : l.peer.session.state ≡ Established = ap (λ (x : Session). x.state) (a.link l refl).peer.session ∙ established in
+    let free : length l.peer.ring + 8192 ≤ 65536 = subst (λ ring. length ring + 8192 ≤ 65536) (ring-is (history config slot r) l.peer (a.link l refl).peer) room in
+    let holds : held (history config slot r) prefix ≡ export_to s slot prefix = sym ((a.link l refl).held prefix) ∙ served l is state free prefix in
     let E : Option (List ℕ) → Type 0 = λ e. IsExport (tables_after config r) (export_peer_of (configuration_of config r) slot peer) prefix e in
     subst E (sym holds) (export_of_run config r s slot peer prefix tables conf chosen configured)
 

@@ -34,15 +34,15 @@ use Rattle.speaker.specs.declared.config.Config.{Config}
 use Rattle.speaker.proofs.Calls.{slot_route, tables_same}
 use Rattle.speaker.proofs.OneBest.{best_is_candidate, same_best}
 use Rattle.speaker.proofs.Serving.{same_from_is_prefix}
+use Rattle.bgp_peer.specs.SessionInputs.{occupant}
+use Rattle.speaker.proofs.SlotStates.{none_from}
 
 -- What the views list is what the run has.
 
 held_of_slot : (config : Config) (peer : Option ConfiguredPeer) (found : Option Linked) (routes : Prefix → Option PathAttributes) (h : List happens.Event) (prefix : Prefix)
     → SlotAgrees config peer found routes h → held_at (held_by found) prefix ≡ held h prefix
-held_of_slot config None None routes h prefix a = ap (λ x. held x prefix) (sym a.0)
-held_of_slot config None (Some l) routes h prefix a = absurd a
-held_of_slot config (Some peer) None routes h prefix a = absurd a
-held_of_slot config (Some peer) (Some l) routes h prefix a = a.link.held prefix
+held_of_slot config peer None routes h prefix a = rw (a.vacant (none_from (occupant h) (sym a.there))) refl
+held_of_slot config peer (Some l) routes h prefix a = (a.link l refl).held prefix
 
 pub held_shown : (config : Config) (r : Run) (s : SpeakerState) (slot : ℕ) (prefix : Prefix) → Agrees config r s → held_at (held_by (link_at s.links slot)) prefix ≡ held (history config slot r) prefix
 held_shown config r s slot prefix a = held_of_slot config (peer_at s.conf slot) (link_at s.links slot) (route_at s.adj_in slot) (history config slot r) prefix (a.holds.slots slot)

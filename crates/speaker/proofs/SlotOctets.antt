@@ -12,7 +12,7 @@ use Rattle.bgp_fsm.proofs.TableLaws.{established_stands}
 use Rattle.bgp_msg.specs.MessageStream.{Item, Wants, completed, meaning, needed_of}
 use Rattle.bgp_msg.proofs.Streams.{wants_none}
 use Rattle.bgp_peer.specs.Agreement.{holding}
-use Rattle.bgp_peer.specs.SessionInputs.{Event, Terms, Signalled, Octet, Handed, terms_of, item_at, input_of, session, onto}
+use Rattle.bgp_peer.specs.SessionInputs.{Event, Terms, Signalled, Octet, Handed, terms_from, terms_of, item_at, input_of, session, onto}
 use Rattle.bgp_peer.specs.Slot.{pushed, handed}
 use Rattle.bgp_peer.proofs.Agreeing.{agrees-shut, agrees-take, shut_octet, item_of_rest}
 use Rattle.bgp_peer.proofs.Receiving.{needed-push, wants-agreed}
@@ -20,11 +20,12 @@ use Rattle.bgp_peer.proofs.Rows.{ignored}
 use Rattle.net_prefix.specs.declared.prefix.Prefix.{Prefix}
 use Rattle.net_prefix.specs.declared.transport.Transport.TheVariants.{Open as Connected}
 use Rattle.speaker.specs.AdjRibIn.{word_if, update_heard, route}
-use Rattle.speaker.specs.Agreement.{LinkAgrees, SlotIs}
+use Rattle.speaker.specs.Agreement.{LinkAgrees}
 use Rattle.speaker.specs.Linked.{Linked}
 use Rattle.speaker.specs.Moves.{moved}
 use Rattle.speaker.specs.Runs.{terms_in}
 use Rattle.speaker.specs.declared.config.Config.{Config}
+use Rattle.speaker.proofs.SlotStates.{SlotIs}
 use Rattle.speaker.proofs.Histories.{route_moved, route_stays}
 use Rattle.speaker.proofs.SlotEvents.{route_octet, route_item, link_signalled, link_octet, link_item, with_peer, unheard}
 
@@ -117,9 +118,10 @@ pub slot_taken : (config : Config) (peer : ConfiguredPeer) (l : Linked) (old new
     → SlotIs config peer (moved l (input_of l.peer.session.state (terms_in config peer) item)) new h
 slot_taken config peer l old new h item s change =
     let here : item_at s.before s.octet ≡ Some item = item_of_rest s.before (holding s.part l.peer) s.octet (Some item) s.connected s.whole s.slot.link.peer in
+    let terms : terms_of s.before ≡ terms_in config peer = ap terms_from s.slot.terms in
     let F : Terms → Type 0 = λ t. LinkAgrees (Octet s.octet ∷ s.before) (moved l (input_of l.peer.session.state t item)) in
     let linked : LinkAgrees (Octet s.octet ∷ s.before) (moved l (input_of l.peer.session.state (terms_in config peer) item)) =
-    subst F s.slot.terms (link_item s.before l s.part s.octet item s.connected s.whole s.slot.link) in
+    subst F terms (link_item s.before l s.part s.octet item s.connected s.whole s.slot.link) in
     rw s.history_is (record {
       terms = s.slot.terms;
       link = linked;
@@ -127,7 +129,7 @@ slot_taken config peer l old new h item s change =
           change p
           ∙ ap (λ r. cond (effects_of (input_of l.peer.session.state (terms_in config peer) item) l.peer.session).left None (word_if (update_heard l.peer.session.state (terms_in config peer) item) p r)) (s.slot.routes_are p)
           ∙ ap (λ (x : Session). cond (effects_of (input_of x.state (terms_in config peer) item) x).left None (word_if (update_heard x.state (terms_in config peer) item) p (route s.before p))) s.slot.link.peer.session
-          ∙ ap (λ t. cond (effects_of (input_of (session s.before).state t item) (session s.before)).left None (word_if (update_heard (session s.before).state t item) p (route s.before p))) (sym s.slot.terms)
+          ∙ ap (λ t. cond (effects_of (input_of (session s.before).state t item) (session s.before)).left None (word_if (update_heard (session s.before).state t item) p (route s.before p))) (sym terms)
           ∙ sym (route_item s.before s.octet item p here);
     })
 

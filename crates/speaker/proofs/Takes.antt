@@ -9,7 +9,8 @@ use Rattle.bgp_peer.specs.SessionInputs as happens
 use Rattle.bgp_peer.specs.SessionInputs.{Handed}
 use Rattle.bgp_peer.specs.Slot.{handed}
 use Rattle.rib_in.specs.LatestRoutes.{route_at}
-use Rattle.speaker.specs.Agreement.{SlotIs, SlotAgrees, Holds, Agrees, tables_after}
+use Rattle.speaker.specs.Agreement.{Holds, Agrees, tables_after}
+use Rattle.speaker.proofs.SlotStates.{SlotIs}
 use Rattle.speaker.specs.Export.{export_to}
 use Rattle.speaker.specs.Linked.{Linked}
 use Rattle.speaker.specs.LocRib.{IsLocRib}
@@ -34,11 +35,10 @@ holds_handed config r slot l count old new h linked hands =
     let peer = peer_of config r slot l old h linked in
     let here = slot_handed config peer.0 l (route_at old.adj_in slot) (history config slot r) count (slot_is config r slot peer.0 l old h peer.1 linked) in
     let on : history config slot (turn (Take_call slot (take count l.peer.ring)) [] ∷ r) ≡ Handed (take count l.peer.ring) ∷ history config slot r = rw (eq-eqb slot slot refl) refl in
-    let P : Option ConfiguredPeer → Type 0 = λ x. SlotAgrees config x (Some (with_peer l (handed l.peer count))) (route_at new.adj_in slot) (history config slot (turn (Take_call slot (take count l.peer.ring)) [] ∷ r)) in
     let H : List happens.Event → Type 0 = λ x. SlotIs config peer.0 (with_peer l (handed l.peer count)) (route_at new.adj_in slot) x in
     holds_put config r (turn (Take_call slot (take count l.peer.ring)) [] ∷ r) slot (with_peer l (handed l.peer count)) old new h refl hands.rest hands.links
     (λ t other p. ap (λ table. route_at table t p) hands.routes) (λ t other. rw (ne_eqb t slot other) refl)
-    (subst P (sym peer.1) (subst H (sym on) (rw hands.routes here)))
+    peer.0 peer.1 (subst H (sym on) (rw hands.routes here))
 
 handed_session : (slot t : ℕ) (l : Linked) (count : ℕ) (f : ℕ → Option Linked) → f slot ≡ Some l
     → option_map (λ x. x.peer.session) (cond (t == slot) (Some (with_peer l (handed l.peer count))) (f t)) ≡ option_map (λ x. x.peer.session) (f t)

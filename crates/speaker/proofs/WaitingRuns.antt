@@ -12,7 +12,7 @@ use Rattle.bgp_peer.specs.SessionInputs.{session}
 use Rattle.net_prefix.specs.declared.prefix.Prefix.{Prefix}
 use Rattle.rib_in.specs.LatestRoutes.{route_at}
 use Rattle.rib_out.specs.Held.{held_at}
-use Rattle.speaker.specs.Agreement.{Agrees, SlotAgrees, SlotIs, tables_after}
+use Rattle.speaker.specs.Agreement.{Agrees, tables_after}
 use Rattle.speaker.specs.Export.{IsExport, export_in, export_peer_of, export_to}
 use Rattle.speaker.specs.Held.{held}
 use Rattle.speaker.specs.Linked.{Linked}
@@ -25,6 +25,7 @@ use Rattle.speaker.specs.declared.config.Config.{Config}
 use Rattle.speaker.proofs.Calls.{export_peer_found, tables_same}
 use Rattle.speaker.proofs.OneBest.{same_export}
 use Rattle.speaker.proofs.Settling.{export_of_run}
+use Rattle.speaker.proofs.SlotStates.{linked_from}
 use Rattle.speaker.proofs.WaitingLists.{differing_is}
 
 -- What waits, as the tables stand and as a run leaves it.
@@ -70,18 +71,6 @@ to_listed s slot q w =
 pub waiting_kept : (s : SpeakerState) (slot : ℕ) (q : Prefix) → Contains (waiting_of s slot) q ↔ IsWaiting s slot q
 waiting_kept s slot q = (from_listed s slot q (peer_at s.conf slot) (link_at s.links slot) refl refl, to_listed s slot q)
 
-slot_is : (config : Config) (peer : ConfiguredPeer) (found : Option ConfiguredPeer) (l : Linked) (link : Option Linked) (routes : Prefix → Option PathAttributes) (h : List happens.Event)
-    → found ≡ Some peer → link ≡ Some l → SlotAgrees config found link routes h → SlotIs config peer l routes h
-slot_is config peer found l link routes h configured linked a =
-    let L : Option Linked → Type 0 = λ x. SlotAgrees config (Some peer) x routes h in
-    let C : Option ConfiguredPeer → Type 0 = λ x. SlotAgrees config x link routes h in
-    subst L linked (subst C configured a)
-
-slot_linked : (config : Config) (peer : ConfiguredPeer) (link : Option Linked) (routes : Prefix → Option PathAttributes) (h : List happens.Event) → SlotAgrees config (Some peer) link routes h
-    → (l : Linked) × (link ≡ Some l)
-slot_linked config peer None routes h a = absurd a
-slot_linked config peer (Some l) routes h a = (l, refl)
-
 -- the kept export is the run's
 run_export : (config : Config) (r : Run) (s : SpeakerState) (slot : ℕ) (peer : ConfiguredPeer) (q : Prefix) → Agrees config r s → peer_at s.conf slot ≡ Some peer
     → IsExport (tables_after config r) (export_peer_of (configuration_of config r) slot peer) q (export_to s slot q)
@@ -92,30 +81,29 @@ run_export config r s slot peer q a configured =
 
 waits_in_run : (config : Config) (r : Run) (s : SpeakerState) (slot : ℕ) (q : Prefix) → Agrees config r s → IsWaiting s slot q → IsWaitingIn config r slot q
 waits_in_run config r s slot q a w =
-    let here = slot_is config w.peer (peer_at s.conf slot) w.link (link_at s.links slot) (route_at s.adj_in slot) (history config slot r) w.configured w.linked (a.holds.slots slot) in
+    let here = (a.holds.slots slot).link w.link w.linked in
     record {
       peer = w.peer;
       export = export_to s slot q;
       configured = ap (λ c. peer_at c slot) (sym a.holds.conf) ∙ w.configured;
-      established = sym (ap (λ (x : Session). x.state) here.link.peer.session) ∙ w.established;
+      established = sym (ap (λ (x : Session). x.state) here.peer.session) ∙ w.established;
       is_export = run_export config r s slot w.peer q a w.configured;
-      differs = λ same. w.differs (here.link.held q ∙ same);
+      differs = λ same. w.differs (here.held q ∙ same);
     }
 
 waits_by_run : (config : Config) (r : Run) (s : SpeakerState) (slot : ℕ) (q : Prefix) → Agrees config r s → IsWaitingIn config r slot q → IsWaiting s slot q
 waits_by_run config r s slot q a w =
     let configured : peer_at s.conf slot ≡ Some w.peer = ap (λ c. peer_at c slot) a.holds.conf ∙ w.configured in
-    let C : Option ConfiguredPeer → Type 0 = λ x. SlotAgrees config x (link_at s.links slot) (route_at s.adj_in slot) (history config slot r) in
-    let found = slot_linked config w.peer (link_at s.links slot) (route_at s.adj_in slot) (history config slot r) (subst C configured (a.holds.slots slot)) in
-    let here = slot_is config w.peer (peer_at s.conf slot) found.0 (link_at s.links slot) (route_at s.adj_in slot) (history config slot r) configured found.1 (a.holds.slots slot) in
+    let found = linked_from config (peer_at s.conf slot) w.peer (link_at s.links slot) (route_at s.adj_in slot) (history config slot r) configured (a.holds.slots slot) in
+    let here = (a.holds.slots slot).link found.0 found.1 in
     let exports = same_export (tables_after config r) (export_peer_of (configuration_of config r) slot w.peer) q (export_to s slot q) w.export (run_export config r s slot w.peer q a configured) w.is_export in
     record {
       peer = w.peer;
       link = found.0;
       configured = configured;
       linked = found.1;
-      established = ap (λ (x : Session). x.state) here.link.peer.session ∙ w.established;
-      differs = λ same. w.differs (sym (here.link.held q) ∙ same ∙ exports);
+      established = ap (λ (x : Session). x.state) here.peer.session ∙ w.established;
+      differs = λ same. w.differs (sym (here.held q) ∙ same ∙ exports);
     }
 
 -- for each run that the speaker agrees with, the list has what waits after it

@@ -1,4 +1,4 @@
-use Rattle.std.specs.Prelude.{◌≡◌, ◌≢◌, ◌<◌, ◌≤◌, ◌+◌, ℕ, List, [], ◌∷◌, length, Option, Some, None, true, false}
+use Rattle.std.specs.Prelude.{◌≡◌, ◌≢◌, ◌<◌, ◌≤◌, ◌+◌, ℕ, List, [], ◌∷◌, length, Option, Some, None, is_none, true, false}
 use Rattle.std.specs.Option.{option_map}
 use Rattle.bgp_attr.specs.PathAttributes.{PathAttributes}
 use Rattle.bgp_conf.specs.Configuration.{peer_at}
@@ -9,7 +9,7 @@ use Rattle.bgp_fsm.specs.Transports.{transport_of}
 use Rattle.bgp_peer.specs.Agreement.{PeerAgrees}
 use Rattle.bgp_peer.specs.SentMessages.{ring_of, sent}
 use Rattle.bgp_peer.specs.SessionInputs as slot
-use Rattle.bgp_peer.specs.SessionInputs.{terms_of, session}
+use Rattle.bgp_peer.specs.SessionInputs.{occupant, session}
 use Rattle.net_prefix.specs.declared.prefix.Prefix.{Prefix}
 use Rattle.net_prefix.specs.declared.transport.Transport.TheVariants.{Open as Connected}
 use Rattle.rib_in.specs.LatestRoutes.{route_at}
@@ -42,18 +42,16 @@ pub record LinkAgrees (h : List slot.Event) (l : Linked) : Type 0 where
   -- before Established nothing was told of any prefix
   pub silent : transport_of (session h) ≡ Connected → is_established (session h).state ≡ false → (prefix : Prefix) → told_in (sent h) prefix ≡ None
 
--- the slot of this peer and its routes are as this history leaves them
-pub record SlotIs (config : Config) (peer : ConfiguredPeer) (l : Linked) (routes : Prefix → Option PathAttributes) (h : List slot.Event) : Type 0 where
-  pub terms : terms_of h ≡ terms_in config peer
-  pub link : LinkAgrees h l
+-- what is configured and kept of a slot is as this history leaves it
+pub record SlotAgrees (config : Config) (found : Option ConfiguredPeer) (linked : Option Linked) (routes : Prefix → Option PathAttributes) (h : List slot.Event) : Type 0 where
+  -- the configuration has the peer that occupies the slot
+  pub configured : option_map (terms_in config) found ≡ occupant h
+  -- the slot is there where it isn't vacant
+  pub there : is_none linked ≡ is_none (occupant h)
+  pub link : (l : Linked) → linked ≡ Some l → LinkAgrees h l
+  -- nothing is exchanged with a vacant one: it has no routes, and none are held
+  pub vacant : occupant h ≡ None → is_established (session h).state ≡ false
   pub routes_are : (prefix : Prefix) → routes prefix ≡ route h prefix
-
--- a slot, its configuration and its routes are as this history leaves them
-abbrev pub SlotAgrees : Config → Option ConfiguredPeer → Option Linked → (Prefix → Option PathAttributes) → List slot.Event → Type 0
-SlotAgrees config None None routes h = (h ≡ []) × ((prefix : Prefix) → routes prefix ≡ None)
-SlotAgrees config None (Some l) routes h = ⊥
-SlotAgrees config (Some peer) None routes h = ⊥
-SlotAgrees config (Some peer) (Some l) routes h = SlotIs config peer l routes h
 
 -- where 8,192 octets are free, the peer of each Established slot holds its export
 abbrev pub IsSettled : Config → Run → Type 0

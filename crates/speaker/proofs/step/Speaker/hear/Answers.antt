@@ -1,5 +1,5 @@
 use Rattle.std.proofs.lemmas.List.{take-append-drop}
-use Rattle.speaker.proofs.Events.{HasCome-start, HasCome-more, HasCome-shut, some_left}
+use Rattle.speaker.proofs.Events.{HasCome-start, HasCome-more, HasCome-shut, HasCome-end, none_left, some_left}
 use Rattle.speaker.proofs.step.Speaker.hear.Goals as goal
 
 pub loop-rest-init : goal.loop-rest-init
@@ -14,3 +14,6 @@ pub returns-then-taken-eq0 : goal.returns-then-taken-eq0
 returns-then-taken-eq0 g c =
     HasCome-shut _ _ _ _ c.loop-rest.self c.hear_front.new.self c.loop-rest.invariant
     (λ config r done peer holds configured. c.in-Ok.ensures.shut config r done peer holds configured c.if-taken-eq0.true (some_left _ c.loop-rest-test.ensures))
+
+pub returns : goal.returns
+returns g c = HasCome-end _ _ _ c.args.self.now c.loop-rest.self c.loop-rest.invariant (none_left c.loop-rest.rest.now c.loop-rest-test.ensures)
