@@ -19,7 +19,7 @@ use Rattle.speaker.specs.Agreement.{SlotAgrees, tables_after}
 use Rattle.speaker.specs.Candidates.{IsCandidate}
 use Rattle.speaker.specs.Export.{IsExport, export_in, export_to, export_peer_of}
 use Rattle.speaker.specs.Linked.{Linked}
-use Rattle.speaker.specs.LocRib.{IsLocRib, IsBest, HasNoCandidate}
+use Rattle.speaker.specs.LocRib.{AreBest, IsBest, HasNoCandidate}
 use Rattle.speaker.specs.Queueing.{Queue, QueuesAll, IsOwed}
 use Rattle.speaker.specs.Runs.{Call, Run, turn, configuration_of, history}
 use Rattle.speaker.specs.SpeakerState.{SpeakerState}
@@ -85,9 +85,9 @@ export_best : (t : Tables) (adj_in : List (RouteKey × PathAttributes)) (peer : 
 export_best t adj_in peer prefix None routes none = inr (none, refl)
 export_best t adj_in peer prefix (Some c) routes best = export_found t c peer prefix (route_at adj_in c.slot prefix) best (routes c.slot prefix)
 
-pub export_is : (t : Tables) (loc_rib : List (Prefix × Candidate)) (adj_in : List (RouteKey × PathAttributes)) (peer : ExportPeer) (prefix : Prefix)
-    → ((s : ℕ) (p : Prefix) → t.routes s p ≡ route_at adj_in s p) → IsLocRib t loc_rib → IsExport t peer prefix (export_in loc_rib adj_in peer prefix)
-export_is t loc_rib adj_in peer prefix routes is = export_best t adj_in peer prefix (best_at loc_rib prefix) routes (is.best prefix)
+pub export_is : (t : Tables) (loc_rib : Prefix → Option Candidate) (adj_in : List (RouteKey × PathAttributes)) (peer : ExportPeer) (prefix : Prefix)
+    → ((s : ℕ) (p : Prefix) → t.routes s p ≡ route_at adj_in s p) → AreBest t loc_rib → IsExport t peer prefix (export_in loc_rib adj_in peer prefix)
+export_is t loc_rib adj_in peer prefix routes is = export_best t adj_in peer prefix (loc_rib prefix) routes (is prefix)
 
 -- what is exported fits a message
 fitting_short : (b : Bool) (octets a : List ℕ) → nat_le (length octets) 4068 ≡ b → cond b (Some octets) None ≡ Some a → length a ≤ 4068
@@ -108,7 +108,7 @@ best_short adj_in peer prefix None a is = absurd (cc)
 best_short adj_in peer prefix (Some c) a is = found_short c peer (route_at adj_in c.slot prefix) a is
 
 peer_short : (s : SpeakerState) (t : ℕ) (found : Option ConfiguredPeer) (prefix : Prefix) (a : List ℕ)
-    → option_and_then (λ p. export_in s.loc_rib s.adj_in (export_peer_of s.conf t p) prefix) found ≡ Some a → length a ≤ 4068
+    → option_and_then (λ p. export_in (best_at s.loc_rib) s.adj_in (export_peer_of s.conf t p) prefix) found ≡ Some a → length a ≤ 4068
 peer_short s t None prefix a is = absurd (cc)
 peer_short s t (Some p) prefix a is = best_short s.adj_in (export_peer_of s.conf t p) prefix (best_at s.loc_rib prefix) a is
 
@@ -116,8 +116,8 @@ export_short : (s : SpeakerState) (t : ℕ) (prefix : Prefix) (a : List ℕ) →
 export_short s t prefix a is = peer_short s t (peer_at s.conf t) prefix a is
 
 -- the export to a slot that is configured
-pub export_peer_found : (s : SpeakerState) (t : ℕ) (p : ConfiguredPeer) (prefix : Prefix) → peer_at s.conf t ≡ Some p → export_to s t prefix ≡ export_in s.loc_rib s.adj_in (export_peer_of s.conf t p) prefix
-export_peer_found s t p prefix is = ap (λ found. option_and_then (λ x. export_in s.loc_rib s.adj_in (export_peer_of s.conf t x) prefix) found) is
+pub export_peer_found : (s : SpeakerState) (t : ℕ) (p : ConfiguredPeer) (prefix : Prefix) → peer_at s.conf t ≡ Some p → export_to s t prefix ≡ export_in (best_at s.loc_rib) s.adj_in (export_peer_of s.conf t p) prefix
+export_peer_found s t p prefix is = ap (λ found. option_and_then (λ x. export_in (best_at s.loc_rib) s.adj_in (export_peer_of s.conf t x) prefix) found) is
 
 -- the slot of an UPDATE
 

@@ -8,8 +8,8 @@ use Rattle.export_rules.specs.declared.export.ExportPeer.{ExportPeer}
 use Rattle.net_prefix.specs.declared.prefix.Prefix.{Prefix}
 use Rattle.speaker.specs.Candidates.{AreCandidates, IsCandidate}
 use Rattle.speaker.specs.Export.{IsExport}
-use Rattle.speaker.specs.LocRib.{IsBest, HasNoCandidate, IsLocRib}
-use Rattle.speaker.specs.Tables.{Tables, best_at}
+use Rattle.speaker.specs.LocRib.{AreBest, IsBest, HasNoCandidate}
+use Rattle.speaker.specs.Tables.{Tables}
 
 -- A prefix has at most one best route, and one export to a peer.
 
@@ -33,9 +33,9 @@ both_found t prefix None (Some d) none best = absurd (none_is_best t prefix d be
 both_found t prefix (Some c) None best none = absurd (none_is_best t prefix c best none)
 both_found t prefix (Some c) (Some d) best other = ap Some (same_best t prefix c d best other)
 
--- Loc-RIB has one entry of a prefix at most
-pub same_loc_rib : (t : Tables) (a b : List (Prefix × Candidate)) → IsLocRib t a → IsLocRib t b → (prefix : Prefix) → best_at a prefix ≡ best_at b prefix
-same_loc_rib t a b is also prefix = both_found t prefix (best_at a prefix) (best_at b prefix) (is.best prefix) (also.best prefix)
+-- there is one Loc-RIB
+pub same_loc_rib : (t : Tables) (a b : Prefix → Option Candidate) → AreBest t a → AreBest t b → a ≡ b
+same_loc_rib t a b is also = λ i prefix. both_found t prefix (a prefix) (b prefix) (is prefix) (also prefix) i
 
 same_exported : (t : Tables) (peer : ExportPeer) (prefix : Prefix) (c d : Candidate) (one other : PathAttributes) (a b : Option (List ℕ)) → c ≡ d
     → t.routes c.slot prefix ≡ Some one → t.routes d.slot prefix ≡ Some other → a ≡ export_at c one peer → b ≡ export_at d other peer → a ≡ b

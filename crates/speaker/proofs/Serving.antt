@@ -260,14 +260,14 @@ named_from_best routes q true c is best = is
 named_from_best routes q false c is best = let none = not_named routes q is in absurd (cc)
 
 named_from_export : (routes : List (Prefix × Candidate)) (q : Prefix) (best : Option Candidate) (adj_in : List (RouteKey × PathAttributes)) (peer : ExportPeer) (octets : List ℕ)
-    → best_at routes q ≡ best → export_in routes adj_in peer q ≡ Some octets → is_named routes q ≡ true
+    → best_at routes q ≡ best → export_in (best_at routes) adj_in peer q ≡ Some octets → is_named routes q ≡ true
 named_from_export routes q None adj_in peer octets is exported = let none = rw is at exported in absurd (cc)
 named_from_export routes q (Some c) adj_in peer octets is exported = named_from_best routes q _ c refl is
 
 -- all that is exported is held, when the walk is over
 pub Announces-end : (routes : List (Prefix × Candidate)) (adj_in : List (RouteKey × PathAttributes)) (peer : ExportPeer) (seen rest : List (Prefix × Candidate)) (first now : Linked)
-    → Announces (export_in routes adj_in peer) routes seen rest first now → rest ≡ []
-    → (q : Prefix) (octets : List ℕ) → export_in routes adj_in peer q ≡ Some octets → held_at now.adj_out q ≡ Some octets
+    → Announces (export_in (best_at routes) adj_in peer) routes seen rest first now → rest ≡ []
+    → (q : Prefix) (octets : List ℕ) → export_in (best_at routes) adj_in peer q ≡ Some octets → held_at now.adj_out q ≡ Some octets
 Announces-end routes adj_in peer seen rest first now h over q octets exported =
     let whole = rw over at h.whole in
     let all : seen ≡ routes = sym (append-nil seen) ∙ whole in

@@ -22,7 +22,7 @@ use Rattle.speaker.specs.LocRib.{IsLocRib}
 use Rattle.speaker.specs.Queueing.{Queue, QueuesAll, IsOwedAt, IsServed}
 use Rattle.speaker.specs.Runs.{Call, Run, turn, configuration_of, history}
 use Rattle.speaker.specs.SpeakerState.{SpeakerState, KeepsTables, tables_of}
-use Rattle.speaker.specs.Tables.{Tables, link_at}
+use Rattle.speaker.specs.Tables.{Tables, best_at, link_at}
 use Rattle.speaker.specs.declared.config.Config.{Config}
 use Rattle.speaker.proofs.SlotStates.{configured_from, linked_from}
 use Rattle.speaker.proofs.Calls.{SlotsAgree, tables_in, tables_same, export_is, export_peer_found, queue_slots}
@@ -73,7 +73,7 @@ export_of_run config r s slot peer prefix tables conf is configured =
     let C : Configuration → Type 0 = λ c. IsExport (tables_of s) (export_peer_of c slot peer) prefix (export_to s slot prefix) in
     let E : Option (List ℕ) → Type 0 = λ e. IsExport (tables_of s) (export_peer_of s.conf slot peer) prefix e in
     subst P (sym tables) (subst C (sym conf) (subst E (sym (export_peer_found s slot peer prefix configured))
-    (export_is (tables_of s) s.loc_rib s.adj_in (export_peer_of s.conf slot peer) prefix (λ t p. refl) is)))
+    (export_is (tables_of s) (best_at s.loc_rib) s.adj_in (export_peer_of s.conf slot peer) prefix (λ t p. refl) is.best)))
 
 are_owed : (config : Config) (call : Call) (r : Run) (s : SpeakerState) (queue : Queue) (links : ℕ → Option Linked) → configuration_of config (turn call [] ∷ r) ≡ s.conf
     → SlotsAgree config s.conf (link_at s.links) s.adj_in (λ t. history config t (turn call [] ∷ r)) → IsLocRib (tables_of s) s.loc_rib

@@ -10,7 +10,7 @@ use Rattle.export_rules.specs.declared.export.ExportPeer.{ExportPeer}
 use Rattle.net_prefix.specs.declared.prefix.Prefix.{Prefix}
 use Rattle.speaker.specs.Export.{export_in, export_to, export_peer_of}
 use Rattle.speaker.specs.SpeakerState.{SpeakerState, KeepsTables}
-use Rattle.speaker.specs.Tables.{link_at}
+use Rattle.speaker.specs.Tables.{best_at, link_at}
 use Rattle.speaker.proofs.KeptTables.{KeepsTables-same, KeepsTables-more}
 use Rattle.speaker.specs.Linked.{Linked}
 use Rattle.speaker.specs.Queueing.{Queue, Queues, QueuesAll, IsServed}
@@ -100,17 +100,17 @@ queues_on exports first mid last h k = all_append exports k.0 h.0 first mid last
 
 -- the export to a slot that is configured
 export_given_at : (s : SpeakerState) (slot : ℕ) (peer : ExportPeer) (found : Option ConfiguredPeer) → Some peer ≡ option_map (export_peer_of s.conf slot) found
-    → (prefix : Prefix) → option_and_then (λ p. export_in s.loc_rib s.adj_in (export_peer_of s.conf slot p) prefix) found ≡ export_in s.loc_rib s.adj_in peer prefix
+    → (prefix : Prefix) → option_and_then (λ p. export_in (best_at s.loc_rib) s.adj_in (export_peer_of s.conf slot p) prefix) found ≡ export_in (best_at s.loc_rib) s.adj_in peer prefix
 export_given_at s slot peer None is prefix = absurd (cc)
 export_given_at s slot peer (Some p) is prefix = let same : peer ≡ export_peer_of s.conf slot p = cc in rw same refl
 
 pub export_given : (s : SpeakerState) (slot : ℕ) (peer : ExportPeer) → Some peer ≡ option_map (export_peer_of s.conf slot) (peer_at s.conf slot)
-    → export_to s slot ≡ export_in s.loc_rib s.adj_in peer
+    → export_to s slot ≡ export_in (best_at s.loc_rib) s.adj_in peer
 export_given s slot peer is = λ i prefix. export_given_at s slot peer (peer_at s.conf slot) is prefix i
 
 -- while UPDATEs are queued the exports stay
 pub export_kept : (old new : SpeakerState) → KeepsTables old new → export_to new ≡ export_to old
-export_kept old new h = λ i slot prefix. option_and_then (λ peer. export_in (h.loc_rib i) (h.adj_in i) (export_peer_of (h.conf i) slot peer) prefix) (peer_at (h.conf i) slot)
+export_kept old new h = λ i slot prefix. option_and_then (λ peer. export_in (best_at (h.loc_rib i)) (h.adj_in i) (export_peer_of (h.conf i) slot peer) prefix) (peer_at (h.conf i) slot)
 
 -- the slots below have been served
 pub record Serves (first now : SpeakerState) (n : ℕ) : Type 0 where

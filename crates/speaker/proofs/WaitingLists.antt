@@ -10,6 +10,7 @@ use Rattle.std.proofs.lemmas.Map.Made.{is_some-lookup}
 use Rattle.std.proofs.lemmas.Map.Views.{list_any-from_Contains, Contains-from_any}
 use Rattle.std.proofs.lemmas.Slice.Eq.{bytes_eq-Decides}
 use Rattle.bgp_attr.specs.PathAttributes.{PathAttributes}
+use Rattle.bgp_fsm.specs.declared.state.State.TheVariants.{Established}
 use Rattle.decision.specs.declared.candidate.Candidate.{Candidate}
 use Rattle.export_rules.specs.Export.{export_at}
 use Rattle.export_rules.specs.declared.export.ExportPeer.{ExportPeer}
@@ -20,8 +21,9 @@ use Rattle.rib_in.specs.LatestRoutes.{route_at}
 use Rattle.rib_in.specs.declared.adj_in.RouteKey.{RouteKey}
 use Rattle.rib_out.specs.Held.{held_at, is_prefix}
 use Rattle.speaker.specs.Export.{export_in}
+use Rattle.speaker.specs.Linked.{Linked}
 use Rattle.speaker.specs.Tables.{best_at}
-use Rattle.speaker.specs.Waiting.{is_same, differing, known_prefixes}
+use Rattle.speaker.specs.Waiting.{is_same, differing, if_established, known_prefixes, waiting_at}
 use Rattle.speaker.proofs.MergedPrefixes.{any_merged}
 use Rattle.speaker.proofs.Serving.{same_from_is_prefix}
 
@@ -88,10 +90,10 @@ passes_both false true h = h refl
 passes_both false false h = refl
 
 pub any_differing : (loc_rib : List (Prefix × Candidate)) (adj_in : List (RouteKey × PathAttributes)) (peer : ExportPeer) (held : List (Prefix × List ℕ)) (q : Prefix)
-    → list_any (is_prefix q) (differing (held_at held) (export_in loc_rib adj_in peer) (known_prefixes loc_rib held)) ≡ not (is_same (held_at held q) (export_in loc_rib adj_in peer q))
+    → list_any (is_prefix q) (differing (held_at held) (export_in (best_at loc_rib) adj_in peer) (known_prefixes loc_rib held)) ≡ not (is_same (held_at held q) (export_in (best_at loc_rib) adj_in peer q))
 any_differing loc_rib adj_in peer held q =
-    any_filter (λ prefix. not (is_same (held_at held prefix) (export_in loc_rib adj_in peer prefix))) q (known_prefixes loc_rib held)
-    ∙ passes_both (list_any (is_prefix q) (known_prefixes loc_rib held)) (not (is_same (held_at held q) (export_in loc_rib adj_in peer q)))
+    any_filter (λ prefix. not (is_same (held_at held prefix) (export_in (best_at loc_rib) adj_in peer prefix))) q (known_prefixes loc_rib held)
+    ∙ passes_both (list_any (is_prefix q) (known_prefixes loc_rib held)) (not (is_same (held_at held q) (export_in (best_at loc_rib) adj_in peer q)))
     (λ differs. any_known loc_rib held q ∙ found_none adj_in peer q (best_at loc_rib q) (held_at held q) differs)
 
 not_true : (b : Bool) → not b ≡ true → b ≡ true → ⊥
@@ -104,10 +106,21 @@ true_from_not false h = refl
 
 -- the known prefixes that differ are those of which other octets are held than are exported
 pub differing_is : (loc_rib : List (Prefix × Candidate)) (adj_in : List (RouteKey × PathAttributes)) (peer : ExportPeer) (held : List (Prefix × List ℕ)) (q : Prefix)
-    → Contains (differing (held_at held) (export_in loc_rib adj_in peer) (known_prefixes loc_rib held)) q ↔ (held_at held q ≢ export_in loc_rib adj_in peer q)
+    → Contains (differing (held_at held) (export_in (best_at loc_rib) adj_in peer) (known_prefixes loc_rib held)) q ↔ (held_at held q ≢ export_in (best_at loc_rib) adj_in peer q)
 differing_is loc_rib adj_in peer held q =
     let test = any_differing loc_rib adj_in peer held q in
-    let decides = is_same-Decides (held_at held q) (export_in loc_rib adj_in peer q) in (
-      λ listed same. not_true (is_same (held_at held q) (export_in loc_rib adj_in peer q)) (sym test ∙ any_from_listed q _ listed) (decides.1 same),
-      λ differs. listed_from_any q _ (test ∙ true_from_not (is_same (held_at held q) (export_in loc_rib adj_in peer q)) (λ e. differs (decides.0 e))),
+    let decides = is_same-Decides (held_at held q) (export_in (best_at loc_rib) adj_in peer q) in (
+      λ listed same. not_true (is_same (held_at held q) (export_in (best_at loc_rib) adj_in peer q)) (sym test ∙ any_from_listed q _ listed) (decides.1 same),
+      λ differs. listed_from_any q _ (test ∙ true_from_not (is_same (held_at held q) (export_in (best_at loc_rib) adj_in peer q)) (λ e. differs (decides.0 e))),
     )
+
+-- what is listed of a slot that is there and whose session is Established
+pub listed_of : (loc_rib : List (Prefix × Candidate)) (adj_in : List (RouteKey × PathAttributes)) (peer : ExportPeer) (l : Linked) (found : Option ExportPeer) (link : Option Linked) (prefixes : List Prefix)
+    → Some peer ≡ found → Some l ≡ link → l.peer.session.state ≡ Established
+    → prefixes ≡ differing (held_at l.adj_out) (export_in (best_at loc_rib) adj_in peer) (known_prefixes loc_rib l.adj_out) → prefixes ≡ waiting_at loc_rib adj_in found link
+listed_of loc_rib adj_in peer l found link prefixes there linked established is =
+    let all = differing (held_at l.adj_out) (export_in (best_at loc_rib) adj_in peer) (known_prefixes loc_rib l.adj_out) in
+    is
+    ∙ sym (ap (λ state. if_established state all) established)
+    ∙ ap (λ x. waiting_at loc_rib adj_in x (Some l)) there
+    ∙ ap (λ x. waiting_at loc_rib adj_in found x) linked

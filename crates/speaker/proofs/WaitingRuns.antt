@@ -19,7 +19,7 @@ use Rattle.speaker.specs.Linked.{Linked}
 use Rattle.speaker.specs.LocRib.{IsLocRib}
 use Rattle.speaker.specs.Runs.{Run, configuration_of, history}
 use Rattle.speaker.specs.SpeakerState.{SpeakerState, tables_of}
-use Rattle.speaker.specs.Tables.{Tables, link_at}
+use Rattle.speaker.specs.Tables.{Tables, best_at, link_at}
 use Rattle.speaker.specs.Waiting.{IsWaiting, IsWaitingIn, if_established, differing, known_prefixes, waiting_at, waiting_of}
 use Rattle.speaker.specs.declared.config.Config.{Config}
 use Rattle.speaker.proofs.Calls.{export_peer_found, tables_same}
@@ -47,7 +47,7 @@ from_listed : (s : SpeakerState) (slot : ℕ) (q : Prefix) (peer : Option Config
 from_listed s slot q None found configured linked listed = absurd (none_listed q listed)
 from_listed s slot q (Some peer) None configured linked listed = absurd (none_listed q listed)
 from_listed s slot q (Some peer) (Some l) configured linked listed =
-    let parts = in_established l.peer.session.state (differing (held_at l.adj_out) (export_in s.loc_rib s.adj_in (export_peer_of s.conf slot peer)) (known_prefixes s.loc_rib l.adj_out)) q listed in
+    let parts = in_established l.peer.session.state (differing (held_at l.adj_out) (export_in (best_at s.loc_rib) s.adj_in (export_peer_of s.conf slot peer)) (known_prefixes s.loc_rib l.adj_out)) q listed in
     let differs = (differing_is s.loc_rib s.adj_in (export_peer_of s.conf slot peer) l.adj_out q).0 parts.1 in
     record {
       peer = peer;
@@ -62,7 +62,7 @@ from_listed s slot q (Some peer) (Some l) configured linked listed =
 to_listed : (s : SpeakerState) (slot : ℕ) (q : Prefix) → IsWaiting s slot q → Contains (waiting_of s slot) q
 to_listed s slot q w =
     let listed = (differing_is s.loc_rib s.adj_in (export_peer_of s.conf slot w.peer) w.link.adj_out q).1 (λ same. w.differs (same ∙ sym (export_peer_found s slot w.peer q w.configured))) in
-    let S : State → Type 0 = λ state. Contains (if_established state (differing (held_at w.link.adj_out) (export_in s.loc_rib s.adj_in (export_peer_of s.conf slot w.peer)) (known_prefixes s.loc_rib w.link.adj_out))) q in
+    let S : State → Type 0 = λ state. Contains (if_established state (differing (held_at w.link.adj_out) (export_in (best_at s.loc_rib) s.adj_in (export_peer_of s.conf slot w.peer)) (known_prefixes s.loc_rib w.link.adj_out))) q in
     let L : Option Linked → Type 0 = λ found. Contains (waiting_at s.loc_rib s.adj_in (Some (export_peer_of s.conf slot w.peer)) found) q in
     let C : Option ConfiguredPeer → Type 0 = λ peer. Contains (waiting_at s.loc_rib s.adj_in (option_map (export_peer_of s.conf slot) peer) (link_at s.links slot)) q in
     subst C (sym w.configured) (subst L (sym w.linked) (subst S (sym w.established) listed))

@@ -27,10 +27,10 @@ IsExport t peer prefix octets =
     ⊎ (HasNoCandidate t prefix × (octets ≡ None))
 
 -- the same of the tables that are kept
-abbrev pub export_in : List (Prefix × Candidate) → List (RouteKey × PathAttributes) → ExportPeer → Prefix → Option (List ℕ)
+abbrev pub export_in : (Prefix → Option Candidate) → List (RouteKey × PathAttributes) → ExportPeer → Prefix → Option (List ℕ)
 export_in loc_rib adj_in peer prefix =
-    option_and_then (λ c. option_and_then (λ attrs. export_at c attrs peer) (route_at adj_in c.slot prefix)) (best_at loc_rib prefix)
+    option_and_then (λ c. option_and_then (λ attrs. export_at c attrs peer) (route_at adj_in c.slot prefix)) (loc_rib prefix)
 
 -- the export to the peer of a slot; nothing where it isn't configured
 abbrev pub export_to : SpeakerState → ℕ → Prefix → Option (List ℕ)
-export_to s slot prefix = option_and_then (λ peer. export_in s.loc_rib s.adj_in (export_peer_of s.conf slot peer) prefix) (peer_at s.conf slot)
+export_to s slot prefix = option_and_then (λ peer. export_in (best_at s.loc_rib) s.adj_in (export_peer_of s.conf slot peer) prefix) (peer_at s.conf slot)

@@ -1,4 +1,4 @@
-use Rattle.std.specs.Prelude.{MatchOption, List}
+use Rattle.std.specs.Prelude.{MatchOption, List, Option}
 use Rattle.std.specs.List.Sorted.{IsStrictlySortedBy}
 use Rattle.std.specs.Map.{keys_of}
 use Rattle.decision.specs.declared.candidate.Candidate.{Candidate}
@@ -18,8 +18,11 @@ IsBest t prefix c = (cs : List Candidate) × AreCandidates t prefix cs × IsSele
 abbrev pub HasNoCandidate : Tables → Prefix → Type 0
 HasNoCandidate t prefix = (c : Candidate) → IsCandidate t prefix c → ⊥
 
--- Loc-RIB has the best route of each prefix, and nothing of a prefix without candidates
-pub record IsLocRib (t : Tables) (routes : List (Prefix × Candidate)) : Type 0 where
-  -- each prefix stands in it once
-  pub rising : IsStrictlySortedBy prefix_cmp (keys_of routes)
-  pub best : (prefix : Prefix) → MatchOption (best_at routes prefix) (HasNoCandidate t prefix) (λ c. IsBest t prefix c)
+-- to each prefix its best route, and nothing to a prefix without candidates
+abbrev pub AreBest : Tables → (Prefix → Option Candidate) → Type 0
+AreBest t routes = (prefix : Prefix) → MatchOption (routes prefix) (HasNoCandidate t prefix) (λ c. IsBest t prefix c)
+
+-- Loc-RIB as rows: each prefix stands in it once, and its row is the best route
+pub record IsLocRib (t : Tables) (rows : List (Prefix × Candidate)) : Type 0 where
+  pub rising : IsStrictlySortedBy prefix_cmp (keys_of rows)
+  pub best : AreBest t (best_at rows)

@@ -21,7 +21,7 @@ use Rattle.speaker.specs.Held.{held}
 use Rattle.speaker.specs.Linked.{Linked}
 use Rattle.speaker.specs.Runs.{Run, configuration_of, history}
 use Rattle.speaker.specs.SpeakerState.{SpeakerState}
-use Rattle.speaker.specs.Tables.{link_at}
+use Rattle.speaker.specs.Tables.{best_at, link_at}
 use Rattle.speaker.specs.declared.config.Config.{Config}
 
 -- The prefixes that wait: a peer doesn't hold of them just what is exported to it (RFC 4271 sections 3.2 and 9.2).
@@ -78,7 +78,7 @@ abbrev pub waiting_at : List (Prefix × Candidate) → List (RouteKey × PathAtt
 waiting_at loc_rib adj_in None found = []
 waiting_at loc_rib adj_in (Some peer) None = []
 waiting_at loc_rib adj_in (Some peer) (Some l) =
-    if_established l.peer.session.state (differing (held_at l.adj_out) (export_in loc_rib adj_in peer) (known_prefixes loc_rib l.adj_out))
+    if_established l.peer.session.state (differing (held_at l.adj_out) (export_in (best_at loc_rib) adj_in peer) (known_prefixes loc_rib l.adj_out))
 
 -- the known prefixes that wait of a slot
 abbrev pub waiting_of : SpeakerState → ℕ → List Prefix

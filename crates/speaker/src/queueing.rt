@@ -6,6 +6,7 @@ ghost use Rattle.export_rules.specs.Export.{Tells};
 ghost use Rattle.net_prefix.specs.declared.prefix.Prefix.{Prefix as ThePrefix};
 ghost use Rattle.rib_out.specs.Held.{held_at};
 ghost use Rattle.speaker.specs.Export.{export_in};
+ghost use Rattle.speaker.specs.Tables.{best_at};
 ghost use Rattle.speaker.specs.Queueing.{Queues, Announced, IsTold, IsServed, rank_of};
 
 use crate::link::Link;
@@ -28,7 +29,7 @@ pub fn export<A: Allocator + Clone>(
     prefix: Prefix,
     octets: &mut Octets,
 ) -> bool
-    ensures tells { Tells result octets.new.items (export_in ribs.now.loc_rib.entries ribs.now.adj_in peer.now prefix) }
+    ensures tells { Tells result octets.new.items (export_in (best_at ribs.now.loc_rib.entries) ribs.now.adj_in peer.now prefix) }
     ensures small { OnTrue result (length octets.new.items ≤ 4068) }
 {
     octets.clear();
@@ -50,8 +51,8 @@ pub fn serve<A: Allocator + Clone>(
 ) -> Result<(), AllocError>
     requires { link.old.peer.session.state ≡ Established }
     ensures session { link.new.peer.session ≡ link.old.peer.session }
-    ensures queues { OnOk result ((updates : List (List ℕ)) × Queues (export_in ribs.now.loc_rib.entries ribs.now.adj_in peer.now) updates link.old link.new) }
-    ensures served { OnOk result (IsServed (export_in ribs.now.loc_rib.entries ribs.now.adj_in peer.now) link.new) }
+    ensures queues { OnOk result ((updates : List (List ℕ)) × Queues (export_in (best_at ribs.now.loc_rib.entries) ribs.now.adj_in peer.now) updates link.old link.new) }
+    ensures served { OnOk result (IsServed (export_in (best_at ribs.now.loc_rib.entries) ribs.now.adj_in peer.now) link.new) }
 {
     let mut octets = Octets::new();
     let mut message = Octets::new();
@@ -69,9 +70,9 @@ fn withdraw_all<A: Allocator + Clone>(
 )
     requires { link.old.peer.session.state ≡ Established }
     ensures session { link.new.peer.session ≡ link.old.peer.session }
-    ensures queues { (updates : List (List ℕ)) × Queues (export_in ribs.now.loc_rib.entries ribs.now.adj_in peer.now) updates link.old link.new }
+    ensures queues { (updates : List (List ℕ)) × Queues (export_in (best_at ribs.now.loc_rib.entries) ribs.now.adj_in peer.now) updates link.old link.new }
     ensures gone { length link.new.peer.ring + 8192 ≤ 65536 → (q : ThePrefix)
-        → export_in ribs.now.loc_rib.entries ribs.now.adj_in peer.now q ≡ None → held_at link.new.adj_out q ≡ None }
+        → export_in (best_at ribs.now.loc_rib.entries) ribs.now.adj_in peer.now q ≡ None → held_at link.new.adj_out q ≡ None }
 {
     let mut after = None;
     while let Some(prefix) = link.adj_out.prefix_after(after) {
@@ -105,11 +106,11 @@ fn announce_all<A: Allocator + Clone>(
 ) -> Result<(), AllocError>
     requires { link.old.peer.session.state ≡ Established }
     ensures session { link.new.peer.session ≡ link.old.peer.session }
-    ensures queues { OnOk result ((updates : List (List ℕ)) × Queues (export_in ribs.now.loc_rib.entries ribs.now.adj_in peer.now) updates link.old link.new) }
+    ensures queues { OnOk result ((updates : List (List ℕ)) × Queues (export_in (best_at ribs.now.loc_rib.entries) ribs.now.adj_in peer.now) updates link.old link.new) }
     ensures grows { length link.old.peer.ring ≤ length link.new.peer.ring }
     ensures told { OnOk result (length link.new.peer.ring + 8192 ≤ 65536 → (q : ThePrefix) (octets : List ℕ)
-        → export_in ribs.now.loc_rib.entries ribs.now.adj_in peer.now q ≡ Some octets → held_at link.new.adj_out q ≡ Some octets) }
-    ensures keeps { OnOk result ((q : ThePrefix) → export_in ribs.now.loc_rib.entries ribs.now.adj_in peer.now q ≡ None
+        → export_in (best_at ribs.now.loc_rib.entries) ribs.now.adj_in peer.now q ≡ Some octets → held_at link.new.adj_out q ≡ Some octets) }
+    ensures keeps { OnOk result ((q : ThePrefix) → export_in (best_at ribs.now.loc_rib.entries) ribs.now.adj_in peer.now q ≡ None
         → held_at link.new.adj_out q ≡ held_at link.old.adj_out q) }
 {
     for (prefix, _) in &ribs.loc_rib {
@@ -134,7 +135,7 @@ fn announce_owed<A: Allocator + Clone>(
     requires room { length link.old.peer.ring + 8192 ≤ 65536 }
     ensures session { link.new.peer.session ≡ link.old.peer.session }
     ensures grows { length link.old.peer.ring ≤ length link.new.peer.ring }
-    ensures announced { OnOk result (Announced (export_in ribs.now.loc_rib.entries ribs.now.adj_in peer.now) prefix link.old link.new) }
+    ensures announced { OnOk result (Announced (export_in (best_at ribs.now.loc_rib.entries) ribs.now.adj_in peer.now) prefix link.old link.new) }
 {
     if export(ribs, peer, prefix, octets) && !link.adj_out.holds(prefix, octets.as_slice()) {
         announce(link, prefix, octets, message)?;

@@ -6,6 +6,7 @@ ghost use Rattle.std.specs.Map.{keys_of};
 ghost use Rattle.net_prefix.specs.PrefixOrder.{prefix_cmp};
 ghost use Rattle.rib_out.specs.Held.{held_at};
 ghost use Rattle.speaker.specs.Export.{export_in};
+ghost use Rattle.speaker.specs.Tables.{best_at};
 ghost use Rattle.speaker.specs.Waiting.{differing, first_of, is_same, known_prefixes};
 
 use crate::link::Link;
@@ -64,17 +65,18 @@ impl<'a, A: Allocator> Model for Waiting<'a, A> {
     ghost use Rattle.net_prefix.specs.declared.prefix.Prefix.{Prefix};
     ghost use Rattle.rib_out.specs.Held.{held_at};
     ghost use Rattle.speaker.specs.Export.{export_in};
+    ghost use Rattle.speaker.specs.Tables.{best_at};
     ghost use Rattle.speaker.specs.Waiting.{differing};
 
     ghost Value = { List Prefix };
 
-    ghost view = { λ w. differing (held_at w.adj_out.now) (export_in w.ribs.now.loc_rib.entries w.ribs.now.adj_in w.peer) w.known };
+    ghost view = { λ w. differing (held_at w.adj_out.now) (export_in (best_at w.ribs.now.loc_rib.entries) w.ribs.now.adj_in w.peer) w.known };
 }
 
 impl<'a, A: Allocator + Clone> Waiting<'a, A> {
     /// The prefixes that wait for the peer of this slot.
     pub fn new(ribs: &'a Ribs<A>, link: &'a Link<A>, peer: ExportPeer) -> Self
-        ensures waiting { result ≡ differing (held_at link.now.adj_out) (export_in ribs.now.loc_rib.entries ribs.now.adj_in peer) (known_prefixes ribs.now.loc_rib.entries link.now.adj_out) }
+        ensures waiting { result ≡ differing (held_at link.now.adj_out) (export_in (best_at ribs.now.loc_rib.entries) ribs.now.adj_in peer) (known_prefixes ribs.now.loc_rib.entries link.now.adj_out) }
         ensures rising { IsStrictlySortedBy prefix_cmp result }
     {
         Waiting {
@@ -112,7 +114,7 @@ fn is_waiting<A: Allocator + Clone>(
     prefix: Prefix,
     octets: &mut Octets,
 ) -> bool
-    ensures { result ≡ not (is_same (held_at adj_out.now prefix) (export_in ribs.now.loc_rib.entries ribs.now.adj_in peer.now prefix)) }
+    ensures { result ≡ not (is_same (held_at adj_out.now prefix) (export_in (best_at ribs.now.loc_rib.entries) ribs.now.adj_in peer.now prefix)) }
 {
     if export(ribs, peer, prefix, octets) {
         !adj_out.holds(prefix, octets.as_slice())

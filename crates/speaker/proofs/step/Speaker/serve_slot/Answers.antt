@@ -1,5 +1,6 @@
 use Rattle.std.proofs.Common.{◌≡◌, [], refl, sym, rules}
 use Rattle.speaker.specs.Export.{export_in, export_to}
+use Rattle.speaker.specs.Tables.{best_at}
 use Rattle.speaker.proofs.KeptTables.{OnOk-then}
 use Rattle.speaker.proofs.Slots.{puts_same, puts_queues, export_given}
 use Rattle.speaker.proofs.step.Speaker.serve_slot.Goals as goal
@@ -12,7 +13,7 @@ returns-then-ne-clause-queues g c =
 pub returns-clause-queues : goal.returns-clause-queues
 returns-clause-queues g c =
     let updates = ((c.get_mut.follows.holds c.serve.new.link).3 (search rules)).0 in
-    let given : export_to c.args.self.now c.args.slot ≡ export_in c.args.self.now.loc_rib c.args.self.now.adj_in c.in-Some.peer =
+    let given : export_to c.args.self.now c.args.slot ≡ export_in (best_at c.args.self.now.loc_rib) c.args.self.now.adj_in c.in-Some.peer =
     export_given c.args.self.now c.args.slot c.in-Some.peer c.in-Some.ensures in
     let here = rw (← c.self.view_is) at given in
     rw (← c.self.view_is)
