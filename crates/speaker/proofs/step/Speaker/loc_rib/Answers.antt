@@ -1,4 +1,3 @@
-use Rattle.std.proofs.Common.{◌≡◌, subst}
 use Rattle.speaker.specs.Agreement.{tables_after}
 use Rattle.speaker.proofs.ShownRoutes.{best_shown}
 use Rattle.speaker.proofs.step.Speaker.loc_rib.Goals as goal
