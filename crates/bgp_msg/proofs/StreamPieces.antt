@@ -1,24 +1,18 @@
 use Rattle.std.proofs.Common.{◌≡◌, ℕ, List, [], ◌∷◌, ◌++◌, Option, Some, None, refl, ap, sym, ◌∙◌, append-nil}
 use Rattle.std.specs.List.{concat}
-use Rattle.bgp_msg.proofs.Streams.{unread-unread}
+use Rattle.octet_streams.proofs.Streams.{items_from-append, unread_from-append as unread_behind-append}
+use Rattle.octet_streams.proofs.Splits.{pieces as items_of_all}
+use Rattle.bgp_msg.proofs.Streams.{is_grammar, unread-unread}
 use Rattle.bgp_msg.specs.declared.frame.MessageType.{MessageType}
-use Rattle.bgp_msg.specs.MessageStream.{Item, WholeMessage, IsReadFirst, completed, left_over, with_front, messages_from, unread_from, messages, unread, messages_of_pieces, unread_of_pieces}
+use Rattle.bgp_msg.specs.MessageStream.{Item, WholeMessage, IsReadFirst, message_grammar, completed, left_over, with_front, messages_from, unread_from, messages, unread, messages_of_pieces, unread_of_pieces}
 
 -- A stream goes on where it stopped.
 
-with_front-append : (item : Option Item) (items more : List Item) → with_front item (items ++ more) ≡ with_front item items ++ more
-with_front-append None items more = refl
-with_front-append (Some item) items more = refl
-
 pub unread_from-append : (part octets more : List ℕ) → unread_from part (octets ++ more) ≡ unread_from (unread_from part octets) more
-unread_from-append part [] more = refl
-unread_from-append part (octet ∷ octets) more = unread_from-append (left_over (part ++ octet ∷ []) (completed part octet)) octets more
+unread_from-append part octets more = unread_behind-append message_grammar is_grammar tt part octets more
 
 pub messages_from-append : (part octets more : List ℕ) → messages_from part (octets ++ more) ≡ messages_from part octets ++ messages_from (unread_from part octets) more
-messages_from-append part [] more = refl
-messages_from-append part (octet ∷ octets) more =
-    ap (with_front (completed part octet)) (messages_from-append (left_over (part ++ octet ∷ []) (completed part octet)) octets more)
-    ∙ with_front-append (completed part octet) (messages_from (left_over (part ++ octet ∷ []) (completed part octet)) octets) (messages_from (unread_from (left_over (part ++ octet ∷ []) (completed part octet)) octets) more)
+messages_from-append part octets more = items_from-append message_grammar is_grammar tt part octets more
 
 -- more octets of a stream
 pub unread-append : (stream more : List ℕ) → unread (stream ++ more) ≡ unread_from (unread stream) more
@@ -60,18 +54,10 @@ read_alone octets kind body h = (
   ap unread (sym (append-nil octets)) ∙ (h []).1 ∙ unread-nil,
 )
 
-pieces_from : (part : List ℕ) (pieces : List (List ℕ)) → (messages_of_pieces part pieces ≡ messages_from part (concat pieces)) × (unread_of_pieces part pieces ≡ unread_from part (concat pieces))
-pieces_from part [] = (refl, refl)
-pieces_from part (piece ∷ pieces) =
-    let again = pieces_from (unread_from part piece) pieces in (
-      ap (λ (items : List Item). messages_from part piece ++ items) again.0 ∙ sym (messages_from-append part piece (concat pieces)),
-      again.1 ∙ sym (unread_from-append part piece (concat pieces)),
-    )
-
 -- however the stream is cut
 pub pieces : (pieces : List (List ℕ)) → (messages_of_pieces [] pieces ≡ messages (concat pieces)) × (unread_of_pieces [] pieces ≡ unread (concat pieces))
 unfolding messages unread
-pieces all = pieces_from [] all
+pieces all = items_of_all message_grammar is_grammar tt [] all
 
 -- more octets are read behind what is unread
 pub unread-goes_on : (stream more : List ℕ) → unread (stream ++ more) ≡ unread (unread stream ++ more)

@@ -1,5 +1,7 @@
-use Rattle.std.specs.Prelude.{◌≡◌, ◌⊎◌, ◌<◌, ◌≤◌, ℕ, ◌+◌, ◌-◌, ◌==◌, nat_lt, if◌then◌else◌, List, [], ◌∷◌, ◌++◌, Option, Some, None, take, drop, length, slice_index, slice_range}
+use Rattle.std.specs.Prelude.{◌≡◌, ◌⊎◌, ◌<◌, ◌≤◌, ℕ, ◌+◌, Bool, true, false, List, [], ◌∷◌, ◌++◌, Option, Some, None, take, drop, length, slice_index, slice_range}
 use Rattle.std.specs.Option.{option_map}
+use Rattle.octet_streams.specs.Grammar.{Grammar}
+use Rattle.octet_streams.specs.Streams.{meaning as item_meant, left_over as octets_left, with_front as in_front, items_from, unread_from as unread_behind, items_of_pieces, unread_of_pieces as unread_behind_pieces, needed_of as octets_needed}
 use Rattle.bgp_msg.specs.declared.fault.HeaderFault.{HeaderFault}
 use Rattle.bgp_msg.specs.declared.frame.MessageType.{MessageType}
 use Rattle.bgp_msg.specs.declared.frame.Step.{Step}
@@ -36,17 +38,26 @@ Splits stream (WholeMessage kind body ∷ items) rest =
 Splits stream (FaultyHeader fault ∷ items) rest =
     (items ≡ []) × (stream ≡ rest) × (19 ≤ length rest) × (header_fault rest ≡ Some fault)
 
--- the item that octets with a whole header are: a faulty header has 19 octets
-abbrev pub item_of : List ℕ → Option HeaderFault → Option Item
-item_of octets None =
-    if length octets == told_length octets
-    then option_map (λ kind. WholeMessage kind (drop 19 octets)) (kind_at (slice_index octets 18))
-    else None
-item_of octets (Some fault) = if length octets == 19 then Some (FaultyHeader fault) else None
+-- nothing is read behind a faulty header
+abbrev pub ends_stream : Item → Bool
+ends_stream (WholeMessage kind body) = false
+ends_stream (FaultyHeader fault) = true
+
+-- what octets mean: a connection has one place alone
+abbrev pub message_grammar : Grammar (Unit {0}) HeaderFault Item
+message_grammar = record {
+  header_length = 19;
+  header_fault = λ place octets. header_fault octets;
+  told_length = λ octets. told_length octets;
+  whole = λ octets. option_map (λ kind. WholeMessage kind (drop 19 octets)) (kind_at (slice_index octets 18));
+  faulty = λ fault octets. FaultyHeader fault;
+  ends = ends_stream;
+  behind = λ place item. place;
+}
 
 -- the item that octets are, from the first to the last
-unfoldable pub meaning : List ℕ → Option Item
-meaning octets = if nat_lt (length octets) 19 then None else item_of octets (header_fault octets)
+abbrev pub meaning : List ℕ → Option Item
+meaning octets = item_meant message_grammar tt octets
 
 -- the item that one more octet completes behind what is unread
 abbrev pub completed : List ℕ → ℕ → Option Item
@@ -54,25 +65,19 @@ completed part octet = meaning (part ++ octet ∷ [])
 
 -- what is unread once the octets are this item: nothing behind a message, all from a faulty header on
 abbrev pub left_over : List ℕ → Option Item → List ℕ
-left_over octets None = octets
-left_over octets (Some (WholeMessage kind body)) = []
-left_over octets (Some (FaultyHeader fault)) = octets
+left_over octets item = octets_left message_grammar octets item
 
 -- an item, where there is one, and those behind it
 abbrev pub with_front : Option Item → List Item → List Item
-with_front None items = items
-with_front (Some item) items = item ∷ items
+with_front item items = in_front item items
 
 -- the items that more octets complete behind what is unread
 abbrev pub messages_from : List ℕ → List ℕ → List Item
-messages_from part [] = []
-messages_from part (octet ∷ octets) =
-    with_front (completed part octet) (messages_from (left_over (part ++ octet ∷ []) (completed part octet)) octets)
+messages_from part octets = items_from message_grammar tt part octets
 
 -- what is unread behind them
 abbrev pub unread_from : List ℕ → List ℕ → List ℕ
-unread_from part [] = part
-unread_from part (octet ∷ octets) = unread_from (left_over (part ++ octet ∷ []) (completed part octet)) octets
+unread_from part octets = unread_behind message_grammar tt part octets
 
 -- the messages of a stream
 unfoldable pub messages : List ℕ → List Item
@@ -84,13 +89,11 @@ unread stream = unread_from [] stream
 
 -- what a reader of pieces finds that keeps what is unread
 abbrev pub messages_of_pieces : List ℕ → List (List ℕ) → List Item
-messages_of_pieces part [] = []
-messages_of_pieces part (piece ∷ pieces) = messages_from part piece ++ messages_of_pieces (unread_from part piece) pieces
+messages_of_pieces part pieces = items_of_pieces message_grammar tt part pieces
 
 -- and what it keeps at the end
 abbrev pub unread_of_pieces : List ℕ → List (List ℕ) → List ℕ
-unread_of_pieces part [] = part
-unread_of_pieces part (piece ∷ pieces) = unread_of_pieces (unread_from part piece) pieces
+unread_of_pieces part pieces = unread_behind_pieces message_grammar tt part pieces
 
 -- the octets are read as this message, whatever follows them
 abbrev pub IsReadFirst : List ℕ → MessageType → List ℕ → Type 0
@@ -128,11 +131,6 @@ IsSpelled octets Need = Unit {0}
 IsSpelled octets (Message frame used) = take used octets ≡ message_of frame.kind frame.body.now
 IsSpelled octets (Faulty fault) = Unit {0}
 
--- how many octets are missing once a header has no fault
-abbrev pub wanted_of : Option HeaderFault → ℕ → ℕ → ℕ
-wanted_of None told have = told - have
-wanted_of (Some fault) told have = 0
-
 -- how many more octets are wanted before an answer
 abbrev pub needed_of : List ℕ → ℕ
-needed_of octets = if nat_lt (length octets) 19 then 19 - length octets else wanted_of (header_fault octets) (told_length octets) (length octets)
+needed_of octets = octets_needed message_grammar tt octets

@@ -23,7 +23,7 @@ item_at_front g ok place octets sound fits =
     let found = ok.has_item place front still in
     (found.0, meaning-whole g ok place front whole still (count ∙ sym (ap g.told_length parts) ∙ ok.told_in_header front back whole) ∙ found.1)
 
-faulty_at_front :
+pub faulty_at_front :
     {P F I : Type 0} (g : Grammar P F I) (ok : IsGrammar g) (place : P) (octets : List ℕ) (fault : F) → g.header_length ≤ length octets → g.header_fault place octets ≡ Some fault
     → meaning g place (take g.header_length octets) ≡ Some (g.faulty fault (take g.header_length octets))
 faulty_at_front g ok place octets fault whole faulty =

@@ -323,3 +323,30 @@ pub others-then :
 others-then g ok place octets more item h goes =
     let first = item-then g ok place octets more item h in
     (first.0 ∙ rw goes refl, first.1 ∙ rw goes refl, first.2 ∙ rw goes refl)
+
+-- an item is a header without a fault with as many octets as it tells, or a faulty header
+abbrev pub IsShaped : {P F I : Type 0} → Grammar P F I → P → List ℕ → I → Type 0
+IsShaped {P} {F} {I} g place octets item =
+    ((g.header_length ≤ length octets) × (g.header_fault place octets ≡ None) × (length octets ≡ g.told_length octets) × (g.whole octets ≡ Some item))
+    ⊎ ((fault : F) × (length octets ≡ g.header_length) × (g.header_fault place octets ≡ Some fault) × (item ≡ g.faulty fault octets))
+
+same_some : {X : Type 0} (found : Option X) (x y : X) → found ≡ Some x → found ≡ Some y → x ≡ y
+same_some found x y e f = cc
+
+shaped_by_fault :
+    {P F I : Type 0} (g : Grammar P F I) (ok : IsGrammar g) (place : P) (octets : List ℕ) (item : I) (found : Option F) → g.header_fault place octets ≡ found → g.header_length ≤ length octets
+    → meaning g place octets ≡ Some item → (length octets ≡ g.told_length octets) ⊎ (length octets ≡ g.told_length octets → ⊥)
+    → (length octets ≡ g.header_length) ⊎ (length octets ≡ g.header_length → ⊥) → IsShaped g place octets item
+shaped_by_fault g ok place octets item None sound whole h (inl all) header = inl (whole, sound, all, sym (meaning-whole g ok place octets whole sound all) ∙ h)
+shaped_by_fault g ok place octets item None sound whole h (inr other) header = absurd (some_is_not_none _ item h (meaning-cut g ok place octets whole sound other))
+shaped_by_fault g ok place octets item (Some fault) faulty whole h all (inl header) = inr (fault, header, faulty, same_some _ _ _ h (meaning-fault g ok place octets fault header faulty))
+shaped_by_fault g ok place octets item (Some fault) faulty whole h all (inr other) =
+    absurd (some_is_not_none _ item h (meaning-past g ok place octets fault (omega (arith, whole, other)) faulty))
+
+shaped_by_length : {P F I : Type 0} (g : Grammar P F I) (ok : IsGrammar g) (place : P) (octets : List ℕ) (item : I) → (length octets < g.header_length) ⊎ (g.header_length ≤ length octets) → meaning g place octets ≡ Some item → IsShaped g place octets item
+shaped_by_length g ok place octets item (inl short) h = absurd (some_is_not_none _ item h (meaning-short g ok place octets short))
+shaped_by_length g ok place octets item (inr whole) h =
+    shaped_by_fault g ok place octets item _ refl whole h (cases_eq (length octets) (g.told_length octets)) (cases_eq (length octets) g.header_length)
+
+pub shaped : {P F I : Type 0} (g : Grammar P F I) (ok : IsGrammar g) (place : P) (octets : List ℕ) (item : I) → meaning g place octets ≡ Some item → IsShaped g place octets item
+shaped g ok place octets item h = shaped_by_length g ok place octets item (cases_lt (length octets) g.header_length) h
