@@ -1,4 +1,4 @@
-use Rattle.std.proofs.Common.{◌≡◌, ℕ, List, [], ◌∷◌, ◌++◌, Option, Some, None, refl, ap, sym, ◌∙◌, append-nil}
+use Rattle.std.proofs.Common.{◌≡◌, ℕ, List, [], ◌∷◌, ◌++◌, refl, ap, sym, ◌∙◌, append-nil}
 use Rattle.std.specs.List.{concat}
 use Rattle.octet_streams.proofs.Streams.{items_from-append, unread_from-append as unread_behind-append}
 use Rattle.octet_streams.proofs.Splits.{pieces as items_of_all}

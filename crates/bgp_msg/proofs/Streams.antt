@@ -1,7 +1,7 @@
-use Rattle.std.proofs.Common.{◌≡◌, ◌≤◌, ◌<◌, ◌+◌, ℕ, Bool, true, false, not, ◌||◌, nat_lt, if◌then◌else◌, List, [], ◌∷◌, ◌++◌, length, take, drop, get_or, Option, Some, None, ◌⊎◌, inl, inr, refl, ap, sym, subst, ◌∙◌, arith, append_assoc, append-nil, length-append}
-use Rattle.std.proofs.lemmas.Bool.{ltb-true, ltb-false, le-ltb, lt-ltb, eq-eqb, ne_eqb, or_parts, cases_lt}
+use Rattle.std.proofs.Common.{◌≡◌, ◌≤◌, ◌<◌, ◌+◌, ℕ, Bool, true, false, not, ◌||◌, nat_lt, if◌then◌else◌, List, [], ◌∷◌, ◌++◌, length, take, drop, get_or, Option, Some, None, ◌⊎◌, inl, inr, refl, ap, sym, subst, ◌∙◌, arith, length-append}
+use Rattle.std.proofs.lemmas.Bool.{ltb-false, or_parts, cases_lt}
 use Rattle.std.proofs.lemmas.List.{take-append-le, get_or_append_left, take-append-drop, length-take-le, nil_from_length}
-use Rattle.octet_streams.specs.Grammar.{Grammar, IsGrammar}
+use Rattle.octet_streams.specs.Grammar.{IsGrammar}
 use Rattle.octet_streams.specs.Streams.{Splits as IsSplit}
 use Rattle.octet_streams.proofs.Streams.{IsShaped, shaped, meaning-whole, meaning-fault, wants_front, wants_none as no_meaning, wants-then as none-then, others-then, end-then, becomes as item_becomes, needed-some}
 use Rattle.octet_streams.proofs.Splits.{faulty_at_front, splits as splits_somehow, wants-from_none as no_item_wants, unread_again}
