@@ -17,6 +17,7 @@ pub mod Messages
 pub mod Events
 pub mod Commands
 pub mod Takes
+pub mod Refusals
 pub mod ListedEvents
 pub mod ShownRoutes
 pub mod MergedPrefixes

@@ -12,7 +12,7 @@ use Rattle.speaker.specs.Tables.{link_at}
 use Rattle.speaker.specs.declared.config.Config.{Config}
 use Rattle.speaker.specs.declared.event.Event.{Event}
 use Rattle.speaker.specs.declared.event.Report.{Report}
-use Rattle.speaker.proofs.Calls.{tables_same}
+use Rattle.speaker.proofs.Refusals.{refusal_same}
 use Rattle.speaker.proofs.WaitingLists.{nothing_rises}
 
 -- Lists of events.
@@ -46,12 +46,6 @@ follows_more config before [] (a ∷ answers) mid after event answer follows on 
 follows_more config before (e ∷ events) [] mid after event answer follows on = absurd follows
 follows_more config before (e ∷ events) (a ∷ answers) mid after event answer follows on =
     (follows.0, follows.1, follows_more config follows.0 events answers mid after event answer follows.2 on)
-
--- a speaker that agrees with a run refuses an event as the run says
-pub refusal_same : (config : Config) (r : Run) (s : SpeakerState) (event : Event) → Agrees config r s → refusal_of s event ≡ refusal_in config r event
-refusal_same config r s event a =
-    let tables : tables_after config r ≡ tables_of s = tables_same config r s.conf (link_at s.links) s.adj_in (sym a.holds.conf) a.holds.slots in
-    ap (λ b. cond b (Some NoMemory) (refusal_by (tables_of s) event)) a.holds.running ∙ ap (λ t. refusal_by t event) (sym tables)
 
 -- nothing that others see has changed
 agrees_same : (config : Config) (r : Run) (old new : SpeakerState) → IsAsBefore old new → Agrees config r old → Agrees config r new

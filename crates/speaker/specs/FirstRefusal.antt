@@ -3,11 +3,12 @@ use Rattle.net_prefix.specs.declared.transport.Transport.{Transport}
 use Rattle.net_prefix.specs.declared.transport.Transport.TheVariants.{None as NoConnection, Opening, Listening, Open, Closing}
 use Rattle.bgp_conf.specs.declared.refusal.Refusal.{Refusal}
 use Rattle.bgp_conf.specs.declared.refusal.Refusal.TheVariants.{BadSlot, NotExpected, NoMemory}
+use Rattle.bgp_conf.specs.Configuration.{peer_at}
 use Rattle.bgp_conf.specs.FirstRefusal.{first_refusal}
 use Rattle.bgp_fsm.specs.Transports.{transport_of}
 use Rattle.bgp_fsm.specs.declared.session.Session.{Session}
 use Rattle.speaker.specs.Agreement.{tables_after}
-use Rattle.speaker.specs.Runs.{Run}
+use Rattle.speaker.specs.Runs.{Run, configuration_of}
 use Rattle.speaker.specs.SpeakerState.{SpeakerState, IsAsBefore, tables_of}
 use Rattle.speaker.specs.Tables.{Tables, link_at}
 use Rattle.speaker.specs.declared.config.Config.{Config}
@@ -63,6 +64,10 @@ refusal_of s event = if s.stopped then Some NoMemory else refusal_by (tables_of 
 -- the first refusal of a take by a speaker
 abbrev pub take_refusal_of : SpeakerState → ℕ → Option Refusal
 take_refusal_of s slot = if s.stopped then Some NoMemory else (if is_none (link_at s.links slot) then Some BadSlot else None)
+
+-- the first refusal of a take after a run
+abbrev pub take_refusal_in : Config → Run → ℕ → Option Refusal
+take_refusal_in config r slot = if is_none (peer_at (configuration_of config r) slot) then Some BadSlot else None
 
 -- the operator asks for something
 abbrev pub IsCommand : Event → Type 0
