@@ -7,13 +7,13 @@ use Rattle.bgp_msg.specs.declared.frame.Step.{Step}
 use Rattle.bgp_msg.specs.declared.frame.Step.TheVariants.{Need, Message, Faulty}
 use Rattle.bgp_msg.specs.MessageSpelling.{told_length}
 use Rattle.bgp_msg.specs.MessageFaults.{header_fault}
-use Rattle.bgp_msg.specs.MessageStream.{Item, IsMessage, Wants, Tells, meaning, needed_of}
+use Rattle.bgp_msg.specs.MessageStream.{Item, IsMessage, Wants, Tells, meaning, completed, needed_of}
 use Rattle.bgp_msg.proofs.Streams.{meaning-wants, meaning-message, at_header, message-then, wants-then, fault-then, told_length-append, header_fault-append}
 use Rattle.bgp_msg.proofs.StreamPieces.{read_alone}
 use Rattle.bgp_msg.proofs.ReaderAnswers.{answer_is_message}
 use Rattle.bgp_fsm.specs.declared.input.Input.{Input}
 use Rattle.bgp_fsm.specs.Transports.{transport_of}
-use Rattle.bgp_peer.specs.Slot.{Slot, pushed, taken_input, IsInOrder, IsWholeRest, HoldsOnly, item_of_step}
+use Rattle.bgp_peer.specs.Slot.{Slot, taken_input, IsInOrder, IsWholeRest, HoldsOnly, item_of_step}
 use Rattle.bgp_peer.specs.SessionInputs.{Event, Octet, onto, terms_of, input_of}
 use Rattle.bgp_peer.specs.Agreement.{PeerAgrees, IsHearing, holding}
 use Rattle.bgp_peer.proofs.Connections.{connected_wants}
@@ -38,43 +38,50 @@ needed-push part octet (inr h) more =
     let still : length (part ++ octet ∷ []) < told_length (part ++ octet ∷ []) = omega (arith, longer, told, needed, more) in
     (inr (whole, sound, still), omega (arith, longer, told, needed, needed-long (part ++ octet ∷ []) whole sound, still))
 
--- what the octets leave: the slot as the history and they leave it, or hearing the item that the last of them completes
-abbrev pub HasHeard : List Event → Slot → Type 0
-HasHeard h p = (meaning p.rest ≡ None → PeerAgrees h p) × ((item : Item) → meaning p.rest ≡ Some item → IsHearing h item p)
+-- something of a history and a rest, but that the item that the last octet completes isn't taken yet
+pub record Hears (Holds : List Event → List ℕ → Type 0) (h : List Event) (rest : List ℕ) (item : Item) : Type 0 where
+  pub octet : ℕ
+  pub before : List Event
+  pub part : List ℕ
+  pub history_is : h ≡ Octet octet ∷ before
+  pub rest_is : rest ≡ part ++ octet ∷ []
+  pub whole : completed part octet ≡ Some item
+  pub holds : Holds before part
 
--- the last octet
-heard-one : (h : List Event) (p : Slot) (octet : ℕ) → transport_of p.session ≡ Connected → PeerAgrees h p → HasHeard (Octet octet ∷ h) (pushed p (octet ∷ []))
-heard-one h p octet connected a = (
-  λ none. agrees-octet h p octet connected none a,
+-- octets have come: nothing stands whole at the front, or the item that the last of them completes
+abbrev pub HasHeard : (List Event → List ℕ → Type 0) → List Event → List ℕ → Type 0
+HasHeard Holds h rest = (meaning rest ≡ None → Holds h rest) × ((item : Item) → meaning rest ≡ Some item → Hears Holds h rest item)
+
+heard-nothing : (Holds : List Event → List ℕ → Type 0) (h : List Event) (rest : List ℕ) → Wants rest → Holds h rest → HasHeard Holds h rest
+heard-nothing Holds h rest wants holds =
+    let none : meaning rest ≡ None = meaning-wants rest wants in
+    (λ e. holds, λ item some. cc)
+
+-- what an octet that completes nothing keeps, octets that are wanted keep
+pub heard-wanted :
+    (Holds : List Event → List ℕ → Type 0) (h : List Event) (rest octets : List ℕ)
+    → ((x : List Event) (part : List ℕ) (octet : ℕ) → completed part octet ≡ None → Holds x part → Holds (Octet octet ∷ x) (part ++ octet ∷ []))
+    → Wants rest → length octets ≤ needed_of rest → Holds h rest → HasHeard Holds (onto octets h) (rest ++ octets)
+heard-wanted Holds h rest [] next wants few holds = subst (λ x. HasHeard Holds h x) (sym (append-nil rest)) (heard-nothing Holds h rest wants holds)
+heard-wanted Holds h rest (octet ∷ []) next wants few holds = (
+  λ none. next h rest octet none holds,
   λ item some. record {
     octet = octet;
     before = h;
-    part = p.rest;
+    part = rest;
     history_is = refl;
     rest_is = refl;
     whole = some;
-    connected = connected;
-    agrees = a;
+    holds = holds;
   },
 )
-
-heard-nothing : (h : List Event) (p : Slot) → Wants p.rest → PeerAgrees h p → HasHeard h p
-heard-nothing h p wants a =
-    let none : meaning p.rest ≡ None = meaning-wants p.rest wants in
-    (λ e. a, λ item some. cc)
-
-heard-wanted :
-    (h : List Event) (p : Slot) (octets : List ℕ) → transport_of p.session ≡ Connected → Wants p.rest → length octets ≤ needed_of p.rest
-    → PeerAgrees h p → HasHeard (onto octets h) (pushed p octets)
-heard-wanted h p [] connected wants few a = subst (λ rest. HasHeard h (holding rest p)) (sym (append-nil p.rest)) (heard-nothing h p wants a)
-heard-wanted h p (octet ∷ []) connected wants few a = heard-one h p octet connected a
-heard-wanted h p (octet ∷ next ∷ octets) connected wants few a =
-    let more : 1 < needed_of p.rest = omega (arith, few) in
-    let step = needed-push p.rest octet wants more in
-    let none : meaning (p.rest ++ octet ∷ []) ≡ None = meaning-wants (p.rest ++ octet ∷ []) step.0 in
-    let fewer : length (next ∷ octets) ≤ needed_of (p.rest ++ octet ∷ []) = omega (arith, few, step.1) in
-    subst (λ rest. HasHeard (onto (next ∷ octets) (Octet octet ∷ h)) (holding rest p)) (append_assoc p.rest (octet ∷ []) (next ∷ octets))
-    (heard-wanted (Octet octet ∷ h) (pushed p (octet ∷ [])) (next ∷ octets) connected step.0 fewer (agrees-octet h p octet connected none a))
+heard-wanted Holds h rest (octet ∷ behind ∷ octets) next wants few holds =
+    let more : 1 < needed_of rest = omega (arith, few) in
+    let step = needed-push rest octet wants more in
+    let none : meaning (rest ++ octet ∷ []) ≡ None = meaning-wants (rest ++ octet ∷ []) step.0 in
+    let fewer : length (behind ∷ octets) ≤ needed_of (rest ++ octet ∷ []) = omega (arith, few, step.1) in
+    subst (λ x. HasHeard Holds (onto (behind ∷ octets) (Octet octet ∷ h)) x) (append_assoc rest (octet ∷ []) (behind ∷ octets))
+    (heard-wanted Holds (Octet octet ∷ h) (rest ++ octet ∷ []) (behind ∷ octets) next step.0 fewer (next h rest octet none holds))
 
 -- a slot whose connection stands wants more octets
 pub wants-agreed : (h : List Event) (p : Slot) → PeerAgrees h p → transport_of p.session ≡ Connected → Wants p.rest
@@ -84,10 +91,23 @@ wants-agreed h p a connected =
 
 -- octets that are wanted come
 pub agrees-push :
-    (h : List Event) (p : Slot) (octets : List ℕ) (count : ℕ) → count ≡ min (needed_of p.rest) (length octets) → PeerAgrees h p
-    → transport_of p.session ≡ Connected → HasHeard (onto (take count octets) h) (pushed p (take count octets))
+    (h : List Event) (p : Slot) (octets : List ℕ) (count : ℕ) → count ≡ min (needed_of p.rest) (length octets) → PeerAgrees h p → transport_of p.session ≡ Connected
+    → HasHeard (λ x rest. PeerAgrees x (holding rest p)) (onto (take count octets) h) (p.rest ++ take count octets)
 agrees-push h p octets count wanted a connected =
-    heard-wanted h p (take count octets) connected (wants-agreed h p a connected) (wanted-take p.rest octets count wanted) a
+    heard-wanted (λ x rest. PeerAgrees x (holding rest p)) h p.rest (take count octets) (λ x part octet none before. agrees-octet x (holding part p) octet connected none before)
+    (wants-agreed h p a connected) (wanted-take p.rest octets count wanted) a
+
+pub hears-push : (h : List Event) (p : Slot) (item : Item) → transport_of p.session ≡ Connected → Hears (λ x rest. PeerAgrees x (holding rest p)) h p.rest item → IsHearing h item p
+hears-push h p item connected k = record {
+  octet = k.octet;
+  before = k.before;
+  part = k.part;
+  history_is = k.history_is;
+  rest_is = k.rest_is;
+  whole = k.whole;
+  connected = connected;
+  agrees = k.holds;
+}
 
 -- the item is taken
 pub agrees-hearing :

@@ -11,7 +11,7 @@ use Rattle.bgp_peer.specs.SessionInputs as happens
 use Rattle.bgp_peer.specs.SessionInputs.{Handed, onto, session, input_of, stream}
 use Rattle.bgp_peer.specs.Slot.{Slot, pushed}
 use Rattle.bgp_peer.proofs.Agreeing.{onto-append}
-use Rattle.bgp_peer.proofs.Receiving.{wants-agreed}
+use Rattle.bgp_peer.proofs.Receiving.{HasHeard, wants-agreed}
 use Rattle.net_prefix.specs.declared.prefix.Prefix.{Prefix}
 use Rattle.net_prefix.specs.declared.transport.Transport.{Transport}
 use Rattle.net_prefix.specs.declared.transport.Transport.TheVariants.{None as NoConnection, Opening, Listening, Open as Connected, Closing}
@@ -28,7 +28,7 @@ use Rattle.speaker.specs.declared.config.Config.{Config}
 use Rattle.speaker.proofs.Calls.{slots_changed}
 use Rattle.speaker.proofs.Messages.{rest_kept}
 use Rattle.speaker.proofs.SlotEvents.{with_peer}
-use Rattle.speaker.proofs.SlotOctets.{slot_pushed, slot_taken, slot_shut, HeardSlot}
+use Rattle.speaker.proofs.SlotOctets.{slot_pushed, slot_taken, slot_shut, WithRest}
 
 -- What each event makes of the speaker, as the run with it has it.
 
@@ -112,20 +112,20 @@ left_on false r = refl
 takes_found : (config : Config) (r1 r2 : Run) (slot : ℕ) (peer : ConfiguredPeer) (l : Linked) (found : Option Item) (old mid new : SpeakerState) → meaning l.peer.rest ≡ found
     → Holds config r1 old → configuration_of config r2 ≡ configuration_of config r1 → ((t : ℕ) → t ≢ slot → history config t r2 ≡ history config t r1) → peer_at old.conf slot ≡ Some peer
     → KeepsRest old mid → IsPut slot l old mid → mid.adj_in ≡ old.adj_in
-    → HeardSlot config peer l (route_at old.adj_in slot) (history config slot r2)
+    → transport_of l.peer.session ≡ Connected → HasHeard (λ x rest. WithRest config peer l (route_at old.adj_in slot) x rest) (history config slot r2) l.peer.rest
     → TakesItem slot (terms_in config peer) l found mid new → Holds config r2 new
-takes_found config r1 r2 slot peer l None old mid new is h conf histories configured keeps put routes heard takes =
+takes_found config r1 r2 slot peer l None old mid new is h conf histories configured keeps put routes connected heard takes =
     let same : (t : ℕ) (p : Prefix) → route_at new.adj_in t p ≡ route_at old.adj_in t p = λ t p. takes.1 t p ∙ ap (λ table. route_at table t p) routes in
     holds_put config r1 r2 slot l old new h conf (rest_kept old mid new keeps takes.2) (λ s. takes.0 s ∙ put s) (λ t other p. same t p) histories
     peer configured (same_routes config peer l (route_at old.adj_in slot) (route_at new.adj_in slot) (history config slot r2) (heard.0 is) (same slot))
-takes_found config r1 r2 slot peer l (Some item) old mid new is h conf histories configured keeps put routes heard takes =
+takes_found config r1 r2 slot peer l (Some item) old mid new is h conf histories configured keeps put routes connected heard takes =
     holds_put config r1 r2 slot (moved l (input_of l.peer.session.state (terms_in config peer) item)) old new h conf (rest_kept old mid new keeps takes.2)
     (λ s. takes.0 s ∙ ap (λ other. cond (s == slot) (Some (moved l (input_of l.peer.session.state (terms_in config peer) item))) other) (put s)
     ∙ cond_again (s == slot) (Some (moved l (input_of l.peer.session.state (terms_in config peer) item))) (Some l) (link_at old.links s))
     (λ t other p. takes.1 t p ∙ rw (ne_eqb t slot other) (left_off (effects_of (input_of l.peer.session.state (terms_in config peer) item) l.peer.session).left (route_at mid.adj_in t p)) ∙ ap (λ table. route_at table t p) routes)
     histories
     peer configured
-    ((slot_taken config peer l (route_at old.adj_in slot) (route_at new.adj_in slot) (history config slot r2) item (heard.1 item is)
+    ((slot_taken config peer l (route_at old.adj_in slot) (route_at new.adj_in slot) (history config slot r2) item connected (heard.1 item is)
     (λ p. takes.1 slot p
     ∙ rw (eq-eqb slot slot refl) (left_on (effects_of (input_of l.peer.session.state (terms_in config peer) item) l.peer.session).left (word_if (update_heard l.peer.session.state (terms_in config peer) item) p (route_at mid.adj_in slot p)))
     ∙ ap (λ table. cond (effects_of (input_of l.peer.session.state (terms_in config peer) item) l.peer.session).left None (word_if (update_heard l.peer.session.state (terms_in config peer) item) p (route_at table slot p))) routes)))
@@ -139,10 +139,10 @@ holds_heard config r done slot peer l octets old mid new h configured linked con
     let here = slot_is config (turn (Bytes_call slot done) [] ∷ r) slot peer l old h configured linked in
     let on : onto octets (history config slot (turn (Bytes_call slot done) [] ∷ r)) ≡ history config slot (turn (Bytes_call slot (done ++ octets)) [] ∷ r) =
     ap (λ x. onto octets x) (bytes_at config slot done r) ∙ sym (onto-append done octets (history config slot r)) ∙ sym (bytes_at config slot (done ++ octets) r) in
-    let H : List happens.Event → Type 0 = λ x. HeardSlot config peer (with_peer l (pushed l.peer octets)) (route_at old.adj_in slot) x in
+    let H : List happens.Event → Type 0 = λ x. HasHeard (λ y rest. WithRest config peer l (route_at old.adj_in slot) y rest) x (l.peer.rest ++ octets) in
     let heard = subst H on (slot_pushed config peer l (route_at old.adj_in slot) (history config slot (turn (Bytes_call slot done) [] ∷ r)) octets connected few here) in
     takes_found config (turn (Bytes_call slot done) [] ∷ r) (turn (Bytes_call slot (done ++ octets)) [] ∷ r) slot peer (with_peer l (pushed l.peer octets)) _ old mid new refl h refl
-    (λ t other. bytes_off config slot (done ++ octets) r t other ∙ sym (bytes_off config slot done r t other)) configured pushes.rest pushes.links pushes.routes heard takes
+    (λ t other. bytes_off config slot (done ++ octets) r t other ∙ sym (bytes_off config slot done r t other)) configured pushes.rest pushes.links pushes.routes connected heard takes
 
 -- octets come to a connection that is closed or closing
 pub holds_shut : (config : Config) (r : Run) (done : List ℕ) (slot : ℕ) (peer : ConfiguredPeer) (l : Linked) (octets : List ℕ) (old new : SpeakerState)

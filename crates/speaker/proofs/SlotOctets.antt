@@ -15,7 +15,7 @@ use Rattle.bgp_peer.specs.Agreement.{holding}
 use Rattle.bgp_peer.specs.SessionInputs.{Event, Terms, Signalled, Octet, Handed, terms_from, terms_of, item_at, input_of, session, onto}
 use Rattle.bgp_peer.specs.Slot.{pushed, handed}
 use Rattle.bgp_peer.proofs.Agreeing.{agrees-shut, agrees-take, shut_octet, item_of_rest}
-use Rattle.bgp_peer.proofs.Receiving.{needed-push, wants-agreed}
+use Rattle.bgp_peer.proofs.Receiving.{Hears, HasHeard, heard-wanted, wants-agreed}
 use Rattle.bgp_peer.proofs.Rows.{ignored}
 use Rattle.net_prefix.specs.declared.prefix.Prefix.{Prefix}
 use Rattle.net_prefix.specs.declared.transport.Transport.TheVariants.{Open as Connected}
@@ -49,20 +49,9 @@ slot_handed config peer l routes h count s = record {
   routes_are = λ p. s.routes_are p ∙ sym (route_stays h p);
 }
 
--- the slot is as the history leaves it, but that the item that its last octet completes isn't taken yet
-pub record HearsSlot (config : Config) (peer : ConfiguredPeer) (l : Linked) (routes : Prefix → Option PathAttributes) (h : List Event) (item : Item) : Type 0 where
-  pub octet : ℕ
-  pub before : List Event
-  pub part : List ℕ
-  pub history_is : h ≡ Octet octet ∷ before
-  pub whole : completed part octet ≡ Some item
-  pub connected : transport_of l.peer.session ≡ Connected
-  pub slot : SlotIs config peer (with_peer l (holding part l.peer)) routes before
-
--- octets have come: nothing stands whole at the front, or the item that the last of them completes
-abbrev pub HeardSlot : Config → ConfiguredPeer → Linked → (Prefix → Option PathAttributes) → List Event → Type 0
-HeardSlot config peer l routes h =
-    (meaning l.peer.rest ≡ None → SlotIs config peer l routes h) × ((item : Item) → meaning l.peer.rest ≡ Some item → HearsSlot config peer l routes h item)
+-- the slot with this rest is as the history leaves it
+abbrev pub WithRest : Config → ConfiguredPeer → Linked → (Prefix → Option PathAttributes) → List Event → List ℕ → Type 0
+WithRest config peer l routes h rest = SlotIs config peer (with_peer l (holding rest l.peer)) routes h
 
 slot_octet : (config : Config) (peer : ConfiguredPeer) (l : Linked) (routes : Prefix → Option PathAttributes) (h : List Event) (octet : ℕ)
     → transport_of l.peer.session ≡ Connected → completed l.peer.rest octet ≡ None → SlotIs config peer l routes h
@@ -73,62 +62,34 @@ slot_octet config peer l routes h octet connected none s = record {
   routes_are = λ p. s.routes_are p ∙ sym (route_octet h octet p (item_of_rest h l.peer octet None connected none s.link.peer));
 }
 
-slot_one : (config : Config) (peer : ConfiguredPeer) (l : Linked) (routes : Prefix → Option PathAttributes) (h : List Event) (octet : ℕ)
-    → transport_of l.peer.session ≡ Connected → SlotIs config peer l routes h → HeardSlot config peer (with_peer l (pushed l.peer (octet ∷ []))) routes (Octet octet ∷ h)
-slot_one config peer l routes h octet connected s = (
-  λ none. slot_octet config peer l routes h octet connected none s,
-  λ item some. record {
-    octet = octet;
-    before = h;
-    part = l.peer.rest;
-    history_is = refl;
-    whole = some;
-    connected = connected;
-    slot = s;
-  },
-)
-
-slot_wanted : (config : Config) (peer : ConfiguredPeer) (l : Linked) (routes : Prefix → Option PathAttributes) (h : List Event) (octets : List ℕ)
-    → transport_of l.peer.session ≡ Connected → Wants l.peer.rest → length octets ≤ needed_of l.peer.rest → SlotIs config peer l routes h
-    → HeardSlot config peer (with_peer l (pushed l.peer octets)) routes (onto octets h)
-slot_wanted config peer l routes h [] connected wants few s =
-    let none : meaning l.peer.rest ≡ None = wants_none l.peer.rest l.peer.rest [] wants (sym (append-nil l.peer.rest)) in
-    subst (λ rest. HeardSlot config peer (with_peer l (holding rest l.peer)) routes h) (sym (append-nil l.peer.rest)) ((λ e. s, λ item some. absurd (cc)))
-slot_wanted config peer l routes h (octet ∷ []) connected wants few s = slot_one config peer l routes h octet connected s
-slot_wanted config peer l routes h (octet ∷ next ∷ octets) connected wants few s =
-    let more : 1 < needed_of l.peer.rest = omega (arith, few) in
-    let step = needed-push l.peer.rest octet wants more in
-    let none : meaning (l.peer.rest ++ octet ∷ []) ≡ None = wants_none (l.peer.rest ++ octet ∷ []) (l.peer.rest ++ octet ∷ []) [] step.0 (sym (append-nil (l.peer.rest ++ octet ∷ []))) in
-    let fewer : length (next ∷ octets) ≤ needed_of (l.peer.rest ++ octet ∷ []) = omega (arith, few, step.1) in
-    subst (λ rest. HeardSlot config peer (with_peer l (holding rest l.peer)) routes (onto (next ∷ octets) (Octet octet ∷ h))) (append_assoc l.peer.rest (octet ∷ []) (next ∷ octets))
-    (slot_wanted config peer (with_peer l (pushed l.peer (octet ∷ []))) routes (Octet octet ∷ h) (next ∷ octets) connected step.0 fewer
-    (slot_octet config peer l routes h octet connected none s))
-
 -- octets that are wanted come on an open connection
 pub slot_pushed : (config : Config) (peer : ConfiguredPeer) (l : Linked) (routes : Prefix → Option PathAttributes) (h : List Event) (octets : List ℕ)
     → transport_of l.peer.session ≡ Connected → length octets ≤ needed_of l.peer.rest → SlotIs config peer l routes h
-    → HeardSlot config peer (with_peer l (pushed l.peer octets)) routes (onto octets h)
+    → HasHeard (λ x rest. WithRest config peer l routes x rest) (onto octets h) (l.peer.rest ++ octets)
 slot_pushed config peer l routes h octets connected few s =
-    slot_wanted config peer l routes h octets connected (wants-agreed h l.peer s.link.peer connected) few s
+    heard-wanted (λ x rest. WithRest config peer l routes x rest) h l.peer.rest octets
+    (λ x part octet none before. slot_octet config peer (with_peer l (holding part l.peer)) routes x octet connected none before)
+    (wants-agreed h l.peer s.link.peer connected) few s
 
 -- the item is taken
-pub slot_taken : (config : Config) (peer : ConfiguredPeer) (l : Linked) (old new : Prefix → Option PathAttributes) (h : List Event) (item : Item) → HearsSlot config peer l old h item
+pub slot_taken : (config : Config) (peer : ConfiguredPeer) (l : Linked) (old new : Prefix → Option PathAttributes) (h : List Event) (item : Item) → transport_of l.peer.session ≡ Connected
+    → Hears (λ x rest. WithRest config peer l old x rest) h l.peer.rest item
     → ((p : Prefix) → new p ≡ cond (effects_of (input_of l.peer.session.state (terms_in config peer) item) l.peer.session).left None
     (word_if (update_heard l.peer.session.state (terms_in config peer) item) p (old p)))
     → SlotIs config peer (moved l (input_of l.peer.session.state (terms_in config peer) item)) new h
-slot_taken config peer l old new h item s change =
-    let here : item_at s.before s.octet ≡ Some item = item_of_rest s.before (holding s.part l.peer) s.octet (Some item) s.connected s.whole s.slot.link.peer in
-    let terms : terms_of s.before ≡ terms_in config peer = ap terms_from s.slot.terms in
+slot_taken config peer l old new h item connected s change =
+    let here : item_at s.before s.octet ≡ Some item = item_of_rest s.before (holding s.part l.peer) s.octet (Some item) connected s.whole s.holds.link.peer in
+    let terms : terms_of s.before ≡ terms_in config peer = ap terms_from s.holds.terms in
     let F : Terms → Type 0 = λ t. LinkAgrees (Octet s.octet ∷ s.before) (moved l (input_of l.peer.session.state t item)) in
     let linked : LinkAgrees (Octet s.octet ∷ s.before) (moved l (input_of l.peer.session.state (terms_in config peer) item)) =
-    subst F terms (link_item s.before l s.part s.octet item s.connected s.whole s.slot.link) in
+    subst F terms (link_item s.before l s.part s.octet item connected s.whole s.holds.link) in
     rw s.history_is (record {
-      terms = s.slot.terms;
+      terms = s.holds.terms;
       link = linked;
       routes_are = λ p.
           change p
-          ∙ ap (λ r. cond (effects_of (input_of l.peer.session.state (terms_in config peer) item) l.peer.session).left None (word_if (update_heard l.peer.session.state (terms_in config peer) item) p r)) (s.slot.routes_are p)
-          ∙ ap (λ (x : Session). cond (effects_of (input_of x.state (terms_in config peer) item) x).left None (word_if (update_heard x.state (terms_in config peer) item) p (route s.before p))) s.slot.link.peer.session
+          ∙ ap (λ r. cond (effects_of (input_of l.peer.session.state (terms_in config peer) item) l.peer.session).left None (word_if (update_heard l.peer.session.state (terms_in config peer) item) p r)) (s.holds.routes_are p)
+          ∙ ap (λ (x : Session). cond (effects_of (input_of x.state (terms_in config peer) item) x).left None (word_if (update_heard x.state (terms_in config peer) item) p (route s.before p))) s.holds.link.peer.session
           ∙ ap (λ t. cond (effects_of (input_of (session s.before).state t item) (session s.before)).left None (word_if (update_heard (session s.before).state t item) p (route s.before p))) (sym terms)
           ∙ sym (route_item s.before s.octet item p here);
     })

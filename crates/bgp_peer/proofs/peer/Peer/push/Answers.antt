@@ -1,7 +1,7 @@
 use Rattle.std.proofs.Common.{rules, ◌≡◌, Some, None, subst}
 use Rattle.bgp_msg.specs.MessageStream.{meaning}
 use Rattle.bgp_peer.specs.Slot.{Slot}
-use Rattle.bgp_peer.proofs.Receiving.{agrees-push}
+use Rattle.bgp_peer.proofs.Receiving.{agrees-push, hears-push}
 use Rattle.bgp_peer.proofs.Rests.{in_order-push}
 use Rattle.bgp_peer.proofs.peer.Peer.push.Goals as goal
 
@@ -22,4 +22,4 @@ returns-clause-agrees g c = λ h a connected none.
 pub returns-clause-hears : goal.returns-clause-hears
 returns-clause-hears g c = λ h item a connected some.
     rw (returns-clause-exact g c)
-    ((agrees-push h _ _ _ (returns-clause-count g c) a connected).1 item (subst (λ (s : Slot). meaning s.rest ≡ Some item) (returns-clause-exact g c) some))
+    (hears-push _ _ item connected ((agrees-push h _ _ _ (returns-clause-count g c) a connected).1 item (subst (λ (s : Slot). meaning s.rest ≡ Some item) (returns-clause-exact g c) some)))
