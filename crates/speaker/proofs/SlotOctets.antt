@@ -1,4 +1,4 @@
-use Rattle.std.proofs.Common.{◌≡◌, ◌≢◌, ◌≤◌, ◌<◌, ℕ, Bool, true, false, List, [], ◌∷◌, ◌++◌, Option, Some, None, length, take, cond, refl, sym, ap, ◌∙◌, subst, arith, append_assoc, append-nil}
+use Rattle.std.proofs.Common.{◌≡◌, ◌≢◌, ◌≤◌, ℕ, Bool, true, false, List, [], ◌∷◌, ◌++◌, Option, Some, None, length, take, cond, refl, sym, ap, ◌∙◌, subst}
 use Rattle.bgp_attr.specs.PathAttributes.{PathAttributes}
 use Rattle.bgp_conf.specs.declared.conf.ConfiguredPeer.{ConfiguredPeer}
 use Rattle.bgp_fsm.specs.SessionTable.{effects_of}
@@ -9,8 +9,7 @@ use Rattle.bgp_fsm.specs.declared.input.Input.TheVariants.{Up}
 use Rattle.bgp_fsm.specs.declared.session.Effects.{Effects}
 use Rattle.bgp_fsm.specs.declared.session.Session.{Session}
 use Rattle.bgp_fsm.proofs.TableLaws.{established_stands}
-use Rattle.bgp_msg.specs.MessageStream.{Item, Wants, completed, meaning, needed_of}
-use Rattle.bgp_msg.proofs.Streams.{wants_none}
+use Rattle.bgp_msg.specs.MessageStream.{Item, completed, needed_of}
 use Rattle.bgp_peer.specs.Agreement.{holding}
 use Rattle.bgp_peer.specs.SessionInputs.{Event, Terms, Signalled, Octet, Handed, terms_from, terms_of, item_at, input_of, session, onto}
 use Rattle.bgp_peer.specs.Slot.{pushed, handed}
