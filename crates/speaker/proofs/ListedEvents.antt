@@ -2,13 +2,12 @@ use Rattle.std.proofs.Common.{◌≡◌, ◌++◌, inl, inr, ℕ, zero, suc, tru
 use Rattle.std.specs.Option.{MatchOption}
 use Rattle.bgp_conf.specs.declared.refusal.Refusal.{Refusal}
 use Rattle.bgp_conf.specs.declared.refusal.Refusal.TheVariants.{NoMemory}
-use Rattle.speaker.specs.Agreement.{Agrees, tables_after}
+use Rattle.speaker.specs.Agreement.{Agrees}
 use Rattle.speaker.specs.FirstRefusal.{refusal_by, refusal_in, refusal_of, IsCommand, LacksMemory}
 use Rattle.speaker.specs.Played.{Follows, GoesOn, HasRun, HasStopped, IsPlayed}
 use Rattle.speaker.specs.Queueing.{Queue}
 use Rattle.speaker.specs.Runs.{Run, turn, call_of, report_of}
 use Rattle.speaker.specs.SpeakerState.{SpeakerState, IsAsBefore, started, tables_of}
-use Rattle.speaker.specs.Tables.{link_at}
 use Rattle.speaker.specs.declared.config.Config.{Config}
 use Rattle.speaker.specs.declared.event.Event.{Event}
 use Rattle.speaker.specs.declared.event.Report.{Report}

@@ -1,20 +1,16 @@
-use Rattle.std.proofs.Common.{◌≡◌, ℕ, List, Option, Some, None, is_none, cond, refl, sym, ap, ◌∙◌}
-use Rattle.bgp_attr.specs.PathAttributes.{PathAttributes}
+use Rattle.std.proofs.Common.{◌≡◌, ℕ, Some, None, is_none, cond, sym, ap, ◌∙◌}
 use Rattle.bgp_conf.specs.Configuration.{peer_at}
-use Rattle.bgp_conf.specs.declared.conf.ConfiguredPeer.{ConfiguredPeer}
 use Rattle.bgp_conf.specs.declared.refusal.Refusal.TheVariants.{BadSlot, NoMemory}
-use Rattle.bgp_peer.specs.SessionInputs as happens
-use Rattle.net_prefix.specs.declared.prefix.Prefix.{Prefix}
 use Rattle.rib_in.specs.LatestRoutes.{route_at}
-use Rattle.speaker.specs.Agreement.{Agrees, SlotAgrees, tables_after}
+use Rattle.speaker.specs.Agreement.{Agrees, tables_after}
 use Rattle.speaker.specs.FirstRefusal.{refusal_by, refusal_in, refusal_of, take_refusal_in, take_refusal_of}
-use Rattle.speaker.specs.Linked.{Linked}
 use Rattle.speaker.specs.Runs.{Run, history}
 use Rattle.speaker.specs.SpeakerState.{SpeakerState, tables_of}
 use Rattle.speaker.specs.Tables.{link_at}
 use Rattle.speaker.specs.declared.config.Config.{Config}
 use Rattle.speaker.specs.declared.event.Event.{Event}
 use Rattle.speaker.proofs.Calls.{tables_same}
+use Rattle.speaker.proofs.SlotStates.{both_there}
 
 -- A speaker that agrees with a run refuses as the run says.
 
@@ -24,16 +20,8 @@ refusal_same config r s event a =
     let tables : tables_after config r ≡ tables_of s = tables_same config r s.conf (link_at s.links) s.adj_in (sym a.holds.conf) a.holds.slots in
     ap (λ b. cond b (Some NoMemory) (refusal_by (tables_of s) event)) a.holds.running ∙ ap (λ t. refusal_by t event) (sym tables)
 
--- a slot is there just where it is configured
-none_same : (config : Config) (peer : Option ConfiguredPeer) (found : Option Linked) (routes : Prefix → Option PathAttributes) (h : List happens.Event) → SlotAgrees config peer found routes h
-    → is_none found ≡ is_none peer
-none_same config None None routes h a = refl
-none_same config None (Some l) routes h a = absurd a
-none_same config (Some peer) None routes h a = absurd a
-none_same config (Some peer) (Some l) routes h a = refl
-
 -- a take
 pub take_refusal_same : (config : Config) (r : Run) (s : SpeakerState) (slot : ℕ) → Agrees config r s → take_refusal_of s slot ≡ take_refusal_in config r slot
 take_refusal_same config r s slot a =
     ap (λ b. cond b (Some NoMemory) (cond (is_none (link_at s.links slot)) (Some BadSlot) None)) a.holds.running
-    ∙ ap (λ b. cond b (Some BadSlot) None) (none_same config (peer_at s.conf slot) (link_at s.links slot) (route_at s.adj_in slot) (history config slot r) (a.holds.slots slot) ∙ ap (λ conf. is_none (peer_at conf slot)) a.holds.conf)
+    ∙ ap (λ b. cond b (Some BadSlot) None) (both_there config (peer_at s.conf slot) (link_at s.links slot) (route_at s.adj_in slot) (history config slot r) (a.holds.slots slot) ∙ ap (λ conf. is_none (peer_at conf slot)) a.holds.conf)

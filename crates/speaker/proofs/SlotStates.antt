@@ -52,7 +52,7 @@ none_mapped f None = refl
 none_mapped f (Some x) = refl
 
 -- a slot is there where it is configured
-both_there : (config : Config) (found : Option ConfiguredPeer) (linked : Option Linked) (routes : Prefix → Option PathAttributes) (h : List Event) → SlotAgrees config found linked routes h
+pub both_there : (config : Config) (found : Option ConfiguredPeer) (linked : Option Linked) (routes : Prefix → Option PathAttributes) (h : List Event) → SlotAgrees config found linked routes h
     → is_none linked ≡ is_none found
 both_there config found linked routes h a = a.there ∙ ap is_none (sym a.configured) ∙ none_mapped (terms_in config) found
 
