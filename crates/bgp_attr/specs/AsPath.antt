@@ -1,10 +1,9 @@
+-- Paths of AS numbers (RFC 4271 sections 4.3 and 5.1.2).
 use Rattle.std.specs.Prelude.{◌+◌, ◌-◌, ◌*◌, ◌==◌, nat_lt, if◌then◌else◌, Bool, ℕ, suc, zero, List, [], ◌∷◌, ◌++◌, length, slice_get, Option, Some, None}
 use Rattle.std.specs.List.{list_any}
 use Rattle.net_prefix.specs.declared.asn.Asn.{Asn}
 use Rattle.bgp_attr.specs.declared.as_path.SegmentKind.{SegmentKind}
 use Rattle.bgp_attr.specs.declared.as_path.SegmentKind.TheVariants.{Set, Sequence}
-
--- Paths of AS numbers (RFC 4271 sections 4.3 and 5.1.2).
 
 -- a segment: a set of ASes, or ASes in order with the latest first
 pub record PathSegment : Type 0 where

@@ -1,3 +1,4 @@
+-- The faults of an UPDATE (RFC 4271 section 6.3), and how a NOTIFICATION tells them (section 4.5).
 use Rattle.std.specs.Prelude.{◌≡◌, ◌<◌, ◌++◌, map, ◌==◌, ◌||◌, nat_lt, not, if◌then◌else◌, Bool, true, false, ℕ, List, [], ◌∷◌, length, bit_and, slice_index, is_none, Option, Some, None, IsSome, MatchResult, Result}
 use Rattle.std.specs.List.{list_any}
 use Rattle.bgp_attr.specs.AttributeTable.{octet_of, type_of, class_of, class_flags_of, length_of}
@@ -9,8 +10,6 @@ use Rattle.bgp_attr.specs.declared.attribute_type.AttributeType.TheVariants.{Ori
 use Rattle.bgp_attr.specs.declared.fault.UpdateFault.{UpdateFault}
 use Rattle.bgp_attr.specs.declared.fault.UpdateFault.TheVariants as update
 use Rattle.bgp_attr.specs.declared.peer.PeerKind.{PeerKind}
-
--- The faults of an UPDATE (RFC 4271 section 6.3), and how a NOTIFICATION tells them (section 4.5).
 
 -- what is wrong with an UPDATE, with octets as lists
 pub data Fault : Type 0 where

@@ -1,3 +1,4 @@
+-- What the attributes that came say (RFC 4271 section 5.1).
 use Rattle.std.specs.Prelude.{ℕ, Vec, List, [], ◌∷◌, Option, Some, None}
 use Rattle.std.specs.Int.{from_be_bytes, w32}
 use Rattle.std.specs.Option.{option_and_then}
@@ -8,8 +9,6 @@ use Rattle.bgp_attr.specs.declared.path_reading.RawSegment.{RawSegment}
 use Rattle.bgp_attr.specs.ReceivedAttributes.{Attribute, value_of, split_of}
 use Rattle.bgp_attr.specs.declared.attrs.Origin.{Origin}
 use Rattle.bgp_attr.specs.declared.header.Attribute.{Attribute as Found}
-
--- What the attributes that came say (RFC 4271 section 5.1).
 
 -- an attribute without where it lies in memory
 abbrev pub as_came : Found → Attribute

@@ -1,3 +1,4 @@
+-- How attributes are written (RFC 4271 section 4.3).
 use Rattle.std.specs.Prelude.{◌≡◌, ◌≢◌, ◌/◌, true, bit_and, map, nat_eq, MatchOption, ⊤, ℕ, ◌+◌, ◌^◌, ◌<◌, ◌≤◌, nat_lt, if◌then◌else◌, List, [], ◌∷◌, ◌++◌, length, Option, Some, None}
 use Rattle.std.specs.Int.{to_be_bytes, w16, w32}
 use Rattle.std.specs.List.{AllByRecursion, IsDistinct}
@@ -13,8 +14,6 @@ use Rattle.bgp_attr.specs.declared.as_path.SegmentKind.TheVariants.{Set, Sequenc
 use Rattle.bgp_attr.specs.declared.attrs.Origin.{Origin}
 use Rattle.bgp_attr.specs.declared.attribute_type.AttributeType.{AttributeType}
 use Rattle.bgp_attr.specs.declared.attribute_type.AttributeType.TheVariants as type
-
--- How attributes are written (RFC 4271 section 4.3).
 
 -- the octet of a kind of segment
 abbrev pub kind_octet : SegmentKind → ℕ

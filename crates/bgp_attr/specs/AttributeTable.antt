@@ -1,10 +1,9 @@
+-- The table of attribute types (RFC 4271 section 4.3).
 use Rattle.std.specs.Prelude.{ℕ, Option, Some, None, ◌==◌, if◌then◌else◌}
 use Rattle.bgp_attr.specs.declared.attribute_type.AttributeType.{AttributeType}
 use Rattle.bgp_attr.specs.declared.attribute_type.AttributeType.TheVariants.{Origin, AsPath, NextHop}
 use Rattle.bgp_attr.specs.declared.attribute_type.Class.{Class}
 use Rattle.bgp_attr.specs.declared.attribute_type.Class.TheVariants.{WellKnown, OptionalTransitive, OptionalNonTransitive}
-
--- The table of attribute types (RFC 4271 section 4.3).
 
 -- the code of a type
 abbrev pub octet_of : AttributeType → ℕ

@@ -1,11 +1,10 @@
+-- The attributes of an UPDATE (RFC 4271 section 5.1).
 use Rattle.std.specs.Prelude.{ℕ, ◌==◌, List, Option, Some, None, is_none, if◌then◌else◌}
 use Rattle.bgp_attr.specs.AsPath.{PathSegment}
 use Rattle.bgp_attr.specs.declared.attrs.Origin.{Origin}
 use Rattle.bgp_attr.specs.declared.attrs.Origin.TheVariants.{Igp, Egp, Incomplete}
 use Rattle.bgp_attr.specs.declared.attribute_type.AttributeType.{AttributeType}
 use Rattle.bgp_attr.specs.declared.attribute_type.AttributeType.TheVariants as type
-
--- The attributes of an UPDATE (RFC 4271 section 5.1).
 
 -- the attributes that came
 pub record PathAttributes : Type 0 where

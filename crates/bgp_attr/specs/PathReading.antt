@@ -1,3 +1,4 @@
+-- The path that octets are (RFC 4271 section 4.3, RFC 6793).
 use Rattle.std.specs.Prelude.{◌*◌, ◌==◌, nat_lt, not, if◌then◌else◌, Bool, true, false, ℕ, zero, suc, List, [], ◌∷◌, length, take, drop, Option, Some, None}
 use Rattle.std.specs.Int.{from_be_bytes, w32}
 use Rattle.std.specs.List.{list_any}
@@ -8,8 +9,6 @@ use Rattle.bgp_attr.specs.declared.as_path.SegmentKind.{SegmentKind}
 use Rattle.bgp_attr.specs.declared.as_path.SegmentKind.TheVariants.{Set, Sequence}
 use Rattle.bgp_attr.specs.declared.peer.PeerKind.{PeerKind}
 use Rattle.bgp_attr.specs.declared.peer.PeerKind.TheVariants.{External, Internal}
-
--- The path that octets are (RFC 4271 section 4.3, RFC 6793).
 
 -- the kind of segment that has an octet
 abbrev pub kind_at : ℕ → Option SegmentKind

@@ -1,9 +1,8 @@
+-- The attributes that octets are, one behind the other (RFC 4271 section 4.3).
 use Rattle.std.specs.Prelude.{◌≡◌, ◌-◌, ◌==◌, ◌≤◌, ◌<◌, nat_lt, slice_index, not, if◌then◌else◌, Bool, true, false, ℕ, zero, suc, List, [], ◌∷◌, ◌++◌, length, take, drop, bit_and, Option, Some, None}
 use Rattle.std.specs.Int.{from_be_bytes, to_be_bytes, w16}
 use Rattle.std.specs.List.{AllByRecursion, find, flat_map}
 use Rattle.std.specs.Option.{option_map, option_and_then}
-
--- The attributes that octets are, one behind the other (RFC 4271 section 4.3).
 
 -- an attribute as it came: its flags, its code, its value, and all its octets
 pub record Attribute : Type 0 where

@@ -1,10 +1,9 @@
+-- How an AS that is put in front many times is spread over segments.
 use Rattle.std.specs.Prelude.{ℕ, zero, suc, ◌-◌, ◌/◌, ◌%◌, List, [], ◌∷◌, ◌++◌, length, replicate}
 use Rattle.net_prefix.specs.declared.asn.Asn.{Asn}
 use Rattle.bgp_attr.specs.AsPath.{PathSegment}
 use Rattle.bgp_attr.specs.declared.as_path.SegmentKind.{SegmentKind}
 use Rattle.bgp_attr.specs.declared.as_path.SegmentKind.TheVariants.{Set, Sequence}
-
--- How an AS that is put in front many times is spread over segments.
 
 -- a segment that has one AS so many times
 unfoldable pub run : Asn → ℕ → PathSegment

@@ -1,10 +1,9 @@
+-- What is handed to the writer.
 use Rattle.std.specs.Prelude.{List, Option, Some, None}
 use Rattle.bgp_attr.specs.AsPath.{PathSegment, prepended}
 use Rattle.bgp_attr.specs.PathAttributes.{PathAttributes}
 use Rattle.bgp_attr.specs.declared.prepending.PrependedPath.{PrependedPath}
 use Rattle.bgp_attr.specs.declared.writing.AttrsToWrite.{AttrsToWrite}
-
--- What is handed to the writer.
 
 -- the path with the AS in front
 abbrev pub segments_of : {A : Type 0} → PrependedPath A → List PathSegment

@@ -1,3 +1,4 @@
+-- The tables after a command.
 use Rattle.std.specs.Prelude.{◌≡◌, ℕ, ◌==◌, ◌&&◌, Option, Some, None, if◌then◌else◌}
 use Rattle.std.specs.Ordering.{nat_cmp}
 use Rattle.std.specs.BTreeMap.{insert_entry}
@@ -8,8 +9,6 @@ use Rattle.bgp_conf.specs.declared.command.Command.{Command}
 use Rattle.bgp_conf.specs.declared.command.Command.TheVariants.{AddPeer, Enable, Reach}
 use Rattle.net_prefix.specs.PrefixOrder.{prefix_cmp}
 use Rattle.bgp_conf.specs.Configuration.{Configuration, peer_at, entry_at}
-
--- The tables after a command.
 
 -- what is kept of a peer's settings
 abbrev pub configured_of : PeerConf → ConfiguredPeer

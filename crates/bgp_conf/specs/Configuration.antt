@@ -1,3 +1,4 @@
+-- The tables that commands fill.
 use Rattle.std.specs.Prelude.{◌≡◌, ℕ, List, Option, Some}
 use Rattle.std.specs.Map.{lookup}
 use Rattle.std.specs.Ordering.{nat_cmp, ordering_then}
@@ -6,8 +7,6 @@ use Rattle.std.specs.BTreeMap.{is_at}
 use Rattle.net_prefix.specs.declared.asn.Asn.{Asn}
 use Rattle.net_prefix.specs.declared.prefix.Prefix.{Prefix}
 use Rattle.bgp_conf.specs.declared.conf.ConfiguredPeer.{ConfiguredPeer}
-
--- The tables that commands fill.
 
 -- the own AS, the peers by their slots, and the costs of the `reach` entries, both tables rising
 pub record Configuration : Type 0 where

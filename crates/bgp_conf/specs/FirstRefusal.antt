@@ -1,3 +1,4 @@
+-- When a command is refused (own choice: the order and the numbers).
 use Rattle.std.specs.Prelude.{ℕ, ◌==◌, ◌/◌, ◌%◌, ◌^◌, ◌||◌, ◌&&◌, not, Bool, true, false, List, [], ◌∷◌, Option, Some, None, is_some, is_none, nat_le, length, codes, if◌then◌else◌}
 use Rattle.std.specs.List.{list_all, list_any}
 use Rattle.std.specs.Map.{values_of}
@@ -13,8 +14,6 @@ use Rattle.bgp_conf.specs.declared.command.Command.TheVariants.{AddPeer, Enable,
 use Rattle.bgp_conf.specs.declared.refusal.Refusal.{Refusal}
 use Rattle.bgp_conf.specs.declared.refusal.Refusal.TheVariants.{UnknownName, TooMany, Range, BadSlot, SlotTaken, AddressTaken}
 use Rattle.bgp_conf.specs.Configuration.{Configuration, peer_at, entry_at}
-
--- When a command is refused (own choice: the order and the numbers).
 
 -- the first test that holds gives the refusal
 abbrev pub first : List (Bool × Refusal) → Option Refusal

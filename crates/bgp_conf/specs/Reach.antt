@@ -1,9 +1,8 @@
+-- The interior cost of a next hop (RFC 4271 section 9.1.2.1; own choice: by `reach` entries).
 use Rattle.std.specs.Prelude.{◌≡◌, ◌≢◌, ◌≤◌, ℕ, List, Option, Some, None, IsSome}
 use Rattle.net_prefix.specs.Cover.{Covers}
 use Rattle.net_prefix.specs.declared.prefix.Prefix.{Prefix}
 use Rattle.bgp_conf.specs.Configuration.{entry_at}
-
--- The interior cost of a next hop (RFC 4271 section 9.1.2.1; own choice: by `reach` entries).
 
 -- there is an entry of the prefix, and it covers the address
 abbrev pub IsCovering : List (Prefix × ℕ) → ℕ → Prefix → Type 0

@@ -1,3 +1,4 @@
+-- The numbers by which operators know refusals (own).
 use Rattle.std.specs.Prelude.{ℕ}
 use Rattle.bgp_conf.specs.declared.refusal.Refusal.{Refusal}
 use Rattle.bgp_conf.specs.declared.refusal.Refusal.TheVariants.{UnknownName, TooMany, Range, BadSlot, NotExpected, SlotTaken, NoMemory, AddressTaken}

@@ -17,6 +17,3 @@ pub use laws::{
 };
 pub use session::{Effects, Outgoing, Session};
 pub use state::State;
-
-#[cfg(test)]
-mod tests;

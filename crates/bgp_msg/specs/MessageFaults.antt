@@ -1,3 +1,4 @@
+-- What is wrong with a message, in the order in which it is looked for (RFC 4271 section 6; the order is our own).
 use Rattle.std.specs.Prelude.{ℕ, ◌+◌, ◌*◌, ◌^◌, ◌==◌, nat_lt, if◌then◌else◌, Bool, true, false, not, ◌||◌, List, [], ◌∷◌, Option, Some, None, is_none, length, slice_index}
 use Rattle.std.specs.Int.{w16, to_be_bytes}
 use Rattle.std.specs.List.{list_all}
@@ -11,8 +12,6 @@ use Rattle.bgp_msg.specs.declared.fault.Fault.TheVariants.{Header, Open, Update}
 use Rattle.bgp_attr.specs.AttributeFaults.{code_of, subcode_of, data_of}
 use Rattle.bgp_msg.specs.MessageSpelling.{kind_at, is_lawful_length, told_length, has_marker, Part, four_octet_as_capability, parameters_at, capabilities_at, asn_at}
 use Rattle.bgp_msg.specs.declared.open_message.Expected.{Expected}
-
--- What is wrong with a message, in the order in which it is looked for (RFC 4271 section 6; the order is our own).
 
 -- the first fault whose test holds
 abbrev pub first_fault : {F : Type 0} → List (Bool × F) → Option F

@@ -1,3 +1,4 @@
+-- How a message is spelled in octets (RFC 4271 section 4).
 use Rattle.std.specs.Prelude.{◌≡◌, refl, ◌/◌, ℕ, zero, suc, ◌+◌, ◌*◌, ◌==◌, nat_lt, nat_le, if◌then◌else◌, Bool, true, false, List, [], ◌∷◌, ◌++◌, Option, Some, None, take, drop, length, slice_index}
 use Rattle.std.specs.Option.{option_map, option_and_then}
 use Rattle.std.specs.Int.{w16, w32, to_be_bytes, from_be_bytes}
@@ -9,8 +10,6 @@ use Rattle.net_prefix.specs.Cover.{masked_bits, block_size}
 use Rattle.net_prefix.specs.PrefixSpelling.{BeginsWith, spelling_of, octets_for, address_from}
 use Rattle.bgp_msg.specs.declared.frame.MessageType.{MessageType}
 use Rattle.bgp_msg.specs.declared.frame.MessageType.TheVariants.{Open, Update, Notification, Keepalive}
-
--- How a message is spelled in octets (RFC 4271 section 4).
 
 -- the octet of a type
 abbrev pub kind_octet : MessageType → ℕ

@@ -1,3 +1,5 @@
+-- The messages of a stream of octets (RFC 4271 sections 4.1 and 6.1). The pieces in which the octets come are no
+-- part of it.
 use Rattle.std.specs.Prelude.{◌≡◌, ◌⊎◌, ◌<◌, ◌≤◌, ℕ, ◌+◌, Bool, true, false, List, [], ◌∷◌, ◌++◌, Option, Some, None, take, drop, length, slice_index, slice_range}
 use Rattle.std.specs.Option.{option_map}
 use Rattle.octet_streams.specs.Grammar.{Grammar}
@@ -8,9 +10,6 @@ use Rattle.bgp_msg.specs.declared.frame.Step.{Step}
 use Rattle.bgp_msg.specs.declared.frame.Step.TheVariants.{Need, Message, Faulty}
 use Rattle.bgp_msg.specs.MessageSpelling.{kind_at, told_length, message_of}
 use Rattle.bgp_msg.specs.MessageFaults.{header_fault}
-
--- The messages of a stream of octets (RFC 4271 sections 4.1 and 6.1). The pieces in which the octets come are no
--- part of it.
 
 -- what a stream holds: whole messages, each its type and the octets behind its header, and at the end perhaps a header that begins none
 pub data Item : Type 0 where

@@ -1,3 +1,4 @@
+-- What the reader of an OPEN has in hand, as the definitions see it, and how it goes on.
 use Rattle.std.specs.Prelude.{ℕ, ◌+◌, ◌==◌, ◌||◌, nat_lt, not, if◌then◌else◌, Bool, true, false, List, [], ◌∷◌, Option, Some, None, is_none, length, drop, slice_index}
 use Rattle.std.specs.Option.{option_map, option_and_then}
 use Rattle.net_prefix.specs.declared.asn.Asn.{Asn}
@@ -7,8 +8,6 @@ use Rattle.bgp_msg.specs.declared.open_message.Expected.{Expected}
 use Rattle.bgp_msg.specs.declared.open_message.Parameters.{Parameters}
 use Rattle.bgp_msg.specs.MessageSpelling.{Part, parts_of, or_else, first_asn}
 use Rattle.bgp_msg.specs.MessageFaults.{first_fault, is_other, hold_time_at, identifier_at}
-
--- What the reader of an OPEN has in hand, as the definitions see it, and how it goes on.
 
 -- an AS number
 abbrev pub number : Asn → ℕ

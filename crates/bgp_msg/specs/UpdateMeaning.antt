@@ -1,3 +1,4 @@
+-- What an UPDATE says, and what is wrong with one (RFC 4271 sections 4.3 and 6.3).
 use Rattle.std.specs.Prelude.{◌≡◌, ◌⊎◌, ◌<◌, ◌≤◌, ◌+◌, ◌^◌, All, length, ℕ, if◌then◌else◌, List, [], ◌∷◌, Option, Some, None}
 use Rattle.std.specs.Option.{option_map}
 use Rattle.net_prefix.specs.declared.prefix.Prefix.{Prefix}
@@ -8,8 +9,6 @@ use Rattle.bgp_attr.specs.AttributeSpelling.{SpellsAttributes}
 use Rattle.bgp_attr.specs.declared.attribute_type.AttributeType.{AttributeType}
 use Rattle.bgp_attr.specs.declared.peer.PeerKind.{PeerKind}
 use Rattle.bgp_msg.specs.MessageSpelling.{ArePrefixes, front_prefixes, are_prefixes_in, update_parts, update_body, wire_form}
-
--- What an UPDATE says, and what is wrong with one (RFC 4271 sections 4.3 and 6.3).
 
 -- what an UPDATE says: the prefixes that it withdraws, its attributes, and the prefixes that it announces
 pub record UpdateBody : Type 0 where

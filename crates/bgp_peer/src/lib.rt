@@ -18,6 +18,3 @@ pub use laws::{
     queued_is_read_last, rows_say_no_update, sent_are_messages, written_is_update,
 };
 pub use peer::{Peer, RING_OCTETS, ROOM_FOR_UPDATE};
-
-#[cfg(test)]
-mod tests;

@@ -16,3 +16,7 @@ mod export;
 mod messages;
 #[cfg(test)]
 mod selection;
+#[cfg(test)]
+mod session_table;
+#[cfg(test)]
+mod slots;

@@ -1,6 +1,5 @@
-use Rattle.std.specs.Prelude.{◌≡◌, ◌≤◌, ◌-◌, ◌/◌, ◌%◌, ◌*◌, ◌^◌, ℕ}
-
 -- Which prefix covers which (RFC 6811 section 2).
+use Rattle.std.specs.Prelude.{◌≡◌, ◌≤◌, ◌-◌, ◌/◌, ◌%◌, ◌*◌, ◌^◌, ℕ}
 
 -- the number of addresses in a prefix of this length
 abbrev pub block_size : ℕ → ℕ

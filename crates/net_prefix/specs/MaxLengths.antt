@@ -1,6 +1,5 @@
-use Rattle.std.specs.Prelude.{◌≤◌, ◌<◌, ◌⊎◌, ℕ}
-
 -- Which maximum lengths a payload may have (RFC 6811 section 2).
+use Rattle.std.specs.Prelude.{◌≤◌, ◌<◌, ◌⊎◌, ℕ}
 
 -- a maximum length of a payload whose prefix has this length
 abbrev pub IsMaxLength : ℕ → ℕ → Type 0

@@ -1,9 +1,8 @@
+-- The order of payloads (our own).
 use Rattle.std.specs.Ordering.{nat_cmp, ordering_then}
 use Rattle.std.specs.declared.cmp.Ordering.{Ordering}
 use Rattle.net_prefix.specs.declared.payload.Vrp.{Vrp}
 use Rattle.net_prefix.specs.PrefixOrder.{prefix_cmp}
-
--- The order of payloads (our own).
 
 -- the order of payloads: by prefix, then by maximum length, then by AS
 abbrev pub payload_cmp : Vrp → Vrp → Ordering

@@ -1,3 +1,4 @@
+-- A set of payloads, seen as the list of its members, the least first.
 use Rattle.std.specs.Prelude.{Bool, List, filter, not}
 use Rattle.std.specs.BTreeMap.{is_at}
 use Rattle.std.specs.BTreeSet.{insert_key}
@@ -5,8 +6,6 @@ use Rattle.std.specs.List.{list_any}
 use Rattle.std.specs.List.Sorted.{IsStrictlySortedBy}
 use Rattle.net_prefix.specs.declared.payload.Vrp.{Vrp}
 use Rattle.net_prefix.specs.PayloadOrder.{payload_cmp}
-
--- A set of payloads, seen as the list of its members, the least first.
 
 -- the list is that of a set: its payloads rise
 abbrev pub IsPayloadSet : List Vrp → Type 0

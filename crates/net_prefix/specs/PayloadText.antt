@@ -1,8 +1,7 @@
+-- The text of a payload (our own), as 10.0.0.0/16-24 AS65002.
 use Rattle.std.specs.Prelude.{◌++◌, ℕ, List, codes, decimal}
 use Rattle.net_prefix.specs.declared.payload.Vrp.{Vrp}
 use Rattle.net_prefix.specs.PrefixText.{text_of}
-
--- The text of a payload (our own), as 10.0.0.0/16-24 AS65002.
 
 -- the text of the prefix, a dash and the maximum length, a space and the AS behind the letters AS
 abbrev pub payload_text : Vrp → List ℕ

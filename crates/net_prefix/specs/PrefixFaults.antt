@@ -1,9 +1,8 @@
+-- When an address and a length are a prefix (RFC 4632 section 3.1).
 use Rattle.std.specs.Prelude.{◌≤◌, ◌<◌, ℕ}
 use Rattle.net_prefix.specs.declared.fault.PrefixFault.{PrefixFault}
 use Rattle.net_prefix.specs.declared.fault.PrefixFault.TheVariants.{LenOver32, HostBits, Text, MaxRange, Cut}
 use Rattle.net_prefix.specs.Cover.{HasNoHostBits}
-
--- When an address and a length are a prefix (RFC 4632 section 3.1).
 
 -- an address and a length are a prefix
 abbrev pub IsPrefix : ℕ → ℕ → Type 0

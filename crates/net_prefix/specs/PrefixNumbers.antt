@@ -1,8 +1,7 @@
+-- The numbers of the faults (our own).
 use Rattle.std.specs.Prelude.{ℕ}
 use Rattle.net_prefix.specs.declared.fault.PrefixFault.{PrefixFault}
 use Rattle.net_prefix.specs.declared.fault.PrefixFault.TheVariants.{LenOver32, HostBits, Text, MaxRange, Cut}
-
--- The numbers of the faults (our own).
 
 -- the number by which operators know the fault
 abbrev pub number_of : PrefixFault → ℕ

@@ -1,10 +1,9 @@
+-- The order of prefixes (our own).
 use Rattle.std.specs.Prelude.{◌≡◌, Option, Some, None}
 use Rattle.std.specs.Ordering.{nat_cmp, ordering_then}
 use Rattle.std.specs.declared.cmp.Ordering.{Ordering}
 use Rattle.std.specs.declared.cmp.Ordering.TheVariants.{Less}
 use Rattle.net_prefix.specs.declared.prefix.Prefix.{Prefix}
-
--- The order of prefixes (our own).
 
 -- the order of prefixes: by address, then by length
 abbrev pub prefix_cmp : Prefix → Prefix → Ordering

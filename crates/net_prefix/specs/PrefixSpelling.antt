@@ -1,10 +1,9 @@
+-- The octets of a prefix in an UPDATE message (RFC 4271 section 4.3).
 use Rattle.std.specs.Prelude.{◌≡◌, ◌≤◌, ◌<◌, ◌+◌, ◌*◌, ◌/◌, ◌%◌, ◌^◌, ℕ, List, [], ◌∷◌, length, take, drop, slice_index, Result, MatchResult}
 use Rattle.net_prefix.specs.declared.fault.PrefixFault.{PrefixFault}
 use Rattle.net_prefix.specs.declared.fault.PrefixFault.TheVariants.{LenOver32, HostBits, Text, MaxRange, Cut}
 use Rattle.net_prefix.specs.declared.prefix.Prefix.{Prefix}
 use Rattle.net_prefix.specs.Cover.{masked_bits}
-
--- The octets of a prefix in an UPDATE message (RFC 4271 section 4.3).
 
 -- the four octets of an address, the highest first
 abbrev pub address_octets : ℕ → List ℕ

@@ -1,3 +1,4 @@
+-- The text of a prefix, as 10.0.0.0/16 (RFC 4632 section 3.1).
 use Rattle.std.specs.Prelude.{◌≡◌, ◌≢◌, ◌<◌, ◌^◌, ◌++◌, ℕ, List, Option, codes, decimal, Result, MatchOption, MatchResult}
 use Rattle.std.specs.Net.Text.{ipv4_text}
 use Rattle.net_prefix.specs.declared.fault.PrefixFault.{PrefixFault}
@@ -5,8 +6,6 @@ use Rattle.net_prefix.specs.declared.fault.PrefixFault.TheVariants.{LenOver32, H
 use Rattle.net_prefix.specs.declared.prefix.Prefix.{Prefix}
 use Rattle.net_prefix.specs.PrefixFaults.{IsNoPrefix}
 use Rattle.net_prefix.specs.PrefixSpelling.{address_octets}
-
--- The text of a prefix, as 10.0.0.0/16 (RFC 4632 section 3.1).
 
 -- the octets of the address in decimal with dots between them, a slash and the length: no leading zeros
 unfoldable pub text_of : ℕ → ℕ → List ℕ

@@ -14,8 +14,6 @@ mod payload;
 mod payload_set;
 mod prefix;
 mod spelling;
-#[cfg(test)]
-mod tests;
 mod text;
 mod transport;
 

@@ -1,3 +1,4 @@
+-- How a program ends: what the operator has to mend is told from what the system didn't give.
 use Rattle.std.specs.Prelude.{ℕ}
 use Rattle.rtr_cache.specs.declared.refusal.CacheRefusal.{CacheRefusal}
 use Rattle.rtr_cache.specs.declared.refusal.CacheRefusal.TheVariants.{NoClient, Full, ClockBack, NoMemory as NoMemoryOfCache, Range}
@@ -7,8 +8,6 @@ use Rattle.ov_programs.specs.declared.fault.ExitFault.{ExitFault}
 use Rattle.ov_programs.specs.declared.fault.ExitFault.TheVariants.{Arguments, Settings, Device}
 use Rattle.ov_programs.specs.declared.settings.SettingsFault.{SettingsFault}
 use Rattle.ov_programs.specs.declared.settings.SettingsFault.TheVariants.{Settings as BadSettings, NoMemory as NoMemoryOfSettings}
-
--- How a program ends: what the operator has to mend is told from what the system didn't give.
 
 -- the exit status
 abbrev pub status_of : ExitFault → ℕ

@@ -1,9 +1,8 @@
+-- What one turn carries between a client of the cache and its socket: the client hears what its socket gave, in order, and its socket takes what the cache hands out for it, in order.
 use Rattle.std.specs.Prelude.{◌≡◌, ◌⊎◌, ◌++◌, ℕ, Bool, List, [], ◌∷◌, Option, Some, None, nat_le, if◌then◌else◌, take, drop}
 use Rattle.std.specs.Option.{option_map}
 use Rattle.rtr_cache.specs.CacheTable.{Conn, Shared, fresh_conn, hears_octets, notified, pumped}
 use Rattle.ov_programs.specs.TurnOctets.{turn_octets}
-
--- What one turn carries between a client of the cache and its socket: the client hears what its socket gave, in order, and its socket takes what the cache hands out for it, in order.
 
 -- a connection: what was read from its socket so far, what was written to it, and what was taken of the cache and not yet written
 pub record Connection : Type 0 where

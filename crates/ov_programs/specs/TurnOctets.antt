@@ -1,6 +1,5 @@
-use Rattle.std.specs.Prelude.{ℕ}
-
 -- How much a turn carries on a connection.
+use Rattle.std.specs.Prelude.{ℕ}
 
 -- the most octets that a turn reads of a connection, and the most that wait to be written to it
 unfoldable pub turn_octets : ℕ

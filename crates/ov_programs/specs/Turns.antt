@@ -1,3 +1,4 @@
+-- What turns count: the clients lost are those of the wire's faults, of its ends of input and of the loop's closes.
 use Rattle.std.specs.Prelude.{◌≡◌, ◌≢◌, ◌≤◌, ◌<◌, ◌+◌, ◌-◌, ◌^◌, ℕ, List, [], Option, None, IsSome, Result, Ok, Err, slice_index_or}
 use Rattle.rtr_cache.specs.CacheState.{CacheState, client_at}
 use Rattle.ov_programs.specs.Serving.{Connection, Standing}
@@ -6,8 +7,6 @@ use Rattle.ov_programs.specs.declared.fault.LoopFault.{LoopFault}
 use Rattle.ov_programs.specs.declared.fault.LoopFault.TheVariants.{Accept, NoMemory}
 use Rattle.ov_programs.specs.declared.link.Visit.{Visit}
 use Rattle.ov_programs.specs.declared.link.Visit.TheVariants.{Stays, Faulty, Ended, Closed}
-
--- What turns count: the clients lost are those of the wire's faults, of its ends of input and of the loop's closes.
 
 -- what a loop counts, and what its wire does
 pub record Counts : Type 0 where

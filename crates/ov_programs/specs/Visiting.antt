@@ -1,9 +1,8 @@
+-- The steps of a turn.
 use Rattle.std.specs.Prelude.{◌≡◌, ◌++◌, ℕ, Bool, List, Some, None}
 use Rattle.rtr_cache.specs.CacheState.{CacheState, OthersStay, client_at}
 use Rattle.rtr_cache.specs.CacheTable.{Conn, fresh_conn, hears_octets, pumped}
 use Rattle.ov_programs.specs.Serving.{Connection, Hears, Serves, handed_out, handing_out}
-
--- The steps of a turn.
 
 -- octets of a client are heard by its end of the connection alone, PDU by PDU; refused says where memory refused what a query needs
 abbrev pub IsHeard : CacheState → ℕ → List ℕ → CacheState → Type 0

@@ -1,3 +1,4 @@
+-- What the calls of a wire make of its counts (each fault and each end of input is counted as it is answered), and which octets they carry.
 use Rattle.std.specs.Prelude.{◌≡◌, ◌+◌, ◌-◌, ◌^◌, ◌≤◌, ℕ, nat_lt, if◌then◌else◌, List, [], Option, Some, None, take, ⊤}
 use Rattle.ov_programs.specs.declared.wire.Accepted.{Accepted}
 use Rattle.ov_programs.specs.declared.wire.Accepted.TheVariants.{Connection, Nothing as NoneWaits, Fault as AcceptFault}
@@ -5,8 +6,6 @@ use Rattle.ov_programs.specs.declared.wire.Received.{Received}
 use Rattle.ov_programs.specs.declared.wire.Received.TheVariants.{Octets as Came, Nothing as NoneCame, End, Fault as ReadFault}
 use Rattle.ov_programs.specs.declared.wire.Sent.{Sent}
 use Rattle.ov_programs.specs.declared.wire.Sent.TheVariants.{Octets as Went, Nothing as NoneWent, Fault as WriteFault}
-
--- What the calls of a wire make of its counts (each fault and each end of input is counted as it is answered), and which octets they carry.
 
 -- what a wire of sockets has told
 pub record WireCounts : Type 0 where

@@ -1,8 +1,7 @@
+-- The words behind a program's name.
 use Rattle.std.specs.Prelude.{◌≡◌, ◌<◌, ◌^◌, ℕ, List, [], ◌∷◌, String, string_bytes}
 use Rattle.std.specs.declared.alloc.Global.{Global}
 use Rattle.std.specs.Str.Parse.{IsNumeral, digits_value}
-
--- The words behind a program's name.
 
 -- the text is one decimal digit or more, which write this number within u64
 abbrev pub WritesTurns : List ℕ → ℕ → Type 0

@@ -1,3 +1,5 @@
+-- The latest route that each slot announced to each prefix, and didn't withdraw since: Adj-RIB-In (RFC 4271
+-- section 3.2).
 use Rattle.std.specs.Prelude.{ℕ, Bool, List, Option, IsSome}
 use Rattle.std.specs.declared.cmp.Ordering.{Ordering}
 use Rattle.std.specs.Ordering.{nat_cmp, ordering_then, is_eq}
@@ -7,9 +9,6 @@ use Rattle.net_prefix.specs.PrefixOrder.{prefix_cmp}
 use Rattle.net_prefix.specs.declared.prefix.Prefix.{Prefix}
 use Rattle.bgp_attr.specs.PathAttributes.{PathAttributes}
 use Rattle.rib_in.specs.declared.adj_in.RouteKey.{RouteKey}
-
--- The latest route that each slot announced to each prefix, and didn't withdraw since: Adj-RIB-In (RFC 4271
--- section 3.2).
 
 -- the order of routes: by prefix, then by slot
 abbrev pub key_cmp : RouteKey → RouteKey → Ordering

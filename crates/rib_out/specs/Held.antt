@@ -1,11 +1,10 @@
+-- What a peer was last sent of each prefix, and that wasn't withdrawn since: Adj-RIB-Out (RFC 4271 section 3.2).
 use Rattle.std.specs.Prelude.{ℕ, Bool, List, Option}
 use Rattle.std.specs.Ordering.{is_eq}
 use Rattle.std.specs.List.Sorted.{IsStrictlySortedBy}
 use Rattle.std.specs.Map.{lookup, keys_of}
 use Rattle.net_prefix.specs.PrefixOrder.{prefix_cmp}
 use Rattle.net_prefix.specs.declared.prefix.Prefix.{Prefix}
-
--- What a peer was last sent of each prefix, and that wasn't withdrawn since: Adj-RIB-Out (RFC 4271 section 3.2).
 
 -- whether both are one prefix
 abbrev pub is_prefix : Prefix → Prefix → Bool

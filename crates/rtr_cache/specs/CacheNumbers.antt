@@ -1,3 +1,4 @@
+-- The numbers by which operators know the refusals of a cache (own).
 use Rattle.std.specs.Prelude.{ℕ}
 use Rattle.rtr_cache.specs.declared.refusal.CacheRefusal.{CacheRefusal}
 use Rattle.rtr_cache.specs.declared.refusal.CacheRefusal.TheVariants.{NoClient, Full, ClockBack, NoMemory, Range}

@@ -1,3 +1,4 @@
+-- What an event makes of a cache: each client's end goes by its table, and events of one client change no other (RFC 8210 sections 5 to 8).
 use Rattle.std.specs.Prelude.{◌≡◌, ◌≢◌, ◌⊎◌, ◌<◌, ◌≤◌, ◌++◌, ◌+◌, ℕ, Bool, true, false, List, [], Option, Some, None, IfSome, Result, Ok, Err, count_by, drop, if◌then◌else◌, is_some, length, min, slice_index_or, take}
 use Rattle.std.specs.Option.{option_map}
 use Rattle.net_prefix.specs.declared.payload.Vrp.{Vrp}
@@ -12,8 +13,6 @@ use Rattle.rtr_cache.specs.declared.event.CacheReport.{CacheReport}
 use Rattle.rtr_cache.specs.declared.refusal.CacheRefusal.{CacheRefusal}
 use Rattle.rtr_cache.specs.declared.refusal.CacheRefusal.TheVariants.{NoClient, Full, ClockBack, NoMemory, Range}
 use Rattle.vrp_delta.specs.Versions.{is_newest_set, kept_after, newest_serial}
-
--- What an event makes of a cache: each client's end goes by its table, and events of one client change no other (RFC 8210 sections 5 to 8).
 
 -- what all clients share, and the end of each client's connection by its key
 pub record CacheState : Type 0 where

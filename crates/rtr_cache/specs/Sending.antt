@@ -1,3 +1,4 @@
+-- What a cache says on one connection.
 use Rattle.std.specs.Prelude.{◌≡◌, ◌≤◌, ◌+◌, ℕ, Bool, true, false, List, [], ◌∷◌, ◌++◌, length, Option, Some, None}
 use Rattle.rtr_codec.specs.declared.place.End.TheVariants.{Cache}
 use Rattle.rtr_cache.specs.CacheTable.{Conn, Shared, hears_item, told_by}
@@ -5,8 +6,6 @@ use Rattle.rtr_codec.specs.PduSpelling.{Content, spelling}
 use Rattle.rtr_codec.specs.PduStream.{Item, Wants}
 use Rattle.rtr_codec.specs.Receiving.{Reception}
 use Rattle.rtr_cache.specs.Unsaid.{IsResponsePart, IsUnsaid}
-
--- What a cache says on one connection.
 
 -- all of a connection's end but what was read of it
 pub record Sending : Type 0 where

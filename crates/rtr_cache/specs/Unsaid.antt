@@ -1,3 +1,4 @@
+-- What is still to be said of a response (RFC 8210 sections 5.5 to 5.8).
 use Rattle.std.specs.Prelude.{◌≡◌, ℕ, Bool, true, false, List, [], ◌∷◌, ◌++◌, map, Option, Some, None}
 use Rattle.std.specs.Option.{option_map}
 use Rattle.rtr_codec.specs.declared.intervals.Intervals.{Intervals}
@@ -6,8 +7,6 @@ use Rattle.rtr_codec.specs.PduSpelling.{Content, Serial_notify, Serial_query, Re
 use Rattle.rtr_codec.specs.Responses.{response}
 use Rattle.vrp_delta.specs.Delta.{Change}
 use Rattle.vrp_delta.specs.Versions.{Version, version_of}
-
--- What is still to be said of a response (RFC 8210 sections 5.5 to 5.8).
 
 -- the payloads of a response
 abbrev pub payloads_of : Change → List Content

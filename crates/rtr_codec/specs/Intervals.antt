@@ -1,7 +1,6 @@
+-- How long a router waits (RFC 8210 section 6).
 use Rattle.std.specs.Prelude.{◌&&◌, Bool, nat_le, nat_lt}
 use Rattle.rtr_codec.specs.declared.intervals.Intervals.{Intervals}
-
--- How long a router waits (RFC 8210 section 6).
 
 -- each within its bounds, and expire larger than the other two
 abbrev pub are_lawful : Intervals → Bool

@@ -1,3 +1,4 @@
+-- What the octets of a PDU say (RFC 8210 section 5).
 use Rattle.std.specs.Prelude.{◌≡◌, refl, ◌%◌, ◌+◌, ◌*◌, ◌^◌, ◌==◌, ℕ, nat_le, if◌then◌else◌, Bool, true, false, List, Option, Some, None, take, drop, slice_index}
 use Rattle.std.specs.Option.{option_map, option_and_then}
 use Rattle.std.proofs.lemmas.Bool.{leb-true, eqb-true}
@@ -8,8 +9,6 @@ use Rattle.rtr_codec.specs.declared.header.PduType.{PduType}
 use Rattle.rtr_codec.specs.declared.header.PduType.TheVariants.{SerialNotify, SerialQuery, ResetQuery, CacheResponse, Ipv4Prefix, Ipv6Prefix, EndOfData, CacheReset, RouterKey, ErrorReport}
 use Rattle.rtr_codec.specs.PduSpelling.{Content, Serial_notify, Serial_query, Reset_query, Cache_response, Announce, Withdraw, Ipv6_prefix, End_of_data, Cache_reset, Router_key, Error_report}
 use Rattle.rtr_codec.specs.PduTypes.{type_of}
-
--- What the octets of a PDU say (RFC 8210 section 5).
 
 -- the number that two octets from a place on are, and that four are
 abbrev pub two_at : List ℕ → ℕ → ℕ

@@ -1,3 +1,4 @@
+-- What is wrong with a PDU, in the order in which it is looked for (RFC 8210 section 12; the order is our own).
 use Rattle.std.specs.Prelude.{◌&&◌, ◌||◌, ◌==◌, ℕ, if◌then◌else◌, Bool, true, false, not, List, [], ◌∷◌, Option, Some, None}
 use Rattle.rtr_codec.specs.declared.fault.ErrorCode.{ErrorCode}
 use Rattle.rtr_codec.specs.declared.fault.ErrorCode.TheVariants.{CorruptData, InternalError, NoDataAvailable, InvalidRequest, UnsupportedVersion, UnsupportedType, WithdrawalOfUnknownRecord, DuplicateAnnouncement, UnexpectedVersion}
@@ -10,8 +11,6 @@ use Rattle.rtr_codec.specs.declared.header.PduType.{PduType}
 use Rattle.rtr_codec.specs.declared.header.PduType.TheVariants.{ErrorReport}
 use Rattle.rtr_codec.specs.PduContents.{kind_at, told_length, version_at}
 use Rattle.rtr_codec.specs.PduTypes.{is_lawful_length, type_of}
-
--- What is wrong with a PDU, in the order in which it is looked for (RFC 8210 section 12; the order is our own).
 
 -- the numbers of the error codes (RFC 8210 section 12)
 abbrev pub number_of : ErrorCode → ℕ

@@ -1,11 +1,10 @@
+-- How a PDU is spelled in octets (RFC 8210 section 5).
 use Rattle.std.specs.Prelude.{◌≡◌, ◌≤◌, ◌<◌, ◌+◌, ◌^◌, ℕ, List, [], ◌∷◌, ◌++◌, length}
 use Rattle.std.specs.Int.{w16, w32, to_be_bytes}
 use Rattle.net_prefix.specs.declared.payload.Vrp.{Vrp}
 use Rattle.rtr_codec.specs.declared.intervals.Intervals.{Intervals}
 use Rattle.rtr_codec.specs.declared.pdu.Pdu.{Pdu}
 use Rattle.rtr_codec.specs.declared.pdu.Pdu.TheVariants.{SerialNotify, SerialQuery, ResetQuery, CacheResponse, Announcement, Withdrawal, Ipv6Prefix, EndOfData, CacheReset, RouterKey, ErrorReport}
-
--- How a PDU is spelled in octets (RFC 8210 section 5).
 
 -- what a PDU says
 pub data Content : Type 0 where

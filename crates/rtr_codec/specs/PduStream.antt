@@ -1,3 +1,4 @@
+-- The PDUs of a stream of octets (RFC 8210 section 5). The pieces in which the octets come are no part of it.
 use Rattle.std.specs.Prelude.{◌≡◌, ◌⊎◌, ◌<◌, ◌≤◌, ◌-◌, ◌==◌, ◌||◌, ℕ, nat_lt, if◌then◌else◌, Bool, true, false, List, [], ◌∷◌, ◌++◌, Option, Some, None, take, drop, length}
 use Rattle.rtr_codec.specs.declared.fault.PduFault.{PduFault}
 use Rattle.rtr_codec.specs.declared.fault.PduFault.TheVariants.{Payload}
@@ -7,8 +8,6 @@ use Rattle.rtr_codec.specs.declared.reading.Step.TheVariants.{Need, Whole, Fault
 use Rattle.rtr_codec.specs.PduFaults.{header_fault}
 use Rattle.rtr_codec.specs.PduSpelling.{Content, Serial_notify, Serial_query, Reset_query, Cache_response, Announce, Withdraw, Ipv6_prefix, End_of_data, Cache_reset, Router_key, Error_report, content_of}
 use Rattle.rtr_codec.specs.PduContents.{content_at, told_length}
-
--- The PDUs of a stream of octets (RFC 8210 section 5). The pieces in which the octets come are no part of it.
 
 -- what a stream holds: whole PDUs, each what it says and its octets, and at the end perhaps a fault: of the header, with its 8 octets, or of a whole IPv4 Prefix, with all of it
 pub data Item : Type 0 where

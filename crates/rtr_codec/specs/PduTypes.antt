@@ -1,8 +1,7 @@
+-- The types of PDUs, and their lengths (RFC 8210 section 5).
 use Rattle.std.specs.Prelude.{◌&&◌, ◌==◌, ℕ, nat_le, if◌then◌else◌, Bool, Option, Some, None}
 use Rattle.rtr_codec.specs.declared.header.PduType.{PduType}
 use Rattle.rtr_codec.specs.declared.header.PduType.TheVariants.{SerialNotify, SerialQuery, ResetQuery, CacheResponse, Ipv4Prefix, Ipv6Prefix, EndOfData, CacheReset, RouterKey, ErrorReport}
-
--- The types of PDUs, and their lengths (RFC 8210 section 5).
 
 -- the octet of a type
 abbrev pub octet_of : PduType → ℕ

@@ -1,3 +1,4 @@
+-- One end's reading of a connection: what came and no PDU has taken, and where on the connection it stands.
 use Rattle.std.specs.Prelude.{◌≡◌, ◌⊎◌, ◌++◌, ℕ, length, true, false, List, [], Option, Some, None}
 use Rattle.rtr_codec.specs.declared.place.End.{End}
 use Rattle.rtr_codec.specs.declared.place.Place.{Place}
@@ -5,8 +6,6 @@ use Rattle.rtr_codec.specs.declared.reading.Step.{Step}
 use Rattle.rtr_codec.specs.declared.reading.Step.TheVariants.{Need, Whole, Faulty}
 use Rattle.rtr_codec.specs.PduSpelling.{content_of}
 use Rattle.rtr_codec.specs.PduStream.{Item, WholePdu, FaultyPdu, Wants, meaning, place_after}
-
--- One end's reading of a connection: what came and no PDU has taken, and where on the connection it stands.
 
 pub record Reception : Type 0 where
   pub place : Place

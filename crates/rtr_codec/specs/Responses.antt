@@ -1,3 +1,4 @@
+-- What a cache answers a query with (RFC 8210 sections 5.5 to 5.8 and 8).
 use Rattle.std.specs.Prelude.{◌&&◌, ℕ, nat_le, Bool, true, not, List, [], ◌∷◌, ◌++◌, map}
 use Rattle.std.specs.List.{flat_map, list_all}
 use Rattle.net_prefix.specs.declared.payload.Vrp.{Vrp}
@@ -6,8 +7,6 @@ use Rattle.rtr_codec.specs.declared.intervals.Intervals.{Intervals}
 use Rattle.rtr_codec.specs.PduSpelling.{Content, Serial_notify, Serial_query, Reset_query, Cache_response, Announce, Withdraw, Ipv6_prefix, End_of_data, Cache_reset, Router_key, Error_report, length_of, spelling}
 use Rattle.vrp_delta.specs.Delta.{lacked}
 use Rattle.vrp_delta.specs.Versions.{Version}
-
--- What a cache answers a query with (RFC 8210 sections 5.5 to 5.8 and 8).
 
 -- the payloads of a response: those of the old set that the new one lacks leave, then those that the old one lacked come, each part rising
 abbrev pub changes_between : List Vrp → List Vrp → List Content

@@ -1,3 +1,4 @@
+-- The latest route of a peer to each prefix: Adj-RIB-In (RFC 4271 section 3.2).
 use Rattle.std.specs.Prelude.{ℕ, Bool, List, [], ◌∷◌, Option, Some, None, if◌then◌else◌}
 use Rattle.std.specs.List.{list_any}
 use Rattle.std.specs.Option.{option_and_then}
@@ -12,8 +13,6 @@ use Rattle.bgp_msg.specs.declared.frame.MessageType.TheVariants.{Open, Update, N
 use Rattle.bgp_peer.specs.SessionInputs.{Event, Terms, Configured, Signalled, Octet, Queued, Handed, kind_of, terms_of, item_at, session}
 use Rattle.net_prefix.specs.PrefixOrder.{prefix_cmp}
 use Rattle.net_prefix.specs.declared.prefix.Prefix.{Prefix}
-
--- The latest route of a peer to each prefix: Adj-RIB-In (RFC 4271 section 3.2).
 
 -- the prefix is one of these
 abbrev pub is_among : Prefix → List Prefix → Bool

@@ -1,3 +1,4 @@
+-- When a speaker is as a run leaves it (RFC 4271 sections 3.2, 8 and 9).
 use Rattle.std.specs.Prelude.{◌≡◌, ◌≢◌, ◌<◌, ◌≤◌, ◌+◌, ℕ, List, [], ◌∷◌, length, Option, Some, None, is_none, false}
 use Rattle.std.specs.Option.{option_map}
 use Rattle.bgp_attr.specs.PathAttributes.{PathAttributes}
@@ -24,8 +25,6 @@ use Rattle.speaker.specs.Runs.{Call, Run, turn, configuration_of, history, terms
 use Rattle.speaker.specs.SpeakerState.{SpeakerState}
 use Rattle.speaker.specs.Tables.{Tables, link_at}
 use Rattle.speaker.specs.declared.config.Config.{Config}
-
--- When a speaker is as a run leaves it (RFC 4271 sections 3.2, 8 and 9).
 
 -- what the selection reads after a run: the configuration, the session of each configured slot, the latest routes
 abbrev pub tables_after : Config → Run → Tables

@@ -1,3 +1,4 @@
+-- The routes among which the selection chooses (RFC 4271 section 9.1.2).
 use Rattle.std.specs.Prelude.{◌≡◌, ◌≢◌, ◌<◌, ◌↔◌, ℕ, List, Some, true, false, Contains}
 use Rattle.bgp_attr.specs.PathAttributes.{PathAttributes}
 use Rattle.bgp_attr.specs.AsPath.{PathSegment, has_as, path_length_of}
@@ -8,8 +9,6 @@ use Rattle.bgp_fsm.specs.declared.session.Session.{Session}
 use Rattle.decision.specs.declared.candidate.Candidate.{Candidate}
 use Rattle.net_prefix.specs.declared.prefix.Prefix.{Prefix}
 use Rattle.speaker.specs.Tables.{Tables}
-
--- The routes among which the selection chooses (RFC 4271 section 9.1.2).
 
 -- these attributes of the route of a slot make this candidate: the next hop resolves and isn't the session's own
 -- address, and the path doesn't hold the own AS

@@ -1,3 +1,4 @@
+-- What each peer is sent of Loc-RIB (RFC 4271 sections 3.2 and 9.1.3).
 use Rattle.std.specs.Prelude.{◌≡◌, ◌⊎◌, ℕ, List, Option, Some, None}
 use Rattle.std.specs.Option.{option_and_then}
 use Rattle.bgp_attr.specs.PathAttributes.{PathAttributes}
@@ -12,8 +13,6 @@ use Rattle.rib_in.specs.declared.adj_in.RouteKey.{RouteKey}
 use Rattle.speaker.specs.LocRib.{IsBest, HasNoCandidate}
 use Rattle.speaker.specs.SpeakerState.{SpeakerState}
 use Rattle.speaker.specs.Tables.{Tables, best_at}
-
--- What each peer is sent of Loc-RIB (RFC 4271 sections 3.2 and 9.1.3).
 
 -- what the export to a slot's peer asks of it
 abbrev pub export_peer_of : Configuration → ℕ → ConfiguredPeer → ExportPeer

@@ -1,3 +1,4 @@
+-- When a call is refused (own choice: the order and the numbers).
 use Rattle.std.specs.Prelude.{◌≡◌, ◌⊎◌, ℕ, Bool, true, false, is_none, if◌then◌else◌, Option, Some, None}
 use Rattle.net_prefix.specs.declared.transport.Transport.{Transport}
 use Rattle.net_prefix.specs.declared.transport.Transport.TheVariants.{None as NoConnection, Opening, Listening, Open, Closing}
@@ -14,8 +15,6 @@ use Rattle.speaker.specs.Tables.{Tables, link_at}
 use Rattle.speaker.specs.declared.config.Config.{Config}
 use Rattle.speaker.specs.declared.event.Event.{Event}
 use Rattle.speaker.specs.declared.event.Event.TheVariants.{Up, Fail, Bytes, Command}
-
--- When a call is refused (own choice: the order and the numbers).
 
 -- a connection may come up
 abbrev pub awaits_up : Transport → Bool

@@ -1,3 +1,4 @@
+-- What a peer holds of what it was sent, read back from the octets (RFC 4271 sections 3.2 and 4.3).
 use Rattle.std.specs.Prelude.{ℕ, List, [], ◌∷◌, Option, Some, None, if◌then◌else◌}
 use Rattle.bgp_fsm.specs.declared.state.State.{State}
 use Rattle.bgp_fsm.specs.StateTests.{is_established}
@@ -8,8 +9,6 @@ use Rattle.bgp_peer.specs.SentMessages.{sent}
 use Rattle.bgp_peer.specs.SessionInputs.{Event, session}
 use Rattle.net_prefix.specs.declared.prefix.Prefix.{Prefix}
 use Rattle.speaker.specs.AdjRibIn.{is_among}
-
--- What a peer holds of what it was sent, read back from the octets (RFC 4271 sections 3.2 and 4.3).
 
 -- what the parts of an UPDATE say of a prefix, by the octets of its attributes, or what was said before: withdrawals
 -- before announcements

@@ -1,3 +1,4 @@
+-- One slot of a speaker, as others see it.
 use Rattle.std.specs.Prelude.{ℕ, List}
 use Rattle.bgp_peer.specs.Slot.{Slot}
 use Rattle.net_prefix.specs.declared.prefix.Prefix.{Prefix}

@@ -1,3 +1,4 @@
+-- Loc-RIB (RFC 4271 section 9.1.2): the best route of each prefix that has a candidate.
 use Rattle.std.specs.Prelude.{MatchOption, List, Option}
 use Rattle.std.specs.List.Sorted.{IsStrictlySortedBy}
 use Rattle.std.specs.Map.{keys_of}
@@ -7,8 +8,6 @@ use Rattle.net_prefix.specs.PrefixOrder.{prefix_cmp}
 use Rattle.net_prefix.specs.declared.prefix.Prefix.{Prefix}
 use Rattle.speaker.specs.Tables.{Tables, best_at}
 use Rattle.speaker.specs.Candidates.{IsCandidate, AreCandidates}
-
--- Loc-RIB (RFC 4271 section 9.1.2): the best route of each prefix that has a candidate.
 
 -- of all candidates of the prefix, the selection leaves this one
 abbrev pub IsBest : Tables → Prefix → Candidate → Type 0

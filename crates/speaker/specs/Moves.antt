@@ -1,3 +1,4 @@
+-- What an input of a session makes of its slot and its routes (RFC 4271 sections 3.2 and 8.2.2).
 use Rattle.std.specs.Prelude.{◌≡◌, ◌||◌, ◌&&◌, ◌==◌, ℕ, Bool, List, [], min, length, Option, Some, None, if◌then◌else◌}
 use Rattle.bgp_fsm.specs.SessionTable.{effects_of}
 use Rattle.bgp_fsm.specs.declared.input.Input.{Input}
@@ -20,8 +21,6 @@ use Rattle.rib_in.specs.LatestRoutes.{route_at}
 use Rattle.speaker.specs.Linked.{Linked}
 use Rattle.speaker.specs.SpeakerState.{SpeakerState}
 use Rattle.speaker.specs.Tables.{link_at}
-
--- What an input of a session makes of its slot and its routes (RFC 4271 sections 3.2 and 8.2.2).
 
 -- entering Established begins with nothing sent, and leaving it forgets what was sent
 abbrev pub adj_out_after : Effects → List (Prefix × List ℕ) → List (Prefix × List ℕ)

@@ -1,3 +1,4 @@
+-- What a list of events and the answers to them come to.
 use Rattle.std.specs.Prelude.{◌≡◌, ◌⊎◌, ◌++◌, List, [], ◌∷◌, length, replicate, None, MatchOption, Result, Ok, Err, true}
 use Rattle.bgp_conf.specs.declared.refusal.Refusal.{Refusal}
 use Rattle.bgp_conf.specs.declared.refusal.Refusal.TheVariants.{NoMemory}
@@ -9,8 +10,6 @@ use Rattle.speaker.specs.SpeakerState.{SpeakerState}
 use Rattle.speaker.specs.declared.config.Config.{Config}
 use Rattle.speaker.specs.declared.event.Event.{Event}
 use Rattle.speaker.specs.declared.event.Report.{Report}
-
--- What a list of events and the answers to them come to.
 
 -- one event leads from a run to the next: an accepted one with what it queued, and its report; a refused one stands as
 -- nothing, and the answer is its first refusal, or, to a command that has none, want of memory

@@ -1,3 +1,4 @@
+-- What is queued to a peer so that it holds its export (RFC 4271 sections 4.3 and 9.2).
 use Rattle.std.specs.Prelude.{◌≡◌, ◌≢◌, ◌≤◌, ◌<◌, ◌+◌, ◌*◌, ◌^◌, ℕ, List, [], ◌∷◌, length, Option, Some, None, if◌then◌else◌, false}
 use Rattle.bgp_fsm.specs.declared.state.State.TheVariants.{Established}
 use Rattle.bgp_msg.specs.MessageSpelling.{update_of, wire_form}
@@ -5,8 +6,6 @@ use Rattle.bgp_peer.specs.Slot.{queued}
 use Rattle.net_prefix.specs.declared.prefix.Prefix.{Prefix}
 use Rattle.rib_out.specs.Held.{held_at, is_prefix}
 use Rattle.speaker.specs.Linked.{Linked}
-
--- What is queued to a peer so that it holds its export (RFC 4271 sections 4.3 and 9.2).
 
 -- the place of a prefix among all prefixes, by address and then by length
 abbrev pub rank_of : Prefix → ℕ

@@ -1,3 +1,4 @@
+-- The calls of a speaker, and what they are to each slot. A run has the newest call first.
 use Rattle.std.specs.Prelude.{ℕ, ◌==◌, List, [], ◌∷◌, false, if◌then◌else◌}
 use Rattle.bgp_conf.specs.Configuration.{Configuration}
 use Rattle.bgp_conf.specs.ConfAfter.{conf_after, configured_of}
@@ -12,8 +13,6 @@ use Rattle.speaker.specs.declared.config.Config.{Config}
 use Rattle.speaker.specs.declared.event.Event.{Event}
 use Rattle.speaker.specs.declared.event.Event.TheVariants.{Up as CameUp, Fail as HasFailed, Bytes, Command as Commanded}
 use Rattle.speaker.specs.declared.event.Report.{Report}
-
--- The calls of a speaker, and what they are to each slot. A run has the newest call first.
 
 -- a call with its arguments; of a take, the octets that it handed out
 pub data Call : Type 0 where

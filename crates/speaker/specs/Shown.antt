@@ -1,3 +1,4 @@
+-- What operators see of the tables.
 use Rattle.std.specs.Prelude.{ℕ, ◌==◌, List, [], ◌∷◌, Option, Some, None, if◌then◌else◌}
 use Rattle.bgp_attr.specs.PathAttributes.{PathAttributes}
 use Rattle.bgp_fsm.specs.Transports.{transport_of}
@@ -9,8 +10,6 @@ use Rattle.net_prefix.specs.declared.transport.Transport.TheVariants.{None as No
 use Rattle.rib_in.specs.declared.adj_in.RouteKey.{RouteKey}
 use Rattle.speaker.specs.Linked.{Linked}
 use Rattle.speaker.specs.declared.views.BestRoute.{BestRoute}
-
--- What operators see of the tables.
 
 -- a row of Loc-RIB
 abbrev pub shown_of : Prefix × Candidate → BestRoute

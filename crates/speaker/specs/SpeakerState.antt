@@ -1,3 +1,4 @@
+-- A speaker, as others see it.
 use Rattle.std.specs.Prelude.{◌≡◌, ◌==◌, ◌||◌, ℕ, List, Bool, false, []}
 use Rattle.bgp_attr.specs.PathAttributes.{PathAttributes}
 use Rattle.bgp_conf.specs.Configuration.{Configuration}

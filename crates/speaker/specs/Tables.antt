@@ -1,3 +1,4 @@
+-- What the selection reads: the configuration, the sessions and Adj-RIB-In (RFC 4271 section 3.2).
 use Rattle.std.specs.Prelude.{ℕ, List, Option}
 use Rattle.std.specs.Option.{option_map}
 use Rattle.std.specs.Map.{lookup}
@@ -12,8 +13,6 @@ use Rattle.rib_in.specs.declared.adj_in.RouteKey.{RouteKey}
 use Rattle.rib_in.specs.LatestRoutes.{route_at}
 use Rattle.net_prefix.specs.PrefixOrder.{prefix_cmp}
 use Rattle.speaker.specs.Linked.{Linked}
-
--- What the selection reads: the configuration, the sessions and Adj-RIB-In (RFC 4271 section 3.2).
 
 -- the configuration, the session of each slot, and the latest route of each slot and prefix
 pub record Tables : Type 0 where

@@ -1,3 +1,4 @@
+-- The prefixes that wait: a peer doesn't hold of them just what is exported to it (RFC 4271 sections 3.2 and 9.2).
 use Rattle.std.specs.Prelude.{◌≡◌, ◌≢◌, ℕ, Bool, true, false, not, List, [], ◌∷◌, Option, Some, None, filter}
 use Rattle.std.specs.Map.{keys_of}
 use Rattle.std.specs.Set.{sorted_merge}
@@ -23,8 +24,6 @@ use Rattle.speaker.specs.Runs.{Run, configuration_of, history}
 use Rattle.speaker.specs.SpeakerState.{SpeakerState}
 use Rattle.speaker.specs.Tables.{best_at, link_at}
 use Rattle.speaker.specs.declared.config.Config.{Config}
-
--- The prefixes that wait: a peer doesn't hold of them just what is exported to it (RFC 4271 sections 3.2 and 9.2).
 
 -- the slot's session is Established, and its peer doesn't hold of the prefix just what is exported to it
 pub record IsWaiting (s : SpeakerState) (slot : ℕ) (prefix : Prefix) : Type 0 where

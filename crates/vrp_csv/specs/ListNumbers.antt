@@ -1,8 +1,7 @@
+-- The numbers of the faults of a payload list (our own).
 use Rattle.std.specs.Prelude.{ℕ}
 use Rattle.vrp_csv.specs.declared.fault.RowFault.{RowFault}
 use Rattle.vrp_csv.specs.declared.fault.RowFault.TheVariants.{Header, Fields, Asn, Prefix, Max, Io, NoMemory, Csv}
-
--- The numbers of the faults of a payload list (our own).
 
 -- the number by which operators know the fault
 abbrev pub number_of : RowFault → ℕ

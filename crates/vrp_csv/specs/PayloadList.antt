@@ -1,3 +1,4 @@
+-- A payload list, as the records of its text: the set of the payloads of all rows, or the first fault with its row.
 use Rattle.std.specs.Prelude.{◌≡◌, ◌+◌, ◌++◌, ◌⊎◌, ℕ, Bool, false, List, [], ◌∷◌, length, Option, None, Some, Ok, Err, is_none, count_by}
 use Rattle.std.specs.BTreeMap.{is_at}
 use Rattle.std.specs.List.{AllZip, list_any}
@@ -8,8 +9,6 @@ use Rattle.vrp_csv.specs.PayloadRows.{IsHeader, IsRow}
 use Rattle.vrp_csv.specs.declared.fault.RowFault.{RowFault}
 use Rattle.vrp_csv.specs.declared.fault.RowFault.TheVariants.{Header, Fields, Asn, Prefix, Max, Io, NoMemory, Csv}
 use Rattle.vrp_csv.specs.declared.list.Loaded.{Loaded}
-
--- A payload list, as the records of its text: the set of the payloads of all rows, or the first fault with its row.
 
 -- whether a row gives the payload
 abbrev pub gives : Vrp → Option Vrp → Bool

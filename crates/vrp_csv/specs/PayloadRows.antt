@@ -1,3 +1,4 @@
+-- The records of a payload list, each as its fields (our own form, as validators write it).
 use Rattle.std.specs.Prelude.{◌≡◌, ◌≢◌, ◌≤◌, ◌<◌, ◌^◌, ◌&&◌, ◌++◌, ◌⊎◌, ℕ, Bool, true, false, List, [], ◌∷◌, length, codes, nat_eq, unwrap_or, Option, None, Some, Result, Ok, Err, if◌then◌else◌}
 use Rattle.std.specs.Char.{eq_ignore_ascii_case}
 use Rattle.std.specs.List.{list_any}
@@ -9,8 +10,6 @@ use Rattle.net_prefix.specs.declared.payload.Vrp.{Vrp}
 use Rattle.net_prefix.specs.declared.prefix.Prefix as declared
 use Rattle.vrp_csv.specs.declared.fault.RowFault.{RowFault}
 use Rattle.vrp_csv.specs.declared.fault.RowFault.TheVariants.{Header, Fields, Asn, Prefix, Max, Io, NoMemory, Csv}
-
--- The records of a payload list, each as its fields (our own form, as validators write it).
 
 -- the names of the fields of a payload
 abbrev pub payload_names : List (List ℕ)

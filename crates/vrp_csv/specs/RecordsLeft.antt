@@ -1,3 +1,4 @@
+-- The records that a reader of `csv` has left, in its default dialect.
 use Rattle.std.specs.Prelude.{◌≡◌, ◌+◌, ℕ, Bool, true, false, List, [], ◌∷◌, length, Option, Some, option_map}
 use Rattle.csv.specs.Reading.{Ready, default_config, is_flexible, reader_config, reader_state, reader_trim, records_from, source_of}
 use Rattle.csv.specs.declared.error.ErrorKind.{ErrorKind}
@@ -7,8 +8,6 @@ use Rattle.csv.specs.declared.reader.Reader.{Reader}
 use Rattle.csv.specs.declared.reader.Trim.TheVariants as trim
 use Rattle.vrp_csv.specs.declared.fault.RowFault.{RowFault}
 use Rattle.vrp_csv.specs.declared.fault.RowFault.TheVariants.{Io, NoMemory, Csv}
-
--- The records that a reader of `csv` has left, in its default dialect.
 
 -- the records of a text from a state
 abbrev pub records_at : State → List ℕ → List (List (List ℕ))

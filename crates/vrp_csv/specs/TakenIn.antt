@@ -1,9 +1,8 @@
+-- One row more of a list that is being read.
 use Rattle.std.specs.Prelude.{◌≡◌, ◌+◌, Option, None, Some}
 use Rattle.net_prefix.specs.PayloadSets.{put}
 use Rattle.net_prefix.specs.declared.payload.Vrp.{Vrp}
 use Rattle.vrp_csv.specs.declared.list.Loaded.{Loaded}
-
--- One row more of a list that is being read.
 
 -- what a row adds: its payload, or one more that is skipped
 abbrev pub TakesIn : Option Vrp → Loaded → Loaded → Type 0

@@ -1,12 +1,11 @@
+-- What one set of payloads has and another lacks (RFC 8210 section 8.2). A set is the list of its members, the
+-- least first.
 use Rattle.std.specs.Prelude.{◌≡◌, ◌&&◌, ◌||◌, Bool, List, Option, Some, None, Result, Err, IfErr, filter, if◌then◌else◌, not}
 use Rattle.std.specs.List.{list_any}
 use Rattle.net_prefix.specs.declared.payload.Vrp.{Vrp}
 use Rattle.net_prefix.specs.PayloadSets.{has}
 use Rattle.vrp_delta.specs.declared.fault.DeltaFault.{DeltaFault}
 use Rattle.vrp_delta.specs.declared.fault.DeltaFault.TheVariants.{NoMemory, Unknown, Duplicate}
-
--- What one set of payloads has and another lacks (RFC 8210 section 8.2). A set is the list of its members, the
--- least first.
 
 -- the payloads that leave a set, and those that come into it
 pub record Change : Type 0 where

@@ -1,3 +1,4 @@
+-- The numbers by which operators know the faults of a delta (own).
 use Rattle.std.specs.Prelude.{ℕ}
 use Rattle.vrp_delta.specs.declared.fault.DeltaFault.{DeltaFault}
 use Rattle.vrp_delta.specs.declared.fault.DeltaFault.TheVariants.{NoMemory, Unknown, Duplicate}

@@ -1,3 +1,4 @@
+-- The versions that were published in one session, the newest first (RFC 8210 sections 2 and 8.2).
 use Rattle.std.specs.Prelude.{◌+◌, ◌%◌, ◌^◌, ◌==◌, ℕ, Bool, false, List, [], ◌∷◌, Option, Some, None, take, if◌then◌else◌}
 use Rattle.std.specs.Cmp.Lexicographic.{pointwise}
 use Rattle.std.specs.Option.{option_map}
@@ -5,8 +6,6 @@ use Rattle.std.specs.Ordering.{eq_by_cmp}
 use Rattle.net_prefix.specs.declared.payload.Vrp.{Vrp}
 use Rattle.net_prefix.specs.PayloadOrder.{payload_cmp}
 use Rattle.vrp_delta.specs.Delta.{Change, change_between}
-
--- The versions that were published in one session, the newest first (RFC 8210 sections 2 and 8.2).
 
 -- one version: its serial, and the members of its set, the least first
 pub record Version : Type 0 where

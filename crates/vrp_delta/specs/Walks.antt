@@ -1,9 +1,8 @@
+-- A walk along the list of a set, the least first (our own).
 use Rattle.std.specs.Prelude.{Bool, false, List, [], ◌∷◌, if◌then◌else◌}
 use Rattle.std.specs.Ordering.{is_eq, is_lt}
 use Rattle.net_prefix.specs.declared.payload.Vrp.{Vrp}
 use Rattle.net_prefix.specs.PayloadOrder.{payload_cmp}
-
--- A walk along the list of a set, the least first (our own).
 
 -- the list from its first payload on that isn't below the given one
 abbrev pub from_payload : Vrp → List Vrp → List Vrp

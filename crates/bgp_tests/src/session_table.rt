@@ -1,5 +1,5 @@
 //! Sessions along their rows, and each row once.
-use crate::{Input, Outgoing, Session, State};
+use bgp_fsm::{Input, Outgoing, Session, State};
 use bgp_attr::Mode;
 use bgp_msg::Open;
 use net_prefix::{Asn, Transport};

@@ -1,5 +1,5 @@
 //! A session that comes up octet by octet, and what it hands out.
-use crate::{Peer, ROOM_FOR_UPDATE};
+use bgp_peer::{Peer, ROOM_FOR_UPDATE};
 use bgp_attr::Mode;
 use bgp_fsm::{Input, State};
 use bgp_msg::{Open, Step};

@@ -1,6 +1,6 @@
 //! Prefixes from outside, in each of their three forms.
 
-use crate::{Asn, Prefix, PrefixFault, Vrp, read_prefix};
+use net_prefix::{Asn, Prefix, PrefixFault, Vrp, read_prefix};
 use std::collections::BTreeSet;
 use std::test::Fail;
 
