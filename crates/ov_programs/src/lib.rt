@@ -19,13 +19,12 @@ mod mains;
 mod net_wire;
 mod outgoing;
 mod settings;
-#[cfg(test)]
-mod tests;
 mod wire;
 mod words;
 
 pub use cache_loop::{CacheLoop, TURN_OCTETS};
 pub use fault::{ExitFault, LoopFault};
+pub use log::{Log, Note};
 pub use mains::main_cache;
 pub use net_wire::{NetSocket, NetWire};
 pub use settings::{CacheSettings, SettingsFault};

@@ -1,4 +1,4 @@
-//! What went over a socket, for proofs alone.
+//! What went over a socket, for proofs alone: a `Wire` says it of each of its sockets.
 ghost use Rattle.std.specs.Prelude.{◌≡◌, ℕ, List, [], ◌++◌};
 ghost use Rattle.std.specs.Coded.{coded_list, coded_ℕ};
 ghost use base.Fml.{ftrue};
@@ -7,7 +7,7 @@ use std::marker::Model;
 
 /// Octets in the order in which they went. It takes no memory and no time.
 #[derive(Drop)]
-pub(crate) struct Log {
+pub struct Log {
     pub ghost octets: { List ℕ } by { coded_list coded_ℕ },
 }
 
@@ -17,7 +17,7 @@ impl Model for Log {
 
 /// Octets that go.
 #[derive(Clone, Copy, Drop)]
-pub(crate) struct Note<'a> {
+pub struct Note<'a> {
     pub octets: &'a [u8],
 }
 

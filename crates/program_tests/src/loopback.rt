@@ -1,6 +1,6 @@
 //! A router without a program of its own takes a list over a loopback socket.
 
-use crate::{Accepted, CacheLoop, NetWire, Received, Sent, Wire};
+use ov_programs::{Accepted, CacheLoop, NetWire, Received, Sent, Wire};
 use net_prefix::{Asn, Prefix, Vrp};
 use rtr_cache::{Cache, CacheEvent};
 use rtr_codec::Intervals;

@@ -2,8 +2,7 @@
 ghost use Rattle.std.specs.Prelude.{◌≡◌, ◌≤◌, [], if◌then◌else◌, length};
 ghost use Rattle.ov_programs.specs.Wires.{one_more};
 
-use crate::log::{Log, Note};
-use crate::{Accepted, CacheLoop, LoopFault, Received, Sent, Wire};
+use ov_programs::{Accepted, CacheLoop, Log, LoopFault, Note, Received, Sent, Wire};
 use net_prefix::{Asn, Prefix, Vrp};
 use rtr_cache::{Cache, CacheEvent};
 use rtr_codec::Intervals;

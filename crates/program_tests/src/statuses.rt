@@ -1,6 +1,6 @@
 //! Each text of `ovcache` with its exit status.
 
-use crate::main_cache;
+use ov_programs::main_cache;
 use std::alloc::{Alloc, AllocGlobal, Allocator, Global};
 use std::fs::{Metadata, OpenOptions};
 use std::io::{self, ErrorKind};
