@@ -1,6 +1,6 @@
 //! Sessions along their rows, and each row once.
-use bgp_fsm::{Input, Outgoing, Session, State};
 use bgp_attr::Mode;
+use bgp_fsm::{Input, Outgoing, Session, State};
 use bgp_msg::Open;
 use net_prefix::{Asn, Transport};
 use std::test::Fail;

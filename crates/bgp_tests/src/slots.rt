@@ -1,8 +1,8 @@
 //! A session that comes up octet by octet, and what it hands out.
-use bgp_peer::{Peer, ROOM_FOR_UPDATE};
 use bgp_attr::Mode;
 use bgp_fsm::{Input, State};
 use bgp_msg::{Open, Step};
+use bgp_peer::{Peer, ROOM_FOR_UPDATE};
 use net_prefix::Asn;
 use std::test::Fail;
 

@@ -1,7 +1,7 @@
 //! A router without a program of its own takes a list over a loopback socket.
 
-use ov_programs::{Accepted, CacheLoop, NetWire, Received, Sent, Wire};
 use net_prefix::{Asn, Prefix, Vrp};
+use ov_programs::{Accepted, CacheLoop, NetWire, Received, Sent, Wire};
 use rtr_cache::{Cache, CacheEvent};
 use rtr_codec::Intervals;
 use std::alloc::{AllocGlobal, Global};

@@ -2,8 +2,8 @@
 ghost use Rattle.std.specs.Prelude.{◌≡◌, ◌≤◌, [], if◌then◌else◌, length};
 ghost use Rattle.ov_programs.specs.Wires.{one_more};
 
-use ov_programs::{Accepted, CacheLoop, Log, LoopFault, Note, Received, Sent, Wire};
 use net_prefix::{Asn, Prefix, Vrp};
+use ov_programs::{Accepted, CacheLoop, Log, LoopFault, Note, Received, Sent, Wire};
 use rtr_cache::{Cache, CacheEvent};
 use rtr_codec::Intervals;
 use std::alloc::{AllocGlobal, Global};
