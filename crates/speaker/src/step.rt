@@ -95,8 +95,8 @@ impl<A: Allocator + Clone> Speaker<A> {
         })
     }
 
-    /// One event. A refusal leaves the speaker as it was, but where memory is refused to what is no
-    /// command: then this call and each later one answer 44.
+    /// One event. A refusal leaves the speaker as it was, but where memory is refused to anything else than the
+    /// growth of a command itself: then this call and each later one answer 44.
     pub fn step(&mut self, event: Event<'_>) -> Result<Report, Refusal>
         // After each accepted event Loc-RIB is the selection over all candidates.
         ensures chosen { OnOk result (IsLocRib (tables_of self.new) self.new.loc_rib) }
