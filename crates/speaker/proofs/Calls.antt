@@ -1,4 +1,4 @@
-use Rattle.std.proofs.Common.{◌≡◌, ◌≢◌, ◌≤◌, ◌==◌, inl, inr, ℕ, Bool, true, false, nat_le, List, [], ◌∷◌, Option, Some, None, length, cond, refl, sym, ap, ◌∙◌, subst}
+use Rattle.std.proofs.Common.{◌≡◌, ◌≢◌, ◌≤◌, ◌==◌, inl, inr, ℕ, Bool, true, false, nat_le, List, ◌∷◌, Option, Some, None, length, cond, refl, sym, ap, ◌∙◌, subst}
 use Rattle.std.specs.Option.{option_map, option_and_then, MatchOption}
 use Rattle.std.proofs.lemmas.Bool.{cases_eq, eq-eqb, ne_eqb, leb-true}
 use Rattle.bgp_attr.specs.AttributeSpelling.{attributes_spelling}
@@ -20,13 +20,12 @@ use Rattle.speaker.specs.Candidates.{IsCandidate}
 use Rattle.speaker.specs.Export.{IsExport, export_in, export_to, export_peer_of}
 use Rattle.speaker.specs.Linked.{Linked}
 use Rattle.speaker.specs.LocRib.{AreBest, IsBest, HasNoCandidate}
-use Rattle.speaker.specs.Queueing.{Queue, QueuesAll, IsOwed}
+use Rattle.speaker.specs.Queueing.{Queue}
 use Rattle.speaker.specs.Runs.{Call, Run, turn, configuration_of, history}
 use Rattle.speaker.specs.SpeakerState.{SpeakerState}
-use Rattle.speaker.specs.Tables.{Tables, link_at, best_at}
+use Rattle.speaker.specs.Tables.{Tables, best_at}
 use Rattle.speaker.specs.declared.config.Config.{Config}
-use Rattle.speaker.proofs.QueuedUpdates.{slot_queued}
-use Rattle.speaker.proofs.SlotStates.{slot_agrees, slot_from, configured_from, slot_session}
+use Rattle.speaker.proofs.SlotStates.{slot_session}
 
 -- From the slots to the whole: what the selection reads, what is exported, and what a call queues.
 
@@ -112,7 +111,7 @@ peer_short : (s : SpeakerState) (t : ℕ) (found : Option ConfiguredPeer) (prefi
 peer_short s t None prefix a is = absurd (cc)
 peer_short s t (Some p) prefix a is = best_short s.adj_in (export_peer_of s.conf t p) prefix (best_at s.loc_rib prefix) a is
 
-export_short : (s : SpeakerState) (t : ℕ) (prefix : Prefix) (a : List ℕ) → export_to s t prefix ≡ Some a → length a ≤ 4068
+pub export_short : (s : SpeakerState) (t : ℕ) (prefix : Prefix) (a : List ℕ) → export_to s t prefix ≡ Some a → length a ≤ 4068
 export_short s t prefix a is = peer_short s t (peer_at s.conf t) prefix a is
 
 -- the export to a slot that is configured
@@ -120,35 +119,10 @@ pub export_peer_found : (s : SpeakerState) (t : ℕ) (p : ConfiguredPeer) (prefi
 export_peer_found s t p prefix is = ap (λ found. option_and_then (λ x. export_in (best_at s.loc_rib) s.adj_in (export_peer_of s.conf t x) prefix) found) is
 
 -- the slot of an UPDATE
-
-at_slot : (config : Config) (t : ℕ) (call : Call) (update : List ℕ) (queue : Queue) (r : Run)
+pub at_slot : (config : Config) (t : ℕ) (call : Call) (update : List ℕ) (queue : Queue) (r : Run)
     → history config t (turn call ((t, update) ∷ queue) ∷ r) ≡ Queued update ∷ history config t (turn call queue ∷ r)
 at_slot config t call update queue r = rw (eq-eqb t t refl) refl
 
-off_slot : (config : Config) (t slot : ℕ) (call : Call) (update : List ℕ) (queue : Queue) (r : Run) → t ≢ slot
+pub off_slot : (config : Config) (t slot : ℕ) (call : Call) (update : List ℕ) (queue : Queue) (r : Run) → t ≢ slot
     → history config t (turn call ((slot, update) ∷ queue) ∷ r) ≡ history config t (turn call queue ∷ r)
 off_slot config t slot call update queue r other = rw (ne_eqb t slot other) refl
-
-queued_at : (config : Config) (peer : Option ConfiguredPeer) (exports : Prefix → Option (List ℕ)) (update : List ℕ) (before after : Linked) (routes : Prefix → Option PathAttributes) (h : List happens.Event)
-    → ((p : Prefix) (a : List ℕ) → exports p ≡ Some a → length a ≤ 4068) → IsOwed exports update before after
-    → SlotAgrees config peer (Some before) routes h → SlotAgrees config peer (Some after) routes (Queued update ∷ h)
-queued_at config found exports update before after routes h short owed a =
-    let peer = configured_from config found (Some before) before routes h refl a in
-    let P : Option ConfiguredPeer → Type 0 = λ x. SlotAgrees config x (Some after) routes (Queued update ∷ h) in
-    let here = slot_from config found peer.0 (Some before) before routes h peer.1 refl a in
-    subst P (sym peer.1) (slot_agrees config peer.0 after routes (Queued update ∷ h) (slot_queued config peer.0 exports update before after routes h short owed here))
-
--- what is queued leaves the slots as the run with it leaves them
-pub queue_slots : (config : Config) (call : Call) (r : Run) (s : SpeakerState) (queue : Queue) (links : ℕ → Option Linked)
-    → SlotsAgree config s.conf (link_at s.links) s.adj_in (λ t. history config t (turn call [] ∷ r)) → QueuesAll (export_to s) queue (link_at s.links) links
-    → SlotsAgree config s.conf links s.adj_in (λ t. history config t (turn call queue ∷ r))
-queue_slots config call r s [] links all same = rw same all
-queue_slots config call r s (now ∷ queue) links all queues =
-    let mid = queues.0 in
-    let owed = queues.2 in
-    let before : SlotsAgree config s.conf mid s.adj_in (λ t. history config t (turn call queue ∷ r)) = queue_slots config call r s queue mid all queues.1 in
-    let L : Option Linked → Type 0 = λ x. SlotAgrees config (peer_at s.conf now.0) x (route_at s.adj_in now.0) (history config now.0 (turn call queue ∷ r)) in
-    let here = queued_at config (peer_at s.conf now.0) (export_to s now.0) now.1 owed.before owed.after (route_at s.adj_in now.0) (history config now.0 (turn call queue ∷ r)) (export_short s now.0) owed.owed (subst L owed.was (before now.0)) in
-    slots_changed config s.conf s.conf mid links s.adj_in s.adj_in (λ t. history config t (turn call queue ∷ r)) (λ t. history config t (turn call (now ∷ queue) ∷ r)) now.0 before
-    (λ t other. refl) owed.others (λ t other p. refl) (λ t other. off_slot config t now.0 call now.1 queue r other)
-    (rw (owed.is, at_slot config now.0 call now.1 queue r) here)

@@ -1,9 +1,8 @@
 pub mod CandidateLists
 pub mod ChosenRoutes
-pub mod KeptTables
+pub mod Results
 pub mod Places
 pub mod Serving
-pub mod Slots
 pub mod RouteChanges
 pub mod SentPrefixes
 pub mod Histories
@@ -12,7 +11,7 @@ pub mod SlotEvents
 pub mod SlotOctets
 pub mod QueuedUpdates
 pub mod Calls
-pub mod Settling
+pub mod Passing
 pub mod Messages
 pub mod Events
 pub mod Commands

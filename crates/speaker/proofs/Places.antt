@@ -4,6 +4,7 @@ use Rattle.std.specs.Ordering.{is_gt}
 use Rattle.std.proofs.lemmas.Bool.Decides.{nat_tests}
 use Rattle.net_prefix.specs.declared.prefix.Prefix.{Prefix}
 use Rattle.net_prefix.proofs.Prefixes.{same_prefix}
+use Rattle.rib_out.proofs.Prefixes.{parts_from_is_prefix}
 use Rattle.rib_out.specs.Held.{is_prefix}
 use Rattle.net_prefix.specs.PrefixOrder.{prefix_cmp, IsAbove}
 use Rattle.speaker.specs.Queueing.{rank_of}
@@ -25,8 +26,8 @@ greater_from_rank p q h = let a = p.short in let b = q.short in grind (arith, na
 pub same_from_rank : (p q : Prefix) → rank_of p ≡ rank_of q → p ≡ q
 same_from_rank p q h = let a = p.short in let b = q.short in same_prefix p q (omega (arith, h, a, b)) (omega (arith, h, a, b))
 
-pub is_prefix-self : (p : Prefix) → is_prefix p p ≡ true
-is_prefix-self p = grind (arith, nat_tests)
+pub same_from_is_prefix : (p q : Prefix) → is_prefix p q ≡ true → p ≡ q
+same_from_is_prefix p q h = let parts = parts_from_is_prefix p q h in same_prefix p q parts.0 parts.1
 
 -- behind a walk up to a prefix
 abbrev pub reached : Option Prefix → ℕ

@@ -19,14 +19,18 @@ use Rattle.bgp_peer.specs.SessionInputs.{Event, Queued, session}
 use Rattle.bgp_peer.proofs.Agreeing.{agrees-queue}
 use Rattle.net_prefix.specs.PrefixSpelling.{spelling_of, address_octets, octets_for}
 use Rattle.net_prefix.specs.declared.prefix.Prefix.{Prefix}
+use Rattle.rib_out.proofs.Prefixes.{is_prefix-refl}
 use Rattle.rib_out.specs.Held.{is_prefix}
 use Rattle.speaker.specs.AdjRibIn.{is_among}
 use Rattle.speaker.specs.Held.{told_by, told_from, told_in, held_in}
 use Rattle.speaker.specs.Linked.{Linked}
-use Rattle.speaker.specs.Queueing.{update_saying, IsOwed, rank_of}
+use Rattle.speaker.specs.Agreement.{Names}
+use Rattle.speaker.specs.Queueing.{update_saying, IsTold, rank_of}
+use Rattle.speaker.specs.Serving.{HasRoom}
 use Rattle.speaker.specs.declared.config.Config.{Config}
 use Rattle.bgp_fsm.specs.StateTests.{is_established}
 use Rattle.speaker.proofs.Histories.{route_stays}
+use Rattle.speaker.proofs.Places.{same_from_is_prefix}
 use Rattle.speaker.proofs.SlotStates.{SlotIs}
 use Rattle.speaker.proofs.SentPrefixes.{told_in-append}
 
@@ -101,24 +105,50 @@ saying_tells p None before q place short = update_tells (wire_form (p ∷ [])) [
 saying_tells p (Some a) before q place short =
     update_tells [] a (wire_form (p ∷ [])) before q (announcement_fits p a (short a refl)) ∙ announcement_tells p a before q (small_bits p place)
 
--- the slot after an UPDATE that was owed
-pub slot_queued : (config : Config) (peer : ConfiguredPeer) (exports : Prefix → Option (List ℕ)) (update : List ℕ) (l new : Linked) (routes : Prefix → Option PathAttributes) (h : List Event)
-    → ((p : Prefix) (a : List ℕ) → exports p ≡ Some a → length a ≤ 4068) → IsOwed exports update l new → SlotIs config peer l routes h → SlotIs config peer new routes (Queued update ∷ h)
-slot_queued config peer exports update l new routes h short owed s =
-    let u = update_saying owed.prefix (exports owed.prefix) in
-    let established : (session h).state ≡ Established = ap (λ (x : Session). x.state) (sym s.link.peer.session) ∙ owed.established in
-    let whole : IsUpdateMessage (update_saying owed.prefix (exports owed.prefix)) = saying_is_update owed.prefix (exports owed.prefix) (short owed.prefix) in
-    rw owed.update_is (record {
+names_by : (b : Bool) (export before : Option (List ℕ)) → b ≡ true → cond b export before ≡ cond b export None
+names_by true export before is = refl
+names_by false export before is = absurd (cc)
+
+-- it names this prefix
+pub saying_names : (p : Prefix) (export : Option (List ℕ)) → rank_of p < 2 ^ 38 → ((a : List ℕ) → export ≡ Some a → length a ≤ 4068) → Names (update_saying p export) p
+saying_names p export place short before =
+    saying_tells p export before p place short ∙ names_by (is_prefix p p) export before (is_prefix-refl p) ∙ sym (saying_tells p export None p place short)
+
+none_named : (b : Bool) (export : Option (List ℕ)) → cond b export (Some []) ≡ cond b export None → b ≡ true
+none_named true export same = refl
+none_named false export same = absurd (cc)
+
+-- and no other one
+pub named_is : (p : Prefix) (export : Option (List ℕ)) (q : Prefix) → rank_of p < 2 ^ 38 → ((a : List ℕ) → export ≡ Some a → length a ≤ 4068) → Names (update_saying p export) q → p ≡ q
+named_is p export q place short names =
+    same_from_is_prefix p q (none_named (is_prefix p q) export (sym (saying_tells p export (Some []) q place short) ∙ names (Some []) ∙ saying_tells p export None q place short))
+
+told_by_it : (b : Bool) (export : Option (List ℕ)) → b ≡ true → cond b export None ≡ export
+told_by_it true export is = refl
+told_by_it false export is = absurd (cc)
+
+-- it says this of it
+pub saying_says : (p : Prefix) (export : Option (List ℕ)) → rank_of p < 2 ^ 38 → ((a : List ℕ) → export ≡ Some a → length a ≤ 4068) → told_in (update_saying p export) p ≡ export
+saying_says p export place short = saying_tells p export None p place short ∙ told_by_it (is_prefix p p) export (is_prefix-refl p)
+
+-- the slot after an UPDATE
+pub slot_queued : (config : Config) (peer : ConfiguredPeer) (p : Prefix) (export : Option (List ℕ)) (l new : Linked) (routes : Prefix → Option PathAttributes) (h : List Event)
+    → ((a : List ℕ) → export ≡ Some a → length a ≤ 4068) → l.peer.session.state ≡ Established → HasRoom l → IsTold p export l new → SlotIs config peer l routes h
+    → SlotIs config peer new routes (Queued (update_saying p export) ∷ h)
+slot_queued config peer p export l new routes h short up room told s =
+    let u = update_saying p export in
+    let established : (session h).state ≡ Established = ap (λ (x : Session). x.state) (sym s.link.peer.session) ∙ up in
+    record {
       terms = s.terms;
       link = record {
-        peer = rw owed.told.peer (agrees-queue h l.peer (update_saying owed.prefix (exports owed.prefix)) owed.established whole owed.room s.link.peer);
+        peer = rw told.peer (agrees-queue h l.peer (update_saying p export) up (saying_is_update p export short) room s.link.peer);
         held = λ q.
-            owed.told.held q
-            ∙ ap (λ before. cond (is_prefix owed.prefix q) (exports owed.prefix) before) (s.link.held q ∙ ap (λ state. held_in state (sent h) q) established)
-            ∙ sym (saying_tells owed.prefix (exports owed.prefix) (told_in (sent h) q) q owed.told.place (short owed.prefix))
-            ∙ sym (told_in-append (sent h) (update_saying owed.prefix (exports owed.prefix)) q s.link.peer.whole)
-            ∙ ap (λ state. held_in state (sent h ++ update_saying owed.prefix (exports owed.prefix)) q) (sym established);
+            told.held q
+            ∙ ap (λ before. cond (is_prefix p q) export before) (s.link.held q ∙ ap (λ state. held_in state (sent h) q) established)
+            ∙ sym (saying_tells p export (told_in (sent h) q) q told.place short)
+            ∙ sym (told_in-append (sent h) (update_saying p export) q s.link.peer.whole)
+            ∙ ap (λ state. held_in state (sent h ++ update_saying p export) q) (sym established);
         silent = λ k new p. let back = ap is_established established in absurd (cc);
       };
       routes_are = λ p. s.routes_are p ∙ sym (route_stays h p);
-    })
+    }

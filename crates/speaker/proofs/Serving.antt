@@ -1,48 +1,31 @@
-use Rattle.std.proofs.Common.{append_assoc, ◌||◌, ◌≡◌, ◌<◌, ◌≤◌, ◌+◌, ◌-◌, ◌^◌, ◌⊎◌, ℕ, Bool, true, false, List, [], ◌∷◌, ◌++◌, Option, Some, None, length, cond, refl, sym, ◌∙◌, subst, inl, inr, arith}
-use Rattle.std.specs.BTreeMap.{is_at}
-use Rattle.std.specs.List.{list_any}
-use Rattle.std.specs.Option.{IsSome}
+use Rattle.std.proofs.Common.{◌≡◌, ◌≢◌, ◌<◌, ◌+◌, ◌-◌, ◌^◌, ◌==◌, ℕ, Bool, true, false, List, Option, Some, None, Result, Ok, Err, OnOk, cond, refl, sym, ap, ◌∙◌, subst, inl, inr, arith, length-append}
+use Rattle.std.specs.Option.{IsSome, option_and_then, option_map}
 use Rattle.std.specs.Ordering.{is_gt}
-use Rattle.std.proofs.lemmas.Bool.{cases_lt}
-use Rattle.std.proofs.lemmas.Bool.Decides.{nat_tests}
+use Rattle.std.proofs.lemmas.Bool.{cases_lt, eq-eqb, ne_eqb}
+use Rattle.bgp_conf.specs.Configuration.{peer_at}
+use Rattle.bgp_conf.specs.declared.conf.ConfiguredPeer.{ConfiguredPeer}
 use Rattle.bgp_fsm.specs.declared.state.State.TheVariants.{Established}
-use Rattle.decision.specs.declared.candidate.Candidate.{Candidate}
-use Rattle.net_prefix.specs.declared.prefix.Prefix.{Prefix}
-use Rattle.net_prefix.proofs.Prefixes.{same_prefix}
-use Rattle.bgp_attr.specs.PathAttributes.{PathAttributes}
 use Rattle.export_rules.specs.declared.export.ExportPeer.{ExportPeer}
-use Rattle.rib_in.specs.declared.adj_in.RouteKey.{RouteKey}
-use Rattle.std.proofs.lemmas.List.{append-nil}
-use Rattle.speaker.specs.Export.{export_in}
-use Rattle.speaker.specs.Tables.{best_at}
-use Rattle.rib_out.specs.Held.{held_at, is_prefix}
 use Rattle.net_prefix.specs.PrefixOrder.{prefix_cmp, IsAbove}
-use Rattle.rib_out.proofs.Prefixes.{parts_from_is_prefix}
+use Rattle.net_prefix.specs.declared.prefix.Prefix.{Prefix}
+use Rattle.rib_out.specs.Held.{held_at, is_prefix}
+use Rattle.rib_out.proofs.Prefixes.{is_prefix-refl}
+use Rattle.speaker.specs.Agreement.{QueuesOn}
+use Rattle.speaker.specs.Export.{export_in, export_peer_of, export_to}
 use Rattle.speaker.specs.Linked.{Linked}
-use Rattle.speaker.specs.Queueing.{Queues, Announced, IsOwed, IsTold, IsServed, rank_of, update_saying}
-use Rattle.speaker.proofs.Places.{reached, above_from_rank, rank_from_above, greater_from_rank, same_from_rank, is_prefix-self}
+use Rattle.speaker.specs.Queueing.{rank_of, update_saying}
+use Rattle.speaker.specs.Serving.{IsServedAt, IsUpAt, HasRoom, HasRoomAt, IsOfSlot, IsStill, IsToldAt, Serves, IsDoneAt, IsGone, IsHad, IsNext}
+use Rattle.speaker.specs.SpeakerState.{SpeakerState}
+use Rattle.speaker.specs.Tables.{best_at, link_at}
+use Rattle.speaker.proofs.Passing.{queues_told, queues_still}
+use Rattle.speaker.proofs.Places.{reached, above_from_rank, rank_from_above, greater_from_rank, same_from_is_prefix, same_from_rank}
 
--- One peer served: withdrawals in rising order, then announcements in rising order.
-
--- one of the best routes is to the prefix
-abbrev pub is_named : List (Prefix × Candidate) → Prefix → Bool
-is_named routes q = list_any (λ e. is_at (prefix_cmp q) e.0) routes
-
--- what isn't exported isn't held, below a place
-abbrev pub IsGoneBelow : (Prefix → Option (List ℕ)) → ℕ → List (Prefix × List ℕ) → Type 0
-IsGoneBelow export n table = (q : Prefix) → rank_of q < n → export q ≡ None → held_at table q ≡ None
+-- One slot served: a walk over prefixes in rising order, in which the peer is told what it is owed.
 
 -- a place is one of 38 bits
 abbrev pub IsPlace : Option Prefix → Type 0
 IsPlace None = Unit {0}
 IsPlace (Some p) = rank_of p < 2 ^ 38
-
--- withdrawn so far
-pub record Withdraws (export : Prefix → Option (List ℕ)) (first : Linked) (after : Option Prefix) (now : Linked) : Type 0 where
-  pub session : now.peer.session ≡ first.peer.session
-  pub queues : (updates : List (List ℕ)) × Queues export updates first now
-  pub gone : IsGoneBelow export (reached after) now.adj_out
-  pub place : IsPlace after
 
 -- how many places are left above
 abbrev pub left_above : Option Prefix → ℕ
@@ -51,237 +34,287 @@ left_above after = 2 ^ 39 - reached after
 pub left-smaller : (after : Option Prefix) (p : Prefix) → IsPlace after → IsAbove after p → rank_of p < 2 ^ 38 → left_above (Some p) < left_above after
 left-smaller after p place above below = omega (arith, rank_from_above after p above, below)
 
--- one more UPDATE
-pub queues_more : (export : Prefix → Option (List ℕ)) (update : List ℕ) (first mid now : Linked) → (updates : List (List ℕ)) × Queues export updates first mid
-    → IsOwed export update mid now → (updates : List (List ℕ)) × Queues export updates first now
-queues_more export update first mid now h owed = (update ∷ h.0, (mid, h.1, owed))
+-- the slots with one that has gone on
+slot_only : (slot : ℕ) (old new : SpeakerState) (l : Linked) → ((s : ℕ) → link_at new.links s ≡ cond (s == slot) (Some l) (link_at old.links s)) → (s : ℕ) → s ≢ slot → link_at new.links s ≡ link_at old.links s
+slot_only slot old new l puts s other = puts s ∙ rw (ne_eqb s slot other) refl
 
-pub Withdraws-start : (export : Prefix → Option (List ℕ)) (first : Linked) → Withdraws export first None first
-Withdraws-start export first = record {
-  session = refl;
-  queues = ([], refl);
-  gone = λ q below. absurd (omega (arith, below));
+-- nothing has been queued yet
+pub Serves-start : (slot : ℕ) (s : SpeakerState) → IsUpAt s slot → Serves slot s s
+Serves-start slot s up = record {
+  before = up.0;
+  after = up.0;
+  was = up.1;
+  is = up.1;
+  up = up.2;
+  grows = omega arith;
+  gone = λ q none held. held;
+  only = record { rest = refl; others = λ t other. refl };
+  queues = λ config call r queue passes. (queue, passes);
+}
+
+some_same : (a b : Linked) → Some a ≡ Some b → a ≡ b
+some_same a b is = cc
+
+-- the slot that is there
+the_slot : (slot : ℕ) (s : SpeakerState) (a b : Linked) → link_at s.links slot ≡ Some a → link_at s.links slot ≡ Some b → a ≡ b
+the_slot slot s a b was is = some_same a b (sym was ∙ is)
+
+IsOfSlot-more : (slot : ℕ) (a b c : SpeakerState) → IsOfSlot slot a b → IsOfSlot slot b c → IsOfSlot slot a c
+IsOfSlot-more slot a b c h k = record {
+  rest = k.rest ∙ ap (λ (s : SpeakerState). record s { links = c.links }) h.rest;
+  others = λ s other. k.others s other ∙ h.others s other;
+}
+
+-- the exports stay while only slots differ
+pub export_kept : (old new : SpeakerState) → new ≡ record old { links = new.links } → export_to new ≡ export_to old
+export_kept old new rest = ap (λ s. export_to s) rest
+
+pub Serves-more : (slot : ℕ) (a b c : SpeakerState) → Serves slot a b → Serves slot b c → Serves slot a c
+Serves-more slot a b c h k =
+    let same : k.before ≡ h.after = the_slot slot b k.before h.after k.was h.is in
+    let exports : export_to b slot ≡ export_to a slot = ap (λ e. e slot) (export_kept a b h.only.rest) in
+    record {
+      before = h.before;
+      after = k.after;
+      was = h.was;
+      is = k.is;
+      up = k.up;
+      grows = let later = rw same at k.grows in omega (arith, h.grows, later);
+      gone = λ q none held. k.gone q (ap (λ e. e q) exports ∙ none) (rw same (h.gone q none held));
+      only = IsOfSlot-more slot a b c h.only k.only;
+      queues = λ config call r queue passes. let mid = h.queues config call r queue passes in k.queues config call r mid.0 mid.1;
+    }
+
+-- the walk has come up to this prefix: this holds of all below it
+pub record Walks (done : Prefix → Option (List ℕ) → Type 0) (slot : ℕ) (first : SpeakerState) (after : Option Prefix) (now : SpeakerState) : Type 0 where
+  pub serves : Serves slot first now
+  pub below : (q : Prefix) → rank_of q < reached after → done q (held_at serves.after.adj_out q)
+  pub place : IsPlace after
+
+pub Walks-start : (done : Prefix → Option (List ℕ) → Type 0) (slot : ℕ) (s : SpeakerState) → IsUpAt s slot → Walks done slot s None s
+Walks-start done slot s up = record {
+  serves = Serves-start slot s up;
+  below = λ q under. absurd (omega (arith, under));
   place = tt;
 }
 
--- a prefix between the last one and the next isn't held
-none_between : (p q : Prefix) (held : Option (List ℕ)) → (IsSome held → is_gt (prefix_cmp p q) ≡ false) → rank_of q < rank_of p → held ≡ None
-none_between p q None least below = refl
-none_between p q (Some octets) least below = let high = greater_from_rank p q below in let low = least refl in cc
+-- a prefix between the last one and the next one has nothing
+none_between : {X : Type 0} (p q : Prefix) (found : Option X) → (IsSome found → is_gt (prefix_cmp p q) ≡ false) → rank_of q < rank_of p → found ≡ None
+none_between p q None least under = refl
+none_between p q (Some x) least under = let high = greater_from_rank p q under in let low = least refl in cc
 
--- what isn't exported and stands below the next prefix isn't held
-gone_before : (export : Prefix → Option (List ℕ)) (after : Option Prefix) (p : Prefix) (table : List (Prefix × List ℕ)) → IsGoneBelow export (reached after) table
-    → ((q : Prefix) → IsAbove after q → IsSome (held_at table q) → is_gt (prefix_cmp p q) ≡ false) → IsGoneBelow export (rank_of p) table
-gone_before export after p table gone least q below none =
+-- all is done below the next prefix
+done_before : {X : Type 0} (done : Prefix → Option (List ℕ) → Type 0) (there : Prefix → Option X) (held : Prefix → Option (List ℕ)) (after : Option Prefix) (p : Prefix)
+    → ((q : Prefix) → there q ≡ None → done q (held q)) → ((q : Prefix) → rank_of q < reached after → done q (held q)) → IsNext there after (Some p)
+    → (q : Prefix) → rank_of q < rank_of p → done q (held q)
+done_before done there held after p idle below next q under =
     elim (cases_lt (rank_of q) (reached after)) [
-      | inl before ↦ gone q before none
-      | inr behind ↦ none_between p q (held_at table q) (λ has. least q (above_from_rank after q behind) has) below
+      | inl before ↦ below q before
+      | inr behind ↦ idle q (none_between p q (there q) (next.2 q (above_from_rank after q behind)) under)
     ]
 
--- the prefix is exported: it stays
-pub Withdraws-kept : (export : Prefix → Option (List ℕ)) (first now : Linked) (after : Option Prefix) (p : Prefix) (octets : List ℕ) → Withdraws export first after now
-    → ((q : Prefix) → IsAbove after q → IsSome (held_at now.adj_out q) → is_gt (prefix_cmp p q) ≡ false) → rank_of p < 2 ^ 38
-    → export p ≡ Some octets → Withdraws export first (Some p) now
-Withdraws-kept export first now after p octets h least place exported = record {
-  session = h.session;
-  queues = h.queues;
-  gone = λ q below none.
+-- the next prefix needs nothing
+pub Walks-kept : {X : Type 0} (done : Prefix → Option (List ℕ) → Type 0) (there : Prefix → Option X) (slot : ℕ) (first now : SpeakerState) (after : Option Prefix) (p : Prefix)
+    → (h : Walks done slot first after now) → ((q : Prefix) → there q ≡ None → done q (held_at h.serves.after.adj_out q)) → IsNext there after (Some p)
+    → rank_of p < 2 ^ 38 → done p (held_at h.serves.after.adj_out p) → Walks done slot first (Some p) now
+Walks-kept done there slot first now after p h idle next place here = record {
+  serves = h.serves;
+  below = λ q under.
       elim (cases_lt (rank_of q) (rank_of p)) [
-        | inl before ↦ gone_before export after p now.adj_out h.gone least q before none
+        | inl before ↦ done_before done there (held_at h.serves.after.adj_out) after p idle h.below next q before
         | inr behind ↦
-            let same : q ≡ p = same_from_rank q p (omega (arith, below, behind)) in
-            let other = rw same at none in absurd (cc)
+            let same : q ≡ p = same_from_rank q p (omega (arith, under, behind)) in
+            subst (λ x. done x (held_at h.serves.after.adj_out x)) (sym same) here
       ];
   place = place;
 }
 
-held_told : (p q : Prefix) (b : Bool) (export old : Option (List ℕ)) → is_prefix p q ≡ b → export ≡ None → (is_prefix p q ≡ false → old ≡ None) → cond b export old ≡ None
-held_told p q true export old is none before = none
-held_told p q false export old is none before = before is
+gone_told : (p q : Prefix) (b : Bool) (export : Option (List ℕ)) (exports : Prefix → Option (List ℕ)) (held : Option (List ℕ)) → is_prefix p q ≡ b → exports p ≡ export
+    → exports q ≡ None → held ≡ None → cond b export held ≡ None
+gone_told p q true export exports held is here none was = let same = same_from_is_prefix p q is in sym here ∙ ap exports same ∙ none
+gone_told p q false export exports held is here none was = was
 
--- the prefix isn't exported: it is withdrawn
-pub Withdraws-told : (export : Prefix → Option (List ℕ)) (first now new : Linked) (after : Option Prefix) (p : Prefix) → Withdraws export first after now
-    → first.peer.session.state ≡ Established → length now.peer.ring + 8192 ≤ 65536
-    → ((q : Prefix) → IsAbove after q → IsSome (held_at now.adj_out q) → is_gt (prefix_cmp p q) ≡ false) → rank_of p < 2 ^ 38
-    → IsSome (held_at now.adj_out p) → export p ≡ None → IsTold p None now new → Withdraws export first (Some p) new
-Withdraws-told export first now new after p h established room least place held none told = record {
-  session = rw told.peer h.session;
-  queues = queues_more export _ first now new h.queues (record {
-    prefix = p;
-    established = rw h.session established;
-    room = room;
-    news = λ same. let found = rw (same, none) at held in (cc);
-    update_is = refl;
-    told = rw none told;
-  });
-  gone = λ q below missing. rw (told.held q) (held_told p q _ None (held_at now.adj_out q) refl refl (λ other.
-      elim (cases_lt (rank_of q) (rank_of p)) [
-        | inl before ↦ gone_before export after p now.adj_out h.gone least q before missing
-        | inr behind ↦
-            let same : q ≡ p = same_from_rank q p (omega (arith, below, behind)) in
-            let here : is_prefix p q ≡ true = rw same (is_prefix-self p) in absurd (cc)
-      ]));
-  place = place;
+done_told : (done : Prefix → Option (List ℕ) → Type 0) (p q : Prefix) (b : Bool) (export held : Option (List ℕ)) → is_prefix p q ≡ b → done p export
+    → (is_prefix p q ≡ false → done q held) → done q (cond b export held)
+done_told done p q true export held is here other = subst (λ x. done x export) (same_from_is_prefix p q is) here
+done_told done p q false export held is here other = other is
+
+-- the peer is told what it is owed of the next prefix
+pub Walks-told : {X : Type 0} (done : Prefix → Option (List ℕ) → Type 0) (there : Prefix → Option X) (slot : ℕ) (first now new : SpeakerState) (after : Option Prefix) (p : Prefix) (export : Option (List ℕ))
+    → (h : Walks done slot first after now) → ((q : Prefix) → there q ≡ None → done q (held_at h.serves.after.adj_out q)) → IsNext there after (Some p)
+    → rank_of p < 2 ^ 38 → HasRoomAt now slot → export_to first slot p ≡ export → held_at h.serves.after.adj_out p ≢ export → done p export → IsToldAt slot p export now new
+    → Walks done slot first (Some p) new
+unfolding Serves-more
+Walks-told done there slot first now new after p export h idle next place room exported news here told =
+    let same : told.before ≡ h.serves.after = the_slot slot now told.before h.serves.after told.was h.serves.is in
+    let is : link_at new.links slot ≡ Some told.after = told.puts slot ∙ rw (eq-eqb slot slot refl) refl in
+    let exports : export_to now slot p ≡ export = ap (λ e. e slot p) (export_kept first now h.serves.only.rest) ∙ exported in
+    let step : Serves slot now new = record {
+      before = told.before;
+      after = told.after;
+      was = told.was;
+      is = is;
+      up = rw told.told.peer (rw same h.serves.up);
+      grows = rw told.told.peer (omega (arith, length-append told.before.peer.ring (update_saying p export)));
+      gone = λ q none held. told.told.held q ∙ gone_told p q _ export (export_to now slot) (held_at told.before.adj_out q) refl exports none held;
+      only = record { rest = told.rest; others = slot_only slot now new told.after told.puts };
+      queues = queues_told slot p export now new told (rw same h.serves.up) (room told.before told.was) exports (rw same news);
+    } in
+    record {
+      serves = Serves-more slot first now new h.serves step;
+      below = λ q under. rw (told.told.held q) (done_told done p q _ export (held_at told.before.adj_out q) refl here (λ other.
+          elim (cases_lt (rank_of q) (rank_of p)) [
+            | inl before ↦ rw same (done_before done there (held_at h.serves.after.adj_out) after p idle h.below next q before)
+            | inr behind ↦
+                let is_it : q ≡ p = same_from_rank q p (omega (arith, under, behind)) in
+                let there_it : is_prefix p q ≡ true = rw is_it (is_prefix-refl p) in absurd (cc)
+          ]));
+      place = place;
+    }
+
+-- the walk is over: this holds of all prefixes
+pub Walks-end : {X : Type 0} (done : Prefix → Option (List ℕ) → Type 0) (there : Prefix → Option X) (slot : ℕ) (first now : SpeakerState) (after : Option Prefix)
+    → (h : Walks done slot first after now) → ((q : Prefix) → there q ≡ None → done q (held_at h.serves.after.adj_out q)) → IsNext there after None → IsDoneAt done now slot
+Walks-end done there slot first now after h idle next l is room q =
+    let same : l ≡ h.serves.after = the_slot slot now l h.serves.after is h.serves.is in
+    rw same (elim (cases_lt (rank_of q) (reached after)) [
+      | inl before ↦ h.below q before
+      | inr behind ↦ idle q (next q (above_from_rank after q behind))
+    ])
+
+-- there is no room left
+pub Walks-full : (done : Prefix → Option (List ℕ) → Type 0) (slot : ℕ) (now : SpeakerState) (l : Linked) → link_at now.links slot ≡ Some l → (HasRoom l → ⊥) → IsDoneAt done now slot
+Walks-full done slot now l there full x is room q = absurd (full (subst HasRoom (the_slot slot now x l is there) room))
+
+-- the export to a slot that is configured
+export_given_at : (s : SpeakerState) (slot : ℕ) (peer : ExportPeer) (found : Option ConfiguredPeer) → Some peer ≡ option_map (export_peer_of s.conf slot) found
+    → (prefix : Prefix) → option_and_then (λ p. export_in (best_at s.loc_rib) s.adj_in (export_peer_of s.conf slot p) prefix) found ≡ export_in (best_at s.loc_rib) s.adj_in peer prefix
+export_given_at s slot peer None is prefix = absurd (cc)
+export_given_at s slot peer (Some p) is prefix = let same : peer ≡ export_peer_of s.conf slot p = cc in rw same refl
+
+pub export_given : (s : SpeakerState) (slot : ℕ) (peer : ExportPeer) → Some peer ≡ option_map (export_peer_of s.conf slot) (peer_at s.conf slot) → (prefix : Prefix)
+    → export_to s slot prefix ≡ export_in (best_at s.loc_rib) s.adj_in peer prefix
+export_given s slot peer is prefix = export_given_at s slot peer (peer_at s.conf slot) is prefix
+
+-- so it is while only slots differ
+pub export_now : (first now : SpeakerState) (slot : ℕ) (peer : ExportPeer) → now ≡ record first { links = now.links } → Some peer ≡ option_map (export_peer_of first.conf slot) (peer_at first.conf slot)
+    → (prefix : Prefix) → export_to first slot prefix ≡ export_in (best_at now.loc_rib) now.adj_in peer prefix
+export_now first now slot peer rest is prefix = export_given first slot peer is prefix ∙ ap (λ (s : SpeakerState). export_in (best_at s.loc_rib) s.adj_in peer prefix) (sym rest)
+
+-- what isn't exported is withdrawn
+pub Walks-withdrawn : (slot : ℕ) (first now new : SpeakerState) (after : Option Prefix) (p : Prefix) (peer : ExportPeer) → (h : Walks (IsGone (export_to first slot)) slot first after now)
+    → Some peer ≡ option_map (export_peer_of first.conf slot) (peer_at first.conf slot) → IsNext (held_at h.serves.after.adj_out) after (Some p) → rank_of p < 2 ^ 38 → HasRoomAt now slot
+    → export_in (best_at now.loc_rib) now.adj_in peer p ≡ None → IsToldAt slot p None now new → Walks (IsGone (export_to first slot)) slot first (Some p) new
+Walks-withdrawn slot first now new after p peer h is next place room none told =
+    Walks-told (IsGone (export_to first slot)) (held_at h.serves.after.adj_out) slot first now new after p None h (λ q idle missing. idle) next place room
+    (export_now first now slot peer h.serves.only.rest is p ∙ none) (λ gone. let found = rw gone at next.0 in (cc)) (λ missing. refl) told
+
+-- what is exported stays
+pub Walks-stays : (slot : ℕ) (first now : SpeakerState) (after : Option Prefix) (p : Prefix) (peer : ExportPeer) (octets : List ℕ) → (h : Walks (IsGone (export_to first slot)) slot first after now)
+    → Some peer ≡ option_map (export_peer_of first.conf slot) (peer_at first.conf slot) → IsNext (held_at h.serves.after.adj_out) after (Some p) → rank_of p < 2 ^ 38
+    → export_in (best_at now.loc_rib) now.adj_in peer p ≡ Some octets → Walks (IsGone (export_to first slot)) slot first (Some p) now
+Walks-stays slot first now after p peer octets h is next place some =
+    Walks-kept (IsGone (export_to first slot)) (held_at h.serves.after.adj_out) slot first now after p h (λ q idle missing. idle) next place
+    (λ missing. let exported = export_now first now slot peer h.serves.only.rest is p ∙ some in absurd (cc))
+
+-- without a best route nothing is exported
+none_exported : (slot : ℕ) (first now : SpeakerState) (peer : ExportPeer) (held : Prefix → Option (List ℕ)) → now ≡ record first { links = now.links }
+    → Some peer ≡ option_map (export_peer_of first.conf slot) (peer_at first.conf slot) → (q : Prefix) → best_at now.loc_rib q ≡ None → IsHad (export_to first slot) q (held q)
+none_exported slot first now peer held rest is q idle octets some =
+    let none : export_to first slot q ≡ None = export_now first now slot peer rest is q ∙ rw idle refl in absurd (cc)
+
+-- what is exported is announced
+pub Walks-announced : (slot : ℕ) (first now new : SpeakerState) (after : Option Prefix) (p : Prefix) (peer : ExportPeer) (octets : List ℕ) → (h : Walks (IsHad (export_to first slot)) slot first after now)
+    → Some peer ≡ option_map (export_peer_of first.conf slot) (peer_at first.conf slot) → IsNext (best_at now.loc_rib) after (Some p) → rank_of p < 2 ^ 38 → HasRoomAt now slot
+    → export_in (best_at now.loc_rib) now.adj_in peer p ≡ Some octets → held_at h.serves.after.adj_out p ≢ Some octets → IsToldAt slot p (Some octets) now new
+    → Walks (IsHad (export_to first slot)) slot first (Some p) new
+Walks-announced slot first now new after p peer octets h is next place room some news told =
+    let exported = export_now first now slot peer h.serves.only.rest is p ∙ some in
+    Walks-told (IsHad (export_to first slot)) (best_at now.loc_rib) slot first now new after p (Some octets) h (none_exported slot first now peer (held_at h.serves.after.adj_out) h.serves.only.rest is) next place room
+    exported news (λ others same. sym exported ∙ same) told
+
+-- what is exported and held just so, or isn't exported, needs nothing
+pub Walks-had : (slot : ℕ) (first now : SpeakerState) (after : Option Prefix) (p : Prefix) (peer : ExportPeer) → (h : Walks (IsHad (export_to first slot)) slot first after now)
+    → Some peer ≡ option_map (export_peer_of first.conf slot) (peer_at first.conf slot) → IsNext (best_at now.loc_rib) after (Some p) → rank_of p < 2 ^ 38
+    → ((octets : List ℕ) → export_in (best_at now.loc_rib) now.adj_in peer p ≡ Some octets → held_at h.serves.after.adj_out p ≡ Some octets)
+    → Walks (IsHad (export_to first slot)) slot first (Some p) now
+Walks-had slot first now after p peer h is next place had =
+    Walks-kept (IsHad (export_to first slot)) (best_at now.loc_rib) slot first now after p h (none_exported slot first now peer (held_at h.serves.after.adj_out) h.serves.only.rest is) next place
+    (λ octets some. had octets (sym (export_now first now slot peer h.serves.only.rest is p) ∙ some))
+
+-- a refused growth leaves the walk where it is
+pub Serves-still : (slot : ℕ) (first now new : SpeakerState) → Serves slot first now → IsStill now new → Serves slot first new
+Serves-still slot first now new h still =
+    Serves-more slot first now new h (record {
+      before = h.after;
+      after = h.after;
+      was = h.is;
+      is = still.links slot ∙ h.is;
+      up = h.up;
+      grows = omega arith;
+      gone = λ q none held. held;
+      only = record { rest = still.rest; others = λ s other. still.links s };
+      queues = queues_still now new still;
+    })
+
+served_at : (export held : Option (List ℕ)) → (export ≡ None → held ≡ None) → ((octets : List ℕ) → export ≡ Some octets → held ≡ Some octets) → held ≡ export
+served_at None held gone had = gone refl
+served_at (Some octets) held gone had = had octets refl
+
+-- what isn't exported was gone behind the withdrawals, and what is exported is held behind the announcements
+served : (slot : ℕ) (first mid now : SpeakerState) → (h : Serves slot first mid) → (k : Serves slot mid now) → IsDoneAt (IsGone (export_to first slot)) mid slot
+    → IsDoneAt (IsHad (export_to mid slot)) now slot → IsServedAt now slot
+served slot first mid now h k gone had peer l configured is established room q =
+    let last : l ≡ k.after = the_slot slot now l k.after is k.is in
+    let exports : export_to now slot ≡ export_to mid slot = ap (λ e. e slot) (export_kept mid now k.only.rest) in
+    let before : export_to mid slot ≡ export_to first slot = ap (λ e. e slot) (export_kept first mid h.only.rest) in
+    let later = rw last at room in
+    let earlier : HasRoom k.before = omega (arith, k.grows, later) in
+    served_at (export_to now slot q) (held_at l.adj_out q)
+    (λ none. rw last (k.gone q (sym (ap (λ e. e q) exports) ∙ none) (gone k.before k.was earlier q (sym (ap (λ e. e q) before) ∙ sym (ap (λ e. e q) exports) ∙ none))))
+    (λ octets some. had l is room q octets (sym (ap (λ e. e q) exports) ∙ some))
+
+pub served_on : {T F : Type 0} (result : Result T F) (slot : ℕ) (first mid now : SpeakerState) → Serves slot first mid → Serves slot mid now → IsDoneAt (IsGone (export_to first slot)) mid slot
+    → OnOk result (IsDoneAt (IsHad (export_to mid slot)) now slot) → OnOk result (IsServedAt now slot)
+served_on (Ok done) slot first mid now h k gone had = served slot first mid now h k gone had
+served_on (Err why) slot first mid now h k gone had = tt
+
+-- a slot that isn't configured, or whose session isn't Established, is owed nothing
+pub unserved : (s : SpeakerState) (slot : ℕ) → ((l : Linked) → link_at s.links slot ≡ Some l → l.peer.session.state ≢ Established) → IsServedAt s slot
+unserved s slot down peer l configured is established = absurd (down l is established)
+
+-- the slots below this one have been served
+pub record AreServed (first now : SpeakerState) (n : ℕ) : Type 0 where
+  pub rest : now ≡ record first { links = now.links }
+  pub queues : QueuesOn first now
+  pub served : (slot : ℕ) → slot < n → IsServedAt now slot
+
+pub AreServed-start : (s : SpeakerState) → AreServed s s 0
+AreServed-start s = record {
+  rest = refl;
+  queues = λ config call r queue passes. (queue, passes);
+  served = λ slot below. absurd (omega (arith, below));
 }
 
--- nothing is held of what isn't exported, when the walk is over
-pub Withdraws-end : (export : Prefix → Option (List ℕ)) (first now : Linked) (after : Option Prefix) → Withdraws export first after now
-    → ((q : Prefix) → IsAbove after q → held_at now.adj_out q ≡ None) → (q : Prefix) → export q ≡ None → held_at now.adj_out q ≡ None
-Withdraws-end export first now after h none q missing =
-    elim (cases_lt (rank_of q) (reached after)) [
-      | inl before ↦ h.gone q before missing
-      | inr behind ↦ none q (above_from_rank after q behind)
-    ]
+served_still : (slot n : ℕ) (now new : SpeakerState) → IsOfSlot n now new → slot ≢ n → IsServedAt now slot → IsServedAt new slot
+served_still slot n now new only other served peer l configured is =
+    let exports : export_to new slot ≡ export_to now slot = ap (λ e. e slot) (export_kept now new only.rest) in
+    let conf : peer_at new.conf slot ≡ peer_at now.conf slot = ap (λ (s : SpeakerState). peer_at s.conf slot) only.rest in
+    λ established room q. served peer l (sym conf ∙ configured) (sym (only.others slot other) ∙ is) established room q ∙ sym (ap (λ e. e q) exports)
 
--- a peer that doesn't hold the prefix as it is exported is told so
-pub Announced-told : (export : Prefix → Option (List ℕ)) (p : Prefix) (octets : List ℕ) (now new : Linked)
-    → now.peer.session.state ≡ Established → length now.peer.ring + 8192 ≤ 65536
-    → export p ≡ Some octets → (held_at now.adj_out p ≡ Some octets → ⊥) → IsTold p (Some octets) now new → Announced export p now new
-Announced-told export p octets now new established room exported news told = record {
-  queues = (
-    update_saying p (export p) ∷ [],
-    (
-      now,
-      refl,
-      record {
-        prefix = p;
-        established = established;
-        room = room;
-        news = λ same. news (same ∙ exported);
-        update_is = refl;
-        told = rw exported told;
-      },
-    ),
-  );
-  told = λ attributes is. rw (told.held p, is_prefix-self p) (sym exported ∙ is);
-  none = λ none. absurd (cc);
-  others = λ q other. rw (told.held q, other) refl;
+pub AreServed-queues : (first now new : SpeakerState) (n : ℕ) → AreServed first now n → QueuesOn now new → QueuesOn first new
+AreServed-queues first now new n h queues config call r queue passes = let mid = h.queues config call r queue passes in queues config call r mid.0 mid.1
+
+pub AreServed-rest : (first now new : SpeakerState) (n : ℕ) → AreServed first now n → IsOfSlot n now new → new ≡ record first { links = new.links }
+AreServed-rest first now new n h only = only.rest ∙ ap (λ (s : SpeakerState). record s { links = new.links }) h.rest
+
+pub AreServed-more : (first now new : SpeakerState) (n : ℕ) → AreServed first now n → IsOfSlot n now new → QueuesOn now new → IsServedAt new n → AreServed first new (n + 1)
+AreServed-more first now new n h only queues served = record {
+  rest = AreServed-rest first now new n h only;
+  queues = AreServed-queues first now new n h queues;
+  served = λ slot below.
+      elim (cases_lt slot n) [
+        | inl before ↦ served_still slot n now new only (λ is. absurd (omega (arith, is, before))) (h.served slot before)
+        | inr behind ↦ subst (λ x. IsServedAt new x) (omega (arith, below, behind)) served
+      ];
 }
-
--- announced so far, of these best routes, with those that are still to come
-pub record Announces (export : Prefix → Option (List ℕ)) (routes seen rest : List (Prefix × Candidate)) (first now : Linked) : Type 0 where
-  pub whole : seen ++ rest ≡ routes
-  pub session : now.peer.session ≡ first.peer.session
-  pub grows : length first.peer.ring ≤ length now.peer.ring
-  pub queues : (updates : List (List ℕ)) × Queues export updates first now
-  pub told : (q : Prefix) (octets : List ℕ) → is_named seen q ≡ true → export q ≡ Some octets → held_at now.adj_out q ≡ Some octets
-  pub keeps : (q : Prefix) → export q ≡ None → held_at now.adj_out q ≡ held_at first.adj_out q
-
-pub Announces-start : (export : Prefix → Option (List ℕ)) (routes rest : List (Prefix × Candidate)) (first : Linked) → rest ≡ routes → Announces export routes [] rest first first
-Announces-start export routes rest first all = record {
-  whole = all;
-  session = refl;
-  grows = omega arith;
-  queues = ([], refl);
-  told = λ q octets named exported. absurd (cc);
-  keeps = λ q none. refl;
-}
-
--- these UPDATEs, and then those
-Queues-append : (export : Prefix → Option (List ℕ)) (later updates : List (List ℕ)) (first mid now : Linked) → Queues export updates first mid → Queues export later mid now
-    → (all : List (List ℕ)) × Queues export all first now
-Queues-append export [] updates first mid now h k = (updates, rw k h)
-Queues-append export (update ∷ later) updates first mid now h k =
-    let before = Queues-append export later updates first mid k.0 h k.1 in (update ∷ before.0, (k.0, before.1, k.2))
-
-pub Queues-more : (export : Prefix → Option (List ℕ)) (first mid now : Linked) → (updates : List (List ℕ)) × Queues export updates first mid
-    → (updates : List (List ℕ)) × Queues export updates mid now → (updates : List (List ℕ)) × Queues export updates first now
-Queues-more export first mid now h k = Queues-append export k.0 h.0 first mid now h.1 k.1
-
-one_more : (routes seen rest next : List (Prefix × Candidate)) (e : Prefix × Candidate) → seen ++ rest ≡ routes → rest ≡ e ∷ next → (seen ++ e ∷ []) ++ next ≡ routes
-one_more routes seen rest next e whole is = let here = rw is at whole in append_assoc seen (e ∷ []) next ∙ here
-
--- naming goes both ways
-named-sym : (p q : Prefix) → is_prefix p q ≡ false → is_at (prefix_cmp q) p ≡ false
-named-sym p q h = grind (arith, nat_tests)
-
-or_first : (a b : Bool) → (a || b) ≡ true → (a ≡ true) ⊎ (b ≡ true)
-or_first true b h = inl refl
-or_first false b h = inr h
-
-both_false : (a b : Bool) → (a || b) ≡ false → (a ≡ false) × (b ≡ false)
-both_false true b h = absurd (cc)
-both_false false b h = (refl, h)
-
-or_true : (a : Bool) → (a || true) ≡ true
-or_true true = refl
-or_true false = refl
-
--- a prefix is named before, or by the last route
-named_before : (seen : List (Prefix × Candidate)) (e : Prefix × Candidate) (q : Prefix) → is_named (seen ++ e ∷ []) q ≡ true → is_prefix e.0 q ≡ false → is_named seen q ≡ true
-named_before [] e q named other = let not = named-sym e.0 q other in let is = rw not at named in is
-named_before (d ∷ seen) e q named other =
-    elim (or_first (is_at (prefix_cmp q) d.0) (is_named (seen ++ e ∷ []) q) named) [
-      | inl here ↦ rw here refl
-      | inr later ↦ rw (named_before seen e q later other) (or_true (is_at (prefix_cmp q) d.0))
-    ]
-
-pub same_from_is_prefix : (p q : Prefix) → is_prefix p q ≡ true → p ≡ q
-same_from_is_prefix p q h = let parts = parts_from_is_prefix p q h in same_prefix p q parts.0 parts.1
-
-kept_more : (export : Prefix → Option (List ℕ)) (p : Prefix) (now new : Linked) (q : Prefix) (b : Bool) → is_prefix p q ≡ b → Announced export p now new
-    → export q ≡ None → held_at new.adj_out q ≡ held_at now.adj_out q
-kept_more export p now new q false is announced none = announced.others q is
-kept_more export p now new q true is announced none =
-    let same : p ≡ q = same_from_is_prefix p q is in
-    let P : Prefix → Type 0 = λ x. held_at new.adj_out x ≡ held_at now.adj_out x in
-    subst P same (announced.none (rw same none))
-
-told_more : (export : Prefix → Option (List ℕ)) (seen : List (Prefix × Candidate)) (e : Prefix × Candidate) (now new : Linked) (q : Prefix) (octets : List ℕ) (b : Bool)
-    → is_prefix e.0 q ≡ b → ((q : Prefix) (octets : List ℕ) → is_named seen q ≡ true → export q ≡ Some octets → held_at now.adj_out q ≡ Some octets)
-    → Announced export e.0 now new → is_named (seen ++ e ∷ []) q ≡ true → export q ≡ Some octets → held_at new.adj_out q ≡ Some octets
-told_more export seen e now new q octets true is before announced named exported =
-    let same : e.0 ≡ q = same_from_is_prefix e.0 q is in
-    let P : Prefix → Type 0 = λ x. held_at new.adj_out x ≡ Some octets in
-    subst P same (announced.told octets (rw same exported))
-told_more export seen e now new q octets false is before announced named exported = announced.others q is ∙ before q octets (named_before seen e q named is) exported
-
--- one more best route
-pub Announces-more : (export : Prefix → Option (List ℕ)) (routes seen rest next : List (Prefix × Candidate)) (e : Prefix × Candidate) (first now new : Linked)
-    → Announces export routes seen rest first now → rest ≡ e ∷ next → new.peer.session ≡ now.peer.session → length now.peer.ring ≤ length new.peer.ring
-    → Announced export e.0 now new → Announces export routes (seen ++ e ∷ []) next first new
-Announces-more export routes seen rest next e first now new h is session grows announced = record {
-  whole = one_more routes seen rest next e h.whole is;
-  session = session ∙ h.session;
-  grows = omega (arith, h.grows, grows);
-  queues = Queues-more export first now new h.queues announced.queues;
-  told = λ q octets named exported. told_more export seen e now new q octets _ refl h.told announced named exported;
-  keeps = λ q none. kept_more export e.0 now new q _ refl announced none ∙ h.keeps q none;
-}
-
--- a prefix that no best route is to has none
-not_named : (routes : List (Prefix × Candidate)) (q : Prefix) → is_named routes q ≡ false → best_at routes q ≡ None
-not_named [] q h = refl
-not_named (e ∷ routes) q h =
-    let parts = both_false (is_at (prefix_cmp q) e.0) (is_named routes q) h in rw parts.0 (not_named routes q parts.1)
-
-named_from_best : (routes : List (Prefix × Candidate)) (q : Prefix) (b : Bool) (c : Candidate) → is_named routes q ≡ b → best_at routes q ≡ Some c → is_named routes q ≡ true
-named_from_best routes q true c is best = is
-named_from_best routes q false c is best = let none = not_named routes q is in absurd (cc)
-
-named_from_export : (routes : List (Prefix × Candidate)) (q : Prefix) (best : Option Candidate) (adj_in : List (RouteKey × PathAttributes)) (peer : ExportPeer) (octets : List ℕ)
-    → best_at routes q ≡ best → export_in (best_at routes) adj_in peer q ≡ Some octets → is_named routes q ≡ true
-named_from_export routes q None adj_in peer octets is exported = let none = rw is at exported in absurd (cc)
-named_from_export routes q (Some c) adj_in peer octets is exported = named_from_best routes q _ c refl is
-
--- all that is exported is held, when the walk is over
-pub Announces-end : (routes : List (Prefix × Candidate)) (adj_in : List (RouteKey × PathAttributes)) (peer : ExportPeer) (seen rest : List (Prefix × Candidate)) (first now : Linked)
-    → Announces (export_in (best_at routes) adj_in peer) routes seen rest first now → rest ≡ []
-    → (q : Prefix) (octets : List ℕ) → export_in (best_at routes) adj_in peer q ≡ Some octets → held_at now.adj_out q ≡ Some octets
-Announces-end routes adj_in peer seen rest first now h over q octets exported =
-    let whole = rw over at h.whole in
-    let all : seen ≡ routes = sym (append-nil seen) ∙ whole in
-    h.told q octets (rw all (named_from_export routes q _ adj_in peer octets refl exported)) exported
-
-served_at : (export : Prefix → Option (List ℕ)) (mid now : Linked) (q : Prefix) (what : Option (List ℕ)) → export q ≡ what
-    → (export q ≡ None → held_at mid.adj_out q ≡ None) → ((octets : List ℕ) → export q ≡ Some octets → held_at now.adj_out q ≡ Some octets)
-    → (export q ≡ None → held_at now.adj_out q ≡ held_at mid.adj_out q) → held_at now.adj_out q ≡ export q
-served_at export mid now q None is gone told keeps = keeps is ∙ gone is ∙ sym is
-served_at export mid now q (Some octets) is gone told keeps = told octets is ∙ sym is
-
--- the peer holds its export: what isn't exported is gone since the withdrawals, what is exported has been announced
-pub served : (export : Prefix → Option (List ℕ)) (mid now : Linked) → length mid.peer.ring ≤ length now.peer.ring
-    → (length mid.peer.ring + 8192 ≤ 65536 → (q : Prefix) → export q ≡ None → held_at mid.adj_out q ≡ None)
-    → (length now.peer.ring + 8192 ≤ 65536 → (q : Prefix) (octets : List ℕ) → export q ≡ Some octets → held_at now.adj_out q ≡ Some octets)
-    → ((q : Prefix) → export q ≡ None → held_at now.adj_out q ≡ held_at mid.adj_out q) → IsServed export now
-served export mid now grows gone told keeps = λ established room q. served_at export mid now q _ refl (gone (omega (arith, grows, room)) q) (told room q) (keeps q)

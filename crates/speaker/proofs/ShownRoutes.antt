@@ -33,7 +33,7 @@ use Rattle.speaker.specs.Tables.{Tables, best_at, link_at, session_at}
 use Rattle.speaker.specs.declared.config.Config.{Config}
 use Rattle.speaker.proofs.Calls.{slot_route, tables_same}
 use Rattle.speaker.proofs.OneBest.{best_is_candidate, same_best}
-use Rattle.speaker.proofs.Serving.{same_from_is_prefix}
+use Rattle.speaker.proofs.Places.{same_from_is_prefix}
 use Rattle.bgp_peer.specs.SessionInputs.{occupant}
 use Rattle.speaker.proofs.SlotStates.{none_from}
 

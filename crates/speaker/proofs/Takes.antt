@@ -1,29 +1,27 @@
-use Rattle.std.proofs.Common.{◌≡◌, ◌<◌, ◌==◌, inl, inr, ℕ, Bool, true, false, List, [], ◌∷◌, ◌++◌, Option, Some, None, length, take, drop, min, cond, refl, sym, ap, ◌∙◌, subst, arith}
+use Rattle.std.proofs.Common.{◌≡◌, ◌<◌, ◌==◌, inl, inr, ℕ, Bool, false, List, [], ◌∷◌, ◌++◌, Option, Some, None, length, take, drop, min, cond, refl, sym, ap, ◌∙◌, subst, arith}
 use Rattle.std.specs.Option.{option_map}
 use Rattle.std.proofs.lemmas.Bool.{cases_eq, eq-eqb, ne_eqb}
 use Rattle.std.proofs.lemmas.List.{length-take}
 use Rattle.std.proofs.Math.Seq.{take-append_seam}
-use Rattle.bgp_conf.specs.Configuration.{peer_at}
-use Rattle.bgp_conf.specs.declared.conf.ConfiguredPeer.{ConfiguredPeer}
 use Rattle.bgp_peer.specs.SessionInputs as happens
 use Rattle.bgp_peer.specs.SessionInputs.{Handed}
 use Rattle.bgp_peer.specs.Slot.{handed}
 use Rattle.rib_in.specs.LatestRoutes.{route_at}
-use Rattle.speaker.specs.Agreement.{Holds, Agrees, tables_after}
+use Rattle.speaker.specs.Agreement.{Holds, Agrees, Passes, QueuesOn, tables_after}
 use Rattle.speaker.proofs.SlotStates.{SlotIs}
-use Rattle.speaker.specs.Export.{export_to}
 use Rattle.speaker.specs.Linked.{Linked}
 use Rattle.speaker.specs.LocRib.{IsLocRib}
 use Rattle.speaker.specs.Moves.{Hands}
-use Rattle.speaker.specs.Queueing.{Queue, QueuesAll, IsServed}
+use Rattle.speaker.specs.Queueing.{Queue}
 use Rattle.speaker.specs.Runs.{Run, turn, Take_call, history}
-use Rattle.speaker.specs.SpeakerState.{SpeakerState, KeepsTables, tables_of}
-use Rattle.speaker.specs.Tables.{Tables, link_at}
+use Rattle.speaker.specs.Serving.{IsServedAt}
+use Rattle.speaker.specs.SpeakerState.{SpeakerState, tables_of}
+use Rattle.speaker.specs.Tables.{link_at}
 use Rattle.speaker.specs.declared.config.Config.{Config}
 use Rattle.speaker.proofs.Calls.{tables_same}
 use Rattle.speaker.proofs.Commands.{peer_of}
 use Rattle.speaker.proofs.Events.{holds_put, slot_is}
-use Rattle.speaker.proofs.Settling.{agrees_after}
+use Rattle.speaker.proofs.Passing.{passes_first, agrees_served}
 use Rattle.speaker.proofs.SlotEvents.{with_peer}
 use Rattle.speaker.proofs.SlotOctets.{slot_handed}
 
@@ -61,36 +59,27 @@ first_octets count ring buf new is octets =
     let whole : length (take count ring) ≡ count = length-take count ring ∙ (omega (arith, is)) in
     ap (λ x. take count x) octets ∙ ap (λ n. take n (take count ring ++ drop count buf)) (sym whole) ∙ take-append_seam (take count ring) (drop count buf)
 
--- each slot is served
-abbrev AllServed : SpeakerState → SpeakerState → Type 0
-AllServed mid new = (s : ℕ) (peer : ConfiguredPeer) (x : Linked) → s < 64 → peer_at mid.conf s ≡ Some peer → link_at new.links s ≡ Some x → IsServed (export_to mid s) x
-
--- a take
-agrees_taken : (config : Config) (r : Run) (slot : ℕ) (l : Linked) (count : ℕ) (buf filled : List ℕ) (old mid new : SpeakerState) (queue : Queue) → Agrees config r old → link_at old.links slot ≡ Some l
-    → count ≡ min (length buf) (length l.peer.ring) → filled ≡ take count l.peer.ring ++ drop count buf → Hands slot l count old mid
-    → KeepsTables mid new → new.stopped ≡ false → QueuesAll (export_to mid) queue (link_at mid.links) (link_at new.links) → AllServed mid new
-    → Agrees config (turn (Take_call slot (take count filled)) queue ∷ r) new
-agrees_taken config r slot l count buf filled old mid new queue a linked is octets hands keeps runs queues served =
-    let P : Tables → Type 0 = λ t. IsLocRib t mid.loc_rib in
+-- a take that has handed octets out and queued nothing yet
+passes_handed : (config : Config) (r : Run) (slot : ℕ) (l : Linked) (count : ℕ) (old mid : SpeakerState) → Agrees config r old → link_at old.links slot ≡ Some l → Hands slot l count old mid
+    → Passes config (Take_call slot (take count l.peer.ring)) r [] mid
+passes_handed config r slot l count old mid a linked hands =
     let before : IsLocRib (tables_after config r) mid.loc_rib = rw hands.rest.loc_rib a.loc_rib in
     let tables = tables_same config r old.conf (link_at old.links) old.adj_in (sym a.holds.conf) a.holds.slots ∙ tables_handed slot l count old mid linked hands in
-    let stopped : new.stopped ≡ mid.stopped = runs ∙ sym (hands.rest.stopped ∙ a.holds.running) in
-    rw (first_octets count l.peer.ring buf filled is octets)
-    (agrees_after config (Take_call slot (take count l.peer.ring)) r mid new queue (holds_handed config r slot l count old mid a.holds linked hands) a.thrifty (subst P tables before) keeps stopped queues served)
+    passes_first config (Take_call slot (take count l.peer.ring)) r mid (holds_handed config r slot l count old mid a.holds linked hands) (subst (λ t. IsLocRib t mid.loc_rib) tables before)
 
--- what was queued, if want of memory didn't stop it
-queue_of : (stopped : Bool) (P : Queue → Type 0) → (stopped ≡ false → (queue : Queue) × P queue) → (queue : Queue) × (stopped ≡ false → P queue)
-queue_of true P queues = ([], λ runs. absurd (cc))
-queue_of false P queues = let queued = queues refl in (queued.0, λ runs. queued.1)
-
--- a take, and what it reports
+-- a take, as what it queued so far leaves it
 pub taken_agrees : (config : Config) (r : Run) (slot : ℕ) (l : Linked) (count : ℕ) (buf filled : List ℕ) (old mid new : SpeakerState) → Agrees config r old → link_at old.links slot ≡ Some l
-    → count ≡ min (length buf) (length l.peer.ring) → filled ≡ take count l.peer.ring ++ drop count buf → Hands slot l count old mid → KeepsTables mid new
-    → (new.stopped ≡ false → (queue : Queue) × QueuesAll (export_to mid) queue (link_at mid.links) (link_at new.links)) → (new.stopped ≡ false → AllServed mid new)
-    → (queue : Queue) × (new.stopped ≡ false → Agrees config (turn (Take_call slot (take count filled)) queue ∷ r) new)
-taken_agrees config r slot l count buf filled old mid new a linked is octets hands keeps queues served =
-    let queued = queue_of new.stopped (λ queue. QueuesAll (export_to mid) queue (link_at mid.links) (link_at new.links)) queues in
-    (queued.0, λ runs. agrees_taken config r slot l count buf filled old mid new queued.0 a linked is octets hands keeps runs (queued.1 runs) (served runs))
+    → count ≡ min (length buf) (length l.peer.ring) → filled ≡ take count l.peer.ring ++ drop count buf → Hands slot l count old mid
+    → QueuesOn mid (record new { stopped = mid.stopped }) → (new.stopped ≡ false → (s : ℕ) → s < 64 → IsServedAt new s)
+    → (queue : Queue) × Passes config (Take_call slot (take count filled)) r queue (record new { stopped = false })
+    × (new.stopped ≡ false → Agrees config (turn (Take_call slot (take count filled)) queue ∷ r) new)
+taken_agrees config r slot l count buf filled old mid new a linked is octets hands queues served =
+    let running : mid.stopped ≡ false = hands.rest.stopped ∙ a.holds.running in
+    let queued = queues config (Take_call slot (take count l.peer.ring)) r [] (passes_handed config r slot l count old mid a linked hands) in
+    let P : Bool → Type 0 = λ b. Passes config (Take_call slot (take count l.peer.ring)) r queued.0 (record new { stopped = b }) in
+    let passes = subst P running queued.1 in
+    rw (first_octets count l.peer.ring buf filled is octets)
+    (queued.0, passes, λ runs. agrees_served config (Take_call slot (take count l.peer.ring)) r queued.0 new (subst P (running ∙ sym runs) queued.1) a.thrifty (served runs))
 
 -- there is such a slot
 pub link_there : (found : Option Linked) → (found ≡ None → ⊥) → (l : Linked) × (found ≡ Some l)

@@ -25,7 +25,7 @@ use Rattle.speaker.specs.Linked.{Linked}
 use Rattle.speaker.specs.Tables.{best_at}
 use Rattle.speaker.specs.Waiting.{is_same, differing, if_established, known_prefixes, waiting_at}
 use Rattle.speaker.proofs.MergedPrefixes.{any_merged}
-use Rattle.speaker.proofs.Serving.{same_from_is_prefix}
+use Rattle.speaker.proofs.Places.{same_from_is_prefix}
 
 -- The known prefixes that differ, as a list.
 

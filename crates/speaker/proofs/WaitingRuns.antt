@@ -21,7 +21,7 @@ use Rattle.speaker.specs.Waiting.{IsWaiting, IsWaitingIn, if_established, differ
 use Rattle.speaker.specs.declared.config.Config.{Config}
 use Rattle.speaker.proofs.Calls.{export_peer_found, tables_same}
 use Rattle.speaker.proofs.OneBest.{same_export}
-use Rattle.speaker.proofs.Settling.{export_of_run}
+use Rattle.speaker.proofs.Passing.{export_of_run}
 use Rattle.speaker.proofs.SlotStates.{linked_from}
 use Rattle.speaker.proofs.WaitingLists.{differing_is}
 

@@ -7,7 +7,8 @@ use Rattle.bgp_conf.specs.declared.conf.ConfiguredPeer.{ConfiguredPeer}
 use Rattle.bgp_fsm.specs.declared.state.State.TheVariants.{Established}
 use Rattle.bgp_fsm.specs.StateTests.{is_established}
 use Rattle.bgp_fsm.specs.Transports.{transport_of}
-use Rattle.bgp_peer.specs.Agreement.{PeerAgrees}
+use Rattle.bgp_msg.specs.MessageStream.{messages}
+use Rattle.bgp_peer.specs.Agreement.{PeerAgrees, IsUpdateMessage}
 use Rattle.bgp_peer.specs.SentMessages.{ring_of, sent}
 use Rattle.bgp_peer.specs.SessionInputs as slot
 use Rattle.bgp_peer.specs.SessionInputs.{occupant, session}
@@ -17,10 +18,10 @@ use Rattle.rib_in.specs.LatestRoutes.{route_at}
 use Rattle.rib_out.specs.Held.{held_at}
 use Rattle.speaker.specs.AdjRibIn.{route}
 use Rattle.speaker.specs.Export.{IsExport, export_peer_of}
-use Rattle.speaker.specs.Held.{held, told_in}
+use Rattle.speaker.specs.Held.{held, told_from, told_in}
 use Rattle.speaker.specs.Linked.{Linked}
 use Rattle.speaker.specs.LocRib.{IsLocRib}
-use Rattle.speaker.specs.Queueing.{Queue, update_saying}
+use Rattle.speaker.specs.Queueing.{Queue}
 use Rattle.speaker.specs.Runs.{Call, Run, turn, configuration_of, history, terms_in}
 use Rattle.speaker.specs.SpeakerState.{SpeakerState}
 use Rattle.speaker.specs.Tables.{Tables, link_at}
@@ -59,15 +60,23 @@ IsSettled config r =
     → (session (history config s r)).state ≡ Established → length (ring_of (history config s r)) + 8192 ≤ 65536
     → (prefix : Prefix) → IsExport (tables_after config r) (export_peer_of (configuration_of config r) s peer) prefix (held (history config s r) prefix)
 
--- as the run stands, the UPDATE says of a prefix what the export to the slot has and its peer doesn't hold
-pub record IsOwedIn (config : Config) (r : Run) (s : ℕ) (update : List ℕ) : Type 0 where
-  pub peer : ConfiguredPeer
-  pub prefix : Prefix
-  pub export : Option (List ℕ)
-  pub configured : peer_at (configuration_of config r) s ≡ Some peer
+-- the UPDATE names the prefix: what it tells of it doesn't depend on what was told before
+abbrev pub Names : List ℕ → Prefix → Type 0
+Names update prefix = (before : Option (List ℕ)) → told_from before (messages update) prefix ≡ told_in update prefix
+
+-- as the run stands, this is what the export to the slot has of the prefix, and its peer doesn't hold it
+pub record IsNews (config : Config) (r : Run) (s : ℕ) (peer : ConfiguredPeer) (prefix : Prefix) (export : Option (List ℕ)) : Type 0 where
   pub is_export : IsExport (tables_after config r) (export_peer_of (configuration_of config r) s peer) prefix export
   pub news : held (history config s r) prefix ≢ export
-  pub update_is : update ≡ update_saying prefix export
+
+-- as the run stands, the octets are an UPDATE that says of each prefix which it names what the export to the slot has
+-- and its peer doesn't hold; it names one at least
+pub record IsOwedIn (config : Config) (r : Run) (s : ℕ) (update : List ℕ) : Type 0 where
+  pub peer : ConfiguredPeer
+  pub configured : peer_at (configuration_of config r) s ≡ Some peer
+  pub is_update : IsUpdateMessage update
+  pub some : (prefix : Prefix) × Names update prefix
+  pub each : (prefix : Prefix) → Names update prefix → IsNews config r s peer prefix (told_in update prefix)
 
 -- each UPDATE that the call queued was owed when it was queued
 abbrev pub AreOwed : Config → Call → Run → Queue → Type 0
@@ -87,6 +96,17 @@ pub record Holds (config : Config) (r : Run) (s : SpeakerState) : Type 0 where
   pub within : (slot : ℕ) (peer : ConfiguredPeer) → peer_at s.conf slot ≡ Some peer → slot < 64
   pub slots : (slot : ℕ) → SlotAgrees config (peer_at s.conf slot) (link_at s.links slot) (route_at s.adj_in slot) (history config slot r)
   pub running : s.stopped ≡ false
+
+-- in the midst of a call all is as the run with what the call has queued so far leaves it: Loc-RIB is the selection, and
+-- each UPDATE was owed when it was queued
+pub record Passes (config : Config) (call : Call) (r : Run) (queue : Queue) (s : SpeakerState) : Type 0 where
+  pub holds : Holds config (turn call queue ∷ r) s
+  pub loc_rib : IsLocRib (tables_after config (turn call queue ∷ r)) s.loc_rib
+  pub owed : AreOwed config call r queue
+
+-- the queueing goes on from the one to the other, whatever the run and the call
+abbrev pub QueuesOn : SpeakerState → SpeakerState → Type 0
+QueuesOn old new = (config : Config) (call : Call) (r : Run) (queue : Queue) → Passes config call r queue old → (longer : Queue) × Passes config call r longer new
 
 -- the speaker is as the run leaves it
 pub record Agrees (config : Config) (r : Run) (s : SpeakerState) : Type 0 where

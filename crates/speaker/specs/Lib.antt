@@ -9,6 +9,7 @@ pub mod AdjRibIn
 pub mod Held
 pub mod Runs
 pub mod Agreement
+pub mod Serving
 pub mod Moves
 pub mod FirstRefusal
 pub mod Played

@@ -7,7 +7,7 @@ use Rattle.net_prefix.specs.declared.prefix.Prefix.{Prefix}
 use Rattle.rib_in.specs.declared.adj_in.RouteKey.{RouteKey}
 use Rattle.speaker.specs.declared.config.Config.{Config}
 use Rattle.speaker.specs.Linked.{Linked}
-use Rattle.speaker.specs.Tables.{Tables, tables, session_at, link_at}
+use Rattle.speaker.specs.Tables.{Tables, tables, link_at}
 
 -- what others see of a speaker: its settings, the configured tables, its slots, Adj-RIB-In, Loc-RIB, and whether want
 -- of memory has stopped it
@@ -37,14 +37,6 @@ started config = record {
 -- an AS or an identifier of 0, or a cache session, of which there is none yet
 abbrev pub is_out_of_range : Config → Bool
 is_out_of_range config = config.asn.0 == 0 || config.identifier == 0 || config.cache
-
--- the settings, the configuration, the sessions, Adj-RIB-In and Loc-RIB are the same
-pub record KeepsTables (old new : SpeakerState) : Type 0 where
-  pub config : new.config ≡ old.config
-  pub conf : new.conf ≡ old.conf
-  pub sessions : (slot : ℕ) → session_at new.links slot ≡ session_at old.links slot
-  pub adj_in : new.adj_in ≡ old.adj_in
-  pub loc_rib : new.loc_rib ≡ old.loc_rib
 
 -- nothing that others see has changed: each slot is as it was, and so is all else
 pub record IsAsBefore (old new : SpeakerState) : Type 0 where

@@ -1,17 +1,24 @@
 //! What the peers are owed: the UPDATEs that make what each was sent its export of Loc-RIB.
-ghost use Rattle.std.specs.Prelude.{◌≡◌, ◌≤◌, ◌<◌, ◌+◌, ◌^◌, ℕ, List, Option, Some, None, OnOk, length};
+ghost use Rattle.std.specs.Prelude.{◌≡◌, ◌≢◌, ◌≤◌, ◌<◌, ◌+◌, ◌^◌, ◌↔◌, ℕ, false, Some, None, OnOk, OnErr, IsTrue, length};
 ghost use Rattle.std.specs.Bool.{OnTrue};
+ghost use Rattle.std.specs.Option.{option_map};
+ghost use Rattle.bgp_conf.specs.Configuration.{peer_at};
 ghost use Rattle.bgp_fsm.specs.declared.state.State.TheVariants.{Established};
 ghost use Rattle.export_rules.specs.Export.{Tells};
-ghost use Rattle.net_prefix.specs.declared.prefix.Prefix.{Prefix as ThePrefix};
 ghost use Rattle.rib_out.specs.Held.{held_at};
-ghost use Rattle.speaker.specs.Export.{export_in};
-ghost use Rattle.speaker.specs.Tables.{best_at};
-ghost use Rattle.speaker.specs.Queueing.{Queues, Announced, IsTold, IsServed, rank_of};
+ghost use Rattle.speaker.specs.Agreement.{QueuesOn};
+ghost use Rattle.speaker.specs.Export.{export_in, export_peer_of, export_to};
+ghost use Rattle.speaker.specs.Linked.{Linked};
+ghost use Rattle.speaker.specs.Queueing.{IsTold, rank_of};
+ghost use Rattle.speaker.specs.Serving.{IsServedAt, IsUpAt, HasRoom, HasRoomAt, IsOfSlot, IsStill, IsToldAt, Serves, IsDoneAt, IsGone, IsHad, IsNext};
+ghost use Rattle.speaker.specs.Tables.{best_at, link_at};
 
 use crate::link::Link;
 use crate::ribs::Ribs;
+use crate::step::Speaker;
 use arrayvec::ArrayVec;
+use bgp_conf::PEER_SLOTS;
+use bgp_fsm::State;
 use bgp_msg::{MAX_MESSAGE, write_announcement, write_withdrawal};
 use bgp_peer::ROOM_FOR_UPDATE;
 use export_rules::{ExportPeer, export_of};
@@ -42,49 +49,157 @@ pub fn export<A: Allocator + Clone>(
     export_of(route, attrs, peer, octets)
 }
 
-/// Queues what an Established peer is owed, withdrawals before announcements and each in rising order, while
-/// its ring has room for an UPDATE.
-pub fn serve<A: Allocator + Clone>(
-    ribs: &Ribs<A>,
-    link: &mut Link<A>,
-    peer: &ExportPeer,
-) -> Result<(), AllocError>
-    requires { link.old.peer.session.state ≡ Established }
-    ensures session { link.new.peer.session ≡ link.old.peer.session }
-    ensures queues { OnOk result ((updates : List (List ℕ)) × Queues (export_in (best_at ribs.now.loc_rib.entries) ribs.now.adj_in peer.now) updates link.old link.new) }
-    ensures served { OnOk result (IsServed (export_in (best_at ribs.now.loc_rib.entries) ribs.now.adj_in peer.now) link.new) }
-{
-    let mut octets = Octets::new();
-    let mut message = Octets::new();
-    withdraw_all(ribs, link, peer, &mut octets, &mut message);
-    announce_all(ribs, link, peer, &mut octets, &mut message)
-}
-
-// Withdraws what the peer holds and what isn't exported to it any more.
-fn withdraw_all<A: Allocator + Clone>(
-    ribs: &Ribs<A>,
-    link: &mut Link<A>,
-    peer: &ExportPeer,
-    octets: &mut Octets,
-    message: &mut Octets,
-)
-    requires { link.old.peer.session.state ≡ Established }
-    ensures session { link.new.peer.session ≡ link.old.peer.session }
-    ensures queues { (updates : List (List ℕ)) × Queues (export_in (best_at ribs.now.loc_rib.entries) ribs.now.adj_in peer.now) updates link.old link.new }
-    ensures gone { length link.new.peer.ring + 8192 ≤ 65536 → (q : ThePrefix)
-        → export_in (best_at ribs.now.loc_rib.entries) ribs.now.adj_in peer.now q ≡ None → held_at link.new.adj_out q ≡ None }
-{
-    let mut after = None;
-    while let Some(prefix) = link.adj_out.prefix_after(after) {
-        if link.peer.free() < ROOM_FOR_UPDATE {
-            return;
+impl<A: Allocator + Clone> Speaker<A> {
+    /// For each Established slot in rising order, queues the UPDATEs that it is owed, while its ring has room.
+    pub(crate) fn queue_updates(&mut self) -> Result<(), AllocError>
+        ensures rest { self.new ≡ record self.old { links = self.new.links } }
+        ensures queues { QueuesOn self.old self.new }
+        ensures served { OnOk result ((slot : ℕ) → slot < 64 → IsServedAt self.new slot) }
+    {
+        for slot in 0..PEER_SLOTS {
+            self.serve_slot(slot)?;
         }
-        if !export(ribs, peer, prefix, octets) {
+        Ok(())
+    }
+
+    // Queues what a slot's peer is owed, withdrawals before announcements and each in rising order, while its
+    // ring has room for an UPDATE.
+    fn serve_slot(&mut self, slot: u8) -> Result<(), AllocError>
+        ensures only { IsOfSlot slot self.old self.new }
+        ensures queues { QueuesOn self.old self.new }
+        ensures served { OnOk result (IsServedAt self.new slot) }
+    {
+        let Some(peer) = self.export_peer(slot) else {
+            return Ok(());
+        };
+        if !self.is_up(slot) {
+            return Ok(());
+        }
+        let mut octets = Octets::new();
+        let mut message = Octets::new();
+        self.withdraw_all(slot, &peer, &mut octets, &mut message);
+        self.announce_all(slot, &peer, &mut octets, &mut message)
+    }
+
+    // Withdraws what the peer holds and what isn't exported to it any more.
+    fn withdraw_all(
+        &mut self,
+        slot: u8,
+        peer: &ExportPeer,
+        octets: &mut Octets,
+        message: &mut Octets,
+    )
+        requires peer { Some peer.now ≡ option_map (export_peer_of self.old.conf slot) (peer_at self.old.conf slot) }
+        requires up { IsUpAt self.old slot }
+        ensures serves { Serves slot self.old self.new }
+        ensures done { IsDoneAt (IsGone (export_to self.old slot)) self.new slot }
+    {
+        let mut after = None;
+        while let Some(prefix) = self.held_after(slot, after) {
+            if !self.has_room(slot) {
+                return;
+            }
+            if !export(&self.ribs, peer, prefix, octets) {
+                self.withdraw_at(slot, prefix, message);
+            }
+            // Places rise, so the walk ends.
+            let _place = place(prefix);
+            after = Some(prefix);
+        }
+    }
+
+    // Announces what is exported to the peer and what it doesn't hold just so.
+    fn announce_all(
+        &mut self,
+        slot: u8,
+        peer: &ExportPeer,
+        octets: &mut Octets,
+        message: &mut Octets,
+    ) -> Result<(), AllocError>
+        requires peer { Some peer.now ≡ option_map (export_peer_of self.old.conf slot) (peer_at self.old.conf slot) }
+        requires up { IsUpAt self.old slot }
+        ensures serves { Serves slot self.old self.new }
+        ensures done { OnOk result (IsDoneAt (IsHad (export_to self.old slot)) self.new slot) }
+    {
+        let mut after = None;
+        while let Some(prefix) = self.ribs.prefix_after(after) {
+            if !self.has_room(slot) {
+                return Ok(());
+            }
+            if export(&self.ribs, peer, prefix, octets) && !self.holds(slot, prefix, octets) {
+                self.announce_at(slot, prefix, octets, message)?;
+            }
+            // Places rise, so the walk ends.
+            let _place = place(prefix);
+            after = Some(prefix);
+        }
+        Ok(())
+    }
+
+    fn is_up(&self, slot: u8) -> bool
+        ensures up { OnTrue result (IsUpAt self.now slot) }
+        ensures down { result ≡ false → (l : Linked) → link_at self.now.links slot ≡ Some l → l.peer.session.state ≢ Established }
+    {
+        match self.links.get(&slot) {
+            Some(link) => link.peer.state() == State::Established,
+            None => false,
+        }
+    }
+
+    fn has_room(&self, slot: u8) -> bool
+        ensures { (l : Linked) → link_at self.now.links slot ≡ Some l → IsTrue result ↔ HasRoom l }
+    {
+        match self.links.get(&slot) {
+            Some(link) => link.peer.free() >= ROOM_FOR_UPDATE,
+            None => false,
+        }
+    }
+
+    // The least prefix that the slot's peer holds above the given one, or the least of all.
+    fn held_after(&self, slot: u8, after: Option<Prefix>) -> Option<Prefix>
+        ensures { (l : Linked) → link_at self.now.links slot ≡ Some l → IsNext (held_at l.adj_out) after result }
+    {
+        let link = self.links.get(&slot)?;
+        link.adj_out.prefix_after(after)
+    }
+
+    // Whether the slot's peer holds just these octets of a prefix.
+    fn holds(&self, slot: u8, prefix: Prefix, octets: &Octets) -> bool
+        ensures { (l : Linked) → link_at self.now.links slot ≡ Some l → IsTrue result ↔ (held_at l.adj_out prefix ≡ Some octets.now.items) }
+    {
+        match self.links.get(&slot) {
+            Some(link) => link.adj_out.holds(prefix, octets.as_slice()),
+            None => false,
+        }
+    }
+
+    fn withdraw_at(&mut self, slot: u8, prefix: Prefix, message: &mut Octets)
+        requires up { IsUpAt self.old slot }
+        requires room { HasRoomAt self.old slot }
+        ensures { IsToldAt slot prefix None self.old self.new }
+    {
+        if let Some(link) = self.links.get_mut(&slot) {
             withdraw(link, prefix, message);
         }
-        // Places rise, so the walk ends.
-        let _place = place(prefix);
-        after = Some(prefix);
+    }
+
+    fn announce_at(
+        &mut self,
+        slot: u8,
+        prefix: Prefix,
+        octets: &Octets,
+        message: &mut Octets,
+    ) -> Result<(), AllocError>
+        requires up { IsUpAt self.old slot }
+        requires room { HasRoomAt self.old slot }
+        requires small { length octets.now.items ≤ 4068 }
+        ensures told { OnOk result (IsToldAt slot prefix (Some octets.now.items) self.old self.new) }
+        ensures err { OnErr result (IsStill self.old self.new) }
+    {
+        match self.links.get_mut(&slot) {
+            Some(link) => announce(link, prefix, octets, message),
+            None => Ok(()),
+        }
     }
 }
 
@@ -96,56 +211,9 @@ fn place(prefix: Prefix) -> u64
     u64::from(prefix.bits) * 64 + u64::from(prefix.len)
 }
 
-// Announces what is exported to the peer and what it doesn't hold just so.
-fn announce_all<A: Allocator + Clone>(
-    ribs: &Ribs<A>,
-    link: &mut Link<A>,
-    peer: &ExportPeer,
-    octets: &mut Octets,
-    message: &mut Octets,
-) -> Result<(), AllocError>
-    requires { link.old.peer.session.state ≡ Established }
-    ensures session { link.new.peer.session ≡ link.old.peer.session }
-    ensures queues { OnOk result ((updates : List (List ℕ)) × Queues (export_in (best_at ribs.now.loc_rib.entries) ribs.now.adj_in peer.now) updates link.old link.new) }
-    ensures grows { length link.old.peer.ring ≤ length link.new.peer.ring }
-    ensures told { OnOk result (length link.new.peer.ring + 8192 ≤ 65536 → (q : ThePrefix) (octets : List ℕ)
-        → export_in (best_at ribs.now.loc_rib.entries) ribs.now.adj_in peer.now q ≡ Some octets → held_at link.new.adj_out q ≡ Some octets) }
-    ensures keeps { OnOk result ((q : ThePrefix) → export_in (best_at ribs.now.loc_rib.entries) ribs.now.adj_in peer.now q ≡ None
-        → held_at link.new.adj_out q ≡ held_at link.old.adj_out q) }
-{
-    for (prefix, _) in &ribs.loc_rib {
-        if link.peer.free() < ROOM_FOR_UPDATE {
-            return Ok(());
-        }
-        announce_owed(ribs, link, peer, *prefix, octets, message)?;
-    }
-    Ok(())
-}
-
-// Announces a prefix, where it is exported to the peer and the peer doesn't hold it just so.
-fn announce_owed<A: Allocator + Clone>(
-    ribs: &Ribs<A>,
-    link: &mut Link<A>,
-    peer: &ExportPeer,
-    prefix: Prefix,
-    octets: &mut Octets,
-    message: &mut Octets,
-) -> Result<(), AllocError>
-    requires established { link.old.peer.session.state ≡ Established }
-    requires room { length link.old.peer.ring + 8192 ≤ 65536 }
-    ensures session { link.new.peer.session ≡ link.old.peer.session }
-    ensures grows { length link.old.peer.ring ≤ length link.new.peer.ring }
-    ensures announced { OnOk result (Announced (export_in (best_at ribs.now.loc_rib.entries) ribs.now.adj_in peer.now) prefix link.old link.new) }
-{
-    if export(ribs, peer, prefix, octets) && !link.adj_out.holds(prefix, octets.as_slice()) {
-        announce(link, prefix, octets, message)?;
-    }
-    Ok(())
-}
-
 fn withdraw<A: Allocator + Clone>(link: &mut Link<A>, prefix: Prefix, message: &mut Octets)
     requires established { link.old.peer.session.state ≡ Established }
-    requires room { length link.old.peer.ring + 8192 ≤ 65536 }
+    requires room { HasRoom link.old }
     ensures { IsTold prefix None link.old link.new }
 {
     let _place = place(prefix);
@@ -161,11 +229,10 @@ fn announce<A: Allocator + Clone>(
     message: &mut Octets,
 ) -> Result<(), AllocError>
     requires established { link.old.peer.session.state ≡ Established }
-    requires room { length link.old.peer.ring + 8192 ≤ 65536 }
+    requires room { HasRoom link.old }
     requires small { length octets.now.items ≤ 4068 }
-    ensures session { link.new.peer.session ≡ link.old.peer.session }
-    ensures grows { length link.old.peer.ring ≤ length link.new.peer.ring }
     ensures told { OnOk result (IsTold prefix (Some octets.now.items) link.old link.new) }
+    ensures err { OnErr result (link.new ≡ link.old) }
 {
     let _place = place(prefix);
     link.adj_out.announce(prefix, octets.as_slice())?;

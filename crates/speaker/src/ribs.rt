@@ -1,7 +1,8 @@
 //! Adj-RIB-In and Loc-RIB (RFC 4271 section 3.2): the peers' latest routes, and the best route of each prefix.
-ghost use Rattle.std.specs.Prelude.{◌≡◌, [], IfOk, OnOk};
+ghost use Rattle.std.specs.Prelude.{◌≡◌, [], IfOk, OnOk, Some};
 ghost use Rattle.bgp_conf.specs.Configuration.{AddressesDiffer};
-ghost use Rattle.speaker.specs.Tables.{tables};
+ghost use Rattle.speaker.specs.Serving.{IsNext};
+ghost use Rattle.speaker.specs.Tables.{best_at, tables};
 ghost use Rattle.speaker.specs.LocRib.{IsLocRib};
 
 use crate::choosing::best;
@@ -12,6 +13,7 @@ use net_prefix::Prefix;
 use rib_in::AdjIn;
 use std::alloc::{AllocError, Allocator};
 use std::collections::BTreeMap;
+use std::ops::Bound;
 
 /// The routes that came, and the best of each prefix.
 #[derive(Drop)]
@@ -48,6 +50,31 @@ impl<A: Allocator + Clone> Ribs<A> {
     {
         self.loc_rib = best_of_all(alloc, conf, links, &self.adj_in, &mut self.meter)?;
         Ok(())
+    }
+
+    /// The least prefix of Loc-RIB above the given one, or the least of all.
+    pub fn prefix_after(&self, after: Option<Prefix>) -> Option<Prefix>
+        ensures { IsNext (best_at self.now.loc_rib.entries) after result }
+    {
+        match after {
+            Some(prefix) => self.prefix_above(prefix),
+            None => match self.loc_rib.first_key_value() {
+                Some((prefix, _)) => Some(*prefix),
+                None => None,
+            },
+        }
+    }
+
+    fn prefix_above(&self, after: Prefix) -> Option<Prefix>
+        ensures { IsNext (best_at self.now.loc_rib.entries) (Some after) result }
+    {
+        let mut above = self
+            .loc_rib
+            .range((Bound::Excluded(after), Bound::Unbounded));
+        match above.next() {
+            Some((prefix, _)) => Some(*prefix),
+            None => None,
+        }
     }
 }
 

@@ -6,21 +6,21 @@ ghost use Rattle.std.specs.Option.{option_map};
 ghost use Rattle.bgp_fsm.specs.Transports.{transport_of};
 ghost use Rattle.speaker.specs.Moves.{Hands};
 ghost use Rattle.speaker.specs.Runs.{Call, Run, turn, call_of, report_of, Take_call};
-ghost use Rattle.speaker.specs.Agreement.{Agrees, Holds, IsThrifty};
+ghost use Rattle.speaker.specs.Agreement.{Agrees, Holds, IsThrifty, Passes, QueuesOn};
 ghost use Rattle.speaker.specs.declared.config.Config.{Config as TheConfig};
 ghost use Rattle.speaker.specs.Tables.{link_at, session_at};
 ghost use Rattle.speaker.specs.Linked.{Linked};
-ghost use Rattle.speaker.specs.Export.{export_to, export_peer_of};
-ghost use Rattle.speaker.specs.Queueing.{Queue, QueuesAll, IsServed};
+ghost use Rattle.speaker.specs.Export.{export_peer_of};
+ghost use Rattle.speaker.specs.Queueing.{Queue};
+ghost use Rattle.speaker.specs.Serving.{IsServedAt};
 ghost use Rattle.speaker.specs.LocRib.{IsLocRib};
 
 use crate::config::Config;
 use crate::event::{Event, Report};
 use crate::link::Link;
-use crate::queueing::serve;
 use crate::ribs::Ribs;
-use bgp_conf::{Command, Conf, PEER_SLOTS, Refusal};
-use bgp_fsm::{Input, State};
+use bgp_conf::{Command, Conf, Refusal};
+use bgp_fsm::Input;
 use export_rules::ExportPeer;
 use net_prefix::{Asn, Transport};
 use std::alloc::{AllocError, Allocator, Global};
@@ -58,7 +58,7 @@ impl<A: Allocator> Model for Speaker<A> {
 }
 
 impl<A: Allocator + Clone> Speaker<A> {
-    ghost use Rattle.speaker.specs.SpeakerState.{SpeakerState, tables_of, KeepsTables, started, is_out_of_range};
+    ghost use Rattle.speaker.specs.SpeakerState.{SpeakerState, tables_of, started, is_out_of_range};
     ghost use Rattle.speaker.specs.FirstRefusal.{refusal_by, refusal_of, take_refusal_of, LacksMemory};
 
     /// A speaker without peers. Refused by 33 where the AS or the identifier is 0, or a cache session is
@@ -98,8 +98,6 @@ impl<A: Allocator + Clone> Speaker<A> {
     /// One event. A refusal leaves the speaker as it was, but where memory is refused to anything else than the
     /// growth of a command itself: then this call and each later one answer 44.
     pub fn step(&mut self, event: Event<'_>) -> Result<Report, Refusal>
-        // After each accepted event Loc-RIB is the selection over all candidates.
-        ensures chosen { OnOk result (IsLocRib (tables_of self.new) self.new.loc_rib) }
         // The first refusal is the answer, and the speaker stays as it was; where there is none, only want of memory is.
         ensures refused { MatchOption (refusal_of self.old event.entry)
             (IfErr result (λ why. (why ≡ Refusal.NoMemory) × LacksMemory event.entry self.old self.new))
@@ -121,7 +119,6 @@ impl<A: Allocator + Clone> Speaker<A> {
     // An event that isn't refused.
     fn take_event(&mut self, event: Event<'_>) -> Result<Report, Refusal>
         requires { refusal_by (tables_of self.old) event ≡ None }
-        ensures chosen { OnOk result (IsLocRib (tables_of self.new) self.new.loc_rib) }
         ensures memory { IfErr result (λ why. (why ≡ Refusal.NoMemory) × LacksMemory event.entry self.old self.new) }
         ensures agrees { IfOk result (λ report. (config : TheConfig) (r : Run) → Agrees config r self.old
             → (queue : Queue) × (report ≡ report_of (turn (call_of event.entry) queue)) × Agrees config (turn (call_of event.entry) queue ∷ r) self.new) }
@@ -168,11 +165,11 @@ impl<A: Allocator + Clone> Speaker<A> {
         // The ring's first octets are handed out, as many as are there and fit.
         ensures handed { IfOk result (λ taken. (l : Linked) → link_at self.old.links slot ≡ Some l
             → (taken.0 ≡ min (length buf.old) (length l.peer.ring)) × (buf.new ≡ take taken.0 l.peer.ring ++ drop taken.0 buf.old)) }
-        ensures keeps { KeepsTables self.old self.new }
-        // For every run that the speaker agrees with, it agrees with that run followed by this call and what it queued,
-        // where want of memory hasn't stopped it; and this turn is what it reports.
+        // For every run that the speaker agrees with, it agrees with that run followed by this call and what it queued, and
+        // this turn is what it reports. Where want of memory stopped the queueing, all is as what was queued so far leaves it.
         ensures agrees { IfOk result (λ taken. (config : TheConfig) (r : Run) → Agrees config r self.old
             → (queue : Queue) × (taken.1 ≡ report_of (turn (Take_call slot (take taken.0 buf.new)) queue))
+            × Passes config (Take_call slot (take taken.0 buf.new)) r queue (record self.new { stopped = false })
             × (self.new.stopped ≡ false → Agrees config (turn (Take_call slot (take taken.0 buf.new)) queue ∷ r) self.new)) }
     {
         if self.stopped {
@@ -187,7 +184,6 @@ impl<A: Allocator + Clone> Speaker<A> {
 
     // Hands out the first octets of the ring of a configured slot, and answers how many.
     fn hand_out(&mut self, slot: u8, buf: &mut [u8]) -> Option<usize>
-        ensures keeps { KeepsTables self.old self.new }
         ensures none { link_at self.old.links slot ≡ None → (result ≡ None) × (self.new ≡ self.old) × (buf.new ≡ buf.old) }
         ensures some { (l : Linked) → link_at self.old.links slot ≡ Some l
             → MatchOption result ⊥ (λ taken. (taken ≡ min (length buf.old) (length l.peer.ring)) × (buf.new ≡ take taken l.peer.ring ++ drop taken buf.old)
@@ -233,8 +229,7 @@ impl<A: Allocator + Clone> Speaker<A> {
 
     // The end of each step: Loc-RIB is chosen, and the peers are queued what they are owed.
     fn settle(&mut self) -> Result<(), AllocError>
-        ensures chosen { OnOk result (IsLocRib (tables_of self.new) self.new.loc_rib) }
-        ensures agrees { OnOk result ((config : TheConfig) (call : Call) (r : Run) → Holds config (turn call [] ∷ r) self.old → IsThrifty config r
+        ensures { OnOk result ((config : TheConfig) (call : Call) (r : Run) → Holds config (turn call [] ∷ r) self.old → IsThrifty config r
             → (queue : Queue) × Agrees config (turn call queue ∷ r) self.new) }
     {
         self.choose()?;
@@ -252,48 +247,14 @@ impl<A: Allocator + Clone> Speaker<A> {
 
     // Queues the UPDATEs that are owed; want of memory stops the speaker.
     fn queue_or_stop(&mut self)
-        ensures keeps { KeepsTables self.old self.new }
-        ensures queues { self.new.stopped ≡ false → (queue : Queue) × QueuesAll (export_to self.old) queue (link_at self.old.links) (link_at self.new.links) }
-        ensures served { self.new.stopped ≡ false → (slot : ℕ) (peer : ThePeer) (l : Linked) → slot < 64 → peer_at self.old.conf slot ≡ Some peer → link_at self.new.links slot ≡ Some l → IsServed (export_to self.old slot) l }
+        ensures rest { self.new ≡ record self.old { links = self.new.links; stopped = self.new.stopped } }
+        ensures queues { QueuesOn self.old (record self.new { stopped = self.old.stopped }) }
+        ensures served { self.new.stopped ≡ false → (slot : ℕ) → slot < 64 → IsServedAt self.new slot }
     {
         match self.queue_updates() {
             Ok(()) => {}
             Err(_) => self.stopped = true,
         }
-    }
-
-    // For each Established slot in rising order, the UPDATEs that it is owed, while its ring has room.
-    fn queue_updates(&mut self) -> Result<(), AllocError>
-        ensures keeps { KeepsTables self.old self.new }
-        ensures stopped { self.new.stopped ≡ self.old.stopped }
-        ensures queues { OnOk result ((queue : Queue) × QueuesAll (export_to self.old) queue (link_at self.old.links) (link_at self.new.links)) }
-        ensures served { OnOk result ((slot : ℕ) (peer : ThePeer) (l : Linked) → slot < 64 → peer_at self.old.conf slot ≡ Some peer → link_at self.new.links slot ≡ Some l → IsServed (export_to self.old slot) l) }
-    {
-        for slot in 0..PEER_SLOTS {
-            if let Err(refused) = self.serve_slot(slot) {
-                return Err(refused);
-            }
-        }
-        Ok(())
-    }
-
-    fn serve_slot(&mut self, slot: u8) -> Result<(), AllocError>
-        ensures keeps { KeepsTables self.old self.new }
-        ensures stopped { self.new.stopped ≡ self.old.stopped }
-        ensures others { (s : ℕ) → s ≢ slot → link_at self.new.links s ≡ link_at self.old.links s }
-        ensures queues { OnOk result ((queue : Queue) × QueuesAll (export_to self.old) queue (link_at self.old.links) (link_at self.new.links)) }
-        ensures served { OnOk result ((peer : ThePeer) (l : Linked) → peer_at self.old.conf slot ≡ Some peer → link_at self.new.links slot ≡ Some l → IsServed (export_to self.old slot) l) }
-    {
-        let Some(peer) = self.export_peer(slot) else {
-            return Ok(());
-        };
-        let Some(link) = self.links.get_mut(&slot) else {
-            return Ok(());
-        };
-        if link.peer.state() != State::Established {
-            return Ok(());
-        }
-        serve(&self.ribs, link, &peer)
     }
 
     /// What the export to a slot's peer asks of it.

@@ -1,6 +1,6 @@
 use Rattle.std.proofs.Common.{ap}
 use Rattle.bgp_msg.specs.MessageSpelling.{front_prefixes}
-use Rattle.speaker.proofs.KeptTables.{OnOk-got}
+use Rattle.speaker.proofs.Results.{OnOk-got}
 use Rattle.speaker.proofs.RouteChanges.{Sets-start, Sets-more, Sets-end}
 use Rattle.speaker.proofs.receiving.announce_each.Goals as goal
 

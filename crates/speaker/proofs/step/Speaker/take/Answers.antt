@@ -1,10 +1,6 @@
 use Rattle.std.proofs.Common.{refl}
-use Rattle.speaker.proofs.KeptTables.{KeepsTables-more}
 use Rattle.speaker.proofs.Takes.{taken_agrees, link_there}
 use Rattle.speaker.proofs.step.Speaker.take.Goals as goal
-
-pub returns-clause-keeps : goal.returns-clause-keeps
-returns-clause-keeps g c = KeepsTables-more _ _ _ c.hand_out.ensures.keeps c.queue_or_stop.ensures.keeps
 
 pub returns-clause-agrees : goal.returns-clause-agrees
 returns-clause-agrees g c = λ config r a.
@@ -12,5 +8,5 @@ returns-clause-agrees g c = λ config r a.
     let given = c.in-Some.ensures.some found.0 found.1 in
     let agrees =
     taken_agrees config r c.args.slot found.0 c.in-Some.taken c.args.buf.now c.hand_out.new.buf c.args.self.now c.hand_out.new.self c.queue_or_stop.new.self a found.1
-    given.0 given.1 given.2 c.queue_or_stop.ensures.keeps c.queue_or_stop.ensures.queues c.queue_or_stop.ensures.served in
-    (agrees.0, refl, agrees.1)
+    given.0 given.1 given.2 c.queue_or_stop.ensures.queues c.queue_or_stop.ensures.served in
+    (agrees.0, refl, agrees.1, agrees.2)

@@ -1,0 +1,184 @@
+use Rattle.std.proofs.Common.{◌≡◌, ◌≢◌, ◌≤◌, ◌<◌, ◌+◌, ◌==◌, ◌^◌, ℕ, Bool, true, false, List, [], ◌∷◌, Option, Some, None, Result, Ok, Err, OnOk, length, cond, refl, sym, ap, ◌∙◌, subst}
+use Rattle.std.specs.Option.{option_map}
+use Rattle.bgp_conf.specs.Configuration.{Configuration, peer_at}
+use Rattle.bgp_conf.specs.declared.conf.ConfiguredPeer.{ConfiguredPeer}
+use Rattle.bgp_fsm.specs.declared.session.Session.{Session}
+use Rattle.bgp_fsm.specs.declared.state.State.TheVariants.{Established}
+use Rattle.bgp_peer.specs.SentMessages.{ring_of}
+use Rattle.bgp_peer.specs.SessionInputs as happens
+use Rattle.bgp_peer.specs.SessionInputs.{Queued, session}
+use Rattle.bgp_peer.proofs.Agreeing.{ring-is}
+use Rattle.decision.specs.declared.candidate.Candidate.{Candidate}
+use Rattle.net_prefix.specs.declared.prefix.Prefix.{Prefix}
+use Rattle.rib_in.specs.LatestRoutes.{route_at}
+use Rattle.rib_out.specs.Held.{held_at}
+use Rattle.speaker.specs.AdjRibIn.{route}
+use Rattle.speaker.specs.Agreement.{SlotAgrees, tables_after, IsNews, IsOwedIn, IsThrifty, Holds, Passes, QueuesOn, Agrees}
+use Rattle.speaker.specs.Export.{IsExport, export_to, export_peer_of}
+use Rattle.speaker.specs.Held.{held, told_in}
+use Rattle.speaker.specs.Linked.{Linked}
+use Rattle.speaker.specs.LocRib.{IsLocRib}
+use Rattle.speaker.specs.Queueing.{Queue, IsServed, update_saying, rank_of}
+use Rattle.speaker.specs.Runs.{Call, Run, turn, configuration_of, history}
+use Rattle.speaker.specs.Serving.{HasRoom, IsServedAt, IsStill, IsToldAt}
+use Rattle.speaker.specs.SpeakerState.{SpeakerState, tables_of}
+use Rattle.speaker.specs.Tables.{Tables, best_at, link_at}
+use Rattle.speaker.specs.declared.config.Config.{Config}
+use Rattle.speaker.proofs.Calls.{tables_same, export_is, export_peer_found, export_short, at_slot, off_slot}
+use Rattle.speaker.proofs.Commands.{peer_of}
+use Rattle.speaker.proofs.Events.{holds_put, slot_is}
+use Rattle.speaker.proofs.Histories.{route_stays}
+use Rattle.speaker.proofs.QueuedUpdates.{slot_queued, saying_is_update, saying_names, saying_says, named_is}
+use Rattle.speaker.proofs.SlotStates.{SlotIs, linked_from}
+
+-- The queueing of a call: each UPDATE was owed, and with room each peer holds its export.
+
+-- the kept export is the run's
+pub export_of_run : (config : Config) (r : Run) (s : SpeakerState) (slot : ℕ) (peer : ConfiguredPeer) (prefix : Prefix) → tables_after config r ≡ tables_of s → configuration_of config r ≡ s.conf
+    → IsLocRib (tables_of s) s.loc_rib → peer_at s.conf slot ≡ Some peer
+    → IsExport (tables_after config r) (export_peer_of (configuration_of config r) slot peer) prefix (export_to s slot prefix)
+export_of_run config r s slot peer prefix tables conf is configured =
+    let P : Tables → Type 0 = λ t. IsExport t (export_peer_of (configuration_of config r) slot peer) prefix (export_to s slot prefix) in
+    let C : Configuration → Type 0 = λ c. IsExport (tables_of s) (export_peer_of c slot peer) prefix (export_to s slot prefix) in
+    let E : Option (List ℕ) → Type 0 = λ e. IsExport (tables_of s) (export_peer_of s.conf slot peer) prefix e in
+    subst P (sym tables) (subst C (sym conf) (subst E (sym (export_peer_found s slot peer prefix configured))
+    (export_is (tables_of s) (best_at s.loc_rib) s.adj_in (export_peer_of s.conf slot peer) prefix (λ t p. refl) is.best)))
+
+-- an UPDATE leaves the session and the routes
+same_session : (b : Bool) (u : List ℕ) (h : List happens.Event) → session (cond b (Queued u ∷ h) h) ≡ session h
+same_session true u h = refl
+same_session false u h = refl
+
+same_route : (b : Bool) (u : List ℕ) (h : List happens.Event) (p : Prefix) → route (cond b (Queued u ∷ h) h) p ≡ route h p
+same_route true u h p = route_stays h p
+same_route false u h p = refl
+
+-- so it leaves what the selection reads
+tables_queued : (config : Config) (call : Call) (r : Run) (queue : Queue) (slot : ℕ) (u : List ℕ) → tables_after config (turn call ((slot, u) ∷ queue) ∷ r) ≡ tables_after config (turn call queue ∷ r)
+tables_queued config call r queue slot u = λ i. record {
+  conf = configuration_of config (turn call queue ∷ r);
+  sessions = λ s. option_map (λ peer. same_session (s == slot) u (history config s (turn call queue ∷ r)) i) (peer_at (configuration_of config (turn call queue ∷ r)) s);
+  routes = λ s prefix. same_route (s == slot) u (history config s (turn call queue ∷ r)) prefix i;
+}
+
+-- an UPDATE that says of a prefix what the export has and the peer doesn't hold is owed
+is_owed : (config : Config) (r : Run) (s : SpeakerState) (slot : ℕ) (p : Prefix) (export : Option (List ℕ)) (peer : ConfiguredPeer) (l : Linked) → Holds config r s
+    → IsLocRib (tables_after config r) s.loc_rib → peer_at s.conf slot ≡ Some peer → SlotIs config peer l (route_at s.adj_in slot) (history config slot r) → rank_of p < 2 ^ 38
+    → export_to s slot p ≡ export → ((a : List ℕ) → export ≡ Some a → length a ≤ 4068) → held_at l.adj_out p ≢ export → IsOwedIn config r slot (update_saying p export)
+is_owed config r s slot p export peer l holds loc_rib configured here place exported short news =
+    let tables : tables_after config r ≡ tables_of s = tables_same config r s.conf (link_at s.links) s.adj_in (sym holds.conf) holds.slots in
+    let chosen : IsLocRib (tables_of s) s.loc_rib = subst (λ t. IsLocRib t s.loc_rib) tables loc_rib in
+    let E : Option (List ℕ) → Type 0 = λ e. IsExport (tables_after config r) (export_peer_of (configuration_of config r) slot peer) p e in
+    let P : Prefix → Type 0 = λ q. IsNews config r slot peer q (told_in (update_saying p export) q) in
+    let this : P p = record {
+      is_export = subst E (sym (saying_says p export place short)) (subst E exported (export_of_run config r s slot peer p tables (sym holds.conf) chosen configured));
+      news = λ same. news (here.link.held p ∙ same ∙ saying_says p export place short);
+    } in
+    record {
+      peer = peer;
+      configured = ap (λ c. peer_at c slot) (sym holds.conf) ∙ configured;
+      is_update = saying_is_update p export short;
+      some = (p, saying_names p export place short);
+      each = λ q names. subst P (named_is p export q place short names) this;
+    }
+
+-- a peer is told what it is owed
+pub queues_told : (slot : ℕ) (p : Prefix) (export : Option (List ℕ)) (now new : SpeakerState) → (told : IsToldAt slot p export now new) → told.before.peer.session.state ≡ Established
+    → HasRoom told.before → export_to now slot p ≡ export → held_at told.before.adj_out p ≢ export → QueuesOn now new
+queues_told slot p export now new told up room exported news config call r queue passes =
+    let was : Run = turn call queue ∷ r in
+    let is : Run = turn call ((slot, update_saying p export) ∷ queue) ∷ r in
+    let peer = peer_of config (turn call queue ∷ r) slot told.before now passes.holds told.was in
+    let before = slot_is config (turn call queue ∷ r) slot peer.0 told.before now passes.holds peer.1 told.was in
+    let short : (a : List ℕ) → export ≡ Some a → length a ≤ 4068 = λ a some. export_short now slot p a (exported ∙ some) in
+    let after = slot_queued config peer.0 p export told.before told.after (route_at now.adj_in slot) (history config slot (turn call queue ∷ r)) short up room told.told before in
+    let routes : new.adj_in ≡ now.adj_in = ap (λ (s : SpeakerState). s.adj_in) told.rest in
+    let loc_rib : new.loc_rib ≡ now.loc_rib = ap (λ (s : SpeakerState). s.loc_rib) told.rest in
+    let T : Tables → Type 0 = λ t. IsLocRib t new.loc_rib in (
+      (slot, update_saying p export) ∷ queue,
+      record {
+        holds =
+            holds_put config (turn call queue ∷ r) (turn call ((slot, update_saying p export) ∷ queue) ∷ r) slot told.after now new passes.holds refl
+            (record { config = ap (λ (s : SpeakerState). s.config) told.rest; conf = ap (λ (s : SpeakerState). s.conf) told.rest; loc_rib = loc_rib; stopped = ap (λ (s : SpeakerState). s.stopped) told.rest })
+            told.puts (λ t other q. ap (λ table. route_at table t q) routes) (λ t other. off_slot config t slot call (update_saying p export) queue r other)
+            peer.0 peer.1 (rw (routes, at_slot config slot call (update_saying p export) queue r) after);
+        loc_rib = subst T (sym (tables_queued config call r queue slot (update_saying p export))) (rw loc_rib passes.loc_rib);
+        owed = (is_owed config (turn call queue ∷ r) now slot p export peer.0 told.before passes.holds passes.loc_rib peer.1 before told.told.place exported short news, passes.owed);
+      },
+    )
+
+-- nothing has changed
+pub queues_still : (now new : SpeakerState) → IsStill now new → QueuesOn now new
+queues_still now new still config call r queue passes =
+    let P : SpeakerState → Type 0 = λ s. Passes config call r queue s in (
+      queue,
+      subst P (sym still.rest) (record {
+        holds = record {
+          config_is = passes.holds.config_is;
+          conf = passes.holds.conf;
+          within = passes.holds.within;
+          slots = λ t. subst (λ l. SlotAgrees config (peer_at now.conf t) l (route_at now.adj_in t) (history config t (turn call queue ∷ r))) (sym (still.links t)) (passes.holds.slots t);
+          running = passes.holds.running;
+        };
+        loc_rib = passes.loc_rib;
+        owed = passes.owed;
+      }),
+    )
+
+-- a call that has queued nothing yet
+pub passes_first : (config : Config) (call : Call) (r : Run) (s : SpeakerState) → Holds config (turn call [] ∷ r) s → IsLocRib (tables_of s) s.loc_rib → Passes config call r [] s
+passes_first config call r s holds chosen =
+    let tables = tables_same config (turn call [] ∷ r) s.conf (link_at s.links) s.adj_in (sym holds.conf) holds.slots in
+    record { holds = holds; loc_rib = subst (λ t. IsLocRib t s.loc_rib) (sym tables) chosen; owed = tt }
+
+-- a slot that is served holds the run's export
+served_slot : (config : Config) (r : Run) (s : SpeakerState) (slot : ℕ) (peer : ConfiguredPeer) (found : Option Linked) (links : ℕ → Option Linked) → links slot ≡ found
+    → tables_after config r ≡ tables_of s → configuration_of config r ≡ s.conf → IsLocRib (tables_of s) s.loc_rib → peer_at s.conf slot ≡ Some peer
+    → ((l : Linked) → links slot ≡ Some l → IsServed (export_to s slot) l)
+    → SlotAgrees config (Some peer) found (route_at s.adj_in slot) (history config slot r)
+    → (session (history config slot r)).state ≡ Established → length (ring_of (history config slot r)) + 8192 ≤ 65536 → (prefix : Prefix)
+    → IsExport (tables_after config r) (export_peer_of (configuration_of config r) slot peer) prefix (held (history config slot r) prefix)
+served_slot config r s slot peer None links is tables conf chosen configured served a established room prefix =
+    let there = linked_from config (Some peer) peer None (route_at s.adj_in slot) (history config slot r) refl a in
+    let never = there.1 in absurd (cc)
+served_slot config r s slot peer (Some l) links is tables conf chosen configured served a established room prefix =
+    let state : l.peer.session.state ≡ Established = ap (λ (x : Session). x.state) (a.link l refl).peer.session ∙ established in
+    let free : length l.peer.ring + 8192 ≤ 65536 = subst (λ ring. length ring + 8192 ≤ 65536) (ring-is (history config slot r) l.peer (a.link l refl).peer) room in
+    let holds : held (history config slot r) prefix ≡ export_to s slot prefix = sym ((a.link l refl).held prefix) ∙ served l is state free prefix in
+    let E : Option (List ℕ) → Type 0 = λ e. IsExport (tables_after config r) (export_peer_of (configuration_of config r) slot peer) prefix e in
+    subst E (sym holds) (export_of_run config r s slot peer prefix tables conf chosen configured)
+
+-- the end of a call: with room each peer has been served
+pub agrees_served : (config : Config) (call : Call) (r : Run) (queue : Queue) (s : SpeakerState) → Passes config call r queue s → IsThrifty config r
+    → ((slot : ℕ) → slot < 64 → IsServedAt s slot) → Agrees config (turn call queue ∷ r) s
+agrees_served config call r queue s passes thrifty served =
+    let holds = passes.holds in
+    let conf : configuration_of config (turn call queue ∷ r) ≡ s.conf = sym holds.conf in
+    let tables : tables_after config (turn call queue ∷ r) ≡ tables_of s = tables_same config (turn call queue ∷ r) s.conf (link_at s.links) s.adj_in conf holds.slots in
+    let chosen : IsLocRib (tables_of s) s.loc_rib = subst (λ t. IsLocRib t s.loc_rib) tables passes.loc_rib in
+    record {
+      holds = holds;
+      loc_rib = passes.loc_rib;
+      settled = λ slot peer configured established room prefix.
+          let here : peer_at s.conf slot ≡ Some peer = ap (λ c. peer_at c slot) (sym conf) ∙ configured in
+          let A : Option ConfiguredPeer → Type 0 = λ x. SlotAgrees config x (link_at s.links slot) (route_at s.adj_in slot) (history config slot (turn call queue ∷ r)) in
+          served_slot config (turn call queue ∷ r) s slot peer _ (link_at s.links) refl tables conf chosen here (λ l linked. served slot (holds.within slot peer here) peer l here linked) (subst A here (holds.slots slot)) established room prefix;
+      thrifty = (passes.owed, thrifty);
+    }
+
+-- another choice of Loc-RIB changes nothing that a run has of the slots
+pub holds_chosen : (config : Config) (r : Run) (old new : SpeakerState) (loc_rib : List (Prefix × Candidate)) → new ≡ record old { loc_rib = loc_rib } → Holds config r old → Holds config r new
+holds_chosen config r old new loc_rib is h =
+    let P : SpeakerState → Type 0 = λ s. Holds config r s in
+    let same : Holds config r (record old { loc_rib = loc_rib }) = record { config_is = h.config_is; conf = h.conf; within = h.within; slots = h.slots; running = h.running } in
+    subst P (sym is) same
+
+-- a step's end: Loc-RIB was chosen, and then it queued
+pub settled_agrees : {T F : Type 0} (result : Result T F) (old mid new : SpeakerState) → IsLocRib (tables_of mid) mid.loc_rib → mid ≡ record old { loc_rib = mid.loc_rib } → QueuesOn mid new
+    → OnOk result ((slot : ℕ) → slot < 64 → IsServedAt new slot)
+    → OnOk result ((config : Config) (call : Call) (r : Run) → Holds config (turn call [] ∷ r) old → IsThrifty config r → (queue : Queue) × Agrees config (turn call queue ∷ r) new)
+settled_agrees (Err why) old mid new chosen rest queues served = tt
+settled_agrees (Ok done) old mid new chosen rest queues served = λ config call r holds thrifty.
+    let passes = passes_first config call r mid (holds_chosen config (turn call [] ∷ r) old mid mid.loc_rib rest holds) chosen in
+    let queued = queues config call r [] passes in
+    (queued.0, agrees_served config call r queued.0 new queued.1 thrifty served)

@@ -1,0 +1,82 @@
+-- How one slot is served: its peer is told, in rising order, what it is owed (RFC 4271 section 9.2).
+use Rattle.std.specs.Prelude.{◌≡◌, ◌≢◌, ◌≤◌, ◌+◌, ℕ, List, length, Option, Some, None, MatchOption, false}
+use Rattle.std.specs.Option.{IsSome}
+use Rattle.std.specs.Ordering.{is_gt}
+use Rattle.bgp_conf.specs.Configuration.{peer_at}
+use Rattle.bgp_conf.specs.declared.conf.ConfiguredPeer.{ConfiguredPeer}
+use Rattle.bgp_fsm.specs.declared.state.State.TheVariants.{Established}
+use Rattle.net_prefix.specs.PrefixOrder.{prefix_cmp, IsAbove}
+use Rattle.net_prefix.specs.declared.prefix.Prefix.{Prefix}
+use Rattle.rib_out.specs.Held.{held_at}
+use Rattle.speaker.specs.Agreement.{QueuesOn}
+use Rattle.speaker.specs.Export.{export_to}
+use Rattle.speaker.specs.Linked.{Linked}
+use Rattle.speaker.specs.Moves.{IsPut}
+use Rattle.speaker.specs.Queueing.{IsTold, IsServed}
+use Rattle.speaker.specs.SpeakerState.{SpeakerState}
+use Rattle.speaker.specs.Tables.{link_at}
+
+-- where 8,192 octets are free, the peer of this slot holds its export, if its session is Established
+abbrev pub IsServedAt : SpeakerState → ℕ → Type 0
+IsServedAt s slot = (peer : ConfiguredPeer) (l : Linked) → peer_at s.conf slot ≡ Some peer → link_at s.links slot ≡ Some l → IsServed (export_to s slot) l
+
+-- a slot with an Established session
+abbrev pub IsUpAt : SpeakerState → ℕ → Type 0
+IsUpAt s slot = (l : Linked) × (link_at s.links slot ≡ Some l) × (l.peer.session.state ≡ Established)
+
+-- 8,192 octets of the ring are free, as many as an UPDATE asks for
+abbrev pub HasRoom : Linked → Type 0
+HasRoom l = length l.peer.ring + 8192 ≤ 65536
+
+-- so are they of this slot's ring
+abbrev pub HasRoomAt : SpeakerState → ℕ → Type 0
+HasRoomAt s slot = (l : Linked) → link_at s.links slot ≡ Some l → HasRoom l
+
+-- only this slot differs
+pub record IsOfSlot (slot : ℕ) (old new : SpeakerState) : Type 0 where
+  pub rest : new ≡ record old { links = new.links }
+  pub others : (s : ℕ) → s ≢ slot → link_at new.links s ≡ link_at old.links s
+
+-- nothing differs
+pub record IsStill (old new : SpeakerState) : Type 0 where
+  pub rest : new ≡ record old { links = new.links }
+  pub links : (s : ℕ) → link_at new.links s ≡ link_at old.links s
+
+-- the slot's peer is told this of the prefix, and nothing else of the speaker changes
+pub record IsToldAt (slot : ℕ) (prefix : Prefix) (export : Option (List ℕ)) (old new : SpeakerState) : Type 0 where
+  pub before : Linked
+  pub after : Linked
+  pub was : link_at old.links slot ≡ Some before
+  pub told : IsTold prefix export before after
+  pub puts : IsPut slot after old new
+  pub rest : new ≡ record old { links = new.links }
+
+-- the slot's peer is told what it is owed: the ring grows, and what neither is exported nor was held isn't held
+pub record Serves (slot : ℕ) (old new : SpeakerState) : Type 0 where
+  pub before : Linked
+  pub after : Linked
+  pub was : link_at old.links slot ≡ Some before
+  pub is : link_at new.links slot ≡ Some after
+  pub up : after.peer.session.state ≡ Established
+  pub grows : length before.peer.ring ≤ length after.peer.ring
+  pub gone : (q : Prefix) → export_to old slot q ≡ None → held_at before.adj_out q ≡ None → held_at after.adj_out q ≡ None
+  pub only : IsOfSlot slot old new
+  pub queues : QueuesOn old new
+
+-- where there is room left, this holds of each prefix and of what the slot's peer holds of it
+abbrev pub IsDoneAt : (Prefix → Option (List ℕ) → Type 0) → SpeakerState → ℕ → Type 0
+IsDoneAt done s slot = (l : Linked) → link_at s.links slot ≡ Some l → HasRoom l → (q : Prefix) → done q (held_at l.adj_out q)
+
+-- what isn't exported isn't held
+abbrev pub IsGone : (Prefix → Option (List ℕ)) → Prefix → Option (List ℕ) → Type 0
+IsGone export q held = export q ≡ None → held ≡ None
+
+-- what is exported is held just so
+abbrev pub IsHad : (Prefix → Option (List ℕ)) → Prefix → Option (List ℕ) → Type 0
+IsHad export q held = (octets : List ℕ) → export q ≡ Some octets → held ≡ Some octets
+
+-- the least prefix above the given one to which there is something, if there is one
+abbrev pub IsNext : {X : Type 0} → (Prefix → Option X) → Option Prefix → Option Prefix → Type 0
+IsNext there after found =
+    MatchOption found ((q : Prefix) → IsAbove after q → there q ≡ None)
+    (λ p. IsSome (there p) × IsAbove after p × ((q : Prefix) → IsAbove after q → IsSome (there q) → is_gt (prefix_cmp p q) ≡ false))
