@@ -1,7 +1,8 @@
-use Rattle.std.proofs.Common.{◌≡◌, ◌≤◌, ◌+◌, ◌↔◌, ℕ, List, [], ◌∷◌, Option, Some, None, Contains, length, arith, refl, sym, ap, ◌∙◌, subst}
+use Rattle.std.proofs.Common.{◌≡◌, ◌≤◌, ◌+◌, ◌↔◌, ℕ, Bool, true, false, List, [], ◌∷◌, Option, Some, None, Contains, length, cond, arith, refl, sym, ap, ◌∙◌, subst}
 use Rattle.std.specs.Option.{option_map}
 use Rattle.bgp_conf.specs.Configuration.{peer_at}
 use Rattle.bgp_conf.specs.declared.conf.ConfiguredPeer.{ConfiguredPeer}
+use Rattle.bgp_fsm.specs.StateTests.{is_established}
 use Rattle.bgp_fsm.specs.declared.session.Session.{Session}
 use Rattle.bgp_fsm.specs.declared.state.State.{State}
 use Rattle.bgp_fsm.specs.declared.state.State.TheVariants.{Idle, Connect, Active, OpenSent, OpenConfirm, Established}
@@ -17,7 +18,7 @@ use Rattle.speaker.specs.LocRib.{IsLocRib}
 use Rattle.speaker.specs.Runs.{Run, configuration_of, history}
 use Rattle.speaker.specs.SpeakerState.{SpeakerState, tables_of}
 use Rattle.speaker.specs.Tables.{Tables, best_at, link_at}
-use Rattle.speaker.specs.Waiting.{IsWaiting, IsWaitingIn, if_established, differing, known_prefixes, waiting_at, waiting_of}
+use Rattle.speaker.specs.Waiting.{IsWaitingIn, differing, known_prefixes, waiting_at, waiting_of}
 use Rattle.speaker.specs.declared.config.Config.{Config}
 use Rattle.speaker.proofs.Calls.{export_peer_found, tables_same}
 use Rattle.speaker.proofs.OneBest.{same_export}
@@ -30,43 +31,17 @@ use Rattle.speaker.proofs.WaitingLists.{differing_is}
 none_listed : (q : Prefix) → Contains [] q → ⊥
 none_listed q listed = absurd (omega (arith, listed.1))
 
-in_established : (state : State) (prefixes : List Prefix) (q : Prefix) → Contains (if_established state prefixes) q → (state ≡ Established) × Contains prefixes q
-in_established Idle prefixes q listed = absurd (none_listed q listed)
-in_established Connect prefixes q listed = absurd (none_listed q listed)
-in_established Active prefixes q listed = absurd (none_listed q listed)
-in_established OpenSent prefixes q listed = absurd (none_listed q listed)
-in_established OpenConfirm prefixes q listed = absurd (none_listed q listed)
-in_established Established prefixes q listed = (refl, listed)
+up_from : (state : State) → is_established state ≡ true → state ≡ Established
+up_from Idle is = absurd (cc)
+up_from Connect is = absurd (cc)
+up_from Active is = absurd (cc)
+up_from OpenSent is = absurd (cc)
+up_from OpenConfirm is = absurd (cc)
+up_from Established is = refl
 
--- what is listed waits
-from_listed : (s : SpeakerState) (slot : ℕ) (q : Prefix) (peer : Option ConfiguredPeer) (found : Option Linked) → peer_at s.conf slot ≡ peer → link_at s.links slot ≡ found
-    → Contains (waiting_at s.loc_rib s.adj_in (option_map (export_peer_of s.conf slot) peer) found) q → IsWaiting s slot q
-from_listed s slot q None found configured linked listed = absurd (none_listed q listed)
-from_listed s slot q (Some peer) None configured linked listed = absurd (none_listed q listed)
-from_listed s slot q (Some peer) (Some l) configured linked listed =
-    let parts = in_established l.peer.session.state (differing (held_at l.adj_out) (export_in (best_at s.loc_rib) s.adj_in (export_peer_of s.conf slot peer)) (known_prefixes s.loc_rib l.adj_out)) q listed in
-    let differs = (differing_is s.loc_rib s.adj_in (export_peer_of s.conf slot peer) l.adj_out q).0 parts.1 in
-    record {
-      peer = peer;
-      link = l;
-      configured = configured;
-      linked = linked;
-      established = parts.0;
-      differs = λ same. differs (same ∙ export_peer_found s slot peer q configured);
-    }
-
--- what waits is listed
-to_listed : (s : SpeakerState) (slot : ℕ) (q : Prefix) → IsWaiting s slot q → Contains (waiting_of s slot) q
-to_listed s slot q w =
-    let listed = (differing_is s.loc_rib s.adj_in (export_peer_of s.conf slot w.peer) w.link.adj_out q).1 (λ same. w.differs (same ∙ sym (export_peer_found s slot w.peer q w.configured))) in
-    let S : State → Type 0 = λ state. Contains (if_established state (differing (held_at w.link.adj_out) (export_in (best_at s.loc_rib) s.adj_in (export_peer_of s.conf slot w.peer)) (known_prefixes s.loc_rib w.link.adj_out))) q in
-    let L : Option Linked → Type 0 = λ found. Contains (waiting_at s.loc_rib s.adj_in (Some (export_peer_of s.conf slot w.peer)) found) q in
-    let C : Option ConfiguredPeer → Type 0 = λ peer. Contains (waiting_at s.loc_rib s.adj_in (option_map (export_peer_of s.conf slot) peer) (link_at s.links slot)) q in
-    subst C (sym w.configured) (subst L (sym w.linked) (subst S (sym w.established) listed))
-
--- the list has what waits
-pub waiting_kept : (s : SpeakerState) (slot : ℕ) (q : Prefix) → Contains (waiting_of s slot) q ↔ IsWaiting s slot q
-waiting_kept s slot q = (from_listed s slot q (peer_at s.conf slot) (link_at s.links slot) refl refl, to_listed s slot q)
+in_established : (is : Bool) (prefixes : List Prefix) (q : Prefix) → Contains (cond is prefixes []) q → (is ≡ true) × Contains prefixes q
+in_established true prefixes q listed = (refl, listed)
+in_established false prefixes q listed = absurd (none_listed q listed)
 
 -- the kept export is the run's
 run_export : (config : Config) (r : Run) (s : SpeakerState) (slot : ℕ) (peer : ConfiguredPeer) (q : Prefix) → Agrees config r s → peer_at s.conf slot ≡ Some peer
@@ -76,39 +51,42 @@ run_export config r s slot peer q a configured =
     let P : Tables → Type 0 = λ t. IsLocRib t s.loc_rib in
     export_of_run config r s slot peer q tables (sym a.holds.conf) (subst P tables a.loc_rib) configured
 
-waits_in_run : (config : Config) (r : Run) (s : SpeakerState) (slot : ℕ) (q : Prefix) → Agrees config r s → IsWaiting s slot q → IsWaitingIn config r slot q
-waits_in_run config r s slot q a w =
-    let here = (a.holds.slots slot).link w.link w.linked in
+-- what is listed waits after the run
+from_listed : (config : Config) (r : Run) (s : SpeakerState) (slot : ℕ) (q : Prefix) (peer : Option ConfiguredPeer) (found : Option Linked) → Agrees config r s
+    → peer_at s.conf slot ≡ peer → link_at s.links slot ≡ found → Contains (waiting_at s.loc_rib s.adj_in (option_map (export_peer_of s.conf slot) peer) found) q → IsWaitingIn config r slot q
+from_listed config r s slot q None found a configured linked listed = absurd (none_listed q listed)
+from_listed config r s slot q (Some peer) None a configured linked listed = absurd (none_listed q listed)
+from_listed config r s slot q (Some peer) (Some l) a configured linked listed =
+    let parts = in_established (is_established l.peer.session.state) (differing (held_at l.adj_out) (export_in (best_at s.loc_rib) s.adj_in (export_peer_of s.conf slot peer)) (known_prefixes s.loc_rib l.adj_out)) q listed in
+    let differs = (differing_is s.loc_rib s.adj_in (export_peer_of s.conf slot peer) l.adj_out q).0 parts.1 in
+    let here = (a.holds.slots slot).link l linked in
     record {
-      peer = w.peer;
+      peer = peer;
       export = export_to s slot q;
-      configured = ap (λ c. peer_at c slot) (sym a.holds.conf) ∙ w.configured;
-      established = sym (ap (λ (x : Session). x.state) here.peer.session) ∙ w.established;
-      is_export = run_export config r s slot w.peer q a w.configured;
-      differs = λ same. w.differs (here.held q ∙ same);
+      configured = ap (λ c. peer_at c slot) (sym a.holds.conf) ∙ configured;
+      established = sym (ap (λ (x : Session). x.state) here.peer.session) ∙ up_from l.peer.session.state parts.0;
+      is_export = run_export config r s slot peer q a configured;
+      differs = λ same. differs (here.held q ∙ same ∙ export_peer_found s slot peer q configured);
     }
 
-waits_by_run : (config : Config) (r : Run) (s : SpeakerState) (slot : ℕ) (q : Prefix) → Agrees config r s → IsWaitingIn config r slot q → IsWaiting s slot q
-waits_by_run config r s slot q a w =
+-- what waits after the run is listed
+to_listed : (config : Config) (r : Run) (s : SpeakerState) (slot : ℕ) (q : Prefix) → Agrees config r s → IsWaitingIn config r slot q → Contains (waiting_of s slot) q
+to_listed config r s slot q a w =
     let configured : peer_at s.conf slot ≡ Some w.peer = ap (λ c. peer_at c slot) a.holds.conf ∙ w.configured in
     let found = linked_from config (peer_at s.conf slot) w.peer (link_at s.links slot) (route_at s.adj_in slot) (history config slot r) configured (a.holds.slots slot) in
     let here = (a.holds.slots slot).link found.0 found.1 in
     let exports = same_export (tables_after config r) (export_peer_of (configuration_of config r) slot w.peer) q (export_to s slot q) w.export (run_export config r s slot w.peer q a configured) w.is_export in
-    record {
-      peer = w.peer;
-      link = found.0;
-      configured = configured;
-      linked = found.1;
-      established = ap (λ (x : Session). x.state) here.peer.session ∙ w.established;
-      differs = λ same. w.differs (sym (here.held q) ∙ same ∙ exports);
-    }
+    let listed = (differing_is s.loc_rib s.adj_in (export_peer_of s.conf slot w.peer) found.0.adj_out q).1
+        (λ same. w.differs (sym (here.held q) ∙ same ∙ sym (export_peer_found s slot w.peer q configured) ∙ exports)) in
+    let up : is_established found.0.peer.session.state ≡ true = ap (λ (x : Session). is_established x.state) here.peer.session ∙ ap is_established w.established in
+    let B : Bool → Type 0 = λ b. Contains (cond b (differing (held_at found.0.adj_out) (export_in (best_at s.loc_rib) s.adj_in (export_peer_of s.conf slot w.peer)) (known_prefixes s.loc_rib found.0.adj_out)) []) q in
+    let L : Option Linked → Type 0 = λ l. Contains (waiting_at s.loc_rib s.adj_in (Some (export_peer_of s.conf slot w.peer)) l) q in
+    let C : Option ConfiguredPeer → Type 0 = λ peer. Contains (waiting_at s.loc_rib s.adj_in (option_map (export_peer_of s.conf slot) peer) (link_at s.links slot)) q in
+    subst C (sym configured) (subst L (sym found.1) (subst B (sym up) listed))
 
 -- for each run that the speaker agrees with, the list has what waits after it
 pub waiting_agrees : (config : Config) (r : Run) (s : SpeakerState) (slot : ℕ) (q : Prefix) → Agrees config r s → Contains (waiting_of s slot) q ↔ IsWaitingIn config r slot q
-waiting_agrees config r s slot q a = (
-  λ listed. waits_in_run config r s slot q a ((waiting_kept s slot q).0 listed),
-  λ w. (waiting_kept s slot q).1 (waits_by_run config r s slot q a w),
-)
+waiting_agrees config r s slot q a = (from_listed config r s slot q (peer_at s.conf slot) (link_at s.links slot) a refl refl, to_listed config r s slot q a)
 
 -- where 8,192 octets of the ring are free, nothing waits
 settled_none : (config : Config) (r : Run) (s : SpeakerState) (slot : ℕ) (q : Prefix) → Agrees config r s → length (ring_of (history config slot r)) + 8192 ≤ 65536

@@ -1,5 +1,5 @@
 -- The prefixes that wait: a peer doesn't hold of them just what is exported to it (RFC 4271 sections 3.2 and 9.2).
-use Rattle.std.specs.Prelude.{◌≡◌, ◌≢◌, ℕ, Bool, true, false, not, List, [], ◌∷◌, Option, Some, None, filter}
+use Rattle.std.specs.Prelude.{◌≡◌, ◌≢◌, ℕ, Bool, true, false, not, List, [], ◌∷◌, Option, Some, None, filter, if◌then◌else◌}
 use Rattle.std.specs.Map.{keys_of}
 use Rattle.std.specs.Set.{sorted_merge}
 use Rattle.std.specs.Option.{option_map}
@@ -8,7 +8,8 @@ use Rattle.bgp_attr.specs.PathAttributes.{PathAttributes}
 use Rattle.bgp_conf.specs.Configuration.{peer_at}
 use Rattle.bgp_conf.specs.declared.conf.ConfiguredPeer.{ConfiguredPeer}
 use Rattle.bgp_fsm.specs.declared.state.State.{State}
-use Rattle.bgp_fsm.specs.declared.state.State.TheVariants.{Idle, Connect, Active, OpenSent, OpenConfirm, Established}
+use Rattle.bgp_fsm.specs.StateTests.{is_established}
+use Rattle.bgp_fsm.specs.declared.state.State.TheVariants.{Established}
 use Rattle.bgp_peer.specs.SessionInputs.{session}
 use Rattle.decision.specs.declared.candidate.Candidate.{Candidate}
 use Rattle.export_rules.specs.declared.export.ExportPeer.{ExportPeer}
@@ -24,15 +25,6 @@ use Rattle.speaker.specs.Runs.{Run, configuration_of, history}
 use Rattle.speaker.specs.SpeakerState.{SpeakerState}
 use Rattle.speaker.specs.Tables.{best_at, link_at}
 use Rattle.speaker.specs.declared.config.Config.{Config}
-
--- the slot's session is Established, and its peer doesn't hold of the prefix just what is exported to it
-pub record IsWaiting (s : SpeakerState) (slot : ℕ) (prefix : Prefix) : Type 0 where
-  pub peer : ConfiguredPeer
-  pub link : Linked
-  pub configured : peer_at s.conf slot ≡ Some peer
-  pub linked : link_at s.links slot ≡ Some link
-  pub established : link.peer.session.state ≡ Established
-  pub differs : held_at link.adj_out prefix ≢ export_to s slot prefix
 
 -- after a run, the slot's session is Established, and its peer doesn't hold of the prefix just what is exported to it
 pub record IsWaitingIn (config : Config) (r : Run) (slot : ℕ) (prefix : Prefix) : Type 0 where
@@ -65,12 +57,7 @@ first_of (Some prefix) prefixes = prefix ∷ prefixes
 
 -- only an Established peer is owed anything
 abbrev pub if_established : State → List Prefix → List Prefix
-if_established Idle prefixes = []
-if_established Connect prefixes = []
-if_established Active prefixes = []
-if_established OpenSent prefixes = []
-if_established OpenConfirm prefixes = []
-if_established Established prefixes = prefixes
+if_established state prefixes = if is_established state then prefixes else []
 
 -- the known prefixes that wait of this slot, as the tables stand
 abbrev pub waiting_at : List (Prefix × Candidate) → List (RouteKey × PathAttributes) → Option ExportPeer → Option Linked → List Prefix

@@ -17,7 +17,7 @@ ghost use Rattle.speaker.specs.Runs.{Run, history};
 ghost use Rattle.speaker.specs.declared.config.Config.{Config};
 ghost use Rattle.speaker.specs.Tables.{link_at, session_at};
 ghost use Rattle.speaker.specs.Shown.{held_by, routes_of, shown_of, transport_at};
-ghost use Rattle.speaker.specs.Waiting.{IsWaiting, IsWaitingIn, waiting_of};
+ghost use Rattle.speaker.specs.Waiting.{IsWaitingIn, waiting_of};
 
 use crate::step::Speaker;
 use crate::waiting::{Waiting, WaitingPrefixes};
@@ -260,7 +260,7 @@ impl<A: Allocator + Clone> Speaker<A> {
     pub fn waiting(&self, slot: u8) -> WaitingPrefixes<'_, A>
         // Each once.
         ensures rising { IsStrictlySortedBy prefix_cmp result }
-        ensures kept { (prefix : ThePrefix) → Contains result prefix ↔ IsWaiting self.now slot prefix }
+        ensures all { result ≡ waiting_of self.now slot }
         ensures agrees { (config : Config) (r : Run) (prefix : ThePrefix) → Agrees config r self.now → Contains result prefix ↔ IsWaitingIn config r slot prefix }
         // Where 8,192 octets of the ring are free, nothing waits.
         ensures settled { (config : Config) (r : Run) → Agrees config r self.now → length (ring_of (history config slot r)) + 8192 ≤ 65536 → result ≡ [] }

@@ -1,9 +1,6 @@
 use Rattle.std.proofs.Common.{◌∙◌}
-use Rattle.speaker.proofs.WaitingRuns.{waiting_kept, waiting_agrees, waiting_settled}
+use Rattle.speaker.proofs.WaitingRuns.{waiting_agrees, waiting_settled}
 use Rattle.speaker.proofs.step.Speaker.waiting.Goals as goal
-
-pub returns-clause-kept : goal.returns-clause-kept
-returns-clause-kept g c = λ prefix. rw c.waiting_rows.ensures.all (waiting_kept c.args.self.now c.args.slot prefix)
 
 pub returns-clause-agrees : goal.returns-clause-agrees
 returns-clause-agrees g c = λ config r prefix a. rw c.waiting_rows.ensures.all (waiting_agrees config r c.args.self.now c.args.slot prefix a)
