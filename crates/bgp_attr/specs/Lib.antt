@@ -1,3 +1,4 @@
+pub mod PeerKinds
 pub mod Appending
 pub mod AsPath
 pub mod AttributeFaults

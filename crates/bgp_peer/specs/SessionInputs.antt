@@ -5,7 +5,7 @@ use Rattle.net_prefix.specs.declared.asn.Asn.{Asn}
 use Rattle.bgp_attr.specs.declared.peer.Mode.{Mode}
 use Rattle.bgp_attr.specs.declared.peer.Mode.TheVariants.{Passive}
 use Rattle.bgp_attr.specs.declared.peer.PeerKind.{PeerKind}
-use Rattle.bgp_attr.specs.declared.peer.PeerKind.TheVariants.{External}
+use Rattle.bgp_attr.specs.PeerKinds.{kind_between}
 use Rattle.bgp_attr.specs.AttributeFaults.{Fault as UpdateFault}
 use Rattle.bgp_msg.specs.declared.frame.MessageType.TheVariants.{Open as OpenType, Update as UpdateType, Notification as NotificationType, Keepalive as KeepaliveType}
 use Rattle.bgp_msg.specs.declared.fault.OpenFault.{OpenFault}
@@ -75,9 +75,9 @@ item_at h octet = completed (unread (stream h)) octet
 abbrev pub expected_of : Terms → Expected
 expected_of terms = record { peer_asn = terms.peer_asn; own_asn = terms.own.asn; own_identifier = terms.own.identifier }
 
--- the kind of peer by whose rules its UPDATEs are judged: each is in another AS
+-- the kind of peer by whose rules its UPDATEs are judged
 abbrev pub kind_of : Terms → PeerKind
-kind_of terms = External terms.peer_asn
+kind_of terms = kind_between terms.own.asn terms.peer_asn
 
 -- what an OPEN without a fault tells
 abbrev pub open_told : Terms → List ℕ → OpenMessage

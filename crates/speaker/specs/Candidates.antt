@@ -1,7 +1,8 @@
 -- The routes among which the selection chooses (RFC 4271 section 9.1.2).
-use Rattle.std.specs.Prelude.{◌≡◌, ◌≢◌, ◌<◌, ◌↔◌, ℕ, List, Some, true, false, Contains}
+use Rattle.std.specs.Prelude.{◌≡◌, ◌≢◌, ◌<◌, ◌↔◌, ℕ, List, Some, false, Contains}
 use Rattle.bgp_attr.specs.PathAttributes.{PathAttributes}
 use Rattle.bgp_attr.specs.AsPath.{PathSegment, has_as, path_length_of}
+use Rattle.bgp_attr.specs.PeerKinds.{kind_between, is_external}
 use Rattle.bgp_conf.specs.Configuration.{Configuration, peer_at}
 use Rattle.bgp_conf.specs.Reach.{IsCost}
 use Rattle.bgp_conf.specs.declared.conf.ConfiguredPeer.{ConfiguredPeer}
@@ -25,7 +26,7 @@ pub record IsCandidateOf (conf : Configuration) (identifier : ℕ) (attrs : Path
   pub resolves : IsCost conf.reach next_hop (Some c.cost)
   pub degree_is : c.degree ≡ 100
   pub length_is : c.path_length ≡ path_length_of path
-  pub external_is : c.external ≡ true
+  pub external_is : c.external ≡ is_external (kind_between conf.own peer.asn)
   pub identifier_is : c.identifier ≡ identifier
   pub address_is : c.address ≡ peer.address
 

@@ -9,7 +9,7 @@ ghost use Rattle.speaker.specs.LocRib.{IsBest, HasNoCandidate};
 
 use crate::link::Link;
 use arrayvec::ArrayVec;
-use bgp_attr::Attrs;
+use bgp_attr::{Attrs, PeerKind};
 use bgp_conf::{Conf, PEER_SLOTS};
 use decision::{Candidate, MAX_CANDIDATES, Meter, choose};
 use net_prefix::Prefix;
@@ -46,7 +46,7 @@ pub fn candidate<A: Allocator + Clone>(
         degree: DEFAULT_DEGREE,
         path_length: as_path.length(),
         origin,
-        external: true,
+        external: PeerKind::between(conf.own(), peer.asn).is_external(),
         cost,
         identifier,
         address: peer.address,

@@ -103,7 +103,7 @@ impl<A: Allocator + Clone> Speaker<A> {
         };
         let alloc = &self.alloc;
         let adj_in = &mut self.ribs.adj_in;
-        let kind = PeerKind::External(peer.asn);
+        let kind = PeerKind::between(self.config.asn, peer.asn);
         let heard = match take_front(alloc, adj_in, slot, kind, expected, link) {
             Ok(heard) => heard,
             Err(refused) => return Err(refused),

@@ -260,7 +260,7 @@ impl<A: Allocator + Clone> Speaker<A> {
     pub fn waiting(&self, slot: u8) -> WaitingPrefixes<'_, A>
         // Each once.
         ensures rising { IsStrictlySortedBy prefix_cmp result }
-        ensures all { result ≡ waiting_of self.now slot }
+        ensures kept { result ≡ waiting_of self.now slot }
         ensures agrees { (config : Config) (r : Run) (prefix : ThePrefix) → Agrees config r self.now → Contains result prefix ↔ IsWaitingIn config r slot prefix }
         // Where 8,192 octets of the ring are free, nothing waits.
         ensures settled { (config : Config) (r : Run) → Agrees config r self.now → length (ring_of (history config slot r)) + 8192 ≤ 65536 → result ≡ [] }
