@@ -17,7 +17,7 @@ use Rattle.net_prefix.specs.declared.transport.Transport.{Transport}
 use Rattle.net_prefix.specs.declared.transport.Transport.TheVariants.{None as NoConnection, Opening, Listening, Open as Connected, Closing}
 use Rattle.rib_in.specs.LatestRoutes.{route_at}
 use Rattle.speaker.specs.AdjRibIn.{update_heard, word_if}
-use Rattle.speaker.specs.Agreement.{SlotAgrees, Holds}
+use Rattle.speaker.specs.Agreement.{Hears, SlotAgrees, Holds}
 use Rattle.speaker.proofs.SlotStates.{SlotIs, slot_agrees, slot_from, linked_from}
 use Rattle.speaker.specs.Linked.{Linked}
 use Rattle.speaker.specs.Moves.{KeepsRest, IsPut, Pushes, TakesItem, moved, taken_on, taken_of}
@@ -184,60 +184,50 @@ bytes_none : (config : Config) (slot : ℕ) (r : Run) (t : ℕ) (b : Bool) → (
 bytes_none config slot r t true is = refl
 bytes_none config slot r t false is = refl
 
-pub holds_same : (config : Config) (r1 r2 : Run) (s : SpeakerState) → configuration_of config r2 ≡ configuration_of config r1 → ((t : ℕ) → history config t r2 ≡ history config t r1) → Holds config r1 s → Holds config r2 s
-holds_same config r1 r2 s conf same h = record {
+pub holds_nothing : (config : Config) (r : Run) (slot : ℕ) (s : SpeakerState) → Holds config r s → Holds config (turn (Bytes_call slot []) [] ∷ r) s
+holds_nothing config r slot s h = record {
   config_is = h.config_is;
-  conf = h.conf ∙ sym conf;
+  conf = h.conf;
   within = h.within;
-  slots = λ t. let P : List happens.Event → Type 0 = λ x. SlotAgrees config (peer_at s.conf t) (link_at s.links t) (route_at s.adj_in t) x in subst P (sym (same t)) (h.slots t);
+  slots = λ t. let P : List happens.Event → Type 0 = λ x. SlotAgrees config (peer_at s.conf t) (link_at s.links t) (route_at s.adj_in t) x in subst P (sym (bytes_none config slot r t _ refl)) (h.slots t);
   running = h.running;
 }
+
+-- octets one after another
+pub Hears-more : (slot : ℕ) (a b : List ℕ) (old mid new : SpeakerState) → Hears slot a old mid → Hears slot b mid new → Hears slot (a ++ b) old new
+Hears-more slot a b old mid new first later config r done peer configured holds =
+    let before = first config r done peer configured holds in
+    let still : peer_at mid.conf slot ≡ Some peer = ap (λ c. peer_at c slot) (before.conf ∙ sym holds.conf) ∙ configured in
+    subst (λ x. Holds config (turn (Bytes_call slot x) [] ∷ r) new) (append_assoc done a b) (later config r (done ++ a) peer still before)
 
 -- octets that have come so far, with those that are still to come
 pub record HasCome (slot : ℕ) (octets rest : List ℕ) (first now : SpeakerState) : Type 0 where
   pub done : List ℕ
   pub whole : done ++ rest ≡ octets
-  pub holds : (config : Config) (r : Run) (peer : ConfiguredPeer) → Holds config r first → peer_at first.conf slot ≡ Some peer → Holds config (turn (Bytes_call slot done) [] ∷ r) now
+  pub heard : Hears slot done first now
 
 pub HasCome-start : (slot : ℕ) (octets : List ℕ) (first : SpeakerState) → HasCome slot octets octets first first
 HasCome-start slot octets first = record {
   done = [];
   whole = refl;
-  holds = λ config r peer h configured. holds_same config r (turn (Bytes_call slot []) [] ∷ r) first refl (λ t. bytes_none config slot r t _ refl) h;
+  heard = λ config r done peer configured holds. subst (λ x. Holds config (turn (Bytes_call slot x) [] ∷ r) first) (sym (append-nil done)) holds;
 }
 
-pub still_configured : (config : Config) (r : Run) (slot : ℕ) (done : List ℕ) (peer : ConfiguredPeer) (first now : SpeakerState) → Holds config r first → Holds config (turn (Bytes_call slot done) [] ∷ r) now
-    → peer_at first.conf slot ≡ Some peer → peer_at now.conf slot ≡ Some peer
-still_configured config r slot done peer first now h k configured = ap (λ c. peer_at c slot) (k.conf ∙ sym h.conf) ∙ configured
-
-pub HasCome-more : (slot : ℕ) (octets rest taken next : List ℕ) (first now new : SpeakerState) → HasCome slot octets rest first now → taken ++ next ≡ rest
-    → ((config : Config) (r : Run) (done : List ℕ) (peer : ConfiguredPeer) → Holds config (turn (Bytes_call slot done) [] ∷ r) now → peer_at now.conf slot ≡ Some peer
-    → Holds config (turn (Bytes_call slot (done ++ taken)) [] ∷ r) new)
+pub HasCome-more : (slot : ℕ) (octets rest taken next : List ℕ) (first now new : SpeakerState) → HasCome slot octets rest first now → taken ++ next ≡ rest → Hears slot taken now new
     → HasCome slot octets next first new
 HasCome-more slot octets rest taken next first now new h split more = record {
   done = h.done ++ taken;
   whole = append_assoc h.done taken next ∙ ap (λ x. h.done ++ x) split ∙ h.whole;
-  holds = λ config r peer holds configured.
-      let before = h.holds config r peer holds configured in more config r h.done peer before (still_configured config r slot h.done peer first now holds before configured);
+  heard = Hears-more slot h.done taken first now new h.heard more;
 }
 
--- all octets have come
-pub HasCome-end : (slot : ℕ) (octets rest : List ℕ) (first now : SpeakerState) → HasCome slot octets rest first now → rest ≡ []
-    → (config : Config) (r : Run) (peer : ConfiguredPeer) → Holds config r first → peer_at first.conf slot ≡ Some peer → Holds config (turn (Bytes_call slot octets) [] ∷ r) now
-HasCome-end slot octets rest first now h none config r peer holds configured =
-    let all : h.done ≡ octets = sym (append-nil h.done) ∙ ap (λ x. h.done ++ x) (sym none) ∙ h.whole in
-    let P : List ℕ → Type 0 = λ x. Holds config (turn (Bytes_call slot x) [] ∷ r) now in
-    subst P all (h.holds config r peer holds configured)
+-- all octets have come, or the rest is dropped
+pub HasCome-end : (slot : ℕ) (octets rest : List ℕ) (first now new : SpeakerState) → HasCome slot octets rest first now → Hears slot rest now new → Hears slot octets first new
+HasCome-end slot octets rest first now new h last = subst (λ x. Hears slot x first new) h.whole (Hears-more slot h.done rest first now new h.heard last)
 
--- the rest is dropped
-pub HasCome-shut : (slot : ℕ) (octets rest : List ℕ) (first now new : SpeakerState) → HasCome slot octets rest first now
-    → ((config : Config) (r : Run) (done : List ℕ) (peer : ConfiguredPeer) → Holds config (turn (Bytes_call slot done) [] ∷ r) now → peer_at now.conf slot ≡ Some peer
-    → Holds config (turn (Bytes_call slot (done ++ rest)) [] ∷ r) new)
-    → (config : Config) (r : Run) (peer : ConfiguredPeer) → Holds config r first → peer_at first.conf slot ≡ Some peer → Holds config (turn (Bytes_call slot octets) [] ∷ r) new
-HasCome-shut slot octets rest first now new h shut config r peer holds configured =
-    let before = h.holds config r peer holds configured in
-    let P : List ℕ → Type 0 = λ x. Holds config (turn (Bytes_call slot x) [] ∷ r) new in
-    subst P h.whole (shut config r h.done peer before (still_configured config r slot h.done peer first now holds before configured))
+pub Hears-none : (slot : ℕ) (rest : List ℕ) (s : SpeakerState) → rest ≡ [] → Hears slot rest s s
+Hears-none slot rest s none config r done peer configured holds =
+    subst (λ x. Holds config (turn (Bytes_call slot x) [] ∷ r) s) (sym (append-nil done) ∙ ap (λ x. done ++ x) (sym none)) holds
 
 pub some_left : (n : ℕ) → false ≡ (n == 0) → 0 < n
 some_left n is = elim (cases_eq n 0) [

@@ -77,7 +77,7 @@ to_listed config r s slot q a w =
     let here = (a.holds.slots slot).link found.0 found.1 in
     let exports = same_export (tables_after config r) (export_peer_of (configuration_of config r) slot w.peer) q (export_to s slot q) w.export (run_export config r s slot w.peer q a configured) w.is_export in
     let listed = (differing_is s.loc_rib s.adj_in (export_peer_of s.conf slot w.peer) found.0.adj_out q).1
-        (λ same. w.differs (sym (here.held q) ∙ same ∙ sym (export_peer_found s slot w.peer q configured) ∙ exports)) in
+    (λ same. w.differs (sym (here.held q) ∙ same ∙ sym (export_peer_found s slot w.peer q configured) ∙ exports)) in
     let up : is_established found.0.peer.session.state ≡ true = ap (λ (x : Session). is_established x.state) here.peer.session ∙ ap is_established w.established in
     let B : Bool → Type 0 = λ b. Contains (cond b (differing (held_at found.0.adj_out) (export_in (best_at s.loc_rib) s.adj_in (export_peer_of s.conf slot w.peer)) (known_prefixes s.loc_rib found.0.adj_out)) []) q in
     let L : Option Linked → Type 0 = λ l. Contains (waiting_at s.loc_rib s.adj_in (Some (export_peer_of s.conf slot w.peer)) l) q in

@@ -1,5 +1,5 @@
 -- When a speaker is as a run leaves it (RFC 4271 sections 3.2, 8 and 9).
-use Rattle.std.specs.Prelude.{◌≡◌, ◌≢◌, ◌<◌, ◌≤◌, ◌+◌, ℕ, List, [], ◌∷◌, length, Option, Some, None, is_none, false}
+use Rattle.std.specs.Prelude.{◌≡◌, ◌≢◌, ◌<◌, ◌≤◌, ◌+◌, ◌++◌, ℕ, List, [], ◌∷◌, length, Option, Some, None, is_none, false}
 use Rattle.std.specs.Option.{option_map}
 use Rattle.bgp_attr.specs.PathAttributes.{PathAttributes}
 use Rattle.bgp_conf.specs.Configuration.{peer_at}
@@ -22,7 +22,7 @@ use Rattle.speaker.specs.Held.{held, told_from, told_in}
 use Rattle.speaker.specs.Linked.{Linked}
 use Rattle.speaker.specs.LocRib.{IsLocRib}
 use Rattle.speaker.specs.Queueing.{Queue}
-use Rattle.speaker.specs.Runs.{Call, Run, turn, configuration_of, history, terms_in}
+use Rattle.speaker.specs.Runs.{Call, Run, turn, Bytes_call, configuration_of, history, terms_in}
 use Rattle.speaker.specs.SpeakerState.{SpeakerState}
 use Rattle.speaker.specs.Tables.{Tables, link_at}
 use Rattle.speaker.specs.declared.config.Config.{Config}
@@ -96,6 +96,13 @@ pub record Holds (config : Config) (r : Run) (s : SpeakerState) : Type 0 where
   pub within : (slot : ℕ) (peer : ConfiguredPeer) → peer_at s.conf slot ≡ Some peer → slot < 64
   pub slots : (slot : ℕ) → SlotAgrees config (peer_at s.conf slot) (link_at s.links slot) (route_at s.adj_in slot) (history config slot r)
   pub running : s.stopped ≡ false
+
+-- these octets come on a configured slot, behind those of the same call that came before: all is as the run with them
+-- leaves it, where it was before
+abbrev pub Hears : ℕ → List ℕ → SpeakerState → SpeakerState → Type 0
+Hears slot octets old new =
+    (config : Config) (r : Run) (done : List ℕ) (peer : ConfiguredPeer) → peer_at old.conf slot ≡ Some peer
+    → Holds config (turn (Bytes_call slot done) [] ∷ r) old → Holds config (turn (Bytes_call slot (done ++ octets)) [] ∷ r) new
 
 -- in the midst of a call all is as the run with what the call has queued so far leaves it: Loc-RIB is the selection, and
 -- each UPDATE was owed when it was queued

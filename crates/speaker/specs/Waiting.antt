@@ -18,7 +18,7 @@ use Rattle.net_prefix.specs.declared.prefix.Prefix.{Prefix}
 use Rattle.rib_in.specs.declared.adj_in.RouteKey.{RouteKey}
 use Rattle.rib_out.specs.Held.{held_at}
 use Rattle.speaker.specs.Agreement.{tables_after}
-use Rattle.speaker.specs.Export.{IsExport, export_in, export_peer_of, export_to}
+use Rattle.speaker.specs.Export.{IsExport, export_in, export_peer_of}
 use Rattle.speaker.specs.Held.{held}
 use Rattle.speaker.specs.Linked.{Linked}
 use Rattle.speaker.specs.Runs.{Run, configuration_of, history}

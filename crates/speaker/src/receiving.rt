@@ -38,18 +38,9 @@ pub fn take_front<A: Allocator + Clone>(
         Step::Need => Ok(None),
         Step::Faulty(_) => Ok(Some(Input::Fault)),
         Step::Message(frame, _) => {
-            match judge(
-                alloc,
-                adj_in,
-                slot,
-                kind,
-                expected,
-                link.peer.state(),
-                frame,
-            ) {
-                Ok(input) => Ok(Some(input)),
-                Err(refused) => Err(refused),
-            }
+            let state = link.peer.state();
+            let input = judge(alloc, adj_in, slot, kind, expected, state, frame)?;
+            Ok(Some(input))
         }
     }
 }
@@ -101,10 +92,10 @@ fn judge_update<A: Allocator + Clone>(
     ensures routes { OnOk result (IsHeard slot (sound_update body.now (update_fault kind body.now)) adj_in.old adj_in.new) }
 {
     match read_update(alloc.clone()?, body, kind) {
-        Ok(update) => match take_update(alloc, adj_in, slot, update) {
-            Ok(()) => Ok(Input::Update),
-            Err(refused) => Err(refused),
-        },
+        Ok(update) => {
+            take_update(alloc, adj_in, slot, update)?;
+            Ok(Input::Update)
+        }
         Err(UpdateFault::NoMemory) => Err(AllocError),
         Err(_) => Ok(Input::Fault),
     }

@@ -30,10 +30,7 @@ pub fn run<A: Allocator + Clone>(
     ensures range { (result ≡ Err Refusal.Range) ↔ (is_out_of_range config ≡ true) }
     ensures err { IfErr result (λ why. (why ≡ Refusal.Range) ⊎ (why ≡ Refusal.NoMemory)) }
 {
-    let mut speaker = match Speaker::new(alloc, config) {
-        Ok(speaker) => speaker,
-        Err(refused) => return Err(refused),
-    };
+    let mut speaker = Speaker::new(alloc, config)?;
     let Ok(for_answers) = speaker.alloc.clone() else {
         return Err(Refusal::NoMemory);
     };

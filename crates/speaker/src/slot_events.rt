@@ -8,7 +8,7 @@ ghost use Rattle.rib_in.specs.LatestRoutes.{route_at};
 ghost use Rattle.bgp_msg.specs.MessageStream.{meaning};
 ghost use Rattle.speaker.specs.Moves.{Moves, Pushes, TakesItem, taken_of};
 ghost use Rattle.speaker.specs.Runs.{terms_in, Run, turn, Bytes_call};
-ghost use Rattle.speaker.specs.Agreement.{Holds};
+ghost use Rattle.speaker.specs.Agreement.{Hears};
 ghost use Rattle.speaker.specs.declared.config.Config.{Config as TheConfig};
 ghost use Rattle.speaker.specs.Tables.{link_at};
 ghost use Rattle.speaker.specs.Linked.{Linked};
@@ -37,15 +37,11 @@ impl<A: Allocator + Clone> Speaker<A> {
 
     // Takes octets that come, message by message. What comes after the session has closed is dropped.
     pub(crate) fn hear(&mut self, slot: u8, octets: &[u8]) -> Result<(), AllocError>
-        ensures { OnOk result ((config : TheConfig) (r : Run) (peer : ThePeer) → Holds config r self.old → peer_at self.old.conf slot ≡ Some peer
-            → Holds config (turn (Bytes_call slot octets.now) [] ∷ r) self.new) }
+        ensures { OnOk result (Hears slot octets.now self.old self.new) }
     {
         let mut rest = octets;
         while !rest.is_empty() {
-            let taken = match self.hear_front(slot, rest) {
-                Ok(taken) => taken,
-                Err(refused) => return Err(refused),
-            };
+            let taken = self.hear_front(slot, rest)?;
             if taken == 0 {
                 return Ok(());
             }
@@ -58,19 +54,15 @@ impl<A: Allocator + Clone> Speaker<A> {
     // Takes octets up to the end of the message at the front, and that message; answers how many.
     fn hear_front(&mut self, slot: u8, octets: &[u8]) -> Result<usize, AllocError>
         ensures within { IfOk result (λ taken. taken ≤ length octets.now) }
-        ensures heard { IfOk result (λ taken. (config : TheConfig) (r : Run) (done : List ℕ) (peer : ThePeer) → Holds config (turn (Bytes_call slot done) [] ∷ r) self.old
-            → peer_at self.old.conf slot ≡ Some peer → Holds config (turn (Bytes_call slot (done ++ take taken octets.now)) [] ∷ r) self.new) }
-        ensures shut { IfOk result (λ taken. (config : TheConfig) (r : Run) (done : List ℕ) (peer : ThePeer) → Holds config (turn (Bytes_call slot done) [] ∷ r) self.old
-            → peer_at self.old.conf slot ≡ Some peer → taken ≡ 0 → 0 < length octets.now → Holds config (turn (Bytes_call slot (done ++ octets.now)) [] ∷ r) self.new) }
+        ensures heard { IfOk result (λ taken. Hears slot (take taken octets.now) self.old self.new) }
+        ensures shut { IfOk result (λ taken. taken ≡ 0 → 0 < length octets.now → Hears slot octets.now self.old self.new) }
     {
         let taken = self.push(slot, octets);
         if taken == 0 {
             return Ok(0);
         }
-        match self.take_message(slot) {
-            Ok(()) => Ok(taken),
-            Err(refused) => Err(refused),
-        }
+        self.take_message(slot)?;
+        Ok(taken)
     }
 
     // Takes octets up to the end of the message at the front of an open connection, and answers how many.
@@ -104,10 +96,7 @@ impl<A: Allocator + Clone> Speaker<A> {
         let alloc = &self.alloc;
         let adj_in = &mut self.ribs.adj_in;
         let kind = PeerKind::between(self.config.asn, peer.asn);
-        let heard = match take_front(alloc, adj_in, slot, kind, expected, link) {
-            Ok(heard) => heard,
-            Err(refused) => return Err(refused),
-        };
+        let heard = take_front(alloc, adj_in, slot, kind, expected, link)?;
         if let Some(input) = heard {
             let _ = self.input(slot, input);
         }

@@ -110,10 +110,8 @@ impl<A: Allocator + Clone> Speaker<A> {
         if self.stopped {
             return Err(Refusal::NoMemory);
         }
-        match self.check(&event) {
-            Ok(()) => self.take_event(event),
-            Err(why) => Err(why),
-        }
+        self.check(&event)?;
+        self.take_event(event)
     }
 
     // An event that isn't refused.

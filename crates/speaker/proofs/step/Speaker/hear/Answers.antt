@@ -1,5 +1,5 @@
 use Rattle.std.proofs.lemmas.List.{take-append-drop}
-use Rattle.speaker.proofs.Events.{HasCome-start, HasCome-more, HasCome-shut, HasCome-end, none_left, some_left}
+use Rattle.speaker.proofs.Events.{HasCome-start, HasCome-more, HasCome-end, Hears-none, none_left, some_left}
 use Rattle.speaker.proofs.step.Speaker.hear.Goals as goal
 
 pub loop-rest-init : goal.loop-rest-init
@@ -7,13 +7,11 @@ loop-rest-init g c = HasCome-start _ _ _
 
 pub loop-rest-preserved : goal.loop-rest-preserved
 loop-rest-preserved g c =
-    rw c.split_at.ensures.back
-    (HasCome-more _ _ _ _ _ _ _ _ c.loop-rest.invariant (take-append-drop c.in-Ok.taken c.loop-rest.rest.now) c.in-Ok.ensures.heard)
+    rw c.split_at.ensures.back (HasCome-more _ _ _ _ _ _ _ _ c.loop-rest.invariant (take-append-drop c.in_ok-taken.taken c.loop-rest.rest.now) c.in_ok-taken.ensures.heard)
 
 pub returns-then-taken-eq0 : goal.returns-then-taken-eq0
 returns-then-taken-eq0 g c =
-    HasCome-shut _ _ _ _ c.loop-rest.self c.hear_front.new.self c.loop-rest.invariant
-    (λ config r done peer holds configured. c.in-Ok.ensures.shut config r done peer holds configured c.if-taken-eq0.true (some_left _ c.loop-rest-test.ensures))
+    HasCome-end _ _ _ _ c.loop-rest.self c.hear_front.new.self c.loop-rest.invariant (c.in_ok-taken.ensures.shut c.if-taken-eq0.true (some_left _ c.loop-rest-test.ensures))
 
 pub returns : goal.returns
-returns g c = HasCome-end _ _ _ c.args.self.now c.loop-rest.self c.loop-rest.invariant (none_left c.loop-rest.rest.now c.loop-rest-test.ensures)
+returns g c = HasCome-end _ _ _ c.args.self.now c.loop-rest.self _ c.loop-rest.invariant (Hears-none _ _ c.loop-rest.self (none_left c.loop-rest.rest.now c.loop-rest-test.ensures))

@@ -10,21 +10,21 @@ use Rattle.speaker.proofs.Events.{slot_of, holds_heard, holds_shut, taken_shut, 
 use Rattle.speaker.proofs.step.Speaker.hear_front.Goals as goal
 
 pub returns-then-taken-eq0-clause-shut : goal.returns-then-taken-eq0-clause-shut
-returns-then-taken-eq0-clause-shut g c = λ config r done peer holds configured none some.
+returns-then-taken-eq0-clause-shut g c = λ none some config r done peer configured holds.
     let found = slot_of config (turn (Bytes_call c.args.slot done) [] ∷ r) c.args.slot peer c.args.self.now holds configured in
     let shut = taken_shut config (turn (Bytes_call c.args.slot done) [] ∷ r) c.args.slot peer found.0 c.args.octets.now c.args.self.now holds configured found.1 (sym (c.push-taken.ensures.count found.0 found.1) ∙ c.if-taken-eq0.true) some in
     let pushes = rw c.if-taken-eq0.true at (c.push-taken.ensures.pushes found.0 found.1) in
     holds_shut config r done c.args.slot peer found.0 c.args.octets.now c.args.self.now c.push-taken.new.self holds configured found.1 shut pushes
 
-pub returns-in-Ok-clause-heard : goal.returns-in-Ok-clause-heard
-returns-in-Ok-clause-heard g c = λ config r done peer holds configured.
+pub returns-clause-heard : goal.returns-clause-heard
+returns-clause-heard g c = λ config r done peer configured holds.
     let found = slot_of config (turn (Bytes_call c.args.slot done) [] ∷ r) c.args.slot peer c.args.self.now holds configured in
     let pushes = c.push-taken.ensures.pushes found.0 found.1 in
     let open_ = taken_open found.0 c.args.octets.now c.push-taken.result (c.push-taken.ensures.count found.0 found.1) c.if-taken-eq0.false in
     let few = taken_wanted found.0 c.args.octets.now c.push-taken.result (c.push-taken.ensures.count found.0 found.1) in
     let octets = take c.push-taken.result c.args.octets.now in
     let l = with_peer found.0 (pushed found.0.peer (take c.push-taken.result c.args.octets.now)) in
-    let takes = c.in-Ok.ensures (with_peer found.0 (pushed found.0.peer (take c.push-taken.result c.args.octets.now))) peer
+    let takes = c.in_ok-take_message.ensures (with_peer found.0 (pushed found.0.peer (take c.push-taken.result c.args.octets.now))) peer
     (put_here c.args.slot (with_peer found.0 (pushed found.0.peer (take c.push-taken.result c.args.octets.now))) c.args.self.now c.push-taken.new.self pushes.links)
     (ap (λ x. peer_at x c.args.slot) pushes.rest.conf ∙ configured) in
     let T : Config → Type 0 = λ x. TakesItem c.args.slot (terms_in x peer) (with_peer found.0 (pushed found.0.peer (take c.push-taken.result c.args.octets.now))) (meaning (found.0.peer.rest ++ take c.push-taken.result c.args.octets.now)) c.push-taken.new.self c.take_message.new.self in

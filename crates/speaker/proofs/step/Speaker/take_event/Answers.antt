@@ -4,6 +4,7 @@ use Rattle.bgp_fsm.specs.declared.input.Input.TheVariants.{Up, Fail}
 use Rattle.speaker.specs.Runs.{turn, call_of, Up_call, Fail_call}
 use Rattle.speaker.specs.FirstRefusal.{awaits_up, may_fail, may_bring_octets}
 use Rattle.speaker.proofs.Commands.{accepted, peer_of, holds_signalled, awaits_none}
+use Rattle.speaker.proofs.Events.{holds_nothing}
 use Rattle.speaker.proofs.Results.{OnOk-got}
 use Rattle.speaker.proofs.step.Speaker.take_event.Goals as goal
 use Rattle.speaker.proofs.step.Speaker.take_event.Goals.{in-Command+else-is_err, in-Up, in-Fail, in-Bytes+else-is_err-2}
@@ -28,7 +29,7 @@ returns-in-Ok-clause-agrees g c = λ config r a.
           let found = accepted _ may_bring_octets may in
           let peer = peer_of config r w.in-Bytes.slot found.0 c.args.self.now a.holds found.1 in
           let heard = OnOk-got w.hear.result _ w.hear.ensures w.if-is_err-2.ensures.value in
-          rw (w.self-is, w.in-Bytes.is) (heard config r peer.0 a.holds peer.1)
+          rw (w.self-is, w.in-Bytes.is) (heard config r [] peer.0 peer.1 (holds_nothing config r w.in-Bytes.slot c.args.self.now a.holds))
     ] in
     let agrees = c.in-Ok.ensures config (call_of c.args.event) r holds a.thrifty in
     (agrees.0, refl, agrees.1)

@@ -11,8 +11,8 @@ returns-in-Some-heard g c = λ l peer linked configured.
     let peer_same : c.in-Some.peer ≡ peer = some_same _ _ _ c.in-Some.ensures configured_here in
     rw (← link_same, ← peer_same, ← c.self.view_is)
     (takes c.args.slot (terms_in c.self.inside.config c.in-Some.peer) c.in-Some-get.link.now _ c.in-Some-heard.input _ _ _
-    (sym c.in-Some-heard.is ∙ c.in-Ok.ensures.input (terms_in c.self.inside.config c.in-Some.peer) (record { expected_is = refl; kind_is = c.between-kind.ensures }))
-    (c.in-Ok.ensures.routes (terms_in c.self.inside.config c.in-Some.peer) (record { expected_is = refl; kind_is = c.between-kind.ensures }))
+    (sym c.in-Some-heard.is ∙ c.in_ok-heard.ensures.input (terms_in c.self.inside.config c.in-Some.peer) (record { expected_is = refl; kind_is = c.between-kind.ensures }))
+    (c.in_ok-heard.ensures.routes (terms_in c.self.inside.config c.in-Some.peer) (record { expected_is = refl; kind_is = c.between-kind.ensures }))
     (record { config = refl; conf = refl; loc_rib = refl; stopped = refl })
     (λ s. refl)
     (c.input.ensures.moves _ (sym c.in-Some-get.ensures.value)))
@@ -25,7 +25,7 @@ returns-in_default-heard g c = λ l peer linked configured.
     let peer_same : c.in-Some.peer ≡ peer = some_same _ _ _ c.in-Some.ensures configured_here in
     rw (← link_same, ← peer_same, ← c.self.view_is)
     (takes_none c.args.slot (terms_in c.self.inside.config c.in-Some.peer) c.in-Some-get.link.now _ _ _
-    (sym c.in_default-heard.is ∙ c.in-Ok.ensures.input (terms_in c.self.inside.config c.in-Some.peer) (record { expected_is = refl; kind_is = c.between-kind.ensures }))
-    (c.in-Ok.ensures.routes (terms_in c.self.inside.config c.in-Some.peer) (record { expected_is = refl; kind_is = c.between-kind.ensures }))
+    (sym c.in_default-heard.is ∙ c.in_ok-heard.ensures.input (terms_in c.self.inside.config c.in-Some.peer) (record { expected_is = refl; kind_is = c.between-kind.ensures }))
+    (c.in_ok-heard.ensures.routes (terms_in c.self.inside.config c.in-Some.peer) (record { expected_is = refl; kind_is = c.between-kind.ensures }))
     (record { config = refl; conf = refl; loc_rib = refl; stopped = refl })
     (λ s. refl))
