@@ -25,6 +25,7 @@ messages-append stream more = messages_from-append [] stream more
 
 -- one more octet
 pub unread-push : (stream : List ℕ) (octet : ℕ) → unread (stream ++ octet ∷ []) ≡ left_over (unread stream ++ octet ∷ []) (completed (unread stream) octet)
+unfolding message_grammar
 unread-push stream octet = unread-append stream (octet ∷ [])
 
 pub messages-push : (stream : List ℕ) (octet : ℕ) → messages (stream ++ octet ∷ []) ≡ messages stream ++ with_front (completed (unread stream) octet) []

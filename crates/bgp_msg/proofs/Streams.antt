@@ -2,8 +2,8 @@ use Rattle.std.proofs.Common.{◌≡◌, ◌≤◌, ◌<◌, ◌+◌, ℕ, Bool,
 use Rattle.std.proofs.lemmas.Bool.{ltb-false, or_parts, cases_lt}
 use Rattle.std.proofs.lemmas.List.{take-append-le, get_or_append_left, take-append-drop, length-take-le, nil_from_length}
 use Rattle.octet_streams.specs.Grammar.{IsGrammar}
-use Rattle.octet_streams.specs.Streams.{Splits as IsSplit}
-use Rattle.octet_streams.proofs.Streams.{IsShaped, shaped, meaning-whole, meaning-fault, wants_front, wants_none as no_meaning, wants-then as none-then, others-then, end-then, becomes as item_becomes, needed-some}
+use Rattle.octet_streams.specs.Streams.{IsItem, Splits as IsSplit}
+use Rattle.octet_streams.proofs.Streams.{meaning-item, is_item, meaning-whole, meaning-fault, wants_front, wants_none as no_meaning, wants-then as none-then, others-then, end-then, becomes as item_becomes, needed-some}
 use Rattle.octet_streams.proofs.Splits.{faulty_at_front, splits as splits_somehow, wants-from_none as no_item_wants, unread_again}
 use Rattle.std.specs.Option.{option_map}
 use Rattle.bgp_msg.specs.declared.fault.HeaderFault.{HeaderFault}
@@ -82,6 +82,7 @@ message_at_front octets kind whole sound kind_is fits =
 
 -- messages are a grammar
 pub is_grammar : IsGrammar message_grammar
+unfolding message_grammar
 is_grammar = record {
   some_header = omega arith;
   fault_in_header = λ place front back whole. header_fault-append front back whole;
@@ -91,43 +92,48 @@ is_grammar = record {
       let kind = known_kind octets sound in
       (WholeMessage kind.0 (drop 19 octets), ap (option_map (λ (k : MessageType). WholeMessage k (drop 19 octets))) kind.1);
   fault_ends = λ fault octets. refl;
+  same_behind_end = λ place item octets ended. refl;
 }
 
 -- a whole message is read as that
 pub meaning-message : (octets : List ℕ) (kind : MessageType) (body : List ℕ) → IsMessage octets kind body → meaning octets ≡ Some (WholeMessage kind body)
+unfolding message_grammar
 meaning-message octets kind body h =
     meaning-whole message_grammar is_grammar tt octets h.whole_header h.sound h.length_is ∙ rw (h.kind_is, h.body_is) refl
 
 pub at_header : (octets : List ℕ) (fault : HeaderFault) → length octets ≡ 19 → header_fault octets ≡ Some fault → meaning octets ≡ Some (FaultyHeader fault)
+unfolding message_grammar
 at_header octets fault nineteen faulty = meaning-fault message_grammar is_grammar tt octets fault nineteen faulty
 
 -- while more octets are wanted no front is an item
 pub wants_none : (octets front back : List ℕ) → Wants octets → octets ≡ front ++ back → meaning front ≡ None
+unfolding message_grammar
 wants_none octets front back h e = wants_front message_grammar is_grammar tt front back (subst Wants e h)
 
 pub meaning-wants : (octets : List ℕ) → Wants octets → meaning octets ≡ None
+unfolding message_grammar
 meaning-wants octets h = no_meaning message_grammar is_grammar tt octets h
 
 -- a message in front, then more
 pub message-then : (octets more : List ℕ) (kind : MessageType) (body : List ℕ) → IsMessage octets kind body
     → (messages (octets ++ more) ≡ WholeMessage kind body ∷ messages more) × (unread (octets ++ more) ≡ unread more)
-unfolding messages unread
+unfolding messages unread message_grammar
 message-then octets more kind body h =
     let all = others-then message_grammar is_grammar tt octets more (WholeMessage kind body) (meaning-message octets kind body h) refl in
     (all.0, all.1)
 
 -- nothing whole yet
 pub wants-then : (octets : List ℕ) → Wants octets → (messages octets ≡ []) × (unread octets ≡ octets)
-unfolding messages unread
+unfolding messages unread message_grammar
 wants-then octets h = let all = none-then message_grammar is_grammar tt [] octets h in (all.0, all.1)
 
 -- a faulty header in front
 pub fault-then : (stream : List ℕ) (fault : HeaderFault) → 19 ≤ length stream → header_fault stream ≡ Some fault
     → (messages stream ≡ FaultyHeader fault ∷ []) × (unread stream ≡ stream)
-unfolding messages unread
+unfolding messages unread message_grammar
 fault-then stream fault whole faulty =
     let parts : take 19 stream ++ drop 19 stream ≡ stream = take-append-drop 19 stream in
-    let found = faulty_at_front message_grammar is_grammar tt stream fault whole faulty in
+    let found = meaning-item message_grammar is_grammar tt _ _ (faulty_at_front message_grammar is_grammar tt stream fault whole faulty) in
     let all = end-then message_grammar is_grammar tt (take 19 stream) (drop 19 stream) (FaultyHeader fault) found refl in
     (ap (messages_from []) (sym parts) ∙ all.0, ap (unread_from []) (sym parts) ∙ all.1 ∙ parts)
 
@@ -182,50 +188,56 @@ Becomes octets =
     ⊎ (((kind : MessageType) × IsMessage octets kind (drop 19 octets))
     ⊎ ((fault : HeaderFault) × (length octets ≡ 19) × (header_fault octets ≡ Some fault)))
 
-becomes_by_shape : (octets : List ℕ) (item : Item) → IsShaped message_grammar tt octets item → Becomes octets
-becomes_by_shape octets item (inl (whole, sound, all, is_item)) =
+becomes_by_shape : (octets : List ℕ) (item : Item) → IsItem message_grammar tt octets item → Becomes octets
+unfolding message_grammar
+becomes_by_shape octets item (inl (whole, sound, all, is_whole)) =
     let kind = known_kind octets sound in
     inr (inl (kind.0, record { whole_header = whole; sound = sound; kind_is = kind.1; length_is = all; body_is = refl }))
-becomes_by_shape octets item (inr (fault, nineteen, faulty, is_item)) = inr (inr (fault, nineteen, faulty))
+becomes_by_shape octets item (inr (fault, nineteen, faulty, is_faulty)) = inr (inr (fault, nineteen, faulty))
 
 becomes_by : (octets : List ℕ) → Wants octets ⊎ ((item : Item) × (meaning octets ≡ Some item)) → Becomes octets
+unfolding message_grammar
 becomes_by octets (inl h) = inl h
-becomes_by octets (inr h) = becomes_by_shape octets h.0 (shaped message_grammar is_grammar tt octets h.0 h.1)
+becomes_by octets (inr h) = becomes_by_shape octets h.0 (is_item message_grammar is_grammar tt octets h.0 h.1)
 
 pub becomes : (part : List ℕ) (octet : ℕ) → Wants part → Becomes (part ++ octet ∷ [])
+unfolding message_grammar
 becomes part octet h = becomes_by (part ++ octet ∷ []) (item_becomes message_grammar is_grammar tt part (octet ∷ []) h (needed-some message_grammar is_grammar tt part h))
 
 -- a whole message and a faulty header have no other shape
-message_shape : (octets body : List ℕ) (kind : MessageType) → IsShaped message_grammar tt octets (WholeMessage kind body) → IsMessage octets kind body
-message_shape octets body kind (inl (whole, sound, all, is_item)) =
+message_shape : (octets body : List ℕ) (kind : MessageType) → IsItem message_grammar tt octets (WholeMessage kind body) → IsMessage octets kind body
+unfolding message_grammar
+message_shape octets body kind (inl (whole, sound, all, is_whole)) =
     let known = known_kind octets sound in
-    let same : Some (WholeMessage known.0 (drop 19 octets)) ≡ Some (WholeMessage kind body) = sym (ap (option_map (λ (k : MessageType). WholeMessage k (drop 19 octets))) known.1) ∙ is_item in
+    let same : Some (WholeMessage known.0 (drop 19 octets)) ≡ Some (WholeMessage kind body) = sym (ap (option_map (λ (k : MessageType). WholeMessage k (drop 19 octets))) known.1) ∙ is_whole in
     let kinds : known.0 ≡ kind = cc in
     let bodies : drop 19 octets ≡ body = cc in
     record { whole_header = whole; sound = sound; kind_is = known.1 ∙ ap (λ (k : MessageType). Some k) kinds; length_is = all; body_is = sym bodies }
-message_shape octets body kind (inr (fault, nineteen, faulty, is_item)) = absurd cc
+message_shape octets body kind (inr (fault, nineteen, faulty, is_faulty)) = absurd cc
 
-fault_shape : (octets : List ℕ) (fault : HeaderFault) → IsShaped message_grammar tt octets (FaultyHeader fault) → (19 ≤ length octets) × (header_fault octets ≡ Some fault)
-fault_shape octets fault (inl (whole, sound, all, is_item)) =
+fault_shape : (octets : List ℕ) (fault : HeaderFault) → IsItem message_grammar tt octets (FaultyHeader fault) → (19 ≤ length octets) × (header_fault octets ≡ Some fault)
+unfolding message_grammar
+fault_shape octets fault (inl (whole, sound, all, is_whole)) =
     let known = known_kind octets sound in
-    let same : Some (WholeMessage known.0 (drop 19 octets)) ≡ Some (FaultyHeader fault) = sym (ap (option_map (λ (k : MessageType). WholeMessage k (drop 19 octets))) known.1) ∙ is_item in
+    let same : Some (WholeMessage known.0 (drop 19 octets)) ≡ Some (FaultyHeader fault) = sym (ap (option_map (λ (k : MessageType). WholeMessage k (drop 19 octets))) known.1) ∙ is_whole in
     absurd cc
-fault_shape octets fault (inr (found, nineteen, faulty, is_item)) =
+fault_shape octets fault (inr (found, nineteen, faulty, is_faulty)) =
     let same : fault ≡ found = cc in
     (omega (arith, nineteen), faulty ∙ ap (λ (f : HeaderFault). Some f) (sym same))
 
 splits_of : (stream : List ℕ) (items : List Item) (rest : List ℕ) → IsSplit message_grammar tt stream items rest → Splits stream items rest
+unfolding message_grammar
 splits_of stream [] rest (same, none) = (same, none-from_wants rest (no_item_wants message_grammar is_grammar tt rest none))
-splits_of stream (WholeMessage kind body ∷ items) rest (octets, more, is_item, all, inl (ended, none, same)) = absurd cc
-splits_of stream (WholeMessage kind body ∷ items) rest (octets, more, is_item, all, inr (goes, others)) =
-    (octets, more, message_shape octets body kind (shaped message_grammar is_grammar tt octets _ is_item), all, splits_of more items rest others)
-splits_of stream (FaultyHeader fault ∷ items) rest (octets, more, is_item, all, inl (ended, none, same)) =
-    let front = fault_shape octets fault (shaped message_grammar is_grammar tt octets _ is_item) in
+splits_of stream (WholeMessage kind body ∷ items) rest (octets, more, is_first, all, inl (ended, none, same)) = absurd cc
+splits_of stream (WholeMessage kind body ∷ items) rest (octets, more, is_first, all, inr (goes, others)) =
+    (octets, more, message_shape octets body kind is_first, all, splits_of more items rest others)
+splits_of stream (FaultyHeader fault ∷ items) rest (octets, more, is_first, all, inl (ended, none, same)) =
+    let front = fault_shape octets fault is_first in
     let rest_is : octets ++ more ≡ rest = sym all ∙ same in
     let longer : length (octets ++ more) ≡ length octets + length more = length-append octets more in
     let enough : 19 ≤ length (octets ++ more) = omega (arith, longer, front.0) in
     (none, same, subst (λ (x : List ℕ). 19 ≤ length x) rest_is enough, ap header_fault (sym rest_is) ∙ header_fault-append octets more front.0 ∙ front.1)
-splits_of stream (FaultyHeader fault ∷ items) rest (octets, more, is_item, all, inr (goes, others)) = absurd cc
+splits_of stream (FaultyHeader fault ∷ items) rest (octets, more, is_first, all, inr (goes, others)) = absurd cc
 
 -- each stream splits
 pub splits : (stream : List ℕ) → Splits stream (messages stream) (unread stream)
@@ -246,4 +258,4 @@ only_whole octets more body other kind kind_of_other h k =
 -- what is unread is unread again
 pub unread-unread : (stream : List ℕ) → unread (unread stream) ≡ unread stream
 unfolding unread
-unread-unread stream = (unread_again message_grammar is_grammar tt stream).0
+unread-unread stream = unread_again message_grammar is_grammar tt stream

@@ -1,9 +1,9 @@
 -- The messages of a stream of octets (RFC 4271 sections 4.1 and 6.1). The pieces in which the octets come are no
 -- part of it.
-use Rattle.std.specs.Prelude.{◌≡◌, ◌⊎◌, ◌<◌, ◌≤◌, ℕ, ◌+◌, Bool, true, false, List, [], ◌∷◌, ◌++◌, Option, Some, None, take, drop, length, slice_index, slice_range}
+use Rattle.std.specs.Prelude.{◌≡◌, ◌⊎◌, ◌<◌, ◌≤◌, ◌-◌, ℕ, nat_lt, ◌+◌, if◌then◌else◌, Bool, true, false, List, [], ◌∷◌, ◌++◌, Option, Some, None, take, drop, length, slice_index, slice_range}
 use Rattle.std.specs.Option.{option_map}
 use Rattle.octet_streams.specs.Grammar.{Grammar}
-use Rattle.octet_streams.specs.Streams.{meaning as item_meant, left_over as octets_left, with_front as in_front, items_from, unread_from as unread_behind, items_of_pieces, unread_of_pieces as unread_behind_pieces, needed_of as octets_needed}
+use Rattle.octet_streams.specs.Streams.{meaning as item_meant, with_front as in_front, items_from, unread_from as unread_behind, items_of_pieces, unread_of_pieces as unread_behind_pieces, wanted_of}
 use Rattle.bgp_msg.specs.declared.fault.HeaderFault.{HeaderFault}
 use Rattle.bgp_msg.specs.declared.frame.MessageType.{MessageType}
 use Rattle.bgp_msg.specs.declared.frame.Step.{Step}
@@ -43,7 +43,7 @@ ends_stream (WholeMessage kind body) = false
 ends_stream (FaultyHeader fault) = true
 
 -- what octets mean: a connection has one place alone
-abbrev pub message_grammar : Grammar (Unit {0}) HeaderFault Item
+unfoldable pub message_grammar : Grammar (Unit {0}) HeaderFault Item
 message_grammar = record {
   header_length = 19;
   header_fault = λ place octets. header_fault octets;
@@ -64,7 +64,8 @@ completed part octet = meaning (part ++ octet ∷ [])
 
 -- what is unread once the octets are this item: nothing behind a message, all from a faulty header on
 abbrev pub left_over : List ℕ → Option Item → List ℕ
-left_over octets item = octets_left message_grammar octets item
+left_over octets None = octets
+left_over octets (Some item) = if ends_stream item then octets else []
 
 -- an item, where there is one, and those behind it
 abbrev pub with_front : Option Item → List Item → List Item
@@ -132,4 +133,5 @@ IsSpelled octets (Faulty fault) = Unit {0}
 
 -- how many more octets are wanted before an answer
 abbrev pub needed_of : List ℕ → ℕ
-needed_of octets = octets_needed message_grammar tt octets
+needed_of octets =
+    if nat_lt (length octets) 19 then 19 - length octets else wanted_of (header_fault octets) (told_length octets) (length octets)

@@ -1,7 +1,7 @@
-use Rattle.std.proofs.Common.{◌≡◌, ◌≤◌, ◌<◌, ◌+◌, ◌-◌, ℕ, true, false, List, [], ◌∷◌, ◌++◌, length, Option, Some, None, ◌⊎◌, inl, inr, refl, ap, sym, subst, ◌∙◌, arith, append_assoc, append-nil, length-append}
+use Rattle.std.proofs.Common.{◌≡◌, ◌≤◌, ◌<◌, ◌+◌, ◌-◌, ℕ, true, false, List, [], ◌∷◌, ◌++◌, length, Option, Some, None, is_none, ◌⊎◌, inl, inr, refl, ap, sym, subst, ◌∙◌, arith, append_assoc, append-nil, length-append}
 use Rattle.std.proofs.lemmas.Bool.{le-ltb, lt-ltb, eq-eqb, ne_eqb, cases_lt, cases_eq}
 use Rattle.octet_streams.specs.Grammar.{Grammar, IsGrammar}
-use Rattle.octet_streams.specs.Streams.{item_by, meaning, left_over, place_after, completed, with_front, items_from, unread_from, place_from, Wants, GoesOn, needed_of}
+use Rattle.octet_streams.specs.Streams.{item_by, meaning, IsItem, left_over, place_after, completed, with_front, items_from, unread_from, place_from, Wants, GoesOn, needed_of}
 
 -- Streams of items: what stands at the front, and what more octets make of it.
 
@@ -33,6 +33,11 @@ meaning-whole g ok place octets whole sound all =
 pub meaning-cut : {P F I : Type 0} (g : Grammar P F I) (ok : IsGrammar g) (place : P) (octets : List ℕ) → g.header_length ≤ length octets → g.header_fault place octets ≡ None → (length octets ≡ g.told_length octets → ⊥) → meaning g place octets ≡ None
 meaning-cut g ok place octets whole sound other =
     meaning-long g ok place octets whole ∙ ap (item_by g octets) sound ∙ rw (ne_eqb (length octets) (g.told_length octets) other) refl
+
+-- octets that are an item are read as it
+pub meaning-item : {P F I : Type 0} (g : Grammar P F I) (ok : IsGrammar g) (place : P) (octets : List ℕ) (item : I) → IsItem g place octets item → meaning g place octets ≡ Some item
+meaning-item g ok place octets item (inl (whole, sound, all, is_item)) = meaning-whole g ok place octets whole sound all ∙ is_item
+meaning-item g ok place octets item (inr (fault, header, faulty, is_item)) = meaning-fault g ok place octets fault header faulty ∙ ap (λ i. Some i) (sym is_item)
 
 pub some_is_not_none : {X : Type 0} (found : Option X) (x : X) → found ≡ Some x → found ≡ None → ⊥
 some_is_not_none found x e f = absurd cc
@@ -195,6 +200,19 @@ ended-then g ok place part (octet ∷ octets) h =
     let again = ended-then g ok place (part ++ octet ∷ []) octets next.1 in
     (rw (next.0, items_from) again.0, rw (next.0, unread_from) (again.1 ∙ append_assoc part (octet ∷ []) octets), rw (next.0, place_from) again.2)
 
+-- so it is at the place behind the item that ends the stream
+same_none : {X Y : Type 0} (found : Option X) (before : Option Y) → is_none found ≡ is_none before → before ≡ None → found ≡ None
+same_none None before same none = refl
+same_none (Some x) before same none = absurd (some_is_not_none (Some x) x refl cc)
+
+same_some : {X Y : Type 0} (found : Option X) (before : Option Y) (y : Y) → is_none found ≡ is_none before → before ≡ Some y → (x : X) × (found ≡ Some x)
+same_some None before y same some = absurd cc
+same_some (Some x) before y same some = (x, refl)
+
+ended_behind : {P F I : Type 0} (g : Grammar P F I) (ok : IsGrammar g) (place : P) (part : List ℕ) (item : I) → g.ends item ≡ true → Ended g place part → Ended g (g.behind place item) part
+ended_behind g ok place part item ended (whole, inl h) = (whole, inl (same_some _ _ h.0 (ok.same_behind_end place item part ended) h.1))
+ended_behind g ok place part item ended (whole, inr h) = (whole, inr (same_none _ _ (ok.same_behind_end place item part ended) h.0, h.1))
+
 -- how many octets are wanted, by cases
 needed-short : {P F I : Type 0} (g : Grammar P F I) (ok : IsGrammar g) (place : P) (part : List ℕ) → length part < g.header_length → needed_of g place part ≡ g.header_length - length part
 needed-short g ok place part short = rw (lt-ltb (length part) g.header_length short) refl
@@ -307,12 +325,17 @@ pub item_ended : {P F I : Type 0} (g : Grammar P F I) (ok : IsGrammar g) (place 
 item_ended g ok place octets item h = ended_by_length g ok place octets item (cases_lt (length octets) g.header_length) h
 
 -- an item at the front that ends the stream is the last, and one that doesn't has the others behind it
+pub behind_end :
+    {P F I : Type 0} (g : Grammar P F I) (ok : IsGrammar g) (place : P) (part octets : List ℕ) (item : I) → meaning g place part ≡ Some item → g.ends item ≡ true
+    → (items_from g (g.behind place item) part octets ≡ []) × (unread_from g (g.behind place item) part octets ≡ part ++ octets) × (place_from g (g.behind place item) part octets ≡ g.behind place item)
+behind_end g ok place part octets item h ended = ended-then g ok (g.behind place item) part octets (ended_behind g ok place part item ended (item_ended g ok place part item h))
+
 pub end-then :
     {P F I : Type 0} (g : Grammar P F I) (ok : IsGrammar g) (place : P) (octets more : List ℕ) (item : I) → meaning g place octets ≡ Some item → g.ends item ≡ true
-    → (items_from g place [] (octets ++ more) ≡ item ∷ []) × (unread_from g place [] (octets ++ more) ≡ octets ++ more) × (place_from g place [] (octets ++ more) ≡ place)
+    → (items_from g place [] (octets ++ more) ≡ item ∷ []) × (unread_from g place [] (octets ++ more) ≡ octets ++ more) × (place_from g place [] (octets ++ more) ≡ g.behind place item)
 end-then g ok place octets more item h ended =
     let first = item-then g ok place octets more item h in
-    let again = ended-then g ok place octets more (item_ended g ok place octets item h) in
+    let again = behind_end g ok place octets more item h ended in
     (first.0 ∙ rw ended (ap (λ items. item ∷ items) again.0), first.1 ∙ rw ended again.1, first.2 ∙ rw ended again.2)
 
 pub others-then :
@@ -324,29 +347,40 @@ others-then g ok place octets more item h goes =
     let first = item-then g ok place octets more item h in
     (first.0 ∙ rw goes refl, first.1 ∙ rw goes refl, first.2 ∙ rw goes refl)
 
--- an item is a header without a fault with as many octets as it tells, or a faulty header
-abbrev pub IsShaped : {P F I : Type 0} → Grammar P F I → P → List ℕ → I → Type 0
-IsShaped {P} {F} {I} g place octets item =
-    ((g.header_length ≤ length octets) × (g.header_fault place octets ≡ None) × (length octets ≡ g.told_length octets) × (g.whole octets ≡ Some item))
-    ⊎ ((fault : F) × (length octets ≡ g.header_length) × (g.header_fault place octets ≡ Some fault) × (item ≡ g.faulty fault octets))
+-- what is read as an item is it
+one_found : {X : Type 0} (found : Option X) (x y : X) → found ≡ Some x → found ≡ Some y → x ≡ y
+one_found found x y e f = cc
 
-same_some : {X : Type 0} (found : Option X) (x y : X) → found ≡ Some x → found ≡ Some y → x ≡ y
-same_some found x y e f = cc
-
-shaped_by_fault :
+is_item_by_fault :
     {P F I : Type 0} (g : Grammar P F I) (ok : IsGrammar g) (place : P) (octets : List ℕ) (item : I) (found : Option F) → g.header_fault place octets ≡ found → g.header_length ≤ length octets
     → meaning g place octets ≡ Some item → (length octets ≡ g.told_length octets) ⊎ (length octets ≡ g.told_length octets → ⊥)
-    → (length octets ≡ g.header_length) ⊎ (length octets ≡ g.header_length → ⊥) → IsShaped g place octets item
-shaped_by_fault g ok place octets item None sound whole h (inl all) header = inl (whole, sound, all, sym (meaning-whole g ok place octets whole sound all) ∙ h)
-shaped_by_fault g ok place octets item None sound whole h (inr other) header = absurd (some_is_not_none _ item h (meaning-cut g ok place octets whole sound other))
-shaped_by_fault g ok place octets item (Some fault) faulty whole h all (inl header) = inr (fault, header, faulty, same_some _ _ _ h (meaning-fault g ok place octets fault header faulty))
-shaped_by_fault g ok place octets item (Some fault) faulty whole h all (inr other) =
+    → (length octets ≡ g.header_length) ⊎ (length octets ≡ g.header_length → ⊥) → IsItem g place octets item
+is_item_by_fault g ok place octets item None sound whole h (inl all) header = inl (whole, sound, all, sym (meaning-whole g ok place octets whole sound all) ∙ h)
+is_item_by_fault g ok place octets item None sound whole h (inr other) header = absurd (some_is_not_none _ item h (meaning-cut g ok place octets whole sound other))
+is_item_by_fault g ok place octets item (Some fault) faulty whole h all (inl header) = inr (fault, header, faulty, one_found _ _ _ h (meaning-fault g ok place octets fault header faulty))
+is_item_by_fault g ok place octets item (Some fault) faulty whole h all (inr other) =
     absurd (some_is_not_none _ item h (meaning-past g ok place octets fault (omega (arith, whole, other)) faulty))
 
-shaped_by_length : {P F I : Type 0} (g : Grammar P F I) (ok : IsGrammar g) (place : P) (octets : List ℕ) (item : I) → (length octets < g.header_length) ⊎ (g.header_length ≤ length octets) → meaning g place octets ≡ Some item → IsShaped g place octets item
-shaped_by_length g ok place octets item (inl short) h = absurd (some_is_not_none _ item h (meaning-short g ok place octets short))
-shaped_by_length g ok place octets item (inr whole) h =
-    shaped_by_fault g ok place octets item _ refl whole h (cases_eq (length octets) (g.told_length octets)) (cases_eq (length octets) g.header_length)
+is_item_by_length : {P F I : Type 0} (g : Grammar P F I) (ok : IsGrammar g) (place : P) (octets : List ℕ) (item : I) → (length octets < g.header_length) ⊎ (g.header_length ≤ length octets) → meaning g place octets ≡ Some item → IsItem g place octets item
+is_item_by_length g ok place octets item (inl short) h = absurd (some_is_not_none _ item h (meaning-short g ok place octets short))
+is_item_by_length g ok place octets item (inr whole) h =
+    is_item_by_fault g ok place octets item _ refl whole h (cases_eq (length octets) (g.told_length octets)) (cases_eq (length octets) g.header_length)
 
-pub shaped : {P F I : Type 0} (g : Grammar P F I) (ok : IsGrammar g) (place : P) (octets : List ℕ) (item : I) → meaning g place octets ≡ Some item → IsShaped g place octets item
-shaped g ok place octets item h = shaped_by_length g ok place octets item (cases_lt (length octets) g.header_length) h
+pub is_item : {P F I : Type 0} (g : Grammar P F I) (ok : IsGrammar g) (place : P) (octets : List ℕ) (item : I) → meaning g place octets ≡ Some item → IsItem g place octets item
+is_item g ok place octets item h = is_item_by_length g ok place octets item (cases_lt (length octets) g.header_length) h
+
+-- and the item that ends the stream is one that ends it at the place behind it too
+ends_by_item :
+    {P F I : Type 0} (g : Grammar P F I) (ok : IsGrammar g) (place : P) (octets : List ℕ) (item : I) → g.ends item ≡ true → IsItem g place octets item
+    → (other : I) × (meaning g (g.behind place item) octets ≡ Some other) × (g.ends other ≡ true)
+ends_by_item g ok place octets item ended (inl (whole, sound, all, is_whole)) =
+    let still = same_none _ _ (ok.same_behind_end place item octets ended) sound in
+    (item, meaning-item g ok (g.behind place item) octets item (inl (whole, still, all, is_whole)), ended)
+ends_by_item g ok place octets item ended (inr (fault, header, faulty, is_faulty)) =
+    let still = same_some _ _ fault (ok.same_behind_end place item octets ended) faulty in
+    (g.faulty still.0 octets, meaning-fault g ok (g.behind place item) octets still.0 header still.1, ok.fault_ends still.0 octets)
+
+pub ends_behind :
+    {P F I : Type 0} (g : Grammar P F I) (ok : IsGrammar g) (place : P) (octets : List ℕ) (item : I) → meaning g place octets ≡ Some item → g.ends item ≡ true
+    → (other : I) × (meaning g (g.behind place item) octets ≡ Some other) × (g.ends other ≡ true)
+ends_behind g ok place octets item h ended = ends_by_item g ok place octets item ended (is_item g ok place octets item h)

@@ -11,19 +11,25 @@ item_by g octets (Some fault) = if length octets == g.header_length then Some (g
 unfoldable pub meaning : {P F I : Type 0} → Grammar P F I → P → List ℕ → Option I
 meaning g place octets = if nat_lt (length octets) g.header_length then None else item_by g octets (g.header_fault place octets)
 
+-- the octets are this item, from the first to the last: a header without a fault and as many octets as it tells, or a header with a fault and no more
+abbrev pub IsItem : {P F I : Type 0} → Grammar P F I → P → List ℕ → I → Type 0
+IsItem {P} {F} {I} g place octets item =
+    ((g.header_length ≤ length octets) × (g.header_fault place octets ≡ None) × (length octets ≡ g.told_length octets) × (g.whole octets ≡ Some item))
+    ⊎ ((fault : F) × (length octets ≡ g.header_length) × (g.header_fault place octets ≡ Some fault) × (item ≡ g.faulty fault octets))
+
 -- no item stands at the front
 abbrev pub HasNoItem : {P F I : Type 0} → Grammar P F I → P → List ℕ → Type 0
-HasNoItem {P} {F} {I} g place octets = (front back : List ℕ) (item : I) → octets ≡ front ++ back → ¬ (meaning g place front ≡ Some item)
+HasNoItem {P} {F} {I} g place octets = (front back : List ℕ) (item : I) → octets ≡ front ++ back → ¬ (IsItem g place front item)
 
 -- what is unread once the octets are this item: nothing, or all from an item on that ends the stream
 abbrev pub left_over : {P F I : Type 0} → Grammar P F I → List ℕ → Option I → List ℕ
 left_over g octets None = octets
 left_over g octets (Some item) = if g.ends item then octets else []
 
--- the place behind an item; the one that ends the stream has none
+-- the place behind an item, where there is one
 abbrev pub place_after : {P F I : Type 0} → Grammar P F I → P → Option I → P
 place_after g place None = place
-place_after g place (Some item) = if g.ends item then place else g.behind place item
+place_after g place (Some item) = g.behind place item
 
 -- the item that one more octet completes behind what is unread
 abbrev pub completed : {P F I : Type 0} → Grammar P F I → P → List ℕ → ℕ → Option I
@@ -67,7 +73,7 @@ unread_of_pieces g place part (piece ∷ pieces) = unread_of_pieces g (place_fro
 abbrev pub Splits : {P F I : Type 0} → Grammar P F I → P → List ℕ → List I → List ℕ → Type 0
 Splits g place stream [] rest = (stream ≡ rest) × HasNoItem g place rest
 Splits g place stream (item ∷ items) rest =
-    (octets more : List ℕ) × (meaning g place octets ≡ Some item) × (stream ≡ octets ++ more)
+    (octets more : List ℕ) × IsItem g place octets item × (stream ≡ octets ++ more)
     × (((g.ends item ≡ true) × (items ≡ []) × (stream ≡ rest)) ⊎ ((g.ends item ≡ false) × Splits g (g.behind place item) more items rest))
 
 -- no whole header, or a header without a fault before the end of its item

@@ -9,7 +9,6 @@ use Rattle.std.specs.Option.{option_map, option_and_then}
 use Rattle.net_prefix.specs.Cover.{block_size}
 use Rattle.net_prefix.specs.declared.prefix.Prefix.{Prefix}
 use Rattle.net_prefix.specs.declared.payload.Vrp.{Vrp}
-use Rattle.rtr_codec.specs.declared.fault.PduFault.{PduFault}
 use Rattle.rtr_codec.specs.declared.fault.PduFault.TheVariants.{Unanswered, Header}
 use Rattle.rtr_codec.specs.declared.fault.ErrorCode.TheVariants.{UnsupportedType, CorruptData}
 use Rattle.rtr_codec.specs.declared.header.PduType.{PduType}
@@ -17,13 +16,13 @@ use Rattle.rtr_codec.specs.declared.header.PduType.TheVariants.{SerialNotify, Se
 use Rattle.rtr_codec.specs.declared.place.Place.{Place}
 use Rattle.rtr_codec.specs.declared.reading.Step.{Step}
 use Rattle.rtr_codec.specs.declared.reading.Step.TheVariants.{Need, Whole, Faulty}
-use Rattle.rtr_codec.specs.PduContents.{two_at, four_at, version_at, kind_at, told_length, prefix_if, prefix_of, payload_if, payload_with, payload_at, payload_of, change_of, content_by, content_at}
+use Rattle.rtr_codec.specs.PduContents.{two_at, four_at, version_at, kind_at, told_length, prefix_if, prefix_of, payload_if, payload_with, payload_at, payload_of, change_of, content_by}
 use Rattle.rtr_codec.specs.PduFaults.{header_fault, is_client, is_faulty_report, is_lenient, is_other_version, is_unknown, is_unlawful}
-use Rattle.rtr_codec.specs.PduSpelling.{Content, Serial_notify, Announce, Withdraw, content_of, interval_octets, pdu_octets, prefix_octets, quoting_octets, versioned_octets}
+use Rattle.rtr_codec.specs.PduSpelling.{Content, Announce, Withdraw, content_of, pdu_octets, prefix_octets, quoting_octets, versioned_octets}
 use Rattle.rtr_codec.specs.PduStream.{IsPdu, Tells}
 use Rattle.rtr_codec.specs.PduTypes.{is_lawful_length, octet_of, type_of}
-use Rattle.rtr_codec.specs.SpelledPdus.{AreOctets, IsQuoted, IsSpelled, MayHaveVersion, Spells, SpellsPrefix}
-use Rattle.rtr_codec.proofs.ReaderAnswers.{IsWhole, front_is_whole}
+use Rattle.rtr_codec.specs.SpelledPdus.{AreOctets, IsQuoted, IsSpelled, MayHaveVersion, Spells}
+use Rattle.rtr_codec.proofs.ReaderAnswers.{answer_is_pdu}
 use Rattle.rtr_codec.proofs.Spellings.{content_of_type}
 
 -- parts of octets are octets
@@ -477,8 +476,4 @@ pub answer_is_spelled : (place : Place) (octets : List ℕ) (step : Step) → Ar
 answer_is_spelled place octets Need small h = tt
 answer_is_spelled place octets (Faulty fault quoted) small h = tt
 answer_is_spelled place octets (Whole pdu used) small h =
-    let told : used ≡ told_length octets = h.3 in
-    let found = front_is_whole place octets (omega (arith, told, h.0)) (omega (arith, told, h.2)) h.4 in
-    let whole : IsWhole place (take used octets) = subst (λ (n : ℕ). IsWhole place (take n octets)) (sym told) found in
-    is_spelled place (take used octets) (content_of pdu) (octets-take used octets small)
-    (record { whole_header = whole.0; sound = whole.1; length_is = whole.2; content_is = h.5 })
+    is_spelled place (take used octets) (content_of pdu) (octets-take used octets small) (answer_is_pdu place octets pdu used h)

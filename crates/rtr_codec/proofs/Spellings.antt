@@ -1,4 +1,4 @@
-use Rattle.std.proofs.Common.{◌≡◌, ◌≤◌, ◌<◌, ◌+◌, ◌*◌, ◌^◌, ◌/◌, ◌%◌, ◌==◌, ◌&&◌, ◌||◌, not, ℕ, Bool, true, false, nat_le, List, [], ◌++◌, length, take, drop, Option, Some, None, inl, inr, refl, ap, sym, subst, ◌∙◌, arith, append-nil, length-append}
+use Rattle.std.proofs.Common.{◌≡◌, ◌≤◌, ◌<◌, ◌+◌, ◌*◌, ◌^◌, ◌/◌, ◌%◌, ◌==◌, ◌&&◌, ◌||◌, not, ℕ, Bool, true, false, nat_le, List, [], ◌++◌, length, take, drop, Some, None, inl, inr, refl, ap, sym, subst, ◌∙◌, arith, append-nil, length-append}
 use Rattle.std.proofs.lemmas.Bool.{eq-eqb, le-leb, and_from}
 use Rattle.std.proofs.lemmas.List.{take_at, take_all}
 use Rattle.std.specs.Option.{option_map, option_and_then}
@@ -11,11 +11,11 @@ use Rattle.rtr_codec.specs.declared.place.Place.{Place}
 use Rattle.rtr_codec.specs.PduContents.{two_at, four_at, version_at, told_length, kind_at, payload_at, payload_of, payload_with, change_of, content_by, content_at}
 use Rattle.rtr_codec.specs.PduFaults.{header_fault, is_faulty_report}
 use Rattle.rtr_codec.specs.PduSpelling.{Content, Serial_notify, Serial_query, Reset_query, Cache_response, Announce, Withdraw, Ipv6_prefix, End_of_data, Cache_reset, Router_key, Error_report, IsLawful, length_of, pdu_octets, prefix_octets, interval_octets, quoting_octets, report_octets, spelling, versioned_octets}
-use Rattle.rtr_codec.specs.PduStream.{WholePdu, IsPdu, IsReadFirst, item_with, meaning}
+use Rattle.rtr_codec.specs.PduStream.{WholePdu, IsPdu, IsReadFirst, meaning}
 use Rattle.rtr_codec.specs.SpelledPdus.{IsQuoted, MayHaveVersion, Spells, SpellsPrefix}
 use Rattle.rtr_codec.specs.PduTypes.{is_lawful_length, octet_of, type_of}
 use Rattle.rtr_codec.proofs.Payloads.{prefix_of-is, payload_with-is}
-use Rattle.rtr_codec.proofs.Streams.{meaning-whole, item-then}
+use Rattle.rtr_codec.proofs.Streams.{meaning-pdu, pdu-then}
 
 -- What is written is read again.
 
@@ -269,14 +269,9 @@ spelling_spells place (Error_report code quoted) h =
     (length quoted, to_be_bytes w32 0, refl, inl refl, h.0, omega (arith, most), omega (arith, count), omega (arith, count, most))
 
 -- and is read again
-pub pdu_is_read : (place : Place) (octets : List ℕ) (content : Content) → IsPdu place octets content → meaning place octets ≡ Some (WholePdu content octets)
-pdu_is_read place octets content is =
-    meaning-whole place octets is.whole_header is.sound is.length_is ∙ ap (λ (c : Option Content). Some (item_with octets c)) is.content_is
-
 pub written_is : (place : Place) (content : Content) → IsLawful content → meaning place (spelling content) ≡ Some (WholePdu content (spelling content))
-written_is place content h = pdu_is_read place (spelling content) content (spelled_is place (spelling content) content (spelling_spells place content h))
+written_is place content h = meaning-pdu place (spelling content) content (spelled_is place (spelling content) content (spelling_spells place content h))
 
 pub written_first : (place : Place) (content : Content) → IsLawful content → IsReadFirst place (spelling content) content
 written_first place content h = λ more.
-    let found = item-then place (spelling content) more (WholePdu content (spelling content)) (written_is place content h) in
-    (found.0, found.1)
+    pdu-then place (spelling content) more content (written_is place content h)

@@ -3,7 +3,7 @@ use Rattle.std.specs.Prelude.{◌&&◌, ◌||◌, ◌==◌, ℕ, if◌then◌els
 use Rattle.rtr_codec.specs.declared.fault.ErrorCode.{ErrorCode}
 use Rattle.rtr_codec.specs.declared.fault.ErrorCode.TheVariants.{CorruptData, InternalError, NoDataAvailable, InvalidRequest, UnsupportedVersion, UnsupportedType, WithdrawalOfUnknownRecord, DuplicateAnnouncement, UnexpectedVersion}
 use Rattle.rtr_codec.specs.declared.fault.PduFault.{PduFault}
-use Rattle.rtr_codec.specs.declared.fault.PduFault.TheVariants.{Unanswered, Header, Payload}
+use Rattle.rtr_codec.specs.declared.fault.PduFault.TheVariants.{Unanswered, Header}
 use Rattle.rtr_codec.specs.declared.place.End.{End}
 use Rattle.rtr_codec.specs.declared.place.End.TheVariants.{Cache, Client}
 use Rattle.rtr_codec.specs.declared.place.Place.{Place}

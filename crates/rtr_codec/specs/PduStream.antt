@@ -1,5 +1,7 @@
 -- The PDUs of a stream of octets (RFC 8210 section 5). The pieces in which the octets come are no part of it.
-use Rattle.std.specs.Prelude.{◌≡◌, ◌⊎◌, ◌<◌, ◌≤◌, ◌-◌, ◌==◌, ◌||◌, ℕ, nat_lt, if◌then◌else◌, Bool, true, false, List, [], ◌∷◌, ◌++◌, Option, Some, None, take, drop, length}
+use Rattle.std.specs.Prelude.{◌≡◌, ◌⊎◌, ◌<◌, ◌≤◌, ◌-◌, ◌||◌, ℕ, nat_lt, if◌then◌else◌, Bool, true, false, List, [], ◌∷◌, ◌++◌, Option, Some, None, take, drop, length}
+use Rattle.octet_streams.specs.Grammar.{Grammar}
+use Rattle.octet_streams.specs.Streams.{meaning as item_meant, Splits as AreItems, with_front, wanted_of, items_from, unread_from as unread_behind, place_from as place_behind, items_of_pieces, unread_of_pieces as unread_behind_pieces}
 use Rattle.rtr_codec.specs.declared.fault.PduFault.{PduFault}
 use Rattle.rtr_codec.specs.declared.fault.PduFault.TheVariants.{Payload}
 use Rattle.rtr_codec.specs.declared.place.Place.{Place}
@@ -33,20 +35,6 @@ HasFault place octets fault quoted =
     ⊎ ((8 ≤ length octets) × (header_fault place octets ≡ None) × (told_length octets ≤ length octets)
     × (fault ≡ Payload) × (quoted ≡ take (told_length octets) octets) × (content_at quoted ≡ None))
 
--- no whole PDU stands at the front, and no fault
-pub record HasNoItem (place : Place) (octets : List ℕ) : Type 0 where
-  pub no_pdu : (front back : List ℕ) (content : Content) → octets ≡ front ++ back → ¬ (IsPdu place front content)
-  pub no_fault : (fault : PduFault) (quoted : List ℕ) → ¬ (HasFault place octets fault quoted)
-
--- the item that octets with a whole header are: a faulty header has 8 octets
-abbrev pub item_of : List ℕ → Option PduFault → Option Item
-item_of octets None = if length octets == told_length octets then Some (item_with octets (content_at octets)) else None
-item_of octets (Some fault) = if length octets == 8 then Some (FaultyPdu fault octets) else None
-
--- the item that octets are at a place of a connection, from the first to the last
-unfoldable pub meaning : Place → List ℕ → Option Item
-meaning place octets = if nat_lt (length octets) 8 then None else item_of octets (header_fault place octets)
-
 -- whether a PDU is a Cache Response
 abbrev pub is_cache_response : Content → Bool
 is_cache_response (Serial_notify session serial) = false
@@ -70,46 +58,47 @@ abbrev pub place_after : Place → Option Item → Place
 place_after place None = place
 place_after place (Some item) = record { end = place.end; is_first = false; has_response = is_response item || place.has_response }
 
--- the stream is these PDUs one after another, and then the rest: with no item at its front, or with the fault that ends the stream
+-- nothing is read behind a fault
+abbrev pub ends_stream : Item → Bool
+ends_stream (WholePdu content octets) = false
+ends_stream (FaultyPdu fault octets) = true
+
+-- what octets mean at a place of a connection
+unfoldable pub pdu_grammar : Grammar Place PduFault Item
+pdu_grammar = record {
+  header_length = 8;
+  header_fault = λ place octets. header_fault place octets;
+  told_length = λ octets. told_length octets;
+  whole = λ octets. Some (item_with octets (content_at octets));
+  faulty = λ fault octets. FaultyPdu fault octets;
+  ends = λ item. ends_stream item;
+  behind = λ place item. place_after place (Some item);
+}
+
+-- the item that octets are at a place of a connection, from the first to the last
+abbrev pub meaning : Place → List ℕ → Option Item
+meaning place octets = item_meant pdu_grammar place octets
+
+-- the stream is these items one after another, and then the rest: with no item at its front, or with the fault that ends the stream
 abbrev pub Splits : Place → List ℕ → List Item → List ℕ → Type 0
-Splits place stream [] rest = (stream ≡ rest) × HasNoItem place rest
-Splits place stream (WholePdu content octets ∷ items) rest =
-    (more : List ℕ) × IsPdu place octets content × (stream ≡ octets ++ more) × Splits (place_after place (Some (WholePdu content octets))) more items rest
-Splits place stream (FaultyPdu fault quoted ∷ items) rest = (items ≡ []) × (stream ≡ rest) × HasFault place rest fault quoted
+Splits place stream items rest = AreItems pdu_grammar place stream items rest
 
 -- what is unread once the octets are this item: nothing behind a PDU, all from a fault on
 abbrev pub left_over : List ℕ → Option Item → List ℕ
 left_over octets None = octets
-left_over octets (Some (WholePdu content whole)) = []
-left_over octets (Some (FaultyPdu fault whole)) = octets
-
--- the item that one more octet completes behind what is unread
-abbrev pub completed : Place → List ℕ → ℕ → Option Item
-completed place part octet = meaning place (part ++ octet ∷ [])
-
--- an item, where there is one, and those behind it
-abbrev pub with_front : Option Item → List Item → List Item
-with_front None items = items
-with_front (Some item) items = item ∷ items
+left_over octets (Some item) = if ends_stream item then octets else []
 
 -- the items that more octets complete behind what is unread
 abbrev pub pdus_from : Place → List ℕ → List ℕ → List Item
-pdus_from place part [] = []
-pdus_from place part (octet ∷ octets) =
-    with_front (completed place part octet)
-    (pdus_from (place_after place (completed place part octet)) (left_over (part ++ octet ∷ []) (completed place part octet)) octets)
+pdus_from place part octets = items_from pdu_grammar place part octets
 
 -- what is unread behind them
 abbrev pub unread_from : Place → List ℕ → List ℕ → List ℕ
-unread_from place part [] = part
-unread_from place part (octet ∷ octets) =
-    unread_from (place_after place (completed place part octet)) (left_over (part ++ octet ∷ []) (completed place part octet)) octets
+unread_from place part octets = unread_behind pdu_grammar place part octets
 
 -- where the connection stands behind them
 abbrev pub place_from : Place → List ℕ → List ℕ → Place
-place_from place part [] = place
-place_from place part (octet ∷ octets) =
-    place_from (place_after place (completed place part octet)) (left_over (part ++ octet ∷ []) (completed place part octet)) octets
+place_from place part octets = place_behind pdu_grammar place part octets
 
 -- the PDUs of a stream from a place on, and what no PDU of it has taken
 abbrev pub pdus : Place → List ℕ → List Item
@@ -120,13 +109,11 @@ unread place stream = unread_from place [] stream
 
 -- what a reader of pieces finds that keeps what is unread
 abbrev pub pdus_of_pieces : Place → List ℕ → List (List ℕ) → List Item
-pdus_of_pieces place part [] = []
-pdus_of_pieces place part (piece ∷ pieces) = pdus_from place part piece ++ pdus_of_pieces (place_from place part piece) (unread_from place part piece) pieces
+pdus_of_pieces place part pieces = items_of_pieces pdu_grammar place part pieces
 
 -- and what it keeps at the end
 abbrev pub unread_of_pieces : Place → List ℕ → List (List ℕ) → List ℕ
-unread_of_pieces place part [] = part
-unread_of_pieces place part (piece ∷ pieces) = unread_of_pieces (place_from place part piece) (unread_from place part piece) pieces
+unread_of_pieces place part pieces = unread_behind_pieces pdu_grammar place part pieces
 
 -- the octets complete this item or none behind what is unread, and those behind them are read behind it
 abbrev pub GoesOn : Place → List ℕ → List ℕ → Option Item → List ℕ → Type 0
@@ -166,11 +153,6 @@ IsFront place octets (Whole pdu used) =
     ≡ WholePdu (content_of pdu) (take used octets)
     ∷ pdus (place_after place (Some (WholePdu (content_of pdu) (take used octets)))) (drop used octets ++ more)
 IsFront place octets (Faulty fault quoted) = (more : List ℕ) → pdus place (octets ++ more) ≡ FaultyPdu fault quoted.now ∷ []
-
--- how many octets are missing once a header has no fault
-abbrev pub wanted_of : Option PduFault → ℕ → ℕ → ℕ
-wanted_of None told have = told - have
-wanted_of (Some fault) told have = 0
 
 -- how many more octets are wanted before an answer
 abbrev pub needed_of : Place → List ℕ → ℕ
