@@ -3,4 +3,5 @@ pub mod ReaderAnswers
 pub mod ReadResponses
 pub mod SpelledPdus
 pub mod Spellings
+pub mod StreamItems
 pub mod Streams

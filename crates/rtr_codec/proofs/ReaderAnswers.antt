@@ -30,10 +30,10 @@ answer_is_pdu place octets pdu used h =
     subst (λ (n : ℕ). IsPdu place (take n octets) (content_of pdu)) (sym told) found
 
 -- what is quoted of a fault stands at the front, and is that fault
-abbrev IsQuotedFront : Place → List ℕ → PduFault → List ℕ → Type 0
+abbrev pub IsQuotedFront : Place → List ℕ → PduFault → List ℕ → Type 0
 IsQuotedFront place octets fault quoted = (n : ℕ) × (quoted ≡ take n octets) × (meaning place quoted ≡ Some (FaultyPdu fault quoted))
 
-quoted_front : (place : Place) (octets quoted : List ℕ) (fault : PduFault) → HasFault place octets fault quoted → IsQuotedFront place octets fault quoted
+pub quoted_front : (place : Place) (octets quoted : List ℕ) (fault : PduFault) → HasFault place octets fault quoted → IsQuotedFront place octets fault quoted
 unfolding pdu_grammar
 quoted_front place octets quoted fault (inl h) =
     let front = meaning-item pdu_grammar is_grammar place _ _ (faulty_at_front pdu_grammar is_grammar place octets fault h.0 h.1) in

@@ -29,7 +29,8 @@ pub use reading::{Step, needed, read};
 pub use receiving::Receiver;
 pub use responses::{response_gives_the_version, response_is_short};
 pub use stream::{
-    fault_ends_the_stream, no_pdu_begins_another, only_pdus, pdu_is_spelled, pieces_are_the_stream,
-    spelling_length, stream_goes_on, wanted_is_unread, written_is_read,
+    fault_ends_the_stream, items_are_pdus_or_faults, no_pdu_begins_another, only_pdus,
+    pdu_is_spelled, pieces_are_the_stream, spelling_length, stream_goes_on, wanted_is_unread,
+    written_is_read,
 };
 pub use writing::write;

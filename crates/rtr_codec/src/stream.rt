@@ -1,16 +1,22 @@
 //! Laws of the PDUs of a stream (RFC 8210 section 5).
-ghost use Rattle.std.specs.Prelude.{◌≡◌, ◌<◌, ◌≤◌, ◌++◌, ℕ, List, [], ◌∷◌, Some, None, length};
+ghost use Rattle.std.specs.Prelude.{◌≡◌, ◌<◌, ◌≤◌, ◌↔◌, ◌++◌, ℕ, List, [], ◌∷◌, Some, None, length};
 ghost use Rattle.std.specs.List.{concat};
 ghost use Rattle.rtr_codec.specs.declared.fault.PduFault.{PduFault};
 ghost use Rattle.rtr_codec.specs.declared.place.Place.{Place};
 ghost use Rattle.rtr_codec.specs.PduSpelling.{Content, IsLawful, length_of, spelling};
-ghost use Rattle.rtr_codec.specs.PduStream.{FaultyPdu, GoesOn, IsPdu, IsReadFirst, Item, Splits, Wants, meaning, needed_of, pdus, pdus_of_pieces, unread, unread_of_pieces};
+ghost use Rattle.rtr_codec.specs.PduStream.{FaultyPdu, GoesOn, HasFault, IsPdu, IsReadFirst, Item, Splits, Wants, WholePdu, meaning, needed_of, pdus, pdus_of_pieces, unread, unread_of_pieces};
 ghost use Rattle.rtr_codec.specs.SpelledPdus.{AreOctets, Spells};
 
 /// A stream is its PDUs one after another and then what is unread, and it is so in no other way.
 pub fn only_pdus()
     ensures some { (place : Place) (stream : List ℕ) → Splits place stream (pdus place stream) (unread place stream) }
     ensures one { (place : Place) (stream rest : List ℕ) (items : List Item) → Splits place stream items rest → (items ≡ pdus place stream) × (rest ≡ unread place stream) }
+{}
+
+/// An item of a stream is a PDU, or a fault and what is quoted of it, from the first of its octets to the last.
+pub fn items_are_pdus_or_faults()
+    ensures pdu { (place : Place) (octets whole : List ℕ) (content : Content) → (meaning place octets ≡ Some (WholePdu content whole)) ↔ ((whole ≡ octets) × IsPdu place octets content) }
+    ensures fault { (place : Place) (octets quoted : List ℕ) (fault : PduFault) → (meaning place octets ≡ Some (FaultyPdu fault quoted)) ↔ ((quoted ≡ octets) × HasFault place octets fault quoted) }
 {}
 
 /// However a stream is cut, its pieces read one after another hold its PDUs.
