@@ -92,8 +92,8 @@ goes_up :
     → client_at found key ≡ Some conn → Makes found (CameUp result) after → SaysWhole gone told conn → Goes key found (CameUp result) gone told after
 goes_up key found (Ok report) gone told after conn there made h =
     let up = made.0 in
-    let other : key ≢ up.0 = λ same. some_none (client_at found key) conn there (ap (client_at found) same ∙ up.3) in
-    stays key found (CameUp (Ok report)) gone told after conn there (up.5 key other) refl refl h
+    let other : key ≢ up.0 = λ same. some_none (client_at found key) conn there (ap (client_at found) same ∙ up.4) in
+    stays key found (CameUp (Ok report)) gone told after conn there (up.6 key other) refl refl h
   where
     some_none : (c : Option Conn) (conn : Conn) → c ≡ Some conn → c ≡ None → ⊥
     some_none c conn e f = cc

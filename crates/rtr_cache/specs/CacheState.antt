@@ -4,6 +4,7 @@ use Rattle.std.specs.Option.{option_map}
 use Rattle.net_prefix.specs.declared.payload.Vrp.{Vrp}
 use Rattle.net_prefix.specs.declared.transport.Transport.{Transport}
 use Rattle.net_prefix.specs.declared.transport.Transport.TheVariants as transports
+use Rattle.rtr_cache.specs.CacheLimits.{most_clients, ring_octets, room_for_pdu}
 use Rattle.rtr_cache.specs.CacheTable.{Conn, Shared, fresh_conn, hears_octets, notified, pumped}
 use Rattle.rtr_codec.specs.Intervals.{are_lawful}
 use Rattle.rtr_codec.specs.declared.intervals.Intervals.{Intervals}
@@ -62,13 +63,13 @@ Loads old set (Ok report) new =
     × AllAreNotified old new × (report ≡ tells_serial (newest_serial new.shared.kept))
 Loads old set (Err why) new = (why ≡ NoMemory) × (is_newest_set old.shared.kept set ≡ false)
 
--- a client comes up under a key that no client has; 256 clients are the most
+-- a client comes up under a free key, which is below 256; where there are 256 clients none comes up
 abbrev pub ComesUp : CacheState → Result CacheReport CacheRefusal → CacheState → Type 0
 ComesUp old (Ok report) new =
-    (key : ℕ) × (report ≡ tells_client key) × (client_count old < 256) × (client_at old key ≡ None)
+    (key : ℕ) × (report ≡ tells_client key) × (client_count old < most_clients) × (key < most_clients) × (client_at old key ≡ None)
     × (client_at new key ≡ Some fresh_conn) × OthersStay old key new × (new.shared ≡ old.shared)
 ComesUp old (Err why) new =
-    ((why ≡ Full) × (256 ≤ client_count old)) ⊎ ((why ≡ NoMemory) × (client_count old < 256))
+    ((why ≡ Full) × (most_clients ≤ client_count old)) ⊎ ((why ≡ NoMemory) × (client_count old < most_clients))
 
 -- octets of a client are heard PDU by PDU (refused says where memory refused what a query needs), and then what its response has left is queued
 abbrev pub HearsOctets : CacheState → ℕ → List ℕ → Result CacheReport CacheRefusal → CacheState → Type 0
@@ -113,9 +114,9 @@ abbrev pub transport_of : Option Conn → Transport
 transport_of None = transports.None
 transport_of (Some conn) = if conn.is_open then transports.Open else transports.Closing
 
--- something is left of a response only where fewer than 128 octets of the ring are free
+-- something is left of a response only where a PDU finds no room
 abbrev pub IsAtRest : Conn → Type 0
-IsAtRest conn = conn.left ≢ [] → 65536 < length conn.ring + 128
+IsAtRest conn = conn.left ≢ [] → ring_octets < length conn.ring + room_for_pdu
 
 -- so it is of every client
 abbrev pub AllAreAtRest : CacheState → Type 0

@@ -20,6 +20,7 @@ use Rattle.rtr_codec.specs.PduFaults.{number_of}
 use Rattle.rtr_codec.specs.PduSpelling.{Content, Serial_notify, Serial_query, Reset_query, Cache_response, Announce, Withdraw, Ipv6_prefix, End_of_data, Cache_reset, Router_key, Error_report, spelling}
 use Rattle.rtr_codec.specs.PduStream.{Item, WholePdu, FaultyPdu, pdus_from, unread_from}
 use Rattle.rtr_codec.specs.Responses.{response}
+use Rattle.rtr_cache.specs.CacheLimits.{quoted_octets, ring_octets, room_for_pdu, seconds_between_notifies}
 use Rattle.vrp_delta.specs.Versions.{Version, newest_serial, version_of}
 
 -- what all connections of a cache share: its session, what each End of Data tells, the kept versions with the newest first, and the moment
@@ -47,17 +48,17 @@ fresh_conn = record { is_open = true; is_first = true; unread = []; ring = []; l
 abbrev pub place_of : Conn → Place
 place_of conn = record { end = Cache; is_first = conn.is_first; has_response = false }
 
--- the ring holds 65,536 octets; PDUs are queued while 128 of them are free
+-- the ring has room for a PDU
 abbrev pub has_room : List ℕ → Bool
-has_room ring = nat_le (length ring + 128) 65536
+has_room ring = nat_le (length ring + room_for_pdu) ring_octets
 
 -- the cache closes the connection. What is queued can still be taken; nothing more is read or said
 abbrev pub closed : Conn → Conn
 closed conn = record conn { is_open = false; unread = []; left = [] }
 
--- an Error Report quotes at most 32 octets of the PDU at fault (the count is our own)
+-- what an Error Report quotes of the PDU at fault
 abbrev pub quoted_of : List ℕ → List ℕ
-quoted_of octets = take 32 octets
+quoted_of octets = take quoted_octets octets
 
 -- the connection closes with an Error Report
 abbrev pub fails : Conn → ErrorCode → List ℕ → Conn
@@ -178,10 +179,10 @@ abbrev pub is_news : List Version → Option ℕ → Bool
 is_news kept None = false
 is_news kept (Some serial) = not (newest_serial kept == serial)
 
--- no Notify went in the last 60 seconds (RFC 8210 section 5.2)
+-- no Notify went too lately (RFC 8210 section 5.2)
 abbrev pub is_due : ℕ → Option ℕ → Bool
 is_due now None = true
-is_due now (Some moment) = nat_le (moment + 60) now
+is_due now (Some moment) = nat_le (moment + seconds_between_notifies) now
 
 -- no response is in progress
 abbrev pub is_idle : List Content → Bool

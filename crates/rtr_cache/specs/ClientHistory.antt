@@ -28,7 +28,7 @@ call_of (event.Bytes key octets) result = Heard key octets.now result
 call_of (event.Down key) result = WentDown key result
 call_of (event.Tick now) result = Ticked now result
 
--- what a call makes of a cache: a refused one makes nothing
+-- what a call makes of a cache: a refused one makes nothing; a set that is loaded repeats no payload
 abbrev pub Makes : CacheState → Call → CacheState → Type 0
 Makes old (Loaded set result) new = Loads old set result new × OnErr result (new ≡ old)
 Makes old (CameUp result) new = ComesUp old result new × OnErr result (new ≡ old)

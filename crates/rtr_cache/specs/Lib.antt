@@ -1,3 +1,4 @@
+pub mod CacheLimits
 pub mod CacheNumbers
 pub mod CacheState
 pub mod CacheTable

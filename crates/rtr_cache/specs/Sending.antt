@@ -1,6 +1,7 @@
 -- What a cache says on one connection.
 use Rattle.std.specs.Prelude.{◌≡◌, ◌≤◌, ◌+◌, ℕ, Bool, true, false, List, [], ◌∷◌, ◌++◌, length, Option, Some, None}
 use Rattle.rtr_codec.specs.declared.place.End.TheVariants.{Cache}
+use Rattle.rtr_cache.specs.CacheLimits.{ring_octets, room_for_report}
 use Rattle.rtr_cache.specs.CacheTable.{Conn, Shared, hears_item, told_by}
 use Rattle.rtr_codec.specs.PduSpelling.{Content, spelling}
 use Rattle.rtr_codec.specs.PduStream.{Item, Wants}
@@ -36,11 +37,11 @@ put s content = record s { ring = s.ring ++ spelling content }
 abbrev pub said : Sending → Content → Sending
 said s content = record s { ring = s.ring ++ spelling content; told = told_by content s.told }
 
--- the ring holds 65,536 octets, and while the connection is open an Error Report finds room; a response in progress has something left
+-- what is queued fits the ring, and while the connection is open an Error Report finds room; a response in progress has something left
 pub record IsInOrder (is_open : Bool) (ring : List ℕ) (capacity : ℕ) (response : Option (List Content)) : Type 0 where
-  pub capacity_is : capacity ≡ 65536
-  pub fits : length ring ≤ 65536
-  pub spare : is_open ≡ true → length ring + 80 ≤ 65536
+  pub capacity_is : capacity ≡ ring_octets
+  pub fits : length ring ≤ ring_octets
+  pub spare : is_open ≡ true → length ring + room_for_report ≤ ring_octets
   pub unsaid : IsUnsaid response
 
 -- the first PDU that is left is taken for the next one

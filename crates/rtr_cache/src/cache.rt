@@ -1,10 +1,10 @@
 //! The cache.
 
-ghost use Rattle.std.specs.Prelude.{◌≡◌, ◌∷◌, List, OnErr, length};
+ghost use Rattle.std.specs.Prelude.{◌≡◌, OnErr, length};
 ghost use Rattle.std.specs.Option.{option_map};
 ghost use Rattle.rtr_cache.specs.CacheTable.{notified, pumped};
-ghost use Rattle.rtr_cache.specs.CacheState.{AllAreAtRest, AllAreNotified, CacheState, ComesUp, GoesDown, HandsOut, HearsOctets, IsNew, Loads, OthersStay, Steps, Ticks, client_at, transport_of};
-ghost use Rattle.rtr_cache.specs.ClientHistory.{IsRun, Took, Turn, call_of, turn_of};
+ghost use Rattle.rtr_cache.specs.CacheState.{AllAreAtRest, AllAreNotified, ComesUp, GoesDown, HearsOctets, IsNew, Loads, OthersStay, Ticks, client_at, transport_of};
+ghost use Rattle.rtr_cache.specs.ClientHistory.{Makes, Took, call_of};
 
 use crate::event::{CacheEvent, CacheReport};
 use crate::publisher::Publisher;
@@ -46,13 +46,8 @@ impl<A: Allocator + Clone> Cache<A> {
         if !intervals.are_lawful() {
             return Err(CacheRefusal::Range);
         }
-        let terms = Terms { session, intervals };
-        let Ok(publisher) = Publisher::new(alloc, terms) else {
-            return Err(CacheRefusal::NoMemory);
-        };
-        let Ok(alloc) = publisher.allocator() else {
-            return Err(CacheRefusal::NoMemory);
-        };
+        let publisher = Publisher::new(alloc, Terms { session, intervals })?;
+        let alloc = publisher.allocator()?;
         Ok(Cache {
             publisher,
             clients: Slab::new(alloc),
@@ -64,42 +59,7 @@ impl<A: Allocator + Clone> Cache<A> {
         &mut self,
         event: CacheEvent<'_, B>,
     ) -> Result<CacheReport, CacheRefusal>
-        ensures does { Steps self.old event.entry result self.new }
-        ensures err { OnErr result (self.new ≡ self.old) }
-        ensures rest { AllAreAtRest self.new }
-        ensures agrees { (start : CacheState) (history : List Turn) → IsRun start history self.old → IsRun start (turn_of self.old (call_of event.entry result) ∷ history) self.new }
-    {
-        self.happen(event)
-    }
-
-    /// Hands out the first octets that are queued to the client, as many as there are and fit, and answers how many.
-    pub fn take(&mut self, key: u64, buf: &mut [u8]) -> Result<usize, CacheRefusal>
-        ensures does { HandsOut self.old key buf.old result buf.new self.new }
-        ensures err { OnErr result (self.new ≡ self.old) }
-        ensures nothing { OnErr result (buf.new ≡ buf.old) }
-        ensures rest { AllAreAtRest self.new }
-        ensures agrees { (start : CacheState) (history : List Turn) → IsRun start history self.old → IsRun start (turn_of self.old (Took key buf.old result buf.new) ∷ history) self.new }
-    {
-        self.hand_out(key, buf)
-    }
-
-    /// What stands between the client and its connection.
-    pub fn transport(&self, key: u64) -> Transport
-        ensures { result ≡ transport_of (client_at self.now key) }
-    {
-        match self.clients.get(key as usize) {
-            Some(client) => client.transport(),
-            None => Transport::None,
-        }
-    }
-
-    // By the event.
-    fn happen<B: Allocator>(
-        &mut self,
-        event: CacheEvent<'_, B>,
-    ) -> Result<CacheReport, CacheRefusal>
-        ensures does { Steps self.old event.entry result self.new }
-        ensures err { OnErr result (self.new ≡ self.old) }
+        ensures does { Makes self.old (call_of event.entry result) self.new }
         ensures rest { AllAreAtRest self.new }
     {
         let result = match event {
@@ -114,9 +74,9 @@ impl<A: Allocator + Clone> Cache<A> {
         result
     }
 
-    fn hand_out(&mut self, key: u64, buf: &mut [u8]) -> Result<usize, CacheRefusal>
-        ensures does { HandsOut self.old key buf.old result buf.new self.new }
-        ensures err { OnErr result (self.new ≡ self.old) }
+    /// Hands out the first octets that are queued to the client, as many as there are and fit, and answers how many.
+    pub fn take(&mut self, key: u64, buf: &mut [u8]) -> Result<usize, CacheRefusal>
+        ensures does { Makes self.old (Took key buf.old result buf.new) self.new }
         ensures nothing { OnErr result (buf.new ≡ buf.old) }
         ensures rest { AllAreAtRest self.new }
     {
@@ -126,17 +86,23 @@ impl<A: Allocator + Clone> Cache<A> {
         }
     }
 
+    /// What stands between the client and its connection.
+    pub fn transport(&self, key: u64) -> Transport
+        ensures { result ≡ transport_of (client_at self.now key) }
+    {
+        match self.clients.get(key as usize) {
+            Some(client) => client.transport(),
+            None => Transport::None,
+        }
+    }
+
     fn load<B: Allocator>(&mut self, set: &BTreeSet<Vrp, B>) -> Result<CacheReport, CacheRefusal>
         ensures does { Loads self.old set.now.keys result self.new }
         ensures err { OnErr result (self.new ≡ self.old) }
     {
-        match self.publisher.publish(set) {
-            Ok(serial) => {
-                self.notify_clients();
-                Ok(CacheReport::of_serial(serial))
-            }
-            Err(_) => Err(CacheRefusal::NoMemory),
-        }
+        let serial = self.publisher.publish(set)?;
+        self.notify_clients();
+        Ok(CacheReport::of_serial(serial))
     }
 
     fn come_up(&mut self) -> Result<CacheReport, CacheRefusal>
@@ -146,12 +112,11 @@ impl<A: Allocator + Clone> Cache<A> {
         if self.clients.len() >= CACHE_CLIENTS {
             return Err(CacheRefusal::Full);
         }
-        let Ok(alloc) = self.publisher.allocator() else {
+        // A slab fills its free places first, so its keys stay below the limit. No other is handed out.
+        if self.clients.vacant_key() >= CACHE_CLIENTS {
             return Err(CacheRefusal::NoMemory);
-        };
-        let Ok(client) = ServedClient::new(alloc) else {
-            return Err(CacheRefusal::NoMemory);
-        };
+        }
+        let client = ServedClient::new(self.publisher.allocator()?)?;
         match self.clients.insert(client) {
             Ok(key) => Ok(CacheReport::of_client(key as u64)),
             Err(_) => Err(CacheRefusal::NoMemory),

@@ -2,6 +2,7 @@
 ghost use Rattle.std.specs.Prelude.{◌≡◌};
 ghost use Rattle.rtr_cache.specs.CacheNumbers.{number_of};
 
+use std::alloc::AllocError;
 use thiserror::Error;
 
 /// Why an event, a take or a new cache was refused.
@@ -17,6 +18,16 @@ pub enum CacheRefusal {
     NoMemory,
     #[error("an interval is outside its bounds")]
     Range,
+}
+
+impl From<AllocError> for CacheRefusal {
+    ghost use Rattle.rtr_cache.specs.declared.refusal.CacheRefusal.TheVariants.{NoMemory};
+
+    ghost from_gives = { λ _ refusal. refusal ≡ NoMemory };
+
+    fn from(_refused: AllocError) -> Self {
+        CacheRefusal::NoMemory
+    }
 }
 
 impl CacheRefusal {

@@ -1,4 +1,16 @@
+use Rattle.std.proofs.Common.{drop}
+use Rattle.rtr_cache.proofs.Resting.{rests-pumped}
 use Rattle.rtr_cache.proofs.cache.Cache.take.Goals as goal
+use Rattle.rtr_cache.proofs.cache.Cache.take.Goals.{in-Some, in-None}
 
-pub returns-clause-agrees : goal.returns-clause-agrees
-returns-clause-agrees g c start history run = (run, (c.hand_out.ensures.does, c.hand_out.ensures.err))
+pub invariant_of-self : goal.invariant_of-self
+invariant_of-self g c =
+    elim c.match-get_mut.branch [
+      | in-Some w ↦
+          rw w.self-inside-is
+          (rests-pumped c.self.inside.clients.slots c.args.key w.take.new.self (record w.in-Some.client.now { ring = drop w.take.result w.in-Some.client.now.ring }) w.take.ensures.rest c.self.invariant)
+      | in-None w ↦ rw w.self-inside-is c.self.invariant
+    ]
+
+pub returns-clause-rest : goal.returns-clause-rest
+returns-clause-rest g c = invariant_of-self g c
