@@ -1,5 +1,6 @@
 pub mod CacheSteps
 pub mod Hearing
+pub mod Leading
 pub mod Notifying
 pub mod Queueing
 pub mod QueueingLaws

@@ -1,5 +1,6 @@
 -- What queueing makes of a connection.
 use Rattle.std.proofs.Common.{◌≡◌, ◌≤◌, ℕ, Bool, true, false, List, [], ◌∷◌, refl, ap, sym, ◌∙◌, lit≤, if◌then◌else◌}
+use Rattle.rtr_cache.specs.CacheLimits.{longest_pdu}
 use Rattle.rtr_cache.specs.CacheTable.{Conn, Shared, has_room, notified, pumped, queued, queues, wants_notify}
 use Rattle.rtr_codec.specs.PduSpelling.{Content, Cache_response, Announce, Withdraw, End_of_data, length_of}
 use Rattle.rtr_codec.specs.Receiving.{Reception}
@@ -67,7 +68,7 @@ pub notified_same_open : (shared : Shared) (old new : Sending) → conn_of false
 notified_same_open shared old new is = ap (λ (conn : Conn). conn.is_open) is ∙ notified-open shared (conn_of false [] old)
 
 -- a PDU of a response is short
-pub part_is_short : (content : Content) → IsResponsePart content → length_of content ≤ 48
+pub part_is_short : (content : Content) → IsResponsePart content → length_of content ≤ longest_pdu
 part_is_short (Cache_response session) part = lit≤ tt
 part_is_short (Announce payload) part = lit≤ tt
 part_is_short (Withdraw payload) part = lit≤ tt

@@ -1,5 +1,6 @@
 use Rattle.std.proofs.Common.{◌≡◌, ◌≢◌, ◌≤◌, ◌<◌, ◌+◌, ℕ, Bool, true, false, nat_le, if◌then◌else◌, List, [], ◌∷◌, ◌++◌, length, refl, ◌∙◌, arith, append_assoc, length-append}
 use Rattle.std.proofs.lemmas.Bool.{leb-true, leb-false, and_parts}
+use Rattle.rtr_cache.specs.CacheLimits.{ring_octets, room_for_pdu}
 use Rattle.rtr_cache.specs.CacheTable.{Conn, has_room, queued, queues}
 use Rattle.rtr_codec.specs.PduSpelling.{Content, length_of, spelling}
 use Rattle.rtr_codec.specs.Responses.{are_short, spellings}
@@ -24,7 +25,7 @@ said-queues conn (content ∷ contents) =
 
 -- what is left is left at a full ring
 abbrev StopsFull : Conn → Type 0
-StopsFull conn = conn.left ≢ [] → 65536 < length conn.ring + 128
+StopsFull conn = conn.left ≢ [] → ring_octets < length conn.ring + room_for_pdu
 
 full_if : (room : Bool) (then_ else_ : Conn) → StopsFull then_ → (room ≡ false → StopsFull else_) → StopsFull (if room then then_ else else_)
 full_if true then_ else_ h k = h
@@ -33,7 +34,7 @@ full_if false then_ else_ h k = k refl
 pub full-queues : (conn : Conn) (contents : List Content) → StopsFull (queues conn contents)
 full-queues conn [] = λ some. absurd (some refl)
 full-queues conn (content ∷ contents) =
-    full_if (has_room conn.ring) _ _ (full-queues (queued conn content) contents) (λ full some. leb-false (length conn.ring + 128) 65536 full)
+    full_if (has_room conn.ring) _ _ (full-queues (queued conn content) contents) (λ full some. leb-false (length conn.ring + room_for_pdu) ring_octets full)
 
 -- the room that is left
 within_if : (room : Bool) (then_ else_ : Conn) (most : ℕ) → (room ≡ true → length then_.ring ≤ most) → length else_.ring ≤ most → length (if room then then_ else else_).ring ≤ most
@@ -41,14 +42,14 @@ within_if true then_ else_ most h k = h refl
 within_if false then_ else_ most h k = k
 
 pub within-queues :
-    (conn : Conn) (contents : List Content) (most : ℕ) → are_short contents ≡ true → 65432 ≤ most → length conn.ring ≤ most
+    (conn : Conn) (contents : List Content) (most : ℕ) → are_short contents ≡ true → ring_octets ≤ most + 104 → length conn.ring ≤ most
     → length (queues conn contents).ring ≤ most
 within-queues conn [] most short least h = h
 within-queues conn (content ∷ contents) most short least h =
     let both = and_parts (nat_le (length_of content) 24) (are_short contents) short in
     within_if (has_room conn.ring) _ _ most
     (λ room.
-    let free : length conn.ring + 128 ≤ 65536 = leb-true (length conn.ring + 128) 65536 room in
+    let free : length conn.ring + room_for_pdu ≤ ring_octets = leb-true (length conn.ring + room_for_pdu) ring_octets room in
     let few : length_of content ≤ 24 = leb-true (length_of content) 24 both.0 in
     let count : length (spelling content) ≡ length_of content = length-spelling content in
     let sum : length (conn.ring ++ spelling content) ≡ length conn.ring + length (spelling content) = length-append conn.ring (spelling content) in

@@ -1,30 +1,19 @@
 -- Over all calls of a cache a client is told what is said whole.
 use Rattle.std.proofs.Common.{◌≡◌, ◌≢◌, ◌≤◌, ℕ, Bool, true, false, ◌==◌, if◌then◌else◌, List, [], ◌∷◌, ◌++◌, drop, take, length, min, Option, Some, None, Result, Ok, Err, ◌⊎◌, inl, inr, refl, ap, sym, subst, ◌∙◌, append-nil, arith}
-use Rattle.std.specs.Prelude.{OnErr}
 use Rattle.std.specs.Option.{option_map}
 use Rattle.std.proofs.lemmas.Bool.{cases_eq, eq-eqb, ne_eqb}
 use Rattle.std.proofs.lemmas.List.{take_at, length-take-le}
 use Rattle.std.proofs.lemmas.Option.{same_Some}
 use Rattle.net_prefix.specs.declared.payload.Vrp.{Vrp}
-use Rattle.rtr_cache.specs.CacheState.{CacheState, AllAreNotified, HandsOut, HearsOctets, Steps, client_at}
+use Rattle.rtr_codec.specs.declared.intervals.Intervals.{Intervals}
+use Rattle.rtr_cache.specs.CacheState.{CacheState, AllAreNotified, HandsOut, HearsOctets, client_at, empty_cache}
 use Rattle.rtr_cache.specs.CacheTable.{Conn, Shared, fresh_conn, hears_octets, notified, pumped}
-use Rattle.rtr_cache.specs.ClientHistory.{AnswersOctets, Call, CameUp, Heard, IsRun, IsToldBy, IsToldWhole, KeepsClient, Loaded, Makes, StaysUp, Ticked, Took, Turn, WentDown, call_of, handed_by, handed_out}
+use Rattle.rtr_cache.specs.ClientHistory.{AnswersOctets, Call, CameUp, Heard, IsRun, IsToldBy, IsToldWhole, KeepsClient, Loaded, Makes, StaysUp, Ticked, Took, Turn, WentDown, handed_by, handed_out}
 use Rattle.rtr_cache.specs.Telling.{IsNotified, SaysWhole, Told}
-use Rattle.rtr_cache.specs.declared.event.CacheEvent.{CacheEvent}
-use Rattle.rtr_cache.specs.declared.event.CacheEvent.TheVariants.{Load, Up, Bytes, Down, Tick}
 use Rattle.rtr_cache.specs.declared.event.CacheReport.{CacheReport}
 use Rattle.rtr_cache.specs.declared.refusal.CacheRefusal.{CacheRefusal}
+use Rattle.rtr_cache.proofs.Leading.{AreOfSets, leads-append, leads-call, sets-run}
 use Rattle.rtr_cache.proofs.Telling.{Tells, nothing_more, says_fresh, says_pumped, says_taken, tells_notify, tells_octets}
-
--- an event and its answer are a call
-pub made :
-    {B : Type 0} (old : CacheState) (event : CacheEvent B) (result : Result CacheReport CacheRefusal) (new : CacheState)
-    → Steps old event result new → OnErr result (new ≡ old) → Makes old (call_of event result) new
-made old (Load set) result new does err = (does, err)
-made old Up result new does err = (does, err)
-made old (Bytes key octets) result new does err = (does, err)
-made old (Down key) result new does err = (does, err)
-made old (Tick now) result new does err = (does, err)
 
 -- the client behind a call, and what was told by it
 pub record Goes (key : ℕ) (found : CacheState) (call : Call) (gone : List ℕ) (told : List Told) (after : CacheState) : Type 0 where
@@ -180,17 +169,25 @@ goes key found (Ticked now result) gone told after conn keeps there made h = goe
 goes key found (Took taken buf result handed) gone told after conn keeps there made h = goes_taken key found taken buf result handed gone told after conn there made h
 
 -- all calls
-pub told_whole :
-    (start end : CacheState) (key : ℕ) (history : List Turn) → client_at start key ≡ Some fresh_conn → IsRun start history end → StaysUp key history → IsToldWhole key history (client_at end key)
-told_whole start end key [] fresh run up =
-    record { conn = fresh_conn; is = ap (λ (cache : CacheState). client_at cache key) run ∙ fresh; told = []; by_calls = refl; says = says_fresh }
-told_whole start end key (turn ∷ earlier) fresh run up =
-    let before = told_whole start turn.found key earlier fresh run.0 up.1 in
+told_whole :
+    (start end : CacheState) (key : ℕ) (history : List Turn) → AreOfSets start.shared.kept → client_at start key ≡ Some fresh_conn → IsRun start history end → StaysUp key history → IsToldWhole key history (client_at end key)
+told_whole start end key [] sets fresh run up =
+    record { conn = fresh_conn; is = ap (λ (cache : CacheState). client_at cache key) run ∙ fresh; told = []; by_calls = refl; leads = tt; says = says_fresh }
+told_whole start end key (turn ∷ earlier) sets fresh run up =
+    let before = told_whole start turn.found key earlier sets fresh run.0 up.1 in
     let next = goes key turn.found turn.call (handed_out key earlier) before.told end before.conn up.0 before.is run.1 before.says in
     record {
       conn = next.conn;
       is = next.is;
       told = before.told ++ next.now;
       by_calls = (before.told, next.now, refl, before.by_calls, next.by_call);
+      leads = leads-append before.told next.now before.leads (leads-call key turn.found turn.call next.now (sets-run start turn.found earlier sets run.0) next.by_call);
       says = next.says;
     }
+
+-- and all calls of a cache from its beginning on
+pub told_from_empty :
+    (session : ℕ) (intervals : Intervals) (before : List Turn) (start end : CacheState) (key : ℕ) (history : List Turn) → IsRun (empty_cache session intervals) before start
+    → client_at start key ≡ Some fresh_conn → IsRun start history end → StaysUp key history → IsToldWhole key history (client_at end key)
+told_from_empty session intervals before start end key history made fresh run up =
+    told_whole start end key history (sets-run (empty_cache session intervals) start before tt made) fresh run up

@@ -8,8 +8,6 @@ use Rattle.rtr_cache.specs.CacheLimits.{most_clients, ring_octets, room_for_pdu}
 use Rattle.rtr_cache.specs.CacheTable.{Conn, Shared, fresh_conn, hears_octets, notified, pumped}
 use Rattle.rtr_codec.specs.Intervals.{are_lawful}
 use Rattle.rtr_codec.specs.declared.intervals.Intervals.{Intervals}
-use Rattle.rtr_cache.specs.declared.event.CacheEvent.{CacheEvent}
-use Rattle.rtr_cache.specs.declared.event.CacheEvent.TheVariants.{Load, Up, Bytes, Down, Tick}
 use Rattle.rtr_cache.specs.declared.event.CacheReport.{CacheReport}
 use Rattle.rtr_cache.specs.declared.refusal.CacheRefusal.{CacheRefusal}
 use Rattle.rtr_cache.specs.declared.refusal.CacheRefusal.TheVariants.{NoClient, Full, ClockBack, NoMemory, Range}
@@ -91,14 +89,6 @@ abbrev pub Ticks : CacheState → ℕ → Result CacheReport CacheRefusal → Ca
 Ticks old now (Ok report) new =
     (old.shared.now ≤ now) × (new.shared ≡ record old.shared { now = now }) × AllAreNotified old new × (report ≡ tells_nothing)
 Ticks old now (Err why) new = (why ≡ ClockBack) × (now < old.shared.now)
-
--- what an event makes of a cache, and its answer
-abbrev pub Steps : {B : Type 0} → CacheState → CacheEvent B → Result CacheReport CacheRefusal → CacheState → Type 0
-Steps old (Load set) result new = Loads old set.now.keys result new
-Steps old Up result new = ComesUp old result new
-Steps old (Bytes key octets) result new = HearsOctets old key octets.now result new
-Steps old (Down key) result new = GoesDown old key result new
-Steps old (Tick now) result new = Ticks old now result new
 
 -- what a take hands out: the first octets of the client's ring, as many as are there and the buffer holds
 abbrev pub HandsOut : CacheState → ℕ → List ℕ → Result ℕ CacheRefusal → List ℕ → CacheState → Type 0

@@ -1,10 +1,11 @@
 -- The calls of a cache, one after another, and what of them one client sees.
 use Rattle.std.specs.Prelude.{◌≡◌, ◌≢◌, ◌⊎◌, ◌==◌, ℕ, if◌then◌else◌, List, [], ◌∷◌, ◌++◌, Option, Some, None, OnErr, Result, Ok, take}
+use Rattle.net_prefix.specs.PayloadSets.{IsPayloadSet}
 use Rattle.net_prefix.specs.declared.payload.Vrp.{Vrp}
 use Rattle.rtr_codec.specs.PduStream.{pdus_from}
 use Rattle.rtr_cache.specs.CacheState.{CacheState, ComesUp, GoesDown, HandsOut, HearsOctets, Loads, Ticks, client_at}
 use Rattle.rtr_cache.specs.CacheTable.{Conn, Shared, place_of}
-use Rattle.rtr_cache.specs.Telling.{AnswersItems, IsNotified, SaysWhole, Told}
+use Rattle.rtr_cache.specs.Telling.{AllLeadToVersions, AnswersItems, IsNotified, SaysWhole, Told}
 use Rattle.rtr_cache.specs.declared.event.CacheEvent.{CacheEvent}
 use Rattle.rtr_cache.specs.declared.event.CacheEvent.TheVariants as event
 use Rattle.rtr_cache.specs.declared.event.CacheReport.{CacheReport}
@@ -28,9 +29,9 @@ call_of (event.Bytes key octets) result = Heard key octets.now result
 call_of (event.Down key) result = WentDown key result
 call_of (event.Tick now) result = Ticked now result
 
--- what a call makes of a cache: a refused one makes nothing; a set that is loaded repeats no payload
+-- what a call makes of a cache: a refused one makes nothing; the payloads of a set that is handed in rise
 abbrev pub Makes : CacheState → Call → CacheState → Type 0
-Makes old (Loaded set result) new = Loads old set result new × OnErr result (new ≡ old)
+Makes old (Loaded set result) new = Loads old set result new × OnErr result (new ≡ old) × IsPayloadSet set
 Makes old (CameUp result) new = ComesUp old result new × OnErr result (new ≡ old)
 Makes old (Heard key octets result) new = HearsOctets old key octets result new × OnErr result (new ≡ old)
 Makes old (WentDown key result) new = GoesDown old key result new × OnErr result (new ≡ old)
@@ -88,10 +89,11 @@ abbrev pub StaysUp : ℕ → List Turn → Type 0
 StaysUp key [] = Unit {0}
 StaysUp key (turn ∷ earlier) = KeepsClient key turn.call × StaysUp key earlier
 
--- The client of the key is there, and what was handed out to it, and what waits for it, says whole what it was told.
+-- The client of the key is there, what was handed out to it, and what waits for it, says whole what it was told, and each response among that gives its version.
 pub record IsToldWhole (key : ℕ) (history : List Turn) (client : Option Conn) : Type 0 where
   pub conn : Conn
   pub is : client ≡ Some conn
   pub told : List Told
   pub by_calls : IsTold key history told
+  pub leads : AllLeadToVersions told
   pub says : SaysWhole (handed_out key history) told conn

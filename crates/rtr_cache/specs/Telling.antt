@@ -5,7 +5,7 @@ use Rattle.net_prefix.specs.declared.payload.Vrp.{Vrp}
 use Rattle.rtr_codec.specs.declared.intervals.Intervals.{Intervals}
 use Rattle.rtr_codec.specs.PduSpelling.{Content, Serial_notify, Serial_query, Reset_query, Cache_reset, Error_report}
 use Rattle.rtr_codec.specs.PduStream.{Item, WholePdu, FaultyPdu}
-use Rattle.rtr_codec.specs.Responses.{response, spellings}
+use Rattle.rtr_codec.specs.Responses.{changed_by, response, spellings}
 use Rattle.rtr_cache.specs.CacheTable.{Conn, Shared}
 use Rattle.vrp_delta.specs.Versions.{Version, newest_serial, version_of}
 
@@ -22,6 +22,16 @@ pdus_of (Whole session intervals version old) = response session intervals versi
 -- those of all that a client is told, one after another
 abbrev pub all_pdus : List Told → List Content
 all_pdus told = flat_map pdus_of told
+
+-- a response, read onto the set that it leads from, gives the set of its version
+abbrev pub LeadsToVersion : Told → Type 0
+LeadsToVersion (Alone content) = Unit {0}
+LeadsToVersion (Whole session intervals version old) = changed_by old (response session intervals version old) ≡ version.set
+
+-- and so does each that a client is told
+abbrev pub AllLeadToVersions : List Told → Type 0
+AllLeadToVersions [] = Unit {0}
+AllLeadToVersions (one ∷ more) = LeadsToVersion one × AllLeadToVersions more
 
 -- a PDU that is no part of a response
 abbrev pub IsAside : Content → Type 0

@@ -2,6 +2,7 @@
 
 ghost use Rattle.std.specs.Prelude.{◌≡◌, OnErr, length};
 ghost use Rattle.std.specs.Option.{option_map};
+ghost use Rattle.net_prefix.specs.PayloadSets.{IsPayloadSet};
 ghost use Rattle.rtr_cache.specs.CacheTable.{notified, pumped};
 ghost use Rattle.rtr_cache.specs.CacheState.{AllAreAtRest, AllAreNotified, ComesUp, GoesDown, HearsOctets, IsNew, Loads, OthersStay, Ticks, client_at, transport_of};
 ghost use Rattle.rtr_cache.specs.ClientHistory.{Makes, Took, call_of};
@@ -99,6 +100,7 @@ impl<A: Allocator + Clone> Cache<A> {
     fn load<B: Allocator>(&mut self, set: &BTreeSet<Vrp, B>) -> Result<CacheReport, CacheRefusal>
         ensures does { Loads self.old set.now.keys result self.new }
         ensures err { OnErr result (self.new ≡ self.old) }
+        ensures rises { IsPayloadSet set.now.keys }
     {
         let serial = self.publisher.publish(set)?;
         self.notify_clients();

@@ -1,19 +1,52 @@
-//! What a client is told over all calls of a cache (RFC 8210 sections 5 to 8).
-ghost use Rattle.std.specs.Prelude.{◌≡◌, ℕ, List, Some};
-ghost use Rattle.net_prefix.specs.PayloadSets.{IsPayloadSet};
-ghost use Rattle.net_prefix.specs.declared.payload.Vrp.{Vrp};
-ghost use Rattle.rtr_cache.specs.CacheState.{CacheState, client_at};
-ghost use Rattle.rtr_cache.specs.CacheTable.{fresh_conn};
+//! The laws of the cache: of its table, of queueing, and of what a client is told over all calls (RFC 8210 sections 5
+//! to 8).
+ghost use Rattle.std.specs.Prelude.{◌≡◌, ◌≢◌, ◌<◌, ◌≤◌, ◌+◌, ◌++◌, Bool, List, [], None, Some, drop, false, if◌then◌else◌, length, true, ℕ};
+ghost use Rattle.rtr_cache.specs.CacheLimits.{ring_octets, room_for_pdu};
+ghost use Rattle.rtr_cache.specs.CacheState.{CacheState, client_at, empty_cache};
+ghost use Rattle.rtr_cache.specs.CacheTable.{Conn, Shared, first_refused, fresh_conn, hears, hears_all, hears_from, pumped, queues};
 ghost use Rattle.rtr_cache.specs.ClientHistory.{IsRun, IsToldWhole, StaysUp, Turn};
-ghost use Rattle.rtr_cache.specs.Telling.{Whole, pdus_of};
-ghost use Rattle.rtr_codec.specs.Responses.{changed_by};
+ghost use Rattle.rtr_codec.specs.PduSpelling.{Content};
+ghost use Rattle.rtr_codec.specs.PduStream.{Item, Wants, meaning, needed_of, place_after};
+ghost use Rattle.rtr_codec.specs.Responses.{are_short, spellings};
 ghost use Rattle.rtr_codec.specs.declared.intervals.Intervals.{Intervals};
-ghost use Rattle.vrp_delta.specs.Versions.{Version};
+ghost use Rattle.rtr_codec.specs.declared.place.Place.{Place};
 
-/// Over any calls of a cache from a client's Up on, the octets that were handed out to it and those that wait are whole
-/// PDUs, and each response among them that is ended is that of one published version, the newest when its query was
-/// read. Between sets without repetition a response leads from the one that it starts from to its version.
+/// Over any calls of a cache from its beginning on: from a client's Up on, the octets that were handed out to it and
+/// those that wait are whole PDUs. Each response among them that is ended is that of one published version, the newest
+/// when its query was read, and read onto the set that it leads from it gives that version's.
 pub fn clients_are_told_whole_versions()
-    ensures whole { (start end : CacheState) (key : ℕ) (history : List Turn) → client_at start key ≡ Some fresh_conn → IsRun start history end → StaysUp key history → IsToldWhole key history (client_at end key) }
-    ensures given { (session : ℕ) (intervals : Intervals) (version : Version) (old : List Vrp) → IsPayloadSet old → IsPayloadSet version.set → changed_by old (pdus_of (Whole session intervals version old)) ≡ version.set }
+    ensures { (session : ℕ) (intervals : Intervals) (before : List Turn) (start end : CacheState) (key : ℕ) (history : List Turn) → IsRun (empty_cache session intervals) before start → client_at start key ≡ Some fresh_conn → IsRun start history end → StaysUp key history → IsToldWhole key history (client_at end key) }
+{}
+
+/// No more octets than are wanted are one row, where they complete a PDU or a fault, and none where they don't. What
+/// follows them is heard behind it, unless the row closed the connection.
+pub fn octets_are_heard_piece_by_piece()
+    ensures none { (shared : Shared) (refused : List Bool) (conn : Conn) (place : Place) (part piece more : List ℕ) → Wants place part → 0 < length piece → length piece ≤ needed_of place part → meaning place (part ++ piece) ≡ None → hears_from shared refused conn place part (piece ++ more) ≡ hears_from shared refused conn place (part ++ piece) more }
+    ensures row { (shared : Shared) (refused : List Bool) (conn : Conn) (place : Place) (part piece more : List ℕ) (item : Item) → Wants place part → 0 < length piece → length piece ≤ needed_of place part → meaning place (part ++ piece) ≡ Some item → conn.is_open ≡ true → hears_from shared refused conn place part (piece ++ more) ≡ (let after = hears shared (first_refused refused) conn item in if after.is_open then hears_from shared (drop 1 refused) after (place_after place (Some item)) [] more else after) }
+    ensures end { (shared : Shared) (refused : List Bool) (conn : Conn) (place : Place) (part : List ℕ) → hears_from shared refused conn place part [] ≡ record conn { unread = part } }
+{}
+
+/// A closed connection hears nothing.
+pub fn closed_connection_hears_nothing()
+    ensures { (shared : Shared) (refused : List Bool) (conn : Conn) (items : List Item) → conn.is_open ≡ false → hears_all shared refused conn items ≡ conn }
+{}
+
+/// Queueing says what is left to say, in its order, once each.
+pub fn queueing_keeps_what_is_said()
+    ensures { (conn : Conn) (contents : List Content) → (queues conn contents).ring ++ spellings (queues conn contents).left ≡ conn.ring ++ spellings contents }
+{}
+
+/// A response is cut short only where fewer octets of the ring are free than a PDU must find.
+pub fn queueing_stops_at_a_full_ring()
+    ensures { (conn : Conn) → (pumped conn).left ≢ [] → ring_octets < length (pumped conn).ring + room_for_pdu }
+{}
+
+/// What is queued leaves as much of the ring free as is free, or 104 octets.
+pub fn queueing_leaves_room()
+    ensures { (conn : Conn) (contents : List Content) (most : ℕ) → are_short contents ≡ true → ring_octets ≤ most + 104 → length conn.ring ≤ most → length (queues conn contents).ring ≤ most }
+{}
+
+/// Queueing changes the ring, what is left, and the serial that the client was told.
+pub fn queueing_changes_no_more()
+    ensures { (conn : Conn) (contents : List Content) → ((queues conn contents).is_open ≡ conn.is_open) × ((queues conn contents).is_first ≡ conn.is_first) × ((queues conn contents).unread ≡ conn.unread) × ((queues conn contents).notified ≡ conn.notified) }
 {}

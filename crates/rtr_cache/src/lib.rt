@@ -20,9 +20,9 @@ mod table;
 
 pub use cache::{CACHE_CLIENTS, Cache};
 pub use event::{CacheEvent, CacheReport};
-pub use laws::clients_are_told_whole_versions;
-pub use refusal::CacheRefusal;
-pub use table::{
-    closed_connection_hears_nothing, octets_are_heard_piece_by_piece, queueing_changes_no_more,
-    queueing_keeps_what_is_said, queueing_leaves_room, queueing_stops_at_a_full_ring,
+pub use laws::{
+    clients_are_told_whole_versions, closed_connection_hears_nothing,
+    octets_are_heard_piece_by_piece, queueing_changes_no_more, queueing_keeps_what_is_said,
+    queueing_leaves_room, queueing_stops_at_a_full_ring,
 };
+pub use refusal::CacheRefusal;

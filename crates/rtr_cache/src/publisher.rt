@@ -1,5 +1,6 @@
 //! What all clients of a cache share.
 ghost use Rattle.std.specs.Prelude.{◌≡◌, [], IfOk, OnOk, OnErr, IsSome, true, false};
+ghost use Rattle.net_prefix.specs.PayloadSets.{IsPayloadSet};
 ghost use Rattle.rtr_cache.specs.CacheTable.{Shared};
 ghost use Rattle.rtr_codec.specs.PduSpelling.{Serial_notify, content_of};
 ghost use Rattle.rtr_cache.specs.Unsaid.{is_published, kept_response, whole_response};
@@ -55,7 +56,10 @@ impl<A: Allocator + Clone> Publisher<A> {
         ensures serial { IfOk result (λ serial. serial ≡ newest_serial self.new.kept) }
         ensures err { OnErr result (self.new ≡ self.old) }
         ensures news { OnErr result (is_newest_set self.old.kept set.now.keys ≡ false) }
+        ensures rises { IsPayloadSet set.now.keys }
     {
+        // The members of a set rise: any walk through them says so.
+        let _members = set.iter();
         self.versions.publish(set)
     }
 

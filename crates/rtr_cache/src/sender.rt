@@ -1,19 +1,19 @@
 //! What a cache says on one connection.
 ghost use Rattle.std.specs.Prelude.{◌≡◌, ◌≤◌, ◌+◌, ◌++◌, Bool, ℕ, List, IfOk, length, min, take, drop, true, false};
 ghost use Rattle.std.specs.Option.{option_map};
-ghost use Rattle.rtr_cache.specs.CacheTable.{answers, closed, fails, has_room, hears_fault, hears_pdu, is_due, is_news, notified, pumped, quoted_of, reset_query, serial_query, wants_notify};
+ghost use Rattle.rtr_cache.specs.CacheLimits.{longest_pdu, quoted_octets, ring_octets, room_for_pdu, room_for_report};
+ghost use Rattle.rtr_cache.specs.CacheTable.{answers, closed, fails, has_room, is_due, is_news, notified, pumped, quoted_of, wants_notify};
 ghost use Rattle.rtr_codec.specs.PduSpelling.{Error_report, content_of, length_of};
-ghost use Rattle.rtr_codec.specs.PduStream.{meaning};
 ghost use Rattle.rtr_codec.specs.PduFaults.{number_of};
 ghost use Rattle.rtr_codec.specs.declared.fault.ErrorCode.TheVariants.{NoDataAvailable};
 ghost use Rattle.vrp_delta.specs.Versions.{Version, newest_serial};
-ghost use Rattle.rtr_cache.specs.Sending.{HearsFront, IsNext, behind_pdu, conn_of, fresh_sending, put, said};
+ghost use Rattle.rtr_cache.specs.Sending.{IsNext, behind_pdu, conn_of, fresh_sending, put, said};
 
 use crate::publisher::Publisher;
 use crate::response::Response;
 use arrayvec::ArrayVec;
 use circular_buffer::HeapCircularBuffer;
-use rtr_codec::{ErrorCode, Pdu, PduFault, Receiver, Step, write};
+use rtr_codec::{ErrorCode, Pdu, write};
 use std::alloc::{AllocError, Allocator, Global};
 use std::marker::Model;
 
@@ -35,7 +35,7 @@ pub struct Sender<A: Allocator = Global> {
     is_open: bool,
     // What is queued and not yet taken.
     ring: HeapCircularBuffer<u8, A>,
-    response: Option<Response<A>>,
+    pub response: Option<Response<A>>,
     // The serial that the client was told last.
     told: Option<u32>,
     // The moment of the last Serial Notify.
@@ -96,18 +96,6 @@ impl<A: Allocator> Sender<A> {
         }
     }
 
-    // The header of a PDU, or the payload of a whole one, is faulty.
-    fn hear_fault(&mut self, fault: PduFault, octets: &[u8])
-        requires { self.old.is_open ≡ true }
-        ensures { behind_pdu self.new ≡ hears_fault (behind_pdu self.old) octets.now fault }
-    {
-        match fault {
-            PduFault::Unanswered => self.close(),
-            PduFault::Header(code) => self.fail(code, octets),
-            PduFault::Payload => self.fail(ErrorCode::CorruptData, octets),
-        }
-    }
-
     // The next PDU of the response in progress.
     fn next_pdu(&mut self) -> Option<Pdu<'static>>
         ensures { IsNext self.old self.new (option_map content_of result) }
@@ -124,17 +112,17 @@ impl<A: Allocator> Sender<A> {
         self.ring.len() + ROOM_FOR_PDU <= RING_OCTETS
     }
 
-    // Nothing more is read or said. What is queued can still be taken.
-    fn close(&mut self)
+    /// Nothing more is read or said. What is queued can still be taken.
+    pub fn close(&mut self)
         ensures exact { behind_pdu self.new ≡ closed (behind_pdu self.old) }
-        ensures room { self.old.is_open ≡ true → length self.new.ring + 80 ≤ 65536 }
+        ensures room { self.old.is_open ≡ true → length self.new.ring + room_for_report ≤ ring_octets }
     {
         self.is_open = false;
         self.response = None;
     }
 
-    // Closes with an Error Report.
-    fn fail(&mut self, code: ErrorCode, octets: &[u8])
+    /// Closes with an Error Report.
+    pub fn fail(&mut self, code: ErrorCode, octets: &[u8])
         requires { self.old.is_open ≡ true }
         ensures { behind_pdu self.new ≡ fails (behind_pdu self.old) code (quoted_of octets.now) }
     {
@@ -144,9 +132,9 @@ impl<A: Allocator> Sender<A> {
         self.put(&Pdu::ErrorReport { code, quoted });
     }
 
-    // An answer of one PDU, after which the connection stays where there is room for it.
-    fn answer(&mut self, pdu: &Pdu<'_>)
-        requires { length_of (content_of pdu.now) ≤ 48 }
+    /// An answer of one PDU, after which the connection stays where there is room for it.
+    pub fn answer(&mut self, pdu: &Pdu<'_>)
+        requires { length_of (content_of pdu.now) ≤ longest_pdu }
         ensures { behind_pdu self.new ≡ answers (behind_pdu self.old) (content_of pdu.now) }
     {
         if self.has_room() {
@@ -158,8 +146,8 @@ impl<A: Allocator> Sender<A> {
 
     // Queues a PDU that may tell a serial.
     fn say(&mut self, pdu: &Pdu<'_>)
-        requires short { length_of (content_of pdu.now) ≤ 48 }
-        requires room { length self.old.ring + 128 ≤ 65536 }
+        requires short { length_of (content_of pdu.now) ≤ longest_pdu }
+        requires room { length self.old.ring + room_for_pdu ≤ ring_octets }
         ensures { self.new ≡ said self.old (content_of pdu.now) }
     {
         match pdu {
@@ -172,9 +160,9 @@ impl<A: Allocator> Sender<A> {
     }
 
     fn put(&mut self, pdu: &Pdu<'_>)
-        requires short { length_of (content_of pdu.now) ≤ 48 }
-        requires fits { length self.old.ring + length_of (content_of pdu.now) ≤ 65536 }
-        requires room { self.old.is_open ≡ true → length self.old.ring + 128 ≤ 65536 }
+        requires short { length_of (content_of pdu.now) ≤ longest_pdu }
+        requires fits { length self.old.ring + length_of (content_of pdu.now) ≤ ring_octets }
+        requires room { self.old.is_open ≡ true → length self.old.ring + room_for_pdu ≤ ring_octets }
         ensures { self.new ≡ put self.old (content_of pdu.now) }
     {
         let mut octets = ArrayVec::new();
@@ -184,34 +172,6 @@ impl<A: Allocator> Sender<A> {
 }
 
 impl<A: Allocator + Clone> Sender<A> {
-    /// Hears what stands at the front of what came, if it is whole or faulty.
-    pub fn hear_front(&mut self, publisher: &Publisher<A>, receiver: &Receiver)
-        requires { self.old.is_open ≡ true }
-        ensures { HearsFront publisher.now (meaning receiver.now.place receiver.now.part) self.old self.new }
-    {
-        match receiver.front() {
-            Step::Need => {}
-            Step::Whole(pdu, _) => self.hear(publisher, &pdu, receiver.octets()),
-            Step::Faulty(fault, _) => self.hear_fault(fault, receiver.octets()),
-        }
-    }
-
-    // A whole PDU came, of these octets.
-    fn hear(&mut self, publisher: &Publisher<A>, pdu: &Pdu<'_>, octets: &[u8])
-        requires { self.old.is_open ≡ true }
-        ensures { (refused : Bool) × (behind_pdu self.new ≡ hears_pdu publisher.now refused (behind_pdu self.old) octets.now (content_of pdu.now)) }
-    {
-        match pdu {
-            Pdu::ErrorReport { .. } => self.close(),
-            Pdu::SerialQuery { session, serial } if self.response.is_none() => {
-                self.answer_serial(publisher, *session, *serial, octets);
-            }
-            Pdu::ResetQuery if self.response.is_none() => self.answer_reset(publisher, octets),
-            // Anything else, and a query while a response is in progress.
-            _ => self.fail(ErrorCode::InvalidRequest, octets),
-        }
-    }
-
     /// At a Load and at a Tick: queues a Serial Notify where the client is to get one.
     pub fn notify(&mut self, publisher: &Publisher<A>)
         ensures { (is_first : Bool) (unread : List ℕ) → conn_of is_first unread self.new ≡ notified publisher.now (conn_of is_first unread self.old) }
@@ -222,37 +182,8 @@ impl<A: Allocator + Clone> Sender<A> {
         }
     }
 
-    // RFC 8210 section 5.3.
-    fn answer_serial(&mut self, publisher: &Publisher<A>, session: u16, serial: u32, octets: &[u8])
-        requires { self.old.is_open ≡ true }
-        ensures { (refused : Bool) × (behind_pdu self.new ≡ serial_query publisher.now refused (behind_pdu self.old) octets.now session serial publisher.now.kept) }
-    {
-        if !publisher.has_version() {
-            return self.answer_no_data(octets);
-        }
-        if session != publisher.session() {
-            return self.fail(ErrorCode::CorruptData, octets);
-        }
-        match publisher.change_since(serial) {
-            Ok(Some(response)) => self.response = Some(response),
-            Ok(None) => self.answer(&Pdu::CacheReset),
-            Err(_) => self.fail(ErrorCode::InternalError, &[]),
-        }
-    }
-
-    // RFC 8210 section 5.4.
-    fn answer_reset(&mut self, publisher: &Publisher<A>, octets: &[u8])
-        requires { self.old.is_open ≡ true }
-        ensures { (refused : Bool) × (behind_pdu self.new ≡ reset_query publisher.now refused (behind_pdu self.old) octets.now publisher.now.kept) }
-    {
-        match publisher.whole_version() {
-            Ok(Some(response)) => self.response = Some(response),
-            Ok(None) => self.answer_no_data(octets),
-            Err(_) => self.fail(ErrorCode::InternalError, &[]),
-        }
-    }
-
-    fn answer_no_data(&mut self, octets: &[u8])
+    /// There is no version yet. The connection stays where there is room for it.
+    pub fn answer_no_data(&mut self, octets: &[u8])
         ensures { behind_pdu self.new ≡ answers (behind_pdu self.old) (Error_report (number_of NoDataAvailable) (quoted_of octets.now)) }
     {
         let code = ErrorCode::NoDataAvailable.number();
@@ -294,7 +225,7 @@ impl<A: Allocator + Clone> Sender<A> {
 #[tactic(auto, using(crate::proofs::Quoting::quoted_min))]
 fn quoted_of(octets: &[u8]) -> &[u8]
     ensures octets { result.now ≡ quoted_of octets.now }
-    ensures short { length result.now ≤ 32 }
+    ensures short { length result.now ≤ quoted_octets }
 {
     &octets[..octets.len().min(QUOTED_OCTETS)]
 }

@@ -1,40 +1,94 @@
-//! The table of what a cache makes of a client's PDUs, `specs/CacheTable.antt`: its laws (RFC 8210 sections 5 to 8).
-ghost use Rattle.std.specs.Prelude.{◌≡◌, ◌≢◌, ◌<◌, ◌≤◌, ◌+◌, ◌++◌, Bool, List, [], None, Some, drop, false, if◌then◌else◌, length, true, ℕ};
-ghost use Rattle.rtr_cache.specs.CacheTable.{Conn, Shared, first_refused, hears, hears_all, hears_from, pumped, queues};
-ghost use Rattle.rtr_codec.specs.PduSpelling.{Content};
-ghost use Rattle.rtr_codec.specs.PduStream.{Item, Wants, meaning, needed_of, place_after};
-ghost use Rattle.rtr_codec.specs.Responses.{are_short, spellings};
-ghost use Rattle.rtr_codec.specs.declared.place.Place.{Place};
+//! The cache's table: what a PDU of a client's makes of the cache's end of its connection (RFC 8210 sections 5 to 8 and
+//! 12). The definition is `specs/CacheTable.antt`.
+ghost use Rattle.std.specs.Prelude.{◌≡◌, Bool, true};
+ghost use Rattle.rtr_cache.specs.CacheTable.{hears_fault, hears_pdu, reset_query, serial_query};
+ghost use Rattle.rtr_cache.specs.Sending.{HearsFront, behind_pdu};
+ghost use Rattle.rtr_codec.specs.PduSpelling.{content_of};
+ghost use Rattle.rtr_codec.specs.PduStream.{meaning};
 
-/// No more octets than are wanted are one row, where they complete a PDU or a fault, and none where they don't. What
-/// follows them is heard behind it, unless the row closed the connection.
-pub fn octets_are_heard_piece_by_piece()
-    ensures none { (shared : Shared) (refused : List Bool) (conn : Conn) (place : Place) (part piece more : List ℕ) → Wants place part → 0 < length piece → length piece ≤ needed_of place part → meaning place (part ++ piece) ≡ None → hears_from shared refused conn place part (piece ++ more) ≡ hears_from shared refused conn place (part ++ piece) more }
-    ensures row { (shared : Shared) (refused : List Bool) (conn : Conn) (place : Place) (part piece more : List ℕ) (item : Item) → Wants place part → 0 < length piece → length piece ≤ needed_of place part → meaning place (part ++ piece) ≡ Some item → conn.is_open ≡ true → hears_from shared refused conn place part (piece ++ more) ≡ (let after = hears shared (first_refused refused) conn item in if after.is_open then hears_from shared (drop 1 refused) after (place_after place (Some item)) [] more else after) }
-    ensures end { (shared : Shared) (refused : List Bool) (conn : Conn) (place : Place) (part : List ℕ) → hears_from shared refused conn place part [] ≡ record conn { unread = part } }
-{}
+use crate::publisher::Publisher;
+use crate::sender::Sender;
+use rtr_codec::{ErrorCode, Pdu, PduFault, Receiver, Step};
+use std::alloc::Allocator;
 
-/// A closed connection hears nothing.
-pub fn closed_connection_hears_nothing()
-    ensures { (shared : Shared) (refused : List Bool) (conn : Conn) (items : List Item) → conn.is_open ≡ false → hears_all shared refused conn items ≡ conn }
-{}
+impl<A: Allocator + Clone> Sender<A> {
+    /// Hears what stands at the front of what came, if it is whole or faulty.
+    pub fn hear_front(&mut self, publisher: &Publisher<A>, receiver: &Receiver)
+        requires { self.old.is_open ≡ true }
+        ensures { HearsFront publisher.now (meaning receiver.now.place receiver.now.part) self.old self.new }
+    {
+        match receiver.front() {
+            Step::Need => {}
+            Step::Whole(pdu, _) => self.hear(publisher, &pdu, receiver.octets()),
+            Step::Faulty(fault, _) => self.hear_fault(fault, receiver.octets()),
+        }
+    }
 
-/// Queueing says what is left to say, in its order, once each.
-pub fn queueing_keeps_what_is_said()
-    ensures { (conn : Conn) (contents : List Content) → (queues conn contents).ring ++ spellings (queues conn contents).left ≡ conn.ring ++ spellings contents }
-{}
+    // A whole PDU came, of these octets. The first row that holds counts.
+    fn hear(&mut self, publisher: &Publisher<A>, pdu: &Pdu<'_>, octets: &[u8])
+        requires { self.old.is_open ≡ true }
+        ensures { (refused : Bool) × (behind_pdu self.new ≡ hears_pdu publisher.now refused (behind_pdu self.old) octets.now (content_of pdu.now)) }
+    {
+        match pdu {
+            // An Error Report: closed without an answer.
+            Pdu::ErrorReport { .. } => self.close(),
+            // A query, where each response is wholly queued: the rows behind.
+            Pdu::SerialQuery { session, serial } if self.response.is_none() => {
+                self.answer_serial(publisher, *session, *serial, octets);
+            }
+            Pdu::ResetQuery if self.response.is_none() => self.answer_reset(publisher, octets),
+            // Other than a query, or a query while a response isn't wholly queued: error 3, closed.
+            _ => self.fail(ErrorCode::InvalidRequest, octets),
+        }
+    }
 
-/// A response is cut short only where fewer than 128 octets of the ring are free.
-pub fn queueing_stops_at_a_full_ring()
-    ensures { (conn : Conn) → (pumped conn).left ≢ [] → 65536 < length (pumped conn).ring + 128 }
-{}
+    // A fault: its Error Report, closed. A faulty Error Report isn't answered.
+    fn hear_fault(&mut self, fault: PduFault, octets: &[u8])
+        requires { self.old.is_open ≡ true }
+        ensures { behind_pdu self.new ≡ hears_fault (behind_pdu self.old) octets.now fault }
+    {
+        match fault {
+            PduFault::Unanswered => self.close(),
+            PduFault::Header(code) => self.fail(code, octets),
+            PduFault::Payload => self.fail(ErrorCode::CorruptData, octets),
+        }
+    }
 
-/// What is queued leaves as much of the ring free as is free, or 104 octets.
-pub fn queueing_leaves_room()
-    ensures { (conn : Conn) (contents : List Content) (most : ℕ) → are_short contents ≡ true → 65432 ≤ most → length conn.ring ≤ most → length (queues conn contents).ring ≤ most }
-{}
+    // A Serial Query (RFC 8210 section 5.3).
+    fn answer_serial(&mut self, publisher: &Publisher<A>, session: u16, serial: u32, octets: &[u8])
+        requires { self.old.is_open ≡ true }
+        ensures { (refused : Bool) × (behind_pdu self.new ≡ serial_query publisher.now refused (behind_pdu self.old) octets.now session serial publisher.now.kept) }
+    {
+        // Before the first load: error 2; the connection stays.
+        if !publisher.has_version() {
+            return self.answer_no_data(octets);
+        }
+        // Of another session: error 0, closed.
+        if session != publisher.session() {
+            return self.fail(ErrorCode::CorruptData, octets);
+        }
+        match publisher.change_since(serial) {
+            // The serial is kept: a response, with what changed since.
+            Ok(Some(response)) => self.response = Some(response),
+            // The serial isn't kept: a Cache Reset.
+            Ok(None) => self.answer(&Pdu::CacheReset),
+            // Memory refused what a response needs: error 1, closed.
+            Err(_) => self.fail(ErrorCode::InternalError, &[]),
+        }
+    }
 
-/// Queueing changes the ring, what is left, and the serial that the client was told.
-pub fn queueing_changes_no_more()
-    ensures { (conn : Conn) (contents : List Content) → ((queues conn contents).is_open ≡ conn.is_open) × ((queues conn contents).is_first ≡ conn.is_first) × ((queues conn contents).unread ≡ conn.unread) × ((queues conn contents).notified ≡ conn.notified) }
-{}
+    // A Reset Query (RFC 8210 section 5.4).
+    fn answer_reset(&mut self, publisher: &Publisher<A>, octets: &[u8])
+        requires { self.old.is_open ≡ true }
+        ensures { (refused : Bool) × (behind_pdu self.new ≡ reset_query publisher.now refused (behind_pdu self.old) octets.now publisher.now.kept) }
+    {
+        match publisher.whole_version() {
+            // A response, with all payloads.
+            Ok(Some(response)) => self.response = Some(response),
+            // Before the first load: error 2; the connection stays.
+            Ok(None) => self.answer_no_data(octets),
+            // Memory refused what a response needs: error 1, closed.
+            Err(_) => self.fail(ErrorCode::InternalError, &[]),
+        }
+    }
+}

@@ -1,5 +1,5 @@
 use Rattle.rtr_cache.proofs.CacheSteps.{hears-none, hears-row}
-use Rattle.rtr_cache.proofs.table.octets_are_heard_piece_by_piece.Goals as goal
+use Rattle.rtr_cache.proofs.laws.octets_are_heard_piece_by_piece.Goals as goal
 
 pub returns-clause-none : goal.returns-clause-none
 returns-clause-none c shared refused conn place part piece more h some fits none = hears-none shared refused conn place part piece more (h, some, fits) none

@@ -1,5 +1,5 @@
 use Rattle.rtr_cache.proofs.QueueingLaws.{full-queues}
-use Rattle.rtr_cache.proofs.table.queueing_stops_at_a_full_ring.Goals as goal
+use Rattle.rtr_cache.proofs.laws.queueing_stops_at_a_full_ring.Goals as goal
 
 pub returns : goal.returns
 returns c conn some = full-queues conn conn.left some
