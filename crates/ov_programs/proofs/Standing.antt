@@ -1,16 +1,16 @@
 -- What stands under the clients' keys, one step of a turn after another.
-use Rattle.std.proofs.Common.{arith, ◌≡◌, ◌≢◌, ◌⊎◌, refl, sym, ap, subst, ◌∙◌, inl, inr, zero, suc, length, ℕ, ◌+◌, ◌<◌, ◌≤◌, List, [], ◌∷◌, ◌++◌, Option, Some, None, IsSome, Bool, true, false, if◌then◌else◌, is_some}
+use Rattle.std.proofs.Common.{arith, ◌≡◌, ◌≢◌, ◌⊎◌, refl, sym, ap, subst, ◌∙◌, inl, inr, zero, suc, length, ℕ, ◌+◌, ◌<◌, ◌≤◌, List, [], ◌∷◌, ◌++◌, Option, Some, None, IsSome, Bool, true, false, if◌then◌else◌, is_some, add-one}
 use Rattle.std.proofs.Math.ListN.{get_or, set}
 use Rattle.std.proofs.lemmas.Bool.{cases_eq}
-use Rattle.std.proofs.lemmas.List.{get_or_past, get_or-set_same, length-set}
+use Rattle.std.proofs.lemmas.List.{get_or-set_same, length-set}
 use Rattle.rtr_cache.specs.CacheTable.{Conn, Shared}
-use Rattle.rtr_cache.specs.CacheState.{CacheState, client_at}
-use Rattle.ov_programs.specs.Serving.{Admits, Connection, Standing, Turned, Visits, told}
-use Rattle.ov_programs.specs.Turns.{EachHasAClient, LosesAsCounted, OthersStand, Turns, link_at, standing_at}
+use Rattle.rtr_cache.specs.CacheState.{CacheState, OthersStay, client_at}
+use Rattle.ov_programs.specs.Serving.{Connection, Standing, handing_out, left_by, nobody}
+use Rattle.ov_programs.specs.Sockets.{Carried}
+use Rattle.ov_programs.specs.Turns.{AllStand, Counts, EachHasAClient, OthersStand, Rests, Turns, Visits, VisitsBelow, VisitsConnection, VisitsLink, counts_of_wire, link_at, settled, standing_at, wire_visited}
 use Rattle.ov_programs.specs.declared.link.Visit.{Visit}
 use Rattle.ov_programs.specs.declared.link.Visit.TheVariants.{Stays, Faulty, Ended, Closed}
-use Rattle.ov_programs.specs.Visiting.{IsServed, Loses}
-use Rattle.ov_programs.proofs.Counting.{loses_both, loses_none}
+use Rattle.ov_programs.specs.Visiting.{IsVisited, Loses}
 
 -- one more place with nothing at it changes no place
 pub same_places : {X : Type 0} → (xs : List (Option X)) (at : ℕ) → get_or (xs ++ None ∷ []) at None ≡ get_or xs at None
@@ -30,115 +30,117 @@ emptied [] place = refl
 emptied (x ∷ xs) zero = refl
 emptied (x ∷ xs) (suc place) = emptied xs place
 
+-- a place that has nothing at it is emptied: no place changes
+pub emptied_again : {X : Type 0} → (xs : List (Option X)) (place : ℕ) → get_or xs place None ≡ None → (at : ℕ) → get_or (set xs place None) at None ≡ get_or xs at None
+emptied_again [] place none at = refl
+emptied_again (x ∷ xs) zero none zero = sym none
+emptied_again (x ∷ xs) zero none (suc at) = refl
+emptied_again (x ∷ xs) (suc place) none zero = refl
+emptied_again (x ∷ xs) (suc place) none (suc at) = emptied_again xs place none at
+
+-- no other place changes
+pub set_other : {X : Type 0} → (xs : List (Option X)) (place : ℕ) (x : Option X) (at : ℕ) → at ≢ place → get_or (set xs place x) at None ≡ get_or xs at None
+set_other [] place y at differs = refl
+set_other (x ∷ xs) zero y zero differs = absurd (differs refl)
+set_other (x ∷ xs) zero y (suc at) differs = refl
+set_other (x ∷ xs) (suc place) y zero differs = refl
+set_other (x ∷ xs) (suc place) y (suc at) differs = set_other xs place y at (λ same. differs (ap (λ (n : ℕ). suc n) same))
+
 no_link : {X : Type 0} → (found : Option X) → found ≡ None → IsSome found → ⊥
 no_link found is there = let wrong : false ≡ true = rw is at there in cc
 
--- a visit to a connection that stays
-pub visits_stays : (old new : CacheState) (client : ℕ) (link link_after : Option Connection) (is is_after : Connection) (conn : Conn) → link ≡ Some is → link_after ≡ Some is_after → client_at old client ≡ Some conn → IsServed old client is conn new is_after → Visits old.shared (record { client = client_at old client; link = link }) (record { client = client_at new client; link = link_after })
-visits_stays old new client link link_after is is_after conn was now here served =
-    subst (λ (l : Option Connection). Visits old.shared (record { client = client_at old client; link = l }) (record { client = client_at new client; link = link_after })) (sym was)
-    (subst (λ (l : Option Connection). Visits old.shared (record { client = client_at old client; link = Some is }) (record { client = client_at new client; link = l })) (sym now)
-    (conn, served.after, here, served.is, served.serves))
+standing : (old new : Standing) → new.client ≡ old.client → new.link ≡ old.link → new ≡ old
+standing old new client link =
+    ap (λ (c : Option Conn). record { client = c; link = new.link }) client
+    ∙ ap (λ (l : Option Connection). record { client = old.client; link = l }) link
 
--- a visit to a connection that ends
-pub visits_gone : (shared : Shared) (client after : Option Conn) (link link_after : Option Connection) (is : Connection) → link ≡ Some is → link_after ≡ None → after ≡ None → Visits shared (record { client = client; link = link }) (record { client = after; link = link_after })
-visits_gone shared client after link link_after is was now gone =
-    subst (λ (l : Option Connection). Visits shared (record { client = client; link = l }) (record { client = after; link = link_after })) (sym was)
-    (subst (λ (l : Option Connection). Visits shared (record { client = client; link = Some is }) (record { client = after; link = l })) (sym now) gone)
-
--- a visit where no connection is
-pub visits_none : (shared : Shared) (old new : Standing) → old.link ≡ None → new ≡ old → Visits shared old new
-visits_none shared old new none same =
-    subst (λ (s : Standing). Visits shared old s) (sym same) (by_link old.client old.link none)
+-- a key without a connection
+pub visits_none : (old new : Turns) (key : ℕ) → link_at old key ≡ None → new.counts ≡ old.counts → new.cache ≡ old.cache → new.links ≡ set old.links key None → Visits old key new
+visits_none old new key none counts cache links =
+    subst (λ (l : Option Connection). VisitsLink old key l new) (sym none)
+    (record { counts = counts; all = record { stand = same; shared = ap (λ (c : CacheState). c.shared) cache } })
   where
-    by_link : (client : Option Conn) (link : Option Connection) → link ≡ None → Visits shared (record { client = client; link = link }) (record { client = client; link = link })
-    by_link client link is = subst (λ (l : Option Connection). Visits shared (record { client = client; link = l }) (record { client = client; link = l })) (sym is) (refl, refl)
+    same : (at : ℕ) → standing_at new at ≡ standing_at old at
+    same at =
+        standing (standing_at old at) (standing_at new at) (ap (λ (c : CacheState). client_at c at) cache)
+        (ap (λ (l : List (Option Connection)). get_or l at None) links ∙ emptied_again old.links key none at)
 
--- the connections of lower keys are visited, and the others are as they were
-pub record AreVisitedBelow (client : ℕ) (old now : Turns) : Type 0 where
-  pub counts : LosesAsCounted old.counts now.counts
-  pub shared : now.cache.shared ≡ old.cache.shared
-  pub places : length now.links ≡ length old.links
-  pub below : (key : ℕ) → key < client → Visits old.cache.shared (standing_at old key) (standing_at now key)
-  pub above : (key : ℕ) → client ≤ key → standing_at now key ≡ standing_at old key
-
-pub none_visited : (old : Turns) → AreVisitedBelow 0 old old
-none_visited old =
-    record { counts = loses_none old.counts; shared = refl; places = refl; below = λ key low. absurd (omega (arith, low)); above = λ key high. refl }
-
-pub one_more_visited : (client : ℕ) (old now next : Turns) → AreVisitedBelow client old now → LosesAsCounted now.counts next.counts → next.cache.shared ≡ now.cache.shared → length next.links ≡ length now.links → Visits now.cache.shared (standing_at now client) (standing_at next client) → OthersStand now client next → AreVisitedBelow (client + 1) old next
-one_more_visited client old now next visited counts shared places visits others =
-    record {
-      counts = loses_both _ _ _ visited.counts counts;
-      shared = shared ∙ visited.shared;
-      places = places ∙ visited.places;
-      below = λ key low. at_or_below key low (cases_eq key client);
-      above = λ key high. others key (λ same. omega (arith, high, same)) ∙ visited.above key (omega (arith, high));
-    }
+-- a client that was visited is there where its connection stays
+pub stays_client : (old new : CacheState) (links : List (Option Connection)) (key : ℕ) (visit : Visit) (link left : Connection) → get_or links key None ≡ Some link → EachHasAClient old links → ((conn : Conn) → client_at old key ≡ Some conn → IsVisited old key link conn visit new left) → visit ≡ Stays → IsSome (client_at new key)
+stays_client old new links key visit link left here each visited stays = by_client (client_at old key) refl (each key (ap (λ (l : Option Connection). is_some l) here))
   where
-    here : Visits old.cache.shared (standing_at old client) (standing_at next client)
-    here =
-        subst (λ (s : Standing). Visits old.cache.shared s (standing_at next client)) (visited.above client (omega arith))
-        (subst (λ (s : Shared). Visits s (standing_at now client) (standing_at next client)) visited.shared visits)
-
-    at_or_below : (key : ℕ) → key < client + 1 → (key ≡ client) ⊎ (key ≢ client) → Visits old.cache.shared (standing_at old key) (standing_at next key)
-    at_or_below key low (inl same) = subst (λ (k : ℕ). Visits old.cache.shared (standing_at old k) (standing_at next k)) (sym same) here
-    at_or_below key low (inr differs) =
-        subst (λ (s : Standing). Visits old.cache.shared (standing_at old key) s) (sym (others key differs)) (visited.below key (omega (arith, low, differs)))
-
-pub all_visited : (client : ℕ) (old now : Turns) → AreVisitedBelow client old now → length old.links ≤ client → (key : ℕ) → Visits old.cache.shared (standing_at old key) (standing_at now key)
-all_visited client old now visited long key = by_side (cases key client)
-  where
-    cases : (k m : ℕ) → (k < m) ⊎ (m ≤ k)
-    cases zero zero = inr (omega arith)
-    cases zero (suc m) = inl (omega arith)
-    cases (suc k) zero = inr (omega arith)
-    cases (suc k) (suc m) = elim (cases k m) [ inl low ↦ inl (omega (arith, low)) | inr high ↦ inr (omega (arith, high)) ]
-
-    by_side : (key < client) ⊎ (client ≤ key) → Visits old.cache.shared (standing_at old key) (standing_at now key)
-    by_side (inl low) = visited.below key low
-    by_side (inr high) = visits_none _ _ _ (get_or_past old.links key None (omega (arith, high, long))) (visited.above key high)
-
--- the three steps of a turn
-pub turned : (moment : ℕ) (old admitted visited new : Turns) → ((key : ℕ) → Admits (standing_at old key) (standing_at admitted key)) → admitted.cache.shared ≡ old.cache.shared → ((key : ℕ) → Visits admitted.cache.shared (standing_at admitted key) (standing_at visited key)) → visited.cache.shared ≡ admitted.cache.shared → ((key : ℕ) → standing_at new key ≡ told moment visited.cache.shared (standing_at visited key)) → (key : ℕ) → Turned moment old.cache.shared (standing_at old key) (standing_at new key)
-turned moment old admitted visited new admits shared visits same tells key =
-    record {
-      admitted = standing_at admitted key;
-      visited = standing_at visited key;
-      admits = admits key;
-      visits = subst (λ (s : Shared). Visits s (standing_at admitted key) (standing_at visited key)) shared (visits key);
-      tells = tells key ∙ ap (λ (s : Shared). told moment s (standing_at visited key)) (same ∙ shared);
-    }
-
--- a client that was served is there
-pub served_client : (old new : CacheState) (links : List (Option Connection)) (client : ℕ) (link after : Connection) → get_or links client None ≡ Some link → EachHasAClient old links → ((conn : Conn) → client_at old client ≡ Some conn → IsServed old client link conn new after) → IsSome (client_at new client)
-served_client old new links client link after here each served = by_client (client_at old client) refl (each client (ap (λ (l : Option Connection). is_some l) here))
-  where
-    by_client : (found : Option Conn) → client_at old client ≡ found → IsSome found → IsSome (client_at new client)
+    by_client : (found : Option Conn) → client_at old key ≡ found → IsSome found → IsSome (client_at new key)
     by_client None is there = absurd (no_link {X = Conn} None refl there)
-    by_client (Some conn) is there = ap (λ (c : Option Conn). is_some c) (served conn is).is
+    by_client (Some conn) is there = ap (λ (c : Option Conn). is_some c) ((visited conn is).stays stays).1
 
--- a visit, by what it found
-pub visited : (visit : Visit) (old new : Turns) (mid : CacheState) (links : List (Option Connection)) (client : ℕ) (link after : Connection) → link_at old client ≡ Some link → client < length old.links → EachHasAClient old.cache old.links → links ≡ set old.links client None → (visit ≡ Stays → (conn : Conn) → client_at old.cache client ≡ Some conn → IsServed old.cache client link conn mid after) → (visit ≡ Stays → (new.cache ≡ mid) × (new.links ≡ set links client (Some after))) → (visit ≢ Stays → Loses mid client new.cache × (new.links ≡ links)) → Visits old.cache.shared (standing_at old client) (standing_at new client)
-visited visit old new mid links client link after here within each emptied_links served stays goes = by_visit visit refl
+-- a visit to a connection, by what it found
+pub visited : (visit : Visit) (old new : Turns) (mid : CacheState) (counts : Counts) (links : List (Option Connection)) (key : ℕ) (link left : Connection) → link_at old key ≡ Some link → key < length old.links → EachHasAClient old.cache old.links → links ≡ set old.links key None → ((conn : Conn) → client_at old.cache key ≡ Some conn → IsVisited old.cache key link conn visit mid left) → OthersStay old.cache key mid → mid.shared ≡ old.cache.shared → counts ≡ counts_of_wire (wire_visited visit) old.counts → new.counts ≡ settled visit left.carried counts → (visit ≡ Stays → (new.cache ≡ mid) × (new.links ≡ set links key (Some left))) → (visit ≢ Stays → Loses mid key new.cache × (new.links ≡ links)) → Visits old key new
+visited visit old new mid counts links key link left here within each taken_out served stay shared told settles stays goes =
+    subst (λ (l : Option Connection). VisitsLink old key l new) (sym here) (by_client (client_at old.cache key) refl (each key (ap (λ (l : Option Connection). is_some l) here)))
   where
-    gone : visit ≢ Stays → Visits old.cache.shared (standing_at old client) (standing_at new client)
-    gone differs =
+    inside : key < length links
+    inside = omega (arith, within, ap (λ (l : List (Option Connection)). length l) taken_out, length-set old.links key None)
+
+    other_link : (other : ℕ) → other ≢ key → get_or links other None ≡ get_or old.links other None
+    other_link other differs = ap (λ (l : List (Option Connection)). get_or l other None) taken_out ∙ set_other old.links key None other differs
+
+    differs_from : (found : Visit) → visit ≡ found → found ≢ Stays → visit ≢ Stays
+    differs_from found same differs = λ stays. differs (sym same ∙ stays)
+
+    others_gone : visit ≢ Stays → OthersStand old key new
+    others_gone differs =
         let lost = goes differs in
-        visits_gone _ _ _ _ _ link here (ap (λ (l : List (Option Connection)). get_or l client None) (lost.1 ∙ emptied_links) ∙ emptied old.links client) lost.0.gone
+        record {
+          stand = λ other is. standing (standing_at old other) (standing_at new other) (lost.0.others other is ∙ stay other is) (ap (λ (l : List (Option Connection)). get_or l other None) lost.1 ∙ other_link other is);
+          shared = lost.0.shared ∙ shared;
+        }
 
-    kept : visit ≡ Stays → (found : Option Conn) → client_at old.cache client ≡ found → IsSome found → Visits old.cache.shared (standing_at old client) (standing_at new client)
-    kept same None is there = absurd (no_link {X = Conn} None refl there)
-    kept same (Some conn) is there =
+    others_kept : visit ≡ Stays → OthersStand old key new
+    others_kept same =
         let put = stays same in
-        let inside : client < length links = omega (arith, within, ap (λ (l : List (Option Connection)). length l) emptied_links, length-set old.links client None) in
-        visits_stays old.cache new.cache client _ _ link after conn here
-        (ap (λ (l : List (Option Connection)). get_or l client None) put.1 ∙ get_or-set_same links client (Some after) None inside)
-        is
-        (subst (λ (s : CacheState). IsServed old.cache client link conn s after) (sym put.0) (served same conn is))
+        record {
+          stand = λ other is. standing (standing_at old other) (standing_at new other) (ap (λ (c : CacheState). client_at c other) put.0 ∙ stay other is) (ap (λ (l : List (Option Connection)). get_or l other None) put.1 ∙ (set_other links key (Some left) other is ∙ other_link other is));
+          shared = ap (λ (c : CacheState). c.shared) put.0 ∙ shared;
+        }
 
-    by_visit : (found : Visit) → visit ≡ found → Visits old.cache.shared (standing_at old client) (standing_at new client)
-    by_visit Stays same = kept same (client_at old.cache client) refl (each client (ap (λ (l : Option Connection). is_some l) here))
-    by_visit Faulty same = gone (λ wrong. cc)
-    by_visit Ended same = gone (λ wrong. cc)
-    by_visit Closed same = gone (λ wrong. cc)
+    others_stand : (found : Visit) → visit ≡ found → OthersStand old key new
+    others_stand Stays same = others_kept same
+    others_stand Faulty same = others_gone (differs_from Faulty same (λ wrong. cc))
+    others_stand Ended same = others_gone (differs_from Ended same (λ wrong. cc))
+    others_stand Closed same = others_gone (differs_from Closed same (λ wrong. cc))
+
+    nobody_left : visit ≢ Stays → standing_at new key ≡ nobody
+    nobody_left differs =
+        let lost = goes differs in
+        standing nobody (standing_at new key) lost.0.gone (ap (λ (l : List (Option Connection)). get_or l key None) (lost.1 ∙ taken_out) ∙ emptied old.links key)
+
+    stands : (found : Visit) → visit ≡ found → (conn : Conn) → (v : IsVisited old.cache key link conn visit mid left) → standing_at new key ≡ left_by found v.heard link v.after
+    stands Stays same conn v =
+        let put = stays same in
+        let stayed = v.stays same in
+        standing (record { client = Some (handing_out v.heard link.waiting); link = Some v.after }) (standing_at new key) (ap (λ (c : CacheState). client_at c key) put.0 ∙ stayed.1)
+        (ap (λ (l : List (Option Connection)). get_or l key None) put.1 ∙ (get_or-set_same links key (Some left) None inside ∙ ap (λ (c : Connection). Some c) stayed.0))
+    stands Faulty same conn v = nobody_left (differs_from Faulty same (λ wrong. cc))
+    stands Ended same conn v = nobody_left (differs_from Ended same (λ wrong. cc))
+    stands Closed same conn v = nobody_left (differs_from Closed same (λ wrong. cc))
+
+    by_client : (found : Option Conn) → client_at old.cache key ≡ found → IsSome found → VisitsConnection old key link new
+    by_client None is there = absurd (no_link {X = Conn} None refl there)
+    by_client (Some conn) is there =
+        let v = served conn is in
+        record {
+          visit = visit;
+          conn = conn;
+          heard = v.heard;
+          after = v.after;
+          client = is;
+          serves = v.serves;
+          finds = v.finds;
+          stands = stands visit refl conn v;
+          counts = settles ∙ (ap (λ (c : Carried). settled visit c counts) v.carried ∙ ap (λ (n : Counts). settled visit v.after.carried n) told);
+          others = others_stand visit refl;
+        }
+
+-- one key more is visited
+pub visited_next : (key : ℕ) (old now next : Turns) → VisitsBelow key old now → Visits now key next → VisitsBelow (key + 1) old next
+visited_next key old now next before here = subst (λ (n : ℕ). VisitsBelow n old next) (sym (add-one key)) (now, before, here)

@@ -1,5 +1,6 @@
 pub mod Exits
 pub mod Serving
+pub mod Sockets
 pub mod TurnOctets
 pub mod Turns
 pub mod Visiting

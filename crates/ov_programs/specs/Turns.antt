@@ -1,8 +1,11 @@
--- What turns count: the clients lost are those of the wire's faults, of its ends of input and of the loop's closes.
-use Rattle.std.specs.Prelude.{◌≡◌, ◌≢◌, ◌≤◌, ◌<◌, ◌+◌, ◌-◌, ◌^◌, ℕ, List, [], Option, None, IsSome, Result, Ok, Err, slice_index_or}
+-- A turn: a connection that came is let in or closed, each connection is visited once, and the cache is told the moment.
+use Rattle.std.specs.Prelude.{◌≡◌, ◌≢◌, ◌⊎◌, ◌≤◌, ◌<◌, ◌+◌, ◌-◌, ◌^◌, ℕ, zero, suc, List, [], length, Option, Some, None, IsSome, Result, Ok, Err, slice_index_or}
+use Rattle.rtr_cache.specs.CacheTable.{Conn}
 use Rattle.rtr_cache.specs.CacheState.{CacheState, client_at}
-use Rattle.ov_programs.specs.Serving.{Connection, Standing}
-use Rattle.ov_programs.specs.Wires.{one_more}
+use Rattle.ov_programs.specs.Serving.{Connection, Finds, Serves, Standing, left_by, newcomer, nobody, shared_at, told}
+use Rattle.ov_programs.specs.Visiting.{IsNewClient}
+use Rattle.ov_programs.specs.Sockets.{Carried, blank}
+use Rattle.ov_programs.specs.Wires.{WireState, closing, failing, one_more}
 use Rattle.ov_programs.specs.declared.fault.LoopFault.{LoopFault}
 use Rattle.ov_programs.specs.declared.fault.LoopFault.TheVariants.{Accept, NoMemory}
 use Rattle.ov_programs.specs.declared.link.Visit.{Visit}
@@ -12,8 +15,7 @@ use Rattle.ov_programs.specs.declared.link.Visit.TheVariants.{Stays, Faulty, End
 pub record Counts : Type 0 where
   pub lost : ℕ  -- connections of which the cache was told that they are gone
   pub closed : ℕ  -- connections closed since the cache had closed the session and said all
-  pub faults : ℕ
-  pub ends : ℕ
+  pub wire : WireState
 
 -- a loop: what is counted, its cache, and the connection of each client under the client's key
 pub record Turns : Type 0 where
@@ -34,67 +36,146 @@ abbrev pub EachHasAClient : CacheState → List (Option Connection) → Type 0
 EachHasAClient cache links = (key : ℕ) → IsSome (slice_index_or links key None) → IsSome (client_at cache key)
 
 -- a loop before its first turn
-abbrev pub idle : CacheState → ℕ → ℕ → Turns
-idle cache faults ends = record { counts = record { lost = 0; closed = 0; faults = faults; ends = ends }; cache = cache; links = [] }
+abbrev pub idle : CacheState → WireState → Turns
+idle cache wire = record { counts = record { lost = 0; closed = 0; wire = wire }; cache = cache; links = [] }
 
--- every key but this one stands as it stood
-abbrev pub OthersStand : Turns → ℕ → Turns → Type 0
-OthersStand old key new = (other : ℕ) → other ≢ key → standing_at new other ≡ standing_at old other
+-- what stands under each key, and what clients share, stay
+pub record AllStand (old new : Turns) : Type 0 where
+  pub stand : (key : ℕ) → standing_at new key ≡ standing_at old key
+  pub shared : new.cache.shared ≡ old.cache.shared
 
--- the faults behind a visit
-abbrev pub faults_visiting : Visit → ℕ → ℕ
-faults_visiting Stays faults = faults
-faults_visiting Faulty faults = one_more faults
-faults_visiting Ended faults = faults
-faults_visiting Closed faults = faults
+-- but for what stands under this key
+pub record OthersStand (old : Turns) (key : ℕ) (new : Turns) : Type 0 where
+  pub stand : (other : ℕ) → other ≢ key → standing_at new other ≡ standing_at old other
+  pub shared : new.cache.shared ≡ old.cache.shared
 
--- the ends of input behind a visit
-abbrev pub ends_visiting : Visit → ℕ → ℕ
-ends_visiting Stays ends = ends
-ends_visiting Faulty ends = ends
-ends_visiting Ended ends = one_more ends
-ends_visiting Closed ends = ends
+-- what a call of the wire makes of the counts
+abbrev pub counts_of_wire : (WireState → WireState) → Counts → Counts
+counts_of_wire call counts = record counts { wire = call counts.wire }
 
--- the wire has failed once more
-abbrev pub fault_counted : Counts → Counts
-fault_counted counts = record counts { faults = one_more counts.faults }
+-- a connection has come
+abbrev pub arriving : WireState → WireState
+arriving wire = record wire { arrivals = one_more wire.arrivals }
 
--- what asking for a connection makes of the counts
-abbrev pub counts_admitting : Result (Unit {0}) LoopFault → Counts → Counts
-counts_admitting (Ok nothing) counts = counts
-counts_admitting (Err Accept) counts = fault_counted counts
-counts_admitting (Err NoMemory) counts = counts
+-- accepting has failed
+abbrev pub accept_failing : WireState → WireState
+accept_failing wire = record wire { faults = one_more wire.faults; accept_faults = one_more wire.accept_faults }
 
--- a client is lost
-abbrev pub counts_losing : Counts → Counts
-counts_losing counts = record counts { lost = one_more counts.lost }
+-- nothing changes
+pub record Rests (old new : Turns) : Type 0 where
+  pub counts : new.counts ≡ old.counts
+  pub all : AllStand old new
 
--- what a visit that found this is counted as, where the wire has counted its faults and ends
-abbrev pub counts_settling : Visit → Counts → Counts
-counts_settling Stays counts = counts
-counts_settling Faulty counts = counts_losing counts
-counts_settling Ended counts = counts_losing counts
-counts_settling Closed counts = counts_losing (record counts { closed = one_more counts.closed })
+-- a connection comes whose client the cache refuses: it is closed, and has carried nothing
+pub record TurnsAway (old new : Turns) : Type 0 where
+  pub counts : new.counts ≡ counts_of_wire (λ wire. closing blank (arriving wire)) old.counts
+  pub all : AllStand old new
+
+-- a connection comes, and its client stands under a key that nobody had
+pub record ComesUp (old new : Turns) : Type 0 where
+  pub key : ℕ
+  pub counts : new.counts ≡ counts_of_wire arriving old.counts
+  pub before : standing_at old key ≡ nobody
+  pub now : standing_at new key ≡ newcomer
+  pub others : OthersStand old key new
+
+-- accepting goes well: no connection comes, or one is closed, or one is let in
+abbrev pub Accepts : Turns → Turns → Type 0
+Accepts old new = Rests old new ⊎ (TurnsAway old new ⊎ ComesUp old new)
+
+-- memory is refused for a connection that came: its client is with the cache, under a key that nobody had, and nothing else changes
+pub record LacksMemory (old new : Turns) : Type 0 where
+  pub key : ℕ
+  pub counts : new.counts ≡ counts_of_wire arriving old.counts
+  pub comes : IsNewClient old.cache key new.cache
+  pub links : (other : ℕ) → link_at new other ≡ link_at old other
+
+-- a turn that ends at this fault
+abbrev pub Stops : Turns → LoopFault → Turns → Type 0
+Stops old Accept new = new ≡ record old { counts = counts_of_wire accept_failing old.counts }
+Stops old NoMemory new = LacksMemory old new
+
+-- what accepting makes of a loop
+abbrev pub Admits : Turns → Result (Unit {0}) LoopFault → Turns → Type 0
+Admits old (Ok nothing) new = Accepts old new
+Admits old (Err fault) new = Stops old fault new
+
+-- what the wire has told behind a visit
+abbrev pub wire_visited : Visit → WireState → WireState
+wire_visited Stays wire = wire
+wire_visited Faulty wire = failing wire
+wire_visited Ended wire = record wire { ends = one_more wire.ends }
+wire_visited Closed wire = wire
+
+-- a client is lost, and its socket closed
+abbrev pub losing : Carried → Counts → Counts
+losing carried counts = record counts { lost = one_more counts.lost; wire = closing carried counts.wire }
+
+-- what a visit that found this is counted as, once the wire has told what it has
+abbrev pub settled : Visit → Carried → Counts → Counts
+settled Stays carried counts = counts
+settled Faulty carried counts = losing carried counts
+settled Ended carried counts = losing carried counts
+settled Closed carried counts = losing carried (record counts { closed = one_more counts.closed })
+
+-- a visit to the connection under a key: what it found and made of the client and its connection; each one that ends is counted as lost, and its socket closed
+pub record VisitsConnection (old : Turns) (key : ℕ) (link : Connection) (new : Turns) : Type 0 where
+  pub visit : Visit
+  pub conn : Conn
+  pub heard : Conn
+  pub after : Connection
+  pub client : client_at old.cache key ≡ Some conn
+  pub serves : Serves old.cache.shared conn link heard after
+  pub finds : Finds visit heard link after
+  pub stands : standing_at new key ≡ left_by visit heard link after
+  pub counts : new.counts ≡ settled visit after.carried (counts_of_wire (wire_visited visit) old.counts)
+  pub others : OthersStand old key new
+
+-- a key without a connection has no visit
+abbrev pub VisitsLink : Turns → ℕ → Option Connection → Turns → Type 0
+VisitsLink old key None new = Rests old new
+VisitsLink old key (Some link) new = VisitsConnection old key link new
+
+abbrev pub Visits : Turns → ℕ → Turns → Type 0
+Visits old key new = VisitsLink old key (link_at old key) new
+
+-- the keys below this one are visited, each once
+abbrev pub VisitsBelow : ℕ → Turns → Turns → Type 0
+VisitsBelow zero old new = new ≡ old
+VisitsBelow (suc key) old new = (mid : Turns) × VisitsBelow key old mid × Visits mid key new
+
+-- all are
+abbrev pub VisitsAll : Turns → Turns → Type 0
+VisitsAll old new = VisitsBelow (length old.links) old new
+
+-- the cache is told the moment
+pub record IsTold (now : ℕ) (old new : Turns) : Type 0 where
+  pub counts : new.counts ≡ old.counts
+  pub stand : (key : ℕ) → standing_at new key ≡ told now old.cache.shared (standing_at old key)
+  pub shared : new.cache.shared ≡ shared_at now old.cache.shared
+
+-- the three steps of a turn
+pub record Turned (now : ℕ) (old new : Turns) : Type 0 where
+  pub admitted : Turns
+  pub visited : Turns
+  pub accepts : Accepts old admitted
+  pub visits : VisitsAll admitted visited
+  pub tells : IsTold now visited new
+
+-- a turn, and its answer
+abbrev pub TakesTurn : ℕ → Turns → Result (Unit {0}) LoopFault → Turns → Type 0
+TakesTurn now old (Ok nothing) new = Turned now old new
+TakesTurn now old (Err fault) new = Stops old fault new
 
 -- no count is at the greatest u64
 pub record AreBelowGreatest (counts : Counts) : Type 0 where
   pub lost : counts.lost < 2 ^ 64 - 1
   pub closed : counts.closed < 2 ^ 64 - 1
-  pub faults : counts.faults < 2 ^ 64 - 1
-  pub ends : counts.ends < 2 ^ 64 - 1
+  pub faults : counts.wire.faults < 2 ^ 64 - 1
+  pub ends : counts.wire.ends < 2 ^ 64 - 1
 
 -- what a loop lost beyond its start is no more than what faults, ends and closes rose together
 abbrev pub LosesNoMore : Counts → Counts → Type 0
-LosesNoMore old new = AreBelowGreatest new → new.lost + (old.faults + old.ends + old.closed) ≤ old.lost + (new.faults + new.ends + new.closed)
-
--- no count falls
-pub record Rises (old new : Counts) : Type 0 where
-  pub lost : old.lost ≤ new.lost
-  pub closed : old.closed ≤ new.closed
-  pub faults : old.faults ≤ new.faults
-  pub ends : old.ends ≤ new.ends
-
--- what a loop lost beyond its start is what faults, ends and closes rose together
-pub record LosesAsCounted (old new : Counts) : Type 0 where
-  pub rises : Rises old new
-  pub lost : AreBelowGreatest new → new.lost + (old.faults + old.ends + old.closed) ≡ old.lost + (new.faults + new.ends + new.closed)
+LosesNoMore old new =
+    AreBelowGreatest new
+    → new.lost + (old.wire.faults + old.wire.ends + old.closed) ≤ old.lost + (new.wire.faults + new.wire.ends + new.closed)

@@ -1,9 +1,8 @@
 //! The turns of a cache: routers connect, ask and are answered.
-ghost use Rattle.std.specs.Prelude.{◌≡◌, ◌≢◌, ◌<◌, ℕ, ⊤, [], None, Err, OnOk, OnErr, IfOk, IsSome, MatchOption, Some, length, slice_index_or, slice_set, vec_len};
-ghost use Rattle.rtr_cache.specs.CacheState.{OthersStay, client_at};
-ghost use Rattle.ov_programs.specs.Serving.{Admits, Turned, Visits, blank_link, shared_at, told};
-ghost use Rattle.ov_programs.specs.Turns.{LosesAsCounted, LosesNoMore, OthersStand, counts_admitting, counts_losing, counts_settling, fault_counted, idle, link_at, standing_at};
-ghost use Rattle.ov_programs.specs.Visiting.{Loses, IsNewClient};
+ghost use Rattle.std.specs.Prelude.{◌≡◌, ◌≢◌, ◌<◌, ℕ, ⊤, [], None, OnOk, OnErr, IfOk, IsSome, MatchOption, Some, length, slice_index_or, slice_set, vec_len};
+ghost use Rattle.rtr_cache.specs.CacheState.{client_at};
+ghost use Rattle.ov_programs.specs.Turns.{Admits, IsTold, TakesTurn, Visits, VisitsAll, idle, link_at, losing, settled};
+ghost use Rattle.ov_programs.specs.Visiting.{IsNewClient, Loses};
 
 use crate::fault::LoopFault;
 use crate::link::{Link, Visit};
@@ -32,7 +31,7 @@ impl<W: Wire, A: Allocator> Model for CacheLoop<W, A> {
 
     ghost Value = { Turns };
 
-    ghost view = { λ c. record { counts = record { lost = c.lost; closed = c.closed; faults = W.fault_count c.wire; ends = W.end_count c.wire }; cache = c.cache; links = c.links.items } };
+    ghost view = { λ c. record { counts = record { lost = c.lost; closed = c.closed; wire = W.state c.wire }; cache = c.cache; links = c.links.items } };
 
     ghost invariant = { λ c. EachHasAClient c.cache c.links.items };
 }
@@ -40,7 +39,7 @@ impl<W: Wire, A: Allocator> Model for CacheLoop<W, A> {
 impl<W: Wire + Drop, A: Allocator + Clone> CacheLoop<W, A> {
     /// The turns of this cache on this wire, before the first.
     pub fn new(alloc: A, wire: W, cache: Cache<A>) -> Result<Self, AllocError>
-        ensures { IfOk result (λ turns. turns ≡ idle cache (W.fault_count wire) (W.end_count wire)) }
+        ensures { IfOk result (λ turns. turns ≡ idle cache (W.state wire)) }
     {
         let links = Vec::new(alloc.clone()?);
         Ok(CacheLoop {
@@ -55,15 +54,8 @@ impl<W: Wire + Drop, A: Allocator + Clone> CacheLoop<W, A> {
 
     /// One turn: a connection that waits is accepted, what came on each is handed to the cache and what the cache
     /// has queued for it goes out, and the cache is told the moment. A moment before the last one tells it nothing.
-    #[tactic(auto, using(crate::proofs::Counting::loses_no_more))]
     pub fn turn(&mut self, now: u64) -> Result<(), LoopFault>
-        ensures serves { OnOk result ((key : ℕ) → Turned now self.old.cache.shared (standing_at self.old key) (standing_at self.new key)) }
-        ensures shared { OnOk result (self.new.cache.shared ≡ shared_at now self.old.cache.shared) }
-        ensures carries_nothing { OnErr result ((key : ℕ) → link_at self.new key ≡ link_at self.old key) }
-        ensures lost { LosesNoMore self.old.counts self.new.counts }
-        ensures ok { OnOk result (LosesAsCounted self.old.counts self.new.counts) }
-        ensures accept { result ≡ Err LoopFault.Accept → self.new.counts ≡ fault_counted self.old.counts }
-        ensures memory { result ≡ Err LoopFault.NoMemory → self.new.counts ≡ self.old.counts }
+        ensures { TakesTurn now self.old result self.new }
     {
         self.admit()?;
         self.visit_all();
@@ -88,41 +80,25 @@ impl<W: Wire + Drop, A: Allocator + Clone> CacheLoop<W, A> {
 
     /// The wire.
     pub fn wire(&self) -> &W
-        ensures faults { W.fault_count result.now ≡ self.now.counts.faults }
-        ensures ends { W.end_count result.now ≡ self.now.counts.ends }
+        ensures { W.state result.now ≡ self.now.counts.wire }
     {
         &self.wire
     }
 
     // Accepts a connection that waits. One whose client the cache refuses is closed.
     fn admit(&mut self) -> Result<(), LoopFault>
-        ensures counts { self.new.counts ≡ counts_admitting result self.old.counts }
-        ensures admits { OnOk result ((key : ℕ) → Admits (standing_at self.old key) (standing_at self.new key)) }
-        ensures links { OnErr result ((key : ℕ) → link_at self.new key ≡ link_at self.old key) }
-        ensures shared { self.new.cache.shared ≡ self.old.cache.shared }
+        ensures { Admits self.old result self.new }
     {
-        match self.wire.accept() {
-            Accepted::Connection(socket, _) => self.bring_up(socket),
-            Accepted::Nothing => Ok(()),
-            Accepted::Fault => Err(LoopFault::Accept),
-        }
-    }
-
-    fn bring_up(&mut self, socket: W::Socket) -> Result<(), LoopFault>
-        requires given { W.given socket ≡ [] }
-        requires taken { W.taken socket ≡ [] }
-        ensures counts { self.new.counts ≡ self.old.counts }
-        ensures admits { OnOk result ((key : ℕ) → Admits (standing_at self.old key) (standing_at self.new key)) }
-        ensures links { OnErr result ((key : ℕ) → link_at self.new key ≡ link_at self.old key) }
-        ensures shared { self.new.cache.shared ≡ self.old.cache.shared }
-        ensures err { result ≢ Err LoopFault.Accept }
-    {
+        let socket = match self.wire.accept() {
+            Accepted::Connection(socket, _) => socket,
+            Accepted::Nothing => return Ok(()),
+            Accepted::Fault => return Err(LoopFault::Accept),
+        };
         let Some(client) = self.new_client() else {
             self.wire.close(socket);
             return Ok(());
         };
-        let link = Link::new(self.alloc.clone()?, socket)?;
-        self.seat(client as usize, link)?;
+        self.let_in(client as usize, socket)?;
         Ok(())
     }
 
@@ -138,13 +114,24 @@ impl<W: Wire + Drop, A: Allocator + Clone> CacheLoop<W, A> {
         }
     }
 
-    // Puts the connection of this client where it belongs.
+    // Puts the connection of this client, on this socket, where it belongs.
+    fn let_in(&mut self, client: usize, socket: W::Socket) -> Result<(), AllocError>
+        requires { IsSome (client_at self.old.cache client) }
+        ensures same { self.new ≡ record self.old { links = self.new.links } }
+        ensures here { OnOk result (link_at self.new client ≡ Some (record { carried = W.carried socket; waiting = [] })) }
+        ensures others { (key : ℕ) → key ≢ client → link_at self.new key ≡ link_at self.old key }
+        ensures err { OnErr result ((key : ℕ) → link_at self.new key ≡ link_at self.old key) }
+    {
+        let link = Link::new(self.alloc.clone()?, socket)?;
+        self.seat(client, link)
+    }
+
     fn seat(&mut self, client: usize, link: Link<W, A>) -> Result<(), AllocError>
         requires { IsSome (client_at self.old.cache client) }
         ensures same { self.new ≡ record self.old { links = self.new.links } }
         ensures here { OnOk result (link_at self.new client ≡ Some link) }
         ensures others { (key : ℕ) → key ≢ client → link_at self.new key ≡ link_at self.old key }
-        ensures err { OnErr result (link_at self.new client ≡ link_at self.old client) }
+        ensures err { OnErr result ((key : ℕ) → link_at self.new key ≡ link_at self.old key) }
     {
         make_place(&mut self.links, client)?;
         self.links[client] = Some(link);
@@ -152,9 +139,7 @@ impl<W: Wire + Drop, A: Allocator + Clone> CacheLoop<W, A> {
     }
 
     fn visit_all(&mut self)
-        ensures counts { LosesAsCounted self.old.counts self.new.counts }
-        ensures visits { (key : ℕ) → Visits self.old.cache.shared (standing_at self.old key) (standing_at self.new key) }
-        ensures shared { self.new.cache.shared ≡ self.old.cache.shared }
+        ensures { VisitsAll self.old self.new }
     {
         let mut buf = [0; TURN_OCTETS];
         for client in 0..self.links.len() {
@@ -165,10 +150,7 @@ impl<W: Wire + Drop, A: Allocator + Clone> CacheLoop<W, A> {
     // Visits the connection of this client, if it has one.
     fn visit(&mut self, client: usize, buf: &mut [u8])
         requires { client < length self.old.links }
-        ensures counts { LosesAsCounted self.old.counts self.new.counts }
-        ensures visits { Visits self.old.cache.shared (standing_at self.old client) (standing_at self.new client) }
-        ensures others { OthersStand self.old client self.new }
-        ensures shared { self.new.cache.shared ≡ self.old.cache.shared }
+        ensures visits { Visits self.old client self.new }
         ensures places { length self.new.links ≡ length self.old.links }
     {
         let Some(mut link) = take_out(&mut self.links, client) else {
@@ -183,7 +165,7 @@ impl<W: Wire + Drop, A: Allocator + Clone> CacheLoop<W, A> {
         requires place { client < length self.old.links }
         requires taken_out { link_at self.old client ≡ None }
         requires served { visit ≡ Visit.Stays → IsSome (client_at self.old.cache client) }
-        ensures counts { self.new.counts ≡ counts_settling visit self.old.counts }
+        ensures counts { self.new.counts ≡ settled visit link.carried self.old.counts }
         ensures stays { visit ≡ Visit.Stays → (self.new.cache ≡ self.old.cache) × (self.new.links ≡ slice_set self.old.links client (Some link)) }
         ensures gone { visit ≢ Visit.Stays → Loses self.old.cache client self.new.cache × (self.new.links ≡ self.old.links) }
     {
@@ -200,7 +182,7 @@ impl<W: Wire + Drop, A: Allocator + Clone> CacheLoop<W, A> {
     // Ends the connection of this client, and tells the cache that it is gone.
     fn lose(&mut self, client: usize, link: Link<W, A>)
         requires { link_at self.old client ≡ None }
-        ensures counts { self.new.counts ≡ counts_losing self.old.counts }
+        ensures counts { self.new.counts ≡ losing link.carried self.old.counts }
         ensures cache { Loses self.old.cache client self.new.cache }
         ensures links { self.new.links ≡ self.old.links }
     {
@@ -211,9 +193,7 @@ impl<W: Wire + Drop, A: Allocator + Clone> CacheLoop<W, A> {
 
     // Tells the cache the moment.
     fn tell(&mut self, now: u64)
-        ensures counts { self.new.counts ≡ self.old.counts }
-        ensures tells { (key : ℕ) → standing_at self.new key ≡ told now self.old.cache.shared (standing_at self.old key) }
-        ensures shared { self.new.cache.shared ≡ shared_at now self.old.cache.shared }
+        ensures { IsTold now self.old self.new }
     {
         let _past = self.cache.step(CacheEvent::<Global>::Tick(now));
     }

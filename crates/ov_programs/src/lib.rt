@@ -13,6 +13,7 @@
 
 mod cache_loop;
 mod fault;
+mod laws;
 mod link;
 mod log;
 mod mains;
@@ -24,7 +25,8 @@ mod words;
 
 pub use cache_loop::{CacheLoop, TURN_OCTETS};
 pub use fault::{ExitFault, LoopFault};
-pub use log::{Log, Note};
+pub use laws::no_more_are_lost_than_are_counted;
+pub use log::{Ledger, Log, Note, Parting};
 pub use mains::main_cache;
 pub use net_wire::{NetSocket, NetWire};
 pub use settings::{CacheSettings, SettingsFault};

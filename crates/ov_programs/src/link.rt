@@ -1,10 +1,10 @@
 //! One client's connection.
 ghost use Rattle.std.specs.Prelude.{◌≡◌, ◌≢◌, ◌++◌, [], IfOk, None, Some};
-ghost use Rattle.net_prefix.specs.declared.transport.Transport.TheVariants.{Closing};
-ghost use Rattle.rtr_cache.specs.CacheState.{OthersStay, client_at, transport_of};
+ghost use Rattle.rtr_cache.specs.CacheState.{OthersStay, client_at};
 ghost use Rattle.rtr_cache.specs.CacheTable.{Conn};
-ghost use Rattle.ov_programs.specs.Turns.{ends_visiting, faults_visiting};
-ghost use Rattle.ov_programs.specs.Visiting.{GivesHeard, IsHeard, IsServed, TakesHanded};
+ghost use Rattle.ov_programs.specs.Turns.{wire_visited};
+ghost use Rattle.ov_programs.specs.Visiting.{GivesHeard, IsHeard, IsVisited, TakesHanded, over_by};
+ghost use Rattle.ov_programs.specs.Wires.{closing};
 
 use crate::outgoing::Outgoing;
 use crate::wire::{Received, Sent, Wire};
@@ -38,13 +38,13 @@ impl<W: Wire, A: Allocator> Model for Link<W, A> {
 
     ghost Value = { Connection };
 
-    ghost view = { λ link. record { given = W.given link.socket; taken = W.taken link.socket; waiting = link.outgoing } };
+    ghost view = { λ link. record { carried = W.carried link.socket; waiting = link.outgoing } };
 }
 
 impl<W: Wire, A: Allocator + Clone> Link<W, A> {
     /// The connection of a client on this socket.
     pub fn new(alloc: A, socket: W::Socket) -> Result<Self, AllocError>
-        ensures { IfOk result (λ link. link ≡ record { given = W.given socket; taken = W.taken socket; waiting = [] }) }
+        ensures { IfOk result (λ link. link ≡ record { carried = W.carried socket; waiting = [] }) }
     {
         Ok(Link {
             socket,
@@ -60,12 +60,10 @@ impl<W: Wire, A: Allocator + Clone> Link<W, A> {
         cache: &mut Cache<A>,
         buf: &mut [u8],
     ) -> Visit
-        ensures serves { result ≡ Visit.Stays → (conn : Conn) → client_at cache.old client ≡ Some conn → IsServed cache.old client self.old conn cache.new self.new }
-        ensures closed { result ≡ Visit.Closed → (transport_of (client_at cache.new client) ≡ Closing) × (self.new.waiting ≡ []) }
+        ensures visits { (conn : Conn) → client_at cache.old client ≡ Some conn → IsVisited cache.old client self.old conn result cache.new self.new }
         ensures others { OthersStay cache.old client cache.new }
         ensures shared { cache.new.shared ≡ cache.old.shared }
-        ensures faults { W.fault_count wire.new ≡ faults_visiting result (W.fault_count wire.old) }
-        ensures ends { W.end_count wire.new ≡ ends_visiting result (W.end_count wire.old) }
+        ensures tells { W.state wire.new ≡ wire_visited result (W.state wire.old) }
     {
         match self.receive(client, wire, cache, buf) {
             Visit::Stays => self.send(client, wire, cache),
@@ -75,8 +73,7 @@ impl<W: Wire, A: Allocator + Clone> Link<W, A> {
 
     /// Ends the connection.
     pub fn close(self, wire: &mut W)
-        ensures faults { W.fault_count wire.new ≡ W.fault_count wire.old }
-        ensures ends { W.end_count wire.new ≡ W.end_count wire.old }
+        ensures { W.state wire.new ≡ closing self.carried (W.state wire.old) }
     {
         let Link { socket, .. } = self;
         wire.close(socket);
@@ -84,12 +81,11 @@ impl<W: Wire, A: Allocator + Clone> Link<W, A> {
 
     // Hands what came to the cache.
     fn receive(&mut self, client: u64, wire: &mut W, cache: &mut Cache<A>, buf: &mut [u8]) -> Visit
-        ensures hears { result ≡ Visit.Stays → (conn : Conn) → client_at cache.old client ≡ Some conn → GivesHeard cache.old client self.old conn cache.new self.new }
+        ensures hears { (conn : Conn) → client_at cache.old client ≡ Some conn → GivesHeard cache.old client self.old conn result cache.new self.new }
         ensures goes_on { result ≢ Visit.Closed }
         ensures others { OthersStay cache.old client cache.new }
         ensures shared { cache.new.shared ≡ cache.old.shared }
-        ensures faults { W.fault_count wire.new ≡ faults_visiting result (W.fault_count wire.old) }
-        ensures ends { W.end_count wire.new ≡ ends_visiting result (W.end_count wire.old) }
+        ensures tells { W.state wire.new ≡ wire_visited result (W.state wire.old) }
     {
         let count = match wire.read(&mut self.socket, buf) {
             Received::Octets(count) => count,
@@ -103,12 +99,10 @@ impl<W: Wire, A: Allocator + Clone> Link<W, A> {
 
     // Writes what was taken, and takes more where all of it is written.
     fn send(&mut self, client: u64, wire: &mut W, cache: &mut Cache<A>) -> Visit
-        ensures takes { (conn : Conn) → client_at cache.old client ≡ Some conn → TakesHanded self.old conn cache.new client self.new }
-        ensures closed { result ≡ Visit.Closed → (transport_of (client_at cache.new client) ≡ Closing) × (self.new.waiting ≡ []) }
+        ensures takes { (conn : Conn) → client_at cache.old client ≡ Some conn → TakesHanded self.old conn result cache.new client self.new }
         ensures others { OthersStay cache.old client cache.new }
         ensures shared { cache.new.shared ≡ cache.old.shared }
-        ensures faults { W.fault_count wire.new ≡ faults_visiting result (W.fault_count wire.old) }
-        ensures ends { W.end_count wire.new ≡ ends_visiting result (W.end_count wire.old) }
+        ensures tells { W.state wire.new ≡ wire_visited result (W.state wire.old) }
     {
         self.outgoing.refill(cache, client);
         if self.outgoing.is_empty() {
@@ -122,11 +116,11 @@ impl<W: Wire, A: Allocator + Clone> Link<W, A> {
 
     // Writes what was taken, as much as goes.
     fn write(&mut self, wire: &mut W) -> Visit
-        ensures given { self.new.given ≡ self.old.given }
-        ensures taken { self.new.taken ++ self.new.waiting ≡ self.old.taken ++ self.old.waiting }
+        ensures given { self.new.carried.given ≡ self.old.carried.given }
+        ensures taken { self.new.carried.taken ++ self.new.waiting ≡ self.old.carried.taken ++ self.old.waiting }
+        ensures is_over { self.new.carried.is_over ≡ over_by result self.old.carried.is_over }
         ensures goes_on { result ≢ Visit.Closed }
-        ensures faults { W.fault_count wire.new ≡ faults_visiting result (W.fault_count wire.old) }
-        ensures ends { W.end_count wire.new ≡ ends_visiting result (W.end_count wire.old) }
+        ensures tells { W.state wire.new ≡ wire_visited result (W.state wire.old) }
     {
         match wire.write(&mut self.socket, self.outgoing.octets()) {
             Sent::Octets(count) => {

@@ -31,6 +31,8 @@ where
     R: Net<Listener = TcpListener, Stream = TcpStream> + Files + Clock + AllocGlobal,
     ensures words { ((path : List ℕ) (turns : ℕ) → ¬ (IsCall words.now path turns)) → result ≡ 1 }
     ensures range { result ≤ 2 }
+    ensures output { _output.new ≡ _output.old }
+    ensures silent { result ≡ 0 → errors.new ≡ errors.old }
 {
     match run_cache(rt, words) {
         Ok(()) => 0,

@@ -1,8 +1,8 @@
 //! The system's TCP sockets.
-ghost use Rattle.std.specs.Prelude.{◌≡◌, [], IfOk};
-ghost use Rattle.ov_programs.specs.Wires.{nothing_told, one_more};
+ghost use Rattle.std.specs.Prelude.{◌≡◌, [], IfOk, IfSome, false};
+ghost use Rattle.ov_programs.specs.Wires.{connecting, failing, nothing_told};
 
-use crate::log::{Log, Note};
+use crate::log::{Ledger, Log, Note, Parting};
 use crate::wire::{Accepted, Received, Sent, Wire};
 use mio::net::TcpStream;
 use std::io::{self, ErrorKind, Read, Write};
@@ -15,17 +15,21 @@ pub struct NetSocket {
     stream: TcpStream,
     given: Log,
     taken: Log,
+    // Whether it has told a fault or its end.
+    is_over: bool,
 }
 
 impl NetSocket {
     fn new(stream: TcpStream) -> NetSocket
         ensures given { result.given.octets ≡ [] }
         ensures taken { result.taken.octets ≡ [] }
+        ensures is_over { result.is_over ≡ false }
     {
         NetSocket {
             stream,
             given: Log::new(),
             taken: Log::new(),
+            is_over: false,
         }
     }
 }
@@ -36,15 +40,18 @@ pub struct NetWire<'a, R: Net<Listener = TcpListener, Stream = net::TcpStream>> 
     net: &'a R,
     listener: Option<TcpListener>,
     faults: u64,
+    accept_faults: u64,
     ends: u64,
+    arrivals: u64,
+    closed: Ledger,
 }
 
 impl<'a, R: Net<Listener = TcpListener, Stream = net::TcpStream>> Model for NetWire<'a, R> {
-    ghost use Rattle.ov_programs.specs.Wires.{WireCounts};
+    ghost use Rattle.ov_programs.specs.Wires.{WireState};
 
-    ghost Value = { WireCounts };
+    ghost Value = { WireState };
 
-    ghost view = { λ wire. record { faults = wire.faults; ends = wire.ends } };
+    ghost view = { λ wire. record { faults = wire.faults; accept_faults = wire.accept_faults; ends = wire.ends; arrivals = wire.arrivals; closed = wire.closed.sockets } };
 }
 
 impl<'a, R: Net<Listener = TcpListener, Stream = net::TcpStream>> NetWire<'a, R> {
@@ -52,12 +59,7 @@ impl<'a, R: Net<Listener = TcpListener, Stream = net::TcpStream>> NetWire<'a, R>
     pub fn new(net: &'a R) -> Self
         ensures { result ≡ nothing_told }
     {
-        NetWire {
-            net,
-            listener: None,
-            faults: 0,
-            ends: 0,
-        }
+        NetWire::with_listener(net, None)
     }
 
     /// A wire that listens at the address too.
@@ -66,12 +68,35 @@ impl<'a, R: Net<Listener = TcpListener, Stream = net::TcpStream>> NetWire<'a, R>
     {
         let listener = TcpListener::bind(net, address)?;
         listener.set_nonblocking(true)?;
-        Ok(NetWire {
+        Ok(NetWire::with_listener(net, Some(listener)))
+    }
+
+    fn with_listener(net: &'a R, listener: Option<TcpListener>) -> Self
+        ensures { result ≡ nothing_told }
+    {
+        NetWire {
             net,
-            listener: Some(listener),
+            listener,
             faults: 0,
+            accept_faults: 0,
             ends: 0,
-        })
+            arrivals: 0,
+            closed: Ledger::new(),
+        }
+    }
+
+    /// Begins to connect; none is a fault.
+    pub fn connect(&mut self, address: SocketAddr) -> Option<NetSocket>
+        ensures blank { IfSome result (λ socket. (socket.given.octets ≡ []) × (socket.taken.octets ≡ [])) }
+        ensures tells { self.new ≡ connecting result self.old }
+    {
+        match TcpStream::connect(self.net, address) {
+            Ok(stream) => Some(NetSocket::new(stream)),
+            Err(_) => {
+                self.fail();
+                None
+            }
+        }
     }
 
     /// Where the wire listens, if it does.
@@ -84,7 +109,7 @@ impl<'a, R: Net<Listener = TcpListener, Stream = net::TcpStream>> NetWire<'a, R>
 
     // Counts a fault.
     fn fail(&mut self)
-        ensures { self.new ≡ record self.old { faults = one_more self.old.faults } }
+        ensures { self.new ≡ failing self.old }
     {
         self.faults = self.faults.saturating_add(1);
     }
@@ -93,33 +118,23 @@ impl<'a, R: Net<Listener = TcpListener, Stream = net::TcpStream>> NetWire<'a, R>
 impl<R: Net<Listener = TcpListener, Stream = net::TcpStream>> Wire for NetWire<'_, R> {
     type Socket = NetSocket;
 
-    ghost fault_count = { λ wire. wire.faults };
+    ghost state = { λ wire. wire };
 
-    ghost end_count = { λ wire. wire.ends };
-
-    ghost given = { λ socket. socket.given.octets };
-
-    ghost taken = { λ socket. socket.taken.octets };
-
-    fn connect(&mut self, address: SocketAddr) -> Option<NetSocket> {
-        match TcpStream::connect(self.net, address) {
-            Ok(stream) => Some(NetSocket::new(stream)),
-            Err(_) => {
-                self.fail();
-                None
-            }
-        }
-    }
+    ghost carried = { λ socket. record { given = socket.given.octets; taken = socket.taken.octets; is_over = socket.is_over } };
 
     fn accept(&mut self) -> Accepted<NetSocket> {
         let Some(listener) = &self.listener else {
             return Accepted::Nothing;
         };
         match accept_from(listener) {
-            Ok((stream, address)) => Accepted::Connection(NetSocket::new(stream), address),
+            Ok((stream, address)) => {
+                self.arrivals = self.arrivals.saturating_add(1);
+                Accepted::Connection(NetSocket::new(stream), address)
+            }
             Err(error) if is_of_one_connection(error.kind()) => Accepted::Nothing,
             Err(_) => {
                 self.fail();
+                self.accept_faults = self.accept_faults.saturating_add(1);
                 Accepted::Fault
             }
         }
@@ -129,6 +144,7 @@ impl<R: Net<Listener = TcpListener, Stream = net::TcpStream>> Wire for NetWire<'
         match socket.stream.read(buf) {
             Ok(0) => {
                 self.ends = self.ends.saturating_add(1);
+                socket.is_over = true;
                 Received::End
             }
             Ok(count) => {
@@ -139,6 +155,7 @@ impl<R: Net<Listener = TcpListener, Stream = net::TcpStream>> Wire for NetWire<'
             Err(error) if is_not_yet(error.kind()) => Received::Nothing,
             Err(_) => {
                 self.fail();
+                socket.is_over = true;
                 Received::Fault
             }
         }
@@ -154,12 +171,19 @@ impl<R: Net<Listener = TcpListener, Stream = net::TcpStream>> Wire for NetWire<'
             Err(error) if is_not_yet(error.kind()) => Sent::Nothing,
             Err(_) => {
                 self.fail();
+                socket.is_over = true;
                 Sent::Fault
             }
         }
     }
 
-    fn close(&mut self, _socket: NetSocket) {}
+    fn close(&mut self, socket: NetSocket) {
+        self.closed = self.closed.then(&Parting {
+            given: &socket.given,
+            taken: &socket.taken,
+            is_over: socket.is_over,
+        });
+    }
 
     fn faults(&self) -> u64 {
         self.faults

@@ -1,6 +1,7 @@
 //! What the turns ask of sockets.
-ghost use Rattle.std.specs.Prelude.{◌≡◌, ◌++◌, ℕ, List, [], IfSome, length};
-ghost use Rattle.ov_programs.specs.Wires.{ComesBlank, FitsIn, FitsInSent, ends_receiving, faults_accepting, faults_connecting, faults_receiving, faults_sending, received, sent};
+ghost use Rattle.std.specs.Prelude.{◌≡◌, length};
+ghost use Rattle.ov_programs.specs.Sockets.{Carried, receives, sends};
+ghost use Rattle.ov_programs.specs.Wires.{ComesBlank, FitsIn, FitsInSent, WireState, accepting, closing, reading, writing};
 
 use std::net::SocketAddr;
 
@@ -36,57 +37,41 @@ pub enum Sent {
     Fault,
 }
 
-/// Sockets that don't wait. A wire counts its faults and the ends of input that it has told; of each socket proofs know
-/// the octets that were read from it so far and those that were written to it.
+/// Sockets that don't wait. A wire counts its faults, the ends of input that it has told, and the connections that came,
+/// and knows what each socket had carried that it has closed; of each socket proofs know what it has carried so far.
 pub trait Wire {
     type Socket: Drop;
 
-    ghost fault_count: { Self → ℕ };
+    ghost state: { Self → WireState };
 
-    ghost end_count: { Self → ℕ };
-
-    ghost given: { Self.Socket → List ℕ };
-
-    ghost taken: { Self.Socket → List ℕ };
-
-    /// Begins to connect; none is a fault.
-    fn connect(&mut self, address: SocketAddr) -> Option<Self::Socket>
-        ensures blank { IfSome result (λ socket. (given socket ≡ []) × (taken socket ≡ [])) }
-        ensures faults { fault_count self.new ≡ faults_connecting result (fault_count self.old) }
-        ensures ends { end_count self.new ≡ end_count self.old };
+    ghost carried: { Self.Socket → Carried };
 
     /// The next connection that came.
     fn accept(&mut self) -> Accepted<Self::Socket>
-        ensures blank { ComesBlank given taken result }
-        ensures faults { fault_count self.new ≡ faults_accepting result (fault_count self.old) }
-        ensures ends { end_count self.new ≡ end_count self.old };
+        ensures blank { ComesBlank carried result }
+        ensures tells { state self.new ≡ accepting result (state self.old) };
 
     /// Octets that came on the connection, as many as there are and the buffer holds.
     fn read(&mut self, socket: &mut Self::Socket, buf: &mut [u8]) -> Received
         ensures bound { FitsIn (length buf.new) result }
-        ensures gives { given socket.new ≡ given socket.old ++ received result buf.new }
-        ensures takes { taken socket.new ≡ taken socket.old }
-        ensures faults { fault_count self.new ≡ faults_receiving result (fault_count self.old) }
-        ensures ends { end_count self.new ≡ ends_receiving result (end_count self.old) };
+        ensures carries { carried socket.new ≡ receives result buf.new (carried socket.old) }
+        ensures tells { state self.new ≡ reading result (state self.old) };
 
     /// Sends octets on the connection, as many as go.
     fn write(&mut self, socket: &mut Self::Socket, octets: &[u8]) -> Sent
         ensures bound { FitsInSent (length octets.now) result }
-        ensures gives { given socket.new ≡ given socket.old }
-        ensures takes { taken socket.new ≡ taken socket.old ++ sent result octets.now }
-        ensures faults { fault_count self.new ≡ faults_sending result (fault_count self.old) }
-        ensures ends { end_count self.new ≡ end_count self.old };
+        ensures carries { carried socket.new ≡ sends result octets.now (carried socket.old) }
+        ensures tells { state self.new ≡ writing result (state self.old) };
 
     /// Ends the connection.
     fn close(&mut self, socket: Self::Socket)
-        ensures faults { fault_count self.new ≡ fault_count self.old }
-        ensures ends { end_count self.new ≡ end_count self.old };
+        ensures tells { state self.new ≡ closing (carried socket) (state self.old) };
 
     /// How many calls answered a fault; it stays at the greatest u64.
     fn faults(&self) -> u64
-        ensures { result ≡ fault_count self.now };
+        ensures { result ≡ (state self.now).faults };
 
     /// How many reads answered an end; it stays at the greatest u64.
     fn ends(&self) -> u64
-        ensures { result ≡ end_count self.now };
+        ensures { result ≡ (state self.now).ends };
 }

@@ -1,9 +1,11 @@
 //! Each call of a wire fails once: its client is gone, and all others go on.
-ghost use Rattle.std.specs.Prelude.{◌≡◌, ◌≤◌, [], if◌then◌else◌, length};
+ghost use Rattle.std.specs.Prelude.{◌≡◌, ◌≤◌, [], false, if◌then◌else◌, length};
 ghost use Rattle.ov_programs.specs.Wires.{one_more};
 
 use net_prefix::{Asn, Prefix, Vrp};
-use ov_programs::{Accepted, CacheLoop, Log, LoopFault, Note, Received, Sent, Wire};
+use ov_programs::{
+    Accepted, CacheLoop, Ledger, Log, LoopFault, Note, Parting, Received, Sent, Wire,
+};
 use rtr_cache::{Cache, CacheEvent};
 use rtr_codec::Intervals;
 use std::alloc::{AllocGlobal, Global};
@@ -123,13 +125,12 @@ impl Router {
 
 #[derive(Clone, Copy, Debug, PartialEq, Eq)]
 enum Call {
-    Connect,
     Accept,
     OfRouter(usize),
 }
 
 // Three routers that connect one after another; one call of the wire fails.
-#[derive(Clone, Copy, Drop)]
+#[derive(Drop)]
 struct MemoryWire {
     routers: [Router; 3],
     accepted: usize,
@@ -137,7 +138,10 @@ struct MemoryWire {
     fails_at: u64,
     failed: Option<Call>,
     faults: u64,
+    accept_faults: u64,
     ends: u64,
+    arrivals: u64,
+    closed: Ledger,
 }
 
 // The socket of one router.
@@ -146,17 +150,20 @@ struct Plug {
     router: usize,
     given: Log,
     taken: Log,
+    is_over: bool,
 }
 
 impl Plug {
     fn new(router: usize) -> Plug
         ensures given { result.given.octets ≡ [] }
         ensures taken { result.taken.octets ≡ [] }
+        ensures is_over { result.is_over ≡ false }
     {
         Plug {
             router,
             given: Log::new(),
             taken: Log::new(),
+            is_over: false,
         }
     }
 }
@@ -174,14 +181,20 @@ impl MemoryWire {
             fails_at,
             failed: None,
             faults: 0,
+            accept_faults: 0,
             ends: 0,
+            arrivals: 0,
+            closed: Ledger::new(),
         }
     }
 
     // Counts a call, and whether it fails.
     fn fails(&mut self, call: Call) -> bool
         ensures faults { self.new.faults ≡ (if result then one_more self.old.faults else self.old.faults) }
+        ensures accept_faults { self.new.accept_faults ≡ self.old.accept_faults }
         ensures ends { self.new.ends ≡ self.old.ends }
+        ensures arrivals { self.new.arrivals ≡ self.old.arrivals }
+        ensures closed { self.new.closed.sockets ≡ self.old.closed.sockets }
     {
         self.calls = self.calls.saturating_add(1);
         if self.calls != self.fails_at {
@@ -196,23 +209,13 @@ impl MemoryWire {
 impl Wire for MemoryWire {
     type Socket = Plug;
 
-    ghost fault_count = { λ wire. wire.faults };
+    ghost state = { λ wire. record { faults = wire.faults; accept_faults = wire.accept_faults; ends = wire.ends; arrivals = wire.arrivals; closed = wire.closed.sockets } };
 
-    ghost end_count = { λ wire. wire.ends };
-
-    ghost given = { λ plug. plug.given.octets };
-
-    ghost taken = { λ plug. plug.taken.octets };
-
-    fn connect(&mut self, _address: SocketAddr) -> Option<Plug> {
-        if self.fails(Call::Connect) {
-            return None;
-        }
-        Some(Plug::new(0))
-    }
+    ghost carried = { λ plug. record { given = plug.given.octets; taken = plug.taken.octets; is_over = plug.is_over } };
 
     fn accept(&mut self) -> Accepted<Plug> {
         if self.fails(Call::Accept) {
+            self.accept_faults = self.accept_faults.saturating_add(1);
             return Accepted::Fault;
         }
         if self.accepted >= self.routers.len() {
@@ -220,12 +223,14 @@ impl Wire for MemoryWire {
         }
         let plug = Plug::new(self.accepted);
         self.accepted += 1;
+        self.arrivals = self.arrivals.saturating_add(1);
         let address = SocketAddrV4::new(Ipv4Addr::LOCALHOST, 0);
         Accepted::Connection(plug, SocketAddr::V4(address))
     }
 
     fn read(&mut self, socket: &mut Plug, buf: &mut [u8]) -> Received {
         if self.fails(Call::OfRouter(socket.router)) {
+            socket.is_over = true;
             return Received::Fault;
         }
         let Some(router) = self.routers.get_mut(socket.router) else {
@@ -233,6 +238,7 @@ impl Wire for MemoryWire {
         };
         if router.has_left() {
             self.ends = self.ends.saturating_add(1);
+            socket.is_over = true;
             return Received::End;
         }
         match router.ask(buf) {
@@ -247,6 +253,7 @@ impl Wire for MemoryWire {
 
     fn write(&mut self, socket: &mut Plug, octets: &[u8]) -> Sent {
         if self.fails(Call::OfRouter(socket.router)) {
+            socket.is_over = true;
             return Sent::Fault;
         }
         match self.routers.get_mut(socket.router) {
@@ -264,6 +271,11 @@ impl Wire for MemoryWire {
         if let Some(router) = self.routers.get_mut(socket.router) {
             router.is_closed = true;
         }
+        self.closed = self.closed.then(&Parting {
+            given: &socket.given,
+            taken: &socket.taken,
+            is_over: socket.is_over,
+        });
     }
 
     fn faults(&self) -> u64 {
@@ -278,7 +290,10 @@ impl Wire for MemoryWire {
 // What twenty turns have led to.
 #[derive(Drop)]
 struct Served {
-    wire: MemoryWire,
+    routers: [Router; 3],
+    failed: Option<Call>,
+    // How many faults and ends the wire told.
+    told: u64,
     fault: Option<LoopFault>,
     lost: u64,
     closed: u64,
@@ -301,8 +316,11 @@ fn serve(rt: &impl AllocGlobal, silent: u64, fails_at: u64) -> Result<Served, Fa
             break;
         }
     }
+    let wire = turns.wire();
     Ok(Served {
-        wire: *turns.wire(),
+        routers: wire.routers,
+        failed: wire.failed,
+        told: wire.faults.saturating_add(wire.ends),
         fault,
         lost: turns.lost(),
         closed: turns.closed(),
@@ -323,19 +341,18 @@ fn others_are_served(rt: &impl Abort, routers: &[Router], failed: Option<usize>)
 fn a_failing_call_costs_one_client(rt: HostRuntime) -> Result<(), Fail> {
     for fails_at in 1..1_000 {
         let served = serve(&rt, 0, fails_at)?;
-        let told = served.wire.faults.saturating_add(served.wire.ends);
-        match served.wire.failed {
+        match served.failed {
             Some(Call::OfRouter(failed)) => {
                 assert_eq!(rt; served.fault, None);
-                let gone = served.wire.routers.get(failed).ok_or("no router")?;
+                let gone = served.routers.get(failed).ok_or("no router")?;
                 assert!(rt; gone.is_closed, "{fails_at}");
-                others_are_served(&rt, &served.wire.routers, Some(failed));
-                assert_eq!(rt; served.lost, told.saturating_add(served.closed));
+                others_are_served(&rt, &served.routers, Some(failed));
+                assert_eq!(rt; served.lost, served.told.saturating_add(served.closed));
             }
             Some(_) => assert_eq!(rt; served.fault, Some(LoopFault::Accept)),
             None => {
-                others_are_served(&rt, &served.wire.routers, None);
-                assert_eq!(rt; (served.lost, told, served.closed), (2, 1, 1));
+                others_are_served(&rt, &served.routers, None);
+                assert_eq!(rt; (served.lost, served.told, served.closed), (2, 1, 1));
                 assert!(rt; fails_at > 50, "{fails_at}");
                 return Ok(());
             }
@@ -349,12 +366,12 @@ fn a_failing_call_costs_one_client(rt: HostRuntime) -> Result<(), Fail> {
 fn a_refused_client_is_closed_and_the_others_are_served(rt: HostRuntime) -> Result<(), Fail> {
     let served = serve(&rt, 254, 0)?;
     assert_eq!(rt; served.fault, None);
-    others_are_served(&rt, &served.wire.routers, Some(2));
+    others_are_served(&rt, &served.routers, Some(2));
     let refused = Router {
         is_closed: true,
         ..Router::new(Kind::Staying)
     };
-    assert_eq!(rt; served.wire.routers[2], refused);
-    assert_eq!(rt; (served.lost, served.wire.ends, served.closed), (2, 1, 1));
+    assert_eq!(rt; served.routers[2], refused);
+    assert_eq!(rt; (served.lost, served.told, served.closed), (2, 1, 1));
     Ok(())
 }

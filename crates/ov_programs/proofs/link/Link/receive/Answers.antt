@@ -1,22 +1,27 @@
-use Rattle.std.proofs.Common.{◌++◌, [], ap, ◌∙◌, refl, inl, inr, take}
+use Rattle.std.proofs.Common.{List, ℕ, ◌++◌, [], ap, ◌∙◌, sym, refl, inl, inr, take}
 use Rattle.ov_programs.specs.Serving.{Connection}
-use Rattle.ov_programs.proofs.Serving.{given_heard}
+use Rattle.ov_programs.specs.Sockets.{Carried, over, gives}
+use Rattle.ov_programs.proofs.Serving.{none_heard, some_heard}
 use Rattle.ov_programs.proofs.link.Link.receive.Goals as goal
 
 pub returns-in-Nothing-clause-hears : goal.returns-in-Nothing-clause-hears
-returns-in-Nothing-clause-hears g c = λ stays conn here.
-    let none = c.in-Nothing.ensures in
-    given_heard c.args.cache.now c.args.cache.now c.args.client c.args.self.now _ conn conn [] here (inl (refl, refl))
-    (none.gives ∙ ap (λ (l : Connection). l.given ++ []) c.self.view_is)
-    (none.takes ∙ ap (λ (l : Connection). l.taken) c.self.view_is)
-    (ap (λ (l : Connection). l.waiting) c.self.view_is)
+returns-in-Nothing-clause-hears g c = λ conn here.
+    let none = c.in-Nothing.ensures.carries ∙ ap (λ (l : Connection). l.carried) c.self.view_is in
+    none_heard _ _ _ _ conn _ here (ap (λ (s : Carried). s.given) none) (ap (λ (s : Carried). s.taken) none) (ap (λ (s : Carried). s.is_over) none) (ap (λ (l : Connection). l.waiting) c.self.view_is)
+
+pub returns-in-End-clause-hears : goal.returns-in-End-clause-hears
+returns-in-End-clause-hears g c = λ conn here.
+    let none = c.in-End.ensures.carries ∙ ap (λ (l : Connection). over l.carried) c.self.view_is in
+    none_heard _ _ _ _ conn _ here (ap (λ (s : Carried). s.given) none) (ap (λ (s : Carried). s.taken) none) (ap (λ (s : Carried). s.is_over) none) (ap (λ (l : Connection). l.waiting) c.self.view_is)
+
+pub returns-in-Fault-clause-hears : goal.returns-in-Fault-clause-hears
+returns-in-Fault-clause-hears g c = λ conn here.
+    let none = c.in-Fault.ensures.carries ∙ ap (λ (l : Connection). over l.carried) c.self.view_is in
+    none_heard _ _ _ _ conn _ here (ap (λ (s : Carried). s.given) none) (ap (λ (s : Carried). s.taken) none) (ap (λ (s : Carried). s.is_over) none) (ap (λ (l : Connection). l.waiting) c.self.view_is)
 
 pub returns-clause-hears : goal.returns-clause-hears
-returns-clause-hears g c = λ stays conn here.
-    let h = c.hear.ensures.heard conn here in
-    let came = c.in-Octets.ensures in
+returns-clause-hears g c = λ conn here.
     let octets = take c.in-Octets.count c.read.new.buf in
-    given_heard c.args.cache.now c.hear.new.cache c.args.client c.args.self.now _ conn _ octets h.1 (inr (h.0, refl))
-    (came.gives ∙ ap (λ (l : Connection). l.given ++ octets) c.self.view_is)
-    (came.takes ∙ ap (λ (l : Connection). l.taken) c.self.view_is)
-    (ap (λ (l : Connection). l.waiting) c.self.view_is)
+    let came = c.in-Octets.ensures.carries ∙ ap (λ (l : Connection). gives octets l.carried) c.self.view_is in
+    let h = c.hear.ensures.heard conn here in
+    some_heard _ _ _ _ _ conn octets h.0 h.1 (ap (λ (s : Carried). s.given) came) (ap (λ (s : Carried). s.taken) came) (ap (λ (s : Carried). s.is_over) came) (ap (λ (l : Connection). l.waiting) c.self.view_is)
