@@ -2,8 +2,8 @@
 use Rattle.std.proofs.Common.{◌≡◌, ◌<◌, ◌≤◌, ◌+◌, ◌-◌, ◌^◌, ℕ, zero, suc, refl, sym, ap, subst, arith, inl, inr, Option, Some, None, Result, Ok, Err}
 use Rattle.ov_programs.specs.Serving.{Connection}
 use Rattle.ov_programs.specs.Sockets.{Carried}
-use Rattle.ov_programs.specs.Turns.{Accepts, AreBelowGreatest, Counts, LosesNoMore, Stops, TakesTurn, Turned, Turns, Visits, VisitsBelow, VisitsLink, arriving, accept_failing, counts_of_wire, link_at, losing, settled, wire_visited}
-use Rattle.ov_programs.specs.Wires.{WireState, one_more}
+use Rattle.ov_programs.specs.Turns.{Accepts, AreBelowGreatest, Counts, LosesNoMore, TakesTurn, Turned, Turns, VisitsBelow, VisitsLink, counts_of_wire, link_at, settled, wire_visited}
+use Rattle.ov_programs.specs.Wires.{one_more}
 use Rattle.ov_programs.specs.declared.fault.LoopFault.{LoopFault}
 use Rattle.ov_programs.specs.declared.fault.LoopFault.TheVariants.{Accept, NoMemory}
 use Rattle.ov_programs.specs.declared.link.Visit.{Visit}

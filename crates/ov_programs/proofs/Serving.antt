@@ -5,21 +5,21 @@ use Rattle.rtr_cache.specs.CacheTable.{Conn, hears_octets, pumped}
 use Rattle.rtr_cache.specs.CacheState.{CacheState, client_at, transport_of}
 use Rattle.rtr_cache.proofs.QueueingLaws.{same-queues}
 use Rattle.ov_programs.specs.Sockets.{Carried}
-use Rattle.ov_programs.specs.Serving.{Connection, Finds, HasSaidAll, Hears, Serves, handed_out, handing_out}
+use Rattle.ov_programs.specs.Serving.{Connection, Finds, handed_out, handing_out}
 use Rattle.ov_programs.specs.TurnOctets.{turn_octets}
 use Rattle.ov_programs.specs.Visiting.{GivesHeard, IsVisited, TakesHanded, over_by}
 use Rattle.ov_programs.specs.declared.link.Visit.{Visit}
 use Rattle.ov_programs.specs.declared.link.Visit.TheVariants.{Stays, Faulty, Ended, Closed}
 
 -- a read that gave no octets
-pub none_heard : (cache : CacheState) (key : ℕ) (link after : Connection) (conn : Conn) (visit : Visit) → client_at cache key ≡ Some conn → after.carried.given ≡ link.carried.given → after.carried.taken ≡ link.carried.taken → after.carried.is_over ≡ over_by visit link.carried.is_over → after.waiting ≡ link.waiting → GivesHeard cache key link conn visit cache after
-none_heard cache key link after conn visit here given taken is_over waiting =
-    record { octets = []; heard = conn; is = here; hears = inl (refl, refl); given = given ∙ sym (append-nil link.carried.given); taken = taken; is_over = is_over; waiting = waiting }
+pub none_heard : (cache : CacheState) (key : ℕ) (link after : Connection) (conn : Conn) (visit : Visit) → client_at cache key ≡ Some conn → after.carried.number ≡ link.carried.number → after.carried.given ≡ link.carried.given → after.carried.taken ≡ link.carried.taken → after.carried.is_over ≡ over_by visit link.carried.is_over → after.waiting ≡ link.waiting → GivesHeard cache key link conn visit cache after
+none_heard cache key link after conn visit here number given taken is_over waiting =
+    record { octets = []; heard = conn; is = here; hears = inl (refl, refl); number = number; given = given ∙ sym (append-nil link.carried.given); taken = taken; is_over = is_over; waiting = waiting }
 
 -- one that gave some, which the client has heard
-pub some_heard : (old new : CacheState) (key : ℕ) (link after : Connection) (conn : Conn) (octets : List ℕ) (refused : List Bool) → client_at new key ≡ Some (pumped (hears_octets old.shared refused conn octets)) → after.carried.given ≡ link.carried.given ++ octets → after.carried.taken ≡ link.carried.taken → after.carried.is_over ≡ link.carried.is_over → after.waiting ≡ link.waiting → GivesHeard old key link conn Stays new after
-some_heard old new key link after conn octets refused is given taken is_over waiting =
-    record { octets = octets; heard = pumped (hears_octets old.shared refused conn octets); is = is; hears = inr (refused, refl); given = given; taken = taken; is_over = is_over; waiting = waiting }
+pub some_heard : (old new : CacheState) (key : ℕ) (link after : Connection) (conn : Conn) (octets : List ℕ) (refused : List Bool) → client_at new key ≡ Some (pumped (hears_octets old.shared refused conn octets)) → after.carried.number ≡ link.carried.number → after.carried.given ≡ link.carried.given ++ octets → after.carried.taken ≡ link.carried.taken → after.carried.is_over ≡ link.carried.is_over → after.waiting ≡ link.waiting → GivesHeard old key link conn Stays new after
+some_heard old new key link after conn octets refused is number given taken is_over waiting =
+    record { octets = octets; heard = pumped (hears_octets old.shared refused conn octets); is = is; hears = inr (refused, refl); number = number; given = given; taken = taken; is_over = is_over; waiting = waiting }
 
 -- what a visit finds holds for each connection whose socket is as much over and behind which as much waits
 finds_from : (visit : Visit) (heard : Conn) (link between after : Connection) → between.carried.is_over ≡ link.carried.is_over → between.waiting ≡ link.waiting → Finds visit heard between after → Finds visit heard link after
@@ -39,6 +39,7 @@ both_halves old mid new key link between after conn visit gives takes =
       after = after;
       serves = record {
         octets = gives.octets;
+        number = t.number ∙ gives.number;
         given = t.given ∙ gives.given;
         hears = gives.hears;
         taken = t.taken ∙ (ap (λ (w : List ℕ). (between.carried.taken ++ w) ++ handed_out gives.heard w) gives.waiting ∙ ap (λ (s : List ℕ). (s ++ link.waiting) ++ handed_out gives.heard link.waiting) gives.taken);
@@ -63,6 +64,7 @@ first_half old new key link left conn visit differs goes_on gives =
       after = after;
       serves = record {
         octets = gives.octets;
+        number = gives.number;
         given = gives.given;
         hears = gives.hears;
         taken = ap (λ (s : List ℕ). s ++ (link.waiting ++ handed_out gives.heard link.waiting)) gives.taken ∙ sym (append_assoc link.carried.taken link.waiting (handed_out gives.heard link.waiting));
@@ -110,6 +112,7 @@ pub nothing_left : (link after : Connection) (conn : Conn) (key : ℕ) (new : Ca
 nothing_left link after conn key new visit carried waiting none is found =
     record {
       is = is;
+      number = ap (λ (c : Carried). c.number) carried;
       given = ap (λ (c : Carried). c.given) carried;
       taken = ap (λ (c : Carried). c.taken ++ after.waiting) carried ∙ (ap (λ (w : List ℕ). link.carried.taken ++ w) waiting ∙ sym (append_assoc link.carried.taken link.waiting (handed_out conn link.waiting)));
       finds = finds found;
@@ -130,10 +133,11 @@ nothing_left link after conn key new visit carried waiting none is found =
         (λ closed written ring. stays.1 (subst (λ (c : Option Conn). transport_of c ≡ Closing) (sym is) (closed_end conn link.waiting closed)), same_over)
 
 -- something waits: as much of it as goes is taken
-pub some_left : (link after : Connection) (conn : Conn) (key : ℕ) (new : CacheState) (visit : Visit) (waiting : List ℕ) → waiting ≡ link.waiting ++ handed_out conn link.waiting → waiting ≢ [] → after.carried.given ≡ link.carried.given → after.carried.taken ++ after.waiting ≡ link.carried.taken ++ waiting → after.carried.is_over ≡ over_by visit link.carried.is_over → visit ≢ Closed → client_at new key ≡ Some (handing_out conn link.waiting) → TakesHanded link conn visit new key after
-some_left link after conn key new visit waiting is_waiting some given taken is_over goes_on is =
+pub some_left : (link after : Connection) (conn : Conn) (key : ℕ) (new : CacheState) (visit : Visit) (waiting : List ℕ) → waiting ≡ link.waiting ++ handed_out conn link.waiting → waiting ≢ [] → after.carried.number ≡ link.carried.number → after.carried.given ≡ link.carried.given → after.carried.taken ++ after.waiting ≡ link.carried.taken ++ waiting → after.carried.is_over ≡ over_by visit link.carried.is_over → visit ≢ Closed → client_at new key ≡ Some (handing_out conn link.waiting) → TakesHanded link conn visit new key after
+some_left link after conn key new visit waiting is_waiting some number given taken is_over goes_on is =
     record {
       is = is;
+      number = number;
       given = given;
       taken = taken ∙ (ap (λ (w : List ℕ). link.carried.taken ++ w) is_waiting ∙ sym (append_assoc link.carried.taken link.waiting (handed_out conn link.waiting)));
       finds = finds visit is_over goes_on;

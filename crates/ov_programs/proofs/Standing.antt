@@ -1,13 +1,12 @@
 -- What stands under the clients' keys, one step of a turn after another.
-use Rattle.std.proofs.Common.{arith, ◌≡◌, ◌≢◌, ◌⊎◌, refl, sym, ap, subst, ◌∙◌, inl, inr, zero, suc, length, ℕ, ◌+◌, ◌<◌, ◌≤◌, List, [], ◌∷◌, ◌++◌, Option, Some, None, IsSome, Bool, true, false, if◌then◌else◌, is_some, add-one}
+use Rattle.std.proofs.Common.{arith, ◌≡◌, ◌≢◌, refl, sym, ap, subst, ◌∙◌, zero, suc, length, ℕ, ◌+◌, ◌<◌, List, [], ◌∷◌, ◌++◌, Option, Some, None, IsSome, Bool, true, false, if◌then◌else◌, is_some, add-one}
 use Rattle.std.proofs.Math.ListN.{get_or, set}
-use Rattle.std.proofs.lemmas.Bool.{cases_eq}
 use Rattle.std.proofs.lemmas.List.{get_or-set_same, length-set}
-use Rattle.rtr_cache.specs.CacheTable.{Conn, Shared}
+use Rattle.rtr_cache.specs.CacheTable.{Conn}
 use Rattle.rtr_cache.specs.CacheState.{CacheState, OthersStay, client_at}
 use Rattle.ov_programs.specs.Serving.{Connection, Standing, handing_out, left_by, nobody}
 use Rattle.ov_programs.specs.Sockets.{Carried}
-use Rattle.ov_programs.specs.Turns.{AllStand, Counts, EachHasAClient, OthersStand, Rests, Turns, Visits, VisitsBelow, VisitsConnection, VisitsLink, counts_of_wire, link_at, settled, standing_at, wire_visited}
+use Rattle.ov_programs.specs.Turns.{Counts, EachHasAClient, OthersStand, Turns, Visits, VisitsBelow, VisitsConnection, VisitsLink, counts_of_wire, link_at, settled, standing_at, wire_visited}
 use Rattle.ov_programs.specs.declared.link.Visit.{Visit}
 use Rattle.ov_programs.specs.declared.link.Visit.TheVariants.{Stays, Faulty, Ended, Closed}
 use Rattle.ov_programs.specs.Visiting.{IsVisited, Loses}

@@ -21,8 +21,8 @@ pub record Standing : Type 0 where
 abbrev pub nobody : Standing
 nobody = record { client = None; link = None }
 
-abbrev pub newcomer : Standing
-newcomer = record { client = Some fresh_conn; link = Some (record { carried = blank; waiting = [] }) }
+abbrev pub newcomer : ℕ → Standing
+newcomer number = record { client = Some fresh_conn; link = Some (record { carried = blank number; waiting = [] }) }
 
 -- octets that a socket gave are heard by its client, PDU by PDU (refused says where memory refused what a query needs); where it gave none, the client may stay as it is
 abbrev pub Hears : Shared → Conn → List ℕ → Conn → Type 0
@@ -42,6 +42,7 @@ handing_out conn (octet ∷ octets) = conn
 -- a visit: the client heard just what its socket gave, and what its socket took and what waits for it grew by just what the client hands out
 pub record Serves (shared : Shared) (conn : Conn) (link : Connection) (heard : Conn) (after : Connection) : Type 0 where
   pub octets : List ℕ
+  pub number : after.carried.number ≡ link.carried.number
   pub given : after.carried.given ≡ link.carried.given ++ octets
   pub hears : Hears shared conn octets heard
   pub taken : after.carried.taken ++ after.waiting ≡ (link.carried.taken ++ link.waiting) ++ handed_out heard link.waiting

@@ -8,6 +8,7 @@ use Rattle.ov_programs.specs.declared.wire.Sent.TheVariants.{Octets as Went, Not
 
 -- what a socket has carried
 pub record Carried : Type 0 where
+  pub number : ℕ  -- how many connections came before its own
   pub given : List ℕ  -- the octets that were read from it
   pub taken : List ℕ  -- the octets that were written to it
   pub is_over : Bool  -- it has told a fault or the end of its input
@@ -15,12 +16,12 @@ pub record Carried : Type 0 where
 -- how proofs keep it
 abbrev pub carried_code : Coded Carried
 carried_code =
-    code_by (List ℕ × (List ℕ × Bool)) (coded× (coded_list coded_ℕ) (coded× (coded_list coded_ℕ) coded_bool))
-    (λ c. (c.given, (c.taken, c.is_over))) (λ p. record { given = p.0; taken = p.1.0; is_over = p.1.1 }) (λ _. refl)
+    code_by (ℕ × (List ℕ × (List ℕ × Bool))) (coded× coded_ℕ (coded× (coded_list coded_ℕ) (coded× (coded_list coded_ℕ) coded_bool)))
+    (λ c. (c.number, (c.given, (c.taken, c.is_over)))) (λ p. record { number = p.0; given = p.1.0; taken = p.1.1.0; is_over = p.1.1.1 }) (λ _. refl)
 
 -- a socket that has carried nothing
-abbrev pub blank : Carried
-blank = record { given = []; taken = []; is_over = false }
+abbrev pub blank : ℕ → Carried
+blank number = record { number = number; given = []; taken = []; is_over = false }
 
 -- a socket that has given these octets
 abbrev pub gives : List ℕ → Carried → Carried

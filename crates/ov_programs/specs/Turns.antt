@@ -68,7 +68,7 @@ pub record Rests (old new : Turns) : Type 0 where
 
 -- a connection comes whose client the cache refuses: it is closed, and has carried nothing
 pub record TurnsAway (old new : Turns) : Type 0 where
-  pub counts : new.counts ≡ counts_of_wire (λ wire. closing blank (arriving wire)) old.counts
+  pub counts : new.counts ≡ counts_of_wire (λ wire. closing (blank wire.arrivals) (arriving wire)) old.counts
   pub all : AllStand old new
 
 -- a connection comes, and its client stands under a key that nobody had
@@ -76,7 +76,7 @@ pub record ComesUp (old new : Turns) : Type 0 where
   pub key : ℕ
   pub counts : new.counts ≡ counts_of_wire arriving old.counts
   pub before : standing_at old key ≡ nobody
-  pub now : standing_at new key ≡ newcomer
+  pub now : standing_at new key ≡ newcomer old.counts.wire.arrivals
   pub others : OthersStand old key new
 
 -- accepting goes well: no connection comes, or one is closed, or one is let in

@@ -1,5 +1,5 @@
 -- The steps of a visit.
-use Rattle.std.specs.Prelude.{◌≡◌, ◌≢◌, ◌++◌, ℕ, Bool, List, Some, None, true}
+use Rattle.std.specs.Prelude.{◌≡◌, ◌++◌, ℕ, Bool, List, Some, None, true}
 use Rattle.rtr_cache.specs.CacheState.{CacheState, OthersStay, client_at}
 use Rattle.rtr_cache.specs.CacheTable.{Conn, fresh_conn, hears_octets, pumped}
 use Rattle.ov_programs.specs.Serving.{Connection, Finds, Hears, Serves, handed_out, handing_out}
@@ -25,6 +25,7 @@ pub record GivesHeard (old : CacheState) (key : ℕ) (link : Connection) (conn :
   pub heard : Conn
   pub is : client_at new key ≡ Some heard
   pub hears : Hears old.shared conn octets heard
+  pub number : after.carried.number ≡ link.carried.number
   pub given : after.carried.given ≡ link.carried.given ++ octets
   pub taken : after.carried.taken ≡ link.carried.taken
   pub is_over : after.carried.is_over ≡ over_by visit link.carried.is_over
@@ -33,6 +34,7 @@ pub record GivesHeard (old : CacheState) (key : ℕ) (link : Connection) (conn :
 -- what the client handed out was taken by the socket, or waits for it
 pub record TakesHanded (link : Connection) (conn : Conn) (visit : Visit) (new : CacheState) (key : ℕ) (after : Connection) : Type 0 where
   pub is : client_at new key ≡ Some (handing_out conn link.waiting)
+  pub number : after.carried.number ≡ link.carried.number
   pub given : after.carried.given ≡ link.carried.given
   pub taken : after.carried.taken ++ after.waiting ≡ (link.carried.taken ++ link.waiting) ++ handed_out conn link.waiting
   pub finds : Finds visit conn link after

@@ -69,8 +69,8 @@ FitsInSent len (Went count) = count ≤ len
 FitsInSent len NoneWent = ⊤
 FitsInSent len WriteFault = ⊤
 
--- a connection that comes has carried nothing
-abbrev pub ComesBlank : {S : Type 0} → (S → Carried) → Accepted S → Type 0
-ComesBlank carried (Connection socket address) = carried socket ≡ blank
-ComesBlank carried NoneWaits = ⊤
-ComesBlank carried AcceptFault = ⊤
+-- a connection that comes behind so many others has carried nothing
+abbrev pub ComesBlank : {S : Type 0} → (S → Carried) → ℕ → Accepted S → Type 0
+ComesBlank carried arrivals (Connection socket address) = carried socket ≡ blank arrivals
+ComesBlank carried arrivals NoneWaits = ⊤
+ComesBlank carried arrivals AcceptFault = ⊤

@@ -116,6 +116,7 @@ impl<W: Wire, A: Allocator + Clone> Link<W, A> {
 
     // Writes what was taken, as much as goes.
     fn write(&mut self, wire: &mut W) -> Visit
+        ensures number { self.new.carried.number ≡ self.old.carried.number }
         ensures given { self.new.carried.given ≡ self.old.carried.given }
         ensures taken { self.new.carried.taken ++ self.new.waiting ≡ self.old.carried.taken ++ self.old.waiting }
         ensures is_over { self.new.carried.is_over ≡ over_by result self.old.carried.is_over }

@@ -51,6 +51,7 @@ impl Model for Ledger {
 /// What a socket has carried that is closed.
 #[derive(Clone, Copy, Drop)]
 pub struct Parting<'a> {
+    pub number: u64,
     pub given: &'a Log,
     pub taken: &'a Log,
     pub is_over: bool,
@@ -66,7 +67,7 @@ impl Ledger {
 
     /// This one, and the others.
     pub fn then(&self, _parting: &Parting<'_>) -> Ledger
-        ensures { result.sockets ≡ record { given = _parting.now.given.now.octets; taken = _parting.now.taken.now.octets; is_over = _parting.now.is_over } ∷ self.now.sockets }
+        ensures { result.sockets ≡ record { number = _parting.now.number; given = _parting.now.given.now.octets; taken = _parting.now.taken.now.octets; is_over = _parting.now.is_over } ∷ self.now.sockets }
     {
         Ledger {}
     }

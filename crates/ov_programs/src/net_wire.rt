@@ -13,6 +13,8 @@ use std::net::{self, Net, OpenListener, SocketAddr, TcpListener};
 #[derive(Drop)]
 pub struct NetSocket {
     stream: TcpStream,
+    // How many connections came before it.
+    number: u64,
     given: Log,
     taken: Log,
     // Whether it has told a fault or its end.
@@ -20,13 +22,15 @@ pub struct NetSocket {
 }
 
 impl NetSocket {
-    fn new(stream: TcpStream) -> NetSocket
+    fn new(stream: TcpStream, number: u64) -> NetSocket
+        ensures number { result.number ≡ number }
         ensures given { result.given.octets ≡ [] }
         ensures taken { result.taken.octets ≡ [] }
         ensures is_over { result.is_over ≡ false }
     {
         NetSocket {
             stream,
+            number,
             given: Log::new(),
             taken: Log::new(),
             is_over: false,
@@ -91,7 +95,7 @@ impl<'a, R: Net<Listener = TcpListener, Stream = net::TcpStream>> NetWire<'a, R>
         ensures tells { self.new ≡ connecting result self.old }
     {
         match TcpStream::connect(self.net, address) {
-            Ok(stream) => Some(NetSocket::new(stream)),
+            Ok(stream) => Some(NetSocket::new(stream, self.arrivals)),
             Err(_) => {
                 self.fail();
                 None
@@ -120,7 +124,7 @@ impl<R: Net<Listener = TcpListener, Stream = net::TcpStream>> Wire for NetWire<'
 
     ghost state = { λ wire. wire };
 
-    ghost carried = { λ socket. record { given = socket.given.octets; taken = socket.taken.octets; is_over = socket.is_over } };
+    ghost carried = { λ socket. record { number = socket.number; given = socket.given.octets; taken = socket.taken.octets; is_over = socket.is_over } };
 
     fn accept(&mut self) -> Accepted<NetSocket> {
         let Some(listener) = &self.listener else {
@@ -128,8 +132,9 @@ impl<R: Net<Listener = TcpListener, Stream = net::TcpStream>> Wire for NetWire<'
         };
         match accept_from(listener) {
             Ok((stream, address)) => {
+                let socket = NetSocket::new(stream, self.arrivals);
                 self.arrivals = self.arrivals.saturating_add(1);
-                Accepted::Connection(NetSocket::new(stream), address)
+                Accepted::Connection(socket, address)
             }
             Err(error) if is_of_one_connection(error.kind()) => Accepted::Nothing,
             Err(_) => {
@@ -179,6 +184,7 @@ impl<R: Net<Listener = TcpListener, Stream = net::TcpStream>> Wire for NetWire<'
 
     fn close(&mut self, socket: NetSocket) {
         self.closed = self.closed.then(&Parting {
+            number: socket.number,
             given: &socket.given,
             taken: &socket.taken,
             is_over: socket.is_over,

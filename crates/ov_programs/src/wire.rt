@@ -48,7 +48,7 @@ pub trait Wire {
 
     /// The next connection that came.
     fn accept(&mut self) -> Accepted<Self::Socket>
-        ensures blank { ComesBlank carried result }
+        ensures blank { ComesBlank carried (state self.old).arrivals result }
         ensures tells { state self.new ≡ accepting result (state self.old) };
 
     /// Octets that came on the connection, as many as there are and the buffer holds.

@@ -148,19 +148,22 @@ struct MemoryWire {
 #[derive(Drop)]
 struct Plug {
     router: usize,
+    number: u64,
     given: Log,
     taken: Log,
     is_over: bool,
 }
 
 impl Plug {
-    fn new(router: usize) -> Plug
+    fn new(router: usize, number: u64) -> Plug
+        ensures number { result.number ≡ number }
         ensures given { result.given.octets ≡ [] }
         ensures taken { result.taken.octets ≡ [] }
         ensures is_over { result.is_over ≡ false }
     {
         Plug {
             router,
+            number,
             given: Log::new(),
             taken: Log::new(),
             is_over: false,
@@ -211,7 +214,7 @@ impl Wire for MemoryWire {
 
     ghost state = { λ wire. record { faults = wire.faults; accept_faults = wire.accept_faults; ends = wire.ends; arrivals = wire.arrivals; closed = wire.closed.sockets } };
 
-    ghost carried = { λ plug. record { given = plug.given.octets; taken = plug.taken.octets; is_over = plug.is_over } };
+    ghost carried = { λ plug. record { number = plug.number; given = plug.given.octets; taken = plug.taken.octets; is_over = plug.is_over } };
 
     fn accept(&mut self) -> Accepted<Plug> {
         if self.fails(Call::Accept) {
@@ -221,7 +224,7 @@ impl Wire for MemoryWire {
         if self.accepted >= self.routers.len() {
             return Accepted::Nothing;
         }
-        let plug = Plug::new(self.accepted);
+        let plug = Plug::new(self.accepted, self.arrivals);
         self.accepted += 1;
         self.arrivals = self.arrivals.saturating_add(1);
         let address = SocketAddrV4::new(Ipv4Addr::LOCALHOST, 0);
@@ -272,6 +275,7 @@ impl Wire for MemoryWire {
             router.is_closed = true;
         }
         self.closed = self.closed.then(&Parting {
+            number: socket.number,
             given: &socket.given,
             taken: &socket.taken,
             is_over: socket.is_over,

@@ -1,4 +1,4 @@
-use Rattle.std.proofs.Common.{◌≡◌, ◌<◌, ap, sym, subst, ◌∙◌, length}
+use Rattle.std.proofs.Common.{◌<◌, ap, sym, subst, ◌∙◌, length}
 use Rattle.ov_programs.specs.Turns.{Counts, Turns, Visits}
 use Rattle.ov_programs.specs.Wires.{WireState}
 use Rattle.ov_programs.proofs.Standing.{stays_client, visited}

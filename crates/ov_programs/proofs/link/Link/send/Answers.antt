@@ -19,6 +19,7 @@ returns-clause-takes g c = λ conn here.
     some_left c.args.self.now c.write.new.self conn c.args.client c.refill.new.cache c.write.result c.refill.new.self
     (c.refill.ensures.handed conn here ∙ ap (λ (l : Connection). l.waiting ++ handed_out conn l.waiting) c.self.view_is)
     (λ none. let yes = c.is_empty.ensures.1 none in let no = c.if-is_empty.false in cc)
+    (c.write.ensures.number ∙ ap (λ (l : Connection). l.carried.number) c.self.view_is)
     (c.write.ensures.given ∙ ap (λ (l : Connection). l.carried.given) c.self.view_is)
     (c.write.ensures.taken ∙ ap (λ (l : Connection). l.carried.taken ++ c.refill.new.self) c.self.view_is)
     (c.write.ensures.is_over ∙ ap (λ (l : Connection). over_by c.write.result l.carried.is_over) c.self.view_is)
