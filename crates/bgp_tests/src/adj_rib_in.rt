@@ -3,7 +3,7 @@ use bgp_attr::{Attrs, PeerKind, read_attrs};
 use net_prefix::{Asn, Prefix};
 use refusing::Refusing;
 use rib_in::{AdjIn, RibFault};
-use std::alloc::Allocator;
+use std::alloc::{Allocator, Global};
 use std::process::Abort;
 use std::rc::Rc;
 use std::test::Fail;
@@ -20,29 +20,54 @@ fn shared<A: Allocator + Clone>(rt: &impl Abort, alloc: A) -> Result<Rc<Attrs<A>
     Ok(Rc::new(alloc, attrs)?)
 }
 
+// The table of these routes, each a slot and a prefix.
+fn table_of(rt: &impl Abort, alloc: Global, routes: &[(u8, Prefix)]) -> Result<AdjIn, Fail> {
+    let attrs = shared(rt, alloc)?;
+    let mut table = AdjIn::new(alloc);
+    for (slot, prefix) in routes {
+        table.announce(*slot, *prefix, attrs.clone()?)?;
+    }
+    Ok(table)
+}
+
+// The prefixes of the table, each after the one before it.
+fn has_prefixes(table: &AdjIn, prefixes: &[Prefix]) -> bool {
+    let mut after = None;
+    for prefix in prefixes {
+        if table.prefix_after(after) != Some(*prefix) {
+            return false;
+        }
+        after = Some(*prefix);
+    }
+    table.prefix_after(after).is_none()
+}
+
+fn has_route(table: &AdjIn, slot: u8, prefix: Prefix) -> bool {
+    table.get(slot, prefix).is_some()
+}
+
+// Finds the routes of the table to be the only one of slot 0.
+fn is_only_route(rt: &impl Abort, table: &AdjIn, only: Prefix) {
+    for (prefix, slot, attrs) in table.routes() {
+        assert_eq!(rt; prefix, only);
+        assert_eq!(rt; slot, 0);
+        assert_eq!(rt; attrs.next_hop(), Some(0xc000_0201));
+    }
+}
+
 #[test]
 fn the_latest_route_of_each_slot_is_kept(rt: HostRuntime) -> Result<(), Fail> {
     let low = Prefix::new(0x0a00_0000, 16)?;
     let high = Prefix::new(0x0a00_0000, 24)?;
-    let attrs = shared(&rt, rt.alloc())?;
-    let mut table = AdjIn::new(rt.alloc());
-    table.announce(1, high, attrs.clone()?)?;
-    table.announce(0, low, attrs.clone()?)?;
-    table.announce(1, low, attrs)?;
-    assert!(rt; table.get(1, low).is_some());
-    assert!(rt; table.get(0, high).is_none());
-    assert_eq!(rt; table.prefix_after(None), Some(low));
-    assert_eq!(rt; table.prefix_after(Some(low)), Some(high));
+    let mut table = table_of(&rt, rt.alloc(), &[(1, high), (0, low), (1, low)])?;
+    assert!(rt; has_route(&table, 1, low) && !has_route(&table, 0, high));
+    assert!(rt; has_prefixes(&table, &[low, high]));
     table.withdraw(1, high);
-    assert!(rt; table.get(1, high).is_none());
+    assert!(rt; !has_route(&table, 1, high));
     table.drop_slot(1);
-    for (prefix, slot, attrs) in table.routes() {
-        assert_eq!(rt; prefix, low);
-        assert_eq!(rt; slot, 0);
-        assert_eq!(rt; attrs.next_hop(), Some(0xc000_0201));
-    }
+    is_only_route(&rt, &table, low);
     table.drop_slot(0);
-    assert_eq!(rt; table.prefix_after(None), None);
+    assert!(rt; has_prefixes(&table, &[]));
     Ok(())
 }
 

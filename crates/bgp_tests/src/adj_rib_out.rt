@@ -2,30 +2,48 @@
 use net_prefix::Prefix;
 use refusing::Refusing;
 use rib_out::AdjOut;
-use std::alloc::Allocator;
+use std::alloc::{Allocator, Global};
 use std::process::Abort;
 use std::test::Fail;
+
+// The table after these announcements.
+fn table_of(alloc: Global, announced: &[(Prefix, &[u8])]) -> Result<AdjOut, Fail> {
+    let mut table = AdjOut::new(alloc)?;
+    for (prefix, octets) in announced {
+        table.announce(*prefix, octets)?;
+    }
+    Ok(table)
+}
+
+// Finds the octets of a prefix to be all that the peer holds.
+fn holds_alone(rt: &impl Abort, table: &AdjOut, only: Prefix, held: &[u8]) {
+    for (prefix, octets) in table.held() {
+        assert_eq!(rt; prefix, only);
+        assert_eq!(rt; octets, held);
+    }
+}
+
+fn is_next(table: &AdjOut, after: Option<Prefix>, prefix: Option<Prefix>) -> bool {
+    table.prefix_after(after) == prefix
+}
 
 #[test]
 fn the_peer_holds_what_it_was_last_sent(rt: HostRuntime) -> Result<(), Fail> {
     let low = Prefix::new(0x0a00_0000, 16)?;
     let high = Prefix::new(0x0a00_0000, 24)?;
-    let mut table = AdjOut::new(rt.alloc())?;
-    table.announce(high, b"three")?;
-    table.announce(low, b"one")?;
-    table.announce(low, b"two")?;
+    let mut table = table_of(
+        rt.alloc(),
+        &[(high, b"three"), (low, b"one"), (low, b"two")],
+    )?;
     assert!(rt; table.holds(low, b"two"));
     assert!(rt; !table.holds(low, b"one"));
-    assert_eq!(rt; table.prefix_after(None), Some(low));
-    assert_eq!(rt; table.prefix_after(Some(low)), Some(high));
+    assert!(rt; is_next(&table, None, Some(low)));
+    assert!(rt; is_next(&table, Some(low), Some(high)));
     table.withdraw(low);
     assert!(rt; table.get(low).is_none());
-    for (prefix, octets) in table.held() {
-        assert_eq!(rt; prefix, high);
-        assert_eq!(rt; octets, b"three".as_slice());
-    }
+    holds_alone(&rt, &table, high, b"three");
     table.clear();
-    assert_eq!(rt; table.prefix_after(None), None);
+    assert!(rt; is_next(&table, None, None));
     Ok(())
 }
 

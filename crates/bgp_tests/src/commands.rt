@@ -32,6 +32,12 @@ fn refusals_have_their_numbers(rt: HostRuntime) {
     }
 }
 
+// Makes the tables after a command that nothing refuses.
+fn obey(conf: &mut Conf, command: &Command<'_>) -> Result<(), Fail> {
+    conf.check(command, 0)?;
+    Ok(conf.apply(command)?)
+}
+
 #[test]
 fn a_peer_is_configured_once(rt: HostRuntime) -> Result<(), Fail> {
     let mut conf = Conf::new(rt.alloc(), Asn(65000))?;
@@ -40,7 +46,7 @@ fn a_peer_is_configured_once(rt: HostRuntime) -> Result<(), Fail> {
     let command = Command::AddPeer(0, PEER);
     assert_eq!(rt; conf.check(&command, 1), Err(Refusal::SlotTaken));
     assert_eq!(rt; conf.check(&command, 2), Ok(()));
-    conf.apply(&command)?;
+    obey(&mut conf, &command)?;
     let peer = ConfiguredPeer {
         asn: Asn(65001),
         address: 0xc000_020b,
@@ -74,11 +80,15 @@ const ROWS: [(u8, PeerConf<'static>, Refusal); 11] = [
     (63, PeerConf { export: "transit-1", ..PEER }, Refusal::UnknownName),
 ];
 
+fn refusal_of(conf: &Conf, slot: u8, peer: PeerConf<'_>) -> Option<Refusal> {
+    conf.check(&Command::AddPeer(slot, peer), 0).err()
+}
+
 #[test]
 fn settings_out_of_range_are_refused(rt: HostRuntime) -> Result<(), Fail> {
     let conf = Conf::new(rt.alloc(), Asn(65000))?;
-    for (slot, peer, refusal) in ROWS {
-        assert_eq!(rt; conf.check(&Command::AddPeer(slot, peer), 0), Err(refusal));
+    for (slot, peer, refusal) in &ROWS {
+        assert_eq!(rt; refusal_of(&conf, *slot, *peer), Some(*refusal));
     }
     Ok(())
 }
@@ -93,9 +103,7 @@ fn the_longest_entry_tells_the_cost(rt: HostRuntime) -> Result<(), Fail> {
         (0x0a01_0000, 16, 9),
         (0x0a01_0203, 32, 1),
     ] {
-        let command = Command::Reach(Prefix::new(bits, len)?, cost);
-        assert_eq!(rt; conf.check(&command, 0), Ok(()));
-        conf.apply(&command)?;
+        obey(&mut conf, &Command::Reach(Prefix::new(bits, len)?, cost))?;
     }
     assert_eq!(rt; conf.cost(0x0a01_0203), Some(1));
     assert_eq!(rt; conf.cost(0x0a01_0204), Some(9));

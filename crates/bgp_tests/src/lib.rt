@@ -18,5 +18,3 @@ mod messages;
 mod selection;
 #[cfg(test)]
 mod session_table;
-#[cfg(test)]
-mod slots;

@@ -73,21 +73,30 @@ fn a_message_is_waited_for_octet_by_octet(rt: HostRuntime) {
     assert!(rt; is_read_when_whole(update_of_one_prefix().as_slice(), MessageType::Update));
 }
 
+// Whether this is the fault of the header at the front.
+fn has_fault(octets: &[u8], fault: HeaderFault) -> bool {
+    read(octets) == Step::Faulty(fault)
+}
+
+// Headers behind a marker, and their faults.
+const FAULTY_HEADERS: [([u8; 3], HeaderFault); 4] = [
+    ([0, 0x12, 4], HeaderFault::BadMessageLength(18)),
+    ([0x10, 1, 2], HeaderFault::BadMessageLength(4097)),
+    ([0, 0x14, 4], HeaderFault::BadMessageLength(20)),
+    ([0, 0x13, 5], HeaderFault::BadMessageType(5)),
+];
+
 #[test]
 fn headers_are_judged_in_order(rt: HostRuntime) {
-    let told_18 = HeaderFault::BadMessageLength(18);
-    assert!(rt; read(marked(&[0, 0x12, 4]).as_slice()) == Step::Faulty(told_18));
-    assert!(rt;
-        read(marked(&[0x10, 1, 2]).as_slice()) == Step::Faulty(HeaderFault::BadMessageLength(4097))
-    );
-    assert!(rt;
-        read(marked(&[0, 0x14, 4]).as_slice()) == Step::Faulty(HeaderFault::BadMessageLength(20))
-    );
-    assert!(rt;
-        read(marked(&[0, 0x13, 5]).as_slice()) == Step::Faulty(HeaderFault::BadMessageType(5))
-    );
-    assert!(rt; read(&[0; 19]) == Step::Faulty(HeaderFault::ConnectionNotSynchronized));
-    let fault = Fault::Header(told_18);
+    for (header, fault) in &FAULTY_HEADERS {
+        assert!(rt; has_fault(marked(header).as_slice(), *fault));
+    }
+    assert!(rt; has_fault(&[0; 19], HeaderFault::ConnectionNotSynchronized));
+}
+
+#[test]
+fn a_bad_length_is_told(rt: HostRuntime) {
+    let fault = Fault::Header(HeaderFault::BadMessageLength(18));
     let mut octets = ArrayVec::new();
     fault.write_data(&mut octets);
     assert!(rt; octets.as_slice() == [0, 0x12].as_slice());
@@ -194,9 +203,23 @@ fn updates_name_their_prefixes(rt: HostRuntime) -> Result<(), Fail> {
     assert!(rt; announced.next() == Prefix::new(0x0A000000, 24).ok());
     assert!(rt; announced.next() == Prefix::new(0x0A000000, 23).ok());
     assert!(rt; announced.next() == None);
+    Ok(())
+}
+
+#[test]
+fn updates_have_attributes(rt: HostRuntime) -> Result<(), Fail> {
+    let body = body_with(&[0x18, 10, 0, 0]);
+    let update = read_update(rt.alloc(), body.as_slice(), PeerKind::External(Asn(65001)))
+        .ok()
+        .ok_or("an UPDATE")?;
     assert!(rt; update.attrs().next_hop() == Some(0xC000020B));
     assert!(rt; update.into_attrs().next_hop() == Some(0xC000020B));
-    let nothing = read_update(rt.alloc(), &[0, 0, 0, 0], kind)
+    Ok(())
+}
+
+#[test]
+fn an_update_may_say_nothing(rt: HostRuntime) -> Result<(), Fail> {
+    let nothing = read_update(rt.alloc(), &[0, 0, 0, 0], PeerKind::Internal)
         .ok()
         .ok_or("an UPDATE")?;
     assert!(rt; nothing.announced().next() == None);

@@ -3,6 +3,7 @@ use bgp_attr::Mode;
 use bgp_fsm::{Input, Outgoing, Session, State};
 use bgp_msg::Open;
 use net_prefix::{Asn, Transport};
+use std::process::Abort;
 use std::test::Fail;
 
 const OWN: Open = Open {
@@ -18,8 +19,10 @@ const PEER: Open = Open {
 };
 
 // The state before, the input, the state and the transport after, and what is queued; the peer is passive.
+type Row = (State, Input, State, Transport, Option<Outgoing>);
+
 #[rattlefmt::skip]
-const ROWS: [(State, Input, State, Transport, Option<Outgoing>); 24] = [
+const ROWS: [Row; 24] = [
     (State::Idle,        Input::Start,        State::Active,      Transport::Listening, None),
     (State::Idle,        Input::Fail,         State::Idle,        Transport::None,      None),
     (State::Idle,        Input::Up,           State::Idle,        Transport::None,      None),
@@ -46,19 +49,27 @@ const ROWS: [(State, Input, State, Transport, Option<Outgoing>); 24] = [
     (State::Established, Input::Fault,        State::Idle,        Transport::Closing,   None),
 ];
 
+// What the input makes of a session in this state.
+fn after(state: State, input: Input) -> (State, Transport, Option<Outgoing>) {
+    let mut session = Session {
+        state,
+        ..Session::new(OWN, Mode::Passive)
+    };
+    let effects = session.input(input, 0);
+    (session.state(), session.transport(), effects.message)
+}
+
+fn is_row(rt: &impl Abort, row: &Row) {
+    let (before, input, state, transport, message) = *row;
+    let told = (state, transport, message);
+    assert_eq!(rt; after(before, input), told, "{before} {input:?}");
+}
+
 #[test]
-fn each_row_is_as_the_table_says(rt: HostRuntime) -> Result<(), Fail> {
-    for (before, input, after, transport, message) in ROWS {
-        let mut session = Session {
-            state: before,
-            ..Session::new(OWN, Mode::Passive)
-        };
-        let effects = session.input(input, 0);
-        assert_eq!(rt; session.state(), after, "{before} {input:?}");
-        assert_eq!(rt; session.transport(), transport, "{before} {input:?}");
-        assert_eq!(rt; effects.message, message, "{before} {input:?}");
+fn each_row_is_as_the_table_says(rt: HostRuntime) {
+    for row in &ROWS {
+        is_row(&rt, row);
     }
-    Ok(())
 }
 
 #[test]

@@ -7,7 +7,7 @@ use speaker::BestRoute;
 use std::fmt;
 
 /// One line of what a script answers.
-#[derive(Clone, Copy, Debug, PartialEq, Eq)]
+#[derive(Clone, Copy)]
 pub enum Answer<'a> {
     /// `ok`, and the slots that were closed for want of memory (a bit for each).
     Done(u64),

@@ -13,7 +13,7 @@ use std::alloc::{AllocError, Global};
 use thiserror::Error;
 
 /// A line of a script. Its words are separated by single spaces.
-#[derive(Debug, PartialEq, Eq, Drop)]
+#[derive(Drop)]
 pub enum Line<'a> {
     /// `speaker AS IDENTIFIER nocache`
     Speaker(Config),
@@ -28,7 +28,7 @@ pub enum Line<'a> {
 }
 
 /// A line that a speaker answers.
-#[derive(Debug, PartialEq, Eq, Drop)]
+#[derive(Drop)]
 pub enum SpeakerLine<'a> {
     /// `peer SLOT AS ADDRESS LOCAL active|passive HOLD IMPORT EXPORT`
     Peer(u8, PeerConf<'a>),
@@ -49,7 +49,7 @@ pub enum SpeakerLine<'a> {
 }
 
 /// A line that a cache answers. A client has a key.
-#[derive(Debug, PartialEq, Eq, Drop)]
+#[derive(Drop)]
 pub enum CacheLine {
     /// `cup`
     Up,
@@ -64,7 +64,7 @@ pub enum CacheLine {
 }
 
 /// What `show` shows: `sessions`, `rib`, `in SLOT`, `held SLOT` or `waiting SLOT`.
-#[derive(Clone, Copy, Debug, PartialEq, Eq)]
+#[derive(Clone, Copy)]
 pub enum Table {
     Sessions,
     Rib,
