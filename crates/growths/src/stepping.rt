@@ -7,6 +7,9 @@ use std::alloc::{AllocError, Allocator, Global};
 use std::process::Abort;
 use std::test::Fail;
 
+// An event of a slot that there is not.
+const NO_SLOT: Call<'static> = Call::Step(Event::Up(64));
+
 // What a call answers.
 #[derive(Clone, Copy, Debug, PartialEq, Eq)]
 enum Answer {
@@ -79,7 +82,7 @@ fn stays_stopped<A: Allocator + Clone>(
     let before = look_at(alloc, &speaker)?;
     for call in calls {
         assert_eq!(rt; answer_to(&mut speaker, *call), Answer::NoMemory);
-        assert_eq!(rt; speaker.step(Event::Up(64)), Err(Refusal::NoMemory));
+        assert_eq!(rt; answer_to(&mut speaker, NO_SLOT), Answer::NoMemory);
         assert!(rt; look_at(alloc, &speaker)? == before);
     }
     Ok(())

@@ -1,5 +1,6 @@
 //! Lists that are refused, and a device that fails.
 use crate::lists::HEADER;
+use std::alloc::Global;
 use std::io;
 use std::io::Read;
 use std::test::Fail;
@@ -32,20 +33,26 @@ const REFUSED: [(&str, RowFault, u8, u64); 22] = [
     ("AS1,:,,ta\nAS65002,10.0.0.0/16,x,ta\nx\n",                RowFault::Max,    14, 2),
 ];
 
+// Why the rows under the usual header are refused.
+fn refusal_of(alloc: Global, rows: &str) -> Result<CsvFault, Fail> {
+    let mut text = String::new(alloc);
+    text.push_str(HEADER)?;
+    text.push_str(rows)?;
+    match read_list(alloc, text.as_bytes()) {
+        Ok(_) => Err(Fail::new("the list is taken")),
+        Err(refused) => Ok(refused),
+    }
+}
+
+fn is_told(refused: CsvFault, fault: RowFault, number: u8, row: u64) -> bool {
+    refused == CsvFault { fault, row } && refused.number() == number && refused.row() == row
+}
+
 #[test]
 fn the_first_fault_is_told_with_its_row(rt: HostRuntime) -> Result<(), Fail> {
-    for (rows, fault, number, row) in REFUSED {
-        let mut text = String::new(rt.alloc());
-        text.push_str(HEADER)?;
-        text.push_str(rows)?;
-        match read_list(rt.alloc(), text.as_bytes()) {
-            Ok(_) => assert!(rt; false, "{rows}"),
-            Err(refused) => {
-                assert_eq!(rt; refused, CsvFault { fault, row }, "{rows}");
-                assert_eq!(rt; refused.number(), number);
-                assert_eq!(rt; refused.row(), row);
-            }
-        }
+    for (rows, fault, number, row) in &REFUSED {
+        let refused = refusal_of(rt.alloc(), rows)?;
+        assert!(rt; is_told(refused, *fault, *number, *row), "{rows}");
     }
     Ok(())
 }

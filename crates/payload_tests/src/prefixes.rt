@@ -1,6 +1,7 @@
 //! Prefixes from outside, in each of their three forms.
 
 use net_prefix::{Asn, Prefix, PrefixFault, Vrp, read_prefix};
+use std::alloc::Global;
 use std::collections::BTreeSet;
 use std::test::Fail;
 
@@ -35,14 +36,20 @@ const FAULTY_OCTETS: [(&[u8], PrefixFault); 4] = [
     (&[33, 1, 2],  PrefixFault::LenOver32),
 ];
 
+fn has_text(alloc: Global, prefix: Prefix, text: &str) -> Result<bool, Fail> {
+    Ok(Prefix::parse(text)? == prefix && prefix.to_string(alloc)?.as_str() == text)
+}
+
+fn has_octets(prefix: Prefix, octets: &[u8]) -> bool {
+    prefix.to_octets().as_slice() == octets && read_prefix(octets) == Ok((prefix, octets.len()))
+}
+
 #[test]
 fn each_form_names_the_prefix(rt: HostRuntime) -> Result<(), Fail> {
-    for (text, bits, len, octets) in PREFIXES {
-        let prefix = Prefix::new(bits, len)?;
-        assert_eq!(rt; Prefix::parse(text)?, prefix);
-        assert_eq!(rt; prefix.to_string(rt.alloc())?.as_str(), text);
-        assert_eq!(rt; prefix.to_octets().as_slice(), octets);
-        assert_eq!(rt; read_prefix(octets)?, (prefix, octets.len()));
+    for (text, bits, len, octets) in &PREFIXES {
+        let prefix = Prefix::new(*bits, *len)?;
+        assert!(rt; has_text(rt.alloc(), prefix, text)?, "{text}");
+        assert!(rt; has_octets(prefix, octets), "{text}");
     }
     Ok(())
 }
@@ -129,16 +136,24 @@ const PAYLOADS: [(&str, u8, u32, &str); 6] = [
     ("10.0.1.0/24", 24, 4294967295, "10.0.1.0/24-24 AS4294967295"),
 ];
 
+// Whether the payload is new to the set, and then no more.
+fn is_put_once(set: &mut BTreeSet<Vrp>, payload: Vrp) -> Result<bool, Fail> {
+    Ok(set.insert(payload)? && !set.insert(payload)?)
+}
+
+fn is_printed(alloc: Global, payload: &Vrp, text: &str) -> Result<bool, Fail> {
+    Ok(payload.to_string(alloc)?.as_str() == text)
+}
+
 #[test]
 fn payloads_are_ordered_and_printed(rt: HostRuntime) -> Result<(), Fail> {
     let mut set = BTreeSet::new(rt.alloc());
     for (prefix, max_len, asn, _) in PAYLOADS.iter().rev() {
         let payload = Vrp::new(Prefix::parse(prefix)?, *max_len, Asn(*asn))?;
-        assert_eq!(rt; set.insert(payload)?, true);
-        assert_eq!(rt; set.insert(payload)?, false);
+        assert!(rt; is_put_once(&mut set, payload)?);
     }
     for (payload, (_, _, _, text)) in set.iter().zip(PAYLOADS.iter()) {
-        assert_eq!(rt; payload.to_string(rt.alloc())?.as_str(), *text);
+        assert!(rt; is_printed(rt.alloc(), payload, text)?, "{text}");
     }
     assert_eq!(rt; set.len(), PAYLOADS.len());
     Ok(())

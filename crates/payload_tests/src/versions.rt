@@ -1,11 +1,33 @@
 //! What is published, what changed, and what a delta leaves.
 use crate::sets::{payload, set_of};
+use net_prefix::Vrp;
+use std::collections::BTreeSet;
 use std::test::Fail;
-use vrp_delta::{DeltaFault, Versions, apply};
+use vrp_delta::{Delta, DeltaFault, Versions, apply};
 
 const TEN: u32 = 0x0a00_0000;
 
 const TEN_ONE: u32 = 0x0a01_0000;
+
+fn is_published(versions: &mut Versions, set: &BTreeSet<Vrp>, serial: u32) -> bool {
+    versions.publish(set) == Ok(serial)
+}
+
+// What changed since the version of the serial, which is kept.
+fn delta_since(versions: &Versions, serial: u32) -> Result<Delta, Fail> {
+    match versions.delta_from(serial)? {
+        Some(delta) => Ok(delta),
+        None => Err(Fail::new("the version is kept")),
+    }
+}
+
+fn is_change(delta: &Delta, withdrawn: &[Vrp], announced: &[Vrp]) -> bool {
+    delta.withdrawn.iter().eq(withdrawn) && delta.announced.iter().eq(announced)
+}
+
+fn is_refused(set: &mut BTreeSet<Vrp>, delta: &Delta, fault: DeltaFault) -> bool {
+    apply(set, delta) == Err(fault)
+}
 
 #[test]
 fn a_delta_leads_from_the_first_list_to_the_second(rt: HostRuntime) -> Result<(), Fail> {
@@ -16,21 +38,14 @@ fn a_delta_leads_from_the_first_list_to_the_second(rt: HostRuntime) -> Result<()
     let second = set_of(rt.alloc(), &[after, stays])?;
     let mut versions = Versions::new(rt.alloc());
     assert!(rt; versions.current().is_none());
-    assert_eq!(rt; versions.publish(&first)?, 1);
-    assert_eq!(rt; versions.publish(&second)?, 2);
-    assert_eq!(rt; versions.publish(&second)?, 2);
-    let Some(delta) = versions.delta_from(1)? else {
-        panic!(rt; "the first version is kept");
-    };
-    assert!(rt; delta.withdrawn == set_of(rt.alloc(), &[before])?);
-    assert!(rt; delta.announced == set_of(rt.alloc(), &[after])?);
+    assert!(rt; is_published(&mut versions, &first, 1));
+    assert!(rt; is_published(&mut versions, &second, 2));
+    assert!(rt; is_published(&mut versions, &second, 2));
+    let delta = delta_since(&versions, 1)?;
+    assert!(rt; is_change(&delta, &[before], &[after]));
     apply(&mut first, &delta)?;
     assert!(rt; first == second);
-    let Some(none) = versions.delta_from(2)? else {
-        panic!(rt; "the second version is kept");
-    };
-    assert!(rt; none.withdrawn.is_empty());
-    assert!(rt; none.announced.is_empty());
+    assert!(rt; is_change(&delta_since(&versions, 2)?, &[], &[]));
     assert!(rt; versions.delta_from(0)?.is_none());
     Ok(())
 }
@@ -40,7 +55,7 @@ fn the_newest_seventeen_versions_are_kept(rt: HostRuntime) -> Result<(), Fail> {
     let mut versions = Versions::new(rt.alloc());
     for asn in 1..19u32 {
         let set = set_of(rt.alloc(), &[payload(TEN, 16, 16, asn)?])?;
-        assert_eq!(rt; versions.publish(&set)?, asn);
+        assert!(rt; is_published(&mut versions, &set, asn));
     }
     let Some(newest) = versions.current() else {
         panic!(rt; "a version was published");
@@ -48,11 +63,9 @@ fn the_newest_seventeen_versions_are_kept(rt: HostRuntime) -> Result<(), Fail> {
     assert_eq!(rt; newest.serial(), 18);
     assert!(rt; newest.payloads() == [payload(TEN, 16, 16, 18)?].as_slice());
     assert!(rt; versions.delta_from(1)?.is_none());
-    let Some(delta) = versions.delta_from(2)? else {
-        panic!(rt; "the second version is kept");
-    };
-    assert!(rt; delta.withdrawn == set_of(rt.alloc(), &[payload(TEN, 16, 16, 2)?])?);
-    assert!(rt; delta.announced == set_of(rt.alloc(), &[payload(TEN, 16, 16, 18)?])?);
+    let second = payload(TEN, 16, 16, 2)?;
+    let last = payload(TEN, 16, 16, 18)?;
+    assert!(rt; is_change(&delta_since(&versions, 2)?, &[second], &[last]));
     Ok(())
 }
 
@@ -60,18 +73,21 @@ fn the_newest_seventeen_versions_are_kept(rt: HostRuntime) -> Result<(), Fail> {
 fn a_bad_delta_leaves_the_set(rt: HostRuntime) -> Result<(), Fail> {
     let here = payload(TEN, 16, 24, 65002)?;
     let gone = payload(TEN_ONE, 16, 16, 65003)?;
-    let mut versions = Versions::new(rt.alloc());
-    versions.publish(&set_of(rt.alloc(), &[gone])?)?;
-    versions.publish(&set_of(rt.alloc(), &[here])?)?;
-    let Some(delta) = versions.delta_from(1)? else {
-        panic!(rt; "the first version is kept");
+    let delta = Delta {
+        withdrawn: set_of(rt.alloc(), &[gone])?,
+        announced: set_of(rt.alloc(), &[here])?,
     };
     let mut known = set_of(rt.alloc(), &[here, gone])?;
-    assert_eq!(rt; apply(&mut known, &delta), Err(DeltaFault::Duplicate));
-    assert!(rt; known == set_of(rt.alloc(), &[here, gone])?);
+    assert!(rt; is_refused(&mut known, &delta, DeltaFault::Duplicate));
+    assert!(rt; known.iter().eq(&[here, gone]));
     let mut unknown = set_of(rt.alloc(), &[here])?;
-    assert_eq!(rt; apply(&mut unknown, &delta), Err(DeltaFault::Unknown));
-    assert!(rt; unknown == set_of(rt.alloc(), &[here])?);
+    assert!(rt; is_refused(&mut unknown, &delta, DeltaFault::Unknown));
+    assert!(rt; unknown.iter().eq(&[here]));
+    Ok(())
+}
+
+#[test]
+fn faults_of_a_delta_have_their_numbers(rt: HostRuntime) -> Result<(), Fail> {
     assert_eq!(rt; DeltaFault::NoMemory.number(), 5);
     assert_eq!(rt; DeltaFault::Unknown.number(), 6);
     assert_eq!(rt; DeltaFault::Duplicate.number(), 7);

@@ -1,7 +1,7 @@
 //! Clients of a cache: queries, responses, errors and Notifies.
 
 use crate::transcript::{Transcript, answers, compare, plays};
-use std::alloc::Global;
+use std::alloc::{AllocError, Global};
 use std::test::Fail;
 
 const QUERIES_WITHOUT_A_SET: &str = "
@@ -139,14 +139,19 @@ fn sixteen_versions_are_kept_before_the_newest(rt: HostRuntime) -> Result<(), Fa
     let mut transcript = eighteen_versions(alloc)?;
     writeln!(transcript.script, "cup")?;
     writeln!(transcript.told, "client 0")?;
-    for (serial, answer) in OF_EIGHTEEN_VERSIONS {
-        writeln!(
-            transcript.script,
-            "cbytes 0 010100070000000C{serial}\nctake 0 999"
-        )?;
-        writeln!(transcript.told, "ok\nout {answer}")?;
+    for (serial, answer) in &OF_EIGHTEEN_VERSIONS {
+        ask(&mut transcript, serial, answer)?;
     }
     transcript.play(&rt, alloc)
+}
+
+// The client asks what changed since a serial, and is sent the answer.
+fn ask(transcript: &mut Transcript, serial: &str, answer: &str) -> Result<(), AllocError> {
+    writeln!(
+        transcript.script,
+        "cbytes 0 010100070000000C{serial}\nctake 0 999"
+    )?;
+    writeln!(transcript.told, "ok\nout {answer}")
 }
 
 // A cache with 18 versions: version n is the one payload 10.0.n.0/24-24 AS65002.
@@ -195,25 +200,32 @@ fn response_of_4000(alloc: Global) -> Result<String, Fail> {
     let mut octets = String::new(alloc);
     write!(octets, "0103000700000008")?;
     for count in 0..4_000u32 {
-        let (high, low) = (count / 256, count % 256);
-        write!(
-            octets,
-            "0104000000000014011818000A{high:02X}{low:02X}000000FDEA"
-        )?;
+        push_payload(&mut octets, count)?;
     }
     write!(octets, "01070007000000180000000100000E100000025800001C20")?;
     Ok(octets)
+}
+
+fn push_payload(octets: &mut String, count: u32) -> Result<(), AllocError> {
+    let (high, low) = (count / 256, count % 256);
+    write!(
+        octets,
+        "0104000000000014011818000A{high:02X}{low:02X}000000FDEA"
+    )
 }
 
 // A load of so many payloads, 10.0.first.0/24-24 AS65002 and those behind it.
 fn load_slash_24s(script: &mut String, first: u8, payloads: u32) -> Result<(), Fail> {
     writeln!(script, "load\nASN,IP Prefix,Max Length,Trust Anchor")?;
     for count in 0..payloads {
-        let (high, low) = (count / 256, u32::from(first) + count % 256);
-        writeln!(script, "AS65002,10.{high}.{low}.0/24,24,ta")?;
+        push_row(script, count / 256, u32::from(first) + count % 256)?;
     }
     writeln!(script, "end")?;
     Ok(())
+}
+
+fn push_row(script: &mut String, high: u32, low: u32) -> Result<(), AllocError> {
+    writeln!(script, "AS65002,10.{high}.{low}.0/24,24,ta")
 }
 
 // Lines for a cache that end a script: no cache before them, and words that are none.

@@ -1,6 +1,7 @@
 //! One PDU of a client is one row of the cache's table (RFC 8210 sections 5 to 8 and 12).
 
 use crate::transcript::{Transcript, plays};
+use std::alloc::AllocError;
 use std::test::Fail;
 
 const ONE_VERSION: &str = "
@@ -54,20 +55,30 @@ fn a_pdu_that_closes_is_answered_by_its_row(rt: HostRuntime) -> Result<(), Fail>
     let alloc = rt.alloc();
     let mut transcript = Transcript::read(alloc, &[ONE_VERSION])?;
     for (client, (sent, answer)) in CLOSING_PDUS.iter().enumerate() {
-        writeln!(
-            transcript.script,
-            "cup\ncbytes {client} {sent}\nctake {client} 99"
-        )?;
-        writeln!(
-            transcript.script,
-            "cbytes {client} 0102000000000008\nctake {client} 99"
-        )?;
-        writeln!(
-            transcript.told,
-            "client {client}\nok\nout {answer}\nok\nout -"
-        )?;
+        close(&mut transcript, client, sent, answer)?;
     }
     transcript.play(&rt, alloc)
+}
+
+// A client comes up, sends what closes it and then a query, and is sent the answer alone.
+fn close(
+    transcript: &mut Transcript,
+    client: usize,
+    sent: &str,
+    answer: &str,
+) -> Result<(), AllocError> {
+    writeln!(
+        transcript.script,
+        "cup\ncbytes {client} {sent}\nctake {client} 99"
+    )?;
+    writeln!(
+        transcript.script,
+        "cbytes {client} 0102000000000008\nctake {client} 99"
+    )?;
+    writeln!(
+        transcript.told,
+        "client {client}\nok\nout {answer}\nok\nout -"
+    )
 }
 
 const LATER_VERSION: &str = "

@@ -1,7 +1,8 @@
 //! Lines that are none, and commands that are refused.
 
-use crate::transcript::{BOTH_COME_UP, TWO_PEERS, answers, plays};
+use crate::transcript::{BOTH_COME_UP, TWO_PEERS, answers, is_answered, plays};
 use scenario::{PlayFault, play};
+use std::alloc::{AllocError, Global};
 use std::test::Fail;
 
 // Lines that the language doesn't have.
@@ -46,13 +47,16 @@ const BAD_LINES: [&str; 38] = [
     "tick 1",
 ];
 
+fn script_with(alloc: Global, line: &str) -> Result<String, AllocError> {
+    format!(in alloc; "speaker 65000 192.0.2.1 nocache\n{line}\nshow rib\n")
+}
+
 #[test]
 fn a_line_that_the_language_lacks_ends_the_run(rt: HostRuntime) -> Result<(), Fail> {
     let alloc = rt.alloc();
-    for line in BAD_LINES {
-        let script = format!(in alloc; "speaker 65000 192.0.2.1 nocache\n{line}\nshow rib\n")?;
-        let found = answers(alloc, script.as_bytes())?;
-        assert_eq!(rt; found.as_str(), "ok\nline 2: bad line\n", "{line}");
+    for line in &BAD_LINES {
+        let script = script_with(alloc, line)?;
+        is_answered(&rt, alloc, &script, "ok\nline 2: bad line\n")?;
     }
     Ok(())
 }

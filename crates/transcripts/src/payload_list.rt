@@ -1,6 +1,7 @@
 //! Payload lists that are loaded, and those that are refused.
 
-use crate::transcript::{answers, plays};
+use crate::transcript::{is_answered, plays};
+use std::alloc::{AllocError, Global};
 use std::test::Fail;
 
 const HEADER: &str = "ASN,IP Prefix,Max Length,Trust Anchor";
@@ -90,16 +91,19 @@ const REFUSED_ROWS: [(&str, &str); 12] = [
     ("# AS65002,10.0.0.0/16,24,ta", "refused 12 row 2"),
 ];
 
+fn script_with_second_row(alloc: Global, row: &str) -> Result<String, AllocError> {
+    format!(in alloc;
+        "cache 7 3600 600 7200\nload\n{HEADER}\nAS1,10.0.0.0/8,8,ta\n{row}\nAS,,,\nend\n"
+    )
+}
+
 #[test]
 fn the_first_bad_row_refuses_a_list(rt: HostRuntime) -> Result<(), Fail> {
     let alloc = rt.alloc();
-    for (row, refusal) in REFUSED_ROWS {
-        let script = format!(in alloc;
-            "cache 7 3600 600 7200\nload\n{HEADER}\nAS1,10.0.0.0/8,8,ta\n{row}\nAS,,,\nend\n"
-        )?;
-        let found = answers(alloc, script.as_bytes())?;
+    for (row, refusal) in &REFUSED_ROWS {
+        let script = script_with_second_row(alloc, row)?;
         let told = format!(in alloc; "ok\n{refusal}\n")?;
-        assert_eq!(rt; found.as_str(), told.as_str(), "{row}");
+        is_answered(&rt, alloc, &script, &told)?;
     }
     Ok(())
 }
@@ -114,17 +118,16 @@ const LOADED_ROWS: [&str; 6] = [
     "AS65002,10.0.0.0/16,24,ta\r",
 ];
 
+fn script_with_row(alloc: Global, row: &str) -> Result<String, AllocError> {
+    format!(in alloc; "cache 7 3600 600 7200\nload\n{HEADER}\n{row}\nend")
+}
+
 #[test]
 fn rows_out_of_the_ordinary_are_loaded(rt: HostRuntime) -> Result<(), Fail> {
     let alloc = rt.alloc();
-    for row in LOADED_ROWS {
-        let script = format!(in alloc; "cache 7 3600 600 7200\nload\n{HEADER}\n{row}\nend")?;
-        let found = answers(alloc, script.as_bytes())?;
-        assert_eq!(rt;
-            found.as_str(),
-            "ok\nok serial 1 rows 1 skipped 0\n",
-            "{row}"
-        );
+    for row in &LOADED_ROWS {
+        let script = script_with_row(alloc, row)?;
+        is_answered(&rt, alloc, &script, "ok\nok serial 1 rows 1 skipped 0\n")?;
     }
     Ok(())
 }
@@ -148,10 +151,8 @@ const BAD_SCRIPTS: [(&str, &str); 7] = [
 
 #[test]
 fn a_list_needs_a_cache_and_an_end(rt: HostRuntime) -> Result<(), Fail> {
-    let alloc = rt.alloc();
-    for (script, told) in BAD_SCRIPTS {
-        let found = answers(alloc, script.as_bytes())?;
-        assert_eq!(rt; found.as_str(), told, "{script}");
+    for (script, told) in &BAD_SCRIPTS {
+        is_answered(&rt, rt.alloc(), script, told)?;
     }
     Ok(())
 }

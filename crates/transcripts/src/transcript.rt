@@ -91,12 +91,24 @@ pub fn plays(rt: &impl Abort, alloc: Global, parts: &[&str]) -> Result<(), Fail>
     Transcript::read(alloc, parts)?.play(rt, alloc)
 }
 
+/// Plays a script and compares the answers.
+pub fn is_answered(rt: &impl Abort, alloc: Global, script: &str, told: &str) -> Result<(), Fail> {
+    let found = answers(alloc, script.as_bytes())?;
+    assert_eq!(rt; found.as_str(), told, "{script}");
+    Ok(())
+}
+
 /// Compares answers line by line.
 pub fn compare(rt: &impl Abort, found: &str, told: &str) {
-    for (number, (line, wanted)) in found.lines().zip(told.lines()).enumerate() {
-        assert_eq!(rt; line, wanted, "answer {number}");
+    let mut lines = told.lines();
+    for line in found.lines() {
+        is_line(rt, line, lines.next());
     }
-    assert_eq!(rt; found.lines().count(), told.lines().count());
+    assert_eq!(rt; lines.next(), None);
+}
+
+fn is_line(rt: &impl Abort, found: &str, told: Option<&str>) {
+    assert_eq!(rt; Some(found), told);
 }
 
 fn push_line(text: &mut String, line: &str) -> Result<(), AllocError> {
