@@ -1,10 +1,10 @@
 use Rattle.std.proofs.Common.{◌≡◌, ◌≤◌, ◌<◌, ℕ, Bool, true, false, List, [], ◌∷◌, ◌++◌, length, take, drop, Option, Some, None, ◌⊎◌, inl, inr, refl, ap, sym, subst, ◌∙◌, arith, append_assoc, append-nil}
 use Rattle.std.specs.List.{concat}
 use Rattle.std.proofs.lemmas.Bool.{cases_lt}
-use Rattle.std.proofs.lemmas.List.{take-append-drop, length-take-le}
+use Rattle.std.proofs.lemmas.List.{take-append-drop, length-take-le, nil_from_length}
 use Rattle.octet_streams.specs.Grammar.{Grammar, IsGrammar}
-use Rattle.octet_streams.specs.Streams.{meaning, HasNoItem, IsItem, items_from, unread_from, place_from, items_of_pieces, unread_of_pieces, Splits, Wants}
-use Rattle.octet_streams.proofs.Streams.{meaning-item, is_item, some_is_not_none, items_from-append, unread_from-append, last_octet, wants_front, wants_none, wants-then, becomes, needed-some, only_whole, end-then, others-then, behind_end, ends_behind}
+use Rattle.octet_streams.specs.Streams.{meaning, HasNoItem, IsItem, items_from, unread_from, place_from, items_of_pieces, unread_of_pieces, Splits, Wants, needed_of}
+use Rattle.octet_streams.proofs.Streams.{meaning-item, is_item, some_is_not_none, items_from-append, unread_from-append, last_octet, wants_front, wants_none, wants-then, Becomes, becomes, needed-some, needed-item, only_whole, end-then, others-then, behind_end, ends_behind}
 
 -- A stream is its items one after another, and it is so in no other way, however it is cut.
 
@@ -147,16 +147,21 @@ unread_by_rest g ok place stream (item ∷ items) rest (octets, more, is_first, 
 pub unread_again : {P F I : Type 0} (g : Grammar P F I) (ok : IsGrammar g) (place : P) (stream : List ℕ) → IsUnreadAgain g (place_from g place [] stream) (unread_from g place [] stream)
 unread_again g ok place stream = unread_by_rest g ok place stream (items_from g place [] stream) (unread_from g place [] stream) (splits g ok place stream)
 
--- where no more than one item came, an item at the front is all of it
-pub one_at_most :
-    {P F I : Type 0} (g : Grammar P F I) (ok : IsGrammar g) (place : P) (part : List ℕ) (n : ℕ) (item : I) → Wants g place part ⊎ ((other : I) × (meaning g place part ≡ Some other))
-    → meaning g place (take n part) ≡ Some item → take n part ≡ part
-one_at_most g ok place part n item (inl wants) found =
+-- what a receiver keeps that takes no more octets than are wanted: a rest that wants more, or one item; an item at its front is all of it
+pub all_of_one :
+    {P F I : Type 0} (g : Grammar P F I) (ok : IsGrammar g) (place : P) (part : List ℕ) (n : ℕ) (item : I) → Becomes g place part → meaning g place (take n part) ≡ Some item → take n part ≡ part
+all_of_one g ok place part n item (inl wants) found =
     absurd (some_is_not_none _ item found (wants_front g ok place (take n part) (drop n part) (subst (Wants g place) (sym (take-append-drop n part)) wants)))
-one_at_most g ok place part n item (inr (other, is_other)) found =
+all_of_one g ok place part n item (inr (other, is_other)) found =
     let parts : take n part ++ drop n part ≡ part = take-append-drop n part in
     let none : drop n part ≡ [] = only_whole g ok place (take n part) (drop n part) item other found (ap (meaning g place) parts ∙ is_other) in
     sym (append-nil (take n part)) ∙ ap (λ back. take n part ++ back) (sym none) ∙ parts
+
+pub one_still : {P F I : Type 0} (g : Grammar P F I) (ok : IsGrammar g) (place : P) (part piece : List ℕ) → Becomes g place part → length piece ≤ needed_of g place part → Becomes g place (part ++ piece)
+one_still g ok place part piece (inl wants) fits = becomes g ok place part piece wants fits
+one_still g ok place part piece (inr (item, found)) fits =
+    let none : piece ≡ [] = nil_from_length piece (omega (arith, fits, needed-item g ok place part item found)) in
+    inr (item, ap (λ more. meaning g place (part ++ more)) none ∙ ap (meaning g place) (append-nil part) ∙ found)
 
 -- however a stream is cut
 pub pieces :

@@ -1,8 +1,8 @@
-use Rattle.std.proofs.Common.{◌≡◌, ◌≤◌, ℕ, List, ◌++◌, length, take, drop, get_or, Option, Some, None, inl, inr, ap, sym, subst, ◌∙◌, arith, append_assoc, append-nil}
+use Rattle.std.proofs.Common.{◌≡◌, ◌≤◌, ℕ, List, ◌++◌, length, take, drop, get_or, Option, Some, None, inl, inr, ap, sym, subst, ◌∙◌, arith, append_assoc}
 use Rattle.std.proofs.lemmas.List.{take-append-drop, length-take, length-take-le, get_or-take}
 use Rattle.std.specs.Option.{option_and_then}
-use Rattle.octet_streams.proofs.Streams.{becomes, needed-item, meaning-item, meaning-whole, some_is_not_none}
-use Rattle.octet_streams.proofs.Splits.{whole_at_front, faulty_at_front, one_at_most}
+use Rattle.octet_streams.proofs.Streams.{meaning-item, meaning-whole, some_is_not_none}
+use Rattle.octet_streams.proofs.Splits.{whole_at_front, faulty_at_front, all_of_one as all_of, one_still}
 use Rattle.rtr_codec.specs.declared.fault.PduFault.{PduFault}
 use Rattle.rtr_codec.specs.declared.fault.PduFault.TheVariants.{Payload}
 use Rattle.rtr_codec.specs.declared.pdu.Pdu.{Pdu}
@@ -66,7 +66,7 @@ is_front place octets (Faulty fault quoted) h = λ more.
 all_of_one :
     (place : Place) (part : List ℕ) (n : ℕ) (item : Item) → IsOneAtMost (record { place = place; part = part }) → meaning place (take n part) ≡ Some item → take n part ≡ part
 unfolding pdu_grammar
-all_of_one place part n item one found = one_at_most pdu_grammar is_grammar place part n item one found
+all_of_one place part n item one found = all_of pdu_grammar is_grammar place part n item one found
 
 all_of_pdu : (place : Place) (part : List ℕ) (pdu : Pdu) (used : ℕ) → IsOneAtMost (record { place = place; part = part }) → Tells place part (Whole pdu used) → take used part ≡ part
 all_of_pdu place part pdu used one h = all_of_one place part used _ one (meaning-pdu place (take used part) (content_of pdu) (answer_is_pdu place part pdu used h))
@@ -103,13 +103,8 @@ pub one_at_most_push :
     (place : Place) (part octets : List ℕ) (count : ℕ) → IsOneAtMost (record { place = place; part = part }) → count ≤ needed_of place part
     → IsOneAtMost (record { place = place; part = part ++ take count octets })
 unfolding pdu_grammar
-one_at_most_push place part octets count (inl h) fits =
-    becomes pdu_grammar is_grammar place part (take count octets) h (omega (arith, length-take count octets, fits))
-one_at_most_push place part octets count (inr h) fits =
-    let none : needed_of place part ≡ 0 = needed-item pdu_grammar is_grammar place part h.0 h.1 in
-    let nothing : count ≡ 0 = omega (arith, none, fits) in
-    let same : part ++ take count octets ≡ part = ap (λ (n : ℕ). part ++ take n octets) nothing ∙ append-nil part in
-    inr (h.0, ap (meaning place) same ∙ h.1)
+one_at_most_push place part octets count one fits =
+    one_still pdu_grammar is_grammar place part (take count octets) one (omega (arith, length-take count octets, fits))
 
 -- once the item is passed, where one stands there, more octets are wanted
 pub wants_passed :
