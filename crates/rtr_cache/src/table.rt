@@ -32,12 +32,27 @@ impl<A: Allocator + Clone> Sender<A> {
         match pdu {
             // An Error Report: closed without an answer.
             Pdu::ErrorReport { .. } => self.close(),
-            // A query, where each response is wholly queued: the rows behind.
-            Pdu::SerialQuery { session, serial } if self.response.is_none() => {
+            // A query while a response isn't wholly queued: error 3, closed.
+            Pdu::SerialQuery { .. } if self.response.is_some() => {
+                self.fail(ErrorCode::InvalidRequest, octets);
+            }
+            Pdu::ResetQuery if self.response.is_some() => {
+                self.fail(ErrorCode::InvalidRequest, octets);
+            }
+            // A query before the first load: error 2; the connection stays.
+            Pdu::SerialQuery { .. } if !publisher.has_version() => self.answer_no_data(octets),
+            Pdu::ResetQuery if !publisher.has_version() => self.answer_no_data(octets),
+            // A Serial Query of another session: error 0, closed.
+            Pdu::SerialQuery { session, .. } if *session != publisher.session() => {
+                self.fail(ErrorCode::CorruptData, octets);
+            }
+            // A Serial Query: a response, with what changed since, or a Cache Reset.
+            Pdu::SerialQuery { session, serial } => {
                 self.answer_serial(publisher, *session, *serial, octets);
             }
-            Pdu::ResetQuery if self.response.is_none() => self.answer_reset(publisher, octets),
-            // Other than a query, or a query while a response isn't wholly queued: error 3, closed.
+            // A Reset Query: a response, with all payloads.
+            Pdu::ResetQuery => self.answer_reset(publisher, octets),
+            // Other than a query: error 3, closed.
             _ => self.fail(ErrorCode::InvalidRequest, octets),
         }
     }
