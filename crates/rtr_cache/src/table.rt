@@ -1,8 +1,9 @@
 //! The cache's table: what a PDU of a client's makes of the cache's end of its connection (RFC 8210 sections 5 to 8 and
 //! 12). The definition is `specs/CacheTable.antt`.
-ghost use Rattle.std.specs.Prelude.{◌≡◌, Bool, true};
+ghost use Rattle.std.specs.Prelude.{◌≡◌, [], Bool, true};
 ghost use Rattle.rtr_cache.specs.CacheTable.{hears_fault, hears_pdu, reset_query, serial_query};
 ghost use Rattle.rtr_cache.specs.Sending.{HearsFront, behind_pdu};
+ghost use Rattle.rtr_cache.specs.Unsaid.{is_published};
 ghost use Rattle.rtr_codec.specs.PduSpelling.{content_of};
 ghost use Rattle.rtr_codec.specs.PduStream.{meaning};
 
@@ -47,11 +48,9 @@ impl<A: Allocator + Clone> Sender<A> {
                 self.fail(ErrorCode::CorruptData, octets);
             }
             // A Serial Query: a response, with what changed since, or a Cache Reset.
-            Pdu::SerialQuery { session, serial } => {
-                self.answer_serial(publisher, *session, *serial, octets);
-            }
+            Pdu::SerialQuery { serial, .. } => self.answer_serial(publisher, *serial),
             // A Reset Query: a response, with all payloads.
-            Pdu::ResetQuery => self.answer_reset(publisher, octets),
+            Pdu::ResetQuery => self.answer_reset(publisher),
             // Other than a query: error 3, closed.
             _ => self.fail(ErrorCode::InvalidRequest, octets),
         }
@@ -69,19 +68,12 @@ impl<A: Allocator + Clone> Sender<A> {
         }
     }
 
-    // A Serial Query (RFC 8210 section 5.3).
-    fn answer_serial(&mut self, publisher: &Publisher<A>, session: u16, serial: u32, octets: &[u8])
-        requires { self.old.is_open ≡ true }
-        ensures { (refused : Bool) × (behind_pdu self.new ≡ serial_query publisher.now refused (behind_pdu self.old) octets.now session serial publisher.now.kept) }
+    // A Serial Query of this session, behind the first load (RFC 8210 section 5.3).
+    fn answer_serial(&mut self, publisher: &Publisher<A>, serial: u32)
+        requires open { self.old.is_open ≡ true }
+        requires loaded { is_published publisher.now.kept ≡ true }
+        ensures { (refused : Bool) × (behind_pdu self.new ≡ serial_query publisher.now refused (behind_pdu self.old) [] publisher.now.session serial publisher.now.kept) }
     {
-        // Before the first load: error 2; the connection stays.
-        if !publisher.has_version() {
-            return self.answer_no_data(octets);
-        }
-        // Of another session: error 0, closed.
-        if session != publisher.session() {
-            return self.fail(ErrorCode::CorruptData, octets);
-        }
         match publisher.change_since(serial) {
             // The serial is kept: a response, with what changed since.
             Ok(Some(response)) => self.response = Some(response),
@@ -92,16 +84,16 @@ impl<A: Allocator + Clone> Sender<A> {
         }
     }
 
-    // A Reset Query (RFC 8210 section 5.4).
-    fn answer_reset(&mut self, publisher: &Publisher<A>, octets: &[u8])
-        requires { self.old.is_open ≡ true }
-        ensures { (refused : Bool) × (behind_pdu self.new ≡ reset_query publisher.now refused (behind_pdu self.old) octets.now publisher.now.kept) }
+    // A Reset Query behind the first load (RFC 8210 section 5.4).
+    fn answer_reset(&mut self, publisher: &Publisher<A>)
+        requires open { self.old.is_open ≡ true }
+        requires loaded { is_published publisher.now.kept ≡ true }
+        ensures { (refused : Bool) × (behind_pdu self.new ≡ reset_query publisher.now refused (behind_pdu self.old) [] publisher.now.kept) }
     {
         match publisher.whole_version() {
             // A response, with all payloads.
             Ok(Some(response)) => self.response = Some(response),
-            // Before the first load: error 2; the connection stays.
-            Ok(None) => self.answer_no_data(octets),
+            Ok(None) => unreachable!(),
             // Memory refused what a response needs: error 1, closed.
             Err(_) => self.fail(ErrorCode::InternalError, &[]),
         }
