@@ -1,8 +1,2 @@
 pub mod Exits
-pub mod Serving
-pub mod Sockets
-pub mod TurnOctets
-pub mod Turns
-pub mod Visiting
-pub mod Wires
 pub mod Words

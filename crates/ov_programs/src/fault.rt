@@ -2,33 +2,14 @@
 ghost use Rattle.std.specs.Prelude.{◌≡◌};
 ghost use Rattle.ov_programs.specs.Exits.{exit_of_list, exit_of_refusal, exit_of_settings, status_of};
 ghost use Rattle.ov_programs.specs.declared.fault.ExitFault.TheVariants.{Device};
-ghost use Rattle.ov_programs.specs.declared.fault.LoopFault.TheVariants.{NoMemory};
 
 use crate::settings::SettingsFault;
+use cache_turns::LoopFault;
 use rtr_cache::CacheRefusal;
 use std::alloc::AllocError;
 use std::io;
 use thiserror::Error;
 use vrp_csv::{CsvFault, RowFault};
-
-/// Why a turn can't be made. Either one ends the program.
-#[derive(Clone, Copy, Debug, PartialEq, Eq, Error)]
-pub enum LoopFault {
-    /// The wire can't accept connections.
-    #[error("connections can't be accepted")]
-    Accept,
-    /// There is no memory for a connection that was accepted.
-    #[error("there is no memory for a connection")]
-    NoMemory,
-}
-
-impl From<AllocError> for LoopFault {
-    ghost from_gives = { λ _ fault. fault ≡ NoMemory };
-
-    fn from(_error: AllocError) -> LoopFault {
-        LoopFault::NoMemory
-    }
-}
 
 /// What a program prints behind its name before it ends, and its exit status.
 #[derive(Clone, Copy, Debug, PartialEq, Eq, Error)]

@@ -2,11 +2,11 @@
 ghost use Rattle.std.specs.Prelude.{◌≡◌, ◌≢◌, ◌≤◌, ℕ, List, Err, IfErr};
 ghost use Rattle.ov_programs.specs.Words.{IsCall};
 
-use crate::cache_loop::CacheLoop;
 use crate::fault::ExitFault;
 use crate::net_wire::NetWire;
 use crate::settings::CacheSettings;
 use crate::words::read_words;
+use cache_turns::CacheLoop;
 use rtr_cache::{Cache, CacheEvent};
 use std::alloc::AllocGlobal;
 use std::io::Write;

@@ -1,9 +1,8 @@
 //! The system's TCP sockets.
 ghost use Rattle.std.specs.Prelude.{◌≡◌, [], IfOk, IfSome, false};
-ghost use Rattle.ov_programs.specs.Wires.{connecting, failing, nothing_told};
+ghost use Rattle.cache_turns.specs.Wires.{connecting, failing, nothing_told};
 
-use crate::log::{Ledger, Log, Note, Parting};
-use crate::wire::{Accepted, Received, Sent, Wire};
+use cache_turns::{Accepted, Ledger, Log, Note, Parting, Received, Sent, Wire};
 use mio::net::TcpStream;
 use std::io::{self, ErrorKind, Read, Write};
 use std::marker::Model;
@@ -51,7 +50,7 @@ pub struct NetWire<'a, R: Net<Listener = TcpListener, Stream = net::TcpStream>> 
 }
 
 impl<'a, R: Net<Listener = TcpListener, Stream = net::TcpStream>> Model for NetWire<'a, R> {
-    ghost use Rattle.ov_programs.specs.Wires.{WireState};
+    ghost use Rattle.cache_turns.specs.Wires.{WireState};
 
     ghost Value = { WireState };
 

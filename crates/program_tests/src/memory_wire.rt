@@ -1,6 +1,6 @@
 //! Each call of a wire fails once: its client is gone, and all others go on.
 ghost use Rattle.std.specs.Prelude.{◌≡◌, ◌≤◌, [], false, if◌then◌else◌, length};
-ghost use Rattle.ov_programs.specs.Wires.{one_more};
+ghost use Rattle.cache_turns.specs.Wires.{one_more};
 
 use net_prefix::{Asn, Prefix, Vrp};
 use ov_programs::{

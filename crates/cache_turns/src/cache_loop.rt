@@ -1,0 +1,225 @@
+//! The turns of a cache: routers connect, ask and are answered.
+ghost use Rattle.std.specs.Prelude.{◌≡◌, ◌≢◌, ◌<◌, ℕ, ⊤, [], None, OnOk, OnErr, IfOk, IsSome, MatchOption, Some, length, slice_index_or, slice_set, vec_len};
+ghost use Rattle.rtr_cache.specs.CacheState.{client_at};
+ghost use Rattle.cache_turns.specs.Turns.{Admits, IsTold, TakesTurn, Visits, VisitsAll, idle, link_at, losing, settled};
+ghost use Rattle.cache_turns.specs.Visiting.{IsNewClient, Loses};
+
+use crate::fault::LoopFault;
+use crate::link::{Link, Visit};
+use crate::wire::{Accepted, Wire};
+use rtr_cache::{Cache, CacheEvent};
+use std::alloc::{AllocError, Allocator, Global};
+use std::marker::Model;
+
+/// The most octets that a turn reads of a connection, and the most that wait to be written to it.
+pub const TURN_OCTETS: usize = 4_096;
+
+/// A cache and the connections of its clients.
+#[derive(Drop)]
+pub struct CacheLoop<W: Wire, A: Allocator = Global> {
+    alloc: A,
+    wire: W,
+    cache: Cache<A>,
+    // The connection of the client of key k stands at place k.
+    links: Vec<Option<Link<W, A>>, A>,
+    lost: u64,
+    closed: u64,
+}
+
+impl<W: Wire, A: Allocator> Model for CacheLoop<W, A> {
+    ghost use Rattle.cache_turns.specs.Turns.{EachHasAClient, Turns};
+
+    ghost Value = { Turns };
+
+    ghost view = { λ c. record { counts = record { lost = c.lost; closed = c.closed; wire = W.state c.wire }; cache = c.cache; links = c.links.items } };
+
+    ghost invariant = { λ c. EachHasAClient c.cache c.links.items };
+}
+
+impl<W: Wire + Drop, A: Allocator + Clone> CacheLoop<W, A> {
+    /// The turns of this cache on this wire, before the first.
+    pub fn new(alloc: A, wire: W, cache: Cache<A>) -> Result<Self, AllocError>
+        ensures { IfOk result (λ turns. turns ≡ idle cache (W.state wire)) }
+    {
+        let links = Vec::new(alloc.clone()?);
+        Ok(CacheLoop {
+            alloc,
+            wire,
+            cache,
+            links,
+            lost: 0,
+            closed: 0,
+        })
+    }
+
+    /// One turn: a connection that waits is accepted, what came on each is handed to the cache and what the cache
+    /// has queued for it goes out, and the cache is told the moment. A moment before the last one tells it nothing.
+    pub fn turn(&mut self, now: u64) -> Result<(), LoopFault>
+        ensures { TakesTurn now self.old result self.new }
+    {
+        self.admit()?;
+        self.visit_all();
+        self.tell(now);
+        Ok(())
+    }
+
+    /// How many clients were lost: for each the cache was told that the connection is gone. It stays at the greatest
+    /// u64, as the next one does.
+    pub fn lost(&self) -> u64
+        ensures { result ≡ self.now.counts.lost }
+    {
+        self.lost
+    }
+
+    /// How many connections were closed since the cache had closed their session and said all.
+    pub fn closed(&self) -> u64
+        ensures { result ≡ self.now.counts.closed }
+    {
+        self.closed
+    }
+
+    /// The wire.
+    pub fn wire(&self) -> &W
+        ensures { W.state result.now ≡ self.now.counts.wire }
+    {
+        &self.wire
+    }
+
+    // Accepts a connection that waits. One whose client the cache refuses is closed.
+    fn admit(&mut self) -> Result<(), LoopFault>
+        ensures { Admits self.old result self.new }
+    {
+        let socket = match self.wire.accept() {
+            Accepted::Connection(socket, _) => socket,
+            Accepted::Nothing => return Ok(()),
+            Accepted::Fault => return Err(LoopFault::Accept),
+        };
+        let Some(client) = self.new_client() else {
+            self.wire.close(socket);
+            return Ok(());
+        };
+        self.let_in(client as usize, socket)?;
+        Ok(())
+    }
+
+    // The key of a new client, unless the cache refuses it.
+    fn new_client(&mut self) -> Option<u64>
+        ensures same { self.new ≡ record self.old { cache = self.new.cache } }
+        ensures comes { MatchOption result (self.new.cache ≡ self.old.cache) (λ key. IsNewClient self.old.cache key self.new.cache) }
+        ensures unused { MatchOption result ⊤ (λ key. link_at self.old key ≡ None) }
+    {
+        match self.cache.step(CacheEvent::<Global>::Up) {
+            Ok(report) => report.client,
+            Err(_) => None,
+        }
+    }
+
+    // Puts the connection of this client, on this socket, where it belongs.
+    fn let_in(&mut self, client: usize, socket: W::Socket) -> Result<(), AllocError>
+        requires { IsSome (client_at self.old.cache client) }
+        ensures same { self.new ≡ record self.old { links = self.new.links } }
+        ensures here { OnOk result (link_at self.new client ≡ Some (record { carried = W.carried socket; waiting = [] })) }
+        ensures others { (key : ℕ) → key ≢ client → link_at self.new key ≡ link_at self.old key }
+        ensures err { OnErr result ((key : ℕ) → link_at self.new key ≡ link_at self.old key) }
+    {
+        let link = Link::new(self.alloc.clone()?, socket)?;
+        self.seat(client, link)
+    }
+
+    fn seat(&mut self, client: usize, link: Link<W, A>) -> Result<(), AllocError>
+        requires { IsSome (client_at self.old.cache client) }
+        ensures same { self.new ≡ record self.old { links = self.new.links } }
+        ensures here { OnOk result (link_at self.new client ≡ Some link) }
+        ensures others { (key : ℕ) → key ≢ client → link_at self.new key ≡ link_at self.old key }
+        ensures err { OnErr result ((key : ℕ) → link_at self.new key ≡ link_at self.old key) }
+    {
+        make_place(&mut self.links, client)?;
+        self.links[client] = Some(link);
+        Ok(())
+    }
+
+    fn visit_all(&mut self)
+        ensures { VisitsAll self.old self.new }
+    {
+        let mut buf = [0; TURN_OCTETS];
+        for client in 0..self.links.len() {
+            self.visit(client, &mut buf);
+        }
+    }
+
+    // Visits the connection of this client, if it has one.
+    fn visit(&mut self, client: usize, buf: &mut [u8])
+        requires { client < length self.old.links }
+        ensures visits { Visits self.old client self.new }
+        ensures places { length self.new.links ≡ length self.old.links }
+    {
+        let Some(mut link) = take_out(&mut self.links, client) else {
+            return;
+        };
+        let visit = link.visit(client as u64, &mut self.wire, &mut self.cache, buf);
+        self.settle(client, link, visit);
+    }
+
+    // Does what the visit asks for: the connection is put back, or it ends.
+    fn settle(&mut self, client: usize, link: Link<W, A>, visit: Visit)
+        requires place { client < length self.old.links }
+        requires taken_out { link_at self.old client ≡ None }
+        requires served { visit ≡ Visit.Stays → IsSome (client_at self.old.cache client) }
+        ensures counts { self.new.counts ≡ settled visit link.carried self.old.counts }
+        ensures stays { visit ≡ Visit.Stays → (self.new.cache ≡ self.old.cache) × (self.new.links ≡ slice_set self.old.links client (Some link)) }
+        ensures gone { visit ≢ Visit.Stays → Loses self.old.cache client self.new.cache × (self.new.links ≡ self.old.links) }
+    {
+        match visit {
+            Visit::Stays => self.links[client] = Some(link),
+            Visit::Faulty | Visit::Ended => self.lose(client, link),
+            Visit::Closed => {
+                self.closed = self.closed.saturating_add(1);
+                self.lose(client, link);
+            }
+        }
+    }
+
+    // Ends the connection of this client, and tells the cache that it is gone.
+    fn lose(&mut self, client: usize, link: Link<W, A>)
+        requires { link_at self.old client ≡ None }
+        ensures counts { self.new.counts ≡ losing link.carried self.old.counts }
+        ensures cache { Loses self.old.cache client self.new.cache }
+        ensures links { self.new.links ≡ self.old.links }
+    {
+        link.close(&mut self.wire);
+        let _report = self.cache.step(CacheEvent::<Global>::Down(client as u64));
+        self.lost = self.lost.saturating_add(1);
+    }
+
+    // Tells the cache the moment.
+    fn tell(&mut self, now: u64)
+        ensures { IsTold now self.old self.new }
+    {
+        let _past = self.cache.step(CacheEvent::<Global>::Tick(now));
+    }
+}
+
+// Makes places, with nothing at them, up to this one.
+fn make_place<T: Drop, A: Allocator>(
+    places: &mut Vec<Option<T>, A>,
+    place: usize,
+) -> Result<(), AllocError>
+    ensures place { OnOk result (place < length places.new.items) }
+    ensures same { (at : ℕ) → slice_index_or places.new.items at None ≡ slice_index_or places.old.items at None }
+{
+    while places.len() <= place {
+        if let Err(failed) = places.push(None) {
+            return Err(AllocError::from(failed));
+        }
+    }
+    Ok(())
+}
+
+// Takes what stands at this place.
+fn take_out<T: Drop, A: Allocator>(places: &mut Vec<Option<T>, A>, place: usize) -> Option<T>
+    requires { place < length places.old.items }
+    ensures taken { result ≡ slice_index_or places.old.items place None }
+    ensures left { places.new.items ≡ slice_set places.old.items place None }
+{
+    places[place].take()
+}

@@ -1,0 +1,77 @@
+//! What the turns ask of sockets.
+ghost use Rattle.std.specs.Prelude.{◌≡◌, length};
+ghost use Rattle.cache_turns.specs.Sockets.{Carried, receives, sends};
+ghost use Rattle.cache_turns.specs.Wires.{ComesBlank, FitsIn, FitsInSent, WireState, accepting, closing, reading, writing};
+
+use std::net::SocketAddr;
+
+/// What asking for a connection answers.
+#[derive(Drop)]
+pub enum Accepted<S> {
+    /// A connection that came, and the address of its other side.
+    Connection(S, SocketAddr),
+    /// None waits.
+    Nothing,
+    Fault,
+}
+
+/// What reading answers.
+#[derive(Clone, Copy, Debug, PartialEq, Eq)]
+pub enum Received {
+    /// So many octets came; they stand at the front of the buffer.
+    Octets(usize),
+    /// None have come yet.
+    Nothing,
+    /// The other side sends no more.
+    End,
+    Fault,
+}
+
+/// What writing answers.
+#[derive(Clone, Copy, Debug, PartialEq, Eq)]
+pub enum Sent {
+    /// So many octets went, from the front.
+    Octets(usize),
+    /// None can go yet.
+    Nothing,
+    Fault,
+}
+
+/// Sockets that don't wait. A wire counts its faults, the ends of input that it has told, and the connections that came,
+/// and knows what each socket had carried that it has closed; of each socket proofs know what it has carried so far.
+pub trait Wire {
+    type Socket: Drop;
+
+    ghost state: { Self → WireState };
+
+    ghost carried: { Self.Socket → Carried };
+
+    /// The next connection that came.
+    fn accept(&mut self) -> Accepted<Self::Socket>
+        ensures blank { ComesBlank carried (state self.old).arrivals result }
+        ensures tells { state self.new ≡ accepting result (state self.old) };
+
+    /// Octets that came on the connection, as many as there are and the buffer holds.
+    fn read(&mut self, socket: &mut Self::Socket, buf: &mut [u8]) -> Received
+        ensures bound { FitsIn (length buf.new) result }
+        ensures carries { carried socket.new ≡ receives result buf.new (carried socket.old) }
+        ensures tells { state self.new ≡ reading result (state self.old) };
+
+    /// Sends octets on the connection, as many as go.
+    fn write(&mut self, socket: &mut Self::Socket, octets: &[u8]) -> Sent
+        ensures bound { FitsInSent (length octets.now) result }
+        ensures carries { carried socket.new ≡ sends result octets.now (carried socket.old) }
+        ensures tells { state self.new ≡ writing result (state self.old) };
+
+    /// Ends the connection.
+    fn close(&mut self, socket: Self::Socket)
+        ensures tells { state self.new ≡ closing (carried socket) (state self.old) };
+
+    /// How many calls answered a fault; it stays at the greatest u64.
+    fn faults(&self) -> u64
+        ensures { result ≡ (state self.now).faults };
+
+    /// How many reads answered an end; it stays at the greatest u64.
+    fn ends(&self) -> u64
+        ensures { result ≡ (state self.now).ends };
+}

@@ -1,7 +1,0 @@
-use Rattle.std.proofs.Common.{◌≡◌, length}
-use Rattle.ov_programs.specs.Turns.{VisitsBelow}
-use Rattle.ov_programs.proofs.cache_loop.CacheLoop.visit_all.Given as goal
-
-abbrev pub invariant-loop-client : goal.invariant-loop-client
-invariant-loop-client g l =
-    VisitsBelow l.client l.fn.self l.self × (length l.self.links ≡ length l.fn.self.links) × (l.client-end ≡ length l.fn.self.links)
