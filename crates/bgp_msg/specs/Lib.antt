@@ -1,3 +1,4 @@
+pub mod MessageLimits
 pub mod MessageSpelling
 pub mod MessageFaults
 pub mod MessageStream

@@ -12,6 +12,7 @@ use Rattle.bgp_msg.specs.declared.fault.Fault.TheVariants.{Header, Open, Update}
 use Rattle.bgp_attr.specs.AttributeFaults.{code_of, subcode_of, data_of}
 use Rattle.bgp_msg.specs.MessageSpelling.{kind_at, is_lawful_length, told_length, has_marker, Part, four_octet_as_capability, parameters_at, capabilities_at, asn_at}
 use Rattle.bgp_msg.specs.declared.open_message.Expected.{Expected}
+use Rattle.bgp_msg.specs.MessageLimits.{max_message}
 
 -- the first fault whose test holds
 abbrev pub first_fault : {F : Type 0} → List (Bool × F) → Option F
@@ -33,7 +34,7 @@ unfoldable pub header_fault : List ℕ → Option HeaderFault
 header_fault octets =
     first_fault
     ((not (has_marker octets), ConnectionNotSynchronized)
-    ∷ (nat_lt (told_length octets) 19 || nat_lt 4096 (told_length octets), BadMessageLength (told_length octets))
+    ∷ (nat_lt (told_length octets) 19 || nat_lt max_message (told_length octets), BadMessageLength (told_length octets))
     ∷ (is_unknown (kind_at (slice_index octets 18)), BadMessageType (slice_index octets 18))
     ∷ (is_unlawful (kind_at (slice_index octets 18)) (told_length octets), BadMessageLength (told_length octets))
     ∷ [])

@@ -10,6 +10,7 @@ use Rattle.bgp_msg.specs.declared.frame.Step.{Step}
 use Rattle.bgp_msg.specs.declared.frame.Step.TheVariants.{Need, Message, Faulty}
 use Rattle.bgp_msg.specs.MessageSpelling.{kind_at, told_length, message_of}
 use Rattle.bgp_msg.specs.MessageFaults.{header_fault}
+use Rattle.bgp_msg.specs.MessageLimits.{max_message}
 
 -- what a stream holds: whole messages, each its type and the octets behind its header, and at the end perhaps a header that begins none
 pub data Item : Type 0 where
@@ -110,7 +111,7 @@ Wants octets = (length octets < 19) ⊎ ((19 ≤ length octets) × (header_fault
 abbrev pub Tells : List ℕ → Step → Type 0
 Tells octets Need = Wants octets
 Tells octets (Message frame used) =
-    (19 ≤ used) × (used ≤ 4096) × (used ≤ length octets)
+    (19 ≤ used) × (used ≤ max_message) × (used ≤ length octets)
     × (used ≡ 19 + length frame.body.now) × (frame.body.now ≡ slice_range octets 19 used)
     × (used ≡ told_length octets) × (kind_at (slice_index octets 18) ≡ Some frame.kind) × (header_fault octets ≡ None)
 Tells octets (Faulty fault) = (19 ≤ length octets) × (header_fault octets ≡ Some fault)

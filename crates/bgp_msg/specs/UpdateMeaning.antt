@@ -9,6 +9,7 @@ use Rattle.bgp_attr.specs.AttributeSpelling.{SpellsAttributes}
 use Rattle.bgp_attr.specs.declared.attribute_type.AttributeType.{AttributeType}
 use Rattle.bgp_attr.specs.declared.peer.PeerKind.{PeerKind}
 use Rattle.bgp_msg.specs.MessageSpelling.{ArePrefixes, front_prefixes, are_prefixes_in, update_parts, update_body, wire_form}
+use Rattle.bgp_msg.specs.MessageLimits.{max_message}
 
 -- what an UPDATE says: the prefixes that it withdraws, its attributes, and the prefixes that it announces
 pub record UpdateBody : Type 0 where
@@ -93,6 +94,6 @@ written_body withdrawn attributes announced = update_body (wire_form withdrawn) 
 pub record CanBeWritten (kind : PeerKind) (withdrawn : List Prefix) (attributes : List ℕ) (announced : List Prefix) : Type 0 where
   pub withdrawn_are : All (λ prefix. prefix.bits < 2 ^ 32) withdrawn
   pub announced_are : All (λ prefix. prefix.bits < 2 ^ 32) announced
-  pub fits : 23 + length (wire_form withdrawn) + length attributes + length (wire_form announced) ≤ 4096
+  pub fits : 23 + length (wire_form withdrawn) + length attributes + length (wire_form announced) ≤ max_message
   pub faultless : attributes_fault kind attributes ≡ None
   pub complete : (announced ≡ []) ⊎ (missing_of (attributes_in attributes) ≡ None)

@@ -1,7 +1,9 @@
 //! What is wrong with a message, and what a NOTIFICATION says of it (RFC 4271 section 6).
 ghost use Rattle.std.specs.Prelude.{◌≡◌, ◌≤◌, take};
 ghost use Rattle.bgp_msg.specs.MessageFaults.{header_subcode, header_data, open_subcode, open_data, fault_code, fault_subcode, fault_data};
+ghost use Rattle.bgp_msg.specs.MessageLimits.{max_message};
 
+use crate::frame::MAX_MESSAGE;
 use crate::open_message::four_octet_as;
 use crate::writing::append;
 use arrayvec::ArrayVec;
@@ -161,7 +163,7 @@ impl Fault<'_> {
 
     /// Writes the data that a NOTIFICATION carries: of a longer attribute than any message holds, as much as one has
     /// room for.
-    pub fn write_data(&self, out: &mut ArrayVec<u8, 4096>)
+    pub fn write_data(&self, out: &mut ArrayVec<u8, MAX_MESSAGE>)
         ensures { out.new.items ≡ take 4075 (fault_data self.now) }
     {
         match self {
@@ -173,8 +175,8 @@ impl Fault<'_> {
 }
 
 // Writes the octets anew, so many of them at most.
-fn write_front(octets: &[u8], most: usize, out: &mut ArrayVec<u8, 4096>)
-    requires { most ≤ 4096 }
+fn write_front(octets: &[u8], most: usize, out: &mut ArrayVec<u8, MAX_MESSAGE>)
+    requires { most ≤ max_message }
     ensures { out.new.items ≡ take most octets.now }
 {
     out.clear();

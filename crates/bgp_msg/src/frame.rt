@@ -3,6 +3,7 @@ ghost use Rattle.std.specs.Prelude.{◌≡◌, ◌≤◌, ◌<◌, ◌+◌, ◌�
 ghost use Rattle.bgp_msg.specs.MessageSpelling.{kind_at, kind_octet, is_lawful_length, told_length, has_marker};
 ghost use Rattle.bgp_msg.specs.MessageFaults.{header_fault};
 ghost use Rattle.bgp_msg.specs.MessageStream.{Tells, Wants, IsSpelled, IsFront, needed_of};
+ghost use Rattle.bgp_msg.specs.MessageLimits.{max_message};
 
 use crate::fault::HeaderFault;
 use byteorder::{BigEndian, ByteOrder};
@@ -103,7 +104,7 @@ pub fn read(octets: &[u8]) -> Step<'_>
 pub fn needed(octets: &[u8]) -> usize
     ensures value { result ≡ needed_of octets.now }
     ensures wants { (1 ≤ result) ↔ Wants octets.now }
-    ensures fits { 1 ≤ result → length octets.now + result ≤ 4096 }
+    ensures fits { 1 ≤ result → length octets.now + result ≤ max_message }
 {
     if octets.len() < HEADER_OCTETS {
         return HEADER_OCTETS - octets.len();
@@ -144,7 +145,7 @@ fn read_header(octets: &[u8]) -> Result<Header, HeaderFault>
     requires { 19 ≤ length octets.now }
     ensures fault { MatchResult result (λ _. header_fault octets.now ≡ None) (λ fault. header_fault octets.now ≡ Some fault) }
     ensures kind { MatchResult result (λ header. kind_at (slice_index octets.now 18) ≡ Some header.kind) (λ _. Unit {0}) }
-    ensures length { MatchResult result (λ header. (header.length ≡ told_length octets.now) × (19 ≤ header.length) × (header.length ≤ 4096)) (λ _. Unit {0}) }
+    ensures length { MatchResult result (λ header. (header.length ≡ told_length octets.now) × (19 ≤ header.length) × (header.length ≤ max_message)) (λ _. Unit {0}) }
 {
     if !begins_with_marker(octets) {
         return Err(HeaderFault::ConnectionNotSynchronized);

@@ -7,6 +7,7 @@ ghost use Rattle.bgp_msg.specs.declared.open_message.Expected.{Expected};
 ghost use Rattle.bgp_msg.specs.MessageSpelling.{message_of, is_lawful_length, header_of, open_of, open_body, asn_at, update_of, update_body, update_parts};
 ghost use Rattle.bgp_msg.specs.MessageFaults.{hold_time_at, identifier_at, open_fault};
 ghost use Rattle.bgp_msg.specs.MessageStream.{Item, IsMessage, Splits, messages, unread, messages_of_pieces, unread_of_pieces, completed, left_over, with_front, IsReadFirst};
+ghost use Rattle.bgp_msg.specs.MessageLimits.{max_message};
 
 /// A stream is its messages one after another and then what is unread, and it is so in no other way.
 pub fn only_messages()
@@ -38,12 +39,12 @@ pub fn no_message_begins_another()
 /// A message has one spelling: its header and its body.
 pub fn one_spelling()
     ensures spelled { (octets body : List ℕ) (kind : MessageType) → All (λ octet. octet < 256) octets → IsMessage octets kind body → octets ≡ message_of kind body }
-    ensures read { (body : List ℕ) (kind : MessageType) → is_lawful_length kind (19 + length body) ≡ true → 19 + length body ≤ 4096 → IsMessage (message_of kind body) kind body }
+    ensures read { (body : List ℕ) (kind : MessageType) → is_lawful_length kind (19 + length body) ≡ true → 19 + length body ≤ max_message → IsMessage (message_of kind body) kind body }
 {}
 
 /// A message that is written is read again, whatever follows it.
 pub fn written_is_read()
-    ensures { (body : List ℕ) (kind : MessageType) → is_lawful_length kind (19 + length body) ≡ true → 19 + length body ≤ 4096 → IsReadFirst (message_of kind body) kind body }
+    ensures { (body : List ℕ) (kind : MessageType) → is_lawful_length kind (19 + length body) ≡ true → 19 + length body ≤ max_message → IsReadFirst (message_of kind body) kind body }
 {}
 
 /// So is a KEEPALIVE.
@@ -62,6 +63,6 @@ pub fn open_is_read()
 
 /// So is an UPDATE. Its body has the parts that were written.
 pub fn update_is_read()
-    ensures message { (withdrawn attributes announced : List ℕ) → 23 + length withdrawn + length attributes + length announced ≤ 4096 → IsReadFirst (update_of withdrawn attributes announced) Update (update_body withdrawn attributes announced) }
-    ensures parts { (withdrawn attributes announced : List ℕ) → 23 + length withdrawn + length attributes + length announced ≤ 4096 → update_parts (update_body withdrawn attributes announced) ≡ Some (withdrawn, attributes, announced) }
+    ensures message { (withdrawn attributes announced : List ℕ) → 23 + length withdrawn + length attributes + length announced ≤ max_message → IsReadFirst (update_of withdrawn attributes announced) Update (update_body withdrawn attributes announced) }
+    ensures parts { (withdrawn attributes announced : List ℕ) → 23 + length withdrawn + length attributes + length announced ≤ max_message → update_parts (update_body withdrawn attributes announced) ≡ Some (withdrawn, attributes, announced) }
 {}

@@ -2,8 +2,9 @@
 ghost use Rattle.std.specs.Prelude.{◌≡◌, ◌≤◌, ◌<◌, ◌+◌, ◌*◌, ◌^◌, ◌++◌, [], length};
 ghost use Rattle.std.specs.Int.{w16, w32, to_be_bytes};
 ghost use Rattle.bgp_msg.specs.MessageSpelling.{header_of, open_of, two_octet_as_of, wire_form, update_of};
+ghost use Rattle.bgp_msg.specs.MessageLimits.{max_message};
 
-use crate::frame::MessageType;
+use crate::frame::{MAX_MESSAGE, MessageType};
 use crate::open_message::{BGP_VERSION, CAPABILITIES, Open, four_octet_as};
 use arrayvec::ArrayVec;
 use byteorder::{BigEndian, ByteOrder};
@@ -16,7 +17,7 @@ const MARKER: [u8; 16] = [255; 16];
 
 /// Writes an OPEN with one optional parameter, the capability of AS numbers of four octets.
 #[tactic(auto, unfolding(crate::specs::MessageSpelling::open_of))]
-pub fn write_open(message: &Open, out: &mut ArrayVec<u8, 4096>)
+pub fn write_open(message: &Open, out: &mut ArrayVec<u8, MAX_MESSAGE>)
     ensures octets { out.new.items ≡ open_of message.now.asn.0 message.now.hold_time message.now.identifier }
     ensures len { length out.new.items ≡ 37 }
 {
@@ -30,7 +31,7 @@ pub fn write_open(message: &Open, out: &mut ArrayVec<u8, 4096>)
 }
 
 /// Writes a KEEPALIVE.
-pub fn write_keepalive(out: &mut ArrayVec<u8, 4096>)
+pub fn write_keepalive(out: &mut ArrayVec<u8, MAX_MESSAGE>)
     ensures octets { out.new.items ≡ header_of MessageType.Keepalive 19 }
     ensures len { length out.new.items ≡ 19 }
 {
@@ -39,12 +40,12 @@ pub fn write_keepalive(out: &mut ArrayVec<u8, 4096>)
 
 /// Writes an UPDATE that withdraws these prefixes.
 #[tactic(auto, unfolding(crate::specs::MessageSpelling::update_of))]
-pub fn write_withdrawal(prefixes: &[Prefix], out: &mut ArrayVec<u8, 4096>)
-    requires { 23 + length (wire_form prefixes.now) ≤ 4096 }
+pub fn write_withdrawal(prefixes: &[Prefix], out: &mut ArrayVec<u8, MAX_MESSAGE>)
+    requires { 23 + length (wire_form prefixes.now) ≤ max_message }
     ensures octets { out.new.items ≡ update_of (wire_form prefixes.now) [] [] }
     ensures len { length out.new.items ≡ 23 + length (wire_form prefixes.now) }
     ensures least { 23 ≤ length out.new.items }
-    ensures most { length out.new.items ≤ 4096 }
+    ensures most { length out.new.items ≤ max_message }
 {
     let withdrawn = wire_length(prefixes);
     begin(MessageType::Update, 23 + withdrawn, out);
@@ -55,12 +56,12 @@ pub fn write_withdrawal(prefixes: &[Prefix], out: &mut ArrayVec<u8, 4096>)
 
 /// Writes an UPDATE that announces these prefixes with these octets of path attributes.
 #[tactic(auto, unfolding(crate::specs::MessageSpelling::update_of))]
-pub fn write_announcement(attrs: &[u8], prefixes: &[Prefix], out: &mut ArrayVec<u8, 4096>)
-    requires { 23 + length attrs.now + length (wire_form prefixes.now) ≤ 4096 }
+pub fn write_announcement(attrs: &[u8], prefixes: &[Prefix], out: &mut ArrayVec<u8, MAX_MESSAGE>)
+    requires { 23 + length attrs.now + length (wire_form prefixes.now) ≤ max_message }
     ensures octets { out.new.items ≡ update_of [] attrs.now (wire_form prefixes.now) }
     ensures len { length out.new.items ≡ 23 + length attrs.now + length (wire_form prefixes.now) }
     ensures least { 23 ≤ length out.new.items }
-    ensures most { length out.new.items ≤ 4096 }
+    ensures most { length out.new.items ≤ max_message }
 {
     let attributes = attrs.len() as u16;
     begin(
@@ -83,7 +84,7 @@ fn two_octet_as(asn: Asn) -> u16
 
 // Begins a message anew by its header.
 #[tactic(auto, unfolding(crate::specs::MessageSpelling::header_of, crate::specs::MessageSpelling::marker))]
-fn begin(kind: MessageType, told: u16, out: &mut ArrayVec<u8, 4096>)
+fn begin(kind: MessageType, told: u16, out: &mut ArrayVec<u8, MAX_MESSAGE>)
     ensures octets { out.new.items ≡ header_of kind told }
     ensures len { length out.new.items ≡ 19 }
 {
@@ -94,16 +95,16 @@ fn begin(kind: MessageType, told: u16, out: &mut ArrayVec<u8, 4096>)
 }
 
 // Writes these octets behind what is written.
-pub(crate) fn append(octets: &[u8], out: &mut ArrayVec<u8, 4096>)
-    requires { length out.old.items + length octets.now ≤ 4096 }
+pub(crate) fn append(octets: &[u8], out: &mut ArrayVec<u8, MAX_MESSAGE>)
+    requires { length out.old.items + length octets.now ≤ max_message }
     ensures octets { out.new.items ≡ out.old.items ++ octets.now }
     ensures len { length out.new.items ≡ length out.old.items + length octets.now }
 {
     let _fits = out.try_extend_from_slice(octets);
 }
 
-fn append_u16(number: u16, out: &mut ArrayVec<u8, 4096>)
-    requires { length out.old.items + 2 ≤ 4096 }
+fn append_u16(number: u16, out: &mut ArrayVec<u8, MAX_MESSAGE>)
+    requires { length out.old.items + 2 ≤ max_message }
     ensures octets { out.new.items ≡ out.old.items ++ to_be_bytes w16 number }
     ensures len { length out.new.items ≡ length out.old.items + 2 }
 {
@@ -112,8 +113,8 @@ fn append_u16(number: u16, out: &mut ArrayVec<u8, 4096>)
     append(&octets, out);
 }
 
-fn append_u32(number: u32, out: &mut ArrayVec<u8, 4096>)
-    requires { length out.old.items + 4 ≤ 4096 }
+fn append_u32(number: u32, out: &mut ArrayVec<u8, MAX_MESSAGE>)
+    requires { length out.old.items + 4 ≤ max_message }
     ensures octets { out.new.items ≡ out.old.items ++ to_be_bytes w32 number }
     ensures len { length out.new.items ≡ length out.old.items + 4 }
 {
@@ -122,8 +123,8 @@ fn append_u32(number: u32, out: &mut ArrayVec<u8, 4096>)
     append(&octets, out);
 }
 
-fn append_prefixes(prefixes: &[Prefix], out: &mut ArrayVec<u8, 4096>)
-    requires { length out.old.items + length (wire_form prefixes.now) ≤ 4096 }
+fn append_prefixes(prefixes: &[Prefix], out: &mut ArrayVec<u8, MAX_MESSAGE>)
+    requires { length out.old.items + length (wire_form prefixes.now) ≤ max_message }
     ensures octets { out.new.items ≡ out.old.items ++ wire_form prefixes.now }
     ensures len { length out.new.items ≡ length out.old.items + length (wire_form prefixes.now) }
 {
@@ -134,7 +135,7 @@ fn append_prefixes(prefixes: &[Prefix], out: &mut ArrayVec<u8, 4096>)
 
 // How many octets the prefixes take in their wire form.
 fn wire_length(prefixes: &[Prefix]) -> u16
-    requires { length (wire_form prefixes.now) ≤ 4096 }
+    requires { length (wire_form prefixes.now) ≤ max_message }
     ensures { result ≡ length (wire_form prefixes.now) }
 {
     let mut total = 0;

@@ -8,6 +8,7 @@ use Rattle.bgp_fsm.specs.Transports.{transport_of}
 use Rattle.bgp_peer.specs.Slot.{Slot}
 use Rattle.bgp_peer.specs.SessionInputs.{Event, Configured, Signalled, Octet, Queued, Handed, stream, session}
 use Rattle.bgp_peer.specs.SentMessages.{given, sent, ring_of}
+use Rattle.bgp_peer.specs.PeerLimits.{ring_octets, room_for_update}
 
 -- the octets are one UPDATE, from the first to the last
 abbrev pub IsUpdateMessage : List ℕ → Type 0
@@ -15,7 +16,7 @@ IsUpdateMessage octets = (body : List ℕ) × IsMessage octets Update body
 
 -- an UPDATE is queued only while the session is Established, whole, and where 8,192 octets are free
 abbrev pub MayQueue : List Event → List ℕ → Type 0
-MayQueue h update = ((session h).state ≡ Established) × IsUpdateMessage update × (length (ring_of h) + 8192 ≤ 65536)
+MayQueue h update = ((session h).state ≡ Established) × IsUpdateMessage update × (length (ring_of h) + room_for_update ≤ ring_octets)
 
 -- so was each UPDATE since the last configuration
 abbrev pub Lawful : List Event → Type 0

@@ -11,6 +11,7 @@ use Rattle.bgp_peer.specs.Slot.{Slot, said}
 use Rattle.bgp_peer.specs.SessionInputs.{Event, Octet, Queued, stream, item_at, session, onto}
 use Rattle.bgp_peer.specs.SentMessages.{sent}
 use Rattle.bgp_peer.specs.Agreement.{IsUpdateMessage, PeerAgrees}
+use Rattle.bgp_msg.specs.MessageLimits.{max_message}
 
 -- an octet is the message that it adds to the stream
 abbrev pub OctetsAreMessages : Type 0
@@ -45,7 +46,7 @@ SentAreMessages = (h : List Event) (p : Slot) → PeerAgrees h p → AreMessages
 
 -- a written UPDATE of at most 4,096 octets is one message
 abbrev pub WrittenIsUpdate : Type 0
-WrittenIsUpdate = (withdrawn attributes announced : List ℕ) → 23 + length withdrawn + length attributes + length announced ≤ 4096 → IsUpdateMessage (update_of withdrawn attributes announced)
+WrittenIsUpdate = (withdrawn attributes announced : List ℕ) → 23 + length withdrawn + length attributes + length announced ≤ max_message → IsUpdateMessage (update_of withdrawn attributes announced)
 
 -- an UPDATE that is queued is read behind what was queued before
 abbrev pub QueuedIsReadLast : Type 0

@@ -1,3 +1,4 @@
+pub mod PeerLimits
 pub mod Slot
 pub mod SessionInputs
 pub mod SentMessages

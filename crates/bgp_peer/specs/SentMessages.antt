@@ -5,6 +5,7 @@ use Rattle.bgp_fsm.specs.declared.session.Session.{Session}
 use Rattle.bgp_fsm.specs.SessionTable.{effects_of}
 use Rattle.bgp_peer.specs.Slot.{kept, said}
 use Rattle.bgp_peer.specs.SessionInputs.{Event, Configured, Signalled, Octet, Queued, Handed, session, after, inputs_of}
+use Rattle.bgp_peer.specs.PeerLimits.{ring_octets}
 
 -- what was handed out on the present connection, after a history with the newest first
 abbrev pub given : List Event → List ℕ
@@ -40,4 +41,4 @@ ring_of h = drop (length (given h)) (sent h)
 
 -- how many octets may still be queued
 abbrev pub free : List Event → ℕ
-free h = 65536 - length (ring_of h)
+free h = ring_octets - length (ring_of h)

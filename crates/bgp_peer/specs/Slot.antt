@@ -15,6 +15,7 @@ use Rattle.bgp_fsm.specs.declared.session.Session.{Session}
 use Rattle.bgp_fsm.specs.declared.session.Outgoing.{Outgoing}
 use Rattle.bgp_fsm.specs.declared.session.Outgoing.TheVariants.{Open, Keepalive}
 use Rattle.bgp_fsm.specs.SessionTable.{fresh, session_after, effects_of}
+use Rattle.bgp_peer.specs.PeerLimits.{ring_octets, room_for_update}
 
 -- the session, what has come of the message that is being received, and what is queued and not yet taken
 pub record Slot : Type 0 where
@@ -24,8 +25,8 @@ pub record Slot : Type 0 where
 
 -- the rest doesn't go beyond the message or the faulty header at its front, and the ring holds 65,536 octets
 pub record IsInOrder (rest ring : List ℕ) (capacity : ℕ) : Type 0 where
-  pub capacity_is : capacity ≡ 65536
-  pub fits : length ring ≤ 65536
+  pub capacity_is : capacity ≡ ring_octets
+  pub fits : length ring ≤ ring_octets
   pub one_message : 19 ≤ length rest → header_fault rest ≡ None → length rest ≤ told_length rest
   pub header_alone : (fault : HeaderFault) → 19 ≤ length rest → header_fault rest ≡ Some fault → length rest ≡ 19
 
@@ -53,7 +54,7 @@ octets_of (Some Keepalive) = header_of KeepaliveMessage 19
 
 -- what a row adds to this ring: its message, where 8,192 octets are free
 abbrev pub said : Option Outgoing → List ℕ → List ℕ
-said message ring = if nat_le (length ring + 8192) 65536 then octets_of message else []
+said message ring = if nat_le (length ring + room_for_update) ring_octets then octets_of message else []
 
 -- a slot whose peer is configured and not enabled
 abbrev pub configured : OpenMessage → Mode → Slot

@@ -10,11 +10,13 @@ ghost use Rattle.bgp_msg.specs.MessageStream.{Item, Tells, Wants, meaning, neede
 ghost use Rattle.bgp_peer.specs.Agreement.{PeerAgrees, IsHearing, IsUpdateMessage};
 ghost use Rattle.bgp_peer.specs.SessionInputs.{Event, Configured, Signalled, Queued, Handed, terms_of, input_of, onto};
 ghost use Rattle.bgp_peer.specs.Slot.{Slot, configured, pushed, kept, rest_after, taken_input, said, queued, handed, IsWholeRest, HoldsOnly, item_of_step};
+ghost use Rattle.bgp_peer.specs.PeerLimits.{ring_octets, room_for_update};
+ghost use Rattle.bgp_msg.specs.MessageLimits.{max_message};
 
 use arrayvec::ArrayVec;
 use bgp_attr::Mode;
 use bgp_fsm::{Effects, Input, Outgoing, Session, State};
-use bgp_msg::{Open, Step, needed, read, write_keepalive, write_open};
+use bgp_msg::{MAX_MESSAGE, Open, Step, needed, read, write_keepalive, write_open};
 use circular_buffer::HeapCircularBuffer;
 use net_prefix::Transport;
 use std::alloc::{AllocError, Allocator, Global};
@@ -32,7 +34,7 @@ pub const ROOM_FOR_UPDATE: usize = 8_192;
 pub struct Peer<A: Allocator = Global> {
     session: Session,
     // What has come of the message that is being received.
-    rest: ArrayVec<u8, 4096>,
+    rest: ArrayVec<u8, MAX_MESSAGE>,
     // What is queued and not yet taken.
     ring: HeapCircularBuffer<u8, A>,
 }
@@ -84,7 +86,7 @@ impl<A: Allocator> Peer<A> {
 
     /// How many octets may still be queued.
     pub fn free(&self) -> usize
-        ensures { result + length self.now.ring ≡ 65536 }
+        ensures { result + length self.now.ring ≡ ring_octets }
     {
         RING_OCTETS - self.ring.len()
     }
@@ -95,7 +97,7 @@ impl<A: Allocator> Peer<A> {
         ensures count { result ≡ min (needed_of self.old.rest) (length octets.now) }
         ensures exact { self.new ≡ pushed self.old (take result octets.now) }
         ensures goes_on { Wants self.old.rest → 0 < length octets.now → 0 < result }
-        ensures short { length self.new.rest ≤ 4096 }
+        ensures short { length self.new.rest ≤ max_message }
         ensures agrees { (h : List Event) → PeerAgrees h self.old → transport_of self.old.session ≡ Connected → meaning self.new.rest ≡ None → PeerAgrees (onto (take result octets.now) h) self.new }
         ensures hears { (h : List Event) (item : Item) → PeerAgrees h self.old → transport_of self.old.session ≡ Connected → meaning self.new.rest ≡ Some item → IsHearing (onto (take result octets.now) h) item self.new }
     {
@@ -131,10 +133,10 @@ impl<A: Allocator> Peer<A> {
 
     /// Queues a message that fits.
     pub fn queue(&mut self, message: &[u8])
-        requires { length self.old.ring + length message.now ≤ 65536 }
+        requires { length self.old.ring + length message.now ≤ ring_octets }
         ensures exact { self.new ≡ queued self.old message.now }
         ensures agrees { (h : List Event) → PeerAgrees h self.old → self.old.session.state ≡ State.Established → IsUpdateMessage message.now
-            → length self.old.ring + 8192 ≤ 65536 → PeerAgrees (Queued message.now ∷ h) self.new }
+            → length self.old.ring + room_for_update ≤ ring_octets → PeerAgrees (Queued message.now ∷ h) self.new }
     {
         self.ring.fill_from_slice(message);
     }
@@ -188,16 +190,16 @@ impl<A: Allocator> Peer<A> {
 
 // How many of so many octets belong to the message at the front.
 fn wanted(rest: &[u8], available: usize) -> usize
-    requires { length rest.now ≤ 4096 }
+    requires { length rest.now ≤ max_message }
     ensures count { result ≡ min (needed_of rest.now) available }
     ensures within { result ≤ available }
-    ensures fits { length rest.now + result ≤ 4096 }
+    ensures fits { length rest.now + result ≤ max_message }
 {
     min(needed(rest), available)
 }
 
-fn append(octets: &[u8], rest: &mut ArrayVec<u8, 4096>)
-    requires { length rest.old.items + length octets.now ≤ 4096 }
+fn append(octets: &[u8], rest: &mut ArrayVec<u8, MAX_MESSAGE>)
+    requires { length rest.old.items + length octets.now ≤ max_message }
     ensures { rest.new.items ≡ rest.old.items ++ octets.now }
 {
     let _fits = rest.try_extend_from_slice(octets);

@@ -12,9 +12,13 @@ unfoldable pub exported_of : PathAttributes → ExportPeer → PathAttributes
 exported_of attrs peer =
     record { origin = attrs.origin; as_path = option_map (λ path. prepended path peer.own 1) attrs.as_path; next_hop = Some peer.local }
 
+-- the octets of attributes that a message of one prefix holds (RFC 4271 section 4.3)
+abbrev pub most_attributes : ℕ
+most_attributes = 4068
+
 -- octets of attributes, where a message of one prefix holds them
 abbrev pub fitting : List ℕ → Option (List ℕ)
-fitting octets = if nat_le (length octets) 4068 then Some octets else None
+fitting octets = if nat_le (length octets) most_attributes then Some octets else None
 
 -- the octets that the peer is sent as the attributes of the route: none where it came from this peer
 abbrev pub export_at : Candidate → PathAttributes → ExportPeer → Option (List ℕ)

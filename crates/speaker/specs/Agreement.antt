@@ -26,6 +26,7 @@ use Rattle.speaker.specs.Runs.{Call, Run, turn, Bytes_call, configuration_of, hi
 use Rattle.speaker.specs.SpeakerState.{SpeakerState}
 use Rattle.speaker.specs.Tables.{Tables, link_at}
 use Rattle.speaker.specs.declared.config.Config.{Config}
+use Rattle.bgp_peer.specs.PeerLimits.{ring_octets, room_for_update}
 
 -- what the selection reads after a run: the configuration, the session of each configured slot, the latest routes
 abbrev pub tables_after : Config → Run → Tables
@@ -57,7 +58,7 @@ pub record SlotAgrees (config : Config) (found : Option ConfiguredPeer) (linked 
 abbrev pub IsSettled : Config → Run → Type 0
 IsSettled config r =
     (s : ℕ) (peer : ConfiguredPeer) → peer_at (configuration_of config r) s ≡ Some peer
-    → (session (history config s r)).state ≡ Established → length (ring_of (history config s r)) + 8192 ≤ 65536
+    → (session (history config s r)).state ≡ Established → length (ring_of (history config s r)) + room_for_update ≤ ring_octets
     → (prefix : Prefix) → IsExport (tables_after config r) (export_peer_of (configuration_of config r) s peer) prefix (held (history config s r) prefix)
 
 -- the UPDATE names the prefix: what it tells of it doesn't depend on what was told before

@@ -6,6 +6,7 @@ use Rattle.bgp_peer.specs.Slot.{queued}
 use Rattle.net_prefix.specs.declared.prefix.Prefix.{Prefix}
 use Rattle.rib_out.specs.Held.{held_at, is_prefix}
 use Rattle.speaker.specs.Linked.{Linked}
+use Rattle.bgp_peer.specs.PeerLimits.{ring_octets, room_for_update}
 
 -- the place of a prefix among all prefixes, by address and then by length
 abbrev pub rank_of : Prefix → ℕ
@@ -28,4 +29,4 @@ Queue = List (ℕ × List ℕ)
 
 -- where 8,192 octets are free, an Established peer holds its export
 abbrev pub IsServed : (Prefix → Option (List ℕ)) → Linked → Type 0
-IsServed export l = l.peer.session.state ≡ Established → length l.peer.ring + 8192 ≤ 65536 → (prefix : Prefix) → held_at l.adj_out prefix ≡ export prefix
+IsServed export l = l.peer.session.state ≡ Established → length l.peer.ring + room_for_update ≤ ring_octets → (prefix : Prefix) → held_at l.adj_out prefix ≡ export prefix

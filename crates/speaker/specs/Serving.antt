@@ -15,6 +15,7 @@ use Rattle.speaker.specs.Moves.{IsPut}
 use Rattle.speaker.specs.Queueing.{IsTold, IsServed}
 use Rattle.speaker.specs.SpeakerState.{SpeakerState}
 use Rattle.speaker.specs.Tables.{link_at}
+use Rattle.bgp_peer.specs.PeerLimits.{ring_octets, room_for_update}
 
 -- where 8,192 octets are free, the peer of this slot holds its export, if its session is Established
 abbrev pub IsServedAt : SpeakerState → ℕ → Type 0
@@ -26,7 +27,7 @@ IsUpAt s slot = (l : Linked) × (link_at s.links slot ≡ Some l) × (l.peer.ses
 
 -- 8,192 octets of the ring are free, as many as an UPDATE asks for
 abbrev pub HasRoom : Linked → Type 0
-HasRoom l = length l.peer.ring + 8192 ≤ 65536
+HasRoom l = length l.peer.ring + room_for_update ≤ ring_octets
 
 -- so are they of this slot's ring
 abbrev pub HasRoomAt : SpeakerState → ℕ → Type 0

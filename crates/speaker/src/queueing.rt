@@ -4,7 +4,7 @@ ghost use Rattle.std.specs.Bool.{OnTrue};
 ghost use Rattle.std.specs.Option.{option_map};
 ghost use Rattle.bgp_conf.specs.Configuration.{peer_at};
 ghost use Rattle.bgp_fsm.specs.declared.state.State.TheVariants.{Established};
-ghost use Rattle.export_rules.specs.Export.{Tells};
+ghost use Rattle.export_rules.specs.Export.{Tells, most_attributes};
 ghost use Rattle.rib_out.specs.Held.{held_at};
 ghost use Rattle.speaker.specs.Agreement.{QueuesOn};
 ghost use Rattle.speaker.specs.Export.{export_in, export_peer_of, export_to};
@@ -37,7 +37,7 @@ pub fn export<A: Allocator + Clone>(
     octets: &mut Octets,
 ) -> bool
     ensures tells { Tells result octets.new.items (export_in (best_at ribs.now.loc_rib.entries) ribs.now.adj_in peer.now prefix) }
-    ensures small { OnTrue result (length octets.new.items ≤ 4068) }
+    ensures small { OnTrue result (length octets.new.items ≤ most_attributes) }
 {
     octets.clear();
     let Some(route) = ribs.loc_rib.get(&prefix) else {
@@ -192,7 +192,7 @@ impl<A: Allocator + Clone> Speaker<A> {
     ) -> Result<(), AllocError>
         requires up { IsUpAt self.old slot }
         requires room { HasRoomAt self.old slot }
-        requires small { length octets.now.items ≤ 4068 }
+        requires small { length octets.now.items ≤ most_attributes }
         ensures told { OnOk result (IsToldAt slot prefix (Some octets.now.items) self.old self.new) }
         ensures err { OnErr result (IsStill self.old self.new) }
     {
@@ -230,7 +230,7 @@ fn announce<A: Allocator + Clone>(
 ) -> Result<(), AllocError>
     requires established { link.old.peer.session.state ≡ Established }
     requires room { HasRoom link.old }
-    requires small { length octets.now.items ≤ 4068 }
+    requires small { length octets.now.items ≤ most_attributes }
     ensures told { OnOk result (IsTold prefix (Some octets.now.items) link.old link.new) }
     ensures err { OnErr result (link.new ≡ link.old) }
 {

@@ -18,6 +18,7 @@ ghost use Rattle.speaker.specs.declared.config.Config.{Config};
 ghost use Rattle.speaker.specs.Tables.{link_at, session_at};
 ghost use Rattle.speaker.specs.Shown.{held_by, routes_of, shown_of, transport_at};
 ghost use Rattle.speaker.specs.Waiting.{IsWaitingIn, waiting_of};
+ghost use Rattle.bgp_peer.specs.PeerLimits.{ring_octets, room_for_update};
 
 use crate::step::Speaker;
 use crate::waiting::{Waiting, WaitingPrefixes};
@@ -263,7 +264,7 @@ impl<A: Allocator + Clone> Speaker<A> {
         ensures kept { result ≡ waiting_of self.now slot }
         ensures agrees { (config : Config) (r : Run) (prefix : ThePrefix) → Agrees config r self.now → Contains result prefix ↔ IsWaitingIn config r slot prefix }
         // Where 8,192 octets of the ring are free, nothing waits.
-        ensures settled { (config : Config) (r : Run) → Agrees config r self.now → length (ring_of (history config slot r)) + 8192 ≤ 65536 → result ≡ [] }
+        ensures settled { (config : Config) (r : Run) → Agrees config r self.now → length (ring_of (history config slot r)) + room_for_update ≤ ring_octets → result ≡ [] }
     {
         self.waiting_rows(slot)
     }
