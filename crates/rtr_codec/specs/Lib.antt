@@ -1,3 +1,4 @@
+pub mod PduLimits
 pub mod Intervals
 pub mod PduContents
 pub mod PduFaults

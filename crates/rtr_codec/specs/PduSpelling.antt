@@ -5,6 +5,7 @@ use Rattle.net_prefix.specs.declared.payload.Vrp.{Vrp}
 use Rattle.rtr_codec.specs.declared.intervals.Intervals.{Intervals}
 use Rattle.rtr_codec.specs.declared.pdu.Pdu.{Pdu}
 use Rattle.rtr_codec.specs.declared.pdu.Pdu.TheVariants.{SerialNotify, SerialQuery, ResetQuery, CacheResponse, Announcement, Withdrawal, Ipv6Prefix, EndOfData, CacheReset, RouterKey, ErrorReport}
+use Rattle.rtr_codec.specs.PduLimits.{max_pdu}
 
 -- what a PDU says
 pub data Content : Type 0 where
@@ -117,5 +118,5 @@ IsLawful (Ipv6_prefix body) = length body ≡ 24
 IsLawful (End_of_data session serial intervals) =
     (session < 2 ^ 16) × (serial < 2 ^ 32) × (intervals.refresh < 2 ^ 32) × (intervals.retry < 2 ^ 32) × (intervals.expire < 2 ^ 32)
 IsLawful Cache_reset = Unit {0}
-IsLawful (Router_key body) = (24 ≤ length body) × (8 + length body ≤ 4096)
-IsLawful (Error_report code quoted) = (code < 2 ^ 16) × (16 + length quoted ≤ 4096)
+IsLawful (Router_key body) = (24 ≤ length body) × (8 + length body ≤ max_pdu)
+IsLawful (Error_report code quoted) = (code < 2 ^ 16) × (16 + length quoted ≤ max_pdu)

@@ -10,6 +10,7 @@ use Rattle.rtr_codec.specs.declared.reading.Step.TheVariants.{Need, Whole, Fault
 use Rattle.rtr_codec.specs.PduFaults.{header_fault}
 use Rattle.rtr_codec.specs.PduSpelling.{Content, Serial_notify, Serial_query, Reset_query, Cache_response, Announce, Withdraw, Ipv6_prefix, End_of_data, Cache_reset, Router_key, Error_report, content_of}
 use Rattle.rtr_codec.specs.PduContents.{content_at, told_length}
+use Rattle.rtr_codec.specs.PduLimits.{max_pdu}
 
 -- what a stream holds: whole PDUs, each what it says and its octets, and at the end perhaps a fault: of the header, with its 8 octets, or of a whole IPv4 Prefix, with all of it
 pub data Item : Type 0 where
@@ -140,7 +141,7 @@ Wants place octets =
 abbrev pub Tells : Place → List ℕ → Step → Type 0
 Tells place octets Need = Wants place octets
 Tells place octets (Whole pdu used) =
-    (8 ≤ used) × (used ≤ 4096) × (used ≤ length octets) × (used ≡ told_length octets)
+    (8 ≤ used) × (used ≤ max_pdu) × (used ≤ length octets) × (used ≡ told_length octets)
     × (header_fault place octets ≡ None) × (content_at (take used octets) ≡ Some (content_of pdu))
 Tells place octets (Faulty fault quoted) = HasFault place octets fault quoted.now
 

@@ -2,6 +2,7 @@
 use Rattle.std.specs.Prelude.{◌&&◌, ◌==◌, ℕ, nat_le, if◌then◌else◌, Bool, Option, Some, None}
 use Rattle.rtr_codec.specs.declared.header.PduType.{PduType}
 use Rattle.rtr_codec.specs.declared.header.PduType.TheVariants.{SerialNotify, SerialQuery, ResetQuery, CacheResponse, Ipv4Prefix, Ipv6Prefix, EndOfData, CacheReset, RouterKey, ErrorReport}
+use Rattle.rtr_codec.specs.PduLimits.{max_pdu}
 
 -- the octet of a type
 abbrev pub octet_of : PduType → ℕ
@@ -54,5 +55,5 @@ is_lawful_length Ipv4Prefix told = told == 20
 is_lawful_length Ipv6Prefix told = told == 32
 is_lawful_length EndOfData told = told == 24
 is_lawful_length CacheReset told = told == 8
-is_lawful_length RouterKey told = nat_le 32 told && nat_le told 4096
-is_lawful_length ErrorReport told = nat_le 16 told && nat_le told 4096
+is_lawful_length RouterKey told = nat_le 32 told && nat_le told max_pdu
+is_lawful_length ErrorReport told = nat_le 16 told && nat_le told max_pdu

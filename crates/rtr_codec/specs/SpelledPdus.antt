@@ -7,6 +7,7 @@ use Rattle.rtr_codec.specs.declared.reading.Step.{Step}
 use Rattle.rtr_codec.specs.declared.reading.Step.TheVariants.{Need, Whole, Faulty}
 use Rattle.rtr_codec.specs.PduFaults.{is_client}
 use Rattle.rtr_codec.specs.PduSpelling.{Content, Serial_notify, Serial_query, Reset_query, Cache_response, Announce, Withdraw, Ipv6_prefix, End_of_data, Cache_reset, Router_key, Error_report, IsLawful, content_of, interval_octets, pdu_octets, prefix_octets, quoting_octets, versioned_octets}
+use Rattle.rtr_codec.specs.PduLimits.{max_pdu}
 
 -- numbers that are octets
 abbrev pub AreOctets : List ℕ → Type 0
@@ -43,7 +44,7 @@ Spells place octets Cache_reset = (free : ℕ) × (octets ≡ pdu_octets 8 free 
 Spells place octets (Router_key body) = (free : ℕ) × (octets ≡ pdu_octets 9 free body) × IsLawful (Router_key body)
 Spells place octets (Error_report code quoted) =
     (count : ℕ) × (text : List ℕ) × (octets ≡ pdu_octets 10 code (quoting_octets count quoted text)) × IsQuoted count quoted text
-    × (code < 2 ^ 16) × (count < 2 ^ 32) × (4 ≤ length (quoted ++ text)) × (12 + length (quoted ++ text) ≤ 4096)
+    × (code < 2 ^ 16) × (count < 2 ^ 32) × (4 ≤ length (quoted ++ text)) × (12 + length (quoted ++ text) ≤ max_pdu)
 
 -- the PDU that a reader answers is spelled by the octets that it used
 abbrev pub IsSpelled : Place → List ℕ → Step → Type 0

@@ -4,6 +4,7 @@ ghost use Rattle.std.specs.Bool.{OnTrue};
 ghost use Rattle.rtr_codec.specs.PduContents.{four_at, kind_at, told_length, two_at};
 ghost use Rattle.rtr_codec.specs.PduFaults.{header_fault, is_faulty_report, is_lenient, is_other_version, version_code};
 ghost use Rattle.rtr_codec.specs.PduTypes.{is_lawful_length, least_length, octet_of, type_of};
+ghost use Rattle.rtr_codec.specs.PduLimits.{max_pdu};
 
 use crate::fault::{ErrorCode, PduFault};
 use crate::place::{End, Place};
@@ -83,7 +84,7 @@ impl PduType {
     fn allows(self, length: usize) -> bool
         ensures value { result ≡ is_lawful_length self length }
         ensures least { OnTrue result (least_length self ≤ length) }
-        ensures most { OnTrue result (length ≤ 4096) }
+        ensures most { OnTrue result (length ≤ max_pdu) }
     {
         match self {
             PduType::SerialNotify | PduType::SerialQuery => length == 12,
@@ -105,7 +106,7 @@ pub(crate) fn read_header(octets: &[u8], place: Place) -> Result<Header, PduFaul
     ensures kind { MatchResult result (λ header. type_of (kind_at octets.now) ≡ Some header.kind) (λ _. Unit {0}) }
     ensures told { MatchResult result (λ header. header.length ≡ told_length octets.now) (λ _. Unit {0}) }
     ensures least { MatchResult result (λ header. least_length header.kind ≤ header.length) (λ _. Unit {0}) }
-    ensures most { MatchResult result (λ header. header.length ≤ 4096) (λ _. Unit {0}) }
+    ensures most { MatchResult result (λ header. header.length ≤ max_pdu) (λ _. Unit {0}) }
 {
     if reports_faultily(octets) {
         return Err(PduFault::Unanswered);

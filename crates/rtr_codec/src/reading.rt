@@ -6,6 +6,7 @@ ghost use Rattle.rtr_codec.specs.PduSpelling.{content_of};
 ghost use Rattle.rtr_codec.specs.PduStream.{IsFront, Tells, Wants, needed_of};
 ghost use Rattle.rtr_codec.specs.PduTypes.{least_length};
 ghost use Rattle.rtr_codec.specs.SpelledPdus.{IsSpelled};
+ghost use Rattle.rtr_codec.specs.PduLimits.{max_pdu};
 
 use crate::fault::PduFault;
 use crate::header::{HEADER_OCTETS, PduType, read_header, u16_at, u32_at};
@@ -40,7 +41,7 @@ pub fn read(octets: &[u8], place: Place) -> Step<'_>
 pub fn needed(octets: &[u8], place: Place) -> usize
     ensures value { result ≡ needed_of place octets.now }
     ensures wants { (1 ≤ result) ↔ Wants place octets.now }
-    ensures fits { 1 ≤ result → length octets.now + result ≤ 4096 }
+    ensures fits { 1 ≤ result → length octets.now + result ≤ max_pdu }
 {
     if octets.len() < HEADER_OCTETS {
         return HEADER_OCTETS - octets.len();

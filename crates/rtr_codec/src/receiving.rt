@@ -4,6 +4,7 @@ ghost use Rattle.rtr_codec.specs.PduSpelling.{content_of};
 ghost use Rattle.rtr_codec.specs.PduStream.{Tells, Wants, is_cache_response, meaning, needed_of};
 ghost use Rattle.rtr_codec.specs.Receiving.{Reception, UsesAll, beginning, emptied, item_shown, passed_by, received};
 
+use crate::header::MAX_PDU;
 use crate::pdu::Pdu;
 use crate::place::{End, Place};
 use crate::reading::{Step, needed, read};
@@ -14,7 +15,7 @@ use std::marker::Model;
 #[derive(Drop)]
 pub struct Receiver {
     place: Place,
-    part: ArrayVec<u8, 4096>,
+    part: ArrayVec<u8, MAX_PDU>,
 }
 
 impl Model for Receiver {
