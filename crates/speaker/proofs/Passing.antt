@@ -78,6 +78,7 @@ is_owed config r s slot p export peer l holds loc_rib configured here place expo
       peer = peer;
       configured = ap (λ c. peer_at c slot) (sym holds.conf) ∙ configured;
       is_update = saying_is_update p export short;
+      alone = (p, (export, refl));
       some = (p, saying_names p export place short);
       each = λ q names. subst P (named_is p export q place short names) this;
     }

@@ -21,7 +21,7 @@ use Rattle.speaker.specs.Export.{IsExport, export_peer_of}
 use Rattle.speaker.specs.Held.{held, told_from, told_in}
 use Rattle.speaker.specs.Linked.{Linked}
 use Rattle.speaker.specs.LocRib.{IsLocRib}
-use Rattle.speaker.specs.Queueing.{Queue}
+use Rattle.speaker.specs.Queueing.{Queue, update_saying}
 use Rattle.speaker.specs.Runs.{Call, Run, turn, Bytes_call, configuration_of, history, terms_in}
 use Rattle.speaker.specs.SpeakerState.{SpeakerState}
 use Rattle.speaker.specs.Tables.{Tables, link_at}
@@ -71,11 +71,12 @@ pub record IsNews (config : Config) (r : Run) (s : ℕ) (peer : ConfiguredPeer) 
   pub news : held (history config s r) prefix ≢ export
 
 -- as the run stands, the octets are an UPDATE that says of each prefix which it names what the export to the slot has
--- and its peer doesn't hold; it names one at least
+-- and its peer doesn't hold; it names one at least, and as yet no other
 pub record IsOwedIn (config : Config) (r : Run) (s : ℕ) (update : List ℕ) : Type 0 where
   pub peer : ConfiguredPeer
   pub configured : peer_at (configuration_of config r) s ≡ Some peer
   pub is_update : IsUpdateMessage update
+  pub alone : (prefix : Prefix) × ((export : Option (List ℕ)) × (update ≡ update_saying prefix export))
   pub some : (prefix : Prefix) × Names update prefix
   pub each : (prefix : Prefix) → Names update prefix → IsNews config r s peer prefix (told_in update prefix)
 
