@@ -75,6 +75,7 @@ pub record TurnsAway (old new : Turns) : Type 0 where
 pub record ComesUp (old new : Turns) : Type 0 where
   pub key : ℕ
   pub counts : new.counts ≡ counts_of_wire arriving old.counts
+  pub comes : IsNewClient old.cache key new.cache
   pub before : standing_at old key ≡ nobody
   pub now : standing_at new key ≡ newcomer old.counts.wire.arrivals
   pub others : OthersStand old key new

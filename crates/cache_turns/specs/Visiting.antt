@@ -1,6 +1,7 @@
 -- The steps of a visit.
-use Rattle.std.specs.Prelude.{◌≡◌, ◌++◌, ℕ, Bool, List, Some, None, true}
-use Rattle.rtr_cache.specs.CacheState.{CacheState, OthersStay, client_at}
+use Rattle.std.specs.Prelude.{◌≡◌, ◌<◌, ◌++◌, ℕ, Bool, List, Some, None, true}
+use Rattle.rtr_cache.specs.CacheLimits.{most_clients}
+use Rattle.rtr_cache.specs.CacheState.{CacheState, OthersStay, client_at, client_count}
 use Rattle.rtr_cache.specs.CacheTable.{Conn, fresh_conn, hears_octets, pumped}
 use Rattle.cache_turns.specs.Serving.{Connection, Finds, Hears, Serves, handed_out, handing_out}
 use Rattle.cache_turns.specs.declared.link.Visit.{Visit}
@@ -50,6 +51,8 @@ pub record IsVisited (old : CacheState) (key : ℕ) (link : Connection) (conn : 
 
 -- a client has come up under a key that no client had
 pub record IsNewClient (old : CacheState) (key : ℕ) (new : CacheState) : Type 0 where
+  pub few : client_count old < most_clients
+  pub small : key < most_clients
   pub before : client_at old key ≡ None
   pub now : client_at new key ≡ Some fresh_conn
   pub others : OthersStay old key new
