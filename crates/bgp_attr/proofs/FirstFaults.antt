@@ -1,4 +1,4 @@
-use Rattle.std.proofs.Common.{◌≡◌, ◌<◌, ◌||◌, ◌⊎◌, Bool, true, false, ℕ, List, [], ◌∷◌, ◌++◌, length, map, append-nil, Option, Some, None, inl, inr, arith, refl, sym, ap, subst, ◌∙◌}
+use Rattle.std.proofs.Common.{◌≡◌, ◌<◌, ◌||◌, ◌⊎◌, Bool, true, false, ℕ, List, [], ◌∷◌, ◌++◌, length, map, append-nil, Option, Some, None, inl, inr, arith, refl, sym, ap, ◌∙◌}
 use Rattle.std.specs.Prelude.{◌==◌}
 use Rattle.bgp_attr.specs.AttributeFaults.{AreFaultless, Fault, IsCutFault, IsFirstFault, attribute_fault, attribute_tests, attributes_fault, cut_fault, fault_among, first_fault, has_code, or_else, MalformedAttributeList}
 use Rattle.bgp_attr.specs.ReceivedAttributes.{Attribute, split_of}

@@ -1,14 +1,14 @@
-mod Appendings
-mod AttributeSpellings
+pub mod Appendings
+pub mod AttributeSpellings
 mod Faults
 mod FirstFaults
 mod Octets
 mod PathLemmas
 mod PathSpellings
 mod Paths
-mod PrependedPaths
-mod SoundValues
+pub mod PrependedPaths
+pub mod SoundValues
 mod SplitSpellings
 mod Splits
 mod Spreading
-mod WrittenSpellings
+pub mod WrittenSpellings

@@ -1,9 +1,11 @@
 use Rattle.std.proofs.Common.{◌≡◌, ◌+◌, Bool, true, false, cond, nat_lt, ℕ, zero, suc, List, [], ◌∷◌, ◌++◌, length, replicate, arith, refl, sym, ap, ◌∙◌}
 use Rattle.std.specs.List.{AllByRecursion}
-use Rattle.std.proofs.lemmas.Bool.{ltb-true}
+use Rattle.std.proofs.lemmas.Bool.{eq-eqb, ltb-true}
 use Rattle.net_prefix.specs.declared.asn.Asn.{Asn}
 use Rattle.bgp_attr.specs.AsPath.{PathSegment, ases_of, counted, joined, neighbor_as_of, new_segment, path_length_of, prepended, put_in_front}
 use Rattle.bgp_attr.specs.AttributeSpelling.{IsAs, IsSegment}
+use Rattle.bgp_attr.specs.PathReading.{begins_right}
+use Rattle.bgp_attr.specs.declared.peer.PeerKind.TheVariants.{External}
 use Rattle.bgp_attr.specs.declared.as_path.SegmentKind.{SegmentKind}
 use Rattle.bgp_attr.specs.declared.as_path.SegmentKind.TheVariants.{Set, Sequence}
 
@@ -30,6 +32,24 @@ neighbor_put asn own (segment ∷ more) = neighbor_front segment.kind segment.as
 -- the neighbor AS of a path with an AS in front is that AS
 pub neighbor_prepended : (path : List PathSegment) (asn own : Asn) (times : ℕ) → neighbor_as_of (prepended path asn (suc times)) own ≡ asn
 neighbor_prepended path asn own times = neighbor_put asn own (prepended path asn times)
+
+begins_joined : (asns : List Asn) (asn : Asn) (more : List PathSegment) (room : Bool) → begins_right (External asn) (joined_if Sequence asns asn more room) ≡ true
+unfolding joined_if
+begins_joined asns asn more true = eq-eqb asn.0 asn.0 refl
+begins_joined asns asn more false = eq-eqb asn.0 asn.0 refl
+
+begins_front : (kind : SegmentKind) (asns : List Asn) (asn : Asn) (more : List PathSegment) → begins_right (External asn) (joined kind asns asn more) ≡ true
+unfolding joined_if
+begins_front Set asns asn more = eq-eqb asn.0 asn.0 refl
+begins_front Sequence asns asn more = begins_joined asns asn more (nat_lt (length asns) 255)
+
+begins_put : (asn : Asn) (path : List PathSegment) → begins_right (External asn) (put_in_front asn path) ≡ true
+begins_put asn [] = eq-eqb asn.0 asn.0 refl
+begins_put asn (segment ∷ more) = begins_front segment.kind segment.asns asn more
+
+-- and it begins as the path of a peer in that AS
+pub begins_prepended : (path : List PathSegment) (asn : Asn) (times : ℕ) → begins_right (External asn) (prepended path asn (suc times)) ≡ true
+begins_prepended path asn times = begins_put asn (prepended path asn times)
 
 ases_joined : (asns : List Asn) (asn : Asn) (more : List PathSegment) (room : Bool) → ases_of (joined_if Sequence asns asn more room) ≡ asn ∷ (asns ++ ases_of more)
 unfolding joined_if

@@ -3,10 +3,10 @@ use Rattle.std.specs.Prelude.{◌==◌, is_none, not, slice_index, MatchOption, 
 use Rattle.std.specs.List.{AllByRecursion}
 use Rattle.std.specs.Option.{option_and_then}
 use Rattle.std.specs.Int.{from_be_bytes, to_be_bytes, w32}
-use Rattle.std.proofs.lemmas.Bool.{eqb-false, eqb-true, le-ltb, ltb-false, ne_eqb}
+use Rattle.std.proofs.lemmas.Bool.{eqb-false, eqb-true, le-ltb, ltb-false, ne_eqb, not-true}
 use Rattle.std.proofs.lemmas.Nat.{be_bytes_4, from_be_bytes-to_be_bytes_4}
 use Rattle.bgp_attr.specs.AsPath.{PathSegment}
-use Rattle.bgp_attr.specs.AttributeFaults.{is_no_host}
+use Rattle.bgp_attr.specs.AttributeFaults.{is_host, is_no_host}
 use Rattle.bgp_attr.specs.AttributeReading.{next_hop_in, origin_in}
 use Rattle.bgp_attr.specs.AttributeSpelling.{IsHost, IsSegment, SpellsAsPath, SpellsNextHop, SpellsOrigin, SpellsPath, path_spelling}
 use Rattle.bgp_attr.specs.PathAttributes.{origin_at, origin_octet}
@@ -125,6 +125,12 @@ host_if octet h =
     let first = or_false (octet == 0 || octet == 127) (nat_lt 223 octet) h in
     let parts = or_false (octet == 0) (octet == 127) first.0 in
     (above octet (eqb-false octet 0 parts.0), eqb-false octet 127 parts.1, omega (arith, ltb-false 223 octet first.1))
+
+-- an address whose first octet can be a host's
+pub host_is : (address : ℕ) → address < 2 ^ 32 → is_host address ≡ true → IsHost address
+host_is address small h =
+    let octet = host_if (address / 2 ^ 24) (not-true (is_no_host (address / 2 ^ 24)) h) in
+    (small, octet.0, octet.1, octet.2)
 
 next_hop_spelled : (kind : PeerKind) (value : List ℕ) → AreOctets value → IsGood kind type.NextHop value → SpellsNextHop (Some value) (next_hop_in value)
 next_hop_spelled kind [] fits h = absurd (omega (arith, h.0))

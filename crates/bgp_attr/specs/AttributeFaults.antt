@@ -1,5 +1,5 @@
 -- The faults of an UPDATE (RFC 4271 section 6.3), and how a NOTIFICATION tells them (section 4.5).
-use Rattle.std.specs.Prelude.{◌≡◌, ◌<◌, ◌++◌, map, ◌==◌, ◌||◌, nat_lt, not, if◌then◌else◌, Bool, true, false, ℕ, List, [], ◌∷◌, length, bit_and, slice_index, is_none, Option, Some, None, IsSome, MatchResult, Result}
+use Rattle.std.specs.Prelude.{◌≡◌, ◌<◌, ◌++◌, map, ◌==◌, ◌||◌, ◌/◌, ◌^◌, nat_lt, not, if◌then◌else◌, Bool, true, false, ℕ, List, [], ◌∷◌, length, bit_and, slice_index, is_none, Option, Some, None, IsSome, MatchResult, Result}
 use Rattle.std.specs.List.{list_any}
 use Rattle.bgp_attr.specs.AttributeTable.{octet_of, type_of, class_of, class_flags_of, length_of}
 use Rattle.bgp_attr.specs.PathAttributes.{origin_at}
@@ -63,6 +63,10 @@ has_other_length (Some n) value = not (length value == n)
 -- an address that begins with this octet is no host's
 abbrev pub is_no_host : ℕ → Bool
 is_no_host octet = octet == 0 || octet == 127 || nat_lt 223 octet
+
+-- the address is a host's
+abbrev pub is_host : ℕ → Bool
+is_host address = not (is_no_host (address / 2 ^ 24))
 
 -- the tests of a value by its type
 abbrev pub value_tests : PeerKind → AttributeType → Attribute → List (Bool × Fault)

@@ -1,8 +1,8 @@
 //! AS paths (RFC 4271 section 4.3): segments of AS numbers.
 ghost use Rattle.std.specs.Prelude.{◌≡◌, ◌≤◌, ◌<◌, ◌==◌, length};
-ghost use Rattle.std.specs.List.{list_any};
+ghost use Rattle.std.specs.List.{AllByRecursion, list_any};
 ghost use Rattle.bgp_attr.specs.AsPath.{PathSegment, path_octets, path_length_of, counted, has_as, last_as, origin_as_of, neighbor_as_of, first_as};
-ghost use Rattle.bgp_attr.specs.AttributeSpelling.{kind_octet};
+ghost use Rattle.bgp_attr.specs.AttributeSpelling.{IsSegment, kind_octet};
 ghost use Rattle.bgp_attr.specs.PathReading.{kind_at};
 
 use net_prefix::Asn;
@@ -93,7 +93,7 @@ impl<A: Allocator> Segment<A> {
     }
 }
 
-/// A path of at most 65,535 octets.
+/// A path of at most 65,535 octets, whose segments name 1 to 255 ASes each and none of them 0.
 #[derive(Drop)]
 pub struct AsPath<A: Allocator = Global> {
     segments: Vec<Segment<A>, A>,
@@ -101,18 +101,21 @@ pub struct AsPath<A: Allocator = Global> {
 
 impl<A: Allocator> Model for AsPath<A> {
     ghost use Rattle.std.specs.Prelude.{List, ◌≤◌};
+    ghost use Rattle.std.specs.List.{AllByRecursion};
     ghost use Rattle.bgp_attr.specs.AsPath.{PathSegment, path_octets};
+    ghost use Rattle.bgp_attr.specs.AttributeSpelling.{IsSegment};
 
     ghost Value = { List PathSegment };
 
     ghost view = { λ p. p.segments.items };
 
-    ghost invariant = { λ p. path_octets p.segments.items ≤ 65535 };
+    ghost invariant = { λ p. (path_octets p.segments.items ≤ 65535) × AllByRecursion IsSegment p.segments.items };
 }
 
 impl<A: Allocator> AsPath<A> {
     pub(crate) fn new(segments: Vec<Segment<A>, A>) -> Self
-        requires { path_octets segments.items ≤ 65535 }
+        requires short { path_octets segments.items ≤ 65535 }
+        requires lawful { AllByRecursion IsSegment segments.items }
         ensures { result ≡ segments.items }
     {
         AsPath { segments }
@@ -124,6 +127,7 @@ impl<A: Allocator> AsPath<A> {
         ensures value { result.now ≡ self.now }
         ensures short { path_octets result.now ≤ 65535 }
         ensures few { path_length_of result.now ≤ 65535 }
+        ensures lawful { AllByRecursion IsSegment self.now }
     {
         self.segments.as_slice()
     }

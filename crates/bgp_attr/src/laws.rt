@@ -1,5 +1,5 @@
 //! Laws of how attributes are read and written (RFC 4271 section 4.3). Each is a function that does nothing.
-ghost use Rattle.std.specs.Prelude.{◌≡◌, ◌⊎◌, ◌+◌, ◌++◌, List, ℕ, Some, None, replicate, suc};
+ghost use Rattle.std.specs.Prelude.{◌≡◌, ◌⊎◌, ◌+◌, ◌++◌, List, ℕ, Some, None, replicate, suc, true};
 ghost use Rattle.std.specs.List.{AllByRecursion};
 ghost use Rattle.net_prefix.specs.declared.asn.Asn.{Asn};
 ghost use Rattle.bgp_attr.specs.AsPath.{PathSegment, ases_of, neighbor_as_of, path_length_of, prepended};
@@ -7,7 +7,7 @@ ghost use Rattle.bgp_attr.specs.AttributeFaults.{Fault, IsCutFault, IsFirstFault
 ghost use Rattle.bgp_attr.specs.AttributeReading.{attributes_in};
 ghost use Rattle.bgp_attr.specs.AttributeSpelling.{CanBeSpelled, IsAs, IsSegment, SpellsAttributes, SpellsPath, attributes_spelling};
 ghost use Rattle.bgp_attr.specs.PathAttributes.{PathAttributes};
-ghost use Rattle.bgp_attr.specs.PathReading.{path_at};
+ghost use Rattle.bgp_attr.specs.PathReading.{begins_right, path_at};
 ghost use Rattle.bgp_attr.specs.ReceivedAttributes.{AreOctets, Attribute, IsAttribute, IsSplit, split_of, wholes};
 ghost use Rattle.bgp_attr.specs.declared.peer.PeerKind.{PeerKind};
 
@@ -47,10 +47,12 @@ pub fn written_is_read()
     ensures read { (kind : PeerKind) (attrs : PathAttributes) → CanBeSpelled kind attrs → attributes_in (attributes_spelling attrs) ≡ attrs }
 {}
 
-/// A path with an AS in front so many times (RFC 4271 section 5.1.2) names that AS first, so many times and then the
-/// ASes of the path; it counts so many ASes more, and none of its segments has more than 255 ASes.
+/// A path with an AS in front so many times (RFC 4271 section 5.1.2) names that AS first, as the path of a peer in that
+/// AS does, so many times and then the ASes of the path; it counts so many ASes more, and none of its segments has more
+/// than 255 ASes.
 pub fn prepending_is_counted()
     ensures neighbor { (path : List PathSegment) (asn own : Asn) (times : ℕ) → neighbor_as_of (prepended path asn (suc times)) own ≡ asn }
+    ensures begins { (path : List PathSegment) (asn : Asn) (times : ℕ) → begins_right (PeerKind.External asn) (prepended path asn (suc times)) ≡ true }
     ensures ases { (path : List PathSegment) (asn : Asn) (times : ℕ) → ases_of (prepended path asn times) ≡ replicate times asn ++ ases_of path }
     ensures length { (path : List PathSegment) (asn : Asn) (times : ℕ) → path_length_of (prepended path asn times) ≡ times + path_length_of path }
     ensures segments { (path : List PathSegment) (asn : Asn) (times : ℕ) → IsAs asn → AllByRecursion IsSegment path → AllByRecursion IsSegment (prepended path asn times) }

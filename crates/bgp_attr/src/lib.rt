@@ -29,5 +29,5 @@ pub use laws::{
 };
 pub use peer::{Mode, PeerKind};
 pub use prepending::{PrependedPath, prepend};
-pub use reading::read_attrs;
+pub use reading::{is_host, read_attrs};
 pub use writing::{AttrsToWrite, write_attrs};

@@ -1,6 +1,8 @@
 //! Paths with an AS put in front (RFC 4271 section 5.1.2).
 ghost use Rattle.std.specs.Prelude.{◌≡◌, ◌≤◌, ◌-◌, ◌/◌, ◌%◌};
+ghost use Rattle.std.specs.List.{AllByRecursion};
 ghost use Rattle.bgp_attr.specs.AsPath.{prepended, path_octets};
+ghost use Rattle.bgp_attr.specs.AttributeSpelling.{IsSegment};
 ghost use Rattle.bgp_attr.specs.Spread.{room_of, new_of, part_count};
 ghost use Rattle.bgp_attr.specs.Written.{segments_of};
 
@@ -19,8 +21,12 @@ pub struct PrependedPath<'a, A: Allocator = Global> {
 /// The path with the AS put in front so many times; none leaves the path as it is. The AS joins a first AS_SEQUENCE of
 /// fewer than 255 ASes, and else begins a new one.
 pub fn prepend<A: Allocator>(path: &AsPath<A>, asn: Asn, times: u16) -> PrependedPath<'_, A>
-    ensures { segments_of result ≡ prepended path.now asn times }
+    ensures value { segments_of result ≡ prepended path.now asn times }
+    // The path itself is one of 1 to 255 ASes a segment, none of them 0, in at most 65,535 octets.
+    ensures lawful { (path_octets path.now ≤ 65535) × AllByRecursion IsSegment path.now }
 {
+    // What holds of the segments of every path holds of these.
+    let _segments = path.segments();
     PrependedPath { path, asn, times }
 }
 

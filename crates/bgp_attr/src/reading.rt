@@ -119,6 +119,13 @@ fn is_no_host(octet: u8) -> bool
     matches!(octet, 0 | 127 | 224..=255)
 }
 
+/// Whether the address is a host's, as a NEXT_HOP has to be (RFC 4271 section 6.3).
+pub fn is_host(address: u32) -> bool
+    ensures { result ≡ faults.is_host address }
+{
+    !matches!(address >> 24, 0 | 127 | 224..=u32::MAX)
+}
+
 // The attributes by their codes.
 #[tactic(auto, unfolding(crate::specs::AttributeReading::attributes_in))]
 fn take_attributes<A: Allocator + Clone>(alloc: A, octets: &[u8]) -> Result<Attrs<A>, AllocError>

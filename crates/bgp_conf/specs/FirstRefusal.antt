@@ -4,6 +4,7 @@ use Rattle.std.specs.List.{list_all, list_any}
 use Rattle.std.specs.Map.{values_of}
 use Rattle.std.specs.Str.{bytes_eq}
 use Rattle.net_prefix.specs.declared.asn.Asn.{Asn}
+use Rattle.bgp_attr.specs.AttributeFaults.{is_host}
 use Rattle.bgp_attr.specs.declared.peer.Mode.{Mode}
 use Rattle.bgp_attr.specs.declared.peer.Mode.TheVariants.{Active, Passive}
 use Rattle.bgp_conf.specs.declared.conf.ConfiguredPeer.{ConfiguredPeer}
@@ -37,12 +38,14 @@ abbrev pub is_passive : Mode → Bool
 is_passive Passive = true
 is_passive Active = false
 
--- an external peer that connects, a hold time that RFC 4271 section 4.2 allows, and names
+-- an external peer that connects, an address of our own that it can have as next hop (RFC 4271 section 6.3), a hold time
+-- that RFC 4271 section 4.2 allows, and names
 abbrev pub is_in_range : Asn → PeerConf → Bool
 is_in_range own peer =
     not (peer.asn.0 == 0)
     && not (peer.asn.0 == own.0)
     && is_passive peer.mode
+    && is_host peer.local
     && not (peer.hold == 1)
     && not (peer.hold == 2)
     && is_policy_name peer.import.now

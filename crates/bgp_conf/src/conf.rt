@@ -9,7 +9,7 @@ ghost use Rattle.bgp_conf.specs.Reach.{IsCost, IsCostAt};
 
 use crate::command::{Command, PeerConf};
 use crate::refusal::Refusal;
-use bgp_attr::Mode;
+use bgp_attr::{Mode, is_host};
 use net_prefix::{Asn, Prefix};
 use std::alloc::{AllocError, Allocator, Global};
 use std::collections::BTreeMap;
@@ -200,13 +200,15 @@ impl<A: Allocator + Clone> Conf<A> {
         self.peers.values().any(|peer| peer.address == address)
     }
 
-    // Own choice: an internal peer, and a peer that this side connects to, are out of range.
+    // Own choice: an internal peer, a peer that this side connects to, and an address of our own that no peer would
+    // take for a next hop, are out of range.
     fn is_in_range(&self, peer: &PeerConf<'_>) -> bool
         ensures { result ≡ is_in_range self.now.own peer.now }
     {
         peer.asn.0 != 0
             && peer.asn.0 != self.own.0
             && peer.mode == Mode::Passive
+            && is_host(peer.local)
             && peer.hold != 1
             && peer.hold != 2
             && is_policy_name(peer.import)

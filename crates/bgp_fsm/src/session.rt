@@ -104,7 +104,7 @@ impl Session {
     }
 
     /// One row of the session table.
-    pub fn input(&mut self, input: Input, now: u64) -> Effects
+    pub fn input(&mut self, input: Input) -> Effects
         ensures row { (self.new, result) ≡ row_at self.old.state input self.old }
     {
         match (self.state, input) {

@@ -119,14 +119,14 @@ impl<A: Allocator> Peer<A> {
     /// The session takes an input: the operator enables the peer, the connection stands or fails, or the message at
     /// the front is this one. A message is dropped, what was queued or came on another connection too, and what the
     /// row says is queued.
-    pub fn input(&mut self, input: Input, now: u64) -> Effects
+    pub fn input(&mut self, input: Input) -> Effects
         ensures exact { self.new ≡ taken_input self.old input }
         ensures effects { result ≡ effects_of input self.old.session }
         ensures signalled { (h : List Event) → PeerAgrees h self.old → is_message input ≡ false → PeerAgrees (Signalled input ∷ h) self.new }
         ensures heard { (h : List Event) (item : Item) → IsHearing h item self.old → input ≡ input_of self.old.session.state (terms_of h) item → PeerAgrees h self.new }
     {
         self.make_way(input);
-        let effects = self.session.input(input, now);
+        let effects = self.session.input(input);
         self.say(effects.message);
         effects
     }

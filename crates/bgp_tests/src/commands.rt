@@ -66,11 +66,14 @@ fn a_peer_is_configured_once(rt: HostRuntime) -> Result<(), Fail> {
 }
 
 #[rattlefmt::skip]
-const ROWS: [(u8, PeerConf<'static>, Refusal); 11] = [
+const ROWS: [(u8, PeerConf<'static>, Refusal); 14] = [
     (64, PEER, Refusal::BadSlot),
     (63, PeerConf { asn: Asn(0), ..PEER }, Refusal::Range),
     (63, PeerConf { asn: Asn(65000), ..PEER }, Refusal::Range),
     (63, PeerConf { mode: Mode::Active, ..PEER }, Refusal::Range),
+    (63, PeerConf { local: 0x0000_0001, ..PEER }, Refusal::Range),
+    (63, PeerConf { local: 0x7f00_0001, ..PEER }, Refusal::Range),
+    (63, PeerConf { local: 0xe000_0001, ..PEER }, Refusal::Range),
     (63, PeerConf { hold: 1, ..PEER }, Refusal::Range),
     (63, PeerConf { hold: 2, ..PEER }, Refusal::Range),
     (63, PeerConf { import: "", ..PEER }, Refusal::Range),

@@ -55,7 +55,7 @@ fn after(state: State, input: Input) -> (State, Transport, Option<Outgoing>) {
         state,
         ..Session::new(OWN, Mode::Passive)
     };
-    let effects = session.input(input, 0);
+    let effects = session.input(input);
     (session.state(), session.transport(), effects.message)
 }
 
@@ -78,12 +78,12 @@ fn a_closed_session_waits_for_the_loss_of_its_connection(rt: HostRuntime) -> Res
         state: State::Established,
         ..Session::new(OWN, Mode::Passive)
     };
-    assert!(rt; session.input(Input::Fault, 0).left);
-    assert_eq!(rt; session.input(Input::Start, 0).message, None);
+    assert!(rt; session.input(Input::Fault).left);
+    assert_eq!(rt; session.input(Input::Start).message, None);
     assert_eq!(rt; session.transport(), Transport::Closing);
-    let _ = session.input(Input::Fail, 0);
+    let _ = session.input(Input::Fail);
     assert_eq!(rt; session.transport(), Transport::None);
-    let _ = session.input(Input::Start, 0);
+    let _ = session.input(Input::Start);
     assert_eq!(rt; session.transport(), Transport::Listening);
     Ok(())
 }
@@ -92,9 +92,9 @@ fn a_closed_session_waits_for_the_loss_of_its_connection(rt: HostRuntime) -> Res
 fn the_identifier_is_that_of_the_peers_open(rt: HostRuntime) -> Result<(), Fail> {
     let mut session = Session::new(OWN, Mode::Passive);
     for input in [Input::Start, Input::Up, Input::Open(PEER)] {
-        let _ = session.input(input, 0);
+        let _ = session.input(input);
     }
     assert_eq!(rt; session.identifier(), 0x0101_0101);
-    assert!(rt; session.input(Input::Keepalive, 0).entered);
+    assert!(rt; session.input(Input::Keepalive).entered);
     Ok(())
 }

@@ -1,11 +1,15 @@
 -- What an external peer is sent of a route (RFC 4271 sections 5.1.2, 5.1.3 and 9.1.3).
-use Rattle.std.specs.Prelude.{◌≡◌, ℕ, ◌==◌, nat_le, Bool, true, false, if◌then◌else◌, List, [], length, Option, None, Some}
+use Rattle.std.specs.Prelude.{◌≡◌, ◌<◌, ℕ, ◌==◌, nat_le, Bool, true, false, if◌then◌else◌, List, [], length, Option, None, Some}
 use Rattle.std.specs.Option.{option_map}
 use Rattle.bgp_attr.specs.AsPath.{prepended}
+use Rattle.bgp_attr.specs.AttributeFaults.{attributes_fault, is_host}
+use Rattle.bgp_attr.specs.AttributeReading.{attributes_in}
 use Rattle.bgp_attr.specs.AttributeSpelling.{attributes_spelling}
-use Rattle.bgp_attr.specs.PathAttributes.{PathAttributes}
+use Rattle.bgp_attr.specs.PathAttributes.{PathAttributes, missing_of}
+use Rattle.bgp_attr.specs.declared.peer.PeerKind.TheVariants.{External}
 use Rattle.decision.specs.declared.candidate.Candidate.{Candidate}
 use Rattle.export_rules.specs.declared.export.ExportPeer.{ExportPeer}
+use Rattle.net_prefix.specs.declared.asn.Asn.{Asn}
 
 -- the attributes as they go on: the own AS stands in front of the path, and the own address is the next hop
 unfoldable pub exported_of : PathAttributes → ExportPeer → PathAttributes
@@ -23,6 +27,17 @@ fitting octets = if nat_le (length octets) most_attributes then Some octets else
 -- the octets that the peer is sent as the attributes of the route: none where it came from this peer
 abbrev pub export_at : Candidate → PathAttributes → ExportPeer → Option (List ℕ)
 export_at route attrs peer = if route.slot == peer.slot then None else fitting (attributes_spelling (exported_of attrs peer))
+
+-- this side's AS is one, and its address a host's
+pub record IsSender (peer : ExportPeer) : Type 0 where
+  pub own : 0 < peer.own.0
+  pub local : is_host peer.local ≡ true
+
+-- octets of attributes in which a peer in another AS than this one finds no fault, and lacks none that a route needs
+-- (RFC 4271 section 6.3)
+pub record AreAccepted (own : Asn) (octets : List ℕ) : Type 0 where
+  pub faultless : attributes_fault (External own) octets ≡ None
+  pub complete : missing_of (attributes_in octets) ≡ None
 
 -- true: these are the octets; false: there are none
 abbrev pub Tells : Bool → List ℕ → Option (List ℕ) → Type 0

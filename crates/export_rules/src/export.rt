@@ -1,9 +1,11 @@
 //! The attributes that an external peer is sent.
-ghost use Rattle.std.specs.Prelude.{◌≡◌, ◌<◌, ◌≤◌, [], false};
+ghost use Rattle.std.specs.Prelude.{◌≡◌, ◌<◌, ◌≤◌, ◌^◌, [], false, None, MatchOption, ⊤};
+ghost use Rattle.std.specs.List.{AllByRecursion};
 ghost use Rattle.std.specs.Bool.{OnFalse, OnTrue};
-ghost use Rattle.bgp_attr.specs.AttributeSpelling.{attributes_spelling};
+ghost use Rattle.bgp_attr.specs.AttributeSpelling.{attributes_spelling, IsSegment};
+ghost use Rattle.bgp_attr.specs.PathAttributes.{missing_of};
 ghost use Rattle.bgp_attr.specs.Written.{attributes_of};
-ghost use Rattle.export_rules.specs.Export.{export_at, exported_of, fitting, Tells};
+ghost use Rattle.export_rules.specs.Export.{AreAccepted, IsSender, Tells, export_at, exported_of, fitting};
 ghost use Rattle.arrayvec.specs.ArrayVec.{array_vec_len};
 
 use arrayvec::ArrayVec;
@@ -27,6 +29,20 @@ pub struct ExportPeer {
     pub local: u32,
 }
 
+impl ExportPeer {
+    fn own_number(&self) -> u32
+        ensures { result ≡ self.now.own.0 }
+    {
+        self.own.0
+    }
+
+    fn local_address(&self) -> u32
+        ensures { result ≡ self.now.local }
+    {
+        self.local
+    }
+}
+
 /// Writes the attributes with which the route goes to the peer, and answers whether it goes there. `out` is empty
 /// where it doesn't.
 // Own choice: nothing goes to the peer that the route came from, nor what would be too long for a message.
@@ -41,6 +57,8 @@ pub fn export_of<A: Allocator>(
     ensures back { route.now.slot ≡ peer.now.slot → result ≡ false }
     ensures small { OnTrue result (array_vec_len out.new ≤ MAX_EXPORTED_ATTRIBUTES) }
     ensures nothing { OnFalse result (out.new.items ≡ []) }
+    // The peer finds no fault with it.
+    ensures accepted { OnTrue result (IsSender peer.now → missing_of attrs.now ≡ None → AreAccepted peer.now.own out.new.items) }
 {
     if route.slot == peer.slot {
         out.clear();
@@ -67,11 +85,18 @@ fn write_fitting<A: Allocator>(attrs: &AttrsToWrite<'_, A>, out: &mut ArrayVec<u
 
 // The attributes as they go on to an external peer (RFC 4271 sections 5.1.2 and 5.1.3).
 fn exported<'a, A: Allocator>(attrs: &'a Attrs<A>, peer: &ExportPeer) -> AttrsToWrite<'a, A>
-    ensures { attributes_of result ≡ exported_of attrs.now peer.now }
+    ensures value { attributes_of result ≡ exported_of attrs.now peer.now }
+    ensures lawful { MatchOption attrs.now.as_path ⊤ (AllByRecursion IsSegment) }
+    ensures own { peer.now.own.0 < 2 ^ 32 }
+    ensures local { peer.now.local < 2 ^ 32 }
 {
+    let own = Asn(peer.own_number());
     AttrsToWrite {
         origin: attrs.origin(),
-        as_path: attrs.as_path().map(|path| prepend(path, peer.own, 1)),
-        next_hop: Some(peer.local),
+        as_path: match attrs.as_path() {
+            Some(path) => Some(prepend(path, own, 1)),
+            None => None,
+        },
+        next_hop: Some(peer.local_address()),
     }
 }

@@ -1,15 +1,16 @@
 use Rattle.std.proofs.Common.{◌≡◌, ◌≢◌, ◌≤◌, ◌==◌, inl, inr, ℕ, Bool, true, false, nat_le, List, ◌∷◌, Option, Some, None, length, cond, refl, sym, ap, ◌∙◌, subst}
+use Rattle.std.specs.Bool.{OnTrue}
 use Rattle.std.specs.Option.{option_map, option_and_then, MatchOption}
 use Rattle.std.proofs.lemmas.Bool.{cases_eq, eq-eqb, ne_eqb, leb-true}
 use Rattle.bgp_attr.specs.AttributeSpelling.{attributes_spelling}
-use Rattle.bgp_attr.specs.PathAttributes.{PathAttributes}
+use Rattle.bgp_attr.specs.PathAttributes.{PathAttributes, missing_of}
 use Rattle.bgp_conf.specs.Configuration.{Configuration, peer_at}
 use Rattle.bgp_conf.specs.declared.conf.ConfiguredPeer.{ConfiguredPeer}
 use Rattle.bgp_peer.specs.SessionInputs as happens
 use Rattle.bgp_peer.specs.SessionInputs.{Queued, session, terms_of}
 use Rattle.decision.specs.declared.candidate.Candidate.{Candidate}
 use Rattle.decision.proofs.Laws.{selected_member}
-use Rattle.export_rules.specs.Export.{export_at, exported_of, fitting}
+use Rattle.export_rules.specs.Export.{AreAccepted, IsSender, export_at, exported_of, fitting}
 use Rattle.export_rules.specs.declared.export.ExportPeer.{ExportPeer}
 use Rattle.net_prefix.specs.declared.prefix.Prefix.{Prefix}
 use Rattle.rib_in.specs.LatestRoutes.{route_at}
@@ -17,7 +18,7 @@ use Rattle.rib_in.specs.declared.adj_in.RouteKey.{RouteKey}
 use Rattle.speaker.specs.AdjRibIn.{route}
 use Rattle.speaker.specs.Agreement.{SlotAgrees, tables_after}
 use Rattle.speaker.specs.Candidates.{IsCandidate}
-use Rattle.speaker.specs.Export.{IsExport, export_in, export_to, export_peer_of}
+use Rattle.speaker.specs.Export.{IsAccepted, IsExport, export_in, export_to, export_peer_of}
 use Rattle.speaker.specs.Linked.{Linked}
 use Rattle.speaker.specs.LocRib.{AreBest, IsBest, HasNoCandidate}
 use Rattle.speaker.specs.Queueing.{Queue}
@@ -70,7 +71,7 @@ tables_same config r conf links adj_in same all = λ i. record {
 }
 
 -- the kept tables give the export
-best_candidate : (t : Tables) (prefix : Prefix) (c : Candidate) → IsBest t prefix c → IsCandidate t prefix c
+pub best_candidate : (t : Tables) (prefix : Prefix) (c : Candidate) → IsBest t prefix c → IsCandidate t prefix c
 best_candidate t prefix c best = (best.1 c).0 (selected_member best.0 (Some c) best.2)
 
 export_found : (t : Tables) (c : Candidate) (peer : ExportPeer) (prefix : Prefix) (found : Option PathAttributes) → IsBest t prefix c → t.routes c.slot prefix ≡ found
@@ -117,6 +118,13 @@ export_short s t prefix a is = peer_short s t (peer_at s.conf t) prefix a is
 -- the export to a slot that is configured
 pub export_peer_found : (s : SpeakerState) (t : ℕ) (p : ConfiguredPeer) (prefix : Prefix) → peer_at s.conf t ≡ Some p → export_to s t prefix ≡ export_in (best_at s.loc_rib) s.adj_in (export_peer_of s.conf t p) prefix
 export_peer_found s t p prefix is = ap (λ found. option_and_then (λ x. export_in (best_at s.loc_rib) s.adj_in (export_peer_of s.conf t x) prefix) found) is
+
+-- what is written of the best route is good to the peer
+pub on_accepted : (b : Bool) (loc_rib : List (Prefix × Candidate)) (adj_in : List (RouteKey × PathAttributes)) (peer : ExportPeer) (p : Prefix) (octets : List ℕ) (c : Candidate) (attrs : PathAttributes)
+    → best_at loc_rib p ≡ Some c → route_at adj_in c.slot p ≡ Some attrs → OnTrue b (IsSender peer → missing_of attrs ≡ None → AreAccepted peer.own octets)
+    → OnTrue b (IsAccepted loc_rib adj_in peer p octets)
+on_accepted true loc_rib adj_in peer p octets c attrs best route good = λ sender complete. good sender (complete c attrs best route)
+on_accepted false loc_rib adj_in peer p octets c attrs best route good = tt
 
 -- the slot of an UPDATE
 pub at_slot : (config : Config) (t : ℕ) (call : Call) (update : List ℕ) (queue : Queue) (r : Run)

@@ -1,18 +1,19 @@
-use Rattle.std.proofs.Common.{◌≡◌, ◌≢◌, ◌<◌, ◌==◌, ◌&&◌, ◌||◌, ℕ, Bool, true, false, List, [], ◌∷◌, Option, Some, None, is_none, nat_le, cond, refl, sym, ap, ◌∙◌, subst}
+use Rattle.std.proofs.Common.{◌≡◌, ◌≢◌, ◌<◌, ◌==◌, ◌&&◌, ◌||◌, ℕ, Bool, true, false, List, [], ◌∷◌, Option, Some, None, Result, Ok, Err, OnOk, is_none, nat_le, cond, refl, sym, ap, ◌∙◌, subst}
 use Rattle.std.proofs.lemmas.Bool.{eq-eqb, ne_eqb, eqb-true}
 use Rattle.std.specs.BTreeMap.{is_at}
 use Rattle.std.specs.Option.{option_map}
 use Rattle.std.specs.Ordering.{nat_cmp}
 use Rattle.bgp_conf.proofs.PrefixOrder.{is_eq-nat_cmp}
 use Rattle.bgp_attr.specs.PathAttributes.{PathAttributes}
-use Rattle.bgp_conf.specs.Configuration.{peer_at}
+use Rattle.bgp_conf.specs.Configuration.{Configuration, peer_at}
 use Rattle.bgp_conf.specs.ConfAfter.{conf_after, peer_after, configured_of}
 use Rattle.bgp_conf.specs.FirstRefusal.{first_refusal}
+use Rattle.bgp_conf.specs.declared.command.Command.{Command}
 use Rattle.bgp_conf.specs.declared.command.Command.TheVariants.{AddPeer, Enable, Reach}
 use Rattle.bgp_conf.specs.declared.command.PeerConf.{PeerConf}
 use Rattle.bgp_conf.specs.declared.conf.ConfiguredPeer.{ConfiguredPeer}
 use Rattle.bgp_conf.specs.declared.refusal.Refusal.{Refusal}
-use Rattle.bgp_conf.proofs.Accepted.{peer_at-from_accepted, slot-from_accepted}
+use Rattle.bgp_conf.proofs.Accepted.{external-from_accepted, is_host-from_accepted, peer_at-from_accepted, slot-from_accepted}
 use Rattle.bgp_fsm.specs.SessionTable.{effects_of}
 use Rattle.bgp_fsm.specs.StateTests.{is_established, is_message}
 use Rattle.bgp_fsm.specs.Transports.{transport_of}
@@ -24,17 +25,18 @@ use Rattle.bgp_peer.specs.SessionInputs as happens
 use Rattle.bgp_peer.specs.SessionInputs.{Configured, Signalled, Handed, session}
 use Rattle.bgp_peer.specs.Slot.{configured}
 use Rattle.bgp_peer.proofs.Agreeing.{agrees-new}
+use Rattle.net_prefix.specs.declared.asn.Asn.{Asn}
 use Rattle.net_prefix.specs.declared.prefix.Prefix.{Prefix}
 use Rattle.net_prefix.specs.declared.transport.Transport.{Transport}
 use Rattle.net_prefix.specs.declared.transport.Transport.TheVariants.{Open as Connected}
 use Rattle.rib_in.specs.LatestRoutes.{route_at}
-use Rattle.speaker.specs.Agreement.{SlotAgrees, Holds}
+use Rattle.speaker.specs.Agreement.{SlotAgrees, IsTaken, Holds}
 use Rattle.speaker.proofs.Histories.{no_route}
 use Rattle.speaker.proofs.SlotStates.{SlotIs, slot_agrees, configured_from}
 use Rattle.speaker.specs.FirstRefusal.{refused_at, awaits_up}
 use Rattle.speaker.specs.Linked.{Linked}
 use Rattle.speaker.specs.Moves.{Moves, IsPut, moved}
-use Rattle.speaker.specs.Runs.{Call, Run, turn, Command_call, configuration_of, history, terms_in}
+use Rattle.speaker.specs.Runs.{Call, Run, turn, Up_call, Fail_call, Bytes_call, Command_call, Take_call, conf_called, configuration_of, history, terms_in}
 use Rattle.speaker.specs.SpeakerState.{SpeakerState}
 use Rattle.speaker.specs.Tables.{link_at}
 use Rattle.speaker.specs.declared.config.Config.{Config}
@@ -108,25 +110,58 @@ holds_enable config r slot old new h may moves =
     holds_signalled config (Command_call (Enable slot)) r slot found.0 Start old new h found.1 refl (λ e. cc) (moves found.0 found.1) refl (λ t. refl)
 
 -- an entry of `reach`
-pub holds_reach : (config : Config) (r : Run) (prefix : Prefix) (cost : ℕ) (old new : SpeakerState) → Holds config r old → new.conf ≡ conf_after old.conf (Reach prefix cost)
+holds_reach : (config : Config) (r : Run) (prefix : Prefix) (cost : ℕ) (old new : SpeakerState) → Holds config r old → new.conf ≡ conf_after old.conf (Reach prefix cost)
     → ((s : ℕ) → peer_at new.conf s ≡ peer_after old.conf (Reach prefix cost) s) → new.config ≡ old.config → new.links ≡ old.links → new.adj_in ≡ old.adj_in → new.stopped ≡ old.stopped
     → Holds config (turn (Command_call (Reach prefix cost)) [] ∷ r) new
 holds_reach config r prefix cost old new h conf peers config_same links adj_in stopped = record {
   config_is = config_same ∙ h.config_is;
   conf = conf ∙ ap (λ c. conf_after c (Reach prefix cost)) h.conf;
-  within = λ t peer at. h.within t peer (sym (peers t) ∙ at);
+  peers = (h.peers.0, λ t peer at. h.peers.1 t peer (sym (peers t) ∙ at));
   slots = λ t. let P : Option ConfiguredPeer → Type 0 = λ x. SlotAgrees config x (link_at old.links t) (route_at old.adj_in t) (history config t r) in
       rw (links, adj_in) (subst P (sym (peers t)) (h.slots t));
   running = stopped ∙ h.running;
 }
 
--- with a new peer each has one of the 64 slots
-added_within : (slot t : ℕ) (before : Option ConfiguredPeer) (peer found : ConfiguredPeer) → slot < 64 → (before ≡ Some found → t < 64) → cond (t == slot) (Some peer) before ≡ Some found → t < 64
-added_within slot t before peer found below within at = by_slot (t == slot) refl at
+pub on_reach : {T F : Type 0} (result : Result T F) (prefix : Prefix) (cost : ℕ) (old new : SpeakerState) → OnOk result (new.conf ≡ conf_after old.conf (Reach prefix cost))
+    → OnOk result ((s : ℕ) → peer_at new.conf s ≡ peer_after old.conf (Reach prefix cost) s) → new.config ≡ old.config → new.links ≡ old.links → new.adj_in ≡ old.adj_in → new.stopped ≡ old.stopped
+    → OnOk result ((config : Config) (r : Run) → Holds config r old → Holds config (turn (Command_call (Reach prefix cost)) [] ∷ r) new)
+on_reach (Ok done) prefix cost old new conf peers config_same links adj_in stopped = λ config r holds.
+    holds_reach config r prefix cost old new holds conf peers config_same links adj_in stopped
+on_reach (Err why) prefix cost old new conf peers config_same links adj_in stopped = tt
+
+-- with a new peer each is one that was accepted
+added_taken : (own : Asn) (slot t : ℕ) (before : Option ConfiguredPeer) (peer found : ConfiguredPeer) → IsTaken own slot peer → (before ≡ Some found → IsTaken own t found)
+    → cond (t == slot) (Some peer) before ≡ Some found → IsTaken own t found
+added_taken own slot t before peer found new old at = by_slot (t == slot) refl at
   where
-    by_slot : (b : Bool) → (t == slot) ≡ b → cond b (Some peer) before ≡ Some found → t < 64
-    by_slot true same is = rw (eqb-true t slot same) below
-    by_slot false other is = within is
+    by_slot : (b : Bool) → (t == slot) ≡ b → cond b (Some peer) before ≡ Some found → IsTaken own t found
+    by_slot true same is = let this : peer ≡ found = cc in rw (eqb-true t slot same, ← this) new
+    by_slot false other is = old is
+
+-- commands leave the own AS
+own_after : (conf : Configuration) (command : Command) → (conf_after conf command).own ≡ conf.own
+own_after conf (AddPeer slot peer) = refl
+own_after conf (Enable slot) = refl
+own_after conf (Reach prefix cost) = refl
+
+own_called : (call : Call) (conf : Configuration) → (conf_called call conf).own ≡ conf.own
+own_called (Up_call slot) conf = refl
+own_called (Fail_call slot) conf = refl
+own_called (Bytes_call slot octets) conf = refl
+own_called (Command_call command) conf = own_after conf command
+own_called (Take_call slot octets) conf = refl
+
+pub own_is : (config : Config) (r : Run) → (configuration_of config r).own ≡ config.asn
+own_is config [] = refl
+own_is config (now ∷ r) = own_called now.call (configuration_of config r) ∙ own_is config r
+
+-- an accepted peer
+is_taken : (config : Config) (r : Run) (slot : ℕ) (peer : PeerConf) (s : SpeakerState) → Holds config r s → first_refusal s.conf 0 (AddPeer slot peer) ≡ None → IsTaken config.asn slot (configured_of peer)
+is_taken config r slot peer s h may = record {
+  within = slot-from_accepted s.conf 0 slot peer may;
+  external = ap (λ (own : Asn). peer.asn.0 == own.0) (sym (own_is config r) ∙ ap (λ (c : Configuration). c.own) (sym h.conf)) ∙ external-from_accepted s.conf 0 slot peer may;
+  local = is_host-from_accepted s.conf 0 slot peer may;
+}
 
 -- a new peer
 pub holds_added : (config : Config) (r : Run) (slot : ℕ) (peer : PeerConf) (old new : SpeakerState) → Holds config r old → first_refusal old.conf 0 (AddPeer slot peer) ≡ None
@@ -140,7 +175,7 @@ holds_added config r slot peer old new h may conf peers put config_same adj_in s
     record {
       config_is = config_same ∙ h.config_is;
       conf = conf ∙ ap (λ c. conf_after c (AddPeer slot peer)) h.conf;
-      within = λ t found at. added_within slot t (peer_at old.conf t) (configured_of peer) found (slot-from_accepted old.conf 0 slot peer may) (h.within t found) (sym (peers t) ∙ at);
+      peers = (h.peers.0, λ t found at. added_taken config.asn slot t (peer_at old.conf t) (configured_of peer) found (is_taken config r slot peer old h may) (h.peers.1 t found) (sym (peers t) ∙ at));
       slots =
           slots_changed config old.conf new.conf (link_at old.links) (link_at new.links) old.adj_in new.adj_in (λ t. history config t r) (λ t. history config t (turn (Command_call (AddPeer slot peer)) [] ∷ r)) slot h.slots
           (λ t other. peers t ∙ rw (ne_eqb t slot other) refl)

@@ -40,7 +40,7 @@ pub holds_put : (config : Config) (r1 r2 : Run) (slot : ℕ) (l : Linked) (old n
 holds_put config r1 r2 slot l old new h conf keeps put routes histories peer configured here = record {
   config_is = keeps.config ∙ h.config_is;
   conf = keeps.conf ∙ h.conf ∙ sym conf;
-  within = rw keeps.conf h.within;
+  peers = rw keeps.conf h.peers;
   slots =
       slots_changed config old.conf new.conf (link_at old.links) (link_at new.links) old.adj_in new.adj_in (λ t. history config t r1) (λ t. history config t r2) slot h.slots
       (λ t other. ap (λ c. peer_at c t) keeps.conf)
@@ -188,7 +188,7 @@ pub holds_nothing : (config : Config) (r : Run) (slot : ℕ) (s : SpeakerState) 
 holds_nothing config r slot s h = record {
   config_is = h.config_is;
   conf = h.conf;
-  within = h.within;
+  peers = h.peers;
   slots = λ t. let P : List happens.Event → Type 0 = λ x. SlotAgrees config (peer_at s.conf t) (link_at s.links t) (route_at s.adj_in t) x in subst P (sym (bytes_none config slot r t _ refl)) (h.slots t);
   running = h.running;
 }

@@ -1,4 +1,4 @@
-use Rattle.std.proofs.Common.{◌≡◌, ◌++◌, inl, inr, ℕ, zero, suc, true, length, replicate, cond, IfOk, IfErr, arith, append_assoc, length-append, List, [], ◌∷◌, Option, Some, None, Result, Ok, Err, refl, sym, ap, ◌∙◌, subst}
+use Rattle.std.proofs.Common.{◌≡◌, ◌<◌, ◌++◌, inl, inr, ℕ, zero, suc, true, length, replicate, cond, IfOk, IfErr, arith, append_assoc, length-append, List, [], ◌∷◌, Option, Some, None, Result, Ok, Err, refl, sym, ap, ◌∙◌, subst}
 use Rattle.std.specs.Option.{MatchOption}
 use Rattle.bgp_conf.specs.declared.refusal.Refusal.{Refusal}
 use Rattle.bgp_conf.specs.declared.refusal.Refusal.TheVariants.{NoMemory}
@@ -17,12 +17,12 @@ use Rattle.speaker.proofs.WaitingLists.{nothing_rises}
 -- Lists of events.
 
 -- a speaker without peers is as no call leaves it
-pub agrees_new : (config : Config) → Agrees config [] (started config)
-agrees_new config = record {
+pub agrees_new : (config : Config) → 0 < config.asn.0 → Agrees config [] (started config)
+agrees_new config own = record {
   holds = record {
     config_is = refl;
     conf = refl;
-    within = λ slot peer at. absurd (cc);
+    peers = (own, λ slot peer at. absurd (cc));
     slots = λ slot. record {
       configured = refl;
       there = refl;
@@ -52,7 +52,7 @@ agrees_same config r old new same a = record {
   holds = record {
     config_is = same.config ∙ a.holds.config_is;
     conf = same.conf ∙ a.holds.conf;
-    within = rw same.conf a.holds.within;
+    peers = rw same.conf a.holds.peers;
     slots = λ t. rw (same.conf, same.links t, same.adj_in) (a.holds.slots t);
     running = same.stopped ∙ a.holds.running;
   };
@@ -61,8 +61,8 @@ agrees_same config r old new same a = record {
   thrifty = a.thrifty;
 }
 
-pub played_none : (config : Config) (s : SpeakerState) → s ≡ started config → IsPlayed config [] [] s
-played_none config s is = inl (record { r = []; follows = refl; agrees = rw is (agrees_new config) })
+pub played_none : (config : Config) (s : SpeakerState) → Agrees config [] s → IsPlayed config [] [] s
+played_none config s agrees = inl (record { r = []; follows = refl; agrees = agrees })
 
 -- what an accepted event leads to
 abbrev Accepts : Event → Report → SpeakerState → SpeakerState → Type 0

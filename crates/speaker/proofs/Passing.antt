@@ -1,5 +1,8 @@
-use Rattle.std.proofs.Common.{◌≡◌, ◌≢◌, ◌≤◌, ◌<◌, ◌+◌, ◌==◌, ◌^◌, ℕ, Bool, true, false, List, [], ◌∷◌, Option, Some, None, Result, Ok, Err, OnOk, length, cond, refl, sym, ap, ◌∙◌, subst}
+use Rattle.std.proofs.Common.{◌≡◌, ◌≢◌, ◌≤◌, ◌<◌, ◌+◌, ◌==◌, ◌^◌, ℕ, Bool, true, false, List, [], ◌∷◌, Option, Some, None, Result, Ok, Err, OnOk, length, cond, MatchOption, refl, sym, ap, ◌∙◌, subst}
 use Rattle.std.specs.Option.{option_map}
+use Rattle.bgp_attr.specs.AsPath.{PathSegment}
+use Rattle.bgp_attr.specs.PathAttributes.{PathAttributes, missing_of}
+use Rattle.bgp_attr.specs.declared.attrs.Origin.{Origin}
 use Rattle.bgp_conf.specs.Configuration.{Configuration, peer_at}
 use Rattle.bgp_conf.specs.declared.conf.ConfiguredPeer.{ConfiguredPeer}
 use Rattle.bgp_fsm.specs.declared.session.Session.{Session}
@@ -9,26 +12,28 @@ use Rattle.bgp_peer.specs.SessionInputs as happens
 use Rattle.bgp_peer.specs.SessionInputs.{Queued, session}
 use Rattle.bgp_peer.proofs.Agreeing.{ring-is}
 use Rattle.decision.specs.declared.candidate.Candidate.{Candidate}
+use Rattle.export_rules.specs.Export.{AreAccepted}
 use Rattle.net_prefix.specs.declared.prefix.Prefix.{Prefix}
 use Rattle.rib_in.specs.LatestRoutes.{route_at}
 use Rattle.rib_out.specs.Held.{held_at}
 use Rattle.speaker.specs.AdjRibIn.{route}
 use Rattle.speaker.specs.Agreement.{SlotAgrees, tables_after, IsNews, IsOwedIn, IsThrifty, Holds, Passes, QueuesOn, Agrees}
-use Rattle.speaker.specs.Export.{IsExport, export_to, export_peer_of}
+use Rattle.speaker.specs.Export.{IsAccepted, IsExport, export_to, export_peer_of}
 use Rattle.speaker.specs.Held.{held, told_in}
 use Rattle.speaker.specs.Linked.{Linked}
-use Rattle.speaker.specs.LocRib.{IsLocRib}
+use Rattle.speaker.specs.LocRib.{HasNoCandidate, IsBest, IsLocRib}
+use Rattle.speaker.specs.Candidates.{IsCandidate}
 use Rattle.speaker.specs.Queueing.{Queue, IsServed, update_saying, rank_of}
 use Rattle.speaker.specs.Runs.{Call, Run, turn, configuration_of, history}
 use Rattle.speaker.specs.Serving.{HasRoom, IsServedAt, IsStill, IsToldAt}
 use Rattle.speaker.specs.SpeakerState.{SpeakerState, tables_of}
 use Rattle.speaker.specs.Tables.{Tables, best_at, link_at}
 use Rattle.speaker.specs.declared.config.Config.{Config}
-use Rattle.speaker.proofs.Calls.{tables_same, export_is, export_peer_found, export_short, at_slot, off_slot}
-use Rattle.speaker.proofs.Commands.{peer_of}
+use Rattle.speaker.proofs.Calls.{best_candidate, tables_same, export_is, export_peer_found, export_short, at_slot, off_slot}
+use Rattle.speaker.proofs.Commands.{own_is, peer_of}
 use Rattle.speaker.proofs.Events.{holds_put, slot_is}
 use Rattle.speaker.proofs.Histories.{route_stays}
-use Rattle.speaker.proofs.QueuedUpdates.{slot_queued, saying_is_update, saying_names, saying_says, named_is}
+use Rattle.speaker.proofs.QueuedUpdates.{IsGood, saying_faultless, slot_queued, saying_is_update, saying_names, saying_says, named_is}
 use Rattle.speaker.proofs.SlotStates.{SlotIs, linked_from}
 
 -- The queueing of a call: each UPDATE was owed, and with room each peer holds its export.
@@ -61,11 +66,41 @@ tables_queued config call r queue slot u = λ i. record {
   routes = λ s prefix. same_route (s == slot) u (history config s (turn call queue ∷ r)) prefix i;
 }
 
+-- a candidate's route lacks nothing
+nothing_missing : (attrs : PathAttributes) (origin : Origin) (path : List PathSegment) (next_hop : ℕ) → attrs.origin ≡ Some origin → attrs.as_path ≡ Some path → attrs.next_hop ≡ Some next_hop
+    → missing_of attrs ≡ None
+nothing_missing attrs origin path next_hop some_origin some_path some_next_hop = rw (some_origin, some_path, some_next_hop) refl
+
+same_attrs : (a b : PathAttributes) → Some a ≡ Some b → a ≡ b
+same_attrs a b is = cc
+
+candidate_complete : (t : Tables) (p : Prefix) (c : Candidate) (attrs : PathAttributes) → IsCandidate t p c → t.routes c.slot p ≡ Some attrs → missing_of attrs ≡ None
+candidate_complete t p c attrs is route_is =
+    let same : is.attrs ≡ attrs = same_attrs is.attrs attrs (sym is.route ∙ route_is) in
+    subst (λ a. missing_of a ≡ None) same (nothing_missing is.attrs c.origin is.made.path is.made.next_hop is.made.origin_is is.made.path_is is.made.next_hop_is)
+
+best_complete : (s : SpeakerState) (p : Prefix) → IsLocRib (tables_of s) s.loc_rib → (c : Candidate) (attrs : PathAttributes) → best_at s.loc_rib p ≡ Some c → route_at s.adj_in c.slot p ≡ Some attrs
+    → missing_of attrs ≡ None
+best_complete s p chosen c attrs best =
+    let B : Option Candidate → Type 0 = λ found. MatchOption found (HasNoCandidate (tables_of s) p) (λ c. IsBest (tables_of s) p c) in
+    candidate_complete (tables_of s) p c attrs (best_candidate (tables_of s) p c (subst B best (chosen.best p)))
+
+-- the octets that the export to a slot has are good to its peer
+abbrev pub Accepts : SpeakerState → ℕ → Prefix → Option (List ℕ) → Type 0
+Accepts s slot p export = (a : List ℕ) → export ≡ Some a → (peer : ConfiguredPeer) → peer_at s.conf slot ≡ Some peer → IsAccepted s.loc_rib s.adj_in (export_peer_of s.conf slot peer) p a
+
+is_good : (config : Config) (r : Run) (s : SpeakerState) (slot : ℕ) (p : Prefix) (export : Option (List ℕ)) (peer : ConfiguredPeer) → Holds config r s → IsLocRib (tables_of s) s.loc_rib
+    → peer_at s.conf slot ≡ Some peer → Accepts s slot p export → IsGood config.asn export
+is_good config r s slot p export peer holds chosen configured accepts a some =
+    let own : s.conf.own ≡ config.asn = ap (λ (c : Configuration). c.own) holds.conf ∙ own_is config r in
+    subst (λ asn. AreAccepted asn a) own
+    (accepts a some peer configured (record { own = rw own holds.peers.0; local = (holds.peers.1 slot peer configured).local }) (best_complete s p chosen))
+
 -- an UPDATE that says of a prefix what the export has and the peer doesn't hold is owed
 is_owed : (config : Config) (r : Run) (s : SpeakerState) (slot : ℕ) (p : Prefix) (export : Option (List ℕ)) (peer : ConfiguredPeer) (l : Linked) → Holds config r s
     → IsLocRib (tables_after config r) s.loc_rib → peer_at s.conf slot ≡ Some peer → SlotIs config peer l (route_at s.adj_in slot) (history config slot r) → rank_of p < 2 ^ 38
-    → export_to s slot p ≡ export → ((a : List ℕ) → export ≡ Some a → length a ≤ 4068) → held_at l.adj_out p ≢ export → IsOwedIn config r slot (update_saying p export)
-is_owed config r s slot p export peer l holds loc_rib configured here place exported short news =
+    → export_to s slot p ≡ export → ((a : List ℕ) → export ≡ Some a → length a ≤ 4068) → Accepts s slot p export → held_at l.adj_out p ≢ export → IsOwedIn config r slot (update_saying p export)
+is_owed config r s slot p export peer l holds loc_rib configured here place exported short accepts news =
     let tables : tables_after config r ≡ tables_of s = tables_same config r s.conf (link_at s.links) s.adj_in (sym holds.conf) holds.slots in
     let chosen : IsLocRib (tables_of s) s.loc_rib = subst (λ t. IsLocRib t s.loc_rib) tables loc_rib in
     let E : Option (List ℕ) → Type 0 = λ e. IsExport (tables_after config r) (export_peer_of (configuration_of config r) slot peer) p e in
@@ -78,6 +113,9 @@ is_owed config r s slot p export peer l holds loc_rib configured here place expo
       peer = peer;
       configured = ap (λ c. peer_at c slot) (sym holds.conf) ∙ configured;
       is_update = saying_is_update p export short;
+      faultless =
+          saying_faultless p export peer.asn config.asn short place (holds.peers.1 slot peer configured).external
+          (is_good config r s slot p export peer holds chosen configured accepts);
       alone = (p, (export, refl));
       some = (p, saying_names p export place short);
       each = λ q names. subst P (named_is p export q place short names) this;
@@ -85,8 +123,8 @@ is_owed config r s slot p export peer l holds loc_rib configured here place expo
 
 -- a peer is told what it is owed
 pub queues_told : (slot : ℕ) (p : Prefix) (export : Option (List ℕ)) (now new : SpeakerState) → (told : IsToldAt slot p export now new) → told.before.peer.session.state ≡ Established
-    → HasRoom told.before → export_to now slot p ≡ export → held_at told.before.adj_out p ≢ export → QueuesOn now new
-queues_told slot p export now new told up room exported news config call r queue passes =
+    → HasRoom told.before → export_to now slot p ≡ export → Accepts now slot p export → held_at told.before.adj_out p ≢ export → QueuesOn now new
+queues_told slot p export now new told up room exported accepts news config call r queue passes =
     let was : Run = turn call queue ∷ r in
     let is : Run = turn call ((slot, update_saying p export) ∷ queue) ∷ r in
     let peer = peer_of config (turn call queue ∷ r) slot told.before now passes.holds told.was in
@@ -104,7 +142,7 @@ queues_told slot p export now new told up room exported news config call r queue
             told.puts (λ t other q. ap (λ table. route_at table t q) routes) (λ t other. off_slot config t slot call (update_saying p export) queue r other)
             peer.0 peer.1 (rw (routes, at_slot config slot call (update_saying p export) queue r) after);
         loc_rib = subst T (sym (tables_queued config call r queue slot (update_saying p export))) (rw loc_rib passes.loc_rib);
-        owed = (is_owed config (turn call queue ∷ r) now slot p export peer.0 told.before passes.holds passes.loc_rib peer.1 before told.told.place exported short news, passes.owed);
+        owed = (is_owed config (turn call queue ∷ r) now slot p export peer.0 told.before passes.holds passes.loc_rib peer.1 before told.told.place exported short accepts news, passes.owed);
       },
     )
 
@@ -117,7 +155,7 @@ queues_still now new still config call r queue passes =
         holds = record {
           config_is = passes.holds.config_is;
           conf = passes.holds.conf;
-          within = passes.holds.within;
+          peers = passes.holds.peers;
           slots = λ t. subst (λ l. SlotAgrees config (peer_at now.conf t) l (route_at now.adj_in t) (history config t (turn call queue ∷ r))) (sym (still.links t)) (passes.holds.slots t);
           running = passes.holds.running;
         };
@@ -163,7 +201,7 @@ agrees_served config call r queue s passes thrifty served =
       settled = λ slot peer configured established room prefix.
           let here : peer_at s.conf slot ≡ Some peer = ap (λ c. peer_at c slot) (sym conf) ∙ configured in
           let A : Option ConfiguredPeer → Type 0 = λ x. SlotAgrees config x (link_at s.links slot) (route_at s.adj_in slot) (history config slot (turn call queue ∷ r)) in
-          served_slot config (turn call queue ∷ r) s slot peer _ (link_at s.links) refl tables conf chosen here (λ l linked. served slot (holds.within slot peer here) peer l here linked) (subst A here (holds.slots slot)) established room prefix;
+          served_slot config (turn call queue ∷ r) s slot peer _ (link_at s.links) refl tables conf chosen here (λ l linked. served slot (holds.peers.1 slot peer here).within peer l here linked) (subst A here (holds.slots slot)) established room prefix;
       thrifty = (passes.owed, thrifty);
     }
 
@@ -171,7 +209,7 @@ agrees_served config call r queue s passes thrifty served =
 pub holds_chosen : (config : Config) (r : Run) (old new : SpeakerState) (loc_rib : List (Prefix × Candidate)) → new ≡ record old { loc_rib = loc_rib } → Holds config r old → Holds config r new
 holds_chosen config r old new loc_rib is h =
     let P : SpeakerState → Type 0 = λ s. Holds config r s in
-    let same : Holds config r (record old { loc_rib = loc_rib }) = record { config_is = h.config_is; conf = h.conf; within = h.within; slots = h.slots; running = h.running } in
+    let same : Holds config r (record old { loc_rib = loc_rib }) = record { config_is = h.config_is; conf = h.conf; peers = h.peers; slots = h.slots; running = h.running } in
     subst P (sym is) same
 
 -- a step's end: Loc-RIB was chosen, and then it queued

@@ -1,22 +1,29 @@
-use Rattle.std.proofs.Common.{◌≡◌, ◌≤◌, ◌<◌, ◌+◌, ◌^◌, ◌||◌, ℕ, Bool, true, false, List, [], ◌∷◌, ◌++◌, Option, Some, None, length, cond, refl, sym, ap, ◌∙◌, subst, arith, append-nil, length-append}
+use Rattle.std.proofs.Common.{◌≡◌, ◌≤◌, ◌<◌, ◌+◌, ◌^◌, ◌||◌, ℕ, Bool, true, false, List, [], ◌∷◌, ◌++◌, Option, Some, None, length, cond, refl, sym, ap, ◌∙◌, subst, arith, append-nil, length-append, ◌==◌, inl, inr}
+use Rattle.std.specs.Prelude.{All}
 use Rattle.std.proofs.lemmas.List.Elements.{All-cons}
 use Rattle.std.proofs.lemmas.Bool.{le-leb}
 use Rattle.std.proofs.lemmas.List.{length-take}
 use Rattle.bgp_attr.specs.PathAttributes.{PathAttributes}
+use Rattle.bgp_attr.specs.PeerKinds.{kind_between}
+use Rattle.bgp_attr.specs.declared.peer.PeerKind.TheVariants.{External}
 use Rattle.bgp_conf.specs.declared.conf.ConfiguredPeer.{ConfiguredPeer}
 use Rattle.bgp_fsm.specs.declared.session.Session.{Session}
 use Rattle.bgp_fsm.specs.declared.state.State.TheVariants.{Established}
 use Rattle.bgp_msg.specs.MessageSpelling.{front_prefixes, wire_form, update_of, update_body, is_lawful_length}
+use Rattle.bgp_msg.specs.UpdateMeaning.{update_fault}
 use Rattle.bgp_msg.specs.MessageStream.{IsMessage, WholeMessage, messages}
 use Rattle.bgp_msg.specs.declared.frame.MessageType.TheVariants.{Update}
 use Rattle.bgp_msg.proofs.PrefixLists.{prefixes_in-parts, wire_form-read}
 use Rattle.bgp_msg.proofs.Spellings.{spelling_is_message}
 use Rattle.bgp_msg.proofs.StreamPieces.{messages-nil}
+use Rattle.bgp_msg.proofs.Updates.{no_attributes, written_says}
 use Rattle.bgp_msg.proofs.WrittenMessages.{update_first, update_has_parts, update_is, update_length}
 use Rattle.bgp_peer.specs.Agreement.{IsUpdateMessage}
 use Rattle.bgp_peer.specs.SentMessages.{sent}
 use Rattle.bgp_peer.specs.SessionInputs.{Event, Queued, session}
 use Rattle.bgp_peer.proofs.Agreeing.{agrees-queue}
+use Rattle.export_rules.specs.Export.{AreAccepted}
+use Rattle.net_prefix.specs.declared.asn.Asn.{Asn}
 use Rattle.net_prefix.specs.PrefixSpelling.{spelling_of, address_octets, octets_for}
 use Rattle.net_prefix.specs.declared.prefix.Prefix.{Prefix}
 use Rattle.rib_out.proofs.Prefixes.{is_prefix-refl}
@@ -130,6 +137,25 @@ told_by_it false export is = absurd (cc)
 -- it says this of it
 pub saying_says : (p : Prefix) (export : Option (List ℕ)) → rank_of p < 2 ^ 38 → ((a : List ℕ) → export ≡ Some a → length a ≤ 4068) → told_in (update_saying p export) p ≡ export
 saying_says p export place short = saying_tells p export None p place short ∙ told_by_it (is_prefix p p) export (is_prefix-refl p)
+
+-- a peer in another AS finds no fault with what is exported
+abbrev pub IsGood : Asn → Option (List ℕ) → Type 0
+IsGood own export = (a : List ℕ) → export ≡ Some a → AreAccepted own a
+
+none_named_in : All (λ (prefix : Prefix). prefix.bits < 2 ^ 32) []
+none_named_in k d h = absurd (omega (arith, h))
+
+one_named_in : (p : Prefix) → rank_of p < 2 ^ 38 → All (λ prefix. prefix.bits < 2 ^ 32) (p ∷ [])
+one_named_in p place = All-cons (λ prefix. prefix.bits < 2 ^ 32) p [] (small_bits p place) none_named_in
+
+-- nor with the UPDATE that says it
+pub saying_faultless : (p : Prefix) (export : Option (List ℕ)) (peer own : Asn) (short : (a : List ℕ) → export ≡ Some a → length a ≤ 4068) → rank_of p < 2 ^ 38
+    → (peer.0 == own.0) ≡ false → IsGood own export → update_fault (kind_between peer own) (saying_is_update p export short).0 ≡ None
+unfolding saying_is_update update_message
+saying_faultless p None peer own short place other good =
+    (written_says (kind_between peer own) (p ∷ []) [] [] (one_named_in p place) none_named_in (omega (arith, wire_short p)) (no_attributes (kind_between peer own)) (inl refl)).0
+saying_faultless p (Some a) peer own short place other good =
+    rw other (written_says (External own) [] (p ∷ []) a none_named_in (one_named_in p place) (omega (arith, wire_short p, short a refl)) (good a refl).faultless (inr (good a refl).complete)).0
 
 -- the slot after an UPDATE
 pub slot_queued : (config : Config) (peer : ConfiguredPeer) (p : Prefix) (export : Option (List ℕ)) (l new : Linked) (routes : Prefix → Option PathAttributes) (h : List Event)

@@ -11,13 +11,13 @@ use Rattle.net_prefix.specs.declared.prefix.Prefix.{Prefix}
 use Rattle.rib_out.specs.Held.{held_at, is_prefix}
 use Rattle.rib_out.proofs.Prefixes.{is_prefix-refl}
 use Rattle.speaker.specs.Agreement.{QueuesOn}
-use Rattle.speaker.specs.Export.{export_in, export_peer_of, export_to}
+use Rattle.speaker.specs.Export.{IsAccepted, export_in, export_peer_of, export_to}
 use Rattle.speaker.specs.Linked.{Linked}
 use Rattle.speaker.specs.Queueing.{rank_of, update_saying}
 use Rattle.speaker.specs.Serving.{IsServedAt, IsUpAt, HasRoom, HasRoomAt, IsOfSlot, IsStill, IsToldAt, Serves, IsDoneAt, IsGone, IsHad, IsNext}
 use Rattle.speaker.specs.SpeakerState.{SpeakerState}
 use Rattle.speaker.specs.Tables.{best_at, link_at}
-use Rattle.speaker.proofs.Passing.{queues_told, queues_still}
+use Rattle.speaker.proofs.Passing.{Accepts, queues_told, queues_still}
 use Rattle.speaker.proofs.Places.{reached, above_from_rank, rank_from_above, greater_from_rank, same_from_is_prefix, same_from_rank}
 
 -- One slot served: a walk over prefixes in rising order, in which the peer is told what it is owed.
@@ -142,10 +142,10 @@ done_told done p q false export held is here other = other is
 -- the peer is told what it is owed of the next prefix
 pub Walks-told : {X : Type 0} (done : Prefix → Option (List ℕ) → Type 0) (there : Prefix → Option X) (slot : ℕ) (first now new : SpeakerState) (after : Option Prefix) (p : Prefix) (export : Option (List ℕ))
     → (h : Walks done slot first after now) → ((q : Prefix) → there q ≡ None → done q (held_at h.serves.after.adj_out q)) → IsNext there after (Some p)
-    → rank_of p < 2 ^ 38 → HasRoomAt now slot → export_to first slot p ≡ export → held_at h.serves.after.adj_out p ≢ export → done p export → IsToldAt slot p export now new
+    → rank_of p < 2 ^ 38 → HasRoomAt now slot → export_to first slot p ≡ export → held_at h.serves.after.adj_out p ≢ export → done p export → Accepts now slot p export → IsToldAt slot p export now new
     → Walks done slot first (Some p) new
 unfolding Serves-more
-Walks-told done there slot first now new after p export h idle next place room exported news here told =
+Walks-told done there slot first now new after p export h idle next place room exported news here accepts told =
     let same : told.before ≡ h.serves.after = the_slot slot now told.before h.serves.after told.was h.serves.is in
     let is : link_at new.links slot ≡ Some told.after = told.puts slot ∙ rw (eq-eqb slot slot refl) refl in
     let exports : export_to now slot p ≡ export = ap (λ e. e slot p) (export_kept first now h.serves.only.rest) ∙ exported in
@@ -158,7 +158,7 @@ Walks-told done there slot first now new after p export h idle next place room e
       grows = rw told.told.peer (omega (arith, length-append told.before.peer.ring (update_saying p export)));
       gone = λ q none held. told.told.held q ∙ gone_told p q _ export (export_to now slot) (held_at told.before.adj_out q) refl exports none held;
       only = record { rest = told.rest; others = slot_only slot now new told.after told.puts };
-      queues = queues_told slot p export now new told (rw same h.serves.up) (room told.before told.was) exports (rw same news);
+      queues = queues_told slot p export now new told (rw same h.serves.up) (room told.before told.was) exports accepts (rw same news);
     } in
     record {
       serves = Serves-more slot first now new h.serves step;
@@ -207,7 +207,7 @@ pub Walks-withdrawn : (slot : ℕ) (first now new : SpeakerState) (after : Optio
     → export_in (best_at now.loc_rib) now.adj_in peer p ≡ None → IsToldAt slot p None now new → Walks (IsGone (export_to first slot)) slot first (Some p) new
 Walks-withdrawn slot first now new after p peer h is next place room none told =
     Walks-told (IsGone (export_to first slot)) (held_at h.serves.after.adj_out) slot first now new after p None h (λ q idle missing. idle) next place room
-    (export_now first now slot peer h.serves.only.rest is p ∙ none) (λ gone. let found = rw gone at next.0 in (cc)) (λ missing. refl) told
+    (export_now first now slot peer h.serves.only.rest is p ∙ none) (λ gone. let found = rw gone at next.0 in (cc)) (λ missing. refl) (λ a some. absurd (cc)) told
 
 -- what is exported stays
 pub Walks-stays : (slot : ℕ) (first now : SpeakerState) (after : Option Prefix) (p : Prefix) (peer : ExportPeer) (octets : List ℕ) → (h : Walks (IsGone (export_to first slot)) slot first after now)
@@ -223,15 +223,26 @@ none_exported : (slot : ℕ) (first now : SpeakerState) (peer : ExportPeer) (hel
 none_exported slot first now peer held rest is q idle octets some =
     let none : export_to first slot q ≡ None = export_now first now slot peer rest is q ∙ rw idle refl in absurd (cc)
 
+-- what is exported is good to the slot's peer
+accepts_given : (slot : ℕ) (first now : SpeakerState) (p : Prefix) (peer : ExportPeer) (octets : List ℕ) → now ≡ record first { links = now.links }
+    → Some peer ≡ option_map (export_peer_of first.conf slot) (peer_at first.conf slot) → IsAccepted now.loc_rib now.adj_in peer p octets → Accepts now slot p (Some octets)
+accepts_given slot first now p peer octets rest is accepted a some q configured =
+    let conf : now.conf ≡ first.conf = ap (λ (s : SpeakerState). s.conf) rest in
+    let at : Some peer ≡ option_map (export_peer_of now.conf slot) (peer_at now.conf slot) = rw conf is in
+    let found : Some peer ≡ Some (export_peer_of now.conf slot q) = at ∙ ap (option_map (export_peer_of now.conf slot)) configured in
+    let same : peer ≡ export_peer_of now.conf slot q = cc in
+    let here : octets ≡ a = cc in
+    subst (λ x. IsAccepted now.loc_rib now.adj_in x p a) same (subst (λ x. IsAccepted now.loc_rib now.adj_in peer p x) here accepted)
+
 -- what is exported is announced
 pub Walks-announced : (slot : ℕ) (first now new : SpeakerState) (after : Option Prefix) (p : Prefix) (peer : ExportPeer) (octets : List ℕ) → (h : Walks (IsHad (export_to first slot)) slot first after now)
     → Some peer ≡ option_map (export_peer_of first.conf slot) (peer_at first.conf slot) → IsNext (best_at now.loc_rib) after (Some p) → rank_of p < 2 ^ 38 → HasRoomAt now slot
-    → export_in (best_at now.loc_rib) now.adj_in peer p ≡ Some octets → held_at h.serves.after.adj_out p ≢ Some octets → IsToldAt slot p (Some octets) now new
+    → export_in (best_at now.loc_rib) now.adj_in peer p ≡ Some octets → held_at h.serves.after.adj_out p ≢ Some octets → IsAccepted now.loc_rib now.adj_in peer p octets → IsToldAt slot p (Some octets) now new
     → Walks (IsHad (export_to first slot)) slot first (Some p) new
-Walks-announced slot first now new after p peer octets h is next place room some news told =
+Walks-announced slot first now new after p peer octets h is next place room some news accepted told =
     let exported = export_now first now slot peer h.serves.only.rest is p ∙ some in
     Walks-told (IsHad (export_to first slot)) (best_at now.loc_rib) slot first now new after p (Some octets) h (none_exported slot first now peer (held_at h.serves.after.adj_out) h.serves.only.rest is) next place room
-    exported news (λ others same. sym exported ∙ same) told
+    exported news (λ others same. sym exported ∙ same) (accepts_given slot first now p peer octets h.serves.only.rest is accepted) told
 
 -- what is exported and held just so, or isn't exported, needs nothing
 pub Walks-had : (slot : ℕ) (first now : SpeakerState) (after : Option Prefix) (p : Prefix) (peer : ExportPeer) → (h : Walks (IsHad (export_to first slot)) slot first after now)

@@ -1,17 +1,21 @@
 -- When a speaker is as a run leaves it (RFC 4271 sections 3.2, 8 and 9).
-use Rattle.std.specs.Prelude.{◌≡◌, ◌≢◌, ◌<◌, ◌≤◌, ◌+◌, ◌++◌, ℕ, List, [], ◌∷◌, length, Option, Some, None, is_none, false}
+use Rattle.std.specs.Prelude.{◌≡◌, ◌≢◌, ◌==◌, ◌<◌, ◌≤◌, ◌+◌, ◌++◌, ℕ, List, [], ◌∷◌, length, Option, Some, None, is_none, true, false}
 use Rattle.std.specs.Option.{option_map}
+use Rattle.bgp_attr.specs.AttributeFaults.{is_host}
 use Rattle.bgp_attr.specs.PathAttributes.{PathAttributes}
-use Rattle.bgp_conf.specs.Configuration.{peer_at}
+use Rattle.bgp_attr.specs.PeerKinds.{kind_between}
+use Rattle.bgp_conf.specs.Configuration.{Configuration, peer_at}
 use Rattle.bgp_conf.specs.declared.conf.ConfiguredPeer.{ConfiguredPeer}
 use Rattle.bgp_fsm.specs.declared.state.State.TheVariants.{Established}
 use Rattle.bgp_fsm.specs.StateTests.{is_established}
 use Rattle.bgp_fsm.specs.Transports.{transport_of}
 use Rattle.bgp_msg.specs.MessageStream.{messages}
+use Rattle.bgp_msg.specs.UpdateMeaning.{update_fault}
 use Rattle.bgp_peer.specs.Agreement.{PeerAgrees, IsUpdateMessage}
 use Rattle.bgp_peer.specs.SentMessages.{ring_of, sent}
 use Rattle.bgp_peer.specs.SessionInputs as slot
 use Rattle.bgp_peer.specs.SessionInputs.{occupant, session}
+use Rattle.net_prefix.specs.declared.asn.Asn.{Asn}
 use Rattle.net_prefix.specs.declared.prefix.Prefix.{Prefix}
 use Rattle.net_prefix.specs.declared.transport.Transport.TheVariants.{Open as Connected}
 use Rattle.rib_in.specs.LatestRoutes.{route_at}
@@ -76,6 +80,8 @@ pub record IsOwedIn (config : Config) (r : Run) (s : ℕ) (update : List ℕ) : 
   pub peer : ConfiguredPeer
   pub configured : peer_at (configuration_of config r) s ≡ Some peer
   pub is_update : IsUpdateMessage update
+  -- the other end finds no fault with it
+  pub faultless : update_fault (kind_between peer.asn config.asn) is_update.0 ≡ None
   pub alone : (prefix : Prefix) × ((export : Option (List ℕ)) × (update ≡ update_saying prefix export))
   pub some : (prefix : Prefix) × Names update prefix
   pub each : (prefix : Prefix) → Names update prefix → IsNews config r s peer prefix (told_in update prefix)
@@ -90,12 +96,21 @@ abbrev pub IsThrifty : Config → Run → Type 0
 IsThrifty config [] = Unit {0}
 IsThrifty config (now ∷ r) = AreOwed config now.call r now.queued × IsThrifty config r
 
+-- a peer that was accepted: it has one of the 64 slots, is in another AS than ours, and sees of us the address of a host
+pub record IsTaken (own : Asn) (slot : ℕ) (peer : ConfiguredPeer) : Type 0 where
+  pub within : slot < 64
+  pub external : (peer.asn.0 == own.0) ≡ false
+  pub local : is_host peer.local ≡ true
+
+-- our AS is no 0, and each peer was accepted
+abbrev pub AreTaken : Asn → Configuration → Type 0
+AreTaken own conf = (0 < own.0) × ((slot : ℕ) (peer : ConfiguredPeer) → peer_at conf slot ≡ Some peer → IsTaken own slot peer)
+
 -- the settings, the configuration and each slot are as the run leaves them
 pub record Holds (config : Config) (r : Run) (s : SpeakerState) : Type 0 where
   pub config_is : s.config ≡ config
   pub conf : s.conf ≡ configuration_of config r
-  -- each peer has one of the 64 slots
-  pub within : (slot : ℕ) (peer : ConfiguredPeer) → peer_at s.conf slot ≡ Some peer → slot < 64
+  pub peers : AreTaken config.asn s.conf
   pub slots : (slot : ℕ) → SlotAgrees config (peer_at s.conf slot) (link_at s.links slot) (route_at s.adj_in slot) (history config slot r)
   pub running : s.stopped ≡ false
 

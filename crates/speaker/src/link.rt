@@ -39,11 +39,11 @@ impl<A: Allocator + Clone> Link<A> {
     }
 
     /// The session takes an input, as `Peer::input`.
-    pub fn input(&mut self, input: Input, now: u64) -> Effects
+    pub fn input(&mut self, input: Input) -> Effects
         ensures link { self.new ≡ moved self.old input }
         ensures effects { result ≡ effects_of input self.old.peer.session }
     {
-        let effects = self.peer.input(input, now);
+        let effects = self.peer.input(input);
         self.follow(&effects);
         effects
     }

@@ -7,7 +7,7 @@ ghost use Rattle.bgp_fsm.specs.declared.state.State.TheVariants.{Established};
 ghost use Rattle.export_rules.specs.Export.{Tells, most_attributes};
 ghost use Rattle.rib_out.specs.Held.{held_at};
 ghost use Rattle.speaker.specs.Agreement.{QueuesOn};
-ghost use Rattle.speaker.specs.Export.{export_in, export_peer_of, export_to};
+ghost use Rattle.speaker.specs.Export.{IsAccepted, export_in, export_peer_of, export_to};
 ghost use Rattle.speaker.specs.Linked.{Linked};
 ghost use Rattle.speaker.specs.Queueing.{IsTold, rank_of};
 ghost use Rattle.speaker.specs.Serving.{IsServedAt, IsUpAt, HasRoom, HasRoomAt, IsOfSlot, IsStill, IsToldAt, Serves, IsDoneAt, IsGone, IsHad, IsNext};
@@ -30,6 +30,7 @@ pub type Octets = ArrayVec<u8, MAX_MESSAGE>;
 
 /// What is exported of a prefix: the best route, where there is one and it is exported to this peer. Answers
 /// false where nothing is; `octets` are then empty.
+#[tactic(auto, using(crate::proofs::Calls::on_accepted))]
 pub fn export<A: Allocator + Clone>(
     ribs: &Ribs<A>,
     peer: &ExportPeer,
@@ -38,6 +39,8 @@ pub fn export<A: Allocator + Clone>(
 ) -> bool
     ensures tells { Tells result octets.new.items (export_in (best_at ribs.now.loc_rib.entries) ribs.now.adj_in peer.now prefix) }
     ensures small { OnTrue result (length octets.new.items ≤ most_attributes) }
+    // The peer finds no fault with it.
+    ensures accepted { OnTrue result (IsAccepted ribs.now.loc_rib.entries ribs.now.adj_in peer.now prefix octets.new.items) }
 {
     octets.clear();
     let Some(route) = ribs.loc_rib.get(&prefix) else {

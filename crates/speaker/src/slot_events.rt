@@ -1,5 +1,5 @@
 //! What happens to one slot: its operator enables it, its connection stands or fails, octets come.
-ghost use Rattle.std.specs.Prelude.{◌≡◌, ◌≤◌, ◌<◌, ◌++◌, ℕ, List, [], ◌∷◌, length, take, OnOk, IfOk, ◌&&◌, ◌==◌, None, Some, if◌then◌else◌};
+ghost use Rattle.std.specs.Prelude.{◌≡◌, ◌≢◌, ◌≤◌, ◌<◌, ◌++◌, ℕ, List, [], ◌∷◌, length, take, OnOk, IfOk, ◌&&◌, ◌==◌, None, Some, if◌then◌else◌};
 ghost use Rattle.bgp_conf.specs.Configuration.{peer_at};
 ghost use Rattle.bgp_conf.specs.declared.conf.ConfiguredPeer.{ConfiguredPeer as ThePeer};
 ghost use Rattle.bgp_fsm.specs.SessionTable.{effects_of};
@@ -30,7 +30,7 @@ impl<A: Allocator + Clone> Speaker<A> {
         let Some(link) = self.links.get_mut(&slot) else {
             return Effects::NONE;
         };
-        let effects = link.input(input, 0);
+        let effects = link.input(input);
         forget(&mut self.ribs.adj_in, slot, effects.left);
         effects
     }
@@ -54,7 +54,7 @@ impl<A: Allocator + Clone> Speaker<A> {
     // Takes octets up to the end of the message at the front, and that message; answers how many.
     fn hear_front(&mut self, slot: u8, octets: &[u8]) -> Result<usize, AllocError>
         ensures within { IfOk result (λ taken. taken ≤ length octets.now) }
-        ensures heard { IfOk result (λ taken. Hears slot (take taken octets.now) self.old self.new) }
+        ensures heard { IfOk result (λ taken. taken ≢ 0 → Hears slot (take taken octets.now) self.old self.new) }
         ensures shut { IfOk result (λ taken. taken ≡ 0 → 0 < length octets.now → Hears slot octets.now self.old self.new) }
     {
         let taken = self.push(slot, octets);

@@ -1,11 +1,17 @@
 use Rattle.std.proofs.Common.{subst}
 use Rattle.bgp_attr.specs.AttributeSpelling.{attributes_spelling}
 use Rattle.export_rules.specs.Export.{exported_of, fitting, Tells}
+use Rattle.export_rules.proofs.Accepted.{told_accepted}
 use Rattle.export_rules.proofs.Spelled.{exported_some, told_some}
 use Rattle.export_rules.proofs.export.export_of.Goals as goal
 
 pub returns-clause-some : goal.returns-clause-some
 returns-clause-some g c =
     told_some c.write_fitting.result (attributes_spelling (exported_of c.args.attrs.now c.args.peer.now)) c.write_fitting.new.out.items
-    (subst (λ sent. Tells c.write_fitting.result c.write_fitting.new.out.items (fitting (attributes_spelling sent))) c.exported.ensures c.write_fitting.ensures.fitting)
+    (subst (λ sent. Tells c.write_fitting.result c.write_fitting.new.out.items (fitting (attributes_spelling sent))) c.exported.ensures.value c.write_fitting.ensures.fitting)
     (exported_some c.args.attrs.now c.args.peer.now)
+
+pub returns-clause-accepted : goal.returns-clause-accepted
+returns-clause-accepted g c =
+    told_accepted c.write_fitting.result c.write_fitting.new.out.items c.args.attrs.now c.args.peer.now c.exported.ensures.own c.exported.ensures.local c.exported.ensures.lawful
+    (subst (λ sent. Tells c.write_fitting.result c.write_fitting.new.out.items (fitting (attributes_spelling sent))) c.exported.ensures.value c.write_fitting.ensures.fitting)

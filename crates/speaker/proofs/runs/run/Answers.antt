@@ -4,7 +4,7 @@ use Rattle.speaker.proofs.ListedEvents.{played_none, played_more}
 use Rattle.speaker.proofs.runs.run.Goals as goal
 
 pub loop-event-init : goal.loop-event-init
-loop-event-init g c = rw c.new-answers.ensures.items (played_none _ _ c.in_ok-speaker.ensures.ok)
+loop-event-init g c = rw c.new-answers.ensures.items (played_none _ _ c.in_ok-speaker.ensures.agrees)
 
 pub loop-event-preserved : goal.loop-event-preserved
 loop-event-preserved g c =

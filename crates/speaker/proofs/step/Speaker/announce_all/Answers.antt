@@ -21,7 +21,7 @@ loop-prefix-preserved g c =
           let some : export_in (best_at c.loop-prefix.self.loc_rib) c.loop-prefix.self.adj_in c.args.peer.now c.in-Some.prefix ≡ Some c.export.new.octets.items = rw (← c.self.view_is) w.if-export.ensures.tells in
           let news : held_at c.loop-prefix.invariant.serves.after.adj_out c.in-Some.prefix ≢ Some c.export.new.octets.items =
           λ held. let holds = (w.holds.ensures c.loop-prefix.invariant.serves.after c.loop-prefix.invariant.serves.is).1 held in let not = w.if-not-holds.true in (cc) in
-          rw w.self-is (Walks-announced _ _ _ _ _ _ _ _ c.loop-prefix.invariant c.requires.peer next below room some news w.in_ok-announce_at.ensures.told)
+          rw w.self-is (Walks-announced _ _ _ _ _ _ _ _ c.loop-prefix.invariant c.requires.peer next below room some news (rw (← c.self.view_is) w.if-export.ensures.accepted) w.in_ok-announce_at.ensures.told)
       | else-export w ↦
           rw w.self-is (Walks-had _ _ _ _ _ _ c.loop-prefix.invariant c.requires.peer next below
           (elim w.else-export.branch [

@@ -7,7 +7,7 @@ loop-rest-init g c = HasCome-start _ _ _
 
 pub loop-rest-preserved : goal.loop-rest-preserved
 loop-rest-preserved g c =
-    rw c.split_at.ensures.back (HasCome-more _ _ _ _ _ _ _ _ c.loop-rest.invariant (take-append-drop c.in_ok-taken.taken c.loop-rest.rest.now) c.in_ok-taken.ensures.heard)
+    rw c.split_at.ensures.back (HasCome-more _ _ _ _ _ _ _ _ c.loop-rest.invariant (take-append-drop c.in_ok-taken.taken c.loop-rest.rest.now) (c.in_ok-taken.ensures.heard c.if-taken-eq0.false))
 
 pub returns-then-taken-eq0 : goal.returns-then-taken-eq0
 returns-then-taken-eq0 g c =

@@ -17,7 +17,7 @@ returns-then-taken-eq0-clause-shut g c = λ none some config r done peer configu
     holds_shut config r done c.args.slot peer found.0 c.args.octets.now c.args.self.now c.push-taken.new.self holds configured found.1 shut pushes
 
 pub returns-clause-heard : goal.returns-clause-heard
-returns-clause-heard g c = λ config r done peer configured holds.
+returns-clause-heard g c = λ taken config r done peer configured holds.
     let found = slot_of config (turn (Bytes_call c.args.slot done) [] ∷ r) c.args.slot peer c.args.self.now holds configured in
     let pushes = c.push-taken.ensures.pushes found.0 found.1 in
     let open_ = taken_open found.0 c.args.octets.now c.push-taken.result (c.push-taken.ensures.count found.0 found.1) c.if-taken-eq0.false in
