@@ -1,13 +1,19 @@
 -- What turns count, one step after another: the clients lost are those of the wire's faults, of its ends of input and of the loop's closes.
-use Rattle.std.proofs.Common.{◌≡◌, ◌<◌, ◌≤◌, ◌+◌, ◌-◌, ◌^◌, ℕ, zero, suc, refl, sym, ap, subst, arith, inl, inr, Option, Some, None, Result, Ok, Err}
-use Rattle.cache_turns.specs.Serving.{Connection}
-use Rattle.cache_turns.specs.Sockets.{Carried}
-use Rattle.cache_turns.specs.Turns.{Accepts, AreBelowGreatest, Counts, LosesNoMore, TakesTurn, Turned, Turns, VisitsBelow, VisitsLink, counts_of_wire, link_at, settled, wire_visited}
-use Rattle.cache_turns.specs.Wires.{one_more}
+use Rattle.std.proofs.Common.{◌≡◌, ◌<◌, ◌≤◌, ◌+◌, ◌-◌, ◌^◌, ℕ, zero, suc, List, [], ◌∷◌, refl, sym, ap, ◌∙◌, subst, arith, inl, inr, Option, Some, None, Result, Ok, Err}
+use Rattle.net_prefix.specs.declared.transport.Transport.{Transport}
+use Rattle.net_prefix.specs.declared.transport.Transport.TheVariants as transport
+use Rattle.rtr_cache.specs.CacheState.{client_at, transport_of}
+use Rattle.cache_turns.specs.Serving.{Answers, Connection, GoesOn, Reads, Serves, Sides, found_at_rest, found_by_write}
+use Rattle.cache_turns.specs.Turns.{Accepts, AreBelowGreatest, Counts, LosesNoMore, TakesTurn, Turned, Turns, VisitsBelow, VisitsLink, link_at, settled, sides}
+use Rattle.cache_turns.specs.Wires.{WireState, one_more, reading, writing}
 use Rattle.cache_turns.specs.declared.fault.LoopFault.{LoopFault}
 use Rattle.cache_turns.specs.declared.fault.LoopFault.TheVariants.{Accept, NoMemory}
 use Rattle.cache_turns.specs.declared.link.Visit.{Visit}
 use Rattle.cache_turns.specs.declared.link.Visit.TheVariants.{Stays, Faulty, Ended, Closed}
+use Rattle.cache_turns.specs.declared.wire.Received.{Received}
+use Rattle.cache_turns.specs.declared.wire.Received.TheVariants.{Octets as Came, Nothing as NoneCame, End, Fault as ReadFault}
+use Rattle.cache_turns.specs.declared.wire.Sent.{Sent}
+use Rattle.cache_turns.specs.declared.wire.Sent.TheVariants.{Octets as Went, Nothing as NoneWent, Fault as WriteFault}
 
 -- no count falls
 record Rises (old new : Counts) : Type 0 where
@@ -66,44 +72,108 @@ goes_on count = grind arith
 goes_on_by_one : (count : ℕ) → one_more count < 2 ^ 64 - 1 → one_more count ≡ count + 1
 goes_on_by_one count below = grind arith
 
+-- what the wire has told behind a visit that finds this
+record Counted (faults ends : ℕ) (new : WireState) : Type 0 where
+  pub faults_are : new.faults ≡ faults
+  pub ends_are : new.ends ≡ ends
+
+abbrev Tells : Visit → WireState → WireState → Type 0
+Tells Stays old new = Counted old.faults old.ends new
+Tells Faulty old new = Counted (one_more old.faults) old.ends new
+Tells Ended old new = Counted old.faults (one_more old.ends) new
+Tells Closed old new = Counted old.faults old.ends new
+
+tells_found : (visit found : Visit) (old new : WireState) → visit ≡ found → Tells found old new → Tells visit old new
+tells_found visit found old new is tells = subst (λ (v : Visit). Tells v old new) (sym is) tells
+
+rests_tell : (transport : Transport) (old new : WireState) → new ≡ old → Tells (found_at_rest transport) old new
+rests_tell transport.None old new same = subst (λ (w : WireState). Counted old.faults old.ends w) (sym same) (record { faults_are = refl; ends_are = refl })
+rests_tell transport.Opening old new same = subst (λ (w : WireState). Counted old.faults old.ends w) (sym same) (record { faults_are = refl; ends_are = refl })
+rests_tell transport.Listening old new same = subst (λ (w : WireState). Counted old.faults old.ends w) (sym same) (record { faults_are = refl; ends_are = refl })
+rests_tell transport.Open old new same = subst (λ (w : WireState). Counted old.faults old.ends w) (sym same) (record { faults_are = refl; ends_are = refl })
+rests_tell transport.Closing old new same = subst (λ (w : WireState). Counted old.faults old.ends w) (sym same) (record { faults_are = refl; ends_are = refl })
+
+write_tells : (sent : Sent) (number : ℕ) (octets : List ℕ) (old : WireState) → Tells (found_by_write sent) old (writing number octets sent old)
+write_tells (Went count) number octets old = record { faults_are = refl; ends_are = refl }
+write_tells NoneWent number octets old = record { faults_are = refl; ends_are = refl }
+write_tells WriteFault number octets old = record { faults_are = refl; ends_are = refl }
+
+answers_tell : (key : ℕ) (link : Connection) (old : Sides) (visit : Visit) (left : List ℕ) (new : Sides) → Answers key link old visit left new → Tells visit old.wire new.wire
+answers_tell key link old visit left new answers = by_octets answers.octets refl
+  where
+    by_octets : (octets : List ℕ) → answers.octets ≡ octets → Tells visit old.wire new.wire
+    by_octets [] is =
+        let rests = answers.none is in
+        tells_found visit _ old.wire new.wire rests.finds (rests_tell (transport_of (client_at new.cache key)) old.wire new.wire rests.same)
+    by_octets (octet ∷ octets) is =
+        let writes = answers.some (λ none. let wrong : octet ∷ octets ≡ [] = sym is ∙ none in cc) in
+        tells_found visit _ old.wire new.wire writes.finds
+        (subst (λ (w : WireState). Tells (found_by_write writes.sent) old.wire w) (sym writes.asks) (write_tells writes.sent link.number answers.octets old.wire))
+
+-- a read that told neither an end nor a fault counts nothing
+goes_on_tells : (visit : Visit) (old mid new : WireState) → mid.faults ≡ old.faults → mid.ends ≡ old.ends → Tells visit mid new → Tells visit old new
+goes_on_tells Stays old mid new faults ends t = record { faults_are = t.faults_are ∙ faults; ends_are = t.ends_are ∙ ends }
+goes_on_tells Faulty old mid new faults ends t = record { faults_are = t.faults_are ∙ ap one_more faults; ends_are = t.ends_are ∙ ends }
+goes_on_tells Ended old mid new faults ends t = record { faults_are = t.faults_are ∙ faults; ends_are = t.ends_are ∙ ap one_more ends }
+goes_on_tells Closed old mid new faults ends t = record { faults_are = t.faults_are ∙ faults; ends_are = t.ends_are ∙ ends }
+
+serves_tells : (key : ℕ) (link : Connection) (old : Sides) (visit : Visit) (left : List ℕ) (new : Sides) → Serves key link old visit left new → Tells visit old.wire new.wire
+serves_tells key link old visit left new serves = by_read serves.received serves.reads serves.goes_on
+  where
+    by_read : (received : Received) → (reads : Reads key link.number received old serves.behind) → GoesOn received key link serves.behind visit left new → Tells visit old.wire new.wire
+    by_read (Came count) reads answers =
+        goes_on_tells visit _ _ _ (ap (λ (w : WireState). w.faults) reads.asks) (ap (λ (w : WireState). w.ends) reads.asks) (answers_tell key link serves.behind visit left new answers)
+    by_read NoneCame reads answers =
+        goes_on_tells visit _ _ _ (ap (λ (w : WireState). w.faults) reads.asks) (ap (λ (w : WireState). w.ends) reads.asks) (answers_tell key link serves.behind visit left new answers)
+    by_read End reads found =
+        let is : new.wire ≡ reading link.number reads.buf End old.wire = ap (λ (s : Sides). s.wire) found.1 ∙ reads.asks in
+        tells_found visit Ended old.wire new.wire found.0 (record { faults_are = ap (λ (w : WireState). w.faults) is; ends_are = ap (λ (w : WireState). w.ends) is })
+    by_read ReadFault reads found =
+        let is : new.wire ≡ reading link.number reads.buf ReadFault old.wire = ap (λ (s : Sides). s.wire) found.1 ∙ reads.asks in
+        tells_found visit Faulty old.wire new.wire found.0 (record { faults_are = ap (λ (w : WireState). w.faults) is; ends_are = ap (λ (w : WireState). w.ends) is })
+
 -- a visit loses as it counts
-settles : (visit : Visit) (carried : Carried) (counts : Counts) → LosesAsCounted counts (settled visit carried (counts_of_wire (wire_visited visit) counts))
-settles Stays carried counts = loses_none counts
-settles Faulty carried counts =
+settles : (visit : Visit) (number : ℕ) (counts : Counts) (wire : WireState) → Tells visit counts.wire wire → LosesAsCounted counts (settled visit number (record counts { wire = wire }))
+settles Stays number counts wire told = loses_nothing _ _ refl refl told.faults_are told.ends_are
+settles Faulty number counts wire told =
+    let faults : counts.wire.faults ≤ wire.faults = subst (λ (n : ℕ). counts.wire.faults ≤ n) (sym told.faults_are) (goes_on counts.wire.faults) in
     record {
-      rises = record { lost = goes_on counts.lost; closed = omega arith; faults = goes_on counts.wire.faults; ends = omega arith };
-      lost = λ below. omega (arith, goes_on_by_one counts.lost below.lost, goes_on_by_one counts.wire.faults below.faults);
+      rises = record { lost = goes_on counts.lost; closed = omega arith; faults = faults; ends = omega (arith, told.ends_are) };
+      lost = λ below. omega (arith, goes_on_by_one counts.lost below.lost, told.faults_are ∙ goes_on_by_one counts.wire.faults (subst (λ (n : ℕ). n < 2 ^ 64 - 1) told.faults_are below.faults), told.ends_are);
     }
-settles Ended carried counts =
+settles Ended number counts wire told =
+    let ends : counts.wire.ends ≤ wire.ends = subst (λ (n : ℕ). counts.wire.ends ≤ n) (sym told.ends_are) (goes_on counts.wire.ends) in
     record {
-      rises = record { lost = goes_on counts.lost; closed = omega arith; faults = omega arith; ends = goes_on counts.wire.ends };
-      lost = λ below. omega (arith, goes_on_by_one counts.lost below.lost, goes_on_by_one counts.wire.ends below.ends);
+      rises = record { lost = goes_on counts.lost; closed = omega arith; faults = omega (arith, told.faults_are); ends = ends };
+      lost = λ below. omega (arith, goes_on_by_one counts.lost below.lost, told.ends_are ∙ goes_on_by_one counts.wire.ends (subst (λ (n : ℕ). n < 2 ^ 64 - 1) told.ends_are below.ends), told.faults_are);
     }
-settles Closed carried counts =
+settles Closed number counts wire told =
     record {
-      rises = record { lost = goes_on counts.lost; closed = goes_on counts.closed; faults = omega arith; ends = omega arith };
-      lost = λ below. omega (arith, goes_on_by_one counts.lost below.lost, goes_on_by_one counts.closed below.closed);
+      rises = record { lost = goes_on counts.lost; closed = goes_on counts.closed; faults = omega (arith, told.faults_are); ends = omega (arith, told.ends_are) };
+      lost = λ below. omega (arith, goes_on_by_one counts.lost below.lost, goes_on_by_one counts.closed below.closed, told.faults_are, told.ends_are);
     }
 
 counted_as : (old mid new : Counts) → new ≡ mid → LosesAsCounted old mid → LosesAsCounted old new
 counted_as old mid new same loses = subst (λ (c : Counts). LosesAsCounted old c) (sym same) loses
 
 visit_loses : (old new : Turns) (key : ℕ) (link : Option Connection) → VisitsLink old key link new → LosesAsCounted old.counts new.counts
-visit_loses old new key None rests = counted_as _ _ _ rests.counts (loses_none old.counts)
-visit_loses old new key (Some link) visited = counted_as _ _ _ visited.counts (settles visited.visit visited.after.carried old.counts)
+visit_loses old new key None same = counted_as _ _ _ (ap (λ (t : Turns). t.counts) same) (loses_none old.counts)
+visit_loses old new key (Some link) visited =
+    counted_as _ _ _ visited.counts
+    (settles visited.visit link.number old.counts visited.behind.wire (serves_tells key link (sides old) visited.visit visited.left visited.behind visited.serves))
 
 visits_lose : (places : ℕ) (old new : Turns) → VisitsBelow places old new → LosesAsCounted old.counts new.counts
 visits_lose zero old new same = counted_as _ _ _ (ap (λ (t : Turns). t.counts) same) (loses_none old.counts)
 visits_lose (suc key) old new v = loses_both _ _ _ (visits_lose key old v.0 v.1) (visit_loses v.0 new key (link_at v.0 key) v.2)
 
 accepting_loses : (old new : Turns) → Accepts old new → LosesAsCounted old.counts new.counts
-accepting_loses old new (inl rests) = counted_as _ _ _ rests.counts (loses_none old.counts)
+accepting_loses old new (inl none) = counted_as _ _ _ (ap (λ (t : Turns). t.counts) none) (loses_nothing _ _ refl refl refl refl)
 accepting_loses old new (inr (inl away)) = counted_as _ _ _ away.counts (loses_nothing _ _ refl refl refl refl)
 accepting_loses old new (inr (inr comes)) = counted_as _ _ _ comes.counts (loses_nothing _ _ refl refl refl refl)
 
 turned_loses : (now : ℕ) (old new : Turns) → Turned now old new → LosesAsCounted old.counts new.counts
 turned_loses now old new turn =
-    counted_as _ _ _ turn.tells.counts (loses_both _ _ _ (accepting_loses old turn.admitted turn.accepts) (visits_lose _ turn.admitted turn.visited turn.visits))
+    counted_as _ _ _ (ap (λ (t : Turns). t.counts) turn.tells.same) (loses_both _ _ _ (accepting_loses old turn.admitted turn.accepts) (visits_lose _ turn.admitted turn.visited turn.visits))
 
 no_more : (old new : Counts) → LosesAsCounted old new → LosesNoMore old new
 no_more old new loses = λ below. omega (arith, loses.lost below)

@@ -1,6 +1,5 @@
+pub mod Calls
 pub mod Serving
-pub mod Sockets
 pub mod TurnOctets
 pub mod Turns
-pub mod Visiting
 pub mod Wires

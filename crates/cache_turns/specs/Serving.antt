@@ -1,81 +1,113 @@
--- What one turn carries between a client of the cache and its socket: the client hears what its socket gave, in order, and its socket takes what the cache hands out for it, in order.
-use Rattle.std.specs.Prelude.{◌≡◌, ◌≢◌, ◌⊎◌, ◌++◌, ℕ, Bool, false, true, List, [], ◌∷◌, Option, Some, None, nat_le, if◌then◌else◌, take, drop}
-use Rattle.std.specs.Option.{option_map}
-use Rattle.rtr_cache.specs.CacheTable.{Conn, Shared, fresh_conn, hears_octets, notified, pumped}
+-- A visit to a connection: its client hears what the socket gives, and the socket is offered what the cache hands out for the client.
+use Rattle.std.specs.Prelude.{◌≡◌, ◌≢◌, ℕ, List, [], length, Result, Ok, Err, take, drop}
+use Rattle.net_prefix.specs.declared.transport.Transport.{Transport}
+use Rattle.net_prefix.specs.declared.transport.Transport.TheVariants.{None as NoClient, Opening, Listening, Open, Closing}
+use Rattle.rtr_cache.specs.CacheState.{CacheState, client_at, transport_of}
+use Rattle.rtr_cache.specs.ClientHistory.{Heard, Makes, Took}
+use Rattle.rtr_cache.specs.declared.event.CacheReport.{CacheReport}
+use Rattle.rtr_cache.specs.declared.refusal.CacheRefusal.{CacheRefusal}
 use Rattle.cache_turns.specs.TurnOctets.{turn_octets}
-use Rattle.cache_turns.specs.Sockets.{Carried, blank}
+use Rattle.cache_turns.specs.Wires.{FitsIn, WireState, reading, writing}
 use Rattle.cache_turns.specs.declared.link.Visit.{Visit}
 use Rattle.cache_turns.specs.declared.link.Visit.TheVariants.{Stays, Faulty, Ended, Closed}
+use Rattle.cache_turns.specs.declared.wire.Received.{Received}
+use Rattle.cache_turns.specs.declared.wire.Received.TheVariants.{Octets as Came, Nothing as NoneCame, End, Fault as ReadFault}
+use Rattle.cache_turns.specs.declared.wire.Sent.{Sent}
+use Rattle.cache_turns.specs.declared.wire.Sent.TheVariants.{Octets as Went, Nothing as NoneWent, Fault as WriteFault}
 
--- a connection: what its socket has carried, and what was taken of the cache and not yet written
+-- a connection: the number of its socket, and what was taken of the cache for it and not yet written
 pub record Connection : Type 0 where
-  pub carried : Carried
+  pub number : ℕ
   pub waiting : List ℕ
 
--- what stands under a client's key: the cache's end of it, and its connection
-pub record Standing : Type 0 where
-  pub client : Option Conn
-  pub link : Option Connection
+-- what lies on the two sides of the connections
+pub record Sides : Type 0 where
+  pub wire : WireState
+  pub cache : CacheState
 
--- a key that nobody has, and one whose client has just come up on a connection
-abbrev pub nobody : Standing
-nobody = record { client = None; link = None }
+-- the octets that a read gave are heard by the client; where it gave none the cache is told nothing
+abbrev pub Hears : Received → ℕ → List ℕ → CacheState → CacheState → Type 0
+Hears (Came count) key buf old new = (result : Result CacheReport CacheRefusal) × Makes old (Heard key (take count buf) result) new
+Hears NoneCame key buf old new = new ≡ old
+Hears End key buf old new = new ≡ old
+Hears ReadFault key buf old new = new ≡ old
 
-abbrev pub newcomer : ℕ → Standing
-newcomer number = record { client = Some fresh_conn; link = Some (record { carried = blank number; waiting = [] }) }
+-- one read, into a buffer of turn_octets, and what it gave is heard
+pub record Reads (key number : ℕ) (received : Received) (old new : Sides) : Type 0 where
+  pub buf : List ℕ
+  pub room : length buf ≡ turn_octets
+  pub few : FitsIn turn_octets received
+  pub asks : new.wire ≡ reading number buf received old.wire
+  pub hears : Hears received key buf old.cache new.cache
 
--- octets that a socket gave are heard by its client, PDU by PDU (refused says where memory refused what a query needs); where it gave none, the client may stay as it is
-abbrev pub Hears : Shared → Conn → List ℕ → Conn → Type 0
-Hears shared conn octets heard =
-    ((octets ≡ []) × (heard ≡ conn)) ⊎ ((refused : List Bool) × (heard ≡ pumped (hears_octets shared refused conn octets)))
+-- the octets that a take answers
+abbrev pub taken_by : Result ℕ CacheRefusal → List ℕ → List ℕ
+taken_by (Ok count) handed = take count handed
+taken_by (Err why) handed = []
 
--- what a client hands out behind the octets that wait: nothing while there are any, else the first ones of its ring
-abbrev pub handed_out : Conn → List ℕ → List ℕ
-handed_out conn [] = take turn_octets conn.ring
-handed_out conn (octet ∷ octets) = []
+-- the cache hands out the first octets that it has queued for the client, at most turn_octets
+pub record HandsOut (key : ℕ) (old : CacheState) (octets : List ℕ) (new : CacheState) : Type 0 where
+  pub buf : List ℕ
+  pub handed : List ℕ
+  pub result : Result ℕ CacheRefusal
+  pub room : length buf ≡ turn_octets
+  pub makes : Makes old (Took key buf result handed) new
+  pub octets_are : octets ≡ taken_by result handed
 
--- the client behind that
-abbrev pub handing_out : Conn → List ℕ → Conn
-handing_out conn [] = pumped (record conn { ring = drop turn_octets conn.ring })
-handing_out conn (octet ∷ octets) = conn
+-- what is to be written: where nothing waits, what the cache hands out; while octets wait, just these, and the cache is asked nothing
+pub record Takes (key : ℕ) (waiting : List ℕ) (old : CacheState) (octets : List ℕ) (new : CacheState) : Type 0 where
+  pub none_wait : waiting ≡ [] → HandsOut key old octets new
+  pub some_wait : waiting ≢ [] → (octets ≡ waiting) × (new ≡ old)
 
--- a visit: the client heard just what its socket gave, and what its socket took and what waits for it grew by just what the client hands out
-pub record Serves (shared : Shared) (conn : Conn) (link : Connection) (heard : Conn) (after : Connection) : Type 0 where
+-- what a write leaves waiting, and what it tells of the connection
+abbrev pub left_by : Sent → List ℕ → List ℕ
+left_by (Went count) octets = drop count octets
+left_by NoneWent octets = octets
+left_by WriteFault octets = octets
+
+abbrev pub found_by_write : Sent → Visit
+found_by_write (Went count) = Stays
+found_by_write NoneWent = Stays
+found_by_write WriteFault = Faulty
+
+-- one write, which offers all that is to be written
+pub record Writes (number : ℕ) (octets : List ℕ) (old : WireState) (visit : Visit) (left : List ℕ) (new : WireState) : Type 0 where
+  pub sent : Sent
+  pub asks : new ≡ writing number octets sent old
+  pub finds : visit ≡ found_by_write sent
+  pub leaves : left ≡ left_by sent octets
+
+-- a connection for which nothing is to be written ends where the cache has closed its client
+abbrev pub found_at_rest : Transport → Visit
+found_at_rest Closing = Closed
+found_at_rest Open = Stays
+found_at_rest Listening = Stays
+found_at_rest Opening = Stays
+found_at_rest NoClient = Stays
+
+-- nothing is to be written, and the wire is asked nothing
+pub record Rests (key : ℕ) (cache : CacheState) (old : WireState) (visit : Visit) (left : List ℕ) (new : WireState) : Type 0 where
+  pub same : new ≡ old
+  pub finds : visit ≡ found_at_rest (transport_of (client_at cache key))
+  pub leaves : left ≡ []
+
+-- the client is answered: what is to be written is offered to its socket, just where there is any
+pub record Answers (key : ℕ) (link : Connection) (old : Sides) (visit : Visit) (left : List ℕ) (new : Sides) : Type 0 where
   pub octets : List ℕ
-  pub number : after.carried.number ≡ link.carried.number
-  pub given : after.carried.given ≡ link.carried.given ++ octets
-  pub hears : Hears shared conn octets heard
-  pub taken : after.carried.taken ++ after.waiting ≡ (link.carried.taken ++ link.waiting) ++ handed_out heard link.waiting
+  pub takes : Takes key link.waiting old.cache octets new.cache
+  pub none : octets ≡ [] → Rests key new.cache old.wire visit left new.wire
+  pub some : octets ≢ [] → Writes link.number octets old.wire visit left new.wire
 
--- the cache has closed its end, and nothing that it said is left to write
-pub record HasSaidAll (heard : Conn) (link : Connection) : Type 0 where
-  pub closed : heard.is_open ≡ false
-  pub written : link.waiting ≡ []
-  pub taken : heard.ring ≡ []
+-- what follows the read: a socket that has told its end or a fault is asked nothing more
+abbrev pub GoesOn : Received → ℕ → Connection → Sides → Visit → List ℕ → Sides → Type 0
+GoesOn (Came count) key link old visit left new = Answers key link old visit left new
+GoesOn NoneCame key link old visit left new = Answers key link old visit left new
+GoesOn End key link old visit left new = (visit ≡ Ended) × (new ≡ old)
+GoesOn ReadFault key link old visit left new = (visit ≡ Faulty) × (new ≡ old)
 
--- why a connection stays or ends: it stays while neither the socket is over nor all is said; where the wire fails or its input ends, what waits is lost
-abbrev pub Finds : Visit → Conn → Connection → Connection → Type 0
-Finds Stays heard link after =
-    (heard.is_open ≡ false → link.waiting ≡ [] → heard.ring ≢ []) × (after.carried.is_over ≡ link.carried.is_over)
-Finds Faulty heard link after = after.carried.is_over ≡ true
-Finds Ended heard link after = after.carried.is_over ≡ true
-Finds Closed heard link after = HasSaidAll heard link × (after.carried.is_over ≡ link.carried.is_over)
-
--- what stands under a key behind a visit
-abbrev pub left_by : Visit → Conn → Connection → Connection → Standing
-left_by Stays heard link after = record { client = Some (handing_out heard link.waiting); link = Some after }
-left_by Faulty heard link after = nobody
-left_by Ended heard link after = nobody
-left_by Closed heard link after = nobody
-
--- what clients share once the cache is told the moment; one before the last tells it nothing
-abbrev pub shared_at : ℕ → Shared → Shared
-shared_at now shared = if nat_le shared.now now then record shared { now = now } else shared
-
--- a client then: it is notified, where it is to be, and what its response has left is queued
-abbrev pub client_told : ℕ → Shared → Option Conn → Option Conn
-client_told now shared client =
-    if nat_le shared.now now then option_map (λ conn. pumped (notified (record shared { now = now }) conn)) client else client
-
-abbrev pub told : ℕ → Shared → Standing → Standing
-told now shared old = record old { client = client_told now shared old.client }
+-- a visit to the connection of the client of this key: what it finds, and what it leaves waiting
+pub record Serves (key : ℕ) (link : Connection) (old : Sides) (visit : Visit) (left : List ℕ) (new : Sides) : Type 0 where
+  pub received : Received
+  pub behind : Sides
+  pub reads : Reads key link.number received old behind
+  pub goes_on : GoesOn received key link behind visit left new

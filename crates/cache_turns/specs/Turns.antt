@@ -1,13 +1,14 @@
--- A turn: a connection that came is let in or closed, each connection is visited once, and the cache is told the moment.
+-- A turn: the wire is asked for a connection, which is let in or closed, each connection is visited once, and the cache is told the moment.
 use Rattle.std.specs.Prelude.{◌≡◌, ◌≢◌, ◌⊎◌, ◌≤◌, ◌<◌, ◌+◌, ◌-◌, ◌^◌, ℕ, zero, suc, List, [], length, Option, Some, None, IsSome, Result, Ok, Err, slice_index_or}
-use Rattle.rtr_cache.specs.CacheTable.{Conn}
-use Rattle.rtr_cache.specs.CacheState.{CacheState, client_at}
-use Rattle.cache_turns.specs.Serving.{Connection, Finds, Serves, Standing, left_by, newcomer, nobody, shared_at, told}
-use Rattle.cache_turns.specs.Visiting.{IsNewClient}
-use Rattle.cache_turns.specs.Sockets.{Carried, blank}
-use Rattle.cache_turns.specs.Wires.{WireState, closing, failing, one_more}
+use Rattle.rtr_cache.specs.CacheState.{CacheState, client_at, tells_client}
+use Rattle.rtr_cache.specs.ClientHistory.{CameUp, Makes, Ticked, WentDown}
+use Rattle.rtr_cache.specs.declared.event.CacheReport.{CacheReport}
+use Rattle.rtr_cache.specs.declared.refusal.CacheRefusal.{CacheRefusal}
+use Rattle.cache_turns.specs.Calls.{Accept}
+use Rattle.cache_turns.specs.Serving.{Connection, Serves, Sides}
+use Rattle.cache_turns.specs.Wires.{WireState, accept_failing, arriving, calling, closing, one_more}
 use Rattle.cache_turns.specs.declared.fault.LoopFault.{LoopFault}
-use Rattle.cache_turns.specs.declared.fault.LoopFault.TheVariants.{Accept, NoMemory}
+use Rattle.cache_turns.specs.declared.fault.LoopFault.TheVariants as stop
 use Rattle.cache_turns.specs.declared.link.Visit.{Visit}
 use Rattle.cache_turns.specs.declared.link.Visit.TheVariants.{Stays, Faulty, Ended, Closed}
 
@@ -27,9 +28,9 @@ pub record Turns : Type 0 where
 abbrev pub link_at : Turns → ℕ → Option Connection
 link_at turns key = slice_index_or turns.links key None
 
--- what stands under a client's key
-abbrev pub standing_at : Turns → ℕ → Standing
-standing_at turns key = record { client = client_at turns.cache key; link = link_at turns key }
+-- what lies on the two sides of its connections
+abbrev pub sides : Turns → Sides
+sides turns = record { wire = turns.counts.wire; cache = turns.cache }
 
 -- each connection is one of a client that the cache has
 abbrev pub EachHasAClient : CacheState → List (Option Connection) → Type 0
@@ -39,102 +40,101 @@ EachHasAClient cache links = (key : ℕ) → IsSome (slice_index_or links key No
 abbrev pub idle : CacheState → WireState → Turns
 idle cache wire = record { counts = record { lost = 0; closed = 0; wire = wire }; cache = cache; links = [] }
 
--- what stands under each key, and what clients share, stay
-pub record AllStand (old new : Turns) : Type 0 where
-  pub stand : (key : ℕ) → standing_at new key ≡ standing_at old key
-  pub shared : new.cache.shared ≡ old.cache.shared
+-- every connection stays, and every one but that of a key
+abbrev pub LinksStay : Turns → Turns → Type 0
+LinksStay old new = (key : ℕ) → link_at new key ≡ link_at old key
 
--- but for what stands under this key
-pub record OthersStand (old : Turns) (key : ℕ) (new : Turns) : Type 0 where
-  pub stand : (other : ℕ) → other ≢ key → standing_at new other ≡ standing_at old other
-  pub shared : new.cache.shared ≡ old.cache.shared
+abbrev pub OtherLinksStay : Turns → ℕ → Turns → Type 0
+OtherLinksStay old key new = (other : ℕ) → other ≢ key → link_at new other ≡ link_at old other
 
--- what a call of the wire makes of the counts
+-- what calls of the wire make of the counts
 abbrev pub counts_of_wire : (WireState → WireState) → Counts → Counts
 counts_of_wire call counts = record counts { wire = call counts.wire }
 
--- a connection has come
-abbrev pub arriving : WireState → WireState
-arriving wire = record wire { arrivals = one_more wire.arrivals }
+-- no connection waits
+abbrev pub NoneComes : Turns → Turns → Type 0
+NoneComes old new = new ≡ record old { counts = counts_of_wire (calling Accept) old.counts }
 
--- accepting has failed
-abbrev pub accept_failing : WireState → WireState
-accept_failing wire = record wire { faults = one_more wire.faults; accept_faults = one_more wire.accept_faults }
-
--- nothing changes
-pub record Rests (old new : Turns) : Type 0 where
-  pub counts : new.counts ≡ old.counts
-  pub all : AllStand old new
-
--- a connection comes whose client the cache refuses: it is closed, and has carried nothing
+-- a connection comes whose client the cache refuses, and is closed
 pub record TurnsAway (old new : Turns) : Type 0 where
-  pub counts : new.counts ≡ counts_of_wire (λ wire. closing (blank wire.arrivals) (arriving wire)) old.counts
-  pub all : AllStand old new
+  pub why : CacheRefusal
+  pub counts : new.counts ≡ counts_of_wire (λ wire. closing wire.arrivals (arriving wire)) old.counts
+  pub refused : Makes old.cache (CameUp (Err why)) new.cache
+  pub links : LinksStay old new
 
--- a connection comes, and its client stands under a key that nobody had
+-- a connection comes, and stands under the key of its client
 pub record ComesUp (old new : Turns) : Type 0 where
   pub key : ℕ
   pub counts : new.counts ≡ counts_of_wire arriving old.counts
-  pub comes : IsNewClient old.cache key new.cache
-  pub before : standing_at old key ≡ nobody
-  pub now : standing_at new key ≡ newcomer old.counts.wire.arrivals
-  pub others : OthersStand old key new
+  pub comes : Makes old.cache (CameUp (Ok (tells_client key))) new.cache
+  pub before : link_at old key ≡ None
+  pub now : link_at new key ≡ Some (record { number = old.counts.wire.arrivals; waiting = [] })
+  pub others : OtherLinksStay old key new
 
 -- accepting goes well: no connection comes, or one is closed, or one is let in
 abbrev pub Accepts : Turns → Turns → Type 0
-Accepts old new = Rests old new ⊎ (TurnsAway old new ⊎ ComesUp old new)
+Accepts old new = NoneComes old new ⊎ (TurnsAway old new ⊎ ComesUp old new)
 
--- memory is refused for a connection that came: its client is with the cache, under a key that nobody had, and nothing else changes
+-- memory is refused for a connection that came: its client is with the cache, and nothing else changes
 pub record LacksMemory (old new : Turns) : Type 0 where
   pub key : ℕ
   pub counts : new.counts ≡ counts_of_wire arriving old.counts
-  pub comes : IsNewClient old.cache key new.cache
-  pub links : (other : ℕ) → link_at new other ≡ link_at old other
+  pub comes : Makes old.cache (CameUp (Ok (tells_client key))) new.cache
+  pub links : LinksStay old new
 
 -- a turn that ends at this fault
 abbrev pub Stops : Turns → LoopFault → Turns → Type 0
-Stops old Accept new = new ≡ record old { counts = counts_of_wire accept_failing old.counts }
-Stops old NoMemory new = LacksMemory old new
+Stops old stop.Accept new = new ≡ record old { counts = counts_of_wire accept_failing old.counts }
+Stops old stop.NoMemory new = LacksMemory old new
 
 -- what accepting makes of a loop
 abbrev pub Admits : Turns → Result (Unit {0}) LoopFault → Turns → Type 0
 Admits old (Ok nothing) new = Accepts old new
 Admits old (Err fault) new = Stops old fault new
 
--- what the wire has told behind a visit
-abbrev pub wire_visited : Visit → WireState → WireState
-wire_visited Stays wire = wire
-wire_visited Faulty wire = failing wire
-wire_visited Ended wire = record wire { ends = one_more wire.ends }
-wire_visited Closed wire = wire
-
 -- a client is lost, and its socket closed
-abbrev pub losing : Carried → Counts → Counts
-losing carried counts = record counts { lost = one_more counts.lost; wire = closing carried counts.wire }
+abbrev pub losing : ℕ → Counts → Counts
+losing number counts = record counts { lost = one_more counts.lost; wire = closing number counts.wire }
 
--- what a visit that found this is counted as, once the wire has told what it has
-abbrev pub settled : Visit → Carried → Counts → Counts
-settled Stays carried counts = counts
-settled Faulty carried counts = losing carried counts
-settled Ended carried counts = losing carried counts
-settled Closed carried counts = losing carried (record counts { closed = one_more counts.closed })
+-- what a visit that found this is counted as
+abbrev pub settled : Visit → ℕ → Counts → Counts
+settled Stays number counts = counts
+settled Faulty number counts = losing number counts
+settled Ended number counts = losing number counts
+settled Closed number counts = losing number (record counts { closed = one_more counts.closed })
+
+-- the cache is told that a client is gone
+abbrev pub GoesDown : CacheState → ℕ → CacheState → Type 0
+GoesDown old key new = (result : Result CacheReport CacheRefusal) × Makes old (WentDown key result) new
+
+-- what it is told behind a visit: of a connection that stays nothing
+abbrev pub TellsCache : Visit → CacheState → ℕ → CacheState → Type 0
+TellsCache Stays old key new = new ≡ old
+TellsCache Faulty old key new = GoesDown old key new
+TellsCache Ended old key new = GoesDown old key new
+TellsCache Closed old key new = GoesDown old key new
+
+-- what stands under a key behind a visit
+abbrev pub link_left : Visit → Connection → Option Connection
+link_left Stays link = Some link
+link_left Faulty link = None
+link_left Ended link = None
+link_left Closed link = None
 
 -- a visit to the connection under a key: what it found and made of the client and its connection; each one that ends is counted as lost, and its socket closed
 pub record VisitsConnection (old : Turns) (key : ℕ) (link : Connection) (new : Turns) : Type 0 where
   pub visit : Visit
-  pub conn : Conn
-  pub heard : Conn
-  pub after : Connection
-  pub client : client_at old.cache key ≡ Some conn
-  pub serves : Serves old.cache.shared conn link heard after
-  pub finds : Finds visit heard link after
-  pub stands : standing_at new key ≡ left_by visit heard link after
-  pub counts : new.counts ≡ settled visit after.carried (counts_of_wire (wire_visited visit) old.counts)
-  pub others : OthersStand old key new
+  pub left : List ℕ
+  pub behind : Sides
+  pub serves : Serves key link (sides old) visit left behind
+  pub counts : new.counts ≡ settled visit link.number (record old.counts { wire = behind.wire })
+  pub tells : TellsCache visit behind.cache key new.cache
+  pub stands : link_at new key ≡ link_left visit (record { number = link.number; waiting = left })
+  pub others : OtherLinksStay old key new
 
 -- a key without a connection has no visit
 abbrev pub VisitsLink : Turns → ℕ → Option Connection → Turns → Type 0
-VisitsLink old key None new = Rests old new
+VisitsLink old key None new = new ≡ old
 VisitsLink old key (Some link) new = VisitsConnection old key link new
 
 abbrev pub Visits : Turns → ℕ → Turns → Type 0
@@ -151,9 +151,9 @@ VisitsAll old new = VisitsBelow (length old.links) old new
 
 -- the cache is told the moment
 pub record IsTold (now : ℕ) (old new : Turns) : Type 0 where
-  pub counts : new.counts ≡ old.counts
-  pub stand : (key : ℕ) → standing_at new key ≡ told now old.cache.shared (standing_at old key)
-  pub shared : new.cache.shared ≡ shared_at now old.cache.shared
+  pub result : Result CacheReport CacheRefusal
+  pub same : new ≡ record old { cache = new.cache }
+  pub ticks : Makes old.cache (Ticked now result) new.cache
 
 -- the three steps of a turn
 pub record Turned (now : ℕ) (old new : Turns) : Type 0 where

@@ -1,8 +1,10 @@
 //! The turns of a cache: routers connect, ask and are answered.
-ghost use Rattle.std.specs.Prelude.{◌≡◌, ◌≢◌, ◌<◌, ℕ, ⊤, [], None, OnOk, OnErr, IfOk, IsSome, MatchOption, Some, length, slice_index_or, slice_set, vec_len};
-ghost use Rattle.rtr_cache.specs.CacheState.{client_at};
-ghost use Rattle.cache_turns.specs.Turns.{Admits, IsTold, TakesTurn, Visits, VisitsAll, idle, link_at, losing, settled};
-ghost use Rattle.cache_turns.specs.Visiting.{IsNewClient, Loses};
+ghost use Rattle.std.specs.Prelude.{◌≡◌, ◌≢◌, ◌<◌, ℕ, ⊤, [], Err, None, Ok, OnOk, OnErr, IfOk, IsSome, MatchOption, Some, length, slice_index_or, slice_set};
+ghost use Rattle.rtr_cache.specs.CacheState.{OthersStay, client_at, tells_client};
+ghost use Rattle.rtr_cache.specs.ClientHistory.{CameUp, Makes};
+ghost use Rattle.rtr_cache.specs.declared.refusal.CacheRefusal.{CacheRefusal};
+ghost use Rattle.cache_turns.specs.TurnOctets.{turn_octets};
+ghost use Rattle.cache_turns.specs.Turns.{Admits, GoesDown, IsTold, TakesTurn, TellsCache, Visits, VisitsAll, idle, link_at, link_left, losing, settled};
 
 use crate::fault::LoopFault;
 use crate::link::{Link, Visit};
@@ -105,8 +107,9 @@ impl<W: Wire + Drop, A: Allocator + Clone> CacheLoop<W, A> {
     // The key of a new client, unless the cache refuses it.
     fn new_client(&mut self) -> Option<u64>
         ensures same { self.new ≡ record self.old { cache = self.new.cache } }
-        ensures comes { MatchOption result (self.new.cache ≡ self.old.cache) (λ key. IsNewClient self.old.cache key self.new.cache) }
+        ensures comes { MatchOption result ((why : CacheRefusal) × Makes self.old.cache (CameUp (Err why)) self.new.cache) (λ key. Makes self.old.cache (CameUp (Ok (tells_client key))) self.new.cache) }
         ensures unused { MatchOption result ⊤ (λ key. link_at self.old key ≡ None) }
+        ensures there { MatchOption result ⊤ (λ key. IsSome (client_at self.new.cache key)) }
     {
         match self.cache.step(CacheEvent::<Global>::Up) {
             Ok(report) => report.client,
@@ -118,7 +121,7 @@ impl<W: Wire + Drop, A: Allocator + Clone> CacheLoop<W, A> {
     fn let_in(&mut self, client: usize, socket: W::Socket) -> Result<(), AllocError>
         requires { IsSome (client_at self.old.cache client) }
         ensures same { self.new ≡ record self.old { links = self.new.links } }
-        ensures here { OnOk result (link_at self.new client ≡ Some (record { carried = W.carried socket; waiting = [] })) }
+        ensures here { OnOk result (link_at self.new client ≡ Some (record { number = W.number socket; waiting = [] })) }
         ensures others { (key : ℕ) → key ≢ client → link_at self.new key ≡ link_at self.old key }
         ensures err { OnErr result ((key : ℕ) → link_at self.new key ≡ link_at self.old key) }
     {
@@ -138,6 +141,7 @@ impl<W: Wire + Drop, A: Allocator + Clone> CacheLoop<W, A> {
         Ok(())
     }
 
+    #[tactic(auto, unfolding(crate::specs::TurnOctets::turn_octets))]
     fn visit_all(&mut self)
         ensures { VisitsAll self.old self.new }
     {
@@ -149,7 +153,8 @@ impl<W: Wire + Drop, A: Allocator + Clone> CacheLoop<W, A> {
 
     // Visits the connection of this client, if it has one.
     fn visit(&mut self, client: usize, buf: &mut [u8])
-        requires { client < length self.old.links }
+        requires place { client < length self.old.links }
+        requires room { length buf.old ≡ turn_octets }
         ensures visits { Visits self.old client self.new }
         ensures places { length self.new.links ≡ length self.old.links }
     {
@@ -165,9 +170,9 @@ impl<W: Wire + Drop, A: Allocator + Clone> CacheLoop<W, A> {
         requires place { client < length self.old.links }
         requires taken_out { link_at self.old client ≡ None }
         requires served { visit ≡ Visit.Stays → IsSome (client_at self.old.cache client) }
-        ensures counts { self.new.counts ≡ settled visit link.carried self.old.counts }
-        ensures stays { visit ≡ Visit.Stays → (self.new.cache ≡ self.old.cache) × (self.new.links ≡ slice_set self.old.links client (Some link)) }
-        ensures gone { visit ≢ Visit.Stays → Loses self.old.cache client self.new.cache × (self.new.links ≡ self.old.links) }
+        ensures counts { self.new.counts ≡ settled visit link.number self.old.counts }
+        ensures tells { TellsCache visit self.old.cache client self.new.cache }
+        ensures links { self.new.links ≡ slice_set self.old.links client (link_left visit link) }
     {
         match visit {
             Visit::Stays => self.links[client] = Some(link),
@@ -182,12 +187,12 @@ impl<W: Wire + Drop, A: Allocator + Clone> CacheLoop<W, A> {
     // Ends the connection of this client, and tells the cache that it is gone.
     fn lose(&mut self, client: usize, link: Link<W, A>)
         requires { link_at self.old client ≡ None }
-        ensures counts { self.new.counts ≡ losing link.carried self.old.counts }
-        ensures cache { Loses self.old.cache client self.new.cache }
-        ensures links { self.new.links ≡ self.old.links }
+        ensures counts { self.new.counts ≡ losing link.number self.old.counts }
+        ensures cache { GoesDown self.old.cache client self.new.cache }
+        ensures links { self.new.links ≡ slice_set self.old.links client None }
     {
         link.close(&mut self.wire);
-        let _report = self.cache.step(CacheEvent::<Global>::Down(client as u64));
+        tell_gone(&mut self.cache, client as u64);
         self.lost = self.lost.saturating_add(1);
     }
 
@@ -197,6 +202,14 @@ impl<W: Wire + Drop, A: Allocator + Clone> CacheLoop<W, A> {
     {
         let _past = self.cache.step(CacheEvent::<Global>::Tick(now));
     }
+}
+
+// Tells the cache that a client is gone.
+fn tell_gone<A: Allocator + Clone>(cache: &mut Cache<A>, client: u64)
+    ensures gone { GoesDown cache.old client cache.new }
+    ensures others { OthersStay cache.old client cache.new }
+{
+    let _report = cache.step(CacheEvent::<Global>::Down(client));
 }
 
 // Makes places, with nothing at them, up to this one.

@@ -1,9 +1,11 @@
 //! One client's connection.
-ghost use Rattle.std.specs.Prelude.{◌≡◌, ◌≢◌, ◌++◌, [], IfOk, None, Some};
+ghost use Rattle.std.specs.Prelude.{◌≡◌, ◌≢◌, [], IfOk, IsSome, Result, length};
 ghost use Rattle.rtr_cache.specs.CacheState.{OthersStay, client_at};
-ghost use Rattle.rtr_cache.specs.CacheTable.{Conn};
-ghost use Rattle.cache_turns.specs.Turns.{wire_visited};
-ghost use Rattle.cache_turns.specs.Visiting.{GivesHeard, IsHeard, IsVisited, TakesHanded, over_by};
+ghost use Rattle.rtr_cache.specs.ClientHistory.{Heard, Makes};
+ghost use Rattle.rtr_cache.specs.declared.event.CacheReport.{CacheReport};
+ghost use Rattle.rtr_cache.specs.declared.refusal.CacheRefusal.{CacheRefusal};
+ghost use Rattle.cache_turns.specs.Serving.{Answers, Reads, Serves, Writes};
+ghost use Rattle.cache_turns.specs.TurnOctets.{turn_octets};
 ghost use Rattle.cache_turns.specs.Wires.{closing};
 
 use crate::outgoing::Outgoing;
@@ -38,13 +40,13 @@ impl<W: Wire, A: Allocator> Model for Link<W, A> {
 
     ghost Value = { Connection };
 
-    ghost view = { λ link. record { carried = W.carried link.socket; waiting = link.outgoing } };
+    ghost view = { λ link. record { number = W.number link.socket; waiting = link.outgoing } };
 }
 
 impl<W: Wire, A: Allocator + Clone> Link<W, A> {
     /// The connection of a client on this socket.
     pub fn new(alloc: A, socket: W::Socket) -> Result<Self, AllocError>
-        ensures { IfOk result (λ link. link ≡ record { carried = W.carried socket; waiting = [] }) }
+        ensures { IfOk result (λ link. link ≡ record { number = W.number socket; waiting = [] }) }
     {
         Ok(Link {
             socket,
@@ -60,49 +62,54 @@ impl<W: Wire, A: Allocator + Clone> Link<W, A> {
         cache: &mut Cache<A>,
         buf: &mut [u8],
     ) -> Visit
-        ensures visits { (conn : Conn) → client_at cache.old client ≡ Some conn → IsVisited cache.old client self.old conn result cache.new self.new }
+        requires { length buf.old ≡ turn_octets }
+        ensures serves { Serves client self.old (record { wire = W.state wire.old; cache = cache.old }) result self.new.waiting (record { wire = W.state wire.new; cache = cache.new }) }
+        ensures number { self.new.number ≡ self.old.number }
         ensures others { OthersStay cache.old client cache.new }
-        ensures shared { cache.new.shared ≡ cache.old.shared }
-        ensures tells { W.state wire.new ≡ wire_visited result (W.state wire.old) }
+        ensures there { IsSome (client_at cache.old client) → IsSome (client_at cache.new client) }
     {
         match self.receive(client, wire, cache, buf) {
-            Visit::Stays => self.send(client, wire, cache),
-            gone => gone,
+            Received::Octets(_) | Received::Nothing => self.answer(client, wire, cache),
+            Received::End => Visit::Ended,
+            Received::Fault => Visit::Faulty,
         }
     }
 
     /// Ends the connection.
     pub fn close(self, wire: &mut W)
-        ensures { W.state wire.new ≡ closing self.carried (W.state wire.old) }
+        ensures { W.state wire.new ≡ closing self.number (W.state wire.old) }
     {
         let Link { socket, .. } = self;
         wire.close(socket);
     }
 
     // Hands what came to the cache.
-    fn receive(&mut self, client: u64, wire: &mut W, cache: &mut Cache<A>, buf: &mut [u8]) -> Visit
-        ensures hears { (conn : Conn) → client_at cache.old client ≡ Some conn → GivesHeard cache.old client self.old conn result cache.new self.new }
-        ensures goes_on { result ≢ Visit.Closed }
+    fn receive(
+        &mut self,
+        client: u64,
+        wire: &mut W,
+        cache: &mut Cache<A>,
+        buf: &mut [u8],
+    ) -> Received
+        requires { length buf.old ≡ turn_octets }
+        ensures reads { Reads client self.old.number result (record { wire = W.state wire.old; cache = cache.old }) (record { wire = W.state wire.new; cache = cache.new }) }
+        ensures same { self.new ≡ self.old }
         ensures others { OthersStay cache.old client cache.new }
-        ensures shared { cache.new.shared ≡ cache.old.shared }
-        ensures tells { W.state wire.new ≡ wire_visited result (W.state wire.old) }
+        ensures there { IsSome (client_at cache.old client) → IsSome (client_at cache.new client) }
     {
-        let count = match wire.read(&mut self.socket, buf) {
-            Received::Octets(count) => count,
-            Received::Nothing => return Visit::Stays,
-            Received::End => return Visit::Ended,
-            Received::Fault => return Visit::Faulty,
-        };
-        hear(cache, client, &buf[..count]);
-        Visit::Stays
+        let received = wire.read(&mut self.socket, buf);
+        if let Received::Octets(count) = received {
+            hear(cache, client, &buf[..count]);
+        }
+        received
     }
 
-    // Writes what was taken, and takes more where all of it is written.
-    fn send(&mut self, client: u64, wire: &mut W, cache: &mut Cache<A>) -> Visit
-        ensures takes { (conn : Conn) → client_at cache.old client ≡ Some conn → TakesHanded self.old conn result cache.new client self.new }
+    // Takes what is to be written, where all that was taken is written, and writes it.
+    fn answer(&mut self, client: u64, wire: &mut W, cache: &mut Cache<A>) -> Visit
+        ensures answers { Answers client self.old (record { wire = W.state wire.old; cache = cache.old }) result self.new.waiting (record { wire = W.state wire.new; cache = cache.new }) }
+        ensures number { self.new.number ≡ self.old.number }
         ensures others { OthersStay cache.old client cache.new }
-        ensures shared { cache.new.shared ≡ cache.old.shared }
-        ensures tells { W.state wire.new ≡ wire_visited result (W.state wire.old) }
+        ensures there { IsSome (client_at cache.old client) → IsSome (client_at cache.new client) }
     {
         self.outgoing.refill(cache, client);
         if self.outgoing.is_empty() {
@@ -116,12 +123,8 @@ impl<W: Wire, A: Allocator + Clone> Link<W, A> {
 
     // Writes what was taken, as much as goes.
     fn write(&mut self, wire: &mut W) -> Visit
-        ensures number { self.new.carried.number ≡ self.old.carried.number }
-        ensures given { self.new.carried.given ≡ self.old.carried.given }
-        ensures taken { self.new.carried.taken ++ self.new.waiting ≡ self.old.carried.taken ++ self.old.waiting }
-        ensures is_over { self.new.carried.is_over ≡ over_by result self.old.carried.is_over }
-        ensures goes_on { result ≢ Visit.Closed }
-        ensures tells { W.state wire.new ≡ wire_visited result (W.state wire.old) }
+        ensures writes { Writes self.old.number self.old.waiting (W.state wire.old) result self.new.waiting (W.state wire.new) }
+        ensures number { self.new.number ≡ self.old.number }
     {
         match wire.write(&mut self.socket, self.outgoing.octets()) {
             Sent::Octets(count) => {
@@ -136,9 +139,9 @@ impl<W: Wire, A: Allocator + Clone> Link<W, A> {
 
 // Hands octets to the cache as this client's.
 fn hear<A: Allocator + Clone>(cache: &mut Cache<A>, client: u64, octets: &[u8])
-    ensures heard { IsHeard cache.old client octets.now cache.new }
+    ensures heard { (result : Result CacheReport CacheRefusal) × Makes cache.old (Heard client octets.now result) cache.new }
     ensures others { OthersStay cache.old client cache.new }
-    ensures shared { cache.new.shared ≡ cache.old.shared }
+    ensures there { IsSome (client_at cache.old client) → IsSome (client_at cache.new client) }
 {
     let _report = cache.step(CacheEvent::<Global>::Bytes(client, octets));
 }

@@ -1,8 +1,9 @@
 //! What waits to be written to a connection.
-ghost use Rattle.std.specs.Prelude.{◌≡◌, ◌≤◌, ◌↔◌, ◌++◌, [], IfOk, IsTrue, Some, drop, length, take};
+ghost use Rattle.std.specs.Prelude.{◌≡◌, ◌≤◌, ◌↔◌, ℕ, [], IfOk, IsSome, IsTrue, Result, drop, length, take};
 ghost use Rattle.rtr_cache.specs.CacheState.{OthersStay, client_at};
-ghost use Rattle.rtr_cache.specs.CacheTable.{Conn, pumped};
-ghost use Rattle.cache_turns.specs.Serving.{handed_out, handing_out};
+ghost use Rattle.rtr_cache.specs.ClientHistory.{Makes, Took};
+ghost use Rattle.rtr_cache.specs.declared.refusal.CacheRefusal.{CacheRefusal};
+ghost use Rattle.cache_turns.specs.Serving.{HandsOut, Takes, taken_by};
 ghost use Rattle.cache_turns.specs.TurnOctets.{turn_octets};
 
 use crate::cache_loop::TURN_OCTETS;
@@ -58,10 +59,9 @@ impl<A: Allocator + Clone> Outgoing<A> {
 
     /// Takes what the cache has queued for the client, as much as fits, where none wait.
     pub fn refill(&mut self, cache: &mut Cache<A>, client: u64)
-        ensures handed { (conn : Conn) → client_at cache.old client ≡ Some conn → self.new ≡ self.old ++ handed_out conn self.old }
-        ensures client { (conn : Conn) → client_at cache.old client ≡ Some conn → client_at cache.new client ≡ Some (handing_out conn self.old) }
+        ensures takes { Takes client self.old cache.old self.new cache.new }
         ensures others { OthersStay cache.old client cache.new }
-        ensures shared { cache.new.shared ≡ cache.old.shared }
+        ensures there { IsSome (client_at cache.old client) → IsSome (client_at cache.new client) }
     {
         if self.is_empty() {
             self.take(cache, client);
@@ -70,10 +70,9 @@ impl<A: Allocator + Clone> Outgoing<A> {
 
     // Takes what the cache has queued for the client, as much as fits.
     fn take(&mut self, cache: &mut Cache<A>, client: u64)
-        ensures handed { (conn : Conn) → client_at cache.old client ≡ Some conn → self.new ≡ take turn_octets conn.ring }
-        ensures client { (conn : Conn) → client_at cache.old client ≡ Some conn → client_at cache.new client ≡ Some (pumped (record conn { ring = drop turn_octets conn.ring })) }
+        ensures hands_out { HandsOut client cache.old self.new cache.new }
         ensures others { OthersStay cache.old client cache.new }
-        ensures shared { cache.new.shared ≡ cache.old.shared }
+        ensures there { IsSome (client_at cache.old client) → IsSome (client_at cache.new client) }
     {
         let count = take_into(cache, client, self.octets.as_mut_slice());
         self.from = 0;
@@ -92,10 +91,9 @@ impl<A: Allocator + Clone> Outgoing<A> {
 // Takes what the cache has queued for the client, as much as the buffer holds.
 fn take_into<A: Allocator + Clone>(cache: &mut Cache<A>, client: u64, buf: &mut [u8]) -> usize
     ensures bound { result ≤ length buf.new }
-    ensures handed { (conn : Conn) → client_at cache.old client ≡ Some conn → take result buf.new ≡ take (length buf.old) conn.ring }
-    ensures client { (conn : Conn) → client_at cache.old client ≡ Some conn → client_at cache.new client ≡ Some (pumped (record conn { ring = drop (length buf.old) conn.ring })) }
+    ensures takes { (answer : Result ℕ CacheRefusal) × Makes cache.old (Took client buf.old answer buf.new) cache.new × (take result buf.new ≡ taken_by answer buf.new) }
     ensures others { OthersStay cache.old client cache.new }
-    ensures shared { cache.new.shared ≡ cache.old.shared }
+    ensures there { IsSome (client_at cache.old client) → IsSome (client_at cache.new client) }
 {
     match cache.take(client, buf) {
         Ok(count) => count,

@@ -1,7 +1,6 @@
 //! What the turns ask of sockets.
-ghost use Rattle.std.specs.Prelude.{◌≡◌, length};
-ghost use Rattle.cache_turns.specs.Sockets.{Carried, receives, sends};
-ghost use Rattle.cache_turns.specs.Wires.{ComesBlank, FitsIn, FitsInSent, WireState, accepting, closing, reading, writing};
+ghost use Rattle.std.specs.Prelude.{◌≡◌, ℕ, length};
+ghost use Rattle.cache_turns.specs.Wires.{FitsIn, FitsInSent, IsNumbered, WireState, accepting, closing, reading, writing};
 
 use std::net::SocketAddr;
 
@@ -37,35 +36,35 @@ pub enum Sent {
     Fault,
 }
 
-/// Sockets that don't wait. A wire counts its faults, the ends of input that it has told, and the connections that came,
-/// and knows what each socket had carried that it has closed; of each socket proofs know what it has carried so far.
+/// Sockets that don't wait. A wire counts its faults, the ends of input that it has told, and the connections that came;
+/// for proofs it keeps each call in mind, with its answer, and the number of each socket.
 pub trait Wire {
     type Socket: Drop;
 
     ghost state: { Self → WireState };
 
-    ghost carried: { Self.Socket → Carried };
+    ghost number: { Self.Socket → ℕ };
 
     /// The next connection that came.
     fn accept(&mut self) -> Accepted<Self::Socket>
-        ensures blank { ComesBlank carried (state self.old).arrivals result }
+        ensures numbered { IsNumbered number (state self.old).arrivals result }
         ensures tells { state self.new ≡ accepting result (state self.old) };
 
     /// Octets that came on the connection, as many as there are and the buffer holds.
     fn read(&mut self, socket: &mut Self::Socket, buf: &mut [u8]) -> Received
         ensures bound { FitsIn (length buf.new) result }
-        ensures carries { carried socket.new ≡ receives result buf.new (carried socket.old) }
-        ensures tells { state self.new ≡ reading result (state self.old) };
+        ensures same { number socket.new ≡ number socket.old }
+        ensures tells { state self.new ≡ reading (number socket.old) buf.new result (state self.old) };
 
     /// Sends octets on the connection, as many as go.
     fn write(&mut self, socket: &mut Self::Socket, octets: &[u8]) -> Sent
         ensures bound { FitsInSent (length octets.now) result }
-        ensures carries { carried socket.new ≡ sends result octets.now (carried socket.old) }
-        ensures tells { state self.new ≡ writing result (state self.old) };
+        ensures same { number socket.new ≡ number socket.old }
+        ensures tells { state self.new ≡ writing (number socket.old) octets.now result (state self.old) };
 
     /// Ends the connection.
     fn close(&mut self, socket: Self::Socket)
-        ensures tells { state self.new ≡ closing (carried socket) (state self.old) };
+        ensures tells { state self.new ≡ closing (number socket) (state self.old) };
 
     /// How many calls answered a fault; it stays at the greatest u64.
     fn faults(&self) -> u64

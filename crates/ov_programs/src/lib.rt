@@ -13,7 +13,7 @@ mod settings;
 mod words;
 
 pub use cache_turns::{
-    Accepted, CacheLoop, Ledger, Log, LoopFault, Note, Parting, Received, Sent, TURN_OCTETS, Wire,
+    Accepted, CacheLoop, Log, LoopFault, Note, Received, Sent, TURN_OCTETS, Wire,
 };
 pub use fault::ExitFault;
 pub use mains::main_cache;

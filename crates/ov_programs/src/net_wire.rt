@@ -1,40 +1,20 @@
 //! The system's TCP sockets.
-ghost use Rattle.std.specs.Prelude.{◌≡◌, [], IfOk, IfSome, false};
-ghost use Rattle.cache_turns.specs.Wires.{connecting, failing, nothing_told};
+ghost use Rattle.std.specs.Prelude.{◌≡◌, IfOk, length};
+ghost use Rattle.cache_turns.specs.Calls.{call_of};
+ghost use Rattle.cache_turns.specs.Wires.{FitsIn, FitsInSent, calling, connecting, failing, nothing_told, told_by_read, told_by_write};
 
-use cache_turns::{Accepted, Ledger, Log, Note, Parting, Received, Sent, Wire};
+use cache_turns::{Accepted, Log, Note, Received, Sent, Wire};
 use mio::net::TcpStream;
 use std::io::{self, ErrorKind, Read, Write};
 use std::marker::Model;
 use std::net::{self, Net, OpenListener, SocketAddr, TcpListener};
 
-/// A TCP socket that doesn't wait. What it has carried stands in proofs alone.
+/// A TCP socket that doesn't wait.
 #[derive(Drop)]
 pub struct NetSocket {
     stream: TcpStream,
     // How many connections came before it.
     number: u64,
-    given: Log,
-    taken: Log,
-    // Whether it has told a fault or its end.
-    is_over: bool,
-}
-
-impl NetSocket {
-    fn new(stream: TcpStream, number: u64) -> NetSocket
-        ensures number { result.number ≡ number }
-        ensures given { result.given.octets ≡ [] }
-        ensures taken { result.taken.octets ≡ [] }
-        ensures is_over { result.is_over ≡ false }
-    {
-        NetSocket {
-            stream,
-            number,
-            given: Log::new(),
-            taken: Log::new(),
-            is_over: false,
-        }
-    }
 }
 
 /// TCP sockets that don't wait, and the listener whose connections are accepted.
@@ -46,7 +26,7 @@ pub struct NetWire<'a, R: Net<Listener = TcpListener, Stream = net::TcpStream>> 
     accept_faults: u64,
     ends: u64,
     arrivals: u64,
-    closed: Ledger,
+    calls: Log,
 }
 
 impl<'a, R: Net<Listener = TcpListener, Stream = net::TcpStream>> Model for NetWire<'a, R> {
@@ -54,7 +34,7 @@ impl<'a, R: Net<Listener = TcpListener, Stream = net::TcpStream>> Model for NetW
 
     ghost Value = { WireState };
 
-    ghost view = { λ wire. record { faults = wire.faults; accept_faults = wire.accept_faults; ends = wire.ends; arrivals = wire.arrivals; closed = wire.closed.sockets } };
+    ghost view = { λ wire. record { faults = wire.faults; accept_faults = wire.accept_faults; ends = wire.ends; arrivals = wire.arrivals; calls = wire.calls.calls } };
 }
 
 impl<'a, R: Net<Listener = TcpListener, Stream = net::TcpStream>> NetWire<'a, R> {
@@ -84,17 +64,19 @@ impl<'a, R: Net<Listener = TcpListener, Stream = net::TcpStream>> NetWire<'a, R>
             accept_faults: 0,
             ends: 0,
             arrivals: 0,
-            closed: Ledger::new(),
+            calls: Log::new(),
         }
     }
 
     /// Begins to connect; none is a fault.
     pub fn connect(&mut self, address: SocketAddr) -> Option<NetSocket>
-        ensures blank { IfSome result (λ socket. (socket.given.octets ≡ []) × (socket.taken.octets ≡ [])) }
-        ensures tells { self.new ≡ connecting result self.old }
+        ensures { self.new ≡ connecting result self.old }
     {
         match TcpStream::connect(self.net, address) {
-            Ok(stream) => Some(NetSocket::new(stream, self.arrivals)),
+            Ok(stream) => Some(NetSocket {
+                stream,
+                number: self.arrivals,
+            }),
             Err(_) => {
                 self.fail();
                 None
@@ -116,6 +98,47 @@ impl<'a, R: Net<Listener = TcpListener, Stream = net::TcpStream>> NetWire<'a, R>
     {
         self.faults = self.faults.saturating_add(1);
     }
+
+    // Keeps a call in mind, for proofs alone.
+    fn note(&mut self, note: &Note<'_>)
+        ensures { self.new ≡ calling (call_of note.now) self.old }
+    {
+        self.calls = self.calls.then(note);
+    }
+
+    // Reads, and counts what that tells.
+    fn receive(&mut self, stream: &mut TcpStream, buf: &mut [u8]) -> Received
+        ensures bound { FitsIn (length buf.new) result }
+        ensures tells { self.new ≡ told_by_read result self.old }
+    {
+        match stream.read(buf) {
+            Ok(0) => {
+                self.ends = self.ends.saturating_add(1);
+                Received::End
+            }
+            Ok(count) => Received::Octets(count),
+            Err(error) if is_not_yet(error.kind()) => Received::Nothing,
+            Err(_) => {
+                self.fail();
+                Received::Fault
+            }
+        }
+    }
+
+    // Writes, and counts what that tells.
+    fn send(&mut self, stream: &mut TcpStream, octets: &[u8]) -> Sent
+        ensures bound { FitsInSent (length octets.now) result }
+        ensures tells { self.new ≡ told_by_write result self.old }
+    {
+        match stream.write(octets) {
+            Ok(count) => Sent::Octets(count),
+            Err(error) if is_not_yet(error.kind()) => Sent::Nothing,
+            Err(_) => {
+                self.fail();
+                Sent::Fault
+            }
+        }
+    }
 }
 
 impl<R: Net<Listener = TcpListener, Stream = net::TcpStream>> Wire for NetWire<'_, R> {
@@ -123,17 +146,18 @@ impl<R: Net<Listener = TcpListener, Stream = net::TcpStream>> Wire for NetWire<'
 
     ghost state = { λ wire. wire };
 
-    ghost carried = { λ socket. record { number = socket.number; given = socket.given.octets; taken = socket.taken.octets; is_over = socket.is_over } };
+    ghost number = { λ socket. socket.number };
 
     fn accept(&mut self) -> Accepted<NetSocket> {
+        self.note(&Note::Accept);
         let Some(listener) = &self.listener else {
             return Accepted::Nothing;
         };
         match accept_from(listener) {
             Ok((stream, address)) => {
-                let socket = NetSocket::new(stream, self.arrivals);
+                let number = self.arrivals;
                 self.arrivals = self.arrivals.saturating_add(1);
-                Accepted::Connection(socket, address)
+                Accepted::Connection(NetSocket { stream, number }, address)
             }
             Err(error) if is_of_one_connection(error.kind()) => Accepted::Nothing,
             Err(_) => {
@@ -145,49 +169,19 @@ impl<R: Net<Listener = TcpListener, Stream = net::TcpStream>> Wire for NetWire<'
     }
 
     fn read(&mut self, socket: &mut NetSocket, buf: &mut [u8]) -> Received {
-        match socket.stream.read(buf) {
-            Ok(0) => {
-                self.ends = self.ends.saturating_add(1);
-                socket.is_over = true;
-                Received::End
-            }
-            Ok(count) => {
-                let octets = &buf[..count];
-                socket.given = socket.given.then(&Note { octets });
-                Received::Octets(count)
-            }
-            Err(error) if is_not_yet(error.kind()) => Received::Nothing,
-            Err(_) => {
-                self.fail();
-                socket.is_over = true;
-                Received::Fault
-            }
-        }
+        let received = self.receive(&mut socket.stream, buf);
+        self.note(&Note::Read(socket.number, buf, received));
+        received
     }
 
     fn write(&mut self, socket: &mut NetSocket, octets: &[u8]) -> Sent {
-        match socket.stream.write(octets) {
-            Ok(count) => {
-                let octets = &octets[..count];
-                socket.taken = socket.taken.then(&Note { octets });
-                Sent::Octets(count)
-            }
-            Err(error) if is_not_yet(error.kind()) => Sent::Nothing,
-            Err(_) => {
-                self.fail();
-                socket.is_over = true;
-                Sent::Fault
-            }
-        }
+        let sent = self.send(&mut socket.stream, octets);
+        self.note(&Note::Write(socket.number, octets, sent));
+        sent
     }
 
     fn close(&mut self, socket: NetSocket) {
-        self.closed = self.closed.then(&Parting {
-            number: socket.number,
-            given: &socket.given,
-            taken: &socket.taken,
-            is_over: socket.is_over,
-        });
+        self.note(&Note::Close(socket.number));
     }
 
     fn faults(&self) -> u64 {

@@ -1,16 +1,16 @@
 //! Each call of a wire fails once: its client is gone, and all others go on.
-ghost use Rattle.std.specs.Prelude.{◌≡◌, ◌≤◌, [], false, if◌then◌else◌, length};
-ghost use Rattle.cache_turns.specs.Wires.{one_more};
+ghost use Rattle.std.specs.Prelude.{◌≡◌, ◌≤◌, if◌then◌else◌, length};
+ghost use Rattle.cache_turns.specs.Calls.{call_of};
+ghost use Rattle.cache_turns.specs.Wires.{FitsIn, FitsInSent, calling, failing, told_by_read, told_by_write};
 
 use net_prefix::{Asn, Prefix, Vrp};
-use ov_programs::{
-    Accepted, CacheLoop, Ledger, Log, LoopFault, Note, Parting, Received, Sent, Wire,
-};
+use ov_programs::{Accepted, CacheLoop, Log, LoopFault, Note, Received, Sent, Wire};
 use rtr_cache::{Cache, CacheEvent};
 use rtr_codec::Intervals;
 use std::alloc::{AllocGlobal, Global};
 use std::cmp::min;
 use std::collections::BTreeSet;
+use std::marker::Model;
 use std::net::{Ipv4Addr, SocketAddr, SocketAddrV4};
 use std::process::Abort;
 use std::test::Fail;
@@ -141,7 +141,7 @@ struct MemoryWire {
     accept_faults: u64,
     ends: u64,
     arrivals: u64,
-    closed: Ledger,
+    log: Log,
 }
 
 // The socket of one router.
@@ -149,26 +149,14 @@ struct MemoryWire {
 struct Plug {
     router: usize,
     number: u64,
-    given: Log,
-    taken: Log,
-    is_over: bool,
 }
 
-impl Plug {
-    fn new(router: usize, number: u64) -> Plug
-        ensures number { result.number ≡ number }
-        ensures given { result.given.octets ≡ [] }
-        ensures taken { result.taken.octets ≡ [] }
-        ensures is_over { result.is_over ≡ false }
-    {
-        Plug {
-            router,
-            number,
-            given: Log::new(),
-            taken: Log::new(),
-            is_over: false,
-        }
-    }
+impl Model for MemoryWire {
+    ghost use Rattle.cache_turns.specs.Wires.{WireState};
+
+    ghost Value = { WireState };
+
+    ghost view = { λ wire. record { faults = wire.faults; accept_faults = wire.accept_faults; ends = wire.ends; arrivals = wire.arrivals; calls = wire.log.calls } };
 }
 
 impl MemoryWire {
@@ -187,17 +175,13 @@ impl MemoryWire {
             accept_faults: 0,
             ends: 0,
             arrivals: 0,
-            closed: Ledger::new(),
+            log: Log::new(),
         }
     }
 
     // Counts a call, and whether it fails.
     fn fails(&mut self, call: Call) -> bool
-        ensures faults { self.new.faults ≡ (if result then one_more self.old.faults else self.old.faults) }
-        ensures accept_faults { self.new.accept_faults ≡ self.old.accept_faults }
-        ensures ends { self.new.ends ≡ self.old.ends }
-        ensures arrivals { self.new.arrivals ≡ self.old.arrivals }
-        ensures closed { self.new.closed.sockets ≡ self.old.closed.sockets }
+        ensures { self.new ≡ (if result then failing self.old else self.old) }
     {
         self.calls = self.calls.saturating_add(1);
         if self.calls != self.fails_at {
@@ -207,16 +191,56 @@ impl MemoryWire {
         self.faults = self.faults.saturating_add(1);
         true
     }
+
+    fn note(&mut self, note: &Note<'_>)
+        ensures { self.new ≡ calling (call_of note.now) self.old }
+    {
+        self.log = self.log.then(note);
+    }
+
+    fn receive(&mut self, router: usize, buf: &mut [u8]) -> Received
+        ensures bound { FitsIn (length buf.new) result }
+        ensures tells { self.new ≡ told_by_read result self.old }
+    {
+        if self.fails(Call::OfRouter(router)) {
+            return Received::Fault;
+        }
+        let Some(router) = self.routers.get_mut(router) else {
+            return Received::Nothing;
+        };
+        if router.has_left() {
+            self.ends = self.ends.saturating_add(1);
+            return Received::End;
+        }
+        match router.ask(buf) {
+            0 => Received::Nothing,
+            count => Received::Octets(count),
+        }
+    }
+
+    fn send(&mut self, router: usize, octets: &[u8]) -> Sent
+        ensures bound { FitsInSent (length octets.now) result }
+        ensures tells { self.new ≡ told_by_write result self.old }
+    {
+        if self.fails(Call::OfRouter(router)) {
+            return Sent::Fault;
+        }
+        match self.routers.get_mut(router) {
+            Some(router) => Sent::Octets(router.hear(octets)),
+            None => Sent::Nothing,
+        }
+    }
 }
 
 impl Wire for MemoryWire {
     type Socket = Plug;
 
-    ghost state = { λ wire. record { faults = wire.faults; accept_faults = wire.accept_faults; ends = wire.ends; arrivals = wire.arrivals; closed = wire.closed.sockets } };
+    ghost state = { λ wire. wire };
 
-    ghost carried = { λ plug. record { number = plug.number; given = plug.given.octets; taken = plug.taken.octets; is_over = plug.is_over } };
+    ghost number = { λ plug. plug.number };
 
     fn accept(&mut self) -> Accepted<Plug> {
+        self.note(&Note::Accept);
         if self.fails(Call::Accept) {
             self.accept_faults = self.accept_faults.saturating_add(1);
             return Accepted::Fault;
@@ -224,7 +248,10 @@ impl Wire for MemoryWire {
         if self.accepted >= self.routers.len() {
             return Accepted::Nothing;
         }
-        let plug = Plug::new(self.accepted, self.arrivals);
+        let plug = Plug {
+            router: self.accepted,
+            number: self.arrivals,
+        };
         self.accepted += 1;
         self.arrivals = self.arrivals.saturating_add(1);
         let address = SocketAddrV4::new(Ipv4Addr::LOCALHOST, 0);
@@ -232,54 +259,22 @@ impl Wire for MemoryWire {
     }
 
     fn read(&mut self, socket: &mut Plug, buf: &mut [u8]) -> Received {
-        if self.fails(Call::OfRouter(socket.router)) {
-            socket.is_over = true;
-            return Received::Fault;
-        }
-        let Some(router) = self.routers.get_mut(socket.router) else {
-            return Received::Nothing;
-        };
-        if router.has_left() {
-            self.ends = self.ends.saturating_add(1);
-            socket.is_over = true;
-            return Received::End;
-        }
-        match router.ask(buf) {
-            0 => Received::Nothing,
-            count => {
-                let octets = &buf[..count];
-                socket.given = socket.given.then(&Note { octets });
-                Received::Octets(count)
-            }
-        }
+        let received = self.receive(socket.router, buf);
+        self.note(&Note::Read(socket.number, buf, received));
+        received
     }
 
     fn write(&mut self, socket: &mut Plug, octets: &[u8]) -> Sent {
-        if self.fails(Call::OfRouter(socket.router)) {
-            socket.is_over = true;
-            return Sent::Fault;
-        }
-        match self.routers.get_mut(socket.router) {
-            Some(router) => {
-                let count = router.hear(octets);
-                let octets = &octets[..count];
-                socket.taken = socket.taken.then(&Note { octets });
-                Sent::Octets(count)
-            }
-            None => Sent::Nothing,
-        }
+        let sent = self.send(socket.router, octets);
+        self.note(&Note::Write(socket.number, octets, sent));
+        sent
     }
 
     fn close(&mut self, socket: Plug) {
         if let Some(router) = self.routers.get_mut(socket.router) {
             router.is_closed = true;
         }
-        self.closed = self.closed.then(&Parting {
-            number: socket.number,
-            given: &socket.given,
-            taken: &socket.taken,
-            is_over: socket.is_over,
-        });
+        self.note(&Note::Close(socket.number));
     }
 
     fn faults(&self) -> u64 {

@@ -7,8 +7,8 @@ pub loop-client-init : goal.loop-client-init
 loop-client-init g c =
     (refl, refl, omega (arith, c.len-client-end.ensures, ap (λ (t : Turns). length t.links) c.self.view_is))
 
-pub visit-requires : goal.visit-requires
-visit-requires g c = omega (arith, c.loop-client.invariant.1, c.loop-client.invariant.2, c.loop-client-test.true)
+pub visit-requires-clause-place : goal.visit-requires-clause-place
+visit-requires-clause-place g c = omega (arith, c.loop-client.invariant.1, c.loop-client.invariant.2, c.loop-client-test.true)
 
 pub loop-client-preserved : goal.loop-client-preserved
 loop-client-preserved g c =

@@ -1,0 +1,95 @@
+-- What a wire is asked, call by call, and what it answers.
+use Rattle.std.specs.Prelude.{◌≡◌, ◌⊎◌, ℕ, List, refl}
+use mathlib.Core.Logic.{inl, inr}
+use Rattle.std.specs.Coded.{Coded, code_by, coded×, coded⊎, coded_list, coded_ℕ}
+use base.Stored.{coded_unit}
+use Rattle.cache_turns.specs.declared.log.Note.{Note}
+use Rattle.cache_turns.specs.declared.log.Note.TheVariants as note
+use Rattle.cache_turns.specs.declared.wire.Received.{Received}
+use Rattle.cache_turns.specs.declared.wire.Received.TheVariants.{Octets as Came, Nothing as NoneCame, End, Fault as ReadFault}
+use Rattle.cache_turns.specs.declared.wire.Sent.{Sent}
+use Rattle.cache_turns.specs.declared.wire.Sent.TheVariants.{Octets as Went, Nothing as NoneWent, Fault as WriteFault}
+
+-- a call of a wire; of a socket it names the number, which says how many connections came before its own
+pub data WireCall : Type 0 where
+  Accept : WireCall  -- for a connection
+  Read : (number : ℕ) (buf : List ℕ) (received : Received) → WireCall  -- the buffer is as the read left it
+  Write : (number : ℕ) (octets : List ℕ) (sent : Sent) → WireCall  -- all that was offered
+  Close : (number : ℕ) → WireCall
+
+-- what a wire notes of a call
+abbrev pub call_of : Note → WireCall
+call_of note.Accept = Accept
+call_of (note.Read number buf received) = Read number buf.now received
+call_of (note.Write number octets sent) = Write number octets.now sent
+call_of (note.Close number) = Close number
+
+-- how proofs keep the answers of reads and of writes
+abbrev received_sum : Received → ℕ ⊎ (Unit {0} ⊎ (Unit {0} ⊎ Unit {0}))
+received_sum (Came count) = inl count
+received_sum NoneCame = inr (inl tt)
+received_sum End = inr (inr (inl tt))
+received_sum ReadFault = inr (inr (inr tt))
+
+abbrev received_of : ℕ ⊎ (Unit {0} ⊎ (Unit {0} ⊎ Unit {0})) → Received
+received_of (inl count) = Came count
+received_of (inr (inl _)) = NoneCame
+received_of (inr (inr (inl _))) = End
+received_of (inr (inr (inr _))) = ReadFault
+
+pub received_back : (received : Received) → received_of (received_sum received) ≡ received
+received_back (Came count) = refl
+received_back NoneCame = refl
+received_back End = refl
+received_back ReadFault = refl
+
+abbrev sent_sum : Sent → ℕ ⊎ (Unit {0} ⊎ Unit {0})
+sent_sum (Went count) = inl count
+sent_sum NoneWent = inr (inl tt)
+sent_sum WriteFault = inr (inr tt)
+
+abbrev sent_of : ℕ ⊎ (Unit {0} ⊎ Unit {0}) → Sent
+sent_of (inl count) = Went count
+sent_of (inr (inl _)) = NoneWent
+sent_of (inr (inr _)) = WriteFault
+
+pub sent_back : (sent : Sent) → sent_of (sent_sum sent) ≡ sent
+sent_back (Went count) = refl
+sent_back NoneWent = refl
+sent_back WriteFault = refl
+
+abbrev pub received_code : Coded Received
+received_code =
+    code_by (ℕ ⊎ (Unit {0} ⊎ (Unit {0} ⊎ Unit {0}))) (coded⊎ coded_ℕ (coded⊎ coded_unit (coded⊎ coded_unit coded_unit))) received_sum received_of received_back
+
+abbrev pub sent_code : Coded Sent
+sent_code =
+    code_by (ℕ ⊎ (Unit {0} ⊎ Unit {0})) (coded⊎ coded_ℕ (coded⊎ coded_unit coded_unit)) sent_sum sent_of sent_back
+
+-- and the calls
+abbrev CallSum : Type 0
+CallSum = Unit {0} ⊎ ((ℕ × (List ℕ × Received)) ⊎ ((ℕ × (List ℕ × Sent)) ⊎ ℕ))
+
+abbrev call_sum : WireCall → CallSum
+call_sum Accept = inl tt
+call_sum (Read number buf received) = inr (inl (number, (buf, received)))
+call_sum (Write number octets sent) = inr (inr (inl (number, (octets, sent))))
+call_sum (Close number) = inr (inr (inr number))
+
+abbrev call_from : CallSum → WireCall
+call_from (inl _) = Accept
+call_from (inr (inl r)) = Read r.0 r.1.0 r.1.1
+call_from (inr (inr (inl w))) = Write w.0 w.1.0 w.1.1
+call_from (inr (inr (inr number))) = Close number
+
+pub call_back : (call : WireCall) → call_from (call_sum call) ≡ call
+call_back Accept = refl
+call_back (Read number buf received) = refl
+call_back (Write number octets sent) = refl
+call_back (Close number) = refl
+
+abbrev pub call_code : Coded WireCall
+call_code =
+    code_by CallSum
+    (coded⊎ coded_unit (coded⊎ (coded× coded_ℕ (coded× (coded_list coded_ℕ) received_code)) (coded⊎ (coded× coded_ℕ (coded× (coded_list coded_ℕ) sent_code)) coded_ℕ)))
+    call_sum call_from call_back
