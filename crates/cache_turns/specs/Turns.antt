@@ -1,5 +1,5 @@
 -- A turn: the wire is asked for a connection, which is let in or closed, each connection is visited once, and the cache is told the moment.
-use Rattle.std.specs.Prelude.{◌≡◌, ◌≢◌, ◌⊎◌, ◌≤◌, ◌<◌, ◌+◌, ◌-◌, ◌^◌, ℕ, zero, suc, List, [], length, Option, Some, None, IsSome, Result, Ok, Err, slice_index_or}
+use Rattle.std.specs.Prelude.{◌≡◌, ◌≢◌, ◌⊎◌, ◌≤◌, ◌<◌, ◌+◌, ◌-◌, ◌^◌, ℕ, zero, suc, List, [], ◌∷◌, length, Option, Some, None, IsSome, Result, Ok, Err, slice_index_or}
 use Rattle.rtr_cache.specs.CacheState.{CacheState, client_at, tells_client}
 use Rattle.rtr_cache.specs.ClientHistory.{CameUp, Makes, Ticked, WentDown}
 use Rattle.rtr_cache.specs.declared.event.CacheReport.{CacheReport}
@@ -167,6 +167,12 @@ pub record Turned (now : ℕ) (old new : Turns) : Type 0 where
 abbrev pub TakesTurn : ℕ → Turns → Result (Unit {0}) LoopFault → Turns → Type 0
 TakesTurn now old (Ok nothing) new = Turned now old new
 TakesTurn now old (Err fault) new = Stops old fault new
+
+-- turns at these moments, one after another, whatever each answers
+abbrev pub TakesTurns : List ℕ → Turns → Turns → Type 0
+TakesTurns [] old new = new ≡ old
+TakesTurns (now ∷ moments) old new =
+    (mid : Turns) × (result : Result (Unit {0}) LoopFault) × TakesTurn now old result mid × TakesTurns moments mid new
 
 -- no count is at the greatest u64
 pub record AreBelowGreatest (counts : Counts) : Type 0 where
