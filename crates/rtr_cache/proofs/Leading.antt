@@ -1,10 +1,10 @@
 -- Each response that a client is told gives the set of its version, since only sets are published.
-use Rattle.std.proofs.Common.{◌≡◌, ◌≢◌, ◌⊎◌, ℕ, zero, suc, Bool, true, false, ◌==◌, if◌then◌else◌, List, [], ◌∷◌, ◌++◌, take, Option, Some, None, Result, Ok, Err, inl, inr, sym, subst}
+use Rattle.std.proofs.Common.{◌≡◌, ◌≢◌, ◌⊎◌, ℕ, zero, suc, Bool, true, false, ◌==◌, if◌then◌else◌, List, [], ◌∷◌, ◌++◌, take, Option, Some, None, Ok, Err, inl, inr, sym, subst}
 use Rattle.std.proofs.lemmas.Option.{same_Some}
 use Rattle.std.specs.List.Sorted.{IsStrictlySortedBy}
 use Rattle.net_prefix.specs.PayloadSets.{IsPayloadSet}
 use Rattle.net_prefix.specs.declared.payload.Vrp.{Vrp}
-use Rattle.rtr_codec.specs.PduSpelling.{Content, Serial_query, Reset_query, Serial_notify}
+use Rattle.rtr_codec.specs.PduSpelling.{Serial_query, Reset_query}
 use Rattle.rtr_codec.specs.PduStream.{Item, WholePdu, FaultyPdu, pdus_from}
 use Rattle.rtr_codec.proofs.ReadResponses.{response-gives}
 use Rattle.rtr_cache.specs.CacheState.{CacheState, client_at}

@@ -17,6 +17,7 @@ mod response;
 mod sender;
 mod served;
 mod table;
+mod unsaid;
 
 pub use cache::{CACHE_CLIENTS, Cache};
 pub use event::{CacheEvent, CacheReport};

@@ -1,14 +1,16 @@
 //! A response in progress.
 ghost use Rattle.std.specs.Prelude.{◌≡◌, ◌∷◌, [], IfOk};
+ghost use Rattle.std.specs.Rc.{rc_slice_items};
 ghost use Rattle.rtr_codec.specs.PduSpelling.{content_of};
 ghost use Rattle.rtr_codec.specs.Responses.{response};
 ghost use Rattle.rtr_cache.specs.Unsaid.{IsResponsePart, IsUnsaid, change_response, left_of};
 
+use crate::unsaid::UnsaidPayloads;
 use net_prefix::Vrp;
 use rtr_codec::{Intervals, Pdu};
 use std::alloc::{AllocError, Allocator, Global};
-use std::collections::VecDeque;
 use std::marker::Model;
+use std::rc::RcSlice;
 use vrp_delta::{Delta, Snapshot};
 
 /// What every response of a cache tells.
@@ -18,15 +20,15 @@ pub struct Terms {
     pub intervals: Intervals,
 }
 
-/// What is still to be said of a response. It owns what it says, so that it goes on with its own version whatever is
-/// published behind it.
+/// What is still to be said of a response. It goes on with its own version whatever is published behind it: what it
+/// says stays for as long as a response says it.
 #[derive(Drop)]
 pub struct Response<A: Allocator = Global> {
     terms: Terms,
     serial: u32,
     is_begun: bool,
-    withdrawn: VecDeque<Vrp, A>,
-    announced: VecDeque<Vrp, A>,
+    withdrawn: UnsaidPayloads<A>,
+    announced: UnsaidPayloads<A>,
 }
 
 impl<A: Allocator> Model for Response<A> {
@@ -36,7 +38,7 @@ impl<A: Allocator> Model for Response<A> {
 
     ghost Value = { List Content };
 
-    ghost view = { λ r. unsaid r.is_begun r.terms.session r.terms.intervals r.serial (payloads_of (record { withdrawn = r.withdrawn.items; announced = r.announced.items })) };
+    ghost view = { λ r. unsaid r.is_begun r.terms.session r.terms.intervals r.serial (payloads_of (record { withdrawn = r.withdrawn; announced = r.announced })) };
 }
 
 impl<A: Allocator + Clone> Response<A> {
@@ -51,32 +53,37 @@ impl<A: Allocator + Clone> Response<A> {
     {
         let withdrawn = change.withdrawn.iter().copied().collect(alloc.clone()?)?;
         let announced = change.announced.iter().copied().collect(alloc)?;
-        Ok(Response {
-            terms,
-            serial,
-            is_begun: false,
-            withdrawn,
-            announced,
-        })
+        Ok(Response::of_lists(terms, serial, withdrawn, announced))
     }
 
     /// The response that tells a whole version.
     pub fn of_version(alloc: A, terms: Terms, version: &Snapshot<A>) -> Result<Self, AllocError>
         ensures { IfOk result (λ r. r ≡ response terms.session terms.intervals version.now []) }
     {
-        let withdrawn = VecDeque::new(alloc.clone()?);
-        let announced = version.payloads().iter().copied().collect(alloc)?;
-        Ok(Response {
-            terms,
-            serial: version.serial(),
-            is_begun: false,
-            withdrawn,
-            announced,
-        })
+        let withdrawn = RcSlice::from_vec(Vec::new(alloc))?;
+        let announced = version.share()?;
+        Ok(Response::of_lists(terms, version.serial(), withdrawn, announced))
     }
 }
 
 impl<A: Allocator> Response<A> {
+    fn of_lists(
+        terms: Terms,
+        serial: u32,
+        withdrawn: RcSlice<Vrp, A>,
+        announced: RcSlice<Vrp, A>,
+    ) -> Self
+        ensures { result ≡ change_response terms.session terms.intervals serial (record { withdrawn = rc_slice_items withdrawn; announced = rc_slice_items announced }) }
+    {
+        Response {
+            terms,
+            serial,
+            is_begun: false,
+            withdrawn: UnsaidPayloads::of_list(withdrawn),
+            announced: UnsaidPayloads::of_list(announced),
+        }
+    }
+
     /// The next PDU, and what is still to be said behind it.
     pub fn next(self) -> (Pdu<'static>, Option<Self>)
         ensures exact { self ≡ content_of result.0 ∷ left_of result.1 }
@@ -89,10 +96,10 @@ impl<A: Allocator> Response<A> {
             rest.is_begun = true;
             return (Pdu::CacheResponse { session }, Some(rest));
         }
-        if let Some(payload) = rest.withdrawn.pop_front() {
+        if let Some(payload) = rest.withdrawn.next() {
             return (Pdu::Withdrawal(payload), Some(rest));
         }
-        if let Some(payload) = rest.announced.pop_front() {
+        if let Some(payload) = rest.announced.next() {
             return (Pdu::Announcement(payload), Some(rest));
         }
         let end = Pdu::EndOfData {

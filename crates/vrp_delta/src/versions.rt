@@ -2,6 +2,7 @@
 ghost use Rattle.std.specs.Prelude.{◌≡◌, ◌≢◌, ◌↔◌, ℕ, List, [], false, take, IsTrue, IsSome, IfSome, IfNone, OnOk, OnErr, IfOk, slice_get};
 ghost use Rattle.std.specs.List.{All, AllPairs, Contains};
 ghost use Rattle.std.specs.Option.{option_copied};
+ghost use Rattle.std.specs.Rc.{rc_slice_items};
 ghost use Rattle.net_prefix.specs.declared.payload.Vrp.{Vrp};
 ghost use Rattle.net_prefix.specs.PayloadSets.{IsPayloadSet};
 ghost use Rattle.vrp_delta.specs.Versions.{Version, change_from, is_newest_set, is_same_set, kept_after, kept_versions, newest_serial, published, published_after, version_of};
@@ -11,26 +12,28 @@ use net_prefix::Vrp;
 use std::alloc::{AllocError, Allocator, Global};
 use std::collections::BTreeSet;
 use std::marker::Model;
+use std::rc::RcSlice;
 
 /// How many versions are kept: the newest, and the 16 before it.
 pub const KEPT_VERSIONS: usize = 17;
 
-/// A version: its serial, and its payloads, the least first.
+/// A version: its serial, and its payloads, the least first, which all who tell them share.
 #[derive(Drop)]
 pub struct Snapshot<A: Allocator = Global> {
     serial: u32,
-    payloads: Vec<Vrp, A>,
+    payloads: RcSlice<Vrp, A>,
 }
 
 impl<A: Allocator> Model for Snapshot<A> {
+    ghost use Rattle.std.specs.Rc.{rc_slice_items};
     ghost use Rattle.net_prefix.specs.PayloadSets.{IsPayloadSet};
     ghost use Rattle.vrp_delta.specs.Versions.{Version};
 
     ghost Value = { Version };
 
-    ghost view = { λ snapshot. record { serial = snapshot.serial; set = snapshot.payloads.items } };
+    ghost view = { λ snapshot. record { serial = snapshot.serial; set = rc_slice_items snapshot.payloads } };
 
-    ghost invariant = { λ snapshot. IsPayloadSet snapshot.payloads.items };
+    ghost invariant = { λ snapshot. IsPayloadSet (rc_slice_items snapshot.payloads) };
 }
 
 impl<A: Allocator> Snapshot<A> {
@@ -47,6 +50,13 @@ impl<A: Allocator> Snapshot<A> {
         ensures rises { IsPayloadSet self.now.set }
     {
         self.payloads.as_slice()
+    }
+
+    /// Another owner of the payloads. They aren't copied.
+    pub fn share(&self) -> Result<RcSlice<Vrp, A>, AllocError>
+        ensures { IfOk result (λ payloads. rc_slice_items payloads ≡ self.now.set) }
+    {
+        self.payloads.clone()
     }
 }
 
@@ -174,11 +184,11 @@ fn is_same<B: Allocator>(payloads: &[Vrp], set: &BTreeSet<Vrp, B>) -> bool
 }
 
 // The members of the set, the least first.
-fn listed<A: Allocator, B: Allocator>(
+fn listed<A: Allocator + Clone, B: Allocator>(
     alloc: A,
     set: &BTreeSet<Vrp, B>,
-) -> Result<Vec<Vrp, A>, AllocError>
-    ensures items { IfOk result (λ payloads. payloads.items ≡ set.now.keys) }
+) -> Result<RcSlice<Vrp, A>, AllocError>
+    ensures items { IfOk result (λ payloads. rc_slice_items payloads ≡ set.now.keys) }
     ensures rises { IsPayloadSet set.now.keys }
 {
     set.iter().copied().collect(alloc)
