@@ -1,11 +1,16 @@
-//! Tests alone, of prefixes, payload lists and payload versions: texts and octets, lists from outside and their
-//! refusals, versions, the deltas between them, and each growth refused in turn. A file is named for what it tests.
+//! Tests alone, of prefixes, payload lists, payload versions and PDUs: texts and octets, a list whose device fails,
+//! versions, the deltas between them, and each growth refused in turn. A file is named for what it tests.
+//!
+//! They stand above the crates that they test, so that those are proved once. More lists, and what they answer, are in
+//! the crate transcripts.
 #![tactic(auto)]
 
 #[cfg(test)]
-mod list_refusals;
-#[cfg(test)]
 mod lists;
+#[cfg(test)]
+mod pdu_faults;
+#[cfg(test)]
+mod pdu_octets;
 #[cfg(test)]
 mod prefixes;
 #[cfg(test)]

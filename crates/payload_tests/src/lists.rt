@@ -1,87 +1,74 @@
-//! Lists from outside, whole and refused.
+//! Lists of rows that end as lines do, and a device that fails. More lists are in the transcripts.
 
-use net_prefix::{Asn, Prefix, Vrp};
-use std::alloc::AllocGlobal;
-use std::process::Abort;
+use std::alloc::Global;
+use std::io;
+use std::io::Read;
 use std::test::Fail;
-use vrp_csv::{Loaded, read_list};
+use vrp_csv::{CsvFault, RowFault, read_list};
 
-pub const HEADER: &str = "ASN,IP Prefix,Max Length,Trust Anchor\n";
-
-// The list under the usual header.
-fn read_rows(rt: &(impl AllocGlobal + Abort), rows: &str) -> Result<Loaded, Fail> {
-    let mut text = String::new(rt.alloc());
-    text.push_str(HEADER)?;
-    text.push_str(rows)?;
-    Ok(read_list(rt.alloc(), text.as_bytes())?)
-}
-
-fn payload(prefix: &str, max_len: u8, asn: u32) -> Result<Vrp, Fail> {
-    Ok(Vrp::new(Prefix::parse(prefix)?, max_len, Asn(asn))?)
-}
-
-#[test]
-fn equal_payloads_count_once_and_ipv6_is_skipped(rt: HostRuntime) -> Result<(), Fail> {
-    let loaded = read_rows(
-        &rt,
-        "AS65002,10.0.0.0/16,24,ta\nAS65002,10.0.0.0/16,24,tb\nAS65003,2001:db8::/32,48,ta\n",
-    )?;
-    assert_eq!(rt; loaded.rows, 3);
-    assert_eq!(rt; loaded.skipped, 1);
-    assert_eq!(rt; loaded.set.len(), 1);
-    assert!(rt; loaded.set.contains(&payload("10.0.0.0/16", 24, 65002)?));
-    Ok(())
-}
-
-// Rows, each of one payload: the row, its prefix, its maximum length and its AS.
-#[rattlefmt::skip]
-const ROWS: [(&str, &str, u8, u32); 12] = [
-    ("AS65002,10.0.0.0/16,24,ta",             "10.0.0.0/16",    24, 65002),
-    ("As65002,10.0.0.0/16,24,ta",             "10.0.0.0/16",    24, 65002),
-    ("aS65002,10.0.0.0/16,24,ta",             "10.0.0.0/16",    24, 65002),
-    ("as65002,10.0.0.0/16,24,ta",             "10.0.0.0/16",    24, 65002),
-    ("65002,10.0.0.0/16,24,ta",               "10.0.0.0/16",    24, 65002),
-    ("AS0000065002,10.0.0.0/16,24,ta",        "10.0.0.0/16",    24, 65002),
-    ("AS4294967295,10.0.0.0/16,24,ta",        "10.0.0.0/16",    24, 4294967295),
-    ("AS0,0.0.0.0/0,0,ta",                    "0.0.0.0/0",      0,  0),
-    ("AS1,10.0.0.0/8,08,ta",                  "10.0.0.0/8",     8,  1),
-    ("AS1,192.0.2.1/32,32,",                  "192.0.2.1/32",   32, 1),
-    ("AS1,192.0.2.128/25,,ta",                "192.0.2.128/25", 25, 1),
-    ("\"AS1\",\"10.0.0.0/8\",\"32\",\"t,\"\"a\"", "10.0.0.0/8", 32, 1),
-];
-
-#[test]
-fn each_row_gives_its_payload(rt: HostRuntime) -> Result<(), Fail> {
-    for (row, prefix, max_len, asn) in ROWS {
-        let loaded = read_rows(&rt, row)?;
-        assert_eq!(rt; loaded.rows, 1);
-        assert_eq!(rt; loaded.skipped, 0);
-        assert!(rt;
-            loaded.set.contains(&payload(prefix, max_len, asn)?),
-            "{row}"
-        );
-    }
-    Ok(())
-}
+// Rows that end as lines of other systems do, behind a header of five columns; the last one has no end.
+const ROWS: &str =
+    "ASN,IP Prefix,Max Length,Trust Anchor,Expires\r\nAS1,10.0.0.0/8,9,ta,0\r\n\r\nAS2,10.0.0.0/8,9,ta,";
 
 #[test]
 fn rows_end_as_lines_do(rt: HostRuntime) -> Result<(), Fail> {
-    let text =
-        "ASN,IP Prefix,Max Length,Trust Anchor,Expires\r\nAS1,10.0.0.0/8,9,ta,0\r\n\r\nAS2,10.0.0.0/8,9,ta,";
-    let loaded = read_list(rt.alloc(), text.as_bytes())?;
+    let loaded = read_list(rt.alloc(), ROWS.as_bytes())?;
     assert_eq!(rt; loaded.rows, 2);
     assert_eq!(rt; loaded.set.len(), 2);
-    let nothing = read_rows(&rt, "")?;
-    assert_eq!(rt; nothing.rows, 0);
-    assert_eq!(rt; nothing.set.len(), 0);
     Ok(())
 }
 
+// A device that gives its octets one by one, and then fails.
+#[derive(Drop)]
+struct Failing<'a> {
+    octets: &'a [u8],
+}
+
+impl<'a> Read for Failing<'a> {
+    fn read(&mut self, buf: &mut [u8]) -> io::Result<usize> {
+        let Some((first, rest)) = self.octets.split_first() else {
+            return Err(io::Error::from(io::ErrorKind::BrokenPipe));
+        };
+        let Some(place) = buf.first_mut() else {
+            return Ok(0);
+        };
+        *place = *first;
+        self.octets = rest;
+        Ok(1)
+    }
+}
+
+// Why a device that gives these octets and then fails is refused: the number and the row.
+fn refusal_behind(alloc: Global, octets: &[u8]) -> Option<(u8, u64)> {
+    let refused = read_list(alloc, Failing { octets }).err()?;
+    Some((refused.number(), refused.row()))
+}
+
+const CUT_OFF: &[u8] =
+    b"ASN,IP Prefix,Max Length,Trust Anchor\nAS1,10.0.0.0/8,9,ta\nAS2,10.0.0.0/8,";
+
 #[test]
-fn the_maximum_length_of_a_skipped_row_is_not_looked_at(rt: HostRuntime) -> Result<(), Fail> {
-    let loaded = read_rows(&rt, "AS65003,2001:db8::/32,no number,ta\nAS1,:,,\n")?;
-    assert_eq!(rt; loaded.rows, 2);
-    assert_eq!(rt; loaded.skipped, 2);
-    assert_eq!(rt; loaded.set.len(), 0);
-    Ok(())
+fn a_failing_device_is_told_from_a_faulty_list(rt: HostRuntime) {
+    for (end, row) in [(0, 0), (9, 0), (40, 1), (CUT_OFF.len(), 2)] {
+        assert_eq!(rt;
+            refusal_behind(rt.alloc(), &CUT_OFF[..end]),
+            Some((15, row))
+        );
+    }
+}
+
+// The faults that no text brings, with their numbers: the device's, want of memory's, the dialect's.
+const OTHERS: [(RowFault, u8); 3] = [
+    (RowFault::Io, 15),
+    (RowFault::NoMemory, 16),
+    (RowFault::Csv, 17),
+];
+
+#[test]
+fn a_fault_that_no_text_brings_has_its_number(rt: HostRuntime) {
+    for (fault, number) in OTHERS {
+        let refused = CsvFault { fault, row: 3 };
+        assert_eq!(rt; refused.number(), number);
+        assert_eq!(rt; refused.row(), 3);
+    }
 }

@@ -1,4 +1,4 @@
-//! What is published, what changed, and what a delta leaves.
+//! What is published, what changed, and what a delta leaves. How many versions are kept is in the transcripts.
 use crate::sets::{payload, set_of};
 use net_prefix::Vrp;
 use std::collections::BTreeSet;
@@ -51,25 +51,6 @@ fn a_delta_leads_from_the_first_list_to_the_second(rt: HostRuntime) -> Result<()
 }
 
 #[test]
-fn the_newest_seventeen_versions_are_kept(rt: HostRuntime) -> Result<(), Fail> {
-    let mut versions = Versions::new(rt.alloc());
-    for asn in 1..19u32 {
-        let set = set_of(rt.alloc(), &[payload(TEN, 16, 16, asn)?])?;
-        assert!(rt; is_published(&mut versions, &set, asn));
-    }
-    let Some(newest) = versions.current() else {
-        panic!(rt; "a version was published");
-    };
-    assert_eq!(rt; newest.serial(), 18);
-    assert!(rt; newest.payloads() == [payload(TEN, 16, 16, 18)?].as_slice());
-    assert!(rt; versions.delta_from(1)?.is_none());
-    let second = payload(TEN, 16, 16, 2)?;
-    let last = payload(TEN, 16, 16, 18)?;
-    assert!(rt; is_change(&delta_since(&versions, 2)?, &[second], &[last]));
-    Ok(())
-}
-
-#[test]
 fn a_bad_delta_leaves_the_set(rt: HostRuntime) -> Result<(), Fail> {
     let here = payload(TEN, 16, 24, 65002)?;
     let gone = payload(TEN_ONE, 16, 16, 65003)?;
@@ -87,9 +68,12 @@ fn a_bad_delta_leaves_the_set(rt: HostRuntime) -> Result<(), Fail> {
 }
 
 #[test]
-fn faults_of_a_delta_have_their_numbers(rt: HostRuntime) -> Result<(), Fail> {
-    assert_eq!(rt; DeltaFault::NoMemory.number(), 5);
-    assert_eq!(rt; DeltaFault::Unknown.number(), 6);
-    assert_eq!(rt; DeltaFault::Duplicate.number(), 7);
-    Ok(())
+fn faults_of_a_delta_have_their_numbers(rt: HostRuntime) {
+    for (fault, number) in [
+        (DeltaFault::NoMemory, 5),
+        (DeltaFault::Unknown, 6),
+        (DeltaFault::Duplicate, 7),
+    ] {
+        assert_eq!(rt; fault.number(), number);
+    }
 }

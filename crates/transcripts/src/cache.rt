@@ -228,6 +228,24 @@ fn push_row(script: &mut String, high: u32, low: u32) -> Result<(), AllocError> 
     writeln!(script, "AS65002,10.{high}.{low}.0/24,24,ta")
 }
 
+// A client comes up, and is the one of this key.
+fn come_up(transcript: &mut Transcript, client: u32) -> Result<(), AllocError> {
+    writeln!(transcript.script, "cup")?;
+    writeln!(transcript.told, "client {client}")
+}
+
+#[test]
+fn as_many_clients_are_served_as_a_cache_holds(rt: HostRuntime) -> Result<(), Fail> {
+    let alloc = rt.alloc();
+    let mut transcript = Transcript::read(alloc, &["> cache 7 3600 600 7200\nok"])?;
+    for client in 0..256 {
+        come_up(&mut transcript, client)?;
+    }
+    writeln!(transcript.script, "cup")?;
+    writeln!(transcript.told, "refused 51")?;
+    transcript.play(&rt, alloc)
+}
+
 // Lines for a cache that end a script: no cache before them, and words that are none.
 const BAD_LINES: [&str; 8] = [
     "cup",

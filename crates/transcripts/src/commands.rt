@@ -111,7 +111,15 @@ refused 33
 refused 33
 > peer 2 65003 192.0.2.13 192.0.2.1 passive 2 all all
 refused 33
-> peer 2 65003 192.0.2.13 192.0.2.1 passive 180 all another
+> peer 2 65003 192.0.2.13 192.0.2.1 passive 1 all all
+refused 33
+> peer 2 65003 192.0.2.13 192.0.2.1 passive 180 all All
+refused 33
+> peer 2 65003 192.0.2.13 192.0.2.1 passive 180 a-name-of-33-octets-is-too-long-x all
+refused 33
+> peer 2 65003 192.0.2.13 192.0.2.1 passive 180 a-name-of-32-octets-isnt-too-lon all
+refused 30
+> peer 2 65003 192.0.2.13 192.0.2.1 passive 180 all transit-1
 refused 30
 > enable 2
 refused 40

@@ -88,28 +88,36 @@ const INTERVALS: [(u32, u32, u32, bool); 11] = [
     (600,    700,   700,     false),
 ];
 
+// Whether octets have this fault with the last of them, and none before it.
+fn is_judged_at_its_end(octets: &[u8], place: Place, fault: PduFault) -> bool {
+    let Some((_, before)) = octets.split_last() else {
+        return false;
+    };
+    read(octets, place) == Step::Faulty(fault, octets) && read(before, place) == Step::Need
+}
+
+// Whether one more octet is waited for behind seven, and none behind these eight.
+fn is_waited_for(header: &[u8; 8], place: Place) -> bool {
+    needed(&header[..7], place) == 1 && needed(header, place) == 0
+}
+
 #[test]
 fn headers_are_judged_with_their_eighth_octet(rt: HostRuntime) {
-    for (octets, place, fault) in HEADERS {
-        assert_eq!(rt;
-            read(&octets, place),
-            Step::Faulty(fault, &octets),
-            "{octets:?}"
-        );
-        assert_eq!(rt; read(&octets[..7], place), Step::Need);
-        assert_eq!(rt; needed(&octets[..7], place), 1);
-        assert_eq!(rt; needed(&octets, place), 0);
+    for (octets, place, fault) in &HEADERS {
+        assert!(rt; is_judged_at_its_end(octets, *place, *fault), "{octets:?}");
+        assert!(rt; is_waited_for(octets, *place), "{octets:?}");
     }
 }
 
 #[test]
 fn payloads_are_judged_with_their_last_octet(rt: HostRuntime) {
-    for octets in PAYLOADS {
-        let faulty = Step::Faulty(PduFault::Payload, &octets);
-        assert_eq!(rt; read(&octets, AT_CACHE), faulty, "{octets:?}");
-        assert_eq!(rt; read(&octets, AT_LOADED_CLIENT), faulty, "{octets:?}");
-        assert_eq!(rt; read(&octets[..19], AT_CACHE), Step::Need);
-        assert_eq!(rt; read(&octets[..19], AT_LOADED_CLIENT), Step::Need);
+    for octets in &PAYLOADS {
+        for place in [AT_CACHE, AT_LOADED_CLIENT] {
+            assert!(rt;
+                is_judged_at_its_end(octets, place, PduFault::Payload),
+                "{octets:?}"
+            );
+        }
     }
 }
 
