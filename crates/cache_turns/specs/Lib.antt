@@ -1,4 +1,5 @@
 pub mod Calls
+pub mod Carrying
 pub mod Serving
 pub mod TurnOctets
 pub mod Turns

@@ -1,8 +1,12 @@
 //! What follows of turns.
-ghost use Rattle.std.specs.Prelude.{◌++◌, ℕ, List, Result};
-ghost use Rattle.rtr_cache.specs.CacheState.{CacheState};
+ghost use Rattle.std.specs.Prelude.{◌≡◌, ◌<◌, ◌-◌, ◌^◌, ◌++◌, ℕ, List, Result, Some};
+ghost use Rattle.rtr_cache.specs.CacheState.{CacheState, empty_cache};
+ghost use Rattle.rtr_codec.specs.declared.intervals.Intervals.{Intervals};
 ghost use Rattle.rtr_cache.specs.ClientHistory.{IsRun, Turn};
-ghost use Rattle.cache_turns.specs.Turns.{LosesNoMore, TakesTurn, TakesTurns, Turns};
+ghost use Rattle.cache_turns.specs.Turns.{LosesNoMore, TakesTurn, TakesTurns, Turns, idle, link_at};
+ghost use Rattle.cache_turns.specs.Carrying.{CarriesWhole};
+ghost use Rattle.cache_turns.specs.Serving.{Connection};
+ghost use Rattle.cache_turns.specs.Wires.{nothing_told};
 ghost use Rattle.cache_turns.specs.declared.fault.LoopFault.{LoopFault};
 
 /// A turn loses no more clients than the wire told faults and ends of input and the loop closed connections of clients
@@ -14,4 +18,11 @@ pub fn no_more_are_lost_than_are_counted()
 /// Whatever turns are taken, the cache is as calls of it leave it, behind those that led to it before.
 pub fn turns_are_calls_of_the_cache()
     ensures { (moments : List ℕ) (start : CacheState) (before : List Turn) (old new : Turns) → IsRun start before old.cache → TakesTurns moments old new → (after : List Turn) × IsRun start (after ++ before) new.cache }
+{}
+
+/// Over any turns of a cache from the beginning on, while no more connections came than a u64 counts: the client of each
+/// connection has heard just what its socket gave, and what its socket took and what waits for it is just what the
+/// cache handed out for it, which with what is queued are whole PDUs, each response of one published version.
+pub fn connections_carry_whole_versions()
+    ensures { (session : ℕ) (intervals : Intervals) (before : List Turn) (cache : CacheState) (moments : List ℕ) (new : Turns) (key : ℕ) (link : Connection) → IsRun (empty_cache session intervals) before cache → TakesTurns moments (idle cache nothing_told) new → new.counts.wire.arrivals < 2 ^ 64 - 1 → link_at new key ≡ Some link → CarriesWhole new key link }
 {}

@@ -20,6 +20,6 @@ mod wire;
 
 pub use cache_loop::{CacheLoop, TURN_OCTETS};
 pub use fault::LoopFault;
-pub use laws::{no_more_are_lost_than_are_counted, turns_are_calls_of_the_cache};
+pub use laws::{connections_carry_whole_versions, no_more_are_lost_than_are_counted, turns_are_calls_of_the_cache};
 pub use log::{Log, Note};
 pub use wire::{Accepted, Received, Sent, Wire};

@@ -1,0 +1,650 @@
+-- What a connection carries, one step of a turn after another.
+use Rattle.std.proofs.Common.{◌≡◌, ◌≢◌, ◌≤◌, ◌<◌, ◌-◌, ◌^◌, ℕ, zero, suc, List, [], ◌∷◌, ◌++◌, refl, sym, ap, subst, ◌∙◌, append_assoc, append-nil, take-append-drop, inl, inr, ◌⊎◌, Option, Some, None, Result, Ok, Err, take, drop, arith}
+use Rattle.std.proofs.lemmas.Bool.{cases_eq, eq-eqb}
+use Rattle.std.proofs.lemmas.Option.{same_Some}
+use Rattle.rtr_cache.specs.CacheState.{CacheState, ComesUp as CacheComesUp, client_at, empty_cache, tells_client}
+use Rattle.rtr_cache.specs.CacheTable.{fresh_conn}
+use Rattle.rtr_cache.specs.ClientHistory.{CameUp, Heard, IsRun, StaysUp, Ticked, Took, Turn, WentDown, handed_by, handed_out, turn_of}
+use Rattle.rtr_cache.specs.declared.event.CacheReport.{CacheReport}
+use Rattle.rtr_cache.specs.declared.refusal.CacheRefusal.{CacheRefusal}
+use Rattle.rtr_cache.proofs.TellingHistories.{told_from_empty}
+use Rattle.rtr_codec.specs.declared.intervals.Intervals.{Intervals}
+use Rattle.cache_turns.specs.Calls.{WireCall, Accept, Close, Read, Write}
+use Rattle.cache_turns.specs.Carrying.{CarriesWhole, given, given_by, heard, taken, taken_by}
+use Rattle.cache_turns.specs.Serving.{Answers, Connection, GoesOn, Reads, Serves, Sides, Takes, left_by, taken_by as taken_of}
+use Rattle.cache_turns.specs.Turns.{Accepts, ComesUp, Counts, GoesDown, IsTold, LacksMemory, LinksStay, OtherLinksStay, Stops, TakesTurn, TakesTurns, TellsCache, Turns, VisitsBelow, VisitsConnection, VisitsLink, idle, link_at, link_left, settled, sides}
+use Rattle.cache_turns.specs.Wires.{WireState, nothing_told, one_more, writing}
+use Rattle.cache_turns.specs.declared.fault.LoopFault.{LoopFault}
+use Rattle.cache_turns.specs.declared.fault.LoopFault.TheVariants as stop
+use Rattle.cache_turns.specs.declared.link.Visit.{Visit}
+use Rattle.cache_turns.specs.declared.link.Visit.TheVariants.{Stays, Faulty, Ended, Closed}
+use Rattle.cache_turns.specs.declared.wire.Received.{Received}
+use Rattle.cache_turns.specs.declared.wire.Received.TheVariants.{Octets as Came, Nothing as NoneCame, End, Fault as ReadFault}
+use Rattle.cache_turns.specs.declared.wire.Sent.{Sent}
+use Rattle.cache_turns.specs.declared.wire.Sent.TheVariants.{Octets as Went, Nothing as NoneWent, Fault as WriteFault}
+use Rattle.cache_turns.proofs.Effects.{AreOf, AreOfSocket, IsIdle, IsOfSocket, Silent, are-on, are_socket-on, chosen, given-on, handed-on, heard-on, idle_socket, silent, taken-on, up-on}
+
+-- a run goes on by another
+pub run_on : (start mid end : CacheState) (before after : List Turn) → IsRun start before mid → IsRun mid after end → IsRun start (after ++ before) end
+run_on start mid end before [] run same = subst (λ (c : CacheState). IsRun start before c) (sym same) run
+run_on start mid end before (turn ∷ earlier) run more = (run_on start mid turn.found before earlier run more.0, more.1)
+
+-- what calls for one connection make of the two sides: octets that wait before, and those that are left
+record Carries (key number : ℕ) (waiting left : List ℕ) (old new : Sides) : Type 0 where
+  pub history : List Turn
+  pub calls : List WireCall
+  pub run : IsRun old.cache history new.cache
+  pub asks : new.wire.calls ≡ calls ++ old.wire.calls
+  pub arrivals : new.wire.arrivals ≡ old.wire.arrivals
+  pub of_client : AreOf key history
+  pub of_socket : AreOfSocket number calls
+  pub up : StaysUp key history
+  pub hears : heard key history ≡ given number calls
+  pub takes : waiting ++ handed_out key history ≡ taken number calls ++ left
+
+carries_on : (key number : ℕ) (waiting between left : List ℕ) (old mid new : Sides) → Carries key number waiting between old mid → Carries key number between left mid new → Carries key number waiting left old new
+carries_on key number waiting between left old mid new first second =
+    record {
+      history = second.history ++ first.history;
+      calls = second.calls ++ first.calls;
+      run = run_on old.cache mid.cache new.cache first.history second.history first.run second.run;
+      asks = second.asks ∙ ap (λ (l : List WireCall). second.calls ++ l) first.asks ∙ sym (append_assoc second.calls first.calls old.wire.calls);
+      arrivals = second.arrivals ∙ first.arrivals;
+      of_client = are-on key first.history second.history first.of_client second.of_client;
+      of_socket = are_socket-on number first.calls second.calls first.of_socket second.of_socket;
+      up = up-on key first.history second.history first.up second.up;
+      hears = heard-on key first.history second.history ∙ (ap (λ (l : List ℕ). l ++ heard key second.history) first.hears ∙ (ap (λ (l : List ℕ). given number first.calls ++ l) second.hears ∙ sym (given-on number first.calls second.calls)));
+      takes =
+        ap (λ (l : List ℕ). waiting ++ l) (handed-on key first.history second.history)
+        ∙ (sym (append_assoc waiting (handed_out key first.history) (handed_out key second.history))
+        ∙ (ap (λ (l : List ℕ). l ++ handed_out key second.history) first.takes
+        ∙ (append_assoc (taken number first.calls) between (handed_out key second.history)
+        ∙ (ap (λ (l : List ℕ). taken number first.calls ++ l) second.takes
+        ∙ (sym (append_assoc (taken number first.calls) (taken number second.calls) left)
+        ∙ ap (λ (l : List ℕ). l ++ left) (sym (taken-on number first.calls second.calls)))))));
+    }
+
+-- a call of the wire alone
+wire_carries : (key number : ℕ) (waiting left : List ℕ) (old new : Sides) (call : WireCall) → new.cache ≡ old.cache → new.wire.calls ≡ call ∷ old.wire.calls → new.wire.arrivals ≡ old.wire.arrivals → IsOfSocket number call → given_by number call ≡ [] → waiting ≡ taken_by number call ++ left → Carries key number waiting left old new
+wire_carries key number waiting left old new call same asks arrivals is gives takes =
+    record {
+      history = [];
+      calls = call ∷ [];
+      run = same;
+      asks = asks;
+      arrivals = arrivals;
+      of_client = tt;
+      of_socket = (is, tt);
+      up = tt;
+      hears = sym gives;
+      takes = append-nil waiting ∙ takes;
+    }
+
+-- no call
+nothing_carries : (key number : ℕ) (waiting left : List ℕ) (old new : Sides) → new ≡ old → left ≡ waiting → Carries key number waiting left old new
+nothing_carries key number waiting left old new same stays =
+    record {
+      history = [];
+      calls = [];
+      run = ap (λ (s : Sides). s.cache) same;
+      asks = ap (λ (s : Sides). s.wire.calls) same;
+      arrivals = ap (λ (s : Sides). s.wire.arrivals) same;
+      of_client = tt;
+      of_socket = tt;
+      up = tt;
+      hears = refl;
+      takes = append-nil waiting ∙ sym stays;
+    }
+
+reads_carries : (received : Received) (key number : ℕ) (waiting : List ℕ) (old new : Sides) → Reads key number received old new → Carries key number waiting waiting old new
+reads_carries (Came count) key number waiting old new reads =
+    record {
+      history = turn_of old.cache (Heard key (take count reads.buf) reads.hears.0) ∷ [];
+      calls = Read number reads.buf (Came count) ∷ [];
+      run = (refl, reads.hears.1);
+      asks = ap (λ (w : WireState). w.calls) reads.asks;
+      arrivals = ap (λ (w : WireState). w.arrivals) reads.asks;
+      of_client = (refl, tt);
+      of_socket = (refl, tt);
+      up = (tt, tt);
+      hears = chosen _ (take count reads.buf) [] (eq-eqb key key refl) ∙ sym (chosen _ (take count reads.buf) [] (eq-eqb number number refl));
+      takes = append-nil waiting;
+    }
+reads_carries NoneCame key number waiting old new reads =
+    wire_carries key number waiting waiting old new (Read number reads.buf NoneCame) reads.hears (ap (λ (w : WireState). w.calls) reads.asks) (ap (λ (w : WireState). w.arrivals) reads.asks) refl refl refl
+reads_carries End key number waiting old new reads =
+    wire_carries key number waiting waiting old new (Read number reads.buf End) reads.hears (ap (λ (w : WireState). w.calls) reads.asks) (ap (λ (w : WireState). w.arrivals) reads.asks) refl refl refl
+reads_carries ReadFault key number waiting old new reads =
+    wire_carries key number waiting waiting old new (Read number reads.buf ReadFault) reads.hears (ap (λ (w : WireState). w.calls) reads.asks) (ap (λ (w : WireState). w.arrivals) reads.asks) refl refl refl
+
+taken_handed : (key : ℕ) (buf handed : List ℕ) (result : Result ℕ CacheRefusal) → taken_of result handed ≡ handed_by key (Took key buf result handed)
+taken_handed key buf handed (Ok count) = sym (chosen _ (take count handed) [] (eq-eqb key key refl))
+taken_handed key buf handed (Err why) = refl
+
+takes_carries : (key number : ℕ) (waiting octets : List ℕ) (wire : WireState) (old new : CacheState) → Takes key waiting old octets new → Carries key number waiting octets (record { wire = wire; cache = old }) (record { wire = wire; cache = new })
+takes_carries key number [] octets wire old new takes =
+    let hands = takes.none_wait refl in
+    record {
+      history = turn_of old (Took key hands.buf hands.result hands.handed) ∷ [];
+      calls = [];
+      run = (refl, hands.makes);
+      asks = refl;
+      arrivals = refl;
+      of_client = (refl, tt);
+      of_socket = tt;
+      up = (tt, tt);
+      hears = refl;
+      takes = sym (hands.octets_are ∙ taken_handed key hands.buf hands.handed hands.result);
+    }
+takes_carries key number (octet ∷ waiting) octets wire old new takes =
+    let same = takes.some_wait (λ none. cc) in
+    nothing_carries key number (octet ∷ waiting) octets (record { wire = wire; cache = old }) (record { wire = wire; cache = new }) (ap (λ (c : CacheState). record { wire = wire; cache = c }) same.1) same.0
+
+write_leaves : (sent : Sent) (number : ℕ) (octets : List ℕ) → octets ≡ taken_by number (Write number octets sent) ++ left_by sent octets
+write_leaves (Went count) number octets =
+    sym (ap (λ (l : List ℕ). l ++ drop count octets) (chosen _ (take count octets) [] (eq-eqb number number refl)) ∙ take-append-drop count octets)
+write_leaves NoneWent number octets = refl
+write_leaves WriteFault number octets = refl
+
+write_arrives : (sent : Sent) (number : ℕ) (octets : List ℕ) (wire : WireState) → (writing number octets sent wire).arrivals ≡ wire.arrivals
+write_arrives (Went count) number octets wire = refl
+write_arrives NoneWent number octets wire = refl
+write_arrives WriteFault number octets wire = refl
+
+write_calls : (sent : Sent) (number : ℕ) (octets : List ℕ) (wire : WireState) → (writing number octets sent wire).calls ≡ Write number octets sent ∷ wire.calls
+write_calls (Went count) number octets wire = refl
+write_calls NoneWent number octets wire = refl
+write_calls WriteFault number octets wire = refl
+
+answers_carry : (key : ℕ) (link : Connection) (old : Sides) (visit : Visit) (left : List ℕ) (new : Sides) → Answers key link old visit left new → Carries key link.number link.waiting left old new
+answers_carry key link old visit left new answers =
+    carries_on key link.number link.waiting answers.octets left old mid new
+    (takes_carries key link.number link.waiting answers.octets old.wire old.cache new.cache answers.takes)
+    (by_octets answers.octets refl)
+  where
+    mid : Sides
+    mid = record { wire = old.wire; cache = new.cache }
+
+    by_octets : (octets : List ℕ) → answers.octets ≡ octets → Carries key link.number answers.octets left mid new
+    by_octets [] is =
+        let rests = answers.none is in
+        nothing_carries key link.number answers.octets left mid new (ap (λ (w : WireState). record { wire = w; cache = new.cache }) rests.same) (rests.leaves ∙ sym is)
+    by_octets (octet ∷ octets) is =
+        let writes = answers.some (λ none. let wrong : octet ∷ octets ≡ [] = sym is ∙ none in cc) in
+        wire_carries key link.number answers.octets left mid new (Write link.number answers.octets writes.sent) refl
+        (ap (λ (w : WireState). w.calls) writes.asks ∙ write_calls writes.sent link.number answers.octets old.wire)
+        (ap (λ (w : WireState). w.arrivals) writes.asks ∙ write_arrives writes.sent link.number answers.octets old.wire)
+        refl refl
+        (write_leaves writes.sent link.number answers.octets ∙ ap (λ (l : List ℕ). taken_by link.number (Write link.number answers.octets writes.sent) ++ l) (sym writes.leaves))
+
+-- a visit, and where the connection stays what is left waiting
+record Visited (key : ℕ) (link : Connection) (old : Sides) (visit : Visit) (left : List ℕ) (new : Sides) : Type 0 where
+  pub waits : List ℕ
+  pub stays : visit ≡ Stays → waits ≡ left
+  pub carries : Carries key link.number link.waiting waits old new
+
+serves_carries : (key : ℕ) (link : Connection) (old : Sides) (visit : Visit) (left : List ℕ) (new : Sides) → Serves key link old visit left new → Visited key link old visit left new
+serves_carries key link old visit left new serves = by_read serves.received serves.reads serves.goes_on
+  where
+    answered : (received : Received) → Reads key link.number received old serves.behind → Answers key link serves.behind visit left new → Visited key link old visit left new
+    answered received reads answers =
+        record {
+          waits = left;
+          stays = λ _. refl;
+          carries = carries_on key link.number link.waiting link.waiting left old serves.behind new (reads_carries received key link.number link.waiting old serves.behind reads) (answers_carry key link serves.behind visit left new answers);
+        }
+
+    over : (received : Received) (found : Visit) → Reads key link.number received old serves.behind → found ≢ Stays → visit ≡ found → new ≡ serves.behind → Visited key link old visit left new
+    over received found reads differs is same =
+        record {
+          waits = link.waiting;
+          stays = λ stays. absurd (differs (sym is ∙ stays));
+          carries = carries_on key link.number link.waiting link.waiting link.waiting old serves.behind new (reads_carries received key link.number link.waiting old serves.behind reads) (nothing_carries key link.number link.waiting link.waiting serves.behind new same refl);
+        }
+
+    by_read : (received : Received) → Reads key link.number received old serves.behind → GoesOn received key link serves.behind visit left new → Visited key link old visit left new
+    by_read (Came count) reads answers = answered (Came count) reads answers
+    by_read NoneCame reads answers = answered NoneCame reads answers
+    by_read End reads found = over End Ended reads (λ wrong. cc) found.0 found.1
+    by_read ReadFault reads found = over ReadFault Faulty reads (λ wrong. cc) found.0 found.1
+
+-- the connection of a client, over all calls since the client came up
+record IsCarried (first : CacheState) (turns : Sides) (key : ℕ) (link : Connection) : Type 0 where
+  pub before : List Turn
+  pub start : CacheState
+  pub history : List Turn
+  pub made : IsRun first before start
+  pub fresh : client_at start key ≡ Some fresh_conn
+  pub run : IsRun start history turns.cache
+  pub up : StaysUp key history
+  pub hears : heard key history ≡ given link.number turns.wire.calls
+  pub takes : handed_out key history ≡ taken link.number turns.wire.calls ++ link.waiting
+
+-- and behind more calls
+carried_on : (first : CacheState) (old new : Sides) (key number : ℕ) (waiting left : List ℕ) (history : List Turn) (calls : List WireCall) → IsCarried first old key (record { number = number; waiting = waiting }) → IsRun old.cache history new.cache → new.wire.calls ≡ calls ++ old.wire.calls → StaysUp key history → heard key history ≡ given number calls → waiting ++ handed_out key history ≡ taken number calls ++ left → IsCarried first new key (record { number = number; waiting = left })
+carried_on first old new key number waiting left history calls c run asks up hears takes =
+    record {
+      before = c.before;
+      start = c.start;
+      history = history ++ c.history;
+      made = c.made;
+      fresh = c.fresh;
+      run = run_on c.start old.cache new.cache c.history history c.run run;
+      up = up-on key c.history history c.up up;
+      hears =
+        heard-on key c.history history
+        ∙ (ap (λ (l : List ℕ). l ++ heard key history) c.hears
+        ∙ (ap (λ (l : List ℕ). given number old.wire.calls ++ l) hears
+        ∙ (sym (given-on number old.wire.calls calls)
+        ∙ ap (given number) (sym asks))));
+      takes =
+        handed-on key c.history history
+        ∙ (ap (λ (l : List ℕ). l ++ handed_out key history) c.takes
+        ∙ (append_assoc (taken number old.wire.calls) waiting (handed_out key history)
+        ∙ (ap (λ (l : List ℕ). taken number old.wire.calls ++ l) takes
+        ∙ (sym (append_assoc (taken number old.wire.calls) (taken number calls) left)
+        ∙ (ap (λ (l : List ℕ). l ++ left) (sym (taken-on number old.wire.calls calls))
+        ∙ ap (λ (l : List WireCall). taken number l ++ left) (sym asks))))));
+    }
+
+-- beside calls that carry nothing of it
+carried_beside : (first : CacheState) (old new : Sides) (key : ℕ) (link : Connection) (history : List Turn) (calls : List WireCall) → IsCarried first old key link → IsRun old.cache history new.cache → new.wire.calls ≡ calls ++ old.wire.calls → Silent key history → IsIdle link.number calls → IsCarried first new key link
+carried_beside first old new key link history calls c run asks quiet rests =
+    carried_on first old new key link.number link.waiting link.waiting history calls c run asks quiet.up (quiet.hears ∙ sym rests.gives)
+    (ap (λ (l : List ℕ). link.waiting ++ l) quiet.hands ∙ (append-nil link.waiting ∙ ap (λ (l : List ℕ). l ++ link.waiting) (sym rests.takes)))
+
+-- so it is of each connection, each has a number of its own, and numbers that didn't come yet have carried nothing
+record AreCarried (first : CacheState) (turns : Turns) : Type 0 where
+  pub before : List Turn
+  pub made : IsRun first before turns.cache
+  pub each : (key : ℕ) (link : Connection) → link_at turns key ≡ Some link → IsCarried first (sides turns) key link
+  pub numbered : (key : ℕ) (link : Connection) → link_at turns key ≡ Some link → link.number < turns.counts.wire.arrivals
+  pub apart : (key other : ℕ) (link another : Connection) → other ≢ key → link_at turns key ≡ Some link → link_at turns other ≡ Some another → another.number ≢ link.number
+  pub unused : (number : ℕ) → turns.counts.wire.arrivals ≤ number → IsIdle number turns.counts.wire.calls
+
+-- the connection under a key, where calls are of it alone
+record IsHere (first : CacheState) (old new : Turns) (key : ℕ) (link : Connection) : Type 0 where
+  pub carried : IsCarried first (sides new) key link
+  pub numbered : link.number < new.counts.wire.arrivals
+  pub apart : (other : ℕ) (another : Connection) → other ≢ key → link_at old other ≡ Some another → another.number ≢ link.number
+
+-- a step that changes the connection of one key alone
+record Changes (first : CacheState) (old : Turns) (key : ℕ) (new : Turns) : Type 0 where
+  pub history : List Turn
+  pub calls : List WireCall
+  pub run : IsRun old.cache history new.cache
+  pub asks : new.counts.wire.calls ≡ calls ++ old.counts.wire.calls
+  pub arrivals : old.counts.wire.arrivals ≤ new.counts.wire.arrivals
+  pub quiet : (other : ℕ) → other ≢ key → Silent other history
+  pub rests : (other : ℕ) (another : Connection) → other ≢ key → link_at old other ≡ Some another → IsIdle another.number calls
+  pub unused : (number : ℕ) → new.counts.wire.arrivals ≤ number → IsIdle number calls
+  pub others : OtherLinksStay old key new
+  pub here : (link : Connection) → link_at new key ≡ Some link → IsHere first old new key link
+
+idle_on : (number : ℕ) (before after all : List WireCall) → all ≡ after ++ before → IsIdle number before → IsIdle number after → IsIdle number all
+idle_on number before after all is first second =
+    record {
+      gives = ap (given number) is ∙ (given-on number before after ∙ (ap (λ (l : List ℕ). l ++ given number after) first.gives ∙ second.gives));
+      takes = ap (taken number) is ∙ (taken-on number before after ∙ (ap (λ (l : List ℕ). l ++ taken number after) first.takes ∙ second.takes));
+    }
+
+changed : (first : CacheState) (old new : Turns) (key : ℕ) → AreCarried first old → Changes first old key new → AreCarried first new
+changed first old new key are step =
+    record {
+      before = step.history ++ are.before;
+      made = run_on first old.cache new.cache are.before step.history are.made step.run;
+      each = λ other link is. each other link is (cases_eq other key);
+      numbered = λ other link is. numbered other link is (cases_eq other key);
+      apart = λ one other link another differs is there. apart one other link another differs is there (cases_eq one key) (cases_eq other key);
+      unused = λ number come. idle_on number old.counts.wire.calls step.calls new.counts.wire.calls step.asks (are.unused number (omega (arith, come, step.arrivals))) (step.unused number come);
+    }
+  where
+    before_it : (other : ℕ) (link : Connection) → other ≢ key → link_at new other ≡ Some link → link_at old other ≡ Some link
+    before_it other link differs is = sym (step.others other differs) ∙ is
+
+    each : (other : ℕ) (link : Connection) → link_at new other ≡ Some link → (other ≡ key) ⊎ (other ≡ key → ⊥) → IsCarried first (sides new) other link
+    each other link is (inl same) =
+        subst (λ (k : ℕ). IsCarried first (sides new) k link) (sym same) (step.here link (ap (λ (k : ℕ). link_at new k) (sym same) ∙ is)).carried
+    each other link is (inr differs) =
+        let old_is = before_it other link differs is in
+        carried_beside first (sides old) (sides new) other link step.history step.calls (are.each other link old_is) step.run step.asks (step.quiet other differs) (step.rests other link differs old_is)
+
+    numbered : (other : ℕ) (link : Connection) → link_at new other ≡ Some link → (other ≡ key) ⊎ (other ≡ key → ⊥) → link.number < new.counts.wire.arrivals
+    numbered other link is (inl same) = (step.here link (ap (λ (k : ℕ). link_at new k) (sym same) ∙ is)).numbered
+    numbered other link is (inr differs) =
+        let below = are.numbered other link (before_it other link differs is) in
+        omega (arith, below, step.arrivals)
+
+    apart : (one other : ℕ) (link another : Connection) → other ≢ one → link_at new one ≡ Some link → link_at new other ≡ Some another → (one ≡ key) ⊎ (one ≡ key → ⊥) → (other ≡ key) ⊎ (other ≡ key → ⊥) → another.number ≢ link.number
+    apart one other link another differs is there (inl first_same) (inl second_same) = absurd (differs (second_same ∙ sym first_same))
+    apart one other link another differs is there (inl same) (inr other_differs) =
+        (step.here link (ap (λ (k : ℕ). link_at new k) (sym same) ∙ is)).apart other another other_differs (before_it other another other_differs there)
+    apart one other link another differs is there (inr one_differs) (inl same) =
+        λ equal. (step.here another (ap (λ (k : ℕ). link_at new k) (sym same) ∙ there)).apart one link one_differs (before_it one link one_differs is) (sym equal)
+    apart one other link another differs is there (inr one_differs) (inr other_differs) =
+        are.apart one other link another differs (before_it one link one_differs is) (before_it other another other_differs there)
+
+-- a step that leaves each connection: its calls carry nothing of any
+record Passes (old new : Turns) : Type 0 where
+  pub history : List Turn
+  pub calls : List WireCall
+  pub run : IsRun old.cache history new.cache
+  pub asks : new.counts.wire.calls ≡ calls ++ old.counts.wire.calls
+  pub arrivals : old.counts.wire.arrivals ≤ new.counts.wire.arrivals
+  pub quiet : (other : ℕ) → Silent other history
+  pub rests : (number : ℕ) → IsIdle number calls
+  pub links : LinksStay old new
+
+passed : (first : CacheState) (old new : Turns) → AreCarried first old → Passes old new → AreCarried first new
+passed first old new are step =
+    changed first old new 0 are
+    (record {
+      history = step.history;
+      calls = step.calls;
+      run = step.run;
+      asks = step.asks;
+      arrivals = step.arrivals;
+      quiet = λ other _. step.quiet other;
+      rests = λ other another _ _. step.rests another.number;
+      unused = λ number _. step.rests number;
+      others = λ other _. step.links other;
+      here = λ link is. here link (sym (step.links 0) ∙ is);
+    })
+  where
+    here : (link : Connection) → link_at old 0 ≡ Some link → IsHere first old new 0 link
+    here link is =
+        record {
+          carried = carried_beside first (sides old) (sides new) 0 link step.history step.calls (are.each 0 link is) step.run step.asks (step.quiet 0) (step.rests link.number);
+          numbered = (let below = are.numbered 0 link is in omega (arith, below, step.arrivals));
+          apart = λ other another differs there. are.apart 0 other link another differs is there;
+        }
+
+-- a visit to a connection
+visit_changes : (first : CacheState) (old new : Turns) (key : ℕ) (link : Connection) → AreCarried first old → link_at old key ≡ Some link → VisitsConnection old key link new → Changes first old key new
+visit_changes first old new key link are there v = by_visit v.visit refl v.tells (ap (λ (c : Counts). c.wire) v.counts) v.stands
+  where
+    met : Visited key link (sides old) v.visit v.left v.behind
+    met = serves_carries key link (sides old) v.visit v.left v.behind v.serves
+
+    c : Carries key link.number link.waiting met.waits (sides old) v.behind
+    c = met.carries
+
+    change : (history : List Turn) (calls : List WireCall) → IsRun old.cache history new.cache → new.counts.wire.calls ≡ calls ++ old.counts.wire.calls → new.counts.wire.arrivals ≡ old.counts.wire.arrivals → AreOf key history → AreOfSocket link.number calls → ((after : Connection) → link_at new key ≡ Some after → IsHere first old new key after) → Changes first old key new
+    change history calls run asks arrivals of_client of_socket here =
+        record {
+          history = history;
+          calls = calls;
+          run = run;
+          asks = asks;
+          arrivals = omega (arith, arrivals);
+          quiet = λ other differs. silent key other history of_client differs;
+          rests = λ other another differs is. idle_socket link.number another.number calls of_socket (are.apart key other link another differs there is);
+          unused = λ number come. idle_socket link.number number calls of_socket (λ same. let below = are.numbered key link there in absurd (omega (arith, come, arrivals, below, same)));
+          others = v.others;
+          here = here;
+        }
+
+    stays : v.visit ≡ Stays → new.cache ≡ v.behind.cache → new.counts.wire ≡ v.behind.wire → link_at new key ≡ Some (record { number = link.number; waiting = v.left }) → Changes first old key new
+    stays is same_cache same_wire now =
+        change c.history c.calls run asks arrivals c.of_client c.of_socket here
+      where
+        run : IsRun old.cache c.history new.cache
+        run = subst (λ (s : CacheState). IsRun old.cache c.history s) (sym same_cache) c.run
+
+        asks : new.counts.wire.calls ≡ c.calls ++ old.counts.wire.calls
+        asks = ap (λ (w : WireState). w.calls) same_wire ∙ c.asks
+
+        arrivals : new.counts.wire.arrivals ≡ old.counts.wire.arrivals
+        arrivals = ap (λ (w : WireState). w.arrivals) same_wire ∙ c.arrivals
+
+        here : (after : Connection) → link_at new key ≡ Some after → IsHere first old new key after
+        here after is_after =
+            subst (λ (l : Connection). IsHere first old new key l) (same_Some (record { number = link.number; waiting = v.left }) after (sym now ∙ is_after))
+            (record {
+              carried =
+                carried_on first (sides old) (sides new) key link.number link.waiting v.left c.history c.calls (are.each key link there) run asks c.up c.hears
+                (c.takes ∙ ap (λ (l : List ℕ). taken link.number c.calls ++ l) (met.stays is));
+              numbered = (let below = are.numbered key link there in omega (arith, below, arrivals));
+              apart = λ other another differs is_there. are.apart key other link another differs there is_there;
+            })
+
+    lost : new.counts.wire.calls ≡ Close link.number ∷ v.behind.wire.calls → new.counts.wire.arrivals ≡ v.behind.wire.arrivals → GoesDown v.behind.cache key new.cache → link_at new key ≡ None → Changes first old key new
+    lost asks arrivals down gone =
+        change (turn_of v.behind.cache (WentDown key down.0) ∷ c.history) (Close link.number ∷ c.calls) (c.run, down.1)
+        (asks ∙ ap (λ (l : List WireCall). Close link.number ∷ l) c.asks)
+        (arrivals ∙ c.arrivals)
+        (refl, c.of_client)
+        (tt, c.of_socket)
+        (λ after is. absurd (let wrong : Some after ≡ None = sym is ∙ gone in cc))
+
+    by_visit : (visit : Visit) → v.visit ≡ visit → TellsCache visit v.behind.cache key new.cache → new.counts.wire ≡ (settled visit link.number (record old.counts { wire = v.behind.wire })).wire → link_at new key ≡ link_left visit (record { number = link.number; waiting = v.left }) → Changes first old key new
+    by_visit Stays is tells wire stands = stays is tells wire stands
+    by_visit Faulty is tells wire stands = lost (ap (λ (w : WireState). w.calls) wire) (ap (λ (w : WireState). w.arrivals) wire) tells stands
+    by_visit Ended is tells wire stands = lost (ap (λ (w : WireState). w.calls) wire) (ap (λ (w : WireState). w.arrivals) wire) tells stands
+    by_visit Closed is tells wire stands = lost (ap (λ (w : WireState). w.calls) wire) (ap (λ (w : WireState). w.arrivals) wire) tells stands
+
+visit_carries : (first : CacheState) (old new : Turns) (key : ℕ) (link : Option Connection) → AreCarried first old → link_at old key ≡ link → VisitsLink old key link new → AreCarried first new
+visit_carries first old new key None are is same = subst (λ (t : Turns). AreCarried first t) (sym same) are
+visit_carries first old new key (Some link) are is v = changed first old new key are (visit_changes first old new key link are is v)
+
+visits_carry : (first : CacheState) (places : ℕ) (old new : Turns) → AreCarried first old → VisitsBelow places old new → AreCarried first new
+visits_carry first zero old new are same = subst (λ (t : Turns). AreCarried first t) (sym same) are
+visits_carry first (suc key) old new are v =
+    visit_carries first v.0 new key (link_at v.0 key) (visits_carry first key old v.0 are v.1) refl v.2
+
+-- a count that goes on
+one_more_rises : (count : ℕ) → count ≤ one_more count
+one_more_rises count = grind arith
+
+one_more_below : (count : ℕ) → one_more count < 2 ^ 64 - 1 → count < one_more count
+one_more_below count below = grind arith
+
+idle_accept : (number : ℕ) → IsIdle number (Accept ∷ [])
+idle_accept number = record { gives = refl; takes = refl }
+
+quiet_none : (key : ℕ) → Silent key []
+quiet_none key = record { hears = refl; hands = refl; up = tt }
+
+-- a connection comes up: it has carried nothing, and its client has heard nothing
+comes_changes : (first : CacheState) (old new : Turns) → AreCarried first old → (comes : ComesUp old new) → new.counts.wire.arrivals < 2 ^ 64 - 1 → Changes first old comes.key new
+comes_changes first old new are comes below =
+    record {
+      history = history;
+      calls = Accept ∷ [];
+      run = (refl, comes.comes);
+      asks = asks;
+      arrivals = omega (arith, arrivals, one_more_rises count);
+      quiet = λ other _. record { hears = refl; hands = refl; up = (tt, tt) };
+      rests = λ other another _ _. idle_accept another.number;
+      unused = λ number _. idle_accept number;
+      others = comes.others;
+      here = λ link is. subst (λ (l : Connection). IsHere first old new comes.key l) (same_Some (record { number = count; waiting = [] }) link (sym comes.now ∙ is)) newcomer;
+    }
+  where
+    count : ℕ
+    count = old.counts.wire.arrivals
+
+    history : List Turn
+    history = turn_of old.cache (CameUp (Ok (tells_client comes.key))) ∷ []
+
+    asks : new.counts.wire.calls ≡ Accept ∷ old.counts.wire.calls
+    asks = ap (λ (c : Counts). c.wire.calls) comes.counts
+
+    arrivals : new.counts.wire.arrivals ≡ one_more count
+    arrivals = ap (λ (c : Counts). c.wire.arrivals) comes.counts
+
+    up : CacheComesUp old.cache (Ok (tells_client comes.key)) new.cache
+    up = comes.comes.0
+
+    same_key : comes.key ≡ up.0
+    same_key = same_Some comes.key up.0 (ap (λ (r : CacheReport). r.client) up.1)
+
+    fresh : client_at new.cache comes.key ≡ Some fresh_conn
+    fresh = ap (client_at new.cache) same_key ∙ up.5
+
+    unseen : IsIdle count new.counts.wire.calls
+    unseen = idle_on count old.counts.wire.calls (Accept ∷ []) new.counts.wire.calls asks (are.unused count (omega arith)) (idle_accept count)
+
+    newcomer : IsHere first old new comes.key (record { number = count; waiting = [] })
+    newcomer =
+        record {
+          carried = record {
+            before = history ++ are.before;
+            start = new.cache;
+            history = [];
+            made = run_on first old.cache new.cache are.before history are.made (refl, comes.comes);
+            fresh = fresh;
+            run = refl;
+            up = tt;
+            hears = sym unseen.gives;
+            takes = ap (λ (l : List ℕ). l ++ []) (sym unseen.takes);
+          };
+          numbered = omega (arith, arrivals, one_more_below count (subst (λ (n : ℕ). n < 2 ^ 64 - 1) arrivals below));
+          apart = λ other another differs there same. let under = are.numbered other another there in absurd (omega (arith, under, same));
+        }
+
+-- a connection that comes leaves the others, also where the cache or memory refuses it
+accepts_passes : (old new : Turns) → Accepts old new → (ComesUp old new) ⊎ (Passes old new)
+accepts_passes old new (inl none) =
+    inr (record {
+      history = [];
+      calls = Accept ∷ [];
+      run = ap (λ (t : Turns). t.cache) none;
+      asks = ap (λ (t : Turns). t.counts.wire.calls) none;
+      arrivals = omega (arith, ap (λ (t : Turns). t.counts.wire.arrivals) none);
+      quiet = quiet_none;
+      rests = idle_accept;
+      links = λ key. ap (λ (t : Turns). link_at t key) none;
+    })
+accepts_passes old new (inr (inl away)) =
+    inr (record {
+      history = turn_of old.cache (CameUp (Err away.why)) ∷ [];
+      calls = Close old.counts.wire.arrivals ∷ Accept ∷ [];
+      run = (refl, away.refused);
+      asks = ap (λ (c : Counts). c.wire.calls) away.counts;
+      arrivals = omega (arith, ap (λ (c : Counts). c.wire.arrivals) away.counts, one_more_rises old.counts.wire.arrivals);
+      quiet = λ other. record { hears = refl; hands = refl; up = (tt, tt) };
+      rests = λ number. record { gives = refl; takes = refl };
+      links = away.links;
+    })
+accepts_passes old new (inr (inr comes)) = inl comes
+
+lacks_passes : (old new : Turns) → LacksMemory old new → Passes old new
+lacks_passes old new lacks =
+    record {
+      history = turn_of old.cache (CameUp (Ok (tells_client lacks.key))) ∷ [];
+      calls = Accept ∷ [];
+      run = (refl, lacks.comes);
+      asks = ap (λ (c : Counts). c.wire.calls) lacks.counts;
+      arrivals = omega (arith, ap (λ (c : Counts). c.wire.arrivals) lacks.counts, one_more_rises old.counts.wire.arrivals);
+      quiet = λ other. record { hears = refl; hands = refl; up = (tt, tt) };
+      rests = idle_accept;
+      links = lacks.links;
+    }
+
+stops_passes : (old new : Turns) → Stops old stop.Accept new → Passes old new
+stops_passes old new same =
+    record {
+      history = [];
+      calls = Accept ∷ [];
+      run = ap (λ (t : Turns). t.cache) same;
+      asks = ap (λ (t : Turns). t.counts.wire.calls) same;
+      arrivals = omega (arith, ap (λ (t : Turns). t.counts.wire.arrivals) same);
+      quiet = quiet_none;
+      rests = idle_accept;
+      links = λ key. ap (λ (t : Turns). link_at t key) same;
+    }
+
+tick_passes : (now : ℕ) (old new : Turns) → IsTold now old new → Passes old new
+tick_passes now old new told =
+    record {
+      history = turn_of old.cache (Ticked now told.result) ∷ [];
+      calls = [];
+      run = (refl, told.ticks);
+      asks = ap (λ (t : Turns). t.counts.wire.calls) told.same;
+      arrivals = omega (arith, ap (λ (t : Turns). t.counts.wire.arrivals) told.same);
+      quiet = λ other. record { hears = refl; hands = refl; up = (tt, tt) };
+      rests = λ number. record { gives = refl; takes = refl };
+      links = λ key. ap (λ (t : Turns). link_at t key) told.same;
+    }
+
+-- no visit lets a connection in
+settled_arrives : (visit : Visit) (number : ℕ) (counts : Counts) → (settled visit number counts).wire.arrivals ≡ counts.wire.arrivals
+settled_arrives Stays number counts = refl
+settled_arrives Faulty number counts = refl
+settled_arrives Ended number counts = refl
+settled_arrives Closed number counts = refl
+
+visits_arrive : (places : ℕ) (old new : Turns) → VisitsBelow places old new → new.counts.wire.arrivals ≡ old.counts.wire.arrivals
+visits_arrive zero old new same = ap (λ (t : Turns). t.counts.wire.arrivals) same
+visits_arrive (suc key) old new v = by_link (link_at v.0 key) v.2 ∙ visits_arrive key old v.0 v.1
+  where
+    by_link : (link : Option Connection) → VisitsLink v.0 key link new → new.counts.wire.arrivals ≡ v.0.counts.wire.arrivals
+    by_link None same = ap (λ (t : Turns). t.counts.wire.arrivals) same
+    by_link (Some link) visited =
+        ap (λ (c : Counts). c.wire.arrivals) visited.counts
+        ∙ (settled_arrives visited.visit link.number (record v.0.counts { wire = visited.behind.wire })
+        ∙ (serves_carries key link (sides v.0) visited.visit visited.left visited.behind visited.serves).carries.arrivals)
+
+accepts_arrive : (old new : Turns) → (ComesUp old new) ⊎ (Passes old new) → old.counts.wire.arrivals ≤ new.counts.wire.arrivals
+accepts_arrive old new (inl comes) = omega (arith, ap (λ (c : Counts). c.wire.arrivals) comes.counts, one_more_rises old.counts.wire.arrivals)
+accepts_arrive old new (inr passes) = passes.arrivals
+
+accepts_carry : (first : CacheState) (old new : Turns) → AreCarried first old → (ComesUp old new) ⊎ (Passes old new) → new.counts.wire.arrivals < 2 ^ 64 - 1 → AreCarried first new
+accepts_carry first old new are (inl comes) below = changed first old new comes.key are (comes_changes first old new are comes below)
+accepts_carry first old new are (inr passes) below = passed first old new are passes
+
+turn_arrives : (now : ℕ) (old new : Turns) (result : Result (Unit {0}) LoopFault) → TakesTurn now old result new → old.counts.wire.arrivals ≤ new.counts.wire.arrivals
+turn_arrives now old new (Ok nothing) turn =
+    omega (arith, accepts_arrive old turn.admitted (accepts_passes old turn.admitted turn.accepts), visits_arrive _ turn.admitted turn.visited turn.visits, (tick_passes now turn.visited new turn.tells).arrivals)
+turn_arrives now old new (Err stop.Accept) stops = (stops_passes old new stops).arrivals
+turn_arrives now old new (Err stop.NoMemory) lacks = (lacks_passes old new lacks).arrivals
+
+turn_carries : (first : CacheState) (now : ℕ) (old new : Turns) (result : Result (Unit {0}) LoopFault) → AreCarried first old → TakesTurn now old result new → new.counts.wire.arrivals < 2 ^ 64 - 1 → AreCarried first new
+turn_carries first now old new (Ok nothing) are turn below =
+    let ticks = tick_passes now turn.visited new turn.tells in
+    let come : turn.admitted.counts.wire.arrivals < 2 ^ 64 - 1 = omega (arith, below, visits_arrive _ turn.admitted turn.visited turn.visits, ticks.arrivals) in
+    passed first turn.visited new
+    (visits_carry first _ turn.admitted turn.visited
+    (accepts_carry first old turn.admitted are (accepts_passes old turn.admitted turn.accepts) come) turn.visits)
+    ticks
+turn_carries first now old new (Err stop.Accept) are stops below = passed first old new are (stops_passes old new stops)
+turn_carries first now old new (Err stop.NoMemory) are lacks below = passed first old new are (lacks_passes old new lacks)
+
+turns_arrive : (moments : List ℕ) (old new : Turns) → TakesTurns moments old new → old.counts.wire.arrivals ≤ new.counts.wire.arrivals
+turns_arrive [] old new same = omega (arith, ap (λ (t : Turns). t.counts.wire.arrivals) same)
+turns_arrive (now ∷ moments) old new turns =
+    omega (arith, turn_arrives now old turns.0 turns.1 turns.2, turns_arrive moments turns.0 new turns.3)
+
+turns_carry : (first : CacheState) (moments : List ℕ) (old new : Turns) → AreCarried first old → TakesTurns moments old new → new.counts.wire.arrivals < 2 ^ 64 - 1 → AreCarried first new
+turns_carry first [] old new are same below = subst (λ (t : Turns). AreCarried first t) (sym same) are
+turns_carry first (now ∷ moments) old new are turns below =
+    let come : turns.0.counts.wire.arrivals < 2 ^ 64 - 1 = omega (arith, below, turns_arrive moments turns.0 new turns.3) in
+    turns_carry first moments turns.0 new (turn_carries first now old turns.0 turns.1 are turns.2 come) turns.3 below
+
+at_first : (first : CacheState) (before : List Turn) (cache : CacheState) → IsRun first before cache → AreCarried first (idle cache nothing_told)
+at_first first before cache made =
+    record {
+      before = before;
+      made = made;
+      each = λ key link is. absurd (let wrong : None ≡ Some link = is in cc);
+      numbered = λ key link is. absurd (let wrong : None ≡ Some link = is in cc);
+      apart = λ key other link another _ is _. absurd (let wrong : None ≡ Some link = is in cc);
+      unused = λ number _. record { gives = refl; takes = refl };
+    }
+
+-- each connection carries whole versions
+pub carries_whole : (session : ℕ) (intervals : Intervals) (before : List Turn) (cache : CacheState) (moments : List ℕ) (new : Turns) (key : ℕ) (link : Connection) → IsRun (empty_cache session intervals) before cache → TakesTurns moments (idle cache nothing_told) new → new.counts.wire.arrivals < 2 ^ 64 - 1 → link_at new key ≡ Some link → CarriesWhole new key link
+carries_whole session intervals before cache moments new key link made turns below is =
+    let first = empty_cache session intervals in
+    let c = (turns_carry first moments (idle cache nothing_told) new (at_first first before cache made) turns below).each key link is in
+    record {
+      start = c.start;
+      history = c.history;
+      fresh = c.fresh;
+      run = c.run;
+      up = c.up;
+      hears = c.hears;
+      takes = c.takes;
+      whole = told_from_empty session intervals c.before c.start new.cache key c.history c.made c.fresh c.run c.up;
+    }
