@@ -1,212 +1,25 @@
--- What a connection carries, one step of a turn after another.
-use Rattle.std.proofs.Common.{◌≡◌, ◌≢◌, ◌≤◌, ◌<◌, ◌-◌, ◌^◌, ℕ, zero, suc, List, [], ◌∷◌, ◌++◌, refl, sym, ap, subst, ◌∙◌, append_assoc, append-nil, take-append-drop, inl, inr, ◌⊎◌, Option, Some, None, Result, Ok, Err, take, drop, arith}
-use Rattle.std.proofs.lemmas.Bool.{cases_eq, eq-eqb}
+-- What connections carry, one step of a turn after another.
+use Rattle.std.proofs.Common.{◌≡◌, ◌≢◌, ◌≤◌, ◌<◌, ◌-◌, ◌^◌, ℕ, zero, suc, List, [], ◌∷◌, ◌++◌, refl, sym, ap, subst, ◌∙◌, append_assoc, append-nil, inl, inr, ◌⊎◌, Option, Some, None, Result, Ok, Err, arith}
+use Rattle.std.proofs.lemmas.Bool.{cases_eq}
 use Rattle.std.proofs.lemmas.Option.{same_Some}
 use Rattle.rtr_cache.specs.CacheState.{CacheState, ComesUp as CacheComesUp, client_at, empty_cache, tells_client}
 use Rattle.rtr_cache.specs.CacheTable.{fresh_conn}
-use Rattle.rtr_cache.specs.ClientHistory.{CameUp, Heard, IsRun, StaysUp, Ticked, Took, Turn, WentDown, handed_by, handed_out, turn_of}
+use Rattle.rtr_cache.specs.ClientHistory.{CameUp, IsRun, StaysUp, Ticked, Turn, WentDown, handed_out, turn_of}
 use Rattle.rtr_cache.specs.declared.event.CacheReport.{CacheReport}
-use Rattle.rtr_cache.specs.declared.refusal.CacheRefusal.{CacheRefusal}
 use Rattle.rtr_cache.proofs.TellingHistories.{told_from_empty}
 use Rattle.rtr_codec.specs.declared.intervals.Intervals.{Intervals}
-use Rattle.cache_turns.specs.Calls.{WireCall, Accept, Close, Read, Write}
-use Rattle.cache_turns.specs.Carrying.{CarriesWhole, given, given_by, heard, taken, taken_by}
-use Rattle.cache_turns.specs.Serving.{Answers, Connection, GoesOn, Reads, Serves, Sides, Takes, left_by, taken_by as taken_of}
+use Rattle.cache_turns.specs.Calls.{WireCall, Accept, Close}
+use Rattle.cache_turns.specs.Carrying.{CarriesWhole, given, heard, taken}
+use Rattle.cache_turns.specs.Serving.{Connection, Sides}
 use Rattle.cache_turns.specs.Turns.{Accepts, ComesUp, Counts, GoesDown, IsTold, LacksMemory, LinksStay, OtherLinksStay, Stops, TakesTurn, TakesTurns, TellsCache, Turns, VisitsBelow, VisitsConnection, VisitsLink, idle, link_at, link_left, settled, sides}
-use Rattle.cache_turns.specs.Wires.{WireState, nothing_told, one_more, writing}
+use Rattle.cache_turns.specs.Wires.{WireState, nothing_told, one_more}
 use Rattle.cache_turns.specs.declared.fault.LoopFault.{LoopFault}
 use Rattle.cache_turns.specs.declared.fault.LoopFault.TheVariants as stop
 use Rattle.cache_turns.specs.declared.link.Visit.{Visit}
 use Rattle.cache_turns.specs.declared.link.Visit.TheVariants.{Stays, Faulty, Ended, Closed}
-use Rattle.cache_turns.specs.declared.wire.Received.{Received}
-use Rattle.cache_turns.specs.declared.wire.Received.TheVariants.{Octets as Came, Nothing as NoneCame, End, Fault as ReadFault}
-use Rattle.cache_turns.specs.declared.wire.Sent.{Sent}
-use Rattle.cache_turns.specs.declared.wire.Sent.TheVariants.{Octets as Went, Nothing as NoneWent, Fault as WriteFault}
-use Rattle.cache_turns.proofs.Effects.{AreOf, AreOfSocket, IsIdle, IsOfSocket, Silent, are-on, are_socket-on, chosen, given-on, handed-on, heard-on, idle_socket, silent, taken-on, up-on}
-
--- a run goes on by another
-pub run_on : (start mid end : CacheState) (before after : List Turn) → IsRun start before mid → IsRun mid after end → IsRun start (after ++ before) end
-run_on start mid end before [] run same = subst (λ (c : CacheState). IsRun start before c) (sym same) run
-run_on start mid end before (turn ∷ earlier) run more = (run_on start mid turn.found before earlier run more.0, more.1)
-
--- what calls for one connection make of the two sides: octets that wait before, and those that are left
-record Carries (key number : ℕ) (waiting left : List ℕ) (old new : Sides) : Type 0 where
-  pub history : List Turn
-  pub calls : List WireCall
-  pub run : IsRun old.cache history new.cache
-  pub asks : new.wire.calls ≡ calls ++ old.wire.calls
-  pub arrivals : new.wire.arrivals ≡ old.wire.arrivals
-  pub of_client : AreOf key history
-  pub of_socket : AreOfSocket number calls
-  pub up : StaysUp key history
-  pub hears : heard key history ≡ given number calls
-  pub takes : waiting ++ handed_out key history ≡ taken number calls ++ left
-
-carries_on : (key number : ℕ) (waiting between left : List ℕ) (old mid new : Sides) → Carries key number waiting between old mid → Carries key number between left mid new → Carries key number waiting left old new
-carries_on key number waiting between left old mid new first second =
-    record {
-      history = second.history ++ first.history;
-      calls = second.calls ++ first.calls;
-      run = run_on old.cache mid.cache new.cache first.history second.history first.run second.run;
-      asks = second.asks ∙ ap (λ (l : List WireCall). second.calls ++ l) first.asks ∙ sym (append_assoc second.calls first.calls old.wire.calls);
-      arrivals = second.arrivals ∙ first.arrivals;
-      of_client = are-on key first.history second.history first.of_client second.of_client;
-      of_socket = are_socket-on number first.calls second.calls first.of_socket second.of_socket;
-      up = up-on key first.history second.history first.up second.up;
-      hears = heard-on key first.history second.history ∙ (ap (λ (l : List ℕ). l ++ heard key second.history) first.hears ∙ (ap (λ (l : List ℕ). given number first.calls ++ l) second.hears ∙ sym (given-on number first.calls second.calls)));
-      takes =
-        ap (λ (l : List ℕ). waiting ++ l) (handed-on key first.history second.history)
-        ∙ (sym (append_assoc waiting (handed_out key first.history) (handed_out key second.history))
-        ∙ (ap (λ (l : List ℕ). l ++ handed_out key second.history) first.takes
-        ∙ (append_assoc (taken number first.calls) between (handed_out key second.history)
-        ∙ (ap (λ (l : List ℕ). taken number first.calls ++ l) second.takes
-        ∙ (sym (append_assoc (taken number first.calls) (taken number second.calls) left)
-        ∙ ap (λ (l : List ℕ). l ++ left) (sym (taken-on number first.calls second.calls)))))));
-    }
-
--- a call of the wire alone
-wire_carries : (key number : ℕ) (waiting left : List ℕ) (old new : Sides) (call : WireCall) → new.cache ≡ old.cache → new.wire.calls ≡ call ∷ old.wire.calls → new.wire.arrivals ≡ old.wire.arrivals → IsOfSocket number call → given_by number call ≡ [] → waiting ≡ taken_by number call ++ left → Carries key number waiting left old new
-wire_carries key number waiting left old new call same asks arrivals is gives takes =
-    record {
-      history = [];
-      calls = call ∷ [];
-      run = same;
-      asks = asks;
-      arrivals = arrivals;
-      of_client = tt;
-      of_socket = (is, tt);
-      up = tt;
-      hears = sym gives;
-      takes = append-nil waiting ∙ takes;
-    }
-
--- no call
-nothing_carries : (key number : ℕ) (waiting left : List ℕ) (old new : Sides) → new ≡ old → left ≡ waiting → Carries key number waiting left old new
-nothing_carries key number waiting left old new same stays =
-    record {
-      history = [];
-      calls = [];
-      run = ap (λ (s : Sides). s.cache) same;
-      asks = ap (λ (s : Sides). s.wire.calls) same;
-      arrivals = ap (λ (s : Sides). s.wire.arrivals) same;
-      of_client = tt;
-      of_socket = tt;
-      up = tt;
-      hears = refl;
-      takes = append-nil waiting ∙ sym stays;
-    }
-
-reads_carries : (received : Received) (key number : ℕ) (waiting : List ℕ) (old new : Sides) → Reads key number received old new → Carries key number waiting waiting old new
-reads_carries (Came count) key number waiting old new reads =
-    record {
-      history = turn_of old.cache (Heard key (take count reads.buf) reads.hears.0) ∷ [];
-      calls = Read number reads.buf (Came count) ∷ [];
-      run = (refl, reads.hears.1);
-      asks = ap (λ (w : WireState). w.calls) reads.asks;
-      arrivals = ap (λ (w : WireState). w.arrivals) reads.asks;
-      of_client = (refl, tt);
-      of_socket = (refl, tt);
-      up = (tt, tt);
-      hears = chosen _ (take count reads.buf) [] (eq-eqb key key refl) ∙ sym (chosen _ (take count reads.buf) [] (eq-eqb number number refl));
-      takes = append-nil waiting;
-    }
-reads_carries NoneCame key number waiting old new reads =
-    wire_carries key number waiting waiting old new (Read number reads.buf NoneCame) reads.hears (ap (λ (w : WireState). w.calls) reads.asks) (ap (λ (w : WireState). w.arrivals) reads.asks) refl refl refl
-reads_carries End key number waiting old new reads =
-    wire_carries key number waiting waiting old new (Read number reads.buf End) reads.hears (ap (λ (w : WireState). w.calls) reads.asks) (ap (λ (w : WireState). w.arrivals) reads.asks) refl refl refl
-reads_carries ReadFault key number waiting old new reads =
-    wire_carries key number waiting waiting old new (Read number reads.buf ReadFault) reads.hears (ap (λ (w : WireState). w.calls) reads.asks) (ap (λ (w : WireState). w.arrivals) reads.asks) refl refl refl
-
-taken_handed : (key : ℕ) (buf handed : List ℕ) (result : Result ℕ CacheRefusal) → taken_of result handed ≡ handed_by key (Took key buf result handed)
-taken_handed key buf handed (Ok count) = sym (chosen _ (take count handed) [] (eq-eqb key key refl))
-taken_handed key buf handed (Err why) = refl
-
-takes_carries : (key number : ℕ) (waiting octets : List ℕ) (wire : WireState) (old new : CacheState) → Takes key waiting old octets new → Carries key number waiting octets (record { wire = wire; cache = old }) (record { wire = wire; cache = new })
-takes_carries key number [] octets wire old new takes =
-    let hands = takes.none_wait refl in
-    record {
-      history = turn_of old (Took key hands.buf hands.result hands.handed) ∷ [];
-      calls = [];
-      run = (refl, hands.makes);
-      asks = refl;
-      arrivals = refl;
-      of_client = (refl, tt);
-      of_socket = tt;
-      up = (tt, tt);
-      hears = refl;
-      takes = sym (hands.octets_are ∙ taken_handed key hands.buf hands.handed hands.result);
-    }
-takes_carries key number (octet ∷ waiting) octets wire old new takes =
-    let same = takes.some_wait (λ none. cc) in
-    nothing_carries key number (octet ∷ waiting) octets (record { wire = wire; cache = old }) (record { wire = wire; cache = new }) (ap (λ (c : CacheState). record { wire = wire; cache = c }) same.1) same.0
-
-write_leaves : (sent : Sent) (number : ℕ) (octets : List ℕ) → octets ≡ taken_by number (Write number octets sent) ++ left_by sent octets
-write_leaves (Went count) number octets =
-    sym (ap (λ (l : List ℕ). l ++ drop count octets) (chosen _ (take count octets) [] (eq-eqb number number refl)) ∙ take-append-drop count octets)
-write_leaves NoneWent number octets = refl
-write_leaves WriteFault number octets = refl
-
-write_arrives : (sent : Sent) (number : ℕ) (octets : List ℕ) (wire : WireState) → (writing number octets sent wire).arrivals ≡ wire.arrivals
-write_arrives (Went count) number octets wire = refl
-write_arrives NoneWent number octets wire = refl
-write_arrives WriteFault number octets wire = refl
-
-write_calls : (sent : Sent) (number : ℕ) (octets : List ℕ) (wire : WireState) → (writing number octets sent wire).calls ≡ Write number octets sent ∷ wire.calls
-write_calls (Went count) number octets wire = refl
-write_calls NoneWent number octets wire = refl
-write_calls WriteFault number octets wire = refl
-
-answers_carry : (key : ℕ) (link : Connection) (old : Sides) (visit : Visit) (left : List ℕ) (new : Sides) → Answers key link old visit left new → Carries key link.number link.waiting left old new
-answers_carry key link old visit left new answers =
-    carries_on key link.number link.waiting answers.octets left old mid new
-    (takes_carries key link.number link.waiting answers.octets old.wire old.cache new.cache answers.takes)
-    (by_octets answers.octets refl)
-  where
-    mid : Sides
-    mid = record { wire = old.wire; cache = new.cache }
-
-    by_octets : (octets : List ℕ) → answers.octets ≡ octets → Carries key link.number answers.octets left mid new
-    by_octets [] is =
-        let rests = answers.none is in
-        nothing_carries key link.number answers.octets left mid new (ap (λ (w : WireState). record { wire = w; cache = new.cache }) rests.same) (rests.leaves ∙ sym is)
-    by_octets (octet ∷ octets) is =
-        let writes = answers.some (λ none. let wrong : octet ∷ octets ≡ [] = sym is ∙ none in cc) in
-        wire_carries key link.number answers.octets left mid new (Write link.number answers.octets writes.sent) refl
-        (ap (λ (w : WireState). w.calls) writes.asks ∙ write_calls writes.sent link.number answers.octets old.wire)
-        (ap (λ (w : WireState). w.arrivals) writes.asks ∙ write_arrives writes.sent link.number answers.octets old.wire)
-        refl refl
-        (write_leaves writes.sent link.number answers.octets ∙ ap (λ (l : List ℕ). taken_by link.number (Write link.number answers.octets writes.sent) ++ l) (sym writes.leaves))
-
--- a visit, and where the connection stays what is left waiting
-record Visited (key : ℕ) (link : Connection) (old : Sides) (visit : Visit) (left : List ℕ) (new : Sides) : Type 0 where
-  pub waits : List ℕ
-  pub stays : visit ≡ Stays → waits ≡ left
-  pub carries : Carries key link.number link.waiting waits old new
-
-serves_carries : (key : ℕ) (link : Connection) (old : Sides) (visit : Visit) (left : List ℕ) (new : Sides) → Serves key link old visit left new → Visited key link old visit left new
-serves_carries key link old visit left new serves = by_read serves.received serves.reads serves.goes_on
-  where
-    answered : (received : Received) → Reads key link.number received old serves.behind → Answers key link serves.behind visit left new → Visited key link old visit left new
-    answered received reads answers =
-        record {
-          waits = left;
-          stays = λ _. refl;
-          carries = carries_on key link.number link.waiting link.waiting left old serves.behind new (reads_carries received key link.number link.waiting old serves.behind reads) (answers_carry key link serves.behind visit left new answers);
-        }
-
-    over : (received : Received) (found : Visit) → Reads key link.number received old serves.behind → found ≢ Stays → visit ≡ found → new ≡ serves.behind → Visited key link old visit left new
-    over received found reads differs is same =
-        record {
-          waits = link.waiting;
-          stays = λ stays. absurd (differs (sym is ∙ stays));
-          carries = carries_on key link.number link.waiting link.waiting link.waiting old serves.behind new (reads_carries received key link.number link.waiting old serves.behind reads) (nothing_carries key link.number link.waiting link.waiting serves.behind new same refl);
-        }
-
-    by_read : (received : Received) → Reads key link.number received old serves.behind → GoesOn received key link serves.behind visit left new → Visited key link old visit left new
-    by_read (Came count) reads answers = answered (Came count) reads answers
-    by_read NoneCame reads answers = answered NoneCame reads answers
-    by_read End reads found = over End Ended reads (λ wrong. cc) found.0 found.1
-    by_read ReadFault reads found = over ReadFault Faulty reads (λ wrong. cc) found.0 found.1
+use Rattle.cache_turns.proofs.Exchanges.{Carries, Visited, run_on, serves_carries}
+use Rattle.cache_turns.proofs.Counting.{goes_on, goes_on_by_one}
+use Rattle.cache_turns.proofs.Effects.{AreOf, AreOfSocket, IsIdle, Silent, given-on, handed-on, heard-on, idle_socket, silent, taken-on, up-on}
 
 -- the connection of a client, over all calls since the client came up
 record IsCarried (first : CacheState) (turns : Sides) (key : ℕ) (link : Connection) : Type 0 where
@@ -232,19 +45,19 @@ carried_on first old new key number waiting left history calls c run asks up hea
       run = run_on c.start old.cache new.cache c.history history c.run run;
       up = up-on key c.history history c.up up;
       hears =
-        heard-on key c.history history
-        ∙ (ap (λ (l : List ℕ). l ++ heard key history) c.hears
-        ∙ (ap (λ (l : List ℕ). given number old.wire.calls ++ l) hears
-        ∙ (sym (given-on number old.wire.calls calls)
-        ∙ ap (given number) (sym asks))));
+          heard-on key c.history history
+          ∙ (ap (λ (l : List ℕ). l ++ heard key history) c.hears
+          ∙ (ap (λ (l : List ℕ). given number old.wire.calls ++ l) hears
+          ∙ (sym (given-on number old.wire.calls calls)
+          ∙ ap (given number) (sym asks))));
       takes =
-        handed-on key c.history history
-        ∙ (ap (λ (l : List ℕ). l ++ handed_out key history) c.takes
-        ∙ (append_assoc (taken number old.wire.calls) waiting (handed_out key history)
-        ∙ (ap (λ (l : List ℕ). taken number old.wire.calls ++ l) takes
-        ∙ (sym (append_assoc (taken number old.wire.calls) (taken number calls) left)
-        ∙ (ap (λ (l : List ℕ). l ++ left) (sym (taken-on number old.wire.calls calls))
-        ∙ ap (λ (l : List WireCall). taken number l ++ left) (sym asks))))));
+          handed-on key c.history history
+          ∙ (ap (λ (l : List ℕ). l ++ handed_out key history) c.takes
+          ∙ (append_assoc (taken number old.wire.calls) waiting (handed_out key history)
+          ∙ (ap (λ (l : List ℕ). taken number old.wire.calls ++ l) takes
+          ∙ (sym (append_assoc (taken number old.wire.calls) (taken number calls) left)
+          ∙ (ap (λ (l : List ℕ). l ++ left) (sym (taken-on number old.wire.calls calls))
+          ∙ ap (λ (l : List WireCall). taken number l ++ left) (sym asks))))));
     }
 
 -- beside calls that carry nothing of it
@@ -325,7 +138,7 @@ changed first old new key are step =
         are.apart one other link another differs (before_it one link one_differs is) (before_it other another other_differs there)
 
 -- a step that leaves each connection: its calls carry nothing of any
-record Passes (old new : Turns) : Type 0 where
+pub record Passes (old new : Turns) : Type 0 where
   pub history : List Turn
   pub calls : List WireCall
   pub run : IsRun old.cache history new.cache
@@ -402,8 +215,8 @@ visit_changes first old new key link are there v = by_visit v.visit refl v.tells
             subst (λ (l : Connection). IsHere first old new key l) (same_Some (record { number = link.number; waiting = v.left }) after (sym now ∙ is_after))
             (record {
               carried =
-                carried_on first (sides old) (sides new) key link.number link.waiting v.left c.history c.calls (are.each key link there) run asks c.up c.hears
-                (c.takes ∙ ap (λ (l : List ℕ). taken link.number c.calls ++ l) (met.stays is));
+                  carried_on first (sides old) (sides new) key link.number link.waiting v.left c.history c.calls (are.each key link there) run asks c.up c.hears
+                  (c.takes ∙ ap (λ (l : List ℕ). taken link.number c.calls ++ l) (met.stays is));
               numbered = (let below = are.numbered key link there in omega (arith, below, arrivals));
               apart = λ other another differs is_there. are.apart key other link another differs there is_there;
             })
@@ -432,13 +245,6 @@ visits_carry first zero old new are same = subst (λ (t : Turns). AreCarried fir
 visits_carry first (suc key) old new are v =
     visit_carries first v.0 new key (link_at v.0 key) (visits_carry first key old v.0 are v.1) refl v.2
 
--- a count that goes on
-one_more_rises : (count : ℕ) → count ≤ one_more count
-one_more_rises count = grind arith
-
-one_more_below : (count : ℕ) → one_more count < 2 ^ 64 - 1 → count < one_more count
-one_more_below count below = grind arith
-
 idle_accept : (number : ℕ) → IsIdle number (Accept ∷ [])
 idle_accept number = record { gives = refl; takes = refl }
 
@@ -453,7 +259,7 @@ comes_changes first old new are comes below =
       calls = Accept ∷ [];
       run = (refl, comes.comes);
       asks = asks;
-      arrivals = omega (arith, arrivals, one_more_rises count);
+      arrivals = omega (arith, arrivals, goes_on count);
       quiet = λ other _. record { hears = refl; hands = refl; up = (tt, tt) };
       rests = λ other another _ _. idle_accept another.number;
       unused = λ number _. idle_accept number;
@@ -499,12 +305,12 @@ comes_changes first old new are comes below =
             hears = sym unseen.gives;
             takes = ap (λ (l : List ℕ). l ++ []) (sym unseen.takes);
           };
-          numbered = omega (arith, arrivals, one_more_below count (subst (λ (n : ℕ). n < 2 ^ 64 - 1) arrivals below));
+          numbered = omega (arith, arrivals, goes_on_by_one count (subst (λ (n : ℕ). n < 2 ^ 64 - 1) arrivals below));
           apart = λ other another differs there same. let under = are.numbered other another there in absurd (omega (arith, under, same));
         }
 
 -- a connection that comes leaves the others, also where the cache or memory refuses it
-accepts_passes : (old new : Turns) → Accepts old new → (ComesUp old new) ⊎ (Passes old new)
+pub accepts_passes : (old new : Turns) → Accepts old new → (ComesUp old new) ⊎ (Passes old new)
 accepts_passes old new (inl none) =
     inr (record {
       history = [];
@@ -522,27 +328,27 @@ accepts_passes old new (inr (inl away)) =
       calls = Close old.counts.wire.arrivals ∷ Accept ∷ [];
       run = (refl, away.refused);
       asks = ap (λ (c : Counts). c.wire.calls) away.counts;
-      arrivals = omega (arith, ap (λ (c : Counts). c.wire.arrivals) away.counts, one_more_rises old.counts.wire.arrivals);
+      arrivals = omega (arith, ap (λ (c : Counts). c.wire.arrivals) away.counts, goes_on old.counts.wire.arrivals);
       quiet = λ other. record { hears = refl; hands = refl; up = (tt, tt) };
       rests = λ number. record { gives = refl; takes = refl };
       links = away.links;
     })
 accepts_passes old new (inr (inr comes)) = inl comes
 
-lacks_passes : (old new : Turns) → LacksMemory old new → Passes old new
+pub lacks_passes : (old new : Turns) → LacksMemory old new → Passes old new
 lacks_passes old new lacks =
     record {
       history = turn_of old.cache (CameUp (Ok (tells_client lacks.key))) ∷ [];
       calls = Accept ∷ [];
       run = (refl, lacks.comes);
       asks = ap (λ (c : Counts). c.wire.calls) lacks.counts;
-      arrivals = omega (arith, ap (λ (c : Counts). c.wire.arrivals) lacks.counts, one_more_rises old.counts.wire.arrivals);
+      arrivals = omega (arith, ap (λ (c : Counts). c.wire.arrivals) lacks.counts, goes_on old.counts.wire.arrivals);
       quiet = λ other. record { hears = refl; hands = refl; up = (tt, tt) };
       rests = idle_accept;
       links = lacks.links;
     }
 
-stops_passes : (old new : Turns) → Stops old stop.Accept new → Passes old new
+pub stops_passes : (old new : Turns) → Stops old stop.Accept new → Passes old new
 stops_passes old new same =
     record {
       history = [];
@@ -555,7 +361,7 @@ stops_passes old new same =
       links = λ key. ap (λ (t : Turns). link_at t key) same;
     }
 
-tick_passes : (now : ℕ) (old new : Turns) → IsTold now old new → Passes old new
+pub tick_passes : (now : ℕ) (old new : Turns) → IsTold now old new → Passes old new
 tick_passes now old new told =
     record {
       history = turn_of old.cache (Ticked now told.result) ∷ [];
@@ -587,7 +393,7 @@ visits_arrive (suc key) old new v = by_link (link_at v.0 key) v.2 ∙ visits_arr
         ∙ (serves_carries key link (sides v.0) visited.visit visited.left visited.behind visited.serves).carries.arrivals)
 
 accepts_arrive : (old new : Turns) → (ComesUp old new) ⊎ (Passes old new) → old.counts.wire.arrivals ≤ new.counts.wire.arrivals
-accepts_arrive old new (inl comes) = omega (arith, ap (λ (c : Counts). c.wire.arrivals) comes.counts, one_more_rises old.counts.wire.arrivals)
+accepts_arrive old new (inl comes) = omega (arith, ap (λ (c : Counts). c.wire.arrivals) comes.counts, goes_on old.counts.wire.arrivals)
 accepts_arrive old new (inr passes) = passes.arrivals
 
 accepts_carry : (first : CacheState) (old new : Turns) → AreCarried first old → (ComesUp old new) ⊎ (Passes old new) → new.counts.wire.arrivals < 2 ^ 64 - 1 → AreCarried first new

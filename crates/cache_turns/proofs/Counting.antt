@@ -66,10 +66,10 @@ loses_both old mid new first second =
     }
 
 -- a count that goes on
-goes_on : (count : ℕ) → count ≤ one_more count
+pub goes_on : (count : ℕ) → count ≤ one_more count
 goes_on count = grind arith
 
-goes_on_by_one : (count : ℕ) → one_more count < 2 ^ 64 - 1 → one_more count ≡ count + 1
+pub goes_on_by_one : (count : ℕ) → one_more count < 2 ^ 64 - 1 → one_more count ≡ count + 1
 goes_on_by_one count below = grind arith
 
 -- what the wire has told behind a visit that finds this

@@ -7,7 +7,8 @@
 //! offers all octets that wait, or where none wait those that the cache hands out; what doesn't go waits, and while
 //! octets wait nothing more is taken of the cache (`specs/Serving.antt`). A connection ends where its socket has told a
 //! fault or the end of its input, or where the cache has closed it and all that was said is written, and nowhere else.
-//! Each that ends is counted as lost, once. A turn that ends the program changes no connection.
+//! Each that ends is counted as lost, once. A turn that ends the program changes no connection. Over all turns what a
+//! socket takes is just what the cache hands out for its client: a front of whole PDUs (`specs/Carrying.antt`).
 #![tactic(auto)]
 
 mod cache_loop;
@@ -20,6 +21,9 @@ mod wire;
 
 pub use cache_loop::{CacheLoop, TURN_OCTETS};
 pub use fault::LoopFault;
-pub use laws::{connections_carry_whole_versions, no_more_are_lost_than_are_counted, turns_are_calls_of_the_cache};
+pub use laws::{
+    connections_carry_whole_versions, no_more_are_lost_than_are_counted,
+    turns_are_calls_of_the_cache,
+};
 pub use log::{Log, Note};
 pub use wire::{Accepted, Received, Sent, Wire};
