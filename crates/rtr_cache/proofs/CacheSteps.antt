@@ -2,7 +2,9 @@ use Rattle.std.proofs.Common.{◌≡◌, ◌≤◌, ◌<◌, ◌==◌, ℕ, Bool
 use Rattle.rtr_codec.specs.declared.fault.PduFault.TheVariants.{Unanswered}
 use Rattle.rtr_codec.specs.declared.place.End.TheVariants.{Cache}
 use Rattle.rtr_codec.specs.declared.place.Place.{Place}
-use Rattle.rtr_cache.specs.CacheTable.{Shared, Conn, place_of, has_room, serial_answer, serial_query, reset_query, unless_busy, hears_pdu, hears_item, hears, first_refused, hears_all, hears_from, hears_open, hears_octets}
+use Rattle.rtr_cache.specs.CacheTable.{Shared, Conn, place_of, has_room, serial_answer, serial_query, reset_query, other_session_answer, unless_busy, hears_pdu, hears_item, hears, first_refused, hears_all, hears_from, hears_open, hears_octets}
+use Rattle.rtr_cache.specs.declared.other_session.OtherSession.{OtherSession}
+use Rattle.rtr_cache.specs.declared.other_session.OtherSession.TheVariants.{Report, Reset}
 use Rattle.rtr_codec.specs.PduSpelling.{Content, Serial_query, Reset_query, Cache_response}
 use Rattle.rtr_codec.specs.PduStream.{Item, WholePdu, FaultyPdu, Wants, is_response, meaning, place_after, left_over, needed_of, pdus_from, unread_from}
 use Rattle.vrp_delta.specs.Versions.{Version, version_of}
@@ -31,12 +33,19 @@ answer_rejoins :
 answer_rejoins shared refused conn here there newest None = if_rejoins (has_room conn.ring) there _ _ _ _ refl refl
 answer_rejoins shared refused conn here there newest (Some old) = if_rejoins refused there _ _ _ _ refl refl
 
+other_session_rejoins :
+    (other_session : OtherSession) (conn : Conn) (here there octets : List ℕ)
+    → other_session_answer other_session (heard_open conn there) octets ≡ rejoined there (other_session_answer other_session (heard_open conn here) octets)
+other_session_rejoins Report conn here there octets = refl
+other_session_rejoins Reset conn here there octets = if_rejoins (has_room conn.ring) there _ _ _ _ refl refl
+
 serial_rejoins :
     (shared : Shared) (refused : Bool) (conn : Conn) (here there octets : List ℕ) (session serial : ℕ) (kept : List Version)
     → serial_query shared refused (heard_open conn there) octets session serial kept ≡ rejoined there (serial_query shared refused (heard_open conn here) octets session serial kept)
 serial_rejoins shared refused conn here there octets session serial [] = if_rejoins (has_room conn.ring) there _ _ _ _ refl refl
 serial_rejoins shared refused conn here there octets session serial (newest ∷ older) =
-    if_rejoins (session == shared.session) there _ _ _ _ (answer_rejoins shared refused conn here there newest (version_of (newest ∷ older) serial)) refl
+    if_rejoins (session == shared.session) there _ _ _ _ (answer_rejoins shared refused conn here there newest (version_of (newest ∷ older) serial))
+    (other_session_rejoins shared.other_session conn here there octets)
 
 reset_rejoins :
     (shared : Shared) (refused : Bool) (conn : Conn) (here there octets : List ℕ) (kept : List Version)

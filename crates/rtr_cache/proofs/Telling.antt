@@ -13,7 +13,9 @@ use Rattle.rtr_codec.specs.PduFaults.{number_of}
 use Rattle.rtr_codec.specs.PduSpelling.{Content, Serial_notify, Serial_query, Reset_query, Cache_response, Announce, Withdraw, Ipv6_prefix, End_of_data, Cache_reset, Router_key, Error_report, spelling}
 use Rattle.rtr_codec.specs.PduStream.{Item, WholePdu, FaultyPdu, pdus_from, unread_from}
 use Rattle.rtr_codec.specs.Responses.{response, spellings}
-use Rattle.rtr_cache.specs.CacheTable.{Conn, Shared, begins, closed, fails, first_refused, fresh_conn, has_room, hears, hears_all, hears_fault, hears_item, hears_octets, hears_pdu, is_due, is_idle, is_news, notified, place_of, pumped, queued, queues, quoted_of, reset_query, serial_answer, serial_query, unless_busy, wants_notify}
+use Rattle.rtr_cache.specs.CacheTable.{Conn, Shared, begins, closed, fails, first_refused, fresh_conn, has_room, hears, hears_all, hears_fault, hears_item, hears_octets, hears_pdu, is_due, is_idle, is_news, notified, other_session_answer, place_of, pumped, queued, queues, quoted_of, reset_query, serial_answer, serial_query, unless_busy, wants_notify}
+use Rattle.rtr_cache.specs.declared.other_session.OtherSession.{OtherSession}
+use Rattle.rtr_cache.specs.declared.other_session.OtherSession.TheVariants.{Report, Reset}
 use Rattle.rtr_cache.specs.Telling.{Alone, AnswersItem, AnswersItems, AnswersReset, AnswersSerial, AreAside, IsNotified, SaysWhole, Told, Whole, all_pdus, pdus_of}
 use Rattle.vrp_delta.specs.Versions.{Version, newest_serial, version_of}
 
@@ -211,6 +213,15 @@ tells_serial_answer shared refused gone told conn serial newest older None is is
 tells_serial_answer shared refused gone told conn serial newest older (Some old) is is_open idle h =
     tells_begins (AnswersSerial shared serial (newest ∷ older)) gone told conn refused shared.session shared.intervals newest old.set is_open idle (inl aside_none) (inr (old, is, refl)) h
 
+tells_other_session :
+    (shared : Shared) (gone : List ℕ) (told : List Told) (conn : Conn) (octets : List ℕ) (serial : ℕ) (newest : Version) (older : List Version) (other_session : OtherSession)
+    → conn.is_open ≡ true → conn.left ≡ [] → SaysWhole gone told conn
+    → Tells (AnswersSerial shared serial (newest ∷ older)) gone told (other_session_answer other_session conn octets)
+tells_other_session shared gone told conn octets serial newest older Report is_open idle h =
+    tells_nothing (AnswersSerial shared serial (newest ∷ older)) gone told (fails conn CorruptData (quoted_of octets)) (inl aside_none) (says_fails gone told conn CorruptData (quoted_of octets) is_open h)
+tells_other_session shared gone told conn octets serial newest older Reset is_open idle h =
+    tells_answer_if (AnswersSerial shared serial (newest ∷ older)) gone told conn Cache_reset (has_room conn.ring) is_open idle (inl aside_none) (inl (inr (Cache_reset, tt, refl))) h
+
 tells_if :
     (allowed : List Told → Type 0) (gone : List ℕ) (told : List Told) (b : Bool) (x y : Conn) → Tells allowed gone told x → Tells allowed gone told y → Tells allowed gone told (if b then x else y)
 tells_if allowed gone told true x y h k = h
@@ -224,7 +235,7 @@ tells_serial shared refused gone told conn octets session serial [] is_open idle
 tells_serial shared refused gone told conn octets session serial (newest ∷ older) is_open idle h =
     tells_if (AnswersSerial shared serial (newest ∷ older)) gone told (session == shared.session) _ _
     (tells_serial_answer shared refused gone told conn serial newest older (version_of (newest ∷ older) serial) refl is_open idle h)
-    (tells_nothing (AnswersSerial shared serial (newest ∷ older)) gone told (fails conn CorruptData (quoted_of octets)) (inl aside_none) (says_fails gone told conn CorruptData (quoted_of octets) is_open h))
+    (tells_other_session shared gone told conn octets serial newest older shared.other_session is_open idle h)
 
 tells_reset :
     (shared : Shared) (refused : Bool) (gone : List ℕ) (told : List Told) (conn : Conn) (octets : List ℕ) (kept : List Version)

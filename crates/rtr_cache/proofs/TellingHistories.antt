@@ -11,6 +11,7 @@ use Rattle.rtr_cache.specs.CacheTable.{Conn, Shared, fresh_conn, hears_octets, n
 use Rattle.rtr_cache.specs.ClientHistory.{AnswersOctets, Call, CameUp, Heard, IsRun, IsToldBy, IsToldWhole, KeepsClient, Loaded, Makes, StaysUp, Ticked, Took, Turn, WentDown, handed_by, handed_out}
 use Rattle.rtr_cache.specs.Telling.{IsNotified, SaysWhole, Told}
 use Rattle.rtr_cache.specs.declared.event.CacheReport.{CacheReport}
+use Rattle.rtr_cache.specs.declared.other_session.OtherSession.{OtherSession}
 use Rattle.rtr_cache.specs.declared.refusal.CacheRefusal.{CacheRefusal}
 use Rattle.rtr_cache.proofs.Leading.{AreOfSets, leads-append, leads-call, sets-run}
 use Rattle.rtr_cache.proofs.Telling.{Tells, nothing_more, says_fresh, says_pumped, says_taken, tells_notify, tells_octets}
@@ -187,7 +188,7 @@ told_whole start end key (turn ∷ earlier) sets fresh run up =
 
 -- and all calls of a cache from its beginning on
 pub told_from_empty :
-    (session : ℕ) (intervals : Intervals) (before : List Turn) (start end : CacheState) (key : ℕ) (history : List Turn) → IsRun (empty_cache session intervals) before start
+    (session : ℕ) (intervals : Intervals) (other_session : OtherSession) (before : List Turn) (start end : CacheState) (key : ℕ) (history : List Turn) → IsRun (empty_cache session intervals other_session) before start
     → client_at start key ≡ Some fresh_conn → IsRun start history end → StaysUp key history → IsToldWhole key history (client_at end key)
-told_from_empty session intervals before start end key history made fresh run up =
-    told_whole start end key history (sets-run (empty_cache session intervals) start before tt made) fresh run up
+told_from_empty session intervals other_session before start end key history made fresh run up =
+    told_whole start end key history (sets-run (empty_cache session intervals other_session) start before tt made) fresh run up

@@ -9,6 +9,7 @@ use Rattle.rtr_cache.specs.CacheTable.{Conn, Shared, fresh_conn, hears_octets, n
 use Rattle.rtr_codec.specs.Intervals.{are_lawful}
 use Rattle.rtr_codec.specs.declared.intervals.Intervals.{Intervals}
 use Rattle.rtr_cache.specs.declared.event.CacheReport.{CacheReport}
+use Rattle.rtr_cache.specs.declared.other_session.OtherSession.{OtherSession}
 use Rattle.rtr_cache.specs.declared.refusal.CacheRefusal.{CacheRefusal}
 use Rattle.rtr_cache.specs.declared.refusal.CacheRefusal.TheVariants.{NoClient, Full, ClockBack, NoMemory, Range}
 use Rattle.vrp_delta.specs.Versions.{is_newest_set, kept_after, newest_serial}
@@ -31,13 +32,14 @@ abbrev pub OthersStay : CacheState → ℕ → CacheState → Type 0
 OthersStay old key new = (other : ℕ) → other ≢ key → client_at new other ≡ client_at old other
 
 -- a cache that has published nothing and has no clients, at the moment 0
-abbrev pub empty_cache : ℕ → Intervals → CacheState
-empty_cache session intervals = record { shared = record { session = session; intervals = intervals; kept = []; now = 0 }; clients = [] }
+abbrev pub empty_cache : ℕ → Intervals → OtherSession → CacheState
+empty_cache session intervals other_session =
+    record { shared = record { session = session; intervals = intervals; other_session = other_session; kept = []; now = 0 }; clients = [] }
 
 -- a new cache: it is refused where its intervals aren't lawful, or by want of memory
-abbrev pub IsNew : ℕ → Intervals → Result CacheState CacheRefusal → Type 0
-IsNew session intervals (Ok cache) = (are_lawful intervals ≡ true) × (cache ≡ empty_cache session intervals)
-IsNew session intervals (Err why) =
+abbrev pub IsNew : ℕ → Intervals → OtherSession → Result CacheState CacheRefusal → Type 0
+IsNew session intervals other_session (Ok cache) = (are_lawful intervals ≡ true) × (cache ≡ empty_cache session intervals other_session)
+IsNew session intervals other_session (Err why) =
     ((why ≡ Range) × (are_lawful intervals ≡ false)) ⊎ ((why ≡ NoMemory) × (are_lawful intervals ≡ true))
 
 -- what a report tells

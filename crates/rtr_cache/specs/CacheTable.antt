@@ -4,7 +4,7 @@
 --   other than a query: error 3, closed
 --   a query while a response isn't wholly queued: error 3, closed
 --   a query before the first load: error 2; the connection stays
---   a Serial Query of another session: error 0, closed
+--   a Serial Query of another session: error 0, closed; where the cache was made so (our own), a Cache Reset
 --   a Serial Query, the serial is kept: a response, with what changed since
 --   a Serial Query, the serial isn't kept: a Cache Reset
 --   a Reset Query: a response, with all payloads
@@ -21,12 +21,15 @@ use Rattle.rtr_codec.specs.PduSpelling.{Content, Serial_notify, Serial_query, Re
 use Rattle.rtr_codec.specs.PduStream.{Item, WholePdu, FaultyPdu, pdus_from, unread_from}
 use Rattle.rtr_codec.specs.Responses.{response}
 use Rattle.rtr_cache.specs.CacheLimits.{quoted_octets, ring_octets, room_for_pdu, seconds_between_notifies}
+use Rattle.rtr_cache.specs.declared.other_session.OtherSession.{OtherSession}
+use Rattle.rtr_cache.specs.declared.other_session.OtherSession.TheVariants.{Report, Reset}
 use Rattle.vrp_delta.specs.Versions.{Version, newest_serial, version_of}
 
--- what all connections of a cache share: its session, what each End of Data tells, the kept versions with the newest first, and the moment
+-- what all connections of a cache share: its session, what each End of Data tells, what a Serial Query of another session is answered with, the kept versions with the newest first, and the moment
 pub record Shared : Type 0 where
   pub session : ℕ
   pub intervals : Intervals
+  pub other_session : OtherSession
   pub kept : List Version
   pub now : ℕ
 
@@ -77,12 +80,17 @@ abbrev pub serial_answer : Shared → Bool → Conn → Version → Option Versi
 serial_answer shared refused conn newest None = answers conn Cache_reset
 serial_answer shared refused conn newest (Some old) = begins refused conn (response shared.session shared.intervals newest old.set)
 
--- a Serial Query before the first load: error 2; of another session: error 0, closed
+-- a Serial Query of another session: error 0, closed (RFC 8210 section 5.1); or a Cache Reset, as where the serial isn't kept (our own)
+abbrev pub other_session_answer : OtherSession → Conn → List ℕ → Conn
+other_session_answer Report conn octets = fails conn CorruptData (quoted_of octets)
+other_session_answer Reset conn octets = answers conn Cache_reset
+
+-- a Serial Query before the first load: error 2; behind it by its session
 abbrev pub serial_query : Shared → Bool → Conn → List ℕ → ℕ → ℕ → List Version → Conn
 serial_query shared refused conn octets session serial [] = answers conn (Error_report (number_of NoDataAvailable) (quoted_of octets))
 serial_query shared refused conn octets session serial (newest ∷ older) =
     if session == shared.session then serial_answer shared refused conn newest (version_of (newest ∷ older) serial)
-    else fails conn CorruptData (quoted_of octets)
+    else other_session_answer shared.other_session conn octets
 
 -- a Reset Query before the first load: error 2; behind it: a response, with all payloads
 abbrev pub reset_query : Shared → Bool → Conn → List ℕ → List Version → Conn

@@ -6,8 +6,10 @@ ghost use Rattle.net_prefix.specs.PayloadSets.{IsPayloadSet};
 ghost use Rattle.rtr_cache.specs.CacheTable.{notified, pumped};
 ghost use Rattle.rtr_cache.specs.CacheState.{AllAreAtRest, AllAreNotified, ComesUp, GoesDown, HearsOctets, IsNew, Loads, OthersStay, Ticks, client_at, transport_of};
 ghost use Rattle.rtr_cache.specs.ClientHistory.{Makes, Took, call_of};
+ghost use Rattle.rtr_cache.specs.declared.other_session.OtherSession.TheVariants.{Report};
 
 use crate::event::{CacheEvent, CacheReport};
+use crate::other_session::OtherSession;
 use crate::publisher::Publisher;
 use crate::refusal::CacheRefusal;
 use crate::response::Terms;
@@ -40,14 +42,27 @@ impl<A: Allocator> Model for Cache<A> {
 }
 
 impl<A: Allocator + Clone> Cache<A> {
-    /// A cache without a set and without clients, at the moment 0.
+    /// A cache without a set and without clients, at the moment 0. It answers a Serial Query of another session with an
+    /// Error Report.
     pub fn new(alloc: A, session: u16, intervals: Intervals) -> Result<Self, CacheRefusal>
-        ensures { IsNew session intervals result }
+        ensures { IsNew session intervals Report result }
+    {
+        Cache::with_other_session(alloc, session, intervals, OtherSession::Report)
+    }
+
+    /// The same, with what it answers a Serial Query of another session with.
+    pub fn with_other_session(
+        alloc: A,
+        session: u16,
+        intervals: Intervals,
+        other_session: OtherSession,
+    ) -> Result<Self, CacheRefusal>
+        ensures { IsNew session intervals other_session result }
     {
         if !intervals.are_lawful() {
             return Err(CacheRefusal::Range);
         }
-        let publisher = Publisher::new(alloc, Terms { session, intervals })?;
+        let publisher = Publisher::new(alloc, Terms { session, intervals }, other_session)?;
         let alloc = publisher.allocator()?;
         Ok(Cache {
             publisher,

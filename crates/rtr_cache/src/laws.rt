@@ -5,6 +5,7 @@ ghost use Rattle.rtr_cache.specs.CacheLimits.{ring_octets, room_for_pdu};
 ghost use Rattle.rtr_cache.specs.CacheState.{CacheState, client_at, empty_cache};
 ghost use Rattle.rtr_cache.specs.CacheTable.{Conn, Shared, first_refused, fresh_conn, hears, hears_all, hears_from, pumped, queues};
 ghost use Rattle.rtr_cache.specs.ClientHistory.{IsRun, IsToldWhole, StaysUp, Turn};
+ghost use Rattle.rtr_cache.specs.declared.other_session.OtherSession.{OtherSession};
 ghost use Rattle.rtr_codec.specs.PduSpelling.{Content};
 ghost use Rattle.rtr_codec.specs.PduStream.{Item, Wants, meaning, needed_of, place_after};
 ghost use Rattle.rtr_codec.specs.Responses.{are_short, spellings};
@@ -15,7 +16,7 @@ ghost use Rattle.rtr_codec.specs.declared.place.Place.{Place};
 /// those that wait are whole PDUs. Each response among them that is ended is that of one published version, the newest
 /// when its query was read, and read onto the set that it leads from it gives that version's.
 pub fn clients_are_told_whole_versions()
-    ensures { (session : ℕ) (intervals : Intervals) (before : List Turn) (start end : CacheState) (key : ℕ) (history : List Turn) → IsRun (empty_cache session intervals) before start → client_at start key ≡ Some fresh_conn → IsRun start history end → StaysUp key history → IsToldWhole key history (client_at end key) }
+    ensures { (session : ℕ) (intervals : Intervals) (other_session : OtherSession) (before : List Turn) (start end : CacheState) (key : ℕ) (history : List Turn) → IsRun (empty_cache session intervals other_session) before start → client_at start key ≡ Some fresh_conn → IsRun start history end → StaysUp key history → IsToldWhole key history (client_at end key) }
 {}
 
 /// No more octets than are wanted are one row, where they complete a PDU or a fault, and none where they don't. What

@@ -11,6 +11,7 @@
 mod cache;
 mod event;
 mod laws;
+mod other_session;
 mod publisher;
 mod refusal;
 mod response;
@@ -26,4 +27,5 @@ pub use laws::{
     octets_are_heard_piece_by_piece, queueing_changes_no_more, queueing_keeps_what_is_said,
     queueing_leaves_room, queueing_stops_at_a_full_ring,
 };
+pub use other_session::OtherSession;
 pub use refusal::CacheRefusal;

@@ -6,6 +6,7 @@ ghost use Rattle.rtr_codec.specs.PduSpelling.{Serial_notify, content_of};
 ghost use Rattle.rtr_cache.specs.Unsaid.{is_published, kept_response, whole_response};
 ghost use Rattle.vrp_delta.specs.Versions.{is_newest_set, kept_after, newest_serial, version_of};
 
+use crate::other_session::OtherSession;
 use crate::response::{Response, Terms};
 use net_prefix::Vrp;
 use rtr_codec::Pdu;
@@ -14,11 +15,13 @@ use std::collections::BTreeSet;
 use std::marker::Model;
 use vrp_delta::Versions;
 
-/// The session, the versions that were published in it, and the moment.
+/// The session, what a Serial Query of another one is answered with, the versions that were published in it, and the
+/// moment.
 #[derive(Drop)]
 pub struct Publisher<A: Allocator = Global> {
     alloc: A,
     terms: Terms,
+    other_session: OtherSession,
     versions: Versions<A>,
     moment: u64,
 }
@@ -28,18 +31,19 @@ impl<A: Allocator> Model for Publisher<A> {
 
     ghost Value = { Shared };
 
-    ghost view = { λ p. record { session = p.terms.session; intervals = p.terms.intervals; kept = p.versions; now = p.moment } };
+    ghost view = { λ p. record { session = p.terms.session; intervals = p.terms.intervals; other_session = p.other_session; kept = p.versions; now = p.moment } };
 }
 
 impl<A: Allocator + Clone> Publisher<A> {
     /// Nothing is published, and the moment is 0.
-    pub fn new(alloc: A, terms: Terms) -> Result<Self, AllocError>
-        ensures { IfOk result (λ p. p ≡ record { session = terms.session; intervals = terms.intervals; kept = []; now = 0 }) }
+    pub fn new(alloc: A, terms: Terms, other_session: OtherSession) -> Result<Self, AllocError>
+        ensures { IfOk result (λ p. p ≡ record { session = terms.session; intervals = terms.intervals; other_session = other_session; kept = []; now = 0 }) }
     {
         let versions = Versions::new(alloc.clone()?);
         Ok(Publisher {
             alloc,
             terms,
+            other_session,
             versions,
             moment: 0,
         })
@@ -115,6 +119,13 @@ impl<A: Allocator + Clone> Publisher<A> {
         ensures { result ≡ self.now.session }
     {
         self.terms.session
+    }
+
+    /// What a Serial Query of another session is answered with.
+    pub fn other_session(&self) -> OtherSession
+        ensures { result ≡ self.now.other_session }
+    {
+        self.other_session
     }
 
     /// A Serial Notify of the newest version.

@@ -1,12 +1,13 @@
 //! The cache's table: what a PDU of a client's makes of the cache's end of its connection (RFC 8210 sections 5 to 8 and
 //! 12). The definition is `specs/CacheTable.antt`.
 ghost use Rattle.std.specs.Prelude.{◌≡◌, [], Bool, true};
-ghost use Rattle.rtr_cache.specs.CacheTable.{hears_fault, hears_pdu, reset_query, serial_query};
+ghost use Rattle.rtr_cache.specs.CacheTable.{hears_fault, hears_pdu, other_session_answer, reset_query, serial_query};
 ghost use Rattle.rtr_cache.specs.Sending.{HearsFront, behind_pdu};
 ghost use Rattle.rtr_cache.specs.Unsaid.{is_published};
 ghost use Rattle.rtr_codec.specs.PduSpelling.{content_of};
 ghost use Rattle.rtr_codec.specs.PduStream.{meaning};
 
+use crate::other_session::OtherSession;
 use crate::publisher::Publisher;
 use crate::sender::Sender;
 use rtr_codec::{ErrorCode, Pdu, PduFault, Receiver, Step};
@@ -43,9 +44,9 @@ impl<A: Allocator + Clone> Sender<A> {
             // A query before the first load: error 2; the connection stays.
             Pdu::SerialQuery { .. } if !publisher.has_version() => self.answer_no_data(octets),
             Pdu::ResetQuery if !publisher.has_version() => self.answer_no_data(octets),
-            // A Serial Query of another session: error 0, closed.
+            // A Serial Query of another session: error 0, closed; or a Cache Reset.
             Pdu::SerialQuery { session, .. } if *session != publisher.session() => {
-                self.fail(ErrorCode::CorruptData, octets);
+                self.answer_other_session(publisher.other_session(), octets);
             }
             // A Serial Query: a response, with what changed since, or a Cache Reset.
             Pdu::SerialQuery { serial, .. } => self.answer_serial(publisher, *serial),
@@ -65,6 +66,17 @@ impl<A: Allocator + Clone> Sender<A> {
             PduFault::Unanswered => self.close(),
             PduFault::Header(code) => self.fail(code, octets),
             PduFault::Payload => self.fail(ErrorCode::CorruptData, octets),
+        }
+    }
+
+    // A Serial Query of another session, behind the first load.
+    fn answer_other_session(&mut self, other_session: OtherSession, octets: &[u8])
+        requires { self.old.is_open ≡ true }
+        ensures { behind_pdu self.new ≡ other_session_answer other_session (behind_pdu self.old) octets.now }
+    {
+        match other_session {
+            OtherSession::Report => self.fail(ErrorCode::CorruptData, octets),
+            OtherSession::Reset => self.answer(&Pdu::CacheReset),
         }
     }
 
