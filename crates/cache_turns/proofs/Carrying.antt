@@ -2,6 +2,7 @@
 use Rattle.std.proofs.Common.{◌≡◌, ◌≢◌, ◌≤◌, ◌<◌, ◌-◌, ◌^◌, ℕ, zero, suc, List, [], ◌∷◌, ◌++◌, refl, sym, ap, subst, ◌∙◌, append_assoc, append-nil, inl, inr, ◌⊎◌, Option, Some, None, Result, Ok, Err, arith}
 use Rattle.std.proofs.lemmas.Bool.{cases_eq}
 use Rattle.std.proofs.lemmas.Option.{same_Some}
+use Rattle.rtr_cache.specs.declared.other_session.OtherSession.{OtherSession}
 use Rattle.rtr_cache.specs.CacheState.{CacheState, ComesUp as CacheComesUp, client_at, empty_cache, tells_client}
 use Rattle.rtr_cache.specs.CacheTable.{fresh_conn}
 use Rattle.rtr_cache.specs.ClientHistory.{CameUp, IsRun, StaysUp, Ticked, Turn, WentDown, handed_out, turn_of}
@@ -440,9 +441,9 @@ at_first first before cache made =
     }
 
 -- each connection carries whole versions
-pub carries_whole : (session : ℕ) (intervals : Intervals) (before : List Turn) (cache : CacheState) (moments : List ℕ) (new : Turns) (key : ℕ) (link : Connection) → IsRun (empty_cache session intervals) before cache → TakesTurns moments (idle cache nothing_told) new → new.counts.wire.arrivals < 2 ^ 64 - 1 → link_at new key ≡ Some link → CarriesWhole new key link
-carries_whole session intervals before cache moments new key link made turns below is =
-    let first = empty_cache session intervals in
+pub carries_whole : (session : ℕ) (intervals : Intervals) (other_session : OtherSession) (before : List Turn) (cache : CacheState) (moments : List ℕ) (new : Turns) (key : ℕ) (link : Connection) → IsRun (empty_cache session intervals other_session) before cache → TakesTurns moments (idle cache nothing_told) new → new.counts.wire.arrivals < 2 ^ 64 - 1 → link_at new key ≡ Some link → CarriesWhole new key link
+carries_whole session intervals other_session before cache moments new key link made turns below is =
+    let first = empty_cache session intervals other_session in
     let c = (turns_carry first moments (idle cache nothing_told) new (at_first first before cache made) turns below).each key link is in
     record {
       start = c.start;
@@ -452,5 +453,5 @@ carries_whole session intervals before cache moments new key link made turns bel
       up = c.up;
       hears = c.hears;
       takes = c.takes;
-      whole = told_from_empty session intervals c.before c.start new.cache key c.history c.made c.fresh c.run c.up;
+      whole = told_from_empty session intervals other_session c.before c.start new.cache key c.history c.made c.fresh c.run c.up;
     }

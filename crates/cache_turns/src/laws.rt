@@ -1,6 +1,7 @@
 //! What follows of turns.
 ghost use Rattle.std.specs.Prelude.{◌≡◌, ◌<◌, ◌-◌, ◌^◌, ◌++◌, ℕ, List, Result, Some};
 ghost use Rattle.rtr_cache.specs.CacheState.{CacheState, empty_cache};
+ghost use Rattle.rtr_cache.specs.declared.other_session.OtherSession.{OtherSession};
 ghost use Rattle.rtr_codec.specs.declared.intervals.Intervals.{Intervals};
 ghost use Rattle.rtr_cache.specs.ClientHistory.{IsRun, Turn};
 ghost use Rattle.cache_turns.specs.Turns.{LosesNoMore, TakesTurn, TakesTurns, Turns, idle, link_at};
@@ -24,5 +25,5 @@ pub fn turns_are_calls_of_the_cache()
 /// connection has heard just what its socket gave, and what its socket took and what waits for it is just what the
 /// cache handed out for it, which with what is queued are whole PDUs, each response of one published version.
 pub fn connections_carry_whole_versions()
-    ensures { (session : ℕ) (intervals : Intervals) (before : List Turn) (cache : CacheState) (moments : List ℕ) (new : Turns) (key : ℕ) (link : Connection) → IsRun (empty_cache session intervals) before cache → TakesTurns moments (idle cache nothing_told) new → new.counts.wire.arrivals < 2 ^ 64 - 1 → link_at new key ≡ Some link → CarriesWhole new key link }
+    ensures { (session : ℕ) (intervals : Intervals) (other_session : OtherSession) (before : List Turn) (cache : CacheState) (moments : List ℕ) (new : Turns) (key : ℕ) (link : Connection) → IsRun (empty_cache session intervals other_session) before cache → TakesTurns moments (idle cache nothing_told) new → new.counts.wire.arrivals < 2 ^ 64 - 1 → link_at new key ≡ Some link → CarriesWhole new key link }
 {}
