@@ -18,4 +18,4 @@ pub use cache_turns::{
 pub use fault::ExitFault;
 pub use mains::main_cache;
 pub use net_wire::{NetSocket, NetWire};
-pub use settings::{CacheSettings, SettingsFault};
+pub use settings::{CacheSettings, SessionSource, SettingsFault};

@@ -4,7 +4,7 @@ ghost use Rattle.ov_programs.specs.Words.{IsCall};
 
 use crate::fault::ExitFault;
 use crate::net_wire::NetWire;
-use crate::settings::CacheSettings;
+use crate::settings::{CacheSettings, SessionSource};
 use crate::words::read_words;
 use cache_turns::CacheLoop;
 use rtr_cache::{Cache, CacheEvent};
@@ -12,7 +12,7 @@ use std::alloc::AllocGlobal;
 use std::io::Write;
 use std::net::{Net, TcpListener, TcpStream};
 use std::rt::{Clock, Files};
-use std::time::{Duration, Instant};
+use std::time::{Duration, Instant, SystemTime};
 use std::{fs, thread};
 use vrp_csv::read_list;
 
@@ -64,11 +64,30 @@ where
     Ok(())
 }
 
-// The cache of the settings, with their list.
-fn load_cache<R: Files + AllocGlobal>(rt: &R, settings: &CacheSettings) -> Result<Cache, ExitFault>
+// The session id. By the clock it is the low 16 bits of the seconds since 1970: another one in each of 65,536 seconds.
+fn session_id<R: Clock>(rt: &R, session: SessionSource) -> Result<u16, ExitFault>
     ensures { IfErr result (λ fault. fault ≢ ExitFault.Arguments) }
 {
-    let mut cache = Cache::new(rt.alloc(), settings.session, settings.intervals)?;
+    match session {
+        SessionSource::Id(id) => Ok(id),
+        SessionSource::Clock => Ok((SystemTime::UNIX_EPOCH.elapsed(rt)?.as_secs() % 65_536) as u16),
+    }
+}
+
+// The cache of the settings, with their list.
+fn load_cache<R: Files + Clock + AllocGlobal>(
+    rt: &R,
+    settings: &CacheSettings,
+) -> Result<Cache, ExitFault>
+    ensures { IfErr result (λ fault. fault ≢ ExitFault.Arguments) }
+{
+    let session = session_id(rt, settings.session)?;
+    let mut cache = Cache::with_other_session(
+        rt.alloc(),
+        session,
+        settings.intervals,
+        settings.other_session,
+    )?;
     let list = fs::open(rt, settings.csv.as_str())?;
     let loaded = read_list(rt.alloc(), list)?;
     let _serial = cache.step(CacheEvent::Load(&loaded.set))?;

@@ -2,6 +2,7 @@
 ghost use Rattle.std.specs.Prelude.{◌≡◌, IfOk, true};
 ghost use Rattle.rtr_codec.specs.Intervals.{are_lawful};
 
+use rtr_cache::OtherSession;
 use rtr_codec::Intervals;
 use std::alloc::{AllocError, AllocFailed, Global};
 use std::net::SocketAddr;
@@ -26,6 +27,15 @@ impl From<AllocError> for SettingsFault {
     }
 }
 
+/// Where a cache's session id comes from.
+#[derive(Clone, Copy, Debug, PartialEq, Eq)]
+pub enum SessionSource {
+    /// The settings have it.
+    Id(u16),
+    /// The clock at the start, so that a restart has another one.
+    Clock,
+}
+
 /// What `ovcache` is told by its settings.
 #[derive(Drop)]
 pub struct CacheSettings {
@@ -33,15 +43,17 @@ pub struct CacheSettings {
     pub listen: SocketAddr,
     /// The path of its payload list.
     pub csv: String,
-    /// Its session.
-    pub session: u16,
+    /// Where its session id comes from.
+    pub session: SessionSource,
+    /// What it answers a Serial Query of another session with.
+    pub other_session: OtherSession,
     /// What each End of Data tells.
     pub intervals: Intervals,
 }
 
 impl CacheSettings {
-    /// The settings that the octets of a file tell: `listen`, `csv` and `session`, and `refresh`, `retry` and `expire`
-    /// where they aren't the usual ones. Keys of other names are passed over.
+    /// The settings that the octets of a file tell: `listen`, `csv` and `session`, and `other_session`, `refresh`, `retry`
+    /// and `expire` where they aren't the usual ones. Keys of other names are passed over.
     pub fn read(alloc: Global, octets: &[u8]) -> Result<CacheSettings, SettingsFault>
         ensures { IfOk result (λ settings. are_lawful settings.intervals ≡ true) }
     {
@@ -54,11 +66,13 @@ impl CacheSettings {
         };
         let csv = String::from_str(alloc, text_of(&table, "csv")?)?;
         let session = session_of(&table)?;
+        let other_session = other_session_of(&table)?;
         let intervals = intervals_of(&table)?;
         Ok(CacheSettings {
             listen,
             csv,
             session,
+            other_session,
             intervals,
         })
     }
@@ -84,11 +98,32 @@ fn text_of<'a>(table: &'a Table, key: &str) -> Result<&'a str, SettingsFault> {
     }
 }
 
-// The session, which has to be there.
-fn session_of(table: &Table) -> Result<u16, SettingsFault> {
-    match number_of(table, "session")? {
-        Some(number) => u16::try_from(number).map_err(|_| SettingsFault::Settings),
-        None => Err(SettingsFault::Settings),
+// Where the session id comes from, which has to be told.
+fn session_of(table: &Table) -> Result<SessionSource, SettingsFault> {
+    let Some(value) = table.get("session") else {
+        return Err(SettingsFault::Settings);
+    };
+    if value.as_str() == Some("clock") {
+        return Ok(SessionSource::Clock);
+    }
+    let Some(number) = value.as_integer() else {
+        return Err(SettingsFault::Settings);
+    };
+    match u16::try_from(number) {
+        Ok(id) => Ok(SessionSource::Id(id)),
+        Err(_) => Err(SettingsFault::Settings),
+    }
+}
+
+// What a Serial Query of another session is answered with: an Error Report where the key isn't there.
+fn other_session_of(table: &Table) -> Result<OtherSession, SettingsFault> {
+    if table.get("other_session").is_none() {
+        return Ok(OtherSession::Report);
+    }
+    match text_of(table, "other_session")? {
+        "report" => Ok(OtherSession::Report),
+        "reset" => Ok(OtherSession::Reset),
+        _ => Err(SettingsFault::Settings),
     }
 }
 

@@ -90,13 +90,15 @@ fn wrong_words_are_arguments(rt: HostRuntime) -> Result<(), Fail> {
 }
 
 // Settings but for the list's path.
-const GOOD_SETTINGS: [&str; 3] = [
+const GOOD_SETTINGS: [&str; 5] = [
     SETTINGS,
     "session = 0\nlisten = \"127.0.0.1:0\"\nrefresh = 1\nretry = 7200\nexpire = 172800\n",
     "session = 65535\nlisten = \"127.0.0.1:0\"\nother = [1]\n[table]\nsession = \"no\"\n",
+    "session = \"clock\"\nlisten = \"127.0.0.1:0\"\nother_session = \"reset\"\n",
+    "session = 7\nlisten = \"127.0.0.1:0\"\nother_session = \"report\"\n",
 ];
 
-const BAD_SETTINGS: [&str; 15] = [
+const BAD_SETTINGS: [&str; 18] = [
     "listen = \"127.0.0.1:0\"\nsession = 7\nno toml",
     "listen = \"127.0.0.1:0\"\n",
     "session = 7\n",
@@ -106,6 +108,9 @@ const BAD_SETTINGS: [&str; 15] = [
     "listen = \"127.0.0.1:0\"\nsession = 65536\n",
     "listen = \"127.0.0.1:0\"\nsession = -1\n",
     "listen = \"127.0.0.1:0\"\nsession = \"7\"\n",
+    "listen = \"127.0.0.1:0\"\nsession = \"Clock\"\n",
+    "listen = \"127.0.0.1:0\"\nsession = 7\nother_session = \"other\"\n",
+    "listen = \"127.0.0.1:0\"\nsession = 7\nother_session = 1\n",
     "listen = \"127.0.0.1:0\"\nsession = 7\nrefresh = 0\n",
     "listen = \"127.0.0.1:0\"\nsession = 7\nrefresh = \"1\"\n",
     "listen = \"127.0.0.1:0\"\nsession = 7\nretry = 7201\n",
