@@ -15,12 +15,14 @@ fn table_of(alloc: Global, announced: &[(Prefix, &[u8])]) -> Result<AdjOut, Fail
     Ok(table)
 }
 
-// Finds the octets of a prefix to be all that the peer holds.
-fn holds_alone(rt: &impl Abort, table: &AdjOut, only: Prefix, held: &[u8]) {
+// Whether the octets of a prefix are all that the peer holds.
+fn holds_alone(table: &AdjOut, only: Prefix, held: &[u8]) -> bool {
     for (prefix, octets) in table.held() {
-        assert_eq!(rt; prefix, only);
-        assert_eq!(rt; octets, held);
+        if prefix != only || octets != held {
+            return false;
+        }
     }
+    table.holds(only, held)
 }
 
 fn is_next(table: &AdjOut, after: Option<Prefix>, prefix: Option<Prefix>) -> bool {
@@ -41,7 +43,7 @@ fn the_peer_holds_what_it_was_last_sent(rt: HostRuntime) -> Result<(), Fail> {
     assert!(rt; is_next(&table, Some(low), Some(high)));
     table.withdraw(low);
     assert!(rt; table.get(low).is_none());
-    holds_alone(&rt, &table, high, b"three");
+    assert!(rt; holds_alone(&table, high, b"three"));
     table.clear();
     assert!(rt; is_next(&table, None, None));
     Ok(())

@@ -68,21 +68,27 @@ const FAULTS: [(&str, &[u8], Option<u8>); 20] = [
 #[test]
 fn what_came_is_written_again(rt: HostRuntime) -> Result<(), Fail> {
     let attrs = read_attrs(rt.alloc(), &RECEIVED, PEER)?;
-    assert_eq!(rt; attrs.missing(), None);
-    assert_eq!(rt; attrs.origin(), Some(Origin::Igp));
-    assert_eq!(rt; attrs.next_hop(), Some(0xC000_020B));
-    let mut out = ArrayVec::new();
-    assert!(rt; write_attrs(&attrs.as_received(), &mut out));
-    assert_eq!(rt; out.as_slice(), RECEIVED.as_slice());
+    assert!(rt; is_whole(&attrs));
+    assert!(rt; is_written_as(&attrs.as_received(), &RECEIVED));
     Ok(())
+}
+
+// Whether ORIGIN and NEXT_HOP are those that came, and none is missing.
+fn is_whole(attrs: &Attrs) -> bool {
+    attrs.missing().is_none()
+        && attrs.origin() == Some(Origin::Igp)
+        && attrs.next_hop() == Some(0xC000_020B)
+}
+
+fn is_written_as(attrs: &AttrsToWrite<'_>, octets: &[u8]) -> bool {
+    let mut out = ArrayVec::new();
+    write_attrs(attrs, &mut out) && out.as_slice() == octets
 }
 
 #[test]
 fn several_spellings_are_read_alike(rt: HostRuntime) -> Result<(), Fail> {
     let attrs = read_attrs(rt.alloc(), &SPELLED_OTHERWISE, PEER)?;
-    let mut out = ArrayVec::new();
-    assert!(rt; write_attrs(&attrs.as_received(), &mut out));
-    assert_eq!(rt; out.as_slice(), RECEIVED.as_slice());
+    assert!(rt; is_written_as(&attrs.as_received(), &RECEIVED));
     Ok(())
 }
 
@@ -120,8 +126,7 @@ fn is_the_path_with_a_set(path: &AsPath) -> bool {
 fn an_as_joins_the_first_sequence(rt: HostRuntime) -> Result<(), Fail> {
     let attrs = read_attrs(rt.alloc(), &RECEIVED, PEER)?;
     let mut out = ArrayVec::new();
-    assert!(rt; write_prepended(&attrs, &mut out));
-    assert_eq!(rt; out.as_slice(), PREPENDED.as_slice());
+    assert!(rt; write_prepended(&attrs, &mut out) && out.as_slice() == PREPENDED.as_slice());
     Ok(())
 }
 
@@ -160,34 +165,44 @@ fn a_fault_tells_the_whole_attribute(rt: HostRuntime) -> Result<(), Fail> {
     let Err(fault) = read_attrs(rt.alloc(), &octets, PEER) else {
         return Err(Fail::new("origin 3"));
     };
-    assert_eq!(rt; fault.code(), Some(3));
-    assert_eq!(rt; fault.data(), [0x40, 1, 1, 3].as_slice());
-    assert_eq!(rt; fault.number(), None);
-    assert_eq!(rt; UpdateFault::NoMemory.number(), Some(21));
+    assert!(rt; is_told(&fault, &[0x40, 1, 1, 3]));
+    assert!(rt; fault.number().is_none() && UpdateFault::NoMemory.number() == Some(21));
     Ok(())
+}
+
+// Whether the fault is told as one of an UPDATE, with this data.
+fn is_told(fault: &UpdateFault<'_>, data: &[u8]) -> bool {
+    fault.code() == Some(3) && fault.data() == data
 }
 
 #[test]
 fn an_internal_path_begins_with_any_as(rt: HostRuntime) -> Result<(), Fail> {
     let empty = read_attrs(rt.alloc(), &[0x40, 2, 0], PeerKind::Internal)?;
-    assert_eq!(rt; empty.as_path().map(|path| path.length()), Some(0));
+    assert_eq!(rt; length_of_path(&empty), Some(0));
     let other = [0x40, 2, 6, 2, 1, 0, 0, 0, 1];
     let attrs = read_attrs(rt.alloc(), &other, PeerKind::Internal)?;
-    assert_eq!(rt; attrs.as_path().map(|path| path.length()), Some(1));
+    assert_eq!(rt; length_of_path(&attrs), Some(1));
     Ok(())
 }
 
+fn length_of_path(attrs: &Attrs) -> Option<u32> {
+    let path = attrs.as_path()?;
+    Some(path.length())
+}
+
 #[test]
-fn types_have_their_codes(rt: HostRuntime) -> Result<(), Fail> {
-    let next_hop = AttributeType::from_octet(3);
-    assert_eq!(rt; next_hop, Some(AttributeType::NextHop));
-    assert_eq!(rt; AttributeType::NextHop.octet(), 3);
-    assert_eq!(rt; AttributeType::NextHop.class(), Class::WellKnown);
-    assert_eq!(rt; AttributeType::NextHop.length(), Some(4));
-    assert_eq!(rt; AttributeType::NextHop.written_flags(), 0x40);
-    assert_eq!(rt; Origin::from_octet(2), Some(Origin::Incomplete));
-    assert_eq!(rt; Origin::Incomplete.octet(), 2);
-    Ok(())
+fn types_have_their_codes(rt: HostRuntime) {
+    assert!(rt; is_next_hop_type(AttributeType::NextHop));
+    assert!(rt; Origin::from_octet(2) == Some(Origin::Incomplete));
+    assert!(rt; Origin::Incomplete.octet() == 2);
+}
+
+fn is_next_hop_type(it: AttributeType) -> bool {
+    AttributeType::from_octet(3) == Some(it)
+        && it.octet() == 3
+        && it.class() == Class::WellKnown
+        && it.length() == Some(4)
+        && it.written_flags() == 0x40
 }
 
 fn write_prepended(attrs: &Attrs, out: &mut ArrayVec<u8, 4096>) -> bool {

@@ -1,8 +1,9 @@
-//! Each public call with ample memory.
+//! Each public call with ample memory. Commands that are refused are in the transcripts.
 
 use bgp_attr::Mode;
 use bgp_conf::{Command, Conf, ConfiguredPeer, PeerConf, Refusal};
 use net_prefix::{Asn, Prefix};
+use std::alloc::Global;
 use std::test::Fail;
 
 // An external peer that connects from 192.0.2.11.
@@ -65,52 +66,41 @@ fn a_peer_is_configured_once(rt: HostRuntime) -> Result<(), Fail> {
     Ok(())
 }
 
-#[rattlefmt::skip]
-const ROWS: [(u8, PeerConf<'static>, Refusal); 14] = [
-    (64, PEER, Refusal::BadSlot),
-    (63, PeerConf { asn: Asn(0), ..PEER }, Refusal::Range),
-    (63, PeerConf { asn: Asn(65000), ..PEER }, Refusal::Range),
-    (63, PeerConf { mode: Mode::Active, ..PEER }, Refusal::Range),
-    (63, PeerConf { local: 0x0000_0001, ..PEER }, Refusal::Range),
-    (63, PeerConf { local: 0x7f00_0001, ..PEER }, Refusal::Range),
-    (63, PeerConf { local: 0xe000_0001, ..PEER }, Refusal::Range),
-    (63, PeerConf { hold: 1, ..PEER }, Refusal::Range),
-    (63, PeerConf { hold: 2, ..PEER }, Refusal::Range),
-    (63, PeerConf { import: "", ..PEER }, Refusal::Range),
-    (63, PeerConf { export: "All", ..PEER }, Refusal::Range),
-    (63, PeerConf { import: "a-name-of-33-octets-is-too-long-x", ..PEER }, Refusal::Range),
-    (63, PeerConf { import: "a-name-of-32-octets-isnt-too-lon", ..PEER }, Refusal::UnknownName),
-    (63, PeerConf { export: "transit-1", ..PEER }, Refusal::UnknownName),
-];
-
-fn refusal_of(conf: &Conf, slot: u8, peer: PeerConf<'_>) -> Option<Refusal> {
-    conf.check(&Command::AddPeer(slot, peer), 0).err()
-}
-
 #[test]
-fn settings_out_of_range_are_refused(rt: HostRuntime) -> Result<(), Fail> {
+fn a_policy_has_a_name(rt: HostRuntime) -> Result<(), Fail> {
     let conf = Conf::new(rt.alloc(), Asn(65000))?;
-    for (slot, peer, refusal) in &ROWS {
-        assert_eq!(rt; refusal_of(&conf, *slot, *peer), Some(*refusal));
-    }
+    let command = Command::AddPeer(63, PeerConf { import: "", ..PEER });
+    assert_eq!(rt; conf.check(&command, 0), Err(Refusal::Range));
     Ok(())
 }
 
+// The tables after these entries, each an address, a length and a cost.
+fn conf_with(alloc: Global, entries: &[(u32, u8, u32)]) -> Result<Conf, Fail> {
+    let mut conf = Conf::new(alloc, Asn(65000))?;
+    for (bits, len, cost) in entries {
+        obey(&mut conf, &Command::Reach(Prefix::new(*bits, *len)?, *cost))?;
+    }
+    Ok(conf)
+}
+
+// The later entry of a prefix stands in place of the earlier one.
+const ENTRIES: [(u32, u8, u32); 4] = [
+    (0x0a00_0000, 8, 5),
+    (0x0a01_0000, 16, 7),
+    (0x0a01_0000, 16, 9),
+    (0x0a01_0203, 32, 1),
+];
+
 #[test]
 fn the_longest_entry_tells_the_cost(rt: HostRuntime) -> Result<(), Fail> {
-    let mut conf = Conf::new(rt.alloc(), Asn(65000))?;
-    assert_eq!(rt; conf.cost(0x0a01_0203), None);
-    for (bits, len, cost) in [
-        (0x0a00_0000, 8, 5),
-        (0x0a01_0000, 16, 7),
-        (0x0a01_0000, 16, 9),
-        (0x0a01_0203, 32, 1),
+    let conf = conf_with(rt.alloc(), &ENTRIES)?;
+    for (next_hop, cost) in [
+        (0x0a01_0203, Some(1)),
+        (0x0a01_0204, Some(9)),
+        (0x0a02_0204, Some(5)),
+        (0x0b00_0000, None),
     ] {
-        obey(&mut conf, &Command::Reach(Prefix::new(bits, len)?, cost))?;
+        assert_eq!(rt; conf.cost(next_hop), cost);
     }
-    assert_eq!(rt; conf.cost(0x0a01_0203), Some(1));
-    assert_eq!(rt; conf.cost(0x0a01_0204), Some(9));
-    assert_eq!(rt; conf.cost(0x0a02_0204), Some(5));
-    assert_eq!(rt; conf.cost(0x0b00_0000), None);
     Ok(())
 }

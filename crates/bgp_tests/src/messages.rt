@@ -2,10 +2,12 @@
 use arrayvec::ArrayVec;
 use bgp_attr::{AttributeType, PeerKind, UpdateFault};
 use bgp_msg::{
-    Expected, Fault, Frame, HeaderFault, MessageType, Open, OpenFault, Step, Update, needed, read,
-    read_open, read_update, write_announcement, write_keepalive, write_open, write_withdrawal,
+    Expected, Fault, Frame, HeaderFault, MessageType, Open, OpenFault, Prefixes, Step, needed,
+    read, read_open, read_update, write_announcement, write_keepalive, write_open,
+    write_withdrawal,
 };
 use net_prefix::{Asn, Prefix};
+use std::alloc::Global;
 use std::test::Fail;
 
 // ORIGIN IGP, AS_PATH 65001, NEXT_HOP 192.0.2.11.
@@ -127,66 +129,88 @@ fn a_keepalive_is_whole_with_its_19th_octet(rt: HostRuntime) {
     assert!(rt; needed(marked(&[0, 0x25, 1]).as_slice()) == 18);
 }
 
-#[test]
-fn opens_are_written_and_read(rt: HostRuntime) {
-    let own = Open {
-        asn: Asn(65000),
-        hold_time: 180,
-        identifier: 0xC0000201,
-    };
-    let mut message = ArrayVec::new();
-    write_open(&own, &mut message);
-    assert!(rt; message.as_slice() == marked(&OWN_OPEN).as_slice());
-    let expected = Expected {
-        peer_asn: Asn(65000),
-        own_asn: Asn(65001),
-        own_identifier: 0x01010101,
-    };
-    assert!(rt; read_open(&OWN_OPEN[3..], expected) == Ok(own));
-    let other = Expected {
-        peer_asn: Asn(65002),
-        own_asn: Asn(65001),
-        own_identifier: 0x01010101,
-    };
-    assert!(rt; read_open(&OWN_OPEN[3..], other) == Err(OpenFault::BadPeerAs));
-    let none = [4, 0xFD, 0xE8, 0, 0xB4, 0xC0, 0, 2, 1, 0];
-    let fault = OpenFault::UnsupportedCapability(Asn(65001));
-    assert!(rt; read_open(&none, expected) == Err(fault));
-    assert!(rt; fault.data().as_slice() == [0x41, 4, 0, 0, 0xFD, 0xE9].as_slice());
-    assert!(rt; fault.code() == 2 && fault.subcode() == 7);
+const OWN: Open = Open {
+    asn: Asn(65000),
+    hold_time: 180,
+    identifier: 0xC0000201,
+};
+
+const PEER: Open = Open {
+    asn: Asn(65001),
+    hold_time: 90,
+    identifier: 0x01010101,
+};
+
+// What the peer expects of our OPEN.
+const AT_PEER: Expected = Expected {
+    peer_asn: Asn(65000),
+    own_asn: Asn(65001),
+    own_identifier: 0x01010101,
+};
+
+// What we expect of the peer's.
+const HERE: Expected = Expected {
+    peer_asn: Asn(65001),
+    own_asn: Asn(65000),
+    own_identifier: 0xC0000201,
+};
+
+fn is_open(body: &[u8], expected: Expected, open: Open) -> bool {
+    read_open(body, expected) == Ok(open)
+}
+
+fn is_faulty_open(body: &[u8], expected: Expected, fault: OpenFault) -> bool {
+    read_open(body, expected) == Err(fault)
+}
+
+// Whether the fault is told with this subcode and this data.
+fn is_told(fault: OpenFault, subcode: u8, data: &[u8]) -> bool {
+    fault.code() == 2 && fault.subcode() == subcode && fault.data().as_slice() == data
 }
 
 #[test]
+fn opens_are_written_and_read(rt: HostRuntime) {
+    let mut message = ArrayVec::new();
+    write_open(&OWN, &mut message);
+    assert!(rt; message.as_slice() == marked(&OWN_OPEN).as_slice());
+    assert!(rt; is_open(&OWN_OPEN[3..], AT_PEER, OWN));
+    assert!(rt; is_open(&PEER_OPEN[3..], HERE, PEER));
+}
+
+// Bodies of OPENs that the peer sends, and their faults.
+#[rattlefmt::skip]
+const FAULTY_OPENS: [(&[u8], OpenFault); 5] = [
+    (&[3, 0xFD, 0xE9, 0, 0x5A, 1, 1, 1, 1, 8, 2, 6, 0x41, 4, 0, 0, 0xFD, 0xE9], OpenFault::UnsupportedVersion),
+    (&[4, 0xFD, 0xE8, 0, 0x5A, 1, 1, 1, 1, 8, 2, 6, 0x41, 4, 0, 0, 0xFD, 0xE8], OpenFault::BadPeerAs),
+    (&[4, 0xFD, 0xE9, 0, 2,    1, 1, 1, 1, 8, 2, 6, 0x41, 4, 0, 0, 0xFD, 0xE9], OpenFault::UnacceptableHoldTime),
+    (&[4, 0xFD, 0xE9, 0, 0x5A, 1, 1, 1, 1, 8, 2, 6, 0x41, 5, 0, 0, 0xFD, 0xE9], OpenFault::MalformedParameters),
+    (&[4, 0xFD, 0xE9, 0, 0x5A, 1, 1, 1, 1, 8, 1, 6, 0x41, 4, 0, 0, 0xFD, 0xE9], OpenFault::UnsupportedParameter),
+];
+
+#[test]
 fn faulty_opens_are_told_apart(rt: HostRuntime) {
-    let expected = Expected {
-        peer_asn: Asn(65001),
-        own_asn: Asn(65000),
-        own_identifier: 0xC0000201,
-    };
-    let peer = Open {
-        asn: Asn(65001),
-        hold_time: 90,
-        identifier: 0x01010101,
-    };
-    assert!(rt; read_open(&PEER_OPEN[3..], expected) == Ok(peer));
-    let version_3 = [
-        3, 0xFD, 0xE9, 0, 0x5A, 1, 1, 1, 1, 8, 2, 6, 0x41, 4, 0, 0, 0xFD, 0xE9,
-    ];
-    let fault = OpenFault::UnsupportedVersion;
-    assert!(rt; read_open(&version_3, expected) == Err(fault));
-    assert!(rt; fault.subcode() == 1 && fault.data().as_slice() == [0, 4].as_slice());
-    let hold_2 = [
-        4, 0xFD, 0xE9, 0, 2, 1, 1, 1, 1, 8, 2, 6, 0x41, 4, 0, 0, 0xFD, 0xE9,
-    ];
-    assert!(rt; read_open(&hold_2, expected) == Err(OpenFault::UnacceptableHoldTime));
-    let cut = [
-        4, 0xFD, 0xE9, 0, 0x5A, 1, 1, 1, 1, 8, 2, 6, 0x41, 5, 0, 0, 0xFD, 0xE9,
-    ];
-    assert!(rt; read_open(&cut, expected) == Err(OpenFault::MalformedParameters));
-    let other = [
-        4, 0xFD, 0xE9, 0, 0x5A, 1, 1, 1, 1, 8, 1, 6, 0x41, 4, 0, 0, 0xFD, 0xE9,
-    ];
-    assert!(rt; read_open(&other, expected) == Err(OpenFault::UnsupportedParameter));
+    for (body, fault) in &FAULTY_OPENS {
+        assert!(rt; is_faulty_open(body, HERE, *fault), "{fault:?}");
+    }
+    assert!(rt; is_told(OpenFault::UnsupportedVersion, 1, &[0, 4]));
+}
+
+#[test]
+fn a_missing_capability_is_told(rt: HostRuntime) {
+    let fault = OpenFault::UnsupportedCapability(Asn(65001));
+    let none = [4, 0xFD, 0xE8, 0, 0xB4, 0xC0, 0, 2, 1, 0];
+    assert!(rt; is_faulty_open(&none, AT_PEER, fault));
+    assert!(rt; is_told(fault, 7, &[0x41, 4, 0, 0, 0xFD, 0xE9]));
+}
+
+// Whether these are the prefixes, each an address and a length.
+fn are(mut found: Prefixes<'_>, wanted: &[(u32, u8)]) -> bool {
+    for (bits, len) in wanted {
+        if found.next() != Prefix::new(*bits, *len).ok() {
+            return false;
+        }
+    }
+    found.next().is_none()
 }
 
 #[test]
@@ -196,13 +220,8 @@ fn updates_name_their_prefixes(rt: HostRuntime) -> Result<(), Fail> {
     let update = read_update(rt.alloc(), body.as_slice(), kind)
         .ok()
         .ok_or("an UPDATE")?;
-    let mut withdrawn = update.withdrawn();
-    assert!(rt; withdrawn.next() == Prefix::new(0x0A000100, 24).ok());
-    assert!(rt; withdrawn.next() == None);
-    let mut announced = update.announced();
-    assert!(rt; announced.next() == Prefix::new(0x0A000000, 24).ok());
-    assert!(rt; announced.next() == Prefix::new(0x0A000000, 23).ok());
-    assert!(rt; announced.next() == None);
+    assert!(rt; are(update.withdrawn(), &[(0x0A000100, 24)]));
+    assert!(rt; are(update.announced(), &[(0x0A000000, 24), (0x0A000000, 23)]));
     Ok(())
 }
 
@@ -222,28 +241,30 @@ fn an_update_may_say_nothing(rt: HostRuntime) -> Result<(), Fail> {
     let nothing = read_update(rt.alloc(), &[0, 0, 0, 0], PeerKind::Internal)
         .ok()
         .ok_or("an UPDATE")?;
-    assert!(rt; nothing.announced().next() == None);
+    assert!(rt; are(nothing.announced(), &[]));
     Ok(())
+}
+
+// ORIGIN and AS_PATH without NEXT_HOP, and 10.0.1.0/24.
+const WITHOUT_NEXT_HOP: [u8; 21] = [
+    0, 0, 0, 13, 0x40, 1, 1, 0, 0x40, 2, 6, 2, 1, 0, 0, 0xFD, 0xE9, 0x18, 10, 0, 1,
+];
+
+fn is_faulty_update(alloc: Global, body: &[u8], fault: UpdateFault<'_>) -> bool {
+    read_update(alloc, body, PeerKind::External(Asn(65001))).err() == Some(fault)
 }
 
 #[test]
 fn faulty_updates_are_refused(rt: HostRuntime) {
-    let kind = PeerKind::External(Asn(65001));
     let long = body_with(&[0x21, 10, 0, 0, 0, 0]);
-    let fault = read_update(rt.alloc(), long.as_slice(), kind).err();
-    assert!(rt; fault == Some(UpdateFault::InvalidNetworkField));
-    let fault = read_update(rt.alloc(), &[0, 0, 0, 0, 0x18, 10, 0, 1], kind).err();
-    assert!(rt; matches!(fault, Some(UpdateFault::MissingWellKnown(_))));
-    assert!(rt;
-        read_update(rt.alloc(), &[0, 1, 0, 0], kind).err()
-            == Some(UpdateFault::MalformedAttributeList)
-    );
-    // ORIGIN and AS_PATH without NEXT_HOP, and 10.0.1.0/24.
-    let no_next_hop = [
-        0, 0, 0, 13, 0x40, 1, 1, 0, 0x40, 2, 6, 2, 1, 0, 0, 0xFD, 0xE9, 0x18, 10, 0, 1,
-    ];
-    let fault = read_update(rt.alloc(), &no_next_hop, kind).err();
-    assert!(rt; fault == Some(UpdateFault::MissingWellKnown(AttributeType::NextHop)));
+    let fault = UpdateFault::InvalidNetworkField;
+    assert!(rt; is_faulty_update(rt.alloc(), long.as_slice(), fault));
+    let no_attributes = UpdateFault::MissingWellKnown(AttributeType::Origin);
+    assert!(rt; is_faulty_update(rt.alloc(), &[0, 0, 0, 0, 0x18, 10, 0, 1], no_attributes));
+    let cut = UpdateFault::MalformedAttributeList;
+    assert!(rt; is_faulty_update(rt.alloc(), &[0, 1, 0, 0], cut));
+    let no_next_hop = UpdateFault::MissingWellKnown(AttributeType::NextHop);
+    assert!(rt; is_faulty_update(rt.alloc(), &WITHOUT_NEXT_HOP, no_next_hop));
 }
 
 #[test]
