@@ -1,0 +1,5 @@
+pub mod Falls
+pub mod Nodes
+pub mod Places
+pub mod Shape
+pub mod TrieMap

@@ -1,0 +1,10 @@
+//! A map from prefixes to values that finds what covers a prefix and what it covers.
+#![tactic(auto)]
+
+mod marks;
+mod node;
+mod places;
+mod trie;
+
+pub use marks::{MarkSet, Marked};
+pub use trie::Trie;

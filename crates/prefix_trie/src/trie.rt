@@ -1,0 +1,96 @@
+//! A map from prefixes to values.
+ghost use Rattle.std.specs.Prelude.{◌≡◌, ◌^◌, ◌<◌, [], None, length, IfOk, IfErr, OnErr, is_ok, if◌then◌else◌};
+ghost use Rattle.std.specs.Option.{option_copied};
+ghost use Rattle.prefix_trie.specs.TrieMap.{IsRising, found, with_entry, without};
+
+use crate::marks::Marked;
+use crate::node::Tree;
+use net_prefix::Prefix;
+use std::alloc::{AllocFailed, Allocator, Global};
+use std::marker::Model;
+
+/// A map from prefixes to values. Its entries stand in the order of prefixes.
+#[derive(Drop)]
+pub struct Trie<V: Marked, A: Allocator = Global> {
+    tree: Tree<V, A>,
+    count: usize,
+    alloc: A,
+}
+
+impl<V: Marked, A: Allocator> Model for Trie<V, A> {
+    ghost use Rattle.std.specs.Prelude.{List};
+    ghost use Rattle.net_prefix.specs.declared.prefix.Prefix.{Prefix};
+    ghost use Rattle.prefix_trie.specs.TrieMap.{IsCounted};
+
+    ghost Value = { List (Prefix × V) };
+
+    ghost view = { λ t. t.tree.entries };
+
+    ghost invariant = { λ t. IsCounted t.count t.tree.entries };
+}
+
+impl<V: Marked, A: Allocator> Trie<V, A> {
+    /// No entries.
+    pub fn new(alloc: A) -> Self
+        ensures { result ≡ [] }
+    {
+        Trie {
+            tree: Tree::empty(),
+            count: 0,
+            alloc,
+        }
+    }
+
+    /// How many entries there are.
+    pub fn len(&self) -> usize
+        ensures count { result ≡ length self.now }
+        ensures rising { IsRising self.now }
+    {
+        self.count
+    }
+
+    /// The value at the prefix.
+    pub fn get(&self, prefix: &Prefix) -> Option<&V>
+        ensures { option_copied result ≡ found self.now prefix.now }
+    {
+        self.tree.get(*prefix)
+    }
+
+    /// Takes out the value at the prefix. It takes no memory, and gives back that of needless nodes.
+    pub fn remove(&mut self, prefix: &Prefix) -> Option<V>
+        ensures removed { result ≡ found self.old prefix.now }
+        ensures entries { self.new ≡ without self.old prefix.now }
+    {
+        let removed = self.tree.remove(*prefix);
+        if removed.is_some() {
+            self.count -= 1;
+        }
+        removed
+    }
+}
+
+impl<V: Marked, A: Allocator + Clone> Trie<V, A> {
+    /// Puts the value at the prefix, and answers the one before. Where there is none and no memory for the new one,
+    /// the value comes back.
+    pub fn insert(&mut self, prefix: Prefix, value: V) -> Result<Option<V>, AllocFailed<V>>
+        ensures entries { self.new ≡ (if is_ok result then with_entry self.old prefix value else self.old) }
+        ensures before { IfOk result (λ before. before ≡ found self.old prefix) }
+        ensures absent { OnErr result (found self.old prefix ≡ None) }
+        ensures returned { IfErr result (λ failed. failed.value ≡ value) }
+    {
+        is_address(prefix.bits);
+        match self.tree.insert(&self.alloc, prefix, value) {
+            Ok(None) => {
+                self.count += 1;
+                Ok(None)
+            }
+            Ok(Some(before)) => Ok(Some(before)),
+            Err(failed) => Err(failed),
+        }
+    }
+}
+
+// An address has 32 bits.
+fn is_address(bits: u32)
+    ensures { bits < 2 ^ 32 }
+{}
