@@ -5,3 +5,5 @@ pub mod Counts
 pub mod Entries
 pub mod Forks
 pub mod Ranks
+pub mod Firsts
+pub mod MarkBits

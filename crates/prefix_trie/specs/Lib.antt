@@ -3,3 +3,4 @@ pub mod Nodes
 pub mod Places
 pub mod Shape
 pub mod TrieMap
+pub mod TrieWalks

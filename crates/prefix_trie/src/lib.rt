@@ -5,6 +5,7 @@ mod marks;
 mod node;
 mod places;
 mod trie;
+mod walks;
 
 pub use marks::{MarkSet, Marked};
 pub use trie::Trie;

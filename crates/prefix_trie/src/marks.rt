@@ -1,5 +1,5 @@
 //! The marks that a value carries.
-ghost use Rattle.std.specs.Prelude.{◌≡◌, Bool, false, ◌||◌};
+ghost use Rattle.std.specs.Prelude.{◌≡◌, ◌==◌, Bool, false, ◌||◌, bit_and, not};
 
 /// A set of marks.
 pub trait MarkSet: Copy + Drop {
@@ -30,4 +30,32 @@ pub trait Marked: Drop {
     /// The value's marks.
     fn marks(&self) -> Self::Marks
         ensures { result ≡ marks_of self.now };
+}
+
+impl MarkSet for () {
+    ghost meet = { λ _ _. false };
+
+    fn none() -> Self {}
+
+    fn join(self, _: Self) -> Self {}
+
+    fn meets(self, _: Self) -> bool {
+        false
+    }
+}
+
+impl MarkSet for u64 {
+    ghost meet = { λ a b. not (bit_and a b == 0) };
+
+    fn none() -> Self {
+        0
+    }
+
+    fn join(self, other: Self) -> Self {
+        self | other
+    }
+
+    fn meets(self, other: Self) -> bool {
+        self & other != 0
+    }
 }

@@ -1,6 +1,7 @@
 //! A map from prefixes to values.
 ghost use Rattle.std.specs.Prelude.{◌≡◌, ◌^◌, ◌<◌, [], None, length, IfOk, IfErr, OnErr, is_ok, if◌then◌else◌};
 ghost use Rattle.std.specs.Option.{option_copied};
+ghost use Rattle.prefix_trie.specs.TrieWalks.{all_after, all_marked, first_key};
 ghost use Rattle.prefix_trie.specs.TrieMap.{IsRising, found, with_entry, without};
 
 use crate::marks::Marked;
@@ -54,6 +55,30 @@ impl<V: Marked, A: Allocator> Trie<V, A> {
         ensures { option_copied result ≡ found self.now prefix.now }
     {
         self.tree.get(*prefix)
+    }
+
+    /// The least prefix above the given one, or of all.
+    pub fn after(&self, prefix: Option<Prefix>) -> Option<Prefix>
+        ensures { result ≡ first_key (all_after prefix self.now) }
+    {
+        let found = match prefix {
+            Some(prefix) => self.tree.above(prefix),
+            None => self.tree.first(),
+        };
+        match found {
+            Some((prefix, _)) => Some(prefix),
+            None => None,
+        }
+    }
+
+    /// The least prefix above the given one, or of all, whose value has one of the marks.
+    pub fn marked_after(&self, prefix: Option<Prefix>, marks: V::Marks) -> Option<Prefix>
+        ensures { result ≡ first_key (all_marked V.marks_of V.Marks.meet marks (all_after prefix self.now)) }
+    {
+        match prefix {
+            Some(prefix) => self.tree.above_marked(prefix, marks),
+            None => self.tree.first_marked(marks),
+        }
     }
 
     /// Takes out the value at the prefix. It takes no memory, and gives back that of needless nodes.

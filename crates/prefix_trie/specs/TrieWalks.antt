@@ -1,0 +1,33 @@
+-- What is found on the way down a trie.
+use Rattle.std.specs.Prelude.{Bool, List, [], ◌∷◌, Option, None, Some, filter}
+use Rattle.std.specs.Borrow.{Bor}
+use Rattle.std.specs.Ordering.{is_lt}
+use Rattle.net_prefix.specs.PrefixOrder.{prefix_cmp}
+use Rattle.net_prefix.specs.declared.prefix.Prefix.{Prefix}
+
+-- the first entry, if there is one
+abbrev pub first_of : {V : Type 0} → List (Prefix × V) → Option (Prefix × V)
+first_of [] = None
+first_of (e ∷ es) = Some e
+
+-- the first prefix, if there is one
+abbrev pub first_key : {V : Type 0} → List (Prefix × V) → Option Prefix
+first_key [] = None
+first_key (e ∷ es) = Some e.0
+
+-- the entries above a prefix
+abbrev pub all_above : {V : Type 0} → Prefix → List (Prefix × V) → List (Prefix × V)
+all_above p entries = filter (λ e. is_lt (prefix_cmp p e.0)) entries
+
+-- the entries above a prefix, or all
+abbrev pub all_after : {V : Type 0} → Option Prefix → List (Prefix × V) → List (Prefix × V)
+all_after None entries = entries
+all_after (Some p) entries = all_above p entries
+
+-- the entries whose values have one of the marks
+abbrev pub all_marked : {V M : Type 0} → (V → M) → (M → M → Bool) → M → List (Prefix × V) → List (Prefix × V)
+all_marked marks_of meet marks entries = filter (λ e. meet (marks_of e.1) marks) entries
+
+-- a value that is lent, as its entry
+abbrev pub seen : {V : Type 0} → Prefix × Bor V → Prefix × V
+seen item = (item.0, item.1.now)
