@@ -10,7 +10,7 @@ use Rattle.net_prefix.specs.declared.prefix.Prefix.{Prefix}
 use Rattle.net_prefix.specs.PrefixOrder.{prefix_cmp}
 use Rattle.net_prefix.proofs.PayloadSets.{prefix_cmp_total}
 use Rattle.prefix_trie.specs.Nodes.{EachIs}
-use Rattle.prefix_trie.specs.TrieMap.{IsCounted, IsRising, found, with_entry, without}
+use Rattle.prefix_trie.specs.TrieMap.{IsCounted, IsRising, Updates, found, with_entry, without}
 use Rattle.prefix_trie.proofs.Entries.{each_kept, each_with, rising_with, rising_without}
 use Rattle.prefix_trie.proofs.Ranks.{rank, less_rank}
 
@@ -123,3 +123,7 @@ module _ {V : Type 0} where
   counted_at count k es None false is some h = counted_none count k es is h
   counted_at count k es (Some w) true is some h = counted_less count k w es is h
   counted_at count k es (Some w) false is some h = absurd cc
+
+  pub counted_updated : (step : V → V → Type 0) (b : Bool) (count : ℕ) (k : Prefix) (o : Option V) (es new : List (Prefix × V)) → o ≡ found es k → Updates step b o es new k → k.bits < 2 ^ 32 → IsCounted count es → IsCounted count new
+  counted_updated step b count k None es new is u small h = rw u.1 h
+  counted_updated step b count k (Some v) es new is u small h = rw u.1.2 (counted_same count k u.1.0 v es small (sym is) h)

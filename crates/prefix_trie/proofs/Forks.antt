@@ -20,7 +20,7 @@ no_difference a b h =
     let lb = bit_at-lt b i in
     omega arith)
 
-divided : (q size n : ℕ) → q * size ≤ n → n < q * size + size → n / size ≡ q
+pub divided : (q size n : ℕ) → q * size ≤ n → n < q * size + size → n / size ≡ q
 divided q size n from to =
     let e : n ≡ q * size + (n - q * size) = omega arith in
     ap (λ m. m / size) e ∙ div-mul-add q size (n - q * size) (omega arith)

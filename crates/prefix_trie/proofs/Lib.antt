@@ -2,8 +2,10 @@ pub mod AtNode
 pub mod Blocks
 pub mod Changes
 pub mod Counts
+pub mod Covers
 pub mod Entries
 pub mod Forks
 pub mod Ranks
 pub mod Firsts
 pub mod MarkBits
+pub mod Updates

@@ -11,7 +11,8 @@ use Rattle.prefix_trie.specs.declared.node.Tree.TheDeep.{deep-Link}
 use Rattle.prefix_trie.specs.Nodes.{IsTrie, RootIs, depth, shape}
 use Rattle.prefix_trie.specs.Places.{IsInside}
 
-depth_below : (p : Prefix) (base : ℕ) (root : Option Prefix) → RootIs (IsInside base (p.len + 1)) root → depth root + 1 ≤ depth (Some p)
+-- a side's prefix is longer, where it has one
+pub depth_below : (p : Prefix) (base : ℕ) (root : Option Prefix) → RootIs (IsInside base (p.len + 1)) root → depth root + 1 ≤ depth (Some p)
 depth_below p base None h = let short = p.short in omega arith
 depth_below p base (Some q) h = let short = p.short in let other = q.short in omega (arith, h.long)
 

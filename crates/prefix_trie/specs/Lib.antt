@@ -1,3 +1,4 @@
+pub mod CoverWalks
 pub mod Falls
 pub mod Nodes
 pub mod Places

@@ -1,5 +1,5 @@
 -- What a node of a trie is seen as, and what holds of it.
-use Rattle.std.specs.Prelude.{ℕ, ◌≡◌, ◌-◌, ◌++◌, Bool, List, [], ◌∷◌, Option, None, Some, IsSome, Result, MatchResult, IfOk, OnErr, IfErr, is_ok, cond, ◌%◌}
+use Rattle.std.specs.Prelude.{ℕ, ◌≡◌, ◌-◌, ◌++◌, Bool, true, false, List, [], ◌∷◌, Option, None, Some, IsSome, Result, MatchResult, IfOk, OnErr, IfErr, is_ok, cond, ◌%◌}
 use Rattle.std.specs.declared.alloc.AllocFailed.{AllocFailed}
 use Rattle.std.specs.List.{AllByRecursion, list_any}
 use Rattle.net_prefix.specs.Cover.{block_size}
@@ -7,7 +7,7 @@ use Rattle.net_prefix.specs.declared.prefix.Prefix.{Prefix}
 use Rattle.prefix_trie.specs.declared.node.Link.{Link}
 use Rattle.prefix_trie.specs.declared.node.Link.TheVariants.{Empty, Fork}
 use Rattle.prefix_trie.specs.Shape.{Shape}
-use Rattle.prefix_trie.specs.TrieMap.{IsRising, found, with_entry, without}
+use Rattle.prefix_trie.specs.TrieMap.{IsRising, Updates, found, with_entry, without}
 use Rattle.prefix_trie.specs.Places.{IsInside, IsLow, IsHigh}
 
 -- the entry of a prefix that has a value
@@ -86,3 +86,13 @@ pub record IsRemoved {V : Type 0} (result : Option V) (old new : Shape V) (p : P
   pub removed : result ≡ found old.entries p
   pub entries : new.entries ≡ without old.entries p
   pub inside : (base len : ℕ) → RootIs (IsInside base len) old.root → RootIs (IsInside base len) new.root
+
+-- a value was changed by a step, if there was one
+abbrev pub ChangesValue : {V : Type 0} → (V → V → Type 0) → Bool → Option V → Option V → Type 0
+ChangesValue {V} step changed None new = (changed ≡ false) × (new ≡ None)
+ChangesValue {V} step changed (Some v) new = (changed ≡ true) × ((w : V) × step v w × (new ≡ Some w))
+
+-- the value at a prefix was changed by a step, if there was one
+pub record IsUpdated {V : Type 0} (step : V → V → Type 0) (changed : Bool) (old new : Shape V) (p : Prefix) : Type 0 where
+  pub updates : Updates step changed (found old.entries p) old.entries new.entries p
+  pub same_root : new.root ≡ old.root

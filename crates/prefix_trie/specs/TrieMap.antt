@@ -1,5 +1,5 @@
 -- A map from prefixes to values, seen as its entries in the order of prefixes.
-use Rattle.std.specs.Prelude.{◌≡◌, ◌^◌, ◌<◌, ℕ, List, Option, length, not, filter}
+use Rattle.std.specs.Prelude.{Bool, ◌≡◌, ◌^◌, ◌<◌, ℕ, List, Option, None, Some, true, false, length, not, filter}
 use Rattle.std.specs.List.{AllByRecursion}
 use Rattle.std.specs.BTreeMap.{is_at, insert_entry}
 use Rattle.std.specs.Map.{lookup, keys_of}
@@ -28,3 +28,8 @@ pub record IsCounted {V : Type 0} (count : ℕ) (entries : List (Prefix × V)) :
   pub count_is : count ≡ length entries
   pub rising : IsRising entries
   pub addresses : AllByRecursion (λ e. e.0.bits < 2 ^ 32) entries
+
+-- the value that was found at a prefix was changed by a step; or there was none, and nothing changed
+abbrev pub Updates : {V : Type 0} → (V → V → Type 0) → Bool → Option V → List (Prefix × V) → List (Prefix × V) → Prefix → Type 0
+Updates {V} step changed None old new prefix = (changed ≡ false) × (new ≡ old)
+Updates {V} step changed (Some v) old new prefix = (changed ≡ true) × ((w : V) × step v w × (new ≡ with_entry old prefix w))

@@ -1,9 +1,10 @@
 //! The nodes of a trie.
 ghost use Rattle.std.specs.Prelude.{◌≡◌, ◌≤◌, ◌++◌, ◌%◌, ℕ, [], ◌∷◌, None, Some, IfOk, IfErr, OnErr, IsSome, MatchBool, is_ok, if◌then◌else◌};
+ghost use Rattle.std.specs.Fn.{FnOnceReturnsAtMut};
 ghost use Rattle.std.specs.Option.{option_copied};
 ghost use Rattle.net_prefix.specs.Cover.{block_size};
 ghost use Rattle.net_prefix.specs.declared.prefix.Prefix.{Prefix};
-ghost use Rattle.prefix_trie.specs.Nodes.{all_of, any_meets, shape, AreParts, AreSides, IsInserted, IsPut, IsRemoved, IsTrie, RootIs};
+ghost use Rattle.prefix_trie.specs.Nodes.{all_of, any_meets, shape, AreParts, AreSides, IsInserted, IsPut, IsRemoved, IsTrie, IsUpdated, ChangesValue, RootIs};
 ghost use Rattle.prefix_trie.specs.Places.{IsInside};
 ghost use Rattle.prefix_trie.specs.Shape.{no_shape, one_shape};
 ghost use Rattle.prefix_trie.specs.TrieMap.{found, with_entry, without};
@@ -230,6 +231,61 @@ impl<V: Marked, A: Allocator> Tree<V, A> {
             Place::OverLow | Place::OverHigh | Place::Before | Place::Behind => {
                 *self = gathered(node);
                 None
+            }
+        }
+    }
+}
+
+// Changes a value.
+fn applied<V, F: FnOnce(&mut V)>(value: &mut V, change: F)
+    requires { F.IsAlwaysCallable change }
+    ensures { FnOnceReturnsAtMut F.FnOnce change value.old tt value.new }
+{
+    change(value);
+}
+
+// Changes a value, if there is one.
+fn changed<V, F: FnOnce(&mut V)>(value: &mut Option<V>, change: F) -> bool
+    requires { F.IsAlwaysCallable change }
+    ensures { ChangesValue (λ v w. FnOnceReturnsAtMut F.FnOnce change v tt w) result value.old value.new }
+{
+    match value {
+        Some(value) => {
+            applied(value, change);
+            true
+        }
+        None => false,
+    }
+}
+
+impl<V: Marked, A: Allocator> Tree<V, A> {
+    /// Changes the value at the prefix, if there is one.
+    pub(crate) fn update<F: FnOnce(&mut V)>(&mut self, key: Prefix, change: F) -> bool
+        requires { F.IsAlwaysCallable change }
+        ensures { IsUpdated (λ v w. FnOnceReturnsAtMut F.FnOnce change v tt w) result self.old self.new key }
+    {
+        let Link::Fork(mut node) = mem::replace(self, Tree::empty()).open() else {
+            return false;
+        };
+        match place_of(node.prefix, key) {
+            Place::Same => {
+                let updated = changed(&mut node.value, change);
+                *self = gathered(node);
+                updated
+            }
+            Place::Low => {
+                let updated = node.low.update(key, change);
+                *self = gathered(node);
+                updated
+            }
+            Place::High => {
+                let updated = node.high.update(key, change);
+                *self = gathered(node);
+                updated
+            }
+            Place::OverLow | Place::OverHigh | Place::Before | Place::Behind => {
+                *self = gathered(node);
+                false
             }
         }
     }

@@ -2,8 +2,11 @@
 ghost use Rattle.std.specs.Prelude.{◌≡◌, ◌^◌, ◌<◌, [], None, length, IfOk, IfErr, OnErr, is_ok, if◌then◌else◌};
 ghost use Rattle.std.specs.Option.{option_copied};
 ghost use Rattle.prefix_trie.specs.TrieWalks.{all_after, all_marked, first_key};
-ghost use Rattle.prefix_trie.specs.TrieMap.{IsRising, found, with_entry, without};
+ghost use Rattle.std.specs.Fn.{FnOnceReturnsAtMut};
+ghost use Rattle.prefix_trie.specs.CoverWalks.{all_covering, covering_in};
+ghost use Rattle.prefix_trie.specs.TrieMap.{IsRising, Updates, found, with_entry, without};
 
+use crate::covering::Covering;
 use crate::marks::Marked;
 use crate::node::Tree;
 use net_prefix::Prefix;
@@ -79,6 +82,22 @@ impl<V: Marked, A: Allocator> Trie<V, A> {
             Some(prefix) => self.tree.above_marked(prefix, marks),
             None => self.tree.first_marked(marks),
         }
+    }
+
+    /// The entries whose prefixes cover the prefix, the shortest first.
+    pub fn covering(&self, prefix: &Prefix) -> Covering<'_, V, A>
+        ensures { covering_in result.prefix result.part ≡ all_covering prefix.now self.now }
+    {
+        Covering::new(&self.tree, *prefix)
+    }
+
+    /// Changes the value at the prefix, if there is one. It takes no memory, and a value's marks may change.
+    pub fn update<F: FnOnce(&mut V)>(&mut self, prefix: &Prefix, change: F) -> bool
+        requires { F.IsAlwaysCallable change }
+        ensures { Updates (λ v w. FnOnceReturnsAtMut F.FnOnce change v tt w) result (found self.old prefix.now) self.old self.new prefix.now }
+    {
+        is_address(prefix.bits);
+        self.tree.update(*prefix, change)
     }
 
     /// Takes out the value at the prefix. It takes no memory, and gives back that of needless nodes.
