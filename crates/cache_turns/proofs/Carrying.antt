@@ -441,13 +441,15 @@ at_first first before cache made =
     }
 
 -- each connection carries whole versions
-pub carries_whole : (session : ℕ) (intervals : Intervals) (other_session : OtherSession) (before : List Turn) (cache : CacheState) (moments : List ℕ) (new : Turns) (key : ℕ) (link : Connection) → IsRun (empty_cache session intervals other_session) before cache → TakesTurns moments (idle cache nothing_told) new → new.counts.wire.arrivals < 2 ^ 64 - 1 → link_at new key ≡ Some link → CarriesWhole new key link
+pub carries_whole : (session : ℕ) (intervals : Intervals) (other_session : OtherSession) (before : List Turn) (cache : CacheState) (moments : List ℕ) (new : Turns) (key : ℕ) (link : Connection) → IsRun (empty_cache session intervals other_session) before cache → TakesTurns moments (idle cache nothing_told) new → new.counts.wire.arrivals < 2 ^ 64 - 1 → link_at new key ≡ Some link → CarriesWhole (empty_cache session intervals other_session) new key link
 carries_whole session intervals other_session before cache moments new key link made turns below is =
     let first = empty_cache session intervals other_session in
     let c = (turns_carry first moments (idle cache nothing_told) new (at_first first before cache made) turns below).each key link is in
     record {
+      before = c.before;
       start = c.start;
       history = c.history;
+      made = c.made;
       fresh = c.fresh;
       run = c.run;
       up = c.up;

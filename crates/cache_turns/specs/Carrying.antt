@@ -36,11 +36,13 @@ abbrev pub heard : ℕ → List Turn → List ℕ
 heard key [] = []
 heard key (turn ∷ earlier) = heard key earlier ++ heard_by key turn.call
 
--- The connection of a client, over all calls since the client came up: the client has heard just what its socket gave; what its socket took, and what waits for it, is just
+-- The connection of a client of a cache that was the first one at its beginning, over all calls since the client came up: the client has heard just what its socket gave; what its socket took, and what waits for it, is just
 -- what the cache handed out for the client; and that, with what the cache has queued for it, are whole PDUs of what the client was told, each response of one published version.
-pub record CarriesWhole (turns : Turns) (key : ℕ) (link : Connection) : Type 0 where
+pub record CarriesWhole (first : CacheState) (turns : Turns) (key : ℕ) (link : Connection) : Type 0 where
+  pub before : List Turn
   pub start : CacheState
   pub history : List Turn
+  pub made : IsRun first before start
   pub fresh : client_at start key ≡ Some fresh_conn
   pub run : IsRun start history turns.cache
   pub up : StaysUp key history

@@ -25,5 +25,5 @@ pub fn turns_are_calls_of_the_cache()
 /// connection has heard just what its socket gave, and what its socket took and what waits for it is just what the
 /// cache handed out for it, which with what is queued are whole PDUs, each response of one published version.
 pub fn connections_carry_whole_versions()
-    ensures { (session : ℕ) (intervals : Intervals) (other_session : OtherSession) (before : List Turn) (cache : CacheState) (moments : List ℕ) (new : Turns) (key : ℕ) (link : Connection) → IsRun (empty_cache session intervals other_session) before cache → TakesTurns moments (idle cache nothing_told) new → new.counts.wire.arrivals < 2 ^ 64 - 1 → link_at new key ≡ Some link → CarriesWhole new key link }
+    ensures { (session : ℕ) (intervals : Intervals) (other_session : OtherSession) (before : List Turn) (cache : CacheState) (moments : List ℕ) (new : Turns) (key : ℕ) (link : Connection) → IsRun (empty_cache session intervals other_session) before cache → TakesTurns moments (idle cache nothing_told) new → new.counts.wire.arrivals < 2 ^ 64 - 1 → link_at new key ≡ Some link → CarriesWhole (empty_cache session intervals other_session) new key link }
 {}
