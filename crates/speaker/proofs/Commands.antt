@@ -1,4 +1,4 @@
-use Rattle.std.proofs.Common.{◌≡◌, ◌≢◌, ◌<◌, ◌==◌, ◌&&◌, ◌||◌, ℕ, Bool, true, false, List, [], ◌∷◌, Option, Some, None, Result, Ok, Err, OnOk, is_none, nat_le, cond, refl, sym, ap, ◌∙◌, subst}
+use Rattle.std.proofs.Common.{◌≡◌, ◌≢◌, ◌<◌, ◌==◌, ◌&&◌, ◌||◌, ℕ, Bool, true, false, List, [], ◌∷◌, Option, Some, None, Result, Ok, Err, OnOk, OnErr, is_none, nat_le, cond, refl, sym, ap, ◌∙◌, subst}
 use Rattle.std.proofs.lemmas.Bool.{eq-eqb, ne_eqb, eqb-true}
 use Rattle.std.specs.BTreeMap.{is_at}
 use Rattle.std.specs.Option.{option_map}
@@ -6,7 +6,7 @@ use Rattle.std.specs.Ordering.{nat_cmp}
 use Rattle.bgp_conf.proofs.PrefixOrder.{is_eq-nat_cmp}
 use Rattle.bgp_attr.specs.PathAttributes.{PathAttributes}
 use Rattle.bgp_conf.specs.Configuration.{Configuration, peer_at}
-use Rattle.bgp_conf.specs.ConfAfter.{conf_after, peer_after, configured_of}
+use Rattle.bgp_conf.specs.ConfAfter.{TakesMemory, conf_after, peer_after, configured_of}
 use Rattle.bgp_conf.specs.FirstRefusal.{first_refusal}
 use Rattle.bgp_conf.specs.declared.command.Command.{Command}
 use Rattle.bgp_conf.specs.declared.command.Command.TheVariants.{AddPeer, Enable, Reach}
@@ -154,6 +154,11 @@ own_called (Take_call slot octets) conf = refl
 pub own_is : (config : Config) (r : Run) → (configuration_of config r).own ≡ config.asn
 own_is config [] = refl
 own_is config (now ∷ r) = own_called now.call (configuration_of config r) ∙ own_is config r
+
+-- it takes memory, since the slot is free
+pub added_grows : {T F : Type 0} (result : Result T F) (conf : Configuration) (slot : ℕ) (peer : PeerConf) → first_refusal conf 0 (AddPeer slot peer) ≡ None → OnErr result (TakesMemory conf (AddPeer slot peer))
+added_grows (Ok done) conf slot peer may = tt
+added_grows (Err why) conf slot peer may = peer_at-from_accepted conf 0 slot peer may
 
 -- an accepted peer
 is_taken : (config : Config) (r : Run) (slot : ℕ) (peer : PeerConf) (s : SpeakerState) → Holds config r s → first_refusal s.conf 0 (AddPeer slot peer) ≡ None → IsTaken config.asn slot (configured_of peer)

@@ -3,10 +3,10 @@ use Rattle.std.specs.Option.{MatchOption}
 use Rattle.bgp_conf.specs.declared.refusal.Refusal.{Refusal}
 use Rattle.bgp_conf.specs.declared.refusal.Refusal.TheVariants.{NoMemory}
 use Rattle.speaker.specs.Agreement.{Agrees}
-use Rattle.speaker.specs.FirstRefusal.{refusal_by, refusal_in, refusal_of, IsCommand, LacksMemory}
+use Rattle.speaker.specs.FirstRefusal.{refusal_by, refusal_in, refusal_of, Grows, LacksMemory}
 use Rattle.speaker.specs.Played.{Follows, GoesOn, HasRun, HasStopped, IsPlayed}
 use Rattle.speaker.specs.Queueing.{Queue}
-use Rattle.speaker.specs.Runs.{Run, turn, call_of, report_of}
+use Rattle.speaker.specs.Runs.{Run, turn, call_of, configuration_of, report_of}
 use Rattle.speaker.specs.SpeakerState.{SpeakerState, IsAsBefore, started, tables_of}
 use Rattle.speaker.specs.declared.config.Config.{Config}
 use Rattle.speaker.specs.declared.event.Event.{Event}
@@ -82,7 +82,7 @@ played_ok config events answers event report s new h unrefused agrees =
 
 -- a refused event stands as nothing
 played_err : (config : Config) (events : List Event) (answers : List (Result Report Refusal)) (event : Event) (why : Refusal) (s new : SpeakerState) → (h : HasRun config events answers s)
-    → MatchOption (refusal_in config h.r event) ((why ≡ NoMemory) × IsCommand event) (λ first. why ≡ first)
+    → MatchOption (refusal_in config h.r event) ((why ≡ NoMemory) × Grows (configuration_of config h.r) event) (λ first. why ≡ first)
     → ((r : Run) → Agrees config r s → Agrees config r new) → HasRun config (events ++ event ∷ []) (answers ++ Err why ∷ []) new
 played_err config events answers event why s new h first agrees =
     record { r = h.r; follows = follows_more config [] events answers h.r h.r event (Err why) h.follows (refl, first); agrees = agrees h.r h.agrees }
@@ -146,15 +146,15 @@ unrefused (Some why) event report s new m = absurd (let is = m.0 in cc)
 lacking_more : (config : Config) (events : List Event) (answers : List (Result Report Refusal)) (event : Event) (why : Refusal) (s new : SpeakerState) → (h : HasRun config events answers s)
     → refusal_in config h.r event ≡ None → why ≡ NoMemory → LacksMemory event s new → IsPlayed config (events ++ event ∷ []) (answers ++ Err why ∷ []) new
 lacking_more config events answers event why s new h none is (inl same) =
-    let M : Option Refusal → Type 0 = λ first. MatchOption first ((why ≡ NoMemory) × IsCommand event) (λ x. why ≡ x) in
-    inl (played_err config events answers event why s new h (subst M (sym none) (is, same.0)) (λ r a. agrees_same config r s new same.1 a))
+    let M : Option Refusal → Type 0 = λ first. MatchOption first ((why ≡ NoMemory) × Grows (configuration_of config h.r) event) (λ x. why ≡ x) in
+    inl (played_err config events answers event why s new h (subst M (sym none) (is, subst (λ conf. Grows conf event) h.agrees.holds.conf same.0)) (λ r a. agrees_same config r s new same.1 a))
 lacking_more config events answers event why s new h none is (inr stopped) = rw is (inr (played_stops config events answers event s new h none stopped))
 
 refused_more : (config : Config) (events : List Event) (answers : List (Result Report Refusal)) (event : Event) (why : Refusal) (s new : SpeakerState) (first : Option Refusal) → (h : HasRun config events answers s)
     → refusal_in config h.r event ≡ first → Refuses first event (Err why) s new → IsPlayed config (events ++ event ∷ []) (answers ++ Err why ∷ []) new
 refused_more config events answers event why s new (Some w) h is m =
     let same : why ≡ w = let answer : err_of why ≡ err_of w = m.0 in cc in
-    let M : Option Refusal → Type 0 = λ first. MatchOption first ((why ≡ NoMemory) × IsCommand event) (λ x. why ≡ x) in
+    let M : Option Refusal → Type 0 = λ first. MatchOption first ((why ≡ NoMemory) × Grows (configuration_of config h.r) event) (λ x. why ≡ x) in
     inl (played_err config events answers event why s new h (subst M (sym is) same) (λ r a. rw m.1 a))
 refused_more config events answers event why s new None h is m = lacking_more config events answers event why s new h is m.0 m.1
 

@@ -4,7 +4,8 @@ use Rattle.net_prefix.specs.declared.transport.Transport.{Transport}
 use Rattle.net_prefix.specs.declared.transport.Transport.TheVariants.{None as NoConnection, Opening, Listening, Open, Closing}
 use Rattle.bgp_conf.specs.declared.refusal.Refusal.{Refusal}
 use Rattle.bgp_conf.specs.declared.refusal.Refusal.TheVariants.{BadSlot, NotExpected, NoMemory}
-use Rattle.bgp_conf.specs.Configuration.{peer_at}
+use Rattle.bgp_conf.specs.ConfAfter.{TakesMemory}
+use Rattle.bgp_conf.specs.Configuration.{Configuration, peer_at}
 use Rattle.bgp_conf.specs.FirstRefusal.{first_refusal}
 use Rattle.bgp_fsm.specs.Transports.{transport_of}
 use Rattle.bgp_fsm.specs.declared.session.Session.{Session}
@@ -68,13 +69,13 @@ take_refusal_of s slot = if s.stopped then Some NoMemory else (if is_none (link_
 abbrev pub take_refusal_in : Config → Run → ℕ → Option Refusal
 take_refusal_in config r slot = if is_none (peer_at (configuration_of config r) slot) then Some BadSlot else None
 
--- the operator asks for something
-abbrev pub IsCommand : Event → Type 0
-IsCommand (Up slot) = ⊥
-IsCommand (Fail slot) = ⊥
-IsCommand (Bytes slot octets) = ⊥
-IsCommand (Command command) = Unit {0}
+-- the event takes memory of its own: a command that adds a peer or an entry of `reach`
+abbrev pub Grows : Configuration → Event → Type 0
+Grows conf (Up slot) = ⊥
+Grows conf (Fail slot) = ⊥
+Grows conf (Bytes slot octets) = ⊥
+Grows conf (Command command) = TakesMemory conf command
 
--- memory was refused to an event: a command has left the speaker as it was, or the speaker has stopped
+-- memory was refused to an event: to what it takes of its own, and the speaker is as it was, or the speaker has stopped
 abbrev pub LacksMemory : Event → SpeakerState → SpeakerState → Type 0
-LacksMemory event old new = (IsCommand event × IsAsBefore old new) ⊎ (new.stopped ≡ true)
+LacksMemory event old new = (Grows old.conf event × IsAsBefore old new) ⊎ (new.stopped ≡ true)

@@ -3,22 +3,22 @@ use Rattle.std.specs.Prelude.{◌≡◌, ◌⊎◌, ◌++◌, List, [], ◌∷�
 use Rattle.bgp_conf.specs.declared.refusal.Refusal.{Refusal}
 use Rattle.bgp_conf.specs.declared.refusal.Refusal.TheVariants.{NoMemory}
 use Rattle.speaker.specs.Agreement.{Agrees}
-use Rattle.speaker.specs.FirstRefusal.{IsCommand, refusal_in}
+use Rattle.speaker.specs.FirstRefusal.{Grows, refusal_in}
 use Rattle.speaker.specs.Queueing.{Queue}
-use Rattle.speaker.specs.Runs.{Run, turn, call_of, report_of}
+use Rattle.speaker.specs.Runs.{Run, turn, call_of, configuration_of, report_of}
 use Rattle.speaker.specs.SpeakerState.{SpeakerState}
 use Rattle.speaker.specs.declared.config.Config.{Config}
 use Rattle.speaker.specs.declared.event.Event.{Event}
 use Rattle.speaker.specs.declared.event.Report.{Report}
 
 -- one event leads from a run to the next: an accepted one with what it queued, and its report; a refused one stands as
--- nothing, and the answer is its first refusal, or, to a command that has none, want of memory
+-- nothing, and the answer is its first refusal, or, to a command that has none and takes memory of its own, want of memory
 abbrev pub GoesOn : Config → Run → Event → Result Report Refusal → Run → Type 0
 GoesOn config before event (Ok report) after =
     (refusal_in config before event ≡ None)
     × ((queued : Queue) × (after ≡ turn (call_of event) queued ∷ before) × (report ≡ report_of (turn (call_of event) queued)))
 GoesOn config before event (Err refusal) after =
-    (after ≡ before) × MatchOption (refusal_in config before event) ((refusal ≡ NoMemory) × IsCommand event) (λ first. refusal ≡ first)
+    (after ≡ before) × MatchOption (refusal_in config before event) ((refusal ≡ NoMemory) × Grows (configuration_of config before) event) (λ first. refusal ≡ first)
 
 -- events with their answers lead from a run to another
 abbrev pub Follows : Config → Run → List Event → List (Result Report Refusal) → Run → Type 0

@@ -2,6 +2,7 @@
 ghost use Rattle.std.specs.Prelude.{◌≡◌, ℕ, [], ◌∷◌, OnOk, OnErr, IsSome, None, Some, if◌then◌else◌};
 ghost use Rattle.std.specs.Ordering.{nat_cmp};
 ghost use Rattle.std.specs.BTreeMap.{is_at};
+ghost use Rattle.bgp_conf.specs.ConfAfter.{TakesMemory};
 ghost use Rattle.bgp_conf.specs.FirstRefusal.{first_refusal};
 ghost use Rattle.bgp_conf.specs.declared.command.Command.TheVariants.{AddPeer as AddsPeer};
 ghost use Rattle.speaker.specs.Runs.{Run, turn, Command_call};
@@ -24,6 +25,7 @@ impl<A: Allocator + Clone> Speaker<A> {
     pub(crate) fn obey(&mut self, command: &Command<'_>) -> Result<(), AllocError>
         requires { first_refusal self.old.conf 0 command.now ≡ None }
         ensures err { OnErr result (IsAsBefore self.old self.new) }
+        ensures memory { OnErr result (TakesMemory self.old.conf command.now) }
         ensures ok { OnOk result ((config : TheConfig) (r : Run) → Holds config r self.old → Holds config (turn (Command_call command.now) [] ∷ r) self.new) }
     {
         match *command {
