@@ -1,5 +1,5 @@
 //! Tests alone, of prefixes, payload lists, payload versions and PDUs: texts and octets, a list whose device fails,
-//! versions, the deltas between them, and each growth refused in turn. A file is named for what it tests.
+//! versions, the deltas between them, a trie, and each growth refused in turn. A file is named for what it tests.
 //!
 //! They stand above the crates that they test, so that those are proved once. More lists, and what they answer, are in
 //! the crate transcripts.
@@ -15,6 +15,8 @@ mod pdu_octets;
 mod prefixes;
 #[cfg(test)]
 mod sets;
+#[cfg(test)]
+mod tries;
 #[cfg(test)]
 mod version_memory;
 #[cfg(test)]
