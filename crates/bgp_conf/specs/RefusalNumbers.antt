@@ -1,7 +1,7 @@
 -- The numbers by which operators know refusals (own).
 use Rattle.std.specs.Prelude.{ℕ}
 use Rattle.bgp_conf.specs.declared.refusal.Refusal.{Refusal}
-use Rattle.bgp_conf.specs.declared.refusal.Refusal.TheVariants.{UnknownName, TooMany, Range, BadSlot, NotExpected, SlotTaken, NoMemory, AddressTaken}
+use Rattle.bgp_conf.specs.declared.refusal.Refusal.TheVariants.{UnknownName, TooMany, Range, BadSlot, ClockBack, NotExpected, SlotTaken, NoMemory, AddressTaken}
 
 -- the numbers by which operators know the refusals
 abbrev pub number_of : Refusal → ℕ
@@ -9,6 +9,7 @@ number_of UnknownName = 30
 number_of TooMany = 31
 number_of Range = 33
 number_of BadSlot = 40
+number_of ClockBack = 41
 number_of NotExpected = 42
 number_of SlotTaken = 43
 number_of NoMemory = 44

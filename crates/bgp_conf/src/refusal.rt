@@ -15,6 +15,8 @@ pub enum Refusal {
     Range,
     #[error("there is no such slot")]
     BadSlot,
+    #[error("the moment is before the last one")]
+    ClockBack,
     #[error("the slot does not expect this")]
     NotExpected,
     #[error("the slot is taken")]
@@ -35,6 +37,7 @@ impl Refusal {
             Refusal::TooMany => 31,
             Refusal::Range => 33,
             Refusal::BadSlot => 40,
+            Refusal::ClockBack => 41,
             Refusal::NotExpected => 42,
             Refusal::SlotTaken => 43,
             Refusal::NoMemory => 44,

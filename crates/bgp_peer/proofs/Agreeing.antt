@@ -20,7 +20,7 @@ use Rattle.bgp_fsm.specs.StateTests.{is_message}
 use Rattle.bgp_fsm.specs.Transports.{transport_of}
 use Rattle.bgp_fsm.proofs.TableLaws.{fault_closes, stood_before}
 use Rattle.bgp_peer.specs.Slot.{Slot, said, kept, rest_after, configured, pushed, taken_input, queued, handed}
-use Rattle.bgp_peer.specs.SessionInputs.{Event, Configured, Signalled, Octet, Queued, Handed, terms_of, stream, item_at, input_of, listed, after, session, onto}
+use Rattle.bgp_peer.specs.SessionInputs.{Event, Configured, Signalled, Octet, Queued, Handed, Ticked, terms_of, stream, item_at, input_of, listed, after, session, onto}
 use Rattle.bgp_peer.specs.SentMessages.{given, with_said, sent, ring_of}
 use Rattle.bgp_peer.specs.Agreement.{IsUpdateMessage, PeerAgrees, holding}
 use Rattle.bgp_peer.proofs.Rows.{ignored, input_is_message, taken_message, kept_joins, kept_whole, said_joins, says_nothing, said_whole}
@@ -179,6 +179,10 @@ agrees-queue h p update established whole room a = record {
   whole = unread-anew (sent h) update a.whole ∙ update_whole update whole;
   lawful = ((ap (λ (s : Session). s.state) (sym a.session) ∙ established, whole, subst (λ ring. length ring + 8192 ≤ 65536) (sym (ring-is h p a)) room), a.lawful);
 }
+
+-- a moment comes
+pub agrees-tick : (h : List Event) (p : Slot) (now : ℕ) → PeerAgrees h p → PeerAgrees (Ticked now ∷ h) p
+agrees-tick h p now a = record { session = a.session; rest = a.rest; ring = a.ring; whole = a.whole; lawful = a.lawful }
 
 -- octets are handed out
 pub agrees-take : (h : List Event) (p : Slot) (count : ℕ) → PeerAgrees h p → PeerAgrees (Handed (take count p.ring) ∷ h) (handed p count)

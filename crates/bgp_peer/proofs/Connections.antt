@@ -11,7 +11,7 @@ use Rattle.bgp_fsm.specs.SessionTable.{session_after}
 use Rattle.bgp_fsm.specs.Transports.{transport_of}
 use Rattle.bgp_fsm.proofs.TableLaws.{fault_closes, stood_before}
 use Rattle.bgp_peer.specs.Slot.{kept}
-use Rattle.bgp_peer.specs.SessionInputs.{Event, Configured, Signalled, Octet, Queued, Handed, terms_of, stream, item_at, input_of, listed, after, session}
+use Rattle.bgp_peer.specs.SessionInputs.{Event, Configured, Signalled, Octet, Queued, Handed, Ticked, terms_of, stream, item_at, input_of, listed, after, session}
 
 -- a rest with nothing at its front
 pub wants-nil : Wants []
@@ -54,3 +54,4 @@ connected_wants (Octet octet ∷ h) stands =
     subst Wants (sym (unread-push (stream h) octet)) (after_octet h octet (item_at h octet) refl stands (λ k. connected_wants h k))
 connected_wants (Queued update ∷ h) stands = connected_wants h stands
 connected_wants (Handed octets ∷ h) stands = connected_wants h stands
+connected_wants (Ticked now ∷ h) stands = connected_wants h stands

@@ -6,7 +6,7 @@ use Rattle.bgp_msg.specs.MessageStream.{Item, IsMessage, completed, unread}
 use Rattle.bgp_fsm.specs.declared.state.State.TheVariants.{Established}
 use Rattle.bgp_fsm.specs.Transports.{transport_of}
 use Rattle.bgp_peer.specs.Slot.{Slot}
-use Rattle.bgp_peer.specs.SessionInputs.{Event, Configured, Signalled, Octet, Queued, Handed, stream, session}
+use Rattle.bgp_peer.specs.SessionInputs.{Event, Configured, Signalled, Octet, Queued, Handed, Ticked, stream, session}
 use Rattle.bgp_peer.specs.SentMessages.{given, sent, ring_of}
 use Rattle.bgp_peer.specs.PeerLimits.{ring_octets, room_for_update}
 
@@ -26,6 +26,7 @@ Lawful (Signalled input ∷ h) = Lawful h
 Lawful (Octet octet ∷ h) = Lawful h
 Lawful (Queued update ∷ h) = MayQueue h update × Lawful h
 Lawful (Handed octets ∷ h) = Lawful h
+Lawful (Ticked now ∷ h) = Lawful h
 
 -- the session of the slot is the one that the session table gives
 abbrev pub HasSession : List Event → Slot → Type 0

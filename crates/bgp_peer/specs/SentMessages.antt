@@ -4,7 +4,7 @@ use Rattle.bgp_fsm.specs.declared.input.Input.{Input}
 use Rattle.bgp_fsm.specs.declared.session.Session.{Session}
 use Rattle.bgp_fsm.specs.SessionTable.{effects_of}
 use Rattle.bgp_peer.specs.Slot.{kept, said}
-use Rattle.bgp_peer.specs.SessionInputs.{Event, Configured, Signalled, Octet, Queued, Handed, session, after, inputs_of}
+use Rattle.bgp_peer.specs.SessionInputs.{Event, Configured, Signalled, Octet, Queued, Handed, Ticked, session, after, inputs_of}
 use Rattle.bgp_peer.specs.PeerLimits.{ring_octets}
 
 -- what was handed out on the present connection, after a history with the newest first
@@ -15,6 +15,7 @@ given (Signalled input ∷ h) = kept input (given h)
 given (Octet octet ∷ h) = given h
 given (Queued update ∷ h) = given h
 given (Handed octets ∷ h) = given h ++ octets
+given (Ticked now ∷ h) = given h
 
 -- what was queued, with what the rows of these inputs say, of which so much was handed out
 abbrev pub with_said : List Input → Session → List ℕ → List ℕ → List ℕ
@@ -29,6 +30,7 @@ queued_by (Signalled input) sent = kept input sent
 queued_by (Octet octet) sent = sent
 queued_by (Queued update) sent = sent ++ update
 queued_by (Handed octets) sent = sent
+queued_by (Ticked now) sent = sent
 
 -- what was queued on the present connection: the UPDATEs, and what the rows of the session table say
 abbrev pub sent : List Event → List ℕ

@@ -35,6 +35,7 @@ pub data Event : Type 0 where
   Octet : (octet : ℕ) → Event  -- an octet comes on the connection
   Queued : (update : List ℕ) → Event  -- an UPDATE is queued
   Handed : (octets : List ℕ) → Event  -- octets are handed out
+  Ticked : (now : ℕ) → Event  -- a moment comes, in seconds
 
 -- the terms of a peer that is configured, after a history, which has the newest first
 abbrev pub occupant : List Event → Option Terms
@@ -44,6 +45,7 @@ occupant (Signalled input ∷ h) = occupant h
 occupant (Octet octet ∷ h) = occupant h
 occupant (Queued update ∷ h) = occupant h
 occupant (Handed octets ∷ h) = occupant h
+occupant (Ticked now ∷ h) = occupant h
 
 -- the terms of a slot without a peer
 abbrev pub nobody : Terms
@@ -66,6 +68,17 @@ stream (Signalled input ∷ h) = kept input (stream h)
 stream (Octet octet ∷ h) = stream h ++ octet ∷ []
 stream (Queued update ∷ h) = stream h
 stream (Handed octets ∷ h) = stream h
+stream (Ticked now ∷ h) = stream h
+
+-- the moment at which the newest event came, and with it its inputs: that of the last tick, 0 before the first
+abbrev pub moment_of : List Event → ℕ
+moment_of [] = 0
+moment_of (Configured terms ∷ h) = moment_of h
+moment_of (Signalled input ∷ h) = moment_of h
+moment_of (Octet octet ∷ h) = moment_of h
+moment_of (Queued update ∷ h) = moment_of h
+moment_of (Handed octets ∷ h) = moment_of h
+moment_of (Ticked now ∷ h) = now
 
 -- the item of the stream that this octet completes, coming next
 abbrev pub item_at : List Event → ℕ → Option Item
@@ -113,6 +126,7 @@ inputs_at state h (Signalled input) = input ∷ []
 inputs_at state h (Octet octet) = listed (option_map (input_of state (terms_of h)) (item_at h octet))
 inputs_at state h (Queued update) = []
 inputs_at state h (Handed octets) = []
+inputs_at state h (Ticked now) = []
 
 -- a session after these inputs: the rows of the session table one after another
 abbrev pub after : List Input → Session → Session
@@ -126,6 +140,7 @@ restarted (Signalled input) s = s
 restarted (Octet octet) s = s
 restarted (Queued update) s = s
 restarted (Handed octets) s = s
+restarted (Ticked now) s = s
 
 -- the session after a history
 abbrev pub session : List Event → Session

@@ -24,6 +24,7 @@ fn refusals_have_their_numbers(rt: HostRuntime) {
         (Refusal::TooMany, 31),
         (Refusal::Range, 33),
         (Refusal::BadSlot, 40),
+        (Refusal::ClockBack, 41),
         (Refusal::NotExpected, 42),
         (Refusal::SlotTaken, 43),
         (Refusal::NoMemory, 44),

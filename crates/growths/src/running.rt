@@ -34,7 +34,7 @@ fn slot_of(event: Event<'_>) -> Option<u8> {
     match event {
         Event::Up(slot) | Event::Fail(slot) | Event::Bytes(slot, _) => Some(slot),
         Event::Command(Command::AddPeer(slot, _) | Command::Enable(slot)) => Some(slot),
-        Event::Command(Command::Reach(_, _)) => None,
+        Event::Tick(_) | Event::Command(Command::Reach(_, _)) => None,
     }
 }
 

@@ -42,6 +42,8 @@ pub enum SpeakerLine<'a> {
     Fail(u8),
     /// `bytes SLOT HEX`
     Bytes(u8, Vec<u8>),
+    /// `tick SECONDS`
+    Tick(u64),
     /// `take SLOT MAX`
     Take(u8, u32),
     /// `show TABLE`
@@ -153,6 +155,7 @@ fn speaker_line<'a>(words: &[&'a str]) -> Option<SpeakerLine<'a>> {
         ["reach", prefix, cost] => SpeakerLine::Reach(Prefix::parse(prefix).ok()?, number(cost)?),
         ["up", slot] => SpeakerLine::Up(number(slot)?),
         ["fail", slot] => SpeakerLine::Fail(number(slot)?),
+        ["tick", seconds] => SpeakerLine::Tick(number(seconds)?),
         ["take", slot, max] => SpeakerLine::Take(number(slot)?, number(max)?),
         ["show", words @ ..] => SpeakerLine::Show(table_of(words)?),
         _ => return None,

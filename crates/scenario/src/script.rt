@@ -256,6 +256,7 @@ impl Stage {
             SpeakerLine::Bytes(slot, octets) => {
                 step(speaker, Event::Bytes(slot, octets.as_slice()), writer)?
             }
+            SpeakerLine::Tick(seconds) => step(speaker, Event::Tick(seconds), writer)?,
             SpeakerLine::Take(slot, max) => take(speaker, slot, max, room, writer)?,
             SpeakerLine::Show(table) => show(speaker, table, writer)?,
         }

@@ -36,7 +36,7 @@ use Rattle.speaker.proofs.SlotStates.{SlotIs, slot_agrees, configured_from}
 use Rattle.speaker.specs.FirstRefusal.{refused_at, awaits_up}
 use Rattle.speaker.specs.Linked.{Linked}
 use Rattle.speaker.specs.Moves.{Moves, IsPut, moved}
-use Rattle.speaker.specs.Runs.{Call, Run, turn, Up_call, Fail_call, Bytes_call, Command_call, Take_call, conf_called, configuration_of, history, terms_in}
+use Rattle.speaker.specs.Runs.{Call, Run, turn, Up_call, Fail_call, Bytes_call, Tick_call, Command_call, Take_call, conf_called, configuration_of, history, moment_after, terms_in}
 use Rattle.speaker.specs.SpeakerState.{SpeakerState}
 use Rattle.speaker.specs.Tables.{link_at}
 use Rattle.speaker.specs.declared.config.Config.{Config}
@@ -76,17 +76,17 @@ not_yet s false is shut = refl
 -- an input that is no message moves a slot; a connection comes up only where none stands
 pub holds_signalled : (config : Config) (call : Call) (r : Run) (slot : ℕ) (l : Linked) (input : Input) (old new : SpeakerState)
     → Holds config r old → link_at old.links slot ≡ Some l → is_message input ≡ false → (input ≡ Up → transport_of l.peer.session ≢ Connected) → Moves slot l input old new
-    → configuration_of config (turn call [] ∷ r) ≡ configuration_of config r
+    → configuration_of config (turn call [] ∷ r) ≡ configuration_of config r → moment_after (turn call [] ∷ r) ≡ moment_after r
     → ((t : ℕ) → history config t (turn call [] ∷ r) ≡ cond (t == slot) (Signalled input ∷ history config t r) (history config t r))
     → Holds config (turn call [] ∷ r) new
-holds_signalled config call r slot l input old new h linked is shut moves conf histories =
+holds_signalled config call r slot l input old new h linked is shut moves conf moment histories =
     let peer = peer_of config r slot l old h linked in
     let here = slot_is config r slot peer.0 l old h peer.1 linked in
     let at : history config slot (turn call [] ∷ r) ≡ Signalled input ∷ history config slot r = histories slot ∙ rw (eq-eqb slot slot refl) refl in
     let other : input ≡ Up → is_established (session (history config slot r)).state ≡ false =
     λ up. not_yet (session (history config slot r)) _ refl (λ k. shut up (ap transport_of here.link.peer.session ∙ k)) in
     let H : List happens.Event → Type 0 = λ x. SlotIs config peer.0 (moved l input) (route_at new.adj_in slot) x in
-    holds_put config r (turn call [] ∷ r) slot (moved l input) old new h conf moves.rest moves.links
+    holds_put config r (turn call [] ∷ r) slot (moved l input) old new h conf moment moves.rest moves.links
     (λ t away p. moves.routes t p ∙ left_there slot t (effects_of input l.peer.session).left (route_at old.adj_in t p) away)
     (λ t away. histories t ∙ rw (ne_eqb t slot away) refl)
     peer.0 peer.1
@@ -107,14 +107,15 @@ pub holds_enable : (config : Config) (r : Run) (slot : ℕ) (old new : SpeakerSt
 holds_enable config r slot old new h may moves =
     let peer = some_from_not (nat_le 64 slot) (peer_at old.conf slot) Refusal.BadSlot may in
     let found = slot_of config r slot peer.0 old h peer.1 in
-    holds_signalled config (Command_call (Enable slot)) r slot found.0 Start old new h found.1 refl (λ e. cc) (moves found.0 found.1) refl (λ t. refl)
+    holds_signalled config (Command_call (Enable slot)) r slot found.0 Start old new h found.1 refl (λ e. cc) (moves found.0 found.1) refl refl (λ t. refl)
 
 -- an entry of `reach`
 holds_reach : (config : Config) (r : Run) (prefix : Prefix) (cost : ℕ) (old new : SpeakerState) → Holds config r old → new.conf ≡ conf_after old.conf (Reach prefix cost)
-    → ((s : ℕ) → peer_at new.conf s ≡ peer_after old.conf (Reach prefix cost) s) → new.config ≡ old.config → new.links ≡ old.links → new.adj_in ≡ old.adj_in → new.stopped ≡ old.stopped
+    → ((s : ℕ) → peer_at new.conf s ≡ peer_after old.conf (Reach prefix cost) s) → new.config ≡ old.config → new.moment ≡ old.moment → new.links ≡ old.links → new.adj_in ≡ old.adj_in → new.stopped ≡ old.stopped
     → Holds config (turn (Command_call (Reach prefix cost)) [] ∷ r) new
-holds_reach config r prefix cost old new h conf peers config_same links adj_in stopped = record {
+holds_reach config r prefix cost old new h conf peers config_same moment links adj_in stopped = record {
   config_is = config_same ∙ h.config_is;
+  moment = moment ∙ h.moment;
   conf = conf ∙ ap (λ c. conf_after c (Reach prefix cost)) h.conf;
   peers = (h.peers.0, λ t peer at. h.peers.1 t peer (sym (peers t) ∙ at));
   slots = λ t. let P : Option ConfiguredPeer → Type 0 = λ x. SlotAgrees config x (link_at old.links t) (route_at old.adj_in t) (history config t r) in
@@ -123,11 +124,11 @@ holds_reach config r prefix cost old new h conf peers config_same links adj_in s
 }
 
 pub on_reach : {T F : Type 0} (result : Result T F) (prefix : Prefix) (cost : ℕ) (old new : SpeakerState) → OnOk result (new.conf ≡ conf_after old.conf (Reach prefix cost))
-    → OnOk result ((s : ℕ) → peer_at new.conf s ≡ peer_after old.conf (Reach prefix cost) s) → new.config ≡ old.config → new.links ≡ old.links → new.adj_in ≡ old.adj_in → new.stopped ≡ old.stopped
+    → OnOk result ((s : ℕ) → peer_at new.conf s ≡ peer_after old.conf (Reach prefix cost) s) → new.config ≡ old.config → new.moment ≡ old.moment → new.links ≡ old.links → new.adj_in ≡ old.adj_in → new.stopped ≡ old.stopped
     → OnOk result ((config : Config) (r : Run) → Holds config r old → Holds config (turn (Command_call (Reach prefix cost)) [] ∷ r) new)
-on_reach (Ok done) prefix cost old new conf peers config_same links adj_in stopped = λ config r holds.
-    holds_reach config r prefix cost old new holds conf peers config_same links adj_in stopped
-on_reach (Err why) prefix cost old new conf peers config_same links adj_in stopped = tt
+on_reach (Ok done) prefix cost old new conf peers config_same moment links adj_in stopped = λ config r holds.
+    holds_reach config r prefix cost old new holds conf peers config_same moment links adj_in stopped
+on_reach (Err why) prefix cost old new conf peers config_same moment links adj_in stopped = tt
 
 -- with a new peer each is one that was accepted
 added_taken : (own : Asn) (slot t : ℕ) (before : Option ConfiguredPeer) (peer found : ConfiguredPeer) → IsTaken own slot peer → (before ≡ Some found → IsTaken own t found)
@@ -148,6 +149,7 @@ own_called : (call : Call) (conf : Configuration) → (conf_called call conf).ow
 own_called (Up_call slot) conf = refl
 own_called (Fail_call slot) conf = refl
 own_called (Bytes_call slot octets) conf = refl
+own_called (Tick_call now) conf = refl
 own_called (Command_call command) conf = own_after conf command
 own_called (Take_call slot octets) conf = refl
 
@@ -172,13 +174,14 @@ is_taken config r slot peer s h may = record {
 pub holds_added : (config : Config) (r : Run) (slot : ℕ) (peer : PeerConf) (old new : SpeakerState) → Holds config r old → first_refusal old.conf 0 (AddPeer slot peer) ≡ None
     → new.conf ≡ conf_after old.conf (AddPeer slot peer) → ((s : ℕ) → peer_at new.conf s ≡ peer_after old.conf (AddPeer slot peer) s)
     → IsPut slot (record { peer = configured (terms_in config (configured_of peer)).own peer.mode; adj_out = [] }) old new
-    → new.config ≡ old.config → new.adj_in ≡ old.adj_in → new.stopped ≡ old.stopped → Holds config (turn (Command_call (AddPeer slot peer)) [] ∷ r) new
-holds_added config r slot peer old new h may conf peers put config_same adj_in stopped =
+    → new.config ≡ old.config → new.moment ≡ old.moment → new.adj_in ≡ old.adj_in → new.stopped ≡ old.stopped → Holds config (turn (Command_call (AddPeer slot peer)) [] ∷ r) new
+holds_added config r slot peer old new h may conf peers put config_same moment adj_in stopped =
     let free : peer_at old.conf slot ≡ None = peer_at-from_accepted old.conf 0 slot peer may in
     let before = h.slots slot in
     let vacant : is_established (session (history config slot r)).state ≡ false = before.vacant (sym before.configured ∙ ap (option_map (terms_in config)) free) in
     record {
       config_is = config_same ∙ h.config_is;
+      moment = moment ∙ h.moment;
       conf = conf ∙ ap (λ c. conf_after c (AddPeer slot peer)) h.conf;
       peers = (h.peers.0, λ t found at. added_taken config.asn slot t (peer_at old.conf t) (configured_of peer) found (is_taken config r slot peer old h may) (h.peers.1 t found) (sym (peers t) ∙ at));
       slots =

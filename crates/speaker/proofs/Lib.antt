@@ -22,4 +22,5 @@ pub mod ShownRoutes
 pub mod MergedPrefixes
 pub mod WaitingLists
 pub mod OneBest
+pub mod Moments
 pub mod WaitingRuns

@@ -21,6 +21,7 @@ pub agrees_new : (config : Config) → 0 < config.asn.0 → Agrees config [] (st
 agrees_new config own = record {
   holds = record {
     config_is = refl;
+    moment = refl;
     conf = refl;
     peers = (own, λ slot peer at. absurd (cc));
     slots = λ slot. record {
@@ -51,6 +52,7 @@ agrees_same : (config : Config) (r : Run) (old new : SpeakerState) → IsAsBefor
 agrees_same config r old new same a = record {
   holds = record {
     config_is = same.config ∙ a.holds.config_is;
+    moment = same.moment ∙ a.holds.moment;
     conf = same.conf ∙ a.holds.conf;
     peers = rw same.conf a.holds.peers;
     slots = λ t. rw (same.conf, same.links t, same.adj_in) (a.holds.slots t);
@@ -168,6 +170,6 @@ played_more config events answers event (Err why) s new (inl h) agrees refused =
     refused_more config events answers event why s new (refusal_of s event) h (sym (refusal_same config h.r s event h.agrees)) refused
 played_more config events answers event answer s new (inr h) agrees refused =
     let P : Option Refusal → Type 0 = λ first. Refuses first event answer s new in
-    let is : Refuses (Some NoMemory) event answer s new = subst P (ap (λ b. cond b (Some NoMemory) (refusal_by (tables_of s) event)) h.stopped) refused in
+    let is : Refuses (Some NoMemory) event answer s new = subst P (ap (λ b. cond b (Some NoMemory) (refusal_by s.moment (tables_of s) event)) h.stopped) refused in
     let W : Result Report Refusal → Type 0 = λ x. IsPlayed config (events ++ event ∷ []) (answers ++ x ∷ []) new in
     subst W (sym is.0) (inr (played_stopped config events answers event s new h is.1))

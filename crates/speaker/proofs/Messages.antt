@@ -18,7 +18,7 @@ pub some_same : {X : Type 0} (o : Option X) (x y : X) → Some x ≡ o → o ≡
 some_same o x y a b = cc
 
 pub rest_kept : (a b c : SpeakerState) → KeepsRest a b → KeepsRest b c → KeepsRest a c
-rest_kept a b c h k = record { config = k.config ∙ h.config; conf = k.conf ∙ h.conf; loc_rib = k.loc_rib ∙ h.loc_rib; stopped = k.stopped ∙ h.stopped }
+rest_kept a b c h k = record { config = k.config ∙ h.config; moment = k.moment ∙ h.moment; conf = k.conf ∙ h.conf; loc_rib = k.loc_rib ∙ h.loc_rib; stopped = k.stopped ∙ h.stopped }
 
 takes_input : (slot : ℕ) (terms : Terms) (l : Linked) (item : Item) (heard : Input) (old mid new : SpeakerState)
     → heard ≡ input_of l.peer.session.state terms item → IsHeard slot (update_heard l.peer.session.state terms item) old.adj_in mid.adj_in

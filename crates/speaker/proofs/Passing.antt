@@ -137,8 +137,8 @@ queues_told slot p export now new told up room exported accepts news config call
       (slot, update_saying p export) ∷ queue,
       record {
         holds =
-            holds_put config (turn call queue ∷ r) (turn call ((slot, update_saying p export) ∷ queue) ∷ r) slot told.after now new passes.holds refl
-            (record { config = ap (λ (s : SpeakerState). s.config) told.rest; conf = ap (λ (s : SpeakerState). s.conf) told.rest; loc_rib = loc_rib; stopped = ap (λ (s : SpeakerState). s.stopped) told.rest })
+            holds_put config (turn call queue ∷ r) (turn call ((slot, update_saying p export) ∷ queue) ∷ r) slot told.after now new passes.holds refl refl
+            (record { config = ap (λ (s : SpeakerState). s.config) told.rest; moment = ap (λ (s : SpeakerState). s.moment) told.rest; conf = ap (λ (s : SpeakerState). s.conf) told.rest; loc_rib = loc_rib; stopped = ap (λ (s : SpeakerState). s.stopped) told.rest })
             told.puts (λ t other q. ap (λ table. route_at table t q) routes) (λ t other. off_slot config t slot call (update_saying p export) queue r other)
             peer.0 peer.1 (rw (routes, at_slot config slot call (update_saying p export) queue r) after);
         loc_rib = subst T (sym (tables_queued config call r queue slot (update_saying p export))) (rw loc_rib passes.loc_rib);
@@ -154,6 +154,7 @@ queues_still now new still config call r queue passes =
       subst P (sym still.rest) (record {
         holds = record {
           config_is = passes.holds.config_is;
+          moment = passes.holds.moment;
           conf = passes.holds.conf;
           peers = passes.holds.peers;
           slots = λ t. subst (λ l. SlotAgrees config (peer_at now.conf t) l (route_at now.adj_in t) (history config t (turn call queue ∷ r))) (sym (still.links t)) (passes.holds.slots t);
@@ -209,7 +210,7 @@ agrees_served config call r queue s passes thrifty served =
 pub holds_chosen : (config : Config) (r : Run) (old new : SpeakerState) (loc_rib : List (Prefix × Candidate)) → new ≡ record old { loc_rib = loc_rib } → Holds config r old → Holds config r new
 holds_chosen config r old new loc_rib is h =
     let P : SpeakerState → Type 0 = λ s. Holds config r s in
-    let same : Holds config r (record old { loc_rib = loc_rib }) = record { config_is = h.config_is; conf = h.conf; peers = h.peers; slots = h.slots; running = h.running } in
+    let same : Holds config r (record old { loc_rib = loc_rib }) = record { config_is = h.config_is; moment = h.moment; conf = h.conf; peers = h.peers; slots = h.slots; running = h.running } in
     subst P (sym is) same
 
 -- a step's end: Loc-RIB was chosen, and then it queued

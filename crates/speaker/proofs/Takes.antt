@@ -34,7 +34,7 @@ holds_handed config r slot l count old new h linked hands =
     let here = slot_handed config peer.0 l (route_at old.adj_in slot) (history config slot r) count (slot_is config r slot peer.0 l old h peer.1 linked) in
     let on : history config slot (turn (Take_call slot (take count l.peer.ring)) [] ∷ r) ≡ Handed (take count l.peer.ring) ∷ history config slot r = rw (eq-eqb slot slot refl) refl in
     let H : List happens.Event → Type 0 = λ x. SlotIs config peer.0 (with_peer l (handed l.peer count)) (route_at new.adj_in slot) x in
-    holds_put config r (turn (Take_call slot (take count l.peer.ring)) [] ∷ r) slot (with_peer l (handed l.peer count)) old new h refl hands.rest hands.links
+    holds_put config r (turn (Take_call slot (take count l.peer.ring)) [] ∷ r) slot (with_peer l (handed l.peer count)) old new h refl refl hands.rest hands.links
     (λ t other p. ap (λ table. route_at table t p) hands.routes) (λ t other. rw (ne_eqb t slot other) refl)
     peer.0 peer.1 (subst H (sym on) (rw hands.routes here))
 

@@ -10,7 +10,7 @@ use Rattle.bgp_fsm.specs.StateTests.{is_established}
 use Rattle.bgp_msg.specs.MessageStream.{Item, WholeMessage, FaultyHeader}
 use Rattle.bgp_msg.specs.UpdateMeaning.{UpdateBody, update_fault, update_in}
 use Rattle.bgp_msg.specs.declared.frame.MessageType.TheVariants.{Open, Update, Notification, Keepalive}
-use Rattle.bgp_peer.specs.SessionInputs.{Event, Terms, Configured, Signalled, Octet, Queued, Handed, kind_of, terms_of, item_at, session}
+use Rattle.bgp_peer.specs.SessionInputs.{Event, Terms, Configured, Signalled, Octet, Queued, Handed, Ticked, kind_of, terms_of, item_at, session}
 use Rattle.net_prefix.specs.PrefixOrder.{prefix_cmp}
 use Rattle.net_prefix.specs.declared.prefix.Prefix.{Prefix}
 
@@ -49,6 +49,7 @@ brought h (Signalled input) = None
 brought h (Octet octet) = option_and_then (update_heard (session h).state (terms_of h)) (item_at h octet)
 brought h (Queued update) = None
 brought h (Handed octets) = None
+brought h (Ticked now) = None
 
 -- the route that a slot's peer announced last in its present Established run and that no later UPDATE of it names
 abbrev pub route : List Event → Prefix → Option PathAttributes

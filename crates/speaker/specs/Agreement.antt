@@ -26,7 +26,7 @@ use Rattle.speaker.specs.Held.{held, told_from, told_in}
 use Rattle.speaker.specs.Linked.{Linked}
 use Rattle.speaker.specs.LocRib.{IsLocRib}
 use Rattle.speaker.specs.Queueing.{Queue, update_saying}
-use Rattle.speaker.specs.Runs.{Call, Run, turn, Bytes_call, configuration_of, history, terms_in}
+use Rattle.speaker.specs.Runs.{Call, Run, turn, Bytes_call, configuration_of, history, moment_after, terms_in}
 use Rattle.speaker.specs.SpeakerState.{SpeakerState}
 use Rattle.speaker.specs.Tables.{Tables, link_at}
 use Rattle.speaker.specs.declared.config.Config.{Config}
@@ -106,9 +106,10 @@ pub record IsTaken (own : Asn) (slot : ℕ) (peer : ConfiguredPeer) : Type 0 whe
 abbrev pub AreTaken : Asn → Configuration → Type 0
 AreTaken own conf = (0 < own.0) × ((slot : ℕ) (peer : ConfiguredPeer) → peer_at conf slot ≡ Some peer → IsTaken own slot peer)
 
--- the settings, the configuration and each slot are as the run leaves them
+-- the settings, the moment, the configuration and each slot are as the run leaves them
 pub record Holds (config : Config) (r : Run) (s : SpeakerState) : Type 0 where
   pub config_is : s.config ≡ config
+  pub moment : s.moment ≡ moment_after r
   pub conf : s.conf ≡ configuration_of config r
   pub peers : AreTaken config.asn s.conf
   pub slots : (slot : ℕ) → SlotAgrees config (peer_at s.conf slot) (link_at s.links slot) (route_at s.adj_in slot) (history config slot r)

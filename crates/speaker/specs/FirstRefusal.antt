@@ -1,21 +1,21 @@
 -- When a call is refused (own choice: the order and the numbers).
-use Rattle.std.specs.Prelude.{◌≡◌, ◌⊎◌, ℕ, Bool, true, false, is_none, if◌then◌else◌, Option, Some, None}
+use Rattle.std.specs.Prelude.{◌≡◌, ◌⊎◌, ℕ, nat_le, Bool, true, false, is_none, if◌then◌else◌, Option, Some, None}
 use Rattle.net_prefix.specs.declared.transport.Transport.{Transport}
 use Rattle.net_prefix.specs.declared.transport.Transport.TheVariants.{None as NoConnection, Opening, Listening, Open, Closing}
 use Rattle.bgp_conf.specs.declared.refusal.Refusal.{Refusal}
-use Rattle.bgp_conf.specs.declared.refusal.Refusal.TheVariants.{BadSlot, NotExpected, NoMemory}
+use Rattle.bgp_conf.specs.declared.refusal.Refusal.TheVariants.{BadSlot, ClockBack, NotExpected, NoMemory}
 use Rattle.bgp_conf.specs.ConfAfter.{TakesMemory}
 use Rattle.bgp_conf.specs.Configuration.{Configuration, peer_at}
 use Rattle.bgp_conf.specs.FirstRefusal.{first_refusal}
 use Rattle.bgp_fsm.specs.Transports.{transport_of}
 use Rattle.bgp_fsm.specs.declared.session.Session.{Session}
 use Rattle.speaker.specs.Agreement.{tables_after}
-use Rattle.speaker.specs.Runs.{Run, configuration_of}
+use Rattle.speaker.specs.Runs.{Run, configuration_of, moment_after}
 use Rattle.speaker.specs.SpeakerState.{SpeakerState, IsAsBefore, tables_of}
 use Rattle.speaker.specs.Tables.{Tables, link_at}
 use Rattle.speaker.specs.declared.config.Config.{Config}
 use Rattle.speaker.specs.declared.event.Event.{Event}
-use Rattle.speaker.specs.declared.event.Event.TheVariants.{Up, Fail, Bytes, Command}
+use Rattle.speaker.specs.declared.event.Event.TheVariants.{Up, Fail, Bytes, Tick, Command}
 
 -- a connection may come up
 abbrev pub awaits_up : Transport → Bool
@@ -46,20 +46,21 @@ abbrev pub refused_at : Option Session → (Transport → Bool) → Option Refus
 refused_at None takes = Some BadSlot
 refused_at (Some session) takes = if takes (transport_of session) then None else Some NotExpected
 
--- the first refusal of an event by the configuration and the sessions
-abbrev pub refusal_by : Tables → Event → Option Refusal
-refusal_by t (Up slot) = refused_at (t.sessions slot) awaits_up
-refusal_by t (Fail slot) = refused_at (t.sessions slot) may_fail
-refusal_by t (Bytes slot octets) = refused_at (t.sessions slot) may_bring_octets
-refusal_by t (Command command) = first_refusal t.conf 0 command
+-- the first refusal of an event by the moment, the configuration and the sessions
+abbrev pub refusal_by : ℕ → Tables → Event → Option Refusal
+refusal_by moment t (Up slot) = refused_at (t.sessions slot) awaits_up
+refusal_by moment t (Fail slot) = refused_at (t.sessions slot) may_fail
+refusal_by moment t (Bytes slot octets) = refused_at (t.sessions slot) may_bring_octets
+refusal_by moment t (Tick now) = if nat_le moment now then None else Some ClockBack
+refusal_by moment t (Command command) = first_refusal t.conf 0 command
 
 -- the first refusal of an event after a run
 abbrev pub refusal_in : Config → Run → Event → Option Refusal
-refusal_in config r event = refusal_by (tables_after config r) event
+refusal_in config r event = refusal_by (moment_after r) (tables_after config r) event
 
 -- the first refusal of an event by a speaker: one that want of memory has stopped answers 44 to whatever comes
 abbrev pub refusal_of : SpeakerState → Event → Option Refusal
-refusal_of s event = if s.stopped then Some NoMemory else refusal_by (tables_of s) event
+refusal_of s event = if s.stopped then Some NoMemory else refusal_by s.moment (tables_of s) event
 
 -- the first refusal of a take by a speaker
 abbrev pub take_refusal_of : SpeakerState → ℕ → Option Refusal
@@ -74,6 +75,7 @@ abbrev pub Grows : Configuration → Event → Type 0
 Grows conf (Up slot) = ⊥
 Grows conf (Fail slot) = ⊥
 Grows conf (Bytes slot octets) = ⊥
+Grows conf (Tick now) = ⊥
 Grows conf (Command command) = TakesMemory conf command
 
 -- memory was refused to an event: to what it takes of its own, and the speaker is as it was, or the speaker has stopped

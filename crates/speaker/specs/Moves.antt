@@ -39,9 +39,10 @@ abbrev pub IsDropped : Bool → ℕ → SpeakerState → SpeakerState → Type 0
 IsDropped left slot old new =
     (s : ℕ) (prefix : Prefix) → route_at new.adj_in s prefix ≡ (if left && s == slot then None else route_at old.adj_in s prefix)
 
--- the settings, the configuration and Loc-RIB stay
+-- the settings, the moment, the configuration and Loc-RIB stay
 pub record KeepsRest (old new : SpeakerState) : Type 0 where
   pub config : new.config ≡ old.config
+  pub moment : new.moment ≡ old.moment
   pub conf : new.conf ≡ old.conf
   pub loc_rib : new.loc_rib ≡ old.loc_rib
   pub stopped : new.stopped ≡ old.stopped

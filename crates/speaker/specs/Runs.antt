@@ -7,11 +7,11 @@ use Rattle.bgp_conf.specs.declared.command.Command.TheVariants.{AddPeer, Enable,
 use Rattle.bgp_conf.specs.declared.conf.ConfiguredPeer.{ConfiguredPeer}
 use Rattle.bgp_fsm.specs.declared.input.Input.TheVariants.{Start, Up, Fail}
 use Rattle.bgp_peer.specs.SessionInputs as slot
-use Rattle.bgp_peer.specs.SessionInputs.{Terms, Configured, Signalled, Queued, Handed, onto}
+use Rattle.bgp_peer.specs.SessionInputs.{Terms, Configured, Signalled, Queued, Handed, Ticked, onto}
 use Rattle.speaker.specs.Queueing.{Queue}
 use Rattle.speaker.specs.declared.config.Config.{Config}
 use Rattle.speaker.specs.declared.event.Event.{Event}
-use Rattle.speaker.specs.declared.event.Event.TheVariants.{Up as CameUp, Fail as HasFailed, Bytes, Command as Commanded}
+use Rattle.speaker.specs.declared.event.Event.TheVariants.{Up as CameUp, Fail as HasFailed, Bytes, Tick, Command as Commanded}
 use Rattle.speaker.specs.declared.event.Report.{Report}
 
 -- a call with its arguments; of a take, the octets that it handed out
@@ -19,6 +19,7 @@ pub data Call : Type 0 where
   Up_call : (slot : ℕ) → Call
   Fail_call : (slot : ℕ) → Call
   Bytes_call : (slot : ℕ) → (octets : List ℕ) → Call
+  Tick_call : (now : ℕ) → Call
   Command_call : (command : Command) → Call
   Take_call : (slot : ℕ) → (octets : List ℕ) → Call
 
@@ -43,6 +44,7 @@ abbrev pub call_of : Event → Call
 call_of (CameUp slot) = Up_call slot
 call_of (HasFailed slot) = Fail_call slot
 call_of (Bytes slot octets) = Bytes_call slot octets.now
+call_of (Tick now) = Tick_call now
 call_of (Commanded command) = Command_call command
 
 -- what a call makes of the configuration
@@ -50,6 +52,7 @@ abbrev pub conf_called : Call → Configuration → Configuration
 conf_called (Up_call slot) conf = conf
 conf_called (Fail_call slot) conf = conf
 conf_called (Bytes_call slot octets) conf = conf
+conf_called (Tick_call now) conf = conf
 conf_called (Command_call command) conf = conf_after conf command
 conf_called (Take_call slot octets) conf = conf
 
@@ -57,6 +60,20 @@ conf_called (Take_call slot octets) conf = conf
 abbrev pub configuration_of : Config → Run → Configuration
 configuration_of config [] = record { own = config.asn; peers = []; reach = [] }
 configuration_of config (now ∷ r) = conf_called now.call (configuration_of config r)
+
+-- what a call makes of the moment
+abbrev pub moment_called : Call → ℕ → ℕ
+moment_called (Up_call slot) before = before
+moment_called (Fail_call slot) before = before
+moment_called (Bytes_call slot octets) before = before
+moment_called (Tick_call now) before = now
+moment_called (Command_call command) before = before
+moment_called (Take_call slot octets) before = before
+
+-- the moment after a run: that of its last tick, and 0 before one
+abbrev pub moment_after : Run → ℕ
+moment_after [] = 0
+moment_after (now ∷ r) = moment_called now.call (moment_after r)
 
 -- the terms of a peer's session
 abbrev pub terms_in : Config → ConfiguredPeer → Terms
@@ -77,6 +94,7 @@ abbrev pub called : Config → ℕ → Call → List slot.Event → List slot.Ev
 called config s (Up_call slot) h = if s == slot then Signalled Up ∷ h else h
 called config s (Fail_call slot) h = if s == slot then Signalled Fail ∷ h else h
 called config s (Bytes_call slot octets) h = if s == slot then onto octets h else h
+called config s (Tick_call now) h = Ticked now ∷ h
 called config s (Command_call command) h = commanded config s command h
 called config s (Take_call slot octets) h = if s == slot then Handed octets ∷ h else h
 

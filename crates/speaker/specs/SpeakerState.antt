@@ -9,10 +9,11 @@ use Rattle.speaker.specs.declared.config.Config.{Config}
 use Rattle.speaker.specs.Linked.{Linked}
 use Rattle.speaker.specs.Tables.{Tables, tables, link_at}
 
--- what others see of a speaker: its settings, the configured tables, its slots, Adj-RIB-In, Loc-RIB, and whether want
--- of memory has stopped it
+-- what others see of a speaker: its settings, the moment, the configured tables, its slots, Adj-RIB-In, Loc-RIB, and
+-- whether want of memory has stopped it
 pub record SpeakerState : Type 0 where
   pub config : Config
+  pub moment : ℕ
   pub conf : Configuration
   pub links : List (ℕ × Linked)
   pub adj_in : List (RouteKey × PathAttributes)
@@ -23,10 +24,11 @@ pub record SpeakerState : Type 0 where
 abbrev pub tables_of : SpeakerState → Tables
 tables_of s = tables s.conf s.links s.adj_in
 
--- a speaker without peers
+-- a speaker without peers, before any tick
 abbrev pub started : Config → SpeakerState
 started config = record {
   config = config;
+  moment = 0;
   conf = record { own = config.asn; peers = []; reach = [] };
   links = [];
   adj_in = [];
@@ -41,6 +43,7 @@ is_out_of_range config = config.asn.0 == 0 || config.identifier == 0 || config.c
 -- nothing that others see has changed: each slot is as it was, and so is all else
 pub record IsAsBefore (old new : SpeakerState) : Type 0 where
   pub config : new.config ≡ old.config
+  pub moment : new.moment ≡ old.moment
   pub conf : new.conf ≡ old.conf
   pub links : (slot : ℕ) → link_at new.links slot ≡ link_at old.links slot
   pub adj_in : new.adj_in ≡ old.adj_in

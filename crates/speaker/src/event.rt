@@ -11,6 +11,8 @@ pub enum Event<'a> {
     Fail(u8),
     /// Octets that came on the slot's connection.
     Bytes(u8, &'a [u8]),
+    /// A moment, in whole seconds; none comes before the last one.
+    Tick(u64),
     /// What the operator asks for.
     Command(Command<'a>),
 }

@@ -25,7 +25,7 @@ pub use bgp_conf::{Command, PeerConf, Refusal};
 pub use bgp_fsm::State;
 pub use config::Config;
 pub use event::{Event, Report};
-pub use laws::{one_export, refusals_are_of_the_run};
+pub use laws::{moments_are_of_the_run, one_export, refusals_are_of_the_run};
 pub use net_prefix::Transport;
 pub use runs::{Trace, run};
 pub use step::Speaker;

@@ -35,6 +35,8 @@ pub struct Speaker<A: Allocator = Global> {
     pub(crate) conf: Conf<A>,
     pub(crate) links: BTreeMap<u8, Link<A>, A>,
     pub(crate) ribs: Ribs<A>,
+    // The moment of the last tick.
+    moment: u64,
     // Whether memory was refused to a call other than a command: nothing is answered from then on.
     stopped: bool,
 }
@@ -47,6 +49,7 @@ impl<A: Allocator> Model for Speaker<A> {
 
     ghost view = { λ s. record {
       config = s.config;
+      moment = s.moment;
       conf = s.conf;
       links = s.links.entries;
       adj_in = s.ribs.adj_in;
@@ -91,6 +94,7 @@ impl<A: Allocator + Clone> Speaker<A> {
             conf,
             links,
             ribs,
+            moment: 0,
             stopped: false,
         })
     }
@@ -116,7 +120,7 @@ impl<A: Allocator + Clone> Speaker<A> {
 
     // An event that isn't refused.
     fn take_event(&mut self, event: Event<'_>) -> Result<Report, Refusal>
-        requires { refusal_by (tables_of self.old) event ≡ None }
+        requires { refusal_by self.old.moment (tables_of self.old) event ≡ None }
         ensures memory { IfErr result (λ why. (why ≡ Refusal.NoMemory) × LacksMemory event.entry self.old self.new) }
         ensures agrees { IfOk result (λ report. (config : TheConfig) (r : Run) → Agrees config r self.old
             → (queue : Queue) × (report ≡ report_of (turn (call_of event.entry) queue)) × Agrees config (turn (call_of event.entry) queue ∷ r) self.new) }
@@ -138,11 +142,19 @@ impl<A: Allocator + Clone> Speaker<A> {
                     return self.stop();
                 }
             }
+            Event::Tick(now) => self.tick(now),
         }
         match self.settle() {
             Ok(()) => Ok(Report::NOTHING),
             Err(_) => self.stop(),
         }
+    }
+
+    // A moment comes. As yet no session has a timer that it could end.
+    fn tick(&mut self, now: u64)
+        ensures { self.new ≡ record self.old { moment = now } }
+    {
+        self.moment = now;
     }
 
     // Want of memory stops the speaker.
@@ -193,7 +205,7 @@ impl<A: Allocator + Clone> Speaker<A> {
 
     // The first refusal of an event, if there is one.
     fn check(&self, event: &Event<'_>) -> Result<(), Refusal>
-        ensures { MatchResult result (λ _. refusal_by (tables_of self.now) event.now ≡ None) (λ why. refusal_by (tables_of self.now) event.now ≡ Some why) }
+        ensures { MatchResult result (λ _. refusal_by self.now.moment (tables_of self.now) event.now ≡ None) (λ why. refusal_by self.now.moment (tables_of self.now) event.now ≡ Some why) }
     {
         match *event {
             Event::Up(slot) => match self.transport_at(slot) {
@@ -211,6 +223,8 @@ impl<A: Allocator + Clone> Speaker<A> {
                 Some(_) => Err(Refusal::NotExpected),
                 None => Err(Refusal::BadSlot),
             },
+            Event::Tick(now) if now < self.moment => Err(Refusal::ClockBack),
+            Event::Tick(_) => Ok(()),
             Event::Command(command) => self.conf.check(&command, 0),
         }
     }

@@ -44,7 +44,7 @@ const BAD_LINES: [&str; 38] = [
     "show payloads",
     "show in",
     "show held 256",
-    "tick 1",
+    "tick",
 ];
 
 fn script_with(alloc: Global, line: &str) -> Result<String, AllocError> {
@@ -166,6 +166,24 @@ refused 42
 1 Established
 end
 ";
+
+const MOMENTS: &str = "
+> tick 7
+ok
+> tick 7
+ok
+> tick 5
+refused 41
+> show sessions
+0 Established
+1 Established
+end
+";
+
+#[test]
+fn moments_never_go_back(rt: HostRuntime) -> Result<(), Fail> {
+    plays(&rt, rt.alloc(), &[TWO_PEERS, BOTH_COME_UP, MOMENTS])
+}
 
 #[test]
 fn events_are_refused_where_they_do_not_fit(rt: HostRuntime) -> Result<(), Fail> {

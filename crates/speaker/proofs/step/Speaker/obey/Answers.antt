@@ -11,7 +11,7 @@ pub returns-in-Reach-clause-ok : goal.returns-in-Reach-clause-ok
 returns-in-Reach-clause-ok g c =
     let conf = rw c.in-Reach.is at c.apply.ensures.ok in
     let peers = rw c.in-Reach.is at c.apply.ensures.peers in
-    rw (c.in-Reach.is, ← c.self.view_is) (on_reach c.apply.result c.in-Reach.field-0 c.in-Reach.field-1 _ _ conf peers refl refl refl refl)
+    rw (c.in-Reach.is, ← c.self.view_is) (on_reach c.apply.result c.in-Reach.field-0 c.in-Reach.field-1 _ _ conf peers refl refl refl refl refl)
 
 pub returns-in-AddPeer-clause-memory : goal.returns-in-AddPeer-clause-memory
 returns-in-AddPeer-clause-memory g c = rw c.in-AddPeer.is (added_grows c.add_peer.result c.args.self.now.conf c.in-AddPeer.slot c.in-AddPeer.conf (rw c.in-AddPeer.is at c.requires))

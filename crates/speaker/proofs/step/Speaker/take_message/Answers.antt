@@ -13,7 +13,7 @@ returns-in-Some-heard g c = λ l peer linked configured.
     (takes c.args.slot (terms_in c.self.inside.config c.in-Some.peer) c.in-Some-get.link.now _ c.in-Some-heard.input _ _ _
     (sym c.in-Some-heard.is ∙ c.in_ok-heard.ensures.input (terms_in c.self.inside.config c.in-Some.peer) (record { expected_is = refl; kind_is = c.between-kind.ensures }))
     (c.in_ok-heard.ensures.routes (terms_in c.self.inside.config c.in-Some.peer) (record { expected_is = refl; kind_is = c.between-kind.ensures }))
-    (record { config = refl; conf = refl; loc_rib = refl; stopped = refl })
+    (record { config = refl; moment = refl; conf = refl; loc_rib = refl; stopped = refl })
     (λ s. refl)
     (c.input.ensures.moves _ (sym c.in-Some-get.ensures.value)))
 
@@ -27,5 +27,5 @@ returns-in_default-heard g c = λ l peer linked configured.
     (takes_none c.args.slot (terms_in c.self.inside.config c.in-Some.peer) c.in-Some-get.link.now _ _ _
     (sym c.in_default-heard.is ∙ c.in_ok-heard.ensures.input (terms_in c.self.inside.config c.in-Some.peer) (record { expected_is = refl; kind_is = c.between-kind.ensures }))
     (c.in_ok-heard.ensures.routes (terms_in c.self.inside.config c.in-Some.peer) (record { expected_is = refl; kind_is = c.between-kind.ensures }))
-    (record { config = refl; conf = refl; loc_rib = refl; stopped = refl })
+    (record { config = refl; moment = refl; conf = refl; loc_rib = refl; stopped = refl })
     (λ s. refl))

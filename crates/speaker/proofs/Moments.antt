@@ -1,0 +1,43 @@
+use Rattle.std.proofs.Common.{◌≡◌, ◌==◌, ℕ, Bool, true, false, List, [], ◌∷◌, cond, refl, ap, ◌∙◌}
+use Rattle.bgp_conf.specs.declared.command.Command.{Command}
+use Rattle.bgp_conf.specs.declared.command.Command.TheVariants.{AddPeer, Enable, Reach}
+use Rattle.bgp_peer.specs.SessionInputs as happens
+use Rattle.bgp_peer.specs.SessionInputs.{Octet, Queued, moment_of, onto}
+use Rattle.speaker.specs.Queueing.{Queue}
+use Rattle.speaker.specs.Runs.{Call, Run, Up_call, Fail_call, Bytes_call, Tick_call, Command_call, Take_call, called, commanded, history, moment_after, moment_called, queued_on}
+use Rattle.speaker.specs.declared.config.Config.{Config}
+
+-- All slots are at the moment of the run.
+
+-- what happens at no other moment leaves it
+either : (b : Bool) (one other : List happens.Event) (moment : ℕ) → moment_of one ≡ moment → moment_of other ≡ moment → moment_of (cond b one other) ≡ moment
+either true one other moment same also = same
+either false one other moment same also = also
+
+onto_stays : (octets : List ℕ) (h : List happens.Event) → moment_of (onto octets h) ≡ moment_of h
+onto_stays [] h = refl
+onto_stays (octet ∷ octets) h = onto_stays octets (Octet octet ∷ h)
+
+queued_stays : (slot : ℕ) (queue : Queue) (h : List happens.Event) → moment_of (queued_on slot queue h) ≡ moment_of h
+queued_stays slot [] h = refl
+queued_stays slot (now ∷ queue) h =
+    either (slot == now.0) (Queued now.1 ∷ queued_on slot queue h) (queued_on slot queue h) (moment_of h) (queued_stays slot queue h) (queued_stays slot queue h)
+
+commanded_stays : (config : Config) (s : ℕ) (command : Command) (h : List happens.Event) → moment_of (commanded config s command h) ≡ moment_of h
+commanded_stays config s (AddPeer slot peer) h = either (s == slot) _ h (moment_of h) refl refl
+commanded_stays config s (Enable slot) h = either (s == slot) _ h (moment_of h) refl refl
+commanded_stays config s (Reach prefix cost) h = refl
+
+called_moves : (config : Config) (s : ℕ) (call : Call) (h : List happens.Event) → moment_of (called config s call h) ≡ moment_called call (moment_of h)
+called_moves config s (Up_call slot) h = either (s == slot) _ h (moment_of h) refl refl
+called_moves config s (Fail_call slot) h = either (s == slot) _ h (moment_of h) refl refl
+called_moves config s (Bytes_call slot octets) h = either (s == slot) (onto octets h) h (moment_of h) (onto_stays octets h) refl
+called_moves config s (Tick_call now) h = refl
+called_moves config s (Command_call command) h = commanded_stays config s command h
+called_moves config s (Take_call slot octets) h = either (s == slot) _ h (moment_of h) refl refl
+
+pub moment_same : (config : Config) (r : Run) (slot : ℕ) → moment_of (history config slot r) ≡ moment_after r
+moment_same config [] slot = refl
+moment_same config (now ∷ r) slot =
+    queued_stays slot now.queued (called config slot now.call (history config slot r))
+    ∙ called_moves config slot now.call (history config slot r) ∙ ap (λ m. moment_called now.call m) (moment_same config r slot)
