@@ -11,7 +11,7 @@ use Rattle.prefix_trie.specs.declared.places.Place.TheVariants.{OverLow, OverHig
 use Rattle.prefix_trie.specs.Shape.{Shape}
 use Rattle.prefix_trie.specs.TrieMap.{found}
 use Rattle.prefix_trie.proofs.Blocks.{block_pos, end_by_halves}
-use Rattle.prefix_trie.proofs.Entries.{AreAbove, AreBelow, each_weaker, each_append, found_low, found_high, found_above, found_below}
+use Rattle.prefix_trie.proofs.EntryLists.{AreAbove, AreBelow, each_weaker, each_append, found_low, found_high, found_above, found_below}
 use Rattle.prefix_trie.proofs.Ranks.{rank, cmp_same}
 
 -- what is in the lower half stands before what is in the upper half

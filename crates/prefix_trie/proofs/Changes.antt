@@ -12,7 +12,7 @@ use Rattle.prefix_trie.specs.TrieMap.{IsRising, found, with_entry, without}
 use Rattle.prefix_trie.proofs.AtNode.{AtNode, all_above, all_below, before_rank, found_here, found_in_low, found_in_high, here_below, high_below, high_rank, low_above, low_rank, sides_above}
 use Rattle.prefix_trie.proofs.Blocks.{bits_whole, fork_inside, high_inside, low_inside, middle_whole}
 use Rattle.prefix_trie.proofs.Counts.{without_none}
-use Rattle.prefix_trie.proofs.Entries.{AreAbove, AreBelow, each_append, each_kept, each_weaker, each_with, found_above, found_below, rising_with, rising_without, with_above, with_high, with_low, without_above, without_append, without_below}
+use Rattle.prefix_trie.proofs.EntryLists.{AreAbove, AreBelow, each_append, each_kept, each_weaker, each_with, found_above, found_below, rising_with, rising_without, with_above, with_high, with_low, without_above, without_append, without_below}
 use Rattle.prefix_trie.proofs.Ranks.{rank, cmp_same}
 
 module _ {V : Type 0} where

@@ -11,7 +11,7 @@ use Rattle.net_prefix.specs.PrefixOrder.{prefix_cmp}
 use Rattle.net_prefix.proofs.PayloadSets.{prefix_cmp_total}
 use Rattle.prefix_trie.specs.Nodes.{EachIs}
 use Rattle.prefix_trie.specs.TrieMap.{IsCounted, IsRising, Updates, found, with_entry, without}
-use Rattle.prefix_trie.proofs.Entries.{each_kept, each_with, rising_with, rising_without}
+use Rattle.prefix_trie.proofs.EntryLists.{each_kept, each_with, rising_with, rising_without}
 use Rattle.prefix_trie.proofs.Ranks.{rank, less_rank}
 
 module _ {V : Type 0} where

@@ -13,7 +13,7 @@ use Rattle.prefix_trie.specs.Shape.{Shape}
 use Rattle.prefix_trie.specs.declared.places.Place.{Place}
 use Rattle.prefix_trie.specs.declared.places.Place.TheVariants.{OverLow, OverHigh, Before, Behind}
 use Rattle.prefix_trie.proofs.Blocks.{block_pos, low_inside, high_inside}
-use Rattle.prefix_trie.proofs.Entries.{each_append, each_weaker}
+use Rattle.prefix_trie.proofs.EntryLists.{each_append, each_weaker}
 use Rattle.prefix_trie.proofs.Forks.{divided}
 
 both : (a b c d : ℕ) → a ≤ b → c ≡ d → (nat_le a b && (c == d)) ≡ true
@@ -28,6 +28,10 @@ other_block false c d h = refl
 
 whole_bits : (p : Prefix) → p.bits / block_size p.len * block_size p.len ≡ p.bits
 whole_bits p = let parts = div-add-mod' p.bits (block_size p.len) in let none = p.no_host_bits in omega arith
+
+-- a prefix lies in itself
+pub itself : (p : Prefix) → IsInside p.bits p.len p
+itself p = record { long = omega arith; from = omega arith; to = omega arith }
 
 -- a prefix covers what lies in it
 pub covers_inside : (p q : Prefix) → IsInside p.bits p.len q → covers p q ≡ true
@@ -69,9 +73,6 @@ module _ {V : Type 0} (d : Shape V) (p : Prefix) (w : Option V) (low high : Shap
   split : (k : Prefix) → all_covering k d.entries ≡ all_covering k (here p w) ++ (all_covering k low.entries ++ all_covering k high.entries)
   split k = ap (all_covering k) entries ∙ covering_append k (here p w) (low.entries ++ high.entries) ∙ ap (λ es. all_covering k (here p w) ++ es) (covering_append k low.entries high.entries)
 
-  own : IsInside p.bits p.len p
-  own = record { long = omega arith; from = omega arith; to = omega arith }
-
   none_low : (k : Prefix) → ((q : Prefix) → IsLow p q → covers q k ≡ false) → all_covering k low.entries ≡ []
   none_low k f = covering_none k low.entries (each_weaker (IsLow p) (λ q. covers q k ≡ false) f low.entries parts.low_entries)
 
@@ -82,7 +83,7 @@ module _ {V : Type 0} (d : Shape V) (p : Prefix) (w : Option V) (low high : Shap
   pub covering_low : (k : Prefix) → IsLow p k → all_covering k d.entries ≡ here p w ++ all_covering k low.entries
   covering_low k at =
       split k ∙ rw (
-        covering_here k p w (covers_inside p k (low_inside p k p.bits p.len own at)),
+        covering_here k p w (covers_inside p k (low_inside p k p.bits p.len (itself p) at)),
         none_high k (λ q i. covers_before q k (let some = block_pos k.len in omega (arith, at.to, i.from))),
         append-nil (all_covering k low.entries),
       ) refl
@@ -90,23 +91,23 @@ module _ {V : Type 0} (d : Shape V) (p : Prefix) (w : Option V) (low high : Shap
   pub covering_high : (k : Prefix) → IsHigh p k → all_covering k d.entries ≡ here p w ++ all_covering k high.entries
   covering_high k at =
       split k ∙ rw (
-        covering_here k p w (covers_inside p k (high_inside p k p.bits p.len own at)),
+        covering_here k p w (covers_inside p k (high_inside p k p.bits p.len (itself p) at)),
         none_low k (λ q i. covers_behind q k (omega (arith, i.to, at.from))),
       ) refl
 
   pub covering_same : all_covering p d.entries ≡ here p w
   covering_same =
-      split p ∙ rw (covering_here p p w (covers_inside p p own), none_low p (λ q i. covers_longer q p (omega (arith, i.long))), none_high p (λ q i. covers_longer q p (omega (arith, i.long)))) (append-nil (here p w))
+      split p ∙ rw (covering_here p p w (covers_inside p p (itself p)), none_low p (λ q i. covers_longer q p (omega (arith, i.long))), none_high p (λ q i. covers_longer q p (omega (arith, i.long)))) (append-nil (here p w))
 
   here_inside : (u : Option V) → EachIs (IsInside p.bits p.len) (here p u)
   here_inside None = tt
-  here_inside (Some v) = (own, tt)
+  here_inside (Some v) = (itself p, tt)
 
-  all_inside : EachIs (IsInside p.bits p.len) (all_of p w low high)
+  pub all_inside : EachIs (IsInside p.bits p.len) (all_of p w low high)
   all_inside = each_append (IsInside p.bits p.len) (here p w) (low.entries ++ high.entries) (here_inside w)
       (each_append (IsInside p.bits p.len) low.entries high.entries
-      (each_weaker (IsLow p) (IsInside p.bits p.len) (λ q i. low_inside p q p.bits p.len own i) low.entries parts.low_entries)
-      (each_weaker (IsHigh p) (IsInside p.bits p.len) (λ q i. high_inside p q p.bits p.len own i) high.entries parts.high_entries))
+      (each_weaker (IsLow p) (IsInside p.bits p.len) (λ q i. low_inside p q p.bits p.len (itself p) i) low.entries parts.low_entries)
+      (each_weaker (IsHigh p) (IsInside p.bits p.len) (λ q i. high_inside p q p.bits p.len (itself p) i) high.entries parts.high_entries))
 
   none_at : (k : Prefix) → ((q : Prefix) → IsInside p.bits p.len q → covers q k ≡ false) → all_covering k d.entries ≡ []
   none_at k f = ap (all_covering k) entries ∙ covering_none k (all_of p w low high) (each_weaker (IsInside p.bits p.len) (λ q. covers q k ≡ false) f (all_of p w low high) all_inside)

@@ -2,10 +2,12 @@ pub mod AtNode
 pub mod Blocks
 pub mod Changes
 pub mod Counts
+pub mod Covered
 pub mod Covers
-pub mod Entries
+pub mod EntryLists
 pub mod Forks
 pub mod Ranks
 pub mod Firsts
 pub mod MarkBits
+pub mod Nexts
 pub mod Updates

@@ -1,9 +1,10 @@
 -- What is found on the way down a trie.
-use Rattle.std.specs.Prelude.{Bool, List, [], ◌∷◌, Option, None, Some, filter}
+use Rattle.std.specs.Prelude.{Bool, List, [], ◌∷◌, Option, None, Some, filter, ◌≡◌, MatchOption}
 use Rattle.std.specs.Borrow.{Bor}
 use Rattle.std.specs.Ordering.{is_lt}
 use Rattle.net_prefix.specs.PrefixOrder.{prefix_cmp}
 use Rattle.net_prefix.specs.declared.prefix.Prefix.{Prefix}
+use Rattle.prefix_trie.specs.Shape.{Shape}
 
 -- the first entry, if there is one
 abbrev pub first_of : {V : Type 0} → List (Prefix × V) → Option (Prefix × V)
@@ -31,3 +32,12 @@ all_marked marks_of meet marks entries = filter (λ e. meet (marks_of e.1) marks
 -- a value that is lent, as its entry
 abbrev pub seen : {V : Type 0} → Prefix × Bor V → Prefix × V
 seen item = (item.0, item.1.now)
+
+-- the entries of a part of a trie that is lent, if one is: those above a prefix, or all
+abbrev pub left_in : {V : Type 0} → Option (Bor (Shape V)) → Option Prefix → List (Prefix × V)
+left_in None last = []
+left_in (Some part) last = all_after last part.now.entries
+
+-- the first of the entries above a prefix, or of all, behind which come those above it; or there is none
+abbrev pub IsNext : {V : Type 0} → Option (Prefix × Bor V) → Option Prefix → List (Prefix × V) → Type 0
+IsNext next last entries = MatchOption next (all_after last entries ≡ []) (λ item. all_after last entries ≡ seen item ∷ all_above item.0 entries)

@@ -1,8 +1,8 @@
-//! Walks down a trie to the entries that cover a prefix.
+//! Walks down a trie to the entries that cover a prefix, and to those that it covers.
 ghost use Rattle.std.specs.Prelude.{◌≡◌, ◌≤◌, ◌+◌, ◌++◌, [], None, length, option_map, option_to_list};
-ghost use Rattle.prefix_trie.specs.CoverWalks.{all_covering, covering_in, depth_in};
+ghost use Rattle.prefix_trie.specs.CoverWalks.{all_covered, all_covering, covering_in, depth_in};
 ghost use Rattle.prefix_trie.specs.Nodes.{depth, here};
-ghost use Rattle.prefix_trie.specs.TrieWalks.{seen};
+ghost use Rattle.prefix_trie.specs.TrieWalks.{left_in, seen};
 
 use crate::marks::Marked;
 use crate::node::{Link, Node, Tree};
@@ -77,6 +77,23 @@ impl<V: Marked, A: Allocator> Tree<V, A> {
                 below: None,
                 visited: 1,
             },
+        }
+    }
+}
+
+impl<V: Marked, A: Allocator> Tree<V, A> {
+    /// The part whose entries are just those that the key covers, if there are any.
+    pub(crate) fn covered_part(&self, key: Prefix) -> Option<&Tree<V, A>>
+        ensures { left_in result None ≡ all_covered key self.now.entries }
+    {
+        let Link::Fork(node) = &self.root else {
+            return None;
+        };
+        match place_of(node.prefix, key) {
+            Place::Same | Place::OverLow | Place::OverHigh => Some(self),
+            Place::Low => node.low.covered_part(key),
+            Place::High => node.high.covered_part(key),
+            Place::Before | Place::Behind => None,
         }
     }
 }

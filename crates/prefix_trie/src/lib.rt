@@ -9,6 +9,7 @@
 
 mod cover_steps;
 mod covering;
+mod entries;
 mod marks;
 mod node;
 mod places;
@@ -16,5 +17,6 @@ mod trie;
 mod walks;
 
 pub use covering::Covering;
+pub use entries::Entries;
 pub use marks::{MarkSet, Marked};
 pub use trie::Trie;

@@ -3,10 +3,11 @@ ghost use Rattle.std.specs.Prelude.{◌≡◌, ◌^◌, ◌<◌, [], None, lengt
 ghost use Rattle.std.specs.Option.{option_copied};
 ghost use Rattle.prefix_trie.specs.TrieWalks.{all_after, all_marked, first_key};
 ghost use Rattle.std.specs.Fn.{FnOnceReturnsAtMut};
-ghost use Rattle.prefix_trie.specs.CoverWalks.{all_covering, covering_in};
+ghost use Rattle.prefix_trie.specs.CoverWalks.{all_covered, all_covering, covering_in};
 ghost use Rattle.prefix_trie.specs.TrieMap.{IsRising, Updates, found, with_entry, without};
 
 use crate::covering::Covering;
+use crate::entries::Entries;
 use crate::marks::Marked;
 use crate::node::Tree;
 use net_prefix::Prefix;
@@ -89,6 +90,20 @@ impl<V: Marked, A: Allocator> Trie<V, A> {
         ensures { covering_in result.prefix result.part ≡ all_covering prefix.now self.now }
     {
         Covering::new(&self.tree, *prefix)
+    }
+
+    /// The entries whose prefixes the prefix covers, in the order of prefixes.
+    pub fn covered(&self, prefix: &Prefix) -> Entries<'_, V, A>
+        ensures { result ≡ all_covered prefix.now self.now }
+    {
+        Entries::covered(&self.tree, *prefix)
+    }
+
+    /// All entries, in the order of prefixes.
+    pub fn iter(&self) -> Entries<'_, V, A>
+        ensures { result ≡ self.now }
+    {
+        Entries::all(&self.tree)
     }
 
     /// Changes the value at the prefix, if there is one. It takes no memory, and a value's marks may change.

@@ -1,6 +1,6 @@
 //! Walks down a trie.
 ghost use Rattle.std.specs.Prelude.{◌≡◌, option_map};
-ghost use Rattle.prefix_trie.specs.TrieWalks.{all_above, all_marked, first_key, first_of, seen};
+ghost use Rattle.prefix_trie.specs.TrieWalks.{IsNext, all_above, all_marked, first_key, first_of, seen};
 
 use crate::marks::{MarkSet, Marked};
 use crate::node::{Link, Tree};
@@ -44,6 +44,17 @@ impl<V: Marked, A: Allocator> Tree<V, A> {
                 Place::OverLow | Place::OverHigh | Place::Before => self.first(),
                 Place::Behind => None,
             },
+        }
+    }
+
+    /// The first entry above the key, or of all.
+    pub(crate) fn after(&self, key: Option<Prefix>) -> Option<(Prefix, &V)>
+        ensures { IsNext result key self.now.entries }
+    {
+        let _root = &self.root;
+        match key {
+            Some(key) => self.above(key),
+            None => self.first(),
         }
     }
 
