@@ -18,6 +18,11 @@ all_covering prefix entries = filter (λ e. covers e.0 prefix) entries
 abbrev pub all_covered : {V : Type 0} → Prefix → List (Prefix × V) → List (Prefix × V)
 all_covered prefix entries = filter (λ e. covers prefix e.0) entries
 
+-- a walk to the entries that cover a prefix: those still to come, and how many nodes were looked at so far
+pub record CoverWalk (V : Type 0) : Type 0 where
+  pub left : List (Prefix × V)
+  pub visited : ℕ
+
 -- the same in a part of a trie that is lent, if one is
 abbrev pub covering_in : {V : Type 0} → Prefix → Option (Bor (Shape V)) → List (Prefix × V)
 covering_in prefix None = []

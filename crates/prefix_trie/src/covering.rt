@@ -1,27 +1,40 @@
 //! The entries whose prefixes cover a prefix.
-ghost use Rattle.std.specs.Prelude.{◌≡◌, ◌+◌, ◌≤◌};
-ghost use Rattle.std.specs.Iterator.{YieldsFirstBy, item_count};
-ghost use Rattle.prefix_trie.specs.CoverWalks.{all_covering, covering_in, depth_in};
+ghost use Rattle.std.specs.Prelude.{◌≡◌, ◌+◌, ◌≤◌, ⊤, length, option_to_list};
+ghost use Rattle.std.specs.Iterator.{MakesProgress, YieldsFirstBy, item_count};
+ghost use Rattle.prefix_trie.specs.CoverWalks.{all_covering};
 ghost use Rattle.prefix_trie.specs.TrieWalks.{seen};
 
 use crate::marks::Marked;
 use crate::node::Tree;
 use net_prefix::Prefix;
 use std::alloc::{Allocator, Global};
+use std::marker::Model;
 
-/// The entries whose prefixes cover a prefix, the shortest first.
+/// The entries whose prefixes cover a prefix, the shortest first. It is seen as those still to come, and the count of
+/// the nodes that were looked at.
 #[derive(Drop)]
 pub struct Covering<'a, V: Marked, A: Allocator = Global> {
     part: Option<&'a Tree<V, A>>,
     prefix: Prefix,
     visited: u8,
-    ghost few: { visited + depth_in part ≤ 33 },
+}
+
+impl<'a, V: Marked, A: Allocator> Model for Covering<'a, V, A> {
+    ghost use Rattle.std.specs.Prelude.{◌+◌, ◌≤◌};
+    ghost use Rattle.prefix_trie.specs.CoverWalks.{CoverWalk, covering_in, depth_in};
+
+    ghost Value = { CoverWalk V };
+
+    ghost view = { λ c. record { left = covering_in c.prefix c.part; visited = c.visited } };
+
+    ghost invariant = { λ c. c.visited + depth_in c.part ≤ 33 };
 }
 
 impl<'a, V: Marked, A: Allocator> Covering<'a, V, A> {
     // Of a trie's entries.
     pub(crate) fn new(part: &'a Tree<V, A>, prefix: Prefix) -> Self
-        ensures { covering_in result.prefix result.part ≡ all_covering prefix part.now.entries }
+        ensures left { result.left ≡ all_covering prefix part.now.entries }
+        ensures visited { result.visited ≡ 0 }
     {
         Covering {
             part: Some(part),
@@ -42,11 +55,15 @@ impl<'a, V: Marked, A: Allocator> Covering<'a, V, A> {
 impl<'a, V: Marked, A: Allocator> Iterator for Covering<'a, V, A> {
     type Item = (Prefix, &'a V);
 
-    ghost next_gives = { YieldsFirstBy seen (λ c. covering_in c.prefix c.part) };
+    ghost next_gives = { YieldsFirstBy seen (λ walk. walk.left) };
 
-    ghost remaining = { item_count (λ c. covering_in c.prefix c.part) };
+    ghost remaining = { item_count (λ walk. walk.left) };
 
-    fn next(&mut self) -> Option<(Prefix, &'a V)> {
+    fn next(&mut self) -> Option<(Prefix, &'a V)>
+        ensures steps { YieldsFirstBy seen (λ walk. walk.left) self.old result self.new }
+        ensures goes { MakesProgress (λ _. ⊤) (item_count (λ walk. walk.left)) self.old result self.new }
+        ensures counted { self.old.visited + length (option_to_list result) ≤ self.new.visited }
+    {
         let part = self.part?;
         let step = part.next_covering(self.prefix);
         *self = Covering {

@@ -3,7 +3,7 @@ ghost use Rattle.std.specs.Prelude.{◌≡◌, ◌^◌, ◌<◌, [], None, lengt
 ghost use Rattle.std.specs.Option.{option_copied};
 ghost use Rattle.prefix_trie.specs.TrieWalks.{all_after, all_marked, first_key};
 ghost use Rattle.std.specs.Fn.{FnOnceReturnsAtMut};
-ghost use Rattle.prefix_trie.specs.CoverWalks.{all_covered, all_covering, covering_in};
+ghost use Rattle.prefix_trie.specs.CoverWalks.{all_covered, all_covering};
 ghost use Rattle.prefix_trie.specs.TrieMap.{IsRising, Updates, found, with_entry, without};
 
 use crate::covering::Covering;
@@ -87,7 +87,8 @@ impl<V: Marked, A: Allocator> Trie<V, A> {
 
     /// The entries whose prefixes cover the prefix, the shortest first.
     pub fn covering(&self, prefix: &Prefix) -> Covering<'_, V, A>
-        ensures { covering_in result.prefix result.part ≡ all_covering prefix.now self.now }
+        ensures left { result.left ≡ all_covering prefix.now self.now }
+        ensures visited { result.visited ≡ 0 }
     {
         Covering::new(&self.tree, *prefix)
     }
