@@ -1,6 +1,9 @@
+pub mod Blocks
+pub mod Covering
 pub mod Decimals
 pub mod PayloadSets
 pub mod Prefixes
+pub mod Ranks
 pub mod Spellings
 pub mod Texts
 pub mod Unique

@@ -9,6 +9,7 @@
 #![tactic(auto)]
 
 mod asn;
+mod cover_laws;
 mod fault;
 mod payload;
 mod payload_set;
@@ -18,6 +19,7 @@ mod text;
 mod transport;
 
 pub use asn::Asn;
+pub use cover_laws::{covered_are_one_stretch, covering_are_nested};
 pub use fault::PrefixFault;
 pub use payload::Vrp;
 pub use payload_set::{payloads_are_ordered, sets_are_their_members};

@@ -10,9 +10,10 @@ use Rattle.prefix_trie.specs.declared.places.Place.{Place}
 use Rattle.prefix_trie.specs.declared.places.Place.TheVariants.{OverLow, OverHigh, Before, Behind}
 use Rattle.prefix_trie.specs.Shape.{Shape}
 use Rattle.prefix_trie.specs.TrieMap.{found}
-use Rattle.prefix_trie.proofs.Blocks.{block_pos, end_by_halves}
+use Rattle.net_prefix.proofs.Blocks.{block_pos}
+use Rattle.prefix_trie.proofs.Blocks.{end_by_halves}
 use Rattle.prefix_trie.proofs.EntryLists.{AreAbove, AreBelow, each_weaker, each_append, found_low, found_high, found_above, found_below}
-use Rattle.prefix_trie.proofs.Ranks.{rank, cmp_same}
+use Rattle.net_prefix.proofs.Ranks.{rank, cmp_same}
 
 -- what is in the lower half stands before what is in the upper half
 low_before_high : (p q r : Prefix) → IsLow p q → IsHigh p r → rank q < rank r

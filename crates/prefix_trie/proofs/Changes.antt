@@ -13,7 +13,7 @@ use Rattle.prefix_trie.proofs.AtNode.{AtNode, all_above, all_below, before_rank,
 use Rattle.prefix_trie.proofs.Blocks.{bits_whole, fork_inside, high_inside, low_inside, middle_whole}
 use Rattle.prefix_trie.proofs.Counts.{without_none}
 use Rattle.prefix_trie.proofs.EntryLists.{AreAbove, AreBelow, each_append, each_kept, each_weaker, each_with, found_above, found_below, rising_with, rising_without, with_above, with_high, with_low, without_above, without_append, without_below}
-use Rattle.prefix_trie.proofs.Ranks.{rank, cmp_same}
+use Rattle.net_prefix.proofs.Ranks.{rank, cmp_same}
 
 module _ {V : Type 0} where
   with_here : (p : Prefix) (w : Option V) (v : V) (low high : Shape V) → AreParts p w low high → with_entry (all_of p w low high) p v ≡ all_of p (Some v) low high

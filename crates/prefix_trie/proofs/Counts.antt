@@ -12,7 +12,7 @@ use Rattle.net_prefix.proofs.PayloadSets.{prefix_cmp_total}
 use Rattle.prefix_trie.specs.Nodes.{EachIs}
 use Rattle.prefix_trie.specs.TrieMap.{IsCounted, IsRising, Updates, found, with_entry, without}
 use Rattle.prefix_trie.proofs.EntryLists.{each_kept, each_with, rising_with, rising_without}
-use Rattle.prefix_trie.proofs.Ranks.{rank, less_rank}
+use Rattle.net_prefix.proofs.Ranks.{rank, less_rank}
 
 module _ {V : Type 0} where
   abbrev Behind : Prefix → List (Prefix × V) → Type 0

@@ -8,7 +8,8 @@ use Rattle.prefix_trie.specs.Places.{IsInside, IsLow, IsHigh, Stands}
 use Rattle.prefix_trie.specs.Shape.{Shape}
 use Rattle.prefix_trie.specs.declared.places.Place.{Place}
 use Rattle.prefix_trie.specs.declared.places.Place.TheVariants.{Same, OverLow, OverHigh, Before, Behind}
-use Rattle.prefix_trie.proofs.Blocks.{block_pos, low_inside, high_inside}
+use Rattle.net_prefix.proofs.Blocks.{block_pos}
+use Rattle.prefix_trie.proofs.Blocks.{low_inside, high_inside}
 use Rattle.prefix_trie.proofs.Covers.{all_inside, covers_before, covers_behind, covers_inside, covers_longer, itself}
 use Rattle.prefix_trie.proofs.EntryLists.{each_weaker}
 

@@ -12,9 +12,9 @@ use Rattle.prefix_trie.specs.Places.{IsInside, IsLow, IsHigh, Stands, end_of}
 use Rattle.prefix_trie.specs.Shape.{Shape}
 use Rattle.prefix_trie.specs.declared.places.Place.{Place}
 use Rattle.prefix_trie.specs.declared.places.Place.TheVariants.{OverLow, OverHigh, Before, Behind}
-use Rattle.prefix_trie.proofs.Blocks.{block_pos, low_inside, high_inside}
+use Rattle.net_prefix.proofs.Blocks.{block_pos, divided}
+use Rattle.prefix_trie.proofs.Blocks.{low_inside, high_inside}
 use Rattle.prefix_trie.proofs.EntryLists.{each_append, each_weaker}
-use Rattle.prefix_trie.proofs.Forks.{divided}
 
 both : (a b c d : ℕ) → a ≤ b → c ≡ d → (nat_le a b && (c == d)) ≡ true
 both a b c d h e = grind (arith, nat_tests)

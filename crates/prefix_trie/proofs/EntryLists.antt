@@ -13,7 +13,7 @@ use Rattle.net_prefix.specs.PrefixOrder.{prefix_cmp}
 use Rattle.net_prefix.proofs.PayloadSets.{prefix_cmp_total, sorted-insert_key, sorted-filter}
 use Rattle.prefix_trie.specs.Nodes.{EachIs}
 use Rattle.prefix_trie.specs.TrieMap.{found, with_entry, without, IsRising}
-use Rattle.prefix_trie.proofs.Ranks.{rank, cmp_below, cmp_above}
+use Rattle.net_prefix.proofs.Ranks.{rank, cmp_below, cmp_above}
 
 -- the key stands before each entry
 abbrev pub AreAbove : {V : Type 0} → Prefix → List (Prefix × V) → Type 0

@@ -13,7 +13,7 @@ use Rattle.prefix_trie.specs.declared.places.Place.TheVariants.{OverLow, OverHig
 use Rattle.prefix_trie.proofs.AtNode.{all_above as all_above_node, all_below, before_rank, here_below, high_below, high_rank, low_above, low_rank, sides_above}
 use Rattle.prefix_trie.specs.TrieWalks.{first_of, first_key, all_above, all_marked}
 use Rattle.prefix_trie.proofs.EntryLists.{AreAbove, AreBelow}
-use Rattle.prefix_trie.proofs.Ranks.{rank, cmp_below, cmp_above, cmp_same}
+use Rattle.net_prefix.proofs.Ranks.{rank, cmp_below, cmp_above, cmp_same}
 
 -- the first, or else the second
 abbrev pub or_else : {X : Type 0} → Option X → Option X → Option X

@@ -2,14 +2,15 @@
 use Rattle.std.proofs.Common.{◌≡◌, ◌≢◌, ℕ, zero, suc, ◌+◌, ◌-◌, ◌*◌, ◌/◌, ◌%◌, ◌^◌, ◌<◌, ◌≤◌, bit_xor, inl, inr, sym, ap, ◌∙◌, arith}
 use Rattle.std.proofs.Math.Nat.{pow-suc, pow-le-pow_right, div-mul-le_self}
 use Rattle.std.proofs.lemmas.Bool.{cases_lt}
-use Rattle.std.proofs.lemmas.Nat.{pow_pos, div-add-mod', div-mul-add, mod_below, xor_shr, le-div}
+use Rattle.std.proofs.lemmas.Nat.{pow_pos, div-add-mod', mod_below, xor_shr, le-div}
 use Rattle.std.proofs.lemmas.Nat.Bits.{bit_at_xor, bit_at-zero, bit_at-lt, same_from_bits}
 use Rattle.std.specs.Int.{bit_at}
 use Rattle.std.specs.Int.Bits.{xor_self}
 use Rattle.net_prefix.specs.Cover.{block_size, masked_bits}
 use Rattle.net_prefix.specs.declared.prefix.Prefix.{Prefix}
 use Rattle.prefix_trie.specs.Places.{IsSplit, IsLow, IsHigh, end_of}
-use Rattle.prefix_trie.proofs.Blocks.{room, block_pos, bits_whole, low_from, high_from}
+use Rattle.net_prefix.proofs.Blocks.{room, block_pos, divided}
+use Rattle.prefix_trie.proofs.Blocks.{bits_whole, low_from, high_from}
 
 -- numbers that differ in no bit are one
 no_difference : (a b : ℕ) → bit_xor a b ≡ 0 → a ≡ b
@@ -19,11 +20,6 @@ no_difference a b h =
     let la = bit_at-lt a i in
     let lb = bit_at-lt b i in
     omega arith)
-
-pub divided : (q size n : ℕ) → q * size ≤ n → n < q * size + size → n / size ≡ q
-divided q size n from to =
-    let e : n ≡ q * size + (n - q * size) = omega arith in
-    ap (λ m. m / size) e ∙ div-mul-add q size (n - q * size) (omega arith)
 
 -- numbers that agree but for the lowest k + 1 bits, and not but for the lowest k
 parted : (a b k : ℕ) → a < b → a / 2 ^ suc k ≡ b / 2 ^ suc k → a / 2 ^ k ≢ b / 2 ^ k

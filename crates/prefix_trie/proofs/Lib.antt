@@ -6,7 +6,6 @@ pub mod Covered
 pub mod Covers
 pub mod EntryLists
 pub mod Forks
-pub mod Ranks
 pub mod Firsts
 pub mod MarkBits
 pub mod Nexts

@@ -17,7 +17,7 @@ use Rattle.prefix_trie.specs.TrieMap.{IsRising}
 use Rattle.prefix_trie.specs.TrieWalks.{IsNext, all_above, all_after, first_of, seen}
 use Rattle.prefix_trie.proofs.EntryLists.{AreAbove, each_kept, each_weaker}
 use Rattle.prefix_trie.proofs.Firsts.{above_all}
-use Rattle.prefix_trie.proofs.Ranks.{rank, cmp_above, cmp_same, less_rank}
+use Rattle.net_prefix.proofs.Ranks.{rank, cmp_above, cmp_same, less_rank}
 
 module _ {V : Type 0} where
   head_of : (x y : Prefix × V) (xs ys : List (Prefix × V)) → x ∷ xs ≡ y ∷ ys → x ≡ y

@@ -1,7 +1,9 @@
 //! The entries whose prefixes cover a prefix.
-ghost use Rattle.std.specs.Prelude.{◌≡◌, ◌+◌, ◌≤◌, ⊤, length, option_to_list};
+ghost use Rattle.std.specs.Prelude.{◌≡◌, ◌+◌, ◌≤◌, ◌↔◌, IsTrue, ⊤, length, option_to_list};
 ghost use Rattle.std.specs.Iterator.{MakesProgress, YieldsFirstBy, item_count};
-ghost use Rattle.prefix_trie.specs.CoverWalks.{all_covering};
+ghost use Rattle.net_prefix.specs.Cover.{Covers};
+ghost use Rattle.net_prefix.specs.declared.prefix.Prefix.{Prefix};
+ghost use Rattle.prefix_trie.specs.CoverWalks.{all_covering, covers};
 ghost use Rattle.prefix_trie.specs.TrieWalks.{seen};
 
 use crate::marks::Marked;
@@ -74,3 +76,8 @@ impl<'a, V: Marked, A: Allocator> Iterator for Covering<'a, V, A> {
         step.entry
     }
 }
+
+/// The prefixes that a walk finds to cover one, or to be covered, are those of which `Prefix::covers` says so.
+pub fn walks_follow_cover()
+    ensures { (p q : Prefix) → IsTrue (covers p q) ↔ Covers p.bits p.len q.bits q.len }
+{}

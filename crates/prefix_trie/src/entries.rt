@@ -45,10 +45,8 @@ impl<'a, V: Marked, A: Allocator> Entries<'a, V, A> {
     pub(crate) fn covered(part: &'a Tree<V, A>, prefix: Prefix) -> Self
         ensures { result ≡ all_covered prefix part.now.entries }
     {
-        Entries {
-            part: part.covered_part(prefix),
-            last: None,
-        }
+        let part = part.covered_part(prefix);
+        Entries { part, last: None }
     }
 }
 

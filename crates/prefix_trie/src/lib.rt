@@ -16,7 +16,7 @@ mod places;
 mod trie;
 mod walks;
 
-pub use covering::Covering;
+pub use covering::{Covering, walks_follow_cover};
 pub use entries::Entries;
 pub use marks::{MarkSet, Marked};
 pub use trie::Trie;

@@ -1,6 +1,7 @@
 use Rattle.std.proofs.Common.{arith}
 use Rattle.net_prefix.specs.Cover.{block_size}
-use Rattle.prefix_trie.proofs.Blocks.{bits_whole, end_by_halves, high_from, low_from, room}
+use Rattle.net_prefix.proofs.Blocks.{room}
+use Rattle.prefix_trie.proofs.Blocks.{bits_whole, end_by_halves, high_from, low_from}
 use Rattle.prefix_trie.proofs.places.inside.Goals as goal
 
 pub returns-then-key-top : goal.returns-then-key-top
