@@ -1,7 +1,7 @@
 //! The turns of a cache: routers connect, ask and are answered.
-ghost use Rattle.std.specs.Prelude.{◌≡◌, ◌≢◌, ◌<◌, ℕ, ⊤, [], Err, None, Ok, OnOk, OnErr, IfOk, IsSome, MatchOption, Some, length, slice_index_or, slice_set};
+ghost use Rattle.std.specs.Prelude.{◌≡◌, ◌≢◌, ◌<◌, ℕ, ⊤, [], Err, None, Ok, OnOk, OnErr, IfOk, IsSome, MatchOption, Some, count_by, is_some, length, slice_index_or, slice_set};
 ghost use Rattle.rtr_cache.specs.CacheState.{OthersStay, client_at, tells_client};
-ghost use Rattle.rtr_cache.specs.ClientHistory.{CameUp, Makes};
+ghost use Rattle.rtr_cache.specs.ClientHistory.{CameUp, Loaded, Makes};
 ghost use Rattle.rtr_cache.specs.declared.refusal.CacheRefusal.{CacheRefusal};
 ghost use Rattle.cache_turns.specs.TurnOctets.{turn_octets};
 ghost use Rattle.cache_turns.specs.Turns.{Admits, GoesDown, IsTold, TakesTurn, TellsCache, Visits, VisitsAll, idle, link_at, link_left, losing, settled};
@@ -9,8 +9,10 @@ ghost use Rattle.cache_turns.specs.Turns.{Admits, GoesDown, IsTold, TakesTurn, T
 use crate::fault::LoopFault;
 use crate::link::{Link, Visit};
 use crate::wire::{Accepted, Wire};
-use rtr_cache::{Cache, CacheEvent};
+use net_prefix::Vrp;
+use rtr_cache::{Cache, CacheEvent, CacheRefusal, CacheReport};
 use std::alloc::{AllocError, Allocator, Global};
+use std::collections::BTreeSet;
 use std::marker::Model;
 
 /// The most octets that a turn reads of a connection, and the most that wait to be written to it.
@@ -63,6 +65,24 @@ impl<W: Wire + Drop, A: Allocator + Clone> CacheLoop<W, A> {
         self.visit_all();
         self.tell(now);
         Ok(())
+    }
+
+    /// Loads a set into the cache, between two turns. No connection changes.
+    pub fn load<B: Allocator>(
+        &mut self,
+        set: &BTreeSet<Vrp, B>,
+    ) -> Result<CacheReport, CacheRefusal>
+        ensures loads { Makes self.old.cache (Loaded set.now.keys result) self.new.cache }
+        ensures same { self.new ≡ record self.old { cache = self.new.cache } }
+    {
+        self.cache.step(CacheEvent::Load(set))
+    }
+
+    /// How many connections there are.
+    pub fn connections(&self) -> usize
+        ensures { result ≡ count_by is_some self.now.links }
+    {
+        self.links.iter().filter(|link| link.is_some()).count()
     }
 
     /// How many clients were lost: for each the cache was told that the connection is gone. It stays at the greatest

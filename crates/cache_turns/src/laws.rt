@@ -21,6 +21,11 @@ pub fn turns_are_calls_of_the_cache()
     ensures { (moments : List ℕ) (start : CacheState) (before : List Turn) (old new : Turns) → IsRun start before old.cache → TakesTurns moments old new → (after : List Turn) × IsRun start (after ++ before) new.cache }
 {}
 
+/// Whatever turns are taken, the versions that the cache keeps stay: only a set that is loaded publishes one.
+pub fn turns_publish_nothing()
+    ensures { (moments : List ℕ) (old new : Turns) → TakesTurns moments old new → new.cache.shared.kept ≡ old.cache.shared.kept }
+{}
+
 /// Over any turns of a cache from the beginning on, while no more connections came than a u64 counts: the client of each
 /// connection has heard just what its socket gave, and what its socket took and what waits for it is just what the
 /// cache handed out for it, which with what is queued are whole PDUs, each response of one published version.

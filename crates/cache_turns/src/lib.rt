@@ -8,7 +8,8 @@
 //! octets wait nothing more is taken of the cache (`specs/Serving.antt`). A connection ends where its socket has told a
 //! fault or the end of its input, or where the cache has closed it and all that was said is written, and nowhere else.
 //! Each that ends is counted as lost, once. A turn that ends the program changes no connection. Over all turns what a
-//! socket takes is just what the cache hands out for its client: a front of whole PDUs (`specs/Carrying.antt`).
+//! socket takes is just what the cache hands out for its client: a front of whole PDUs (`specs/Carrying.antt`). No turn
+//! publishes anything: what is served changes between turns, by `load`, alone.
 #![tactic(auto)]
 
 mod cache_loop;
@@ -23,7 +24,7 @@ pub use cache_loop::{CacheLoop, TURN_OCTETS};
 pub use fault::LoopFault;
 pub use laws::{
     connections_carry_whole_versions, no_more_are_lost_than_are_counted,
-    turns_are_calls_of_the_cache,
+    turns_are_calls_of_the_cache, turns_publish_nothing,
 };
 pub use log::{Log, Note};
 pub use wire::{Accepted, Received, Sent, Wire};
