@@ -1,12 +1,15 @@
 //! What the programs' mains do.
-ghost use Rattle.std.specs.Prelude.{◌≡◌, ◌≢◌, ◌≤◌, ℕ, List, Err, IfErr};
+ghost use Rattle.std.specs.Prelude.{◌≡◌, ◌≢◌, ◌≤◌, ℕ, List, Err, IfErr, IfOk};
+ghost use Rattle.vrp_delta.specs.Versions.{newest_serial};
 ghost use Rattle.ov_programs.specs.Words.{IsCall};
 
+use crate::every::Every;
 use crate::fault::ExitFault;
 use crate::net_wire::NetWire;
+use crate::served_list::ServedList;
 use crate::settings::{CacheSettings, SessionSource};
 use crate::words::read_words;
-use cache_turns::CacheLoop;
+use cache_turns::{CacheLoop, Wire};
 use rtr_cache::{Cache, CacheEvent};
 use std::alloc::AllocGlobal;
 use std::io::Write;
@@ -53,12 +56,44 @@ where
     let (path, turns) = read_words(words)?;
     let octets = fs::read(rt, path)?;
     let settings = CacheSettings::read(rt.alloc(), octets.as_slice())?;
-    let cache = load_cache(rt, &settings)?;
+    let mut served = start(rt, &settings)?;
+    serve(rt, &settings, &mut served, turns)
+}
+
+// The list of the settings, listened for.
+fn start<'a, R>(
+    rt: &'a R,
+    settings: &CacheSettings,
+) -> Result<ServedList<NetWire<'a, R>>, ExitFault>
+where
+    R: Net<Listener = TcpListener, Stream = TcpStream> + Files + Clock + AllocGlobal,
+    ensures { IfErr result (λ fault. fault ≢ ExitFault.Arguments) }
+{
+    let (cache, serial, payloads) = load_cache(rt, settings)?;
     let wire = NetWire::listening(rt, settings.listen)?;
-    let mut served = CacheLoop::new(rt.alloc(), wire, cache)?;
+    let turns = CacheLoop::new(rt.alloc(), wire, cache)?;
+    Ok(ServedList::new(turns, serial, payloads))
+}
+
+// So many turns. Where the settings say so the list is read again.
+fn serve<R, W: Wire + Drop>(
+    rt: &R,
+    settings: &CacheSettings,
+    served: &mut ServedList<W>,
+    turns: u64,
+) -> Result<(), ExitFault>
+where
+    R: Files + Clock + AllocGlobal,
+    ensures { IfErr result (λ fault. fault ≢ ExitFault.Arguments) }
+{
     let start = Instant::now(rt)?;
+    let mut reread = Every::new(settings.reread);
     for _ in 0..turns {
-        served.turn(start.elapsed(rt)?.as_secs())?;
+        let now = start.elapsed(rt)?.as_secs();
+        if reread.is_due(now) {
+            let _read = served.reread(rt.alloc(), fs::open(rt, settings.csv.as_str()));
+        }
+        served.turn(now)?;
         thread::sleep(rt, Duration::from_millis(PAUSE_MILLISECONDS));
     }
     Ok(())
@@ -74,12 +109,13 @@ fn session_id<R: Clock>(rt: &R, session: SessionSource) -> Result<u16, ExitFault
     }
 }
 
-// The cache of the settings, with their list.
+// The cache of the settings, with their list: its serial, and how many payloads it has.
 fn load_cache<R: Files + Clock + AllocGlobal>(
     rt: &R,
     settings: &CacheSettings,
-) -> Result<Cache, ExitFault>
-    ensures { IfErr result (λ fault. fault ≢ ExitFault.Arguments) }
+) -> Result<(Cache, u32, usize), ExitFault>
+    ensures fault { IfErr result (λ fault. fault ≢ ExitFault.Arguments) }
+    ensures serial { IfOk result (λ loaded. loaded.1 ≡ newest_serial loaded.0.shared.kept) }
 {
     let session = session_id(rt, settings.session)?;
     let mut cache = Cache::with_other_session(
@@ -90,6 +126,6 @@ fn load_cache<R: Files + Clock + AllocGlobal>(
     )?;
     let list = fs::open(rt, settings.csv.as_str())?;
     let loaded = read_list(rt.alloc(), list)?;
-    let _serial = cache.step(CacheEvent::Load(&loaded.set))?;
-    Ok(cache)
+    let report = cache.step(CacheEvent::Load(&loaded.set))?;
+    Ok((cache, report.serial.unwrap_or(0), loaded.set.len()))
 }

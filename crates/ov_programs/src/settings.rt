@@ -1,5 +1,5 @@
 //! The settings of the programs, in TOML.
-ghost use Rattle.std.specs.Prelude.{◌≡◌, IfOk, true};
+ghost use Rattle.std.specs.Prelude.{◌≡◌, ◌≤◌, IfOk, IfSome, true};
 ghost use Rattle.rtr_codec.specs.Intervals.{are_lawful};
 
 use rtr_cache::OtherSession;
@@ -49,13 +49,16 @@ pub struct CacheSettings {
     pub other_session: OtherSession,
     /// What each End of Data tells.
     pub intervals: Intervals,
+    /// After how many seconds the list is read again, if it is.
+    pub reread: Option<u32>,
 }
 
 impl CacheSettings {
     /// The settings that the octets of a file tell: `listen`, `csv` and `session`, and `other_session`, `refresh`, `retry`
-    /// and `expire` where they aren't the usual ones. Keys of other names are passed over.
+    /// and `expire` where they aren't the usual ones, and `reread`. Keys of other names are passed over.
     pub fn read(alloc: Global, octets: &[u8]) -> Result<CacheSettings, SettingsFault>
-        ensures { IfOk result (λ settings. are_lawful settings.intervals ≡ true) }
+        ensures intervals { IfOk result (λ settings. are_lawful settings.intervals ≡ true) }
+        ensures reread { IfOk result (λ settings. IfSome settings.reread (λ seconds. 1 ≤ seconds)) }
     {
         let Ok(text) = str::from_utf8(octets) else {
             return Err(SettingsFault::Settings);
@@ -68,12 +71,14 @@ impl CacheSettings {
         let session = session_of(&table)?;
         let other_session = other_session_of(&table)?;
         let intervals = intervals_of(&table)?;
+        let reread = seconds_of(&table, "reread")?;
         Ok(CacheSettings {
             listen,
             csv,
             session,
             other_session,
             intervals,
+            reread,
         })
     }
 }
@@ -153,5 +158,15 @@ fn number_of(table: &Table, key: &str) -> Result<Option<u32>, SettingsFault> {
     match u32::try_from(number) {
         Ok(number) => Ok(Some(number)),
         Err(_) => Err(SettingsFault::Settings),
+    }
+}
+
+// The seconds at a key, if the key is there: one at least.
+fn seconds_of(table: &Table, key: &str) -> Result<Option<u32>, SettingsFault>
+    ensures { IfOk result (λ seconds. IfSome seconds (λ number. 1 ≤ number)) }
+{
+    match number_of(table, key)? {
+        Some(0) => Err(SettingsFault::Settings),
+        seconds => Ok(seconds),
     }
 }

@@ -1,0 +1,109 @@
+//! A payload list that is served while its file changes.
+ghost use Rattle.std.specs.Prelude.{◌≡◌, ◌↔◌, IfOk, None, length};
+ghost use Rattle.cache_turns.specs.Turns.{TakesTurn};
+ghost use Rattle.vrp_delta.specs.Versions.{newest_serial};
+ghost use Rattle.ov_programs.specs.Rereads.{Publishes, Rereads, text_of};
+
+use crate::reread::{ListFault, Reread};
+use cache_turns::{CacheLoop, LoopFault, Wire};
+use net_prefix::Vrp;
+use std::alloc::Global;
+use std::collections::BTreeSet;
+use std::io::{self, Read};
+use std::marker::Model;
+use vrp_csv::read_list;
+
+/// The turns of a cache, and what it serves.
+#[derive(Drop)]
+pub struct ServedList<W: Wire> {
+    turns: CacheLoop<W>,
+    // The serial that is served.
+    serial: u32,
+    // How many payloads the set that is served has.
+    payloads: usize,
+}
+
+impl<W: Wire> Model for ServedList<W> {
+    ghost use Rattle.std.specs.Prelude.{◌≡◌};
+    ghost use Rattle.vrp_delta.specs.Versions.{newest_serial};
+    ghost use Rattle.ov_programs.specs.Rereads.{Served};
+
+    ghost Value = { Served };
+
+    ghost view = { λ s. record { turns = s.turns; serial = s.serial; payloads = s.payloads } };
+
+    ghost invariant = { λ s. s.serial ≡ newest_serial s.turns.cache.shared.kept };
+}
+
+impl<W: Wire + Drop> ServedList<W> {
+    /// The turns of a cache that serves so many payloads under this serial.
+    pub fn new(turns: CacheLoop<W>, serial: u32, payloads: usize) -> Self
+        requires { serial ≡ newest_serial turns.cache.shared.kept }
+        ensures { result ≡ record { turns = turns; serial = serial; payloads = payloads } }
+    {
+        ServedList {
+            turns,
+            serial,
+            payloads,
+        }
+    }
+
+    /// A turn, which publishes nothing.
+    pub fn turn(&mut self, now: u64) -> Result<(), LoopFault>
+        ensures takes { TakesTurn now self.old.turns result self.new.turns }
+        ensures same { self.new ≡ record self.old { turns = self.new.turns } }
+    {
+        self.turns.turn(now)
+    }
+
+    /// Takes the list of a file that was opened again. A list that can't be had changes nothing, and one that is served
+    /// already publishes nothing.
+    pub fn reread<L: Read + Drop>(&mut self, alloc: Global, file: io::Result<L>) -> Reread
+        ensures { Rereads (text_of L.remaining file) self.old result self.new }
+    {
+        let Ok(file) = file else {
+            return Reread::Refused(ListFault::NoFile);
+        };
+        match read_list(alloc, file) {
+            Ok(loaded) => self.publish(&loaded.set),
+            Err(refused) => Reread::Refused(ListFault::Row(refused)),
+        }
+    }
+
+    // Hands a set to the cache.
+    fn publish(&mut self, set: &BTreeSet<Vrp>) -> Reread
+        ensures { Publishes set.now.keys self.old result self.new }
+    {
+        let Ok(report) = self.turns.load(set) else {
+            return Reread::Refused(ListFault::NoMemory);
+        };
+        let before = self.serial;
+        self.serial = report.serial.unwrap_or(before);
+        self.payloads = set.len();
+        if self.serial == before {
+            return Reread::Same;
+        }
+        Reread::Published(self.serial)
+    }
+
+    /// The turns.
+    pub fn turns(&self) -> &CacheLoop<W>
+        ensures { result.now ≡ self.now.turns }
+    {
+        &self.turns
+    }
+
+    /// The serial that is served.
+    pub fn serial(&self) -> u32
+        ensures { result ≡ self.now.serial }
+    {
+        self.serial
+    }
+
+    /// How many payloads are served.
+    pub fn payloads(&self) -> usize
+        ensures { result ≡ self.now.payloads }
+    {
+        self.payloads
+    }
+}
