@@ -1,5 +1,5 @@
-//! Tests alone: the cache over sockets, over a wire in memory, a cache that resets another session, and the texts and
-//! statuses of its program.
+//! Tests alone: the cache over sockets, over a wire in memory, a cache that resets another session, a list that is read
+//! again, and the texts and statuses of the program.
 #![tactic(auto)]
 
 #[cfg(test)]
@@ -8,5 +8,7 @@ mod loopback;
 mod memory_wire;
 #[cfg(test)]
 mod other_session;
+#[cfg(test)]
+mod rereads;
 #[cfg(test)]
 mod statuses;
