@@ -10,9 +10,11 @@
 
 mod every;
 mod fault;
+mod journal;
 mod mains;
 mod net_wire;
 mod reread;
+mod router_event;
 mod served_list;
 mod settings;
 mod words;
@@ -22,8 +24,10 @@ pub use cache_turns::{
 };
 pub use every::Every;
 pub use fault::ExitFault;
-pub use mains::main_cache;
+pub use journal::LogLine;
+pub use mains::{main_cache, serve_cache};
 pub use net_wire::{NetSocket, NetWire};
 pub use reread::{ListFault, Reread};
+pub use router_event::{Parting, RouterEvent};
 pub use served_list::ServedList;
 pub use settings::{CacheSettings, SessionSource, SettingsFault};

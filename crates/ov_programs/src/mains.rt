@@ -1,11 +1,13 @@
 //! What the programs' mains do.
-ghost use Rattle.std.specs.Prelude.{◌≡◌, ◌≢◌, ◌≤◌, ℕ, List, Err, IfErr, IfOk};
+ghost use Rattle.std.specs.Prelude.{◌≡◌, ◌≢◌, ◌≤◌, ℕ, List, Err, IfErr, IfOk, false};
 ghost use Rattle.vrp_delta.specs.Versions.{newest_serial};
 ghost use Rattle.ov_programs.specs.Words.{IsCall};
 
 use crate::every::Every;
 use crate::fault::ExitFault;
+use crate::journal::{LogLine, log};
 use crate::net_wire::NetWire;
+use crate::reread::{ListFault, Reread};
 use crate::served_list::ServedList;
 use crate::settings::{CacheSettings, SessionSource};
 use crate::words::read_words;
@@ -22,22 +24,22 @@ use vrp_csv::read_list;
 /// How long a program rests between two turns (own choice).
 const PAUSE_MILLISECONDS: u64 = 1;
 
-/// `ovcache SETTINGS TURNS`: a cache that serves the list of its settings for so many turns. It prints nothing on its
-/// output; a fault has its line on `errors`. The answer is the exit status.
+/// `ovcache SETTINGS TURNS`: a cache that serves the list of its settings for so many turns. Its output is the log, and
+/// stays as it is where the settings ask for none; a fault has its line on `errors`. The answer is the exit status.
 pub fn main_cache<R, O: Write, E: Write>(
     rt: &R,
     words: &[String],
-    _output: &mut O,
+    output: &mut O,
     errors: &mut E,
 ) -> u8
 where
     R: Net<Listener = TcpListener, Stream = TcpStream> + Files + Clock + AllocGlobal,
     ensures words { ((path : List ℕ) (turns : ℕ) → ¬ (IsCall words.now path turns)) → result ≡ 1 }
     ensures range { result ≤ 2 }
-    ensures output { _output.new ≡ _output.old }
+    ensures output { ((path : List ℕ) (turns : ℕ) → ¬ (IsCall words.now path turns)) → output.new ≡ output.old }
     ensures silent { result ≡ 0 → errors.new ≡ errors.old }
 {
-    match run_cache(rt, words) {
+    match run_cache(rt, words, output) {
         Ok(()) => 0,
         Err(fault) => {
             // Where errors can't be written, the status is all that tells.
@@ -47,56 +49,123 @@ where
     }
 }
 
-fn run_cache<R>(rt: &R, words: &[String]) -> Result<(), ExitFault>
+fn run_cache<R, O: Write>(rt: &R, words: &[String], output: &mut O) -> Result<(), ExitFault>
 where
     R: Net<Listener = TcpListener, Stream = TcpStream> + Files + Clock + AllocGlobal,
     ensures wrong { ((path : List ℕ) (turns : ℕ) → ¬ (IsCall words.now path turns)) → result ≡ Err ExitFault.Arguments }
     ensures right { (path : List ℕ) (turns : ℕ) → IsCall words.now path turns → result ≢ Err ExitFault.Arguments }
+    ensures output { result ≡ Err ExitFault.Arguments → output.new ≡ output.old }
 {
     let (path, turns) = read_words(words)?;
     let octets = fs::read(rt, path)?;
     let settings = CacheSettings::read(rt.alloc(), octets.as_slice())?;
-    let mut served = start(rt, &settings)?;
-    serve(rt, &settings, &mut served, turns)
+    serve_cache(rt, &settings, turns, output)
 }
 
-// The list of the settings, listened for.
-fn start<'a, R>(
-    rt: &'a R,
-    settings: &CacheSettings,
-) -> Result<ServedList<NetWire<'a, R>>, ExitFault>
-where
-    R: Net<Listener = TcpListener, Stream = TcpStream> + Files + Clock + AllocGlobal,
-    ensures { IfErr result (λ fault. fault ≢ ExitFault.Arguments) }
-{
-    let (cache, serial, payloads) = load_cache(rt, settings)?;
-    let wire = NetWire::listening(rt, settings.listen)?;
-    let turns = CacheLoop::new(rt.alloc(), wire, cache)?;
-    Ok(ServedList::new(turns, serial, payloads))
-}
-
-// So many turns. Where the settings say so the list is read again.
-fn serve<R, W: Wire + Drop>(
+/// Serves the list of these settings for so many turns. Nothing is written to the output where they ask for no log.
+pub fn serve_cache<R, O: Write>(
     rt: &R,
     settings: &CacheSettings,
-    served: &mut ServedList<W>,
     turns: u64,
+    output: &mut O,
 ) -> Result<(), ExitFault>
 where
-    R: Files + Clock + AllocGlobal,
-    ensures { IfErr result (λ fault. fault ≢ ExitFault.Arguments) }
+    R: Net<Listener = TcpListener, Stream = TcpStream> + Files + Clock + AllocGlobal,
+    ensures fault { IfErr result (λ fault. fault ≢ ExitFault.Arguments) }
+    ensures quiet { settings.now.log ≡ false → output.new ≡ output.old }
+{
+    let (cache, serial, payloads) = load_cache(rt, settings, output)?;
+    let wire = NetWire::listening(rt, settings.listen)?;
+    let turns_of_cache = CacheLoop::new(rt.alloc(), wire, cache)?;
+    let mut served = ServedList::new(turns_of_cache, serial, payloads);
+    take_turns(rt, settings, &mut served, turns, output)
+}
+
+// So many turns.
+fn take_turns<R, O: Write>(
+    rt: &R,
+    settings: &CacheSettings,
+    served: &mut ServedList<NetWire<'_, R>>,
+    turns: u64,
+    output: &mut O,
+) -> Result<(), ExitFault>
+where
+    R: Net<Listener = TcpListener, Stream = TcpStream> + Files + Clock + AllocGlobal,
+    ensures fault { IfErr result (λ fault. fault ≢ ExitFault.Arguments) }
+    ensures quiet { settings.now.log ≡ false → output.new ≡ output.old }
 {
     let start = Instant::now(rt)?;
     let mut reread = Every::new(settings.reread);
+    let mut status = Every::new(settings.status);
     for _ in 0..turns {
         let now = start.elapsed(rt)?.as_secs();
         if reread.is_due(now) {
-            let _read = served.reread(rt.alloc(), fs::open(rt, settings.csv.as_str()));
+            reread_list(rt, settings, served, output);
         }
         served.turn(now)?;
+        tell_routers(rt, settings.log, served, output);
+        if status.is_due(now) {
+            tell_status(rt, settings.log, served, output);
+        }
         thread::sleep(rt, Duration::from_millis(PAUSE_MILLISECONDS));
     }
     Ok(())
+}
+
+// Reads the list again.
+fn reread_list<R: Files + Clock + AllocGlobal, W: Wire + Drop, O: Write>(
+    rt: &R,
+    settings: &CacheSettings,
+    served: &mut ServedList<W>,
+    output: &mut O,
+)
+    ensures { settings.now.log ≡ false → output.new ≡ output.old }
+{
+    let line = match served.reread(rt.alloc(), fs::open(rt, settings.csv.as_str())) {
+        Reread::Refused(why) => LogLine::Refused(why),
+        Reread::Same => return,
+        Reread::Published(serial) => LogLine::Loaded {
+            serial,
+            payloads: served.payloads(),
+        },
+    };
+    log(rt, settings.log, output, line);
+}
+
+// Writes what the last turn saw of routers to the log.
+fn tell_routers<R, O: Write>(
+    rt: &R,
+    is_on: bool,
+    served: &ServedList<NetWire<'_, R>>,
+    output: &mut O,
+)
+where
+    R: Net<Listener = TcpListener, Stream = TcpStream> + Files + Clock + AllocGlobal,
+    ensures { is_on ≡ false → output.new ≡ output.old }
+{
+    if !is_on {
+        return;
+    }
+    for event in served.turns().wire().events() {
+        log(rt, is_on, output, LogLine::Router(*event));
+    }
+}
+
+// Writes what is served to the log.
+fn tell_status<R: Clock, W: Wire + Drop, O: Write>(
+    rt: &R,
+    is_on: bool,
+    served: &ServedList<W>,
+    output: &mut O,
+)
+    ensures { is_on ≡ false → output.new ≡ output.old }
+{
+    let line = LogLine::Status {
+        serial: served.serial(),
+        payloads: served.payloads(),
+        routers: served.turns().connections(),
+    };
+    log(rt, is_on, output, line);
 }
 
 // The session id. By the clock it is the low 16 bits of the seconds since 1970: another one in each of 65,536 seconds.
@@ -110,12 +179,14 @@ fn session_id<R: Clock>(rt: &R, session: SessionSource) -> Result<u16, ExitFault
 }
 
 // The cache of the settings, with their list: its serial, and how many payloads it has.
-fn load_cache<R: Files + Clock + AllocGlobal>(
+fn load_cache<R: Files + Clock + AllocGlobal, O: Write>(
     rt: &R,
     settings: &CacheSettings,
+    output: &mut O,
 ) -> Result<(Cache, u32, usize), ExitFault>
     ensures fault { IfErr result (λ fault. fault ≢ ExitFault.Arguments) }
     ensures serial { IfOk result (λ loaded. loaded.1 ≡ newest_serial loaded.0.shared.kept) }
+    ensures quiet { settings.now.log ≡ false → output.new ≡ output.old }
 {
     let session = session_id(rt, settings.session)?;
     let mut cache = Cache::with_other_session(
@@ -125,7 +196,18 @@ fn load_cache<R: Files + Clock + AllocGlobal>(
         settings.other_session,
     )?;
     let list = fs::open(rt, settings.csv.as_str())?;
-    let loaded = read_list(rt.alloc(), list)?;
+    let loaded = match read_list(rt.alloc(), list) {
+        Ok(loaded) => loaded,
+        Err(refused) => {
+            let line = LogLine::Refused(ListFault::Row(refused));
+            log(rt, settings.log, output, line);
+            return Err(ExitFault::from(refused));
+        }
+    };
     let report = cache.step(CacheEvent::Load(&loaded.set))?;
-    Ok((cache, report.serial.unwrap_or(0), loaded.set.len()))
+    let serial = report.serial.unwrap_or(0);
+    let payloads = loaded.set.len();
+    let line = LogLine::Loaded { serial, payloads };
+    log(rt, settings.log, output, line);
+    Ok((cache, serial, payloads))
 }

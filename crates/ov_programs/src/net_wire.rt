@@ -1,10 +1,12 @@
 //! The system's TCP sockets.
 ghost use Rattle.std.specs.Prelude.{◌≡◌, IfOk, length};
 ghost use Rattle.cache_turns.specs.Calls.{call_of};
-ghost use Rattle.cache_turns.specs.Wires.{FitsIn, FitsInSent, calling, connecting, failing, nothing_told, told_by_read, told_by_write};
+ghost use Rattle.cache_turns.specs.Wires.{FitsIn, FitsInSent, calling, connecting, failing, nothing_told, one_more, told_by_read, told_by_write};
 
+use crate::router_event::{Parting, RouterEvent};
 use cache_turns::{Accepted, Log, Note, Received, Sent, Wire};
 use mio::net::TcpStream;
+use std::alloc::AllocGlobal;
 use std::io::{self, ErrorKind, Read, Write};
 use std::marker::Model;
 use std::net::{self, Net, OpenListener, SocketAddr, TcpListener};
@@ -13,13 +15,16 @@ use std::net::{self, Net, OpenListener, SocketAddr, TcpListener};
 #[derive(Drop)]
 pub struct NetSocket {
     stream: TcpStream,
+    address: SocketAddr,
     // How many connections came before it.
     number: u64,
+    // Why it would be closed now.
+    parting: Parting,
 }
 
 /// TCP sockets that don't wait, and the listener whose connections are accepted.
 #[derive(Drop)]
-pub struct NetWire<'a, R: Net<Listener = TcpListener, Stream = net::TcpStream>> {
+pub struct NetWire<'a, R: Net<Listener = TcpListener, Stream = net::TcpStream> + AllocGlobal> {
     net: &'a R,
     listener: Option<TcpListener>,
     faults: u64,
@@ -27,9 +32,14 @@ pub struct NetWire<'a, R: Net<Listener = TcpListener, Stream = net::TcpStream>> 
     ends: u64,
     arrivals: u64,
     calls: Log,
+    // What was seen since a connection was asked for last. Where there is no memory for more, it is left out.
+    events: Vec<RouterEvent>,
+    // Whether descriptors were wanting when a connection was asked for last.
+    lacks_descriptors: bool,
 }
 
-impl<'a, R: Net<Listener = TcpListener, Stream = net::TcpStream>> Model for NetWire<'a, R> {
+impl<'a, R: Net<Listener = TcpListener, Stream = net::TcpStream> + AllocGlobal> Model
+    for NetWire<'a, R> {
     ghost use Rattle.cache_turns.specs.Wires.{WireState};
 
     ghost Value = { WireState };
@@ -37,7 +47,7 @@ impl<'a, R: Net<Listener = TcpListener, Stream = net::TcpStream>> Model for NetW
     ghost view = { λ wire. record { faults = wire.faults; accept_faults = wire.accept_faults; ends = wire.ends; arrivals = wire.arrivals; calls = wire.calls.calls } };
 }
 
-impl<'a, R: Net<Listener = TcpListener, Stream = net::TcpStream>> NetWire<'a, R> {
+impl<'a, R: Net<Listener = TcpListener, Stream = net::TcpStream> + AllocGlobal> NetWire<'a, R> {
     /// A wire that only connects.
     pub fn new(net: &'a R) -> Self
         ensures { result ≡ nothing_told }
@@ -65,6 +75,8 @@ impl<'a, R: Net<Listener = TcpListener, Stream = net::TcpStream>> NetWire<'a, R>
             ends: 0,
             arrivals: 0,
             calls: Log::new(),
+            events: Vec::new(net.alloc()),
+            lacks_descriptors: false,
         }
     }
 
@@ -75,7 +87,9 @@ impl<'a, R: Net<Listener = TcpListener, Stream = net::TcpStream>> NetWire<'a, R>
         match TcpStream::connect(self.net, address) {
             Ok(stream) => Some(NetSocket {
                 stream,
+                address,
                 number: self.arrivals,
+                parting: Parting::NoPlace,
             }),
             Err(_) => {
                 self.fail();
@@ -90,6 +104,44 @@ impl<'a, R: Net<Listener = TcpListener, Stream = net::TcpStream>> NetWire<'a, R>
             Some(listener) => listener.local_addr().ok(),
             None => None,
         }
+    }
+
+    /// What was seen of routers since a connection was asked for last, which a turn begins with.
+    pub fn events(&self) -> &[RouterEvent] {
+        self.events.as_slice()
+    }
+
+    // Keeps in mind what was seen.
+    fn see(&mut self, event: RouterEvent)
+        ensures { self.new ≡ self.old }
+    {
+        let _kept = self.events.push(event);
+    }
+
+    // The socket of a connection that has come.
+    fn let_in(&mut self, stream: TcpStream, address: SocketAddr) -> NetSocket
+        ensures number { result.number ≡ self.old.arrivals }
+        ensures tells { self.new ≡ record self.old { arrivals = one_more self.old.arrivals } }
+    {
+        let number = self.arrivals;
+        self.arrivals = self.arrivals.saturating_add(1);
+        self.see(RouterEvent::Came(address));
+        NetSocket {
+            stream,
+            address,
+            number,
+            parting: Parting::NoPlace,
+        }
+    }
+
+    // Descriptors are wanting, which is seen once.
+    fn lack_descriptors(&mut self)
+        ensures { self.new ≡ self.old }
+    {
+        if !self.lacks_descriptors {
+            self.see(RouterEvent::NoDescriptors);
+        }
+        self.lacks_descriptors = true;
     }
 
     // Counts a fault.
@@ -141,7 +193,8 @@ impl<'a, R: Net<Listener = TcpListener, Stream = net::TcpStream>> NetWire<'a, R>
     }
 }
 
-impl<R: Net<Listener = TcpListener, Stream = net::TcpStream>> Wire for NetWire<'_, R> {
+impl<R: Net<Listener = TcpListener, Stream = net::TcpStream> + AllocGlobal> Wire
+    for NetWire<'_, R> {
     type Socket = NetSocket;
 
     ghost state = { λ wire. wire };
@@ -149,38 +202,57 @@ impl<R: Net<Listener = TcpListener, Stream = net::TcpStream>> Wire for NetWire<'
     ghost number = { λ socket. socket.number };
 
     fn accept(&mut self) -> Accepted<NetSocket> {
+        self.events.clear();
         self.note(&Note::Accept);
         let Some(listener) = &self.listener else {
             return Accepted::Nothing;
         };
-        match accept_from(listener) {
+        match listener.accept() {
             Ok((stream, address)) => {
-                let number = self.arrivals;
-                self.arrivals = self.arrivals.saturating_add(1);
-                Accepted::Connection(NetSocket { stream, number }, address)
+                self.lacks_descriptors = false;
+                // A connection that can't be made one that doesn't wait is gone.
+                if stream.set_nonblocking(true).is_err() {
+                    return Accepted::Nothing;
+                }
+                Accepted::Connection(self.let_in(TcpStream::from_std(stream), address), address)
             }
-            Err(error) if is_of_one_connection(error.kind()) => Accepted::Nothing,
-            Err(_) => {
-                self.fail();
-                self.accept_faults = self.accept_faults.saturating_add(1);
-                Accepted::Fault
-            }
+            Err(error) => match accept_fault_of(&error) {
+                AcceptFault::OfOne => Accepted::Nothing,
+                AcceptFault::Wanting => {
+                    self.lack_descriptors();
+                    Accepted::Nothing
+                }
+                AcceptFault::OfAll => {
+                    self.fail();
+                    self.accept_faults = self.accept_faults.saturating_add(1);
+                    Accepted::Fault
+                }
+            },
         }
     }
 
     fn read(&mut self, socket: &mut NetSocket, buf: &mut [u8]) -> Received {
         let received = self.receive(&mut socket.stream, buf);
+        socket.parting = match received {
+            Received::Octets(_) | Received::Nothing => Parting::Closed,
+            Received::End => Parting::Ended,
+            Received::Fault => Parting::Failed,
+        };
         self.note(&Note::Read(socket.number, buf, received));
         received
     }
 
     fn write(&mut self, socket: &mut NetSocket, octets: &[u8]) -> Sent {
         let sent = self.send(&mut socket.stream, octets);
+        if let Sent::Fault = sent {
+            socket.parting = Parting::Failed;
+        }
         self.note(&Note::Write(socket.number, octets, sent));
         sent
     }
 
     fn close(&mut self, socket: NetSocket) {
+        self.see(RouterEvent::Went(socket.address, socket.parting));
         self.note(&Note::Close(socket.number));
     }
 
@@ -193,16 +265,31 @@ impl<R: Net<Listener = TcpListener, Stream = net::TcpStream>> Wire for NetWire<'
     }
 }
 
-// The next connection, made one that doesn't wait.
-fn accept_from(listener: &TcpListener) -> io::Result<(TcpStream, SocketAddr)> {
-    let (stream, address) = listener.accept()?;
-    stream.set_nonblocking(true)?;
-    Ok((TcpStream::from_std(stream), address))
-}
-
 // Whether a call would have to wait.
 fn is_not_yet(kind: ErrorKind) -> bool {
     matches!(kind, ErrorKind::WouldBlock | ErrorKind::Interrupted)
+}
+
+// What a fault of `accept` is.
+#[derive(Clone, Copy, Debug, PartialEq, Eq)]
+enum AcceptFault {
+    // It is one of the connection that came, which is gone then; or none came.
+    OfOne,
+    // There is no descriptor or no memory for the one that waits.
+    Wanting,
+    // It is one of the listener.
+    OfAll,
+}
+
+fn accept_fault_of(error: &io::Error) -> AcceptFault {
+    match error.raw_os_error() {
+        // Errors without a kind: EPERM, ENONET, EPROTO, ENOPROTOOPT, EOPNOTSUPP, EHOSTDOWN.
+        Some(1 | 64 | 71 | 92 | 95 | 112) => AcceptFault::OfOne,
+        // ENOMEM, ENFILE, EMFILE, ENOBUFS.
+        Some(12 | 23 | 24 | 105) => AcceptFault::Wanting,
+        _ if is_of_one_connection(error.kind()) => AcceptFault::OfOne,
+        _ => AcceptFault::OfAll,
+    }
 }
 
 // Whether a fault of `accept` is one of the connection that came, which is gone then, and not one of the listener.
@@ -215,5 +302,6 @@ fn is_of_one_connection(kind: ErrorKind) -> bool {
                 | ErrorKind::HostUnreachable
                 | ErrorKind::NetworkUnreachable
                 | ErrorKind::NetworkDown
+                | ErrorKind::TimedOut
         )
 }

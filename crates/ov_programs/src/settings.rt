@@ -51,11 +51,16 @@ pub struct CacheSettings {
     pub intervals: Intervals,
     /// After how many seconds the list is read again, if it is.
     pub reread: Option<u32>,
+    /// Whether it writes a log.
+    pub log: bool,
+    /// After how many seconds the log gets a status line, if it does.
+    pub status: Option<u32>,
 }
 
 impl CacheSettings {
     /// The settings that the octets of a file tell: `listen`, `csv` and `session`, and `other_session`, `refresh`, `retry`
-    /// and `expire` where they aren't the usual ones, and `reread`. Keys of other names are passed over.
+    /// and `expire` where they aren't the usual ones, and `reread`, `log` and
+    /// `status`. Keys of other names are passed over.
     pub fn read(alloc: Global, octets: &[u8]) -> Result<CacheSettings, SettingsFault>
         ensures intervals { IfOk result (λ settings. are_lawful settings.intervals ≡ true) }
         ensures reread { IfOk result (λ settings. IfSome settings.reread (λ seconds. 1 ≤ seconds)) }
@@ -72,6 +77,8 @@ impl CacheSettings {
         let other_session = other_session_of(&table)?;
         let intervals = intervals_of(&table)?;
         let reread = seconds_of(&table, "reread")?;
+        let log = has_log(&table)?;
+        let status = seconds_of(&table, "status")?;
         Ok(CacheSettings {
             listen,
             csv,
@@ -79,6 +86,8 @@ impl CacheSettings {
             other_session,
             intervals,
             reread,
+            log,
+            status,
         })
     }
 }
@@ -168,5 +177,16 @@ fn seconds_of(table: &Table, key: &str) -> Result<Option<u32>, SettingsFault>
     match number_of(table, key)? {
         Some(0) => Err(SettingsFault::Settings),
         seconds => Ok(seconds),
+    }
+}
+
+// Whether there is to be a log: none where the key isn't there.
+fn has_log(table: &Table) -> Result<bool, SettingsFault> {
+    let Some(value) = table.get("log") else {
+        return Ok(false);
+    };
+    match value.as_bool() {
+        Some(log) => Ok(log),
+        None => Err(SettingsFault::Settings),
     }
 }

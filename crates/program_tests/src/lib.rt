@@ -3,6 +3,8 @@
 #![tactic(auto)]
 
 #[cfg(test)]
+mod day;
+#[cfg(test)]
 mod loopback;
 #[cfg(test)]
 mod memory_wire;
@@ -10,5 +12,7 @@ mod memory_wire;
 mod other_session;
 #[cfg(test)]
 mod rereads;
+#[cfg(test)]
+mod stage;
 #[cfg(test)]
 mod statuses;

@@ -1,15 +1,13 @@
 //! Each text of `ovcache` with its exit status.
 
+use crate::stage::{Stage, path_of};
 use ov_programs::main_cache;
-use std::alloc::{Alloc, AllocGlobal, Allocator, Global};
-use std::fs::{Metadata, OpenOptions};
-use std::io::{self, ErrorKind};
-use std::net::{Net, SocketAddr, TcpListener, TcpStream};
+use std::alloc::AllocGlobal;
+use std::fs;
+use std::net::{Net, TcpListener, TcpStream};
 use std::os::fd::OwnedFd;
 use std::rt::{Clock, Files};
 use std::test::Fail;
-use std::time::Duration;
-use std::{env, fs, process};
 
 const LIST: &str = "ASN,IP Prefix,Max Length,Trust Anchor\nAS65002,10.0.0.0/16,24,ta\n";
 
@@ -30,14 +28,6 @@ impl Ended {
             && self.output.is_empty()
             && self.errors.as_slice() == errors.as_bytes()
     }
-}
-
-// A path of this process alone.
-fn path_of(rt: &HostRuntime, name: &str) -> Result<String, Fail> {
-    let number = process::id(rt.process());
-    let mut path = env::temp_dir(rt)?;
-    path.push(format!(in rt.alloc(); "ovcache-{number}-{name}")?.as_str())?;
-    Ok(String::from_str(rt.alloc(), path.as_str())?)
 }
 
 fn run<R>(rt: &R, words: &[&str]) -> Result<Ended, Fail>
@@ -90,15 +80,16 @@ fn wrong_words_are_arguments(rt: HostRuntime) -> Result<(), Fail> {
 }
 
 // Settings but for the list's path.
-const GOOD_SETTINGS: [&str; 5] = [
+const GOOD_SETTINGS: [&str; 6] = [
     SETTINGS,
     "session = 0\nlisten = \"127.0.0.1:0\"\nrefresh = 1\nretry = 7200\nexpire = 172800\n",
     "session = 65535\nlisten = \"127.0.0.1:0\"\nother = [1]\n[table]\nsession = \"no\"\n",
     "session = \"clock\"\nlisten = \"127.0.0.1:0\"\nother_session = \"reset\"\n",
     "session = 7\nlisten = \"127.0.0.1:0\"\nother_session = \"report\"\n",
+    "session = 7\nlisten = \"127.0.0.1:0\"\nreread = 1\nlog = false\nstatus = 4294967295\n",
 ];
 
-const BAD_SETTINGS: [&str; 18] = [
+const BAD_SETTINGS: [&str; 24] = [
     "listen = \"127.0.0.1:0\"\nsession = 7\nno toml",
     "listen = \"127.0.0.1:0\"\n",
     "session = 7\n",
@@ -117,6 +108,12 @@ const BAD_SETTINGS: [&str; 18] = [
     "listen = \"127.0.0.1:0\"\nsession = 7\nexpire = 599\n",
     "listen = \"127.0.0.1:0\"\nsession = 7\nexpire = 4294967896\n",
     "listen = \"127.0.0.1:0\"\nsession = 7\nrefresh = 7200\nexpire = 7200\n",
+    "listen = \"127.0.0.1:0\"\nsession = 7\nreread = 0\n",
+    "listen = \"127.0.0.1:0\"\nsession = 7\nreread = \"10\"\n",
+    "listen = \"127.0.0.1:0\"\nsession = 7\nreread = 4294967296\n",
+    "listen = \"127.0.0.1:0\"\nsession = 7\nlog = \"yes\"\n",
+    "listen = \"127.0.0.1:0\"\nsession = 7\nlog = 1\n",
+    "listen = \"127.0.0.1:0\"\nsession = 7\nlog = true\nstatus = 0\n",
 ];
 
 #[test]
@@ -159,94 +156,6 @@ fn a_file_that_cant_be_read_is_a_device(rt: HostRuntime) -> Result<(), Fail> {
     Ok(())
 }
 
-// A host at which no connection can be accepted: what listens is a socket of a connection.
-#[derive(Clone, Copy, Drop)]
-struct Deaf<'a>(&'a HostRuntime);
-
-impl Net for Deaf<'_> {
-    type Stream = TcpStream;
-
-    type Listener = TcpListener;
-
-    fn bind(&self, addr: SocketAddr) -> io::Result<TcpListener> {
-        let listener = self.0.bind(addr)?;
-        let connected = self.0.connect(listener.local_addr()?)?;
-        Ok(TcpListener::from(OwnedFd::from(connected)))
-    }
-
-    fn connect(&self, addr: SocketAddr) -> io::Result<TcpStream> {
-        self.0.connect(addr)
-    }
-}
-
-impl Alloc for Deaf<'_> {
-    type A = Global;
-
-    fn alloc(&self) -> Global {
-        self.0.alloc()
-    }
-}
-
-impl Clock for Deaf<'_> {
-    fn monotonic(&self) -> io::Result<Duration> {
-        self.0.monotonic()
-    }
-
-    fn since_1970(&self) -> io::Result<Duration> {
-        self.0.since_1970()
-    }
-}
-
-fn none<T>() -> io::Result<T> {
-    Err(io::Error::from(ErrorKind::Unsupported))
-}
-
-impl Files for Deaf<'_> {
-    type File = <HostRuntime as Files>::File;
-
-    type Dir = <HostRuntime as Files>::Dir;
-
-    fn open_file(&self, how: &OpenOptions, path: &str) -> io::Result<Self::File> {
-        self.0.open_file(how, path)
-    }
-
-    fn open_dir(&self, path: &str) -> io::Result<Self::Dir> {
-        self.0.open_dir(path)
-    }
-
-    fn metadata(&self, path: &str) -> io::Result<Metadata> {
-        self.0.metadata(path)
-    }
-
-    fn symlink_metadata(&self, path: &str) -> io::Result<Metadata> {
-        self.0.symlink_metadata(path)
-    }
-
-    fn copy(&self, _from: &str, _to: &str) -> io::Result<u64> {
-        none()
-    }
-
-    fn rename(&self, _from: &str, _to: &str) -> io::Result<()> {
-        none()
-    }
-
-    fn remove_file(&self, _path: &str) -> io::Result<()> {
-        none()
-    }
-
-    fn create_dir(&self, _path: &str) -> io::Result<()> {
-        none()
-    }
-
-    fn remove_dir(&self, _path: &str) -> io::Result<()> {
-        none()
-    }
-
-    fn remove_dir_all<B: Allocator>(&self, _alloc: B, _path: &str) -> io::Result<()> {
-        none()
-    }
-}
-
 #[test]
 fn a_turn_that_cant_accept_is_a_device(rt: HostRuntime) -> Result<(), Fail> {
     let list_path = path_of(&rt, "deaf.csv")?;
@@ -254,8 +163,13 @@ fn a_turn_that_cant_accept_is_a_device(rt: HostRuntime) -> Result<(), Fail> {
     fs::write(&rt, list_path.as_str(), LIST)?;
     let text = format!(in rt.alloc(); "csv = \"{list_path}\"\n{SETTINGS}")?;
     fs::write(&rt, settings_path.as_str(), text.as_str())?;
-    let without = run(&Deaf(&rt), &[settings_path.as_str(), "0"])?;
-    let with = run(&Deaf(&rt), &[settings_path.as_str(), "1"])?;
+    let listener = TcpListener::bind(&rt, "127.0.0.1:0")?;
+    let connected = TcpStream::connect(&rt, listener.local_addr()?)?;
+    // What listens is a socket of a connection.
+    let deaf = TcpListener::from(OwnedFd::from(connected));
+    let stage = Stage::new(&rt, &deaf, &[]);
+    let without = run(&stage, &[settings_path.as_str(), "0"])?;
+    let with = run(&stage, &[settings_path.as_str(), "1"])?;
     fs::remove_file(&rt, list_path.as_str())?;
     fs::remove_file(&rt, settings_path.as_str())?;
     assert!(rt; without.is(0, ""));
