@@ -38,14 +38,15 @@ abbrev pub is_passive : Mode → Bool
 is_passive Passive = true
 is_passive Active = false
 
--- an external peer that connects, an address of our own that it can have as next hop (RFC 4271 section 6.3), a hold time
--- that RFC 4271 section 4.2 allows, and names
+-- an external peer that connects, an address of our own that it can have as next hop, so not its own (RFC 4271 sections
+-- 5.1.3 and 6.3), a hold time that RFC 4271 section 4.2 allows, and names
 abbrev pub is_in_range : Asn → PeerConf → Bool
 is_in_range own peer =
     not (peer.asn.0 == 0)
     && not (peer.asn.0 == own.0)
     && is_passive peer.mode
     && is_host peer.local
+    && not (peer.local == peer.address)
     && not (peer.hold == 1)
     && not (peer.hold == 2)
     && is_policy_name peer.import.now

@@ -209,6 +209,7 @@ impl<A: Allocator + Clone> Conf<A> {
             && peer.asn.0 != self.own.0
             && peer.mode == Mode::Passive
             && is_host(peer.local)
+            && peer.local != peer.address
             && peer.hold != 1
             && peer.hold != 2
             && is_policy_name(peer.import)

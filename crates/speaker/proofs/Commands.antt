@@ -13,7 +13,7 @@ use Rattle.bgp_conf.specs.declared.command.Command.TheVariants.{AddPeer, Enable,
 use Rattle.bgp_conf.specs.declared.command.PeerConf.{PeerConf}
 use Rattle.bgp_conf.specs.declared.conf.ConfiguredPeer.{ConfiguredPeer}
 use Rattle.bgp_conf.specs.declared.refusal.Refusal.{Refusal}
-use Rattle.bgp_conf.proofs.Accepted.{external-from_accepted, is_host-from_accepted, peer_at-from_accepted, slot-from_accepted}
+use Rattle.bgp_conf.proofs.Accepted.{apart-from_accepted, external-from_accepted, is_host-from_accepted, peer_at-from_accepted, slot-from_accepted}
 use Rattle.bgp_fsm.specs.SessionTable.{effects_of}
 use Rattle.bgp_fsm.specs.StateTests.{is_established, is_message}
 use Rattle.bgp_fsm.specs.Transports.{transport_of}
@@ -168,6 +168,7 @@ is_taken config r slot peer s h may = record {
   within = slot-from_accepted s.conf 0 slot peer may;
   external = ap (λ (own : Asn). peer.asn.0 == own.0) (sym (own_is config r) ∙ ap (λ (c : Configuration). c.own) (sym h.conf)) ∙ external-from_accepted s.conf 0 slot peer may;
   local = is_host-from_accepted s.conf 0 slot peer may;
+  apart = apart-from_accepted s.conf 0 slot peer may;
 }
 
 -- a new peer

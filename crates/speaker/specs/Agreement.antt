@@ -97,10 +97,12 @@ IsThrifty config [] = Unit {0}
 IsThrifty config (now ∷ r) = AreOwed config now.call r now.queued × IsThrifty config r
 
 -- a peer that was accepted: it has one of the 64 slots, is in another AS than ours, and sees of us the address of a host
+-- that isn't its own
 pub record IsTaken (own : Asn) (slot : ℕ) (peer : ConfiguredPeer) : Type 0 where
   pub within : slot < 64
   pub external : (peer.asn.0 == own.0) ≡ false
   pub local : is_host peer.local ≡ true
+  pub apart : (peer.local == peer.address) ≡ false
 
 -- our AS is no 0, and each peer was accepted
 abbrev pub AreTaken : Asn → Configuration → Type 0

@@ -115,6 +115,8 @@ refused 33
 refused 33
 > peer 2 65003 192.0.2.13 224.0.0.1 passive 180 all all
 refused 33
+> peer 2 65003 192.0.2.13 192.0.2.13 passive 180 all all
+refused 33
 > peer 2 65003 192.0.2.13 192.0.2.1 passive 2 all all
 refused 33
 > peer 2 65003 192.0.2.13 192.0.2.1 passive 1 all all

@@ -21,6 +21,13 @@ returns-in_ok-insert-in-AddPeer-clause-addresses g c =
     free_address
     differ
 
+pub returns-in_err-insert-in-AddPeer-clause-addresses :
+    goal.returns-in_err-insert-in-AddPeer-clause-addresses
+returns-in_err-insert-in-AddPeer-clause-addresses g c =
+    λ closing accepted differ.
+    let before = rw (← c.self.view_is) at differ in
+    rw c.in_err-insert-in-AddPeer.ensures.err before
+
 pub returns-in_err-insert-in-Reach-clause-addresses :
     goal.returns-in_err-insert-in-Reach-clause-addresses
 returns-in_err-insert-in-Reach-clause-addresses g c =
