@@ -2,7 +2,7 @@
 ghost use Rattle.std.specs.Prelude.{◌≡◌, ◌↔◌, IfOk, None, length};
 ghost use Rattle.cache_turns.specs.Turns.{TakesTurn};
 ghost use Rattle.vrp_delta.specs.Versions.{newest_serial};
-ghost use Rattle.ov_programs.specs.Rereads.{Publishes, Rereads, text_of};
+ghost use Rattle.ov_programs.specs.Rereads.{Publishes, Rereads};
 
 use crate::reread::{ListFault, Reread};
 use cache_turns::{CacheLoop, LoopFault, Wire};
@@ -59,7 +59,7 @@ impl<W: Wire + Drop> ServedList<W> {
     /// Takes the list of a file that was opened again. A list that can't be had changes nothing, and one that is served
     /// already publishes nothing.
     pub fn reread<L: Read + Drop>(&mut self, alloc: Global, file: io::Result<L>) -> Reread
-        ensures { Rereads (text_of L.remaining file) self.old result self.new }
+        ensures { Rereads L.remaining file self.old result self.new }
     {
         let Ok(file) = file else {
             return Reread::Refused(ListFault::NoFile);
