@@ -1,7 +1,8 @@
 //! IPv4 prefixes, AS numbers and payloads: their order, their cover, their octets and their text.
 //!
 //! One prefix covers another where it is no longer and both addresses, divided by 2^(32 - length), give one
-//! quotient (RFC 6811 section 2). `read_prefix` reads the octets of RFC 4271 section 4.3 and `Prefix::parse` the
+//! quotient (RFC 6811 section 2). What a prefix covers is one stretch of the order, which it begins, and of two that
+//! cover a third one covers the other. `read_prefix` reads the octets of RFC 4271 section 4.3 and `Prefix::parse` the
 //! text of RFC 4632 section 3.1; each says exactly which fault comes when, and reads back what `to_octets` and
 //! `Display` write. A `Vrp` is a validated payload, whose maximum length lies between the prefix length and 32; a
 //! set of payloads is a `BTreeSet<Vrp>`, by prefix, maximum length and AS. No call takes memory, and there are no
