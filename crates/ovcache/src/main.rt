@@ -1,7 +1,8 @@
 //! Serves a payload list to routers: `ovcache SETTINGS TURNS`.
 //!
 //! Exit status 0 after the turns; 1 where the words, the settings or the list are refused; 2 where a file, the network
-//! or the clock fails, or where memory is wanting. What was wrong stands on standard error.
+//! or the clock fails, or where memory is wanting. What was wrong stands on standard error. Where the settings ask for a
+//! log, it stands on standard output.
 #![tactic(auto)]
 
 use ov_programs::main_cache;
