@@ -1,7 +1,12 @@
 -- What a value that is put or taken out below a node makes of the node.
-use Rattle.std.proofs.Common.{◌≡◌, ℕ, ◌+◌, ◌%◌, ◌<◌, ◌≤◌, ◌++◌, Bool, true, false, cond, List, [], ◌∷◌, Option, None, Some, Result, Ok, Err, is_ok, IfOk, OnErr, refl, sym, ap, subst, ◌∙◌, append-nil, arith, rules}
+use Rattle.std.proofs.Common.{◌≡◌, ℕ, ◌+◌, ◌%◌, ◌<◌, ◌≤◌, ◌++◌, Bool, true, false, cond, List, [], ◌∷◌, Option, None, Some, Result, Ok, Err, is_ok, IfOk, OnErr, refl, sym, ap, subst, ◌∙◌, append-nil, length, arith}
 use Rattle.std.specs.declared.alloc.AllocFailed.{AllocFailed}
+use Rattle.std.proofs.lemmas.List.{length-append}
 use Rattle.std.specs.List.Sorted.{IsStrictlySortedBy}
+use Rattle.std.specs.Ordering.{match_ordering}
+use Rattle.std.specs.declared.cmp.Ordering.{Ordering}
+use Rattle.std.specs.declared.cmp.Ordering.TheVariants.{Less, Equal, Greater}
+use Rattle.net_prefix.specs.PrefixOrder.{prefix_cmp}
 use Rattle.net_prefix.specs.Cover.{block_size}
 use Rattle.net_prefix.specs.declared.prefix.Prefix.{Prefix}
 use Rattle.prefix_trie.specs.Nodes.{here, all_of, EachIs, AreParts, AreSides, IsInserted, IsPut, IsRemoved, RootIs}
@@ -59,6 +64,27 @@ module _ {V : Type 0} where
   each_if P true k v es new p h e = subst (EachIs P) (sym e) (each_with P k v es p h)
   each_if P false k v es new p h e = subst (EachIs P) (sym e) h
 
+  some_case : (k : Prefix) (v : V) (x : Prefix × V) (es more : List (Prefix × V)) (r : Ordering) → 0 < length (match_ordering r ((k, v) ∷ x ∷ es) ((x.0, v) ∷ es) (x ∷ more))
+  some_case k v x es more Less = omega arith
+  some_case k v x es more Equal = omega arith
+  some_case k v x es more Greater = omega arith
+
+  some_with : (k : Prefix) (v : V) (es : List (Prefix × V)) → 0 < length (with_entry es k v)
+  some_with k v [] = omega arith
+  some_with k v (x ∷ es) = some_case k v x es (with_entry es k v) (prefix_cmp k x.0)
+
+  some_if : (b : Bool) (k : Prefix) (v : V) (es new : List (Prefix × V)) → 0 < length es → new ≡ cond b (with_entry es k v) es → 0 < length new
+  some_if true k v es new h e = rw e (some_with k v es)
+  some_if false k v es new h e = rw e h
+
+  -- there is an entry where there is a node
+  pub some_all : (p : Prefix) (w : Option V) (low high : Shape V) → AreParts p w low high → 0 < length (all_of p w low high)
+  some_all p None low high parts =
+      let sides = parts.full refl in
+      let both = length-append low.entries high.entries in
+      omega (arith, sides.0)
+  some_all p (Some v) low high parts = omega arith
+
   -- a value that is put in a half leaves a node
   pub parts_low : (r : Result (Option V) (AllocFailed V)) (p : Prefix) (w : Option V) (k : Prefix) (v : V) (low new high : Shape V) → AreParts p w low high → IsLow p k → IsInserted r low new k v → AreParts p w new high
   parts_low r p w k v low new high parts at put = record {
@@ -67,7 +93,7 @@ module _ {V : Type 0} where
     low_root = put.inside p.bits (p.len + 1) (bits_whole p (p.len + 1) (omega arith)) at parts.low_root;
     high_root = parts.high_root;
     rising = rising_if (is_ok r) k v (all_of p w low high) (all_of p w new high) parts.rising (low_all (is_ok r) p w k v low new high parts at put.entries);
-    full = λ e. let sides = parts.full e in (put.kept sides.0, sides.1);
+    full = λ e. let sides = parts.full e in (some_if (is_ok r) k v low.entries new.entries sides.0 put.entries, sides.1);
   }
 
   pub parts_high : (r : Result (Option V) (AllocFailed V)) (p : Prefix) (w : Option V) (k : Prefix) (v : V) (low high new : Shape V) → AreParts p w low high → IsHigh p k → IsInserted r high new k v → AreParts p w low new
@@ -77,7 +103,7 @@ module _ {V : Type 0} where
     low_root = parts.low_root;
     high_root = put.inside (middle p) (p.len + 1) (middle_whole p (p.len + 1) (omega arith)) at parts.high_root;
     rising = rising_if (is_ok r) k v (all_of p w low high) (all_of p w low new) parts.rising (high_all (is_ok r) p w k v low high new parts at put.entries);
-    full = λ e. let sides = parts.full e in (sides.0, put.kept sides.1);
+    full = λ e. let sides = parts.full e in (sides.0, some_if (is_ok r) k v high.entries new.entries sides.1 put.entries);
   }
 
   if_ok : (r : Result (Option V) (AllocFailed V)) (x y : Option V) → x ≡ y → IfOk r (λ before. before ≡ x) → IfOk r (λ before. before ≡ y)
@@ -122,7 +148,6 @@ module _ {V : Type 0} (d s : Shape V) (p : Prefix) (w : Option V) (low high : Sh
     absent = tt;
     returned = tt;
     inside = λ base len whole at h. root_stays (IsInside base len) root h;
-    kept = λ h. rw root (search rules);
   }
 
   pub inserted_low : (r : Result (Option V) (AllocFailed V)) (k : Prefix) (v : V) (new : Shape V) → IsLow p k → IsInserted r low new k v → s.entries ≡ all_of p w new high → s.root ≡ Some p → IsInserted r d s k v
@@ -134,7 +159,6 @@ module _ {V : Type 0} (d s : Shape V) (p : Prefix) (w : Option V) (low high : Sh
         absent = on_err r _ _ (sym same) put.absent;
         returned = put.returned;
         inside = λ base len whole i h. root_stays (IsInside base len) root h;
-        kept = λ h. rw root (search rules);
       }
 
   pub inserted_high : (r : Result (Option V) (AllocFailed V)) (k : Prefix) (v : V) (new : Shape V) → IsHigh p k → IsInserted r high new k v → s.entries ≡ all_of p w low new → s.root ≡ Some p → IsInserted r d s k v
@@ -146,12 +170,14 @@ module _ {V : Type 0} (d s : Shape V) (p : Prefix) (w : Option V) (low high : Sh
         absent = on_err r _ _ (sym same) put.absent;
         returned = put.returned;
         inside = λ base len whole i h. root_stays (IsInside base len) root h;
-        kept = λ h. rw root (search rules);
       }
 
 module _ {V : Type 0} (d o : Shape V) (p : Prefix) (w : Option V) (low high : Shape V) (seen : IsSeen d p w low high) (again : IsSeen o p w low high) (parts : AreParts p w low high) where
   old_all : o.entries ≡ d.entries
   old_all = again.entries ∙ sym seen.entries
+
+  some_old : 0 < length o.entries
+  some_old = rw again.entries (some_all p w low high parts)
 
   rises : IsRising d.entries
   rises = rw seen.entries parts.rising
@@ -211,7 +237,7 @@ module _ {V : Type 0} (d o : Shape V) (p : Prefix) (w : Option V) (low high : Sh
     low_root = low_at;
     high_root = rw again.root high_at;
     rising = rises_before k v (before_rank p k before);
-    full = λ e. (refl, rw again.root refl);
+    full = λ e. (omega arith, some_old);
   }
 
   pub parts_behind : (k : Prefix) (v : V) (f : Prefix) → end_of p ≤ k.bits → IsLow f p → IsHigh f k → AreParts {V = V} f None o (one_shape k v)
@@ -221,7 +247,7 @@ module _ {V : Type 0} (d o : Shape V) (p : Prefix) (w : Option V) (low high : Sh
     low_root = rw again.root low_at;
     high_root = high_at;
     rising = rises_behind k v behind;
-    full = λ e. (rw again.root refl, refl);
+    full = λ e. (some_old, omega arith);
   }
 
   inserted_put : (r : Result (Option V) (AllocFailed V)) (k : Prefix) (v : V) (s : Shape V) (f : Prefix) (es : List (Prefix × V)) → IsPut r o s v f es → es ≡ with_entry d.entries k v → found o.entries k ≡ None
@@ -232,7 +258,6 @@ module _ {V : Type 0} (d o : Shape V) (p : Prefix) (w : Option V) (low high : Sh
     absent = tt;
     returned = tt;
     inside = λ base len whole i h. rw put.2 (at base len whole i (rw seen.root at h));
-    kept = λ h. rw put.2 refl;
   }
   inserted_put (Err failed) k v s f es put are none at = record {
     entries = ap (λ (x : Shape V). x.entries) put.1 ∙ old_all;
@@ -240,7 +265,6 @@ module _ {V : Type 0} (d o : Shape V) (p : Prefix) (w : Option V) (low high : Sh
     absent = sym (ap (λ xs. found xs k) old_all) ∙ none;
     returned = put.0;
     inside = λ base len whole i h. rw (put.1, again.root) (rw seen.root at h);
-    kept = λ h. rw (put.1, again.root) refl;
   }
 
   pub inserted_over_low : (r : Result (Option V) (AllocFailed V)) (k : Prefix) (v : V) (s : Shape V) → IsLow k p → IsPut r o s v k (all_of k (Some v) o no_shape) → IsInserted r d s k v

@@ -9,4 +9,5 @@ pub mod Forks
 pub mod Firsts
 pub mod MarkBits
 pub mod Nexts
+pub mod Partings
 pub mod Updates

@@ -17,7 +17,7 @@ module _ {V : Type 0} (step : V → V → Type 0) (b : Bool) where
       → ((o ≡ None) × (b ≡ false) × (new ≡ low)) ⊎ ((v : V) × (x : V) × (o ≡ Some v) × step v x × (b ≡ true) × IsInserted (Ok (Some v)) low new k x)
   as_insert None low new k is u root = inl (refl, u.0, shape_same new low u.1 root)
   as_insert (Some v) low new k is u root =
-      inr (v, u.1.0, refl, u.1.1, u.0, record { entries = u.1.2; before = is; absent = tt; returned = tt; inside = λ base len w i h. rw root h; kept = λ h. rw root h })
+      inr (v, u.1.0, refl, u.1.1, u.0, record { entries = u.1.2; before = is; absent = tt; returned = tt; inside = λ base len w i h. rw root h })
 
   pub parts_low_updated : (p : Prefix) (w : Option V) (k : Prefix) (low new high : Shape V) → AreParts p w low high → IsLow p k → IsUpdated step b low new k → AreParts p w new high
   parts_low_updated p w k low new high parts at u =

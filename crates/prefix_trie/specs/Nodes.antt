@@ -1,5 +1,5 @@
 -- What a node of a trie is seen as, and what holds of it.
-use Rattle.std.specs.Prelude.{ℕ, ◌≡◌, ◌-◌, ◌++◌, Bool, true, false, List, [], ◌∷◌, Option, None, Some, IsSome, Result, MatchResult, IfOk, OnErr, IfErr, is_ok, cond, ◌%◌}
+use Rattle.std.specs.Prelude.{ℕ, ◌≡◌, ◌-◌, ◌<◌, ◌++◌, Bool, true, false, List, [], ◌∷◌, Option, None, Some, Result, MatchResult, IfOk, OnErr, IfErr, is_ok, cond, length, ◌%◌}
 use Rattle.std.specs.declared.alloc.AllocFailed.{AllocFailed}
 use Rattle.std.specs.List.{AllByRecursion, list_any}
 use Rattle.net_prefix.specs.Cover.{block_size}
@@ -37,8 +37,7 @@ EachIs P entries = AllByRecursion (λ e. P e.0) entries
 abbrev pub any_meets : {V M : Type 0} → (V → M) → (M → M → Bool) → List (Prefix × V) → M → Bool
 any_meets marks_of meet entries marks = list_any (λ e. meet (marks_of e.1) marks) entries
 
--- what holds of the parts of a node: each side is in its half, the entries rise, and a node without a value has two
--- sides
+-- what holds of the sides of a node: each is in its half, and the entries rise
 pub record AreSides {V : Type 0} (p : Prefix) (v : Option V) (low high : Shape V) : Type 0 where
   pub low_entries : EachIs (IsLow p) low.entries
   pub high_entries : EachIs (IsHigh p) high.entries
@@ -46,13 +45,14 @@ pub record AreSides {V : Type 0} (p : Prefix) (v : Option V) (low high : Shape V
   pub high_root : RootIs (IsHigh p) high.root
   pub rising : IsRising (all_of p v low high)
 
+-- the same, and a node without a value has entries on both sides
 pub record AreParts {V : Type 0} (p : Prefix) (v : Option V) (low high : Shape V) : Type 0 where
   pub low_entries : EachIs (IsLow p) low.entries
   pub high_entries : EachIs (IsHigh p) high.entries
   pub low_root : RootIs (IsLow p) low.root
   pub high_root : RootIs (IsHigh p) high.root
   pub rising : IsRising (all_of p v low high)
-  pub full : v ≡ None → IsSome low.root × IsSome high.root
+  pub full : v ≡ None → (0 < length low.entries) × (0 < length high.entries)
 
 -- what a node is seen as
 abbrev pub shape : {V A M : Type 0} → Link V A M → Shape V
@@ -79,7 +79,6 @@ pub record IsInserted {V : Type 0} (result : Result (Option V) (AllocFailed V)) 
   pub absent : OnErr result (found old.entries p ≡ None)
   pub returned : IfErr result (λ failed. failed.value ≡ v)
   pub inside : (base len : ℕ) → base % block_size len ≡ 0 → IsInside base len p → RootIs (IsInside base len) old.root → RootIs (IsInside base len) new.root
-  pub kept : IsSome old.root → IsSome new.root
 
 -- the value at a prefix was taken out
 pub record IsRemoved {V : Type 0} (result : Option V) (old new : Shape V) (p : Prefix) : Type 0 where

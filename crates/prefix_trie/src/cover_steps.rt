@@ -1,6 +1,6 @@
 //! Walks down a trie to the entries that cover a prefix, and to those that it covers.
 ghost use Rattle.std.specs.Prelude.{◌≡◌, ◌≤◌, ◌+◌, ◌++◌, [], None, length, option_map, option_to_list};
-ghost use Rattle.prefix_trie.specs.CoverWalks.{all_covered, all_covering, covering_in, depth_in};
+ghost use Rattle.prefix_trie.specs.CoverWalks.{all_covered, all_covering, covering_in, depth_in, nodes_in, nodes_towards};
 ghost use Rattle.prefix_trie.specs.Nodes.{depth, here};
 ghost use Rattle.prefix_trie.specs.TrieWalks.{left_in, seen};
 
@@ -26,6 +26,8 @@ impl<V: Marked, A: Allocator> Tree<V, A> {
     pub(crate) fn next_covering(&self, key: Prefix) -> Step<'_, V, A>
         ensures covering { all_covering key self.now.entries ≡ option_to_list (option_map seen result.entry) ++ covering_in key result.below }
         ensures none { result.entry ≡ None → covering_in key result.below ≡ [] }
+        ensures nodes { nodes_towards key self.now.entries ≡ result.visited + nodes_in key result.below }
+        ensures over { result.entry ≡ None → nodes_in key result.below ≡ 0 }
         ensures few { result.visited + depth_in result.below ≤ depth self.now.root }
         ensures counted { length (option_to_list (option_map seen result.entry)) ≤ result.visited }
     {

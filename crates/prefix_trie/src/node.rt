@@ -1,5 +1,5 @@
 //! The nodes of a trie.
-ghost use Rattle.std.specs.Prelude.{◌≡◌, ◌≤◌, ◌++◌, ◌%◌, ℕ, [], ◌∷◌, None, Some, IfOk, IfErr, OnErr, IsSome, MatchBool, is_ok, if◌then◌else◌};
+ghost use Rattle.std.specs.Prelude.{◌≡◌, ◌≤◌, ◌<◌, ◌++◌, ◌%◌, ℕ, [], ◌∷◌, None, Some, IfOk, IfErr, OnErr, MatchBool, is_ok, length, if◌then◌else◌};
 ghost use Rattle.std.specs.Fn.{FnOnceReturnsAtMut};
 ghost use Rattle.std.specs.Option.{option_copied};
 ghost use Rattle.net_prefix.specs.Cover.{block_size};
@@ -200,7 +200,7 @@ impl<V: Marked, A: Allocator> Tree<V, A> {
     }
 
     fn is_empty(&self) -> bool
-        ensures { MatchBool result (self.now ≡ no_shape) (IsSome self.now.root) }
+        ensures { MatchBool result (self.now ≡ no_shape) (0 < length self.now.entries) }
     {
         matches!(&self.root, Link::Empty)
     }

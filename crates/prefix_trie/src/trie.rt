@@ -3,7 +3,7 @@ ghost use Rattle.std.specs.Prelude.{◌≡◌, ◌^◌, ◌<◌, [], None, lengt
 ghost use Rattle.std.specs.Option.{option_copied};
 ghost use Rattle.prefix_trie.specs.TrieWalks.{all_after, all_marked, first_key};
 ghost use Rattle.std.specs.Fn.{FnOnceReturnsAtMut};
-ghost use Rattle.prefix_trie.specs.CoverWalks.{all_covered, all_covering};
+ghost use Rattle.prefix_trie.specs.CoverWalks.{all_covered, all_covering, nodes_towards};
 ghost use Rattle.prefix_trie.specs.TrieMap.{IsRising, Updates, found, with_entry, without};
 
 use crate::covering::Covering;
@@ -89,6 +89,7 @@ impl<V: Marked, A: Allocator> Trie<V, A> {
     pub fn covering(&self, prefix: &Prefix) -> Covering<'_, V, A>
         ensures left { result.left ≡ all_covering prefix.now self.now }
         ensures visited { result.visited ≡ 0 }
+        ensures nodes_left { result.nodes_left ≡ nodes_towards prefix.now self.now }
     {
         Covering::new(&self.tree, *prefix)
     }

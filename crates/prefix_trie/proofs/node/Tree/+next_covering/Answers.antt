@@ -4,6 +4,7 @@ use Rattle.prefix_trie.specs.Falls.{depth_below}
 use Rattle.prefix_trie.specs.Nodes.{depth, here}
 use Rattle.prefix_trie.proofs.AtNode.{at_node}
 use Rattle.prefix_trie.proofs.Covers.{covering_high, covering_low, covering_outside, covering_same}
+use Rattle.prefix_trie.proofs.Partings.{towards_high, towards_low, towards_empty, towards_outside, towards_same}
 use Rattle.prefix_trie.proofs.node.Tree.+next_covering.Goals as goal
 
 pub next_covering-step-requires : goal.next_covering-step-requires
@@ -94,6 +95,50 @@ returns-in-OverLow g t c =
     record {
       covering = covering_outside c.args.self.now n.prefix n.value n.low n.high f.entries f.parts c.args.key c.place_of.result stands c.in-OverLow.is;
       none = λ e. refl;
+      nodes = towards_outside c.args.self.now n.prefix n.value n.low n.high f.entries f.parts c.args.key c.place_of.result stands c.in-OverLow.is;
+      over = λ e. refl;
       few = omega (arith, own, short);
       counted = omega arith;
     }
+
+pub returns-in-Some-clause-nodes : goal.returns-in-Some-clause-nodes
+returns-in-Some-clause-nodes g t c =
+    let n = c.in-Fork.node.value in
+    let f = at_node g.V.Marked.marks_of g.V.Marks.MarkSet.meet c.self.view_is c.self.invariant c.in-Fork.is in
+    let at = rw (c.in-Low.is, c.deref.ensures) at c.place_of.ensures in
+    rw c.deref-in-Some-2.ensures (towards_low c.args.self.now n.prefix n.value n.low n.high f.entries f.parts c.args.key at)
+
+pub returns-in-None-clause-nodes : goal.returns-in-None-clause-nodes
+returns-in-None-clause-nodes g t c =
+    let n = c.in-Fork.node.value in
+    let f = at_node g.V.Marked.marks_of g.V.Marks.MarkSet.meet c.self.view_is c.self.invariant c.in-Fork.is in
+    let at = rw (c.in-Low.is, c.deref.ensures) at c.place_of.ensures in
+    let own = towards_low c.args.self.now n.prefix n.value n.low n.high f.entries f.parts c.args.key at in
+    let rest = rw c.deref-in-None.ensures at c.next_covering-step.ensures.nodes in
+    omega (arith, own, rest)
+
+pub returns-in-Some-value-clause-nodes : goal.returns-in-Some-value-clause-nodes
+returns-in-Some-value-clause-nodes g t c =
+    let n = c.in-Fork.node.value in
+    let f = at_node g.V.Marked.marks_of g.V.Marks.MarkSet.meet c.self.view_is c.self.invariant c.in-Fork.is in
+    let at = rw (c.in-High.is, c.deref.ensures) at c.place_of.ensures in
+    rw c.deref-in-Some-value-2.ensures (towards_high c.args.self.now n.prefix n.value n.low n.high f.entries f.parts c.args.key at)
+
+pub returns-in-None-value-clause-nodes : goal.returns-in-None-value-clause-nodes
+returns-in-None-value-clause-nodes g t c =
+    let n = c.in-Fork.node.value in
+    let f = at_node g.V.Marked.marks_of g.V.Marks.MarkSet.meet c.self.view_is c.self.invariant c.in-Fork.is in
+    let at = rw (c.in-High.is, c.deref.ensures) at c.place_of.ensures in
+    let own = towards_high c.args.self.now n.prefix n.value n.low n.high f.entries f.parts c.args.key at in
+    let rest = rw c.deref-in-None-value.ensures at c.next_covering-step-in-None-value.ensures.nodes in
+    omega (arith, own, rest)
+
+pub returns-in-Same-clause-nodes : goal.returns-in-Same-clause-nodes
+returns-in-Same-clause-nodes g t c =
+    let n = c.in-Fork.node.value in
+    let f = at_node g.V.Marked.marks_of g.V.Marks.MarkSet.meet c.self.view_is c.self.invariant c.in-Fork.is in
+    let at = rw (c.in-Same.is, c.deref.ensures) at c.place_of.ensures in
+    rw at (towards_same c.args.self.now n.prefix n.value n.low n.high f.entries f.parts)
+
+pub returns-in_default-clause-nodes : goal.returns-in_default-clause-nodes
+returns-in_default-clause-nodes g t c = towards_empty c.args.key c.self.inside.root c.args.self.now c.self.view_is c.in_default.not-Fork
