@@ -4,6 +4,7 @@ pub mod Changes
 pub mod Counts
 pub mod Covered
 pub mod Covers
+pub mod CoverNodes
 pub mod EntryLists
 pub mod Forks
 pub mod Firsts

@@ -42,16 +42,16 @@ other_number x y m l whole_m below above e =
     absurd (omega (arith, high, same))
 
 -- the test of shared bits
-test_yes : (l a b x y : ℕ) → l ≤ a → l ≤ b → x ≡ y → (l == 0 || (nat_le l a && (nat_le l b && (x == y)))) ≡ true
+pub test_yes : (l a b x y : ℕ) → l ≤ a → l ≤ b → x ≡ y → (l == 0 || (nat_le l a && (nat_le l b && (x == y)))) ≡ true
 test_yes l a b x y ha hb e = grind (arith, nat_tests)
 
-test_short : (l a b x y : ℕ) → a < l → (l == 0 || (nat_le l a && (nat_le l b && (x == y)))) ≡ false
+pub test_short : (l a b x y : ℕ) → a < l → (l == 0 || (nat_le l a && (nat_le l b && (x == y)))) ≡ false
 test_short l a b x y h = grind (arith, nat_tests)
 
-test_short_2 : (l a b x y : ℕ) → b < l → (l == 0 || (nat_le l a && (nat_le l b && (x == y)))) ≡ false
+pub test_short_2 : (l a b x y : ℕ) → b < l → (l == 0 || (nat_le l a && (nat_le l b && (x == y)))) ≡ false
 test_short_2 l a b x y h = grind (arith, nat_tests)
 
-test_other : (l a b x y : ℕ) → 0 < l → (x ≡ y → ⊥) → (l == 0 || (nat_le l a && (nat_le l b && (x == y)))) ≡ false
+pub test_other : (l a b x y : ℕ) → 0 < l → (x ≡ y → ⊥) → (l == 0 || (nat_le l a && (nat_le l b && (x == y)))) ≡ false
 test_other l a b x y h n = grind (arith, nat_tests)
 
 test_same : (l a b c x y z : ℕ) → l ≤ b → l ≤ c → y ≡ z → (l == 0 || (nat_le l a && (nat_le l b && (x == y)))) ≡ (l == 0 || (nat_le l a && (nat_le l c && (x == z))))
@@ -60,7 +60,7 @@ test_same l a b c x y z hb hc e =
     let ec : nat_le l c ≡ true = grind (arith, nat_tests) in
     rw (eb, ec, e) refl
 
-test_parts : (l a b x y : ℕ) → 0 < l → (l == 0 || (nat_le l a && (nat_le l b && (x == y)))) ≡ true → (l ≤ a) × (l ≤ b) × (x ≡ y)
+pub test_parts : (l a b x y : ℕ) → 0 < l → (l == 0 || (nat_le l a && (nat_le l b && (x == y)))) ≡ true → (l ≤ a) × (l ≤ b) × (x ≡ y)
 test_parts l a b x y pos h = (grind (arith, nat_tests), grind (arith, nat_tests), grind (arith, nat_tests))
 
 -- the prefix shares as many bits with the third as with the second
@@ -123,7 +123,7 @@ part_elsewhere k p l at other = elim (cases_lt p.len l) [
 ]
 
 -- they share fewer bits where they share some
-fewer : (k p : Prefix) (l : ℕ) → share_bits (l + 1) k p ≡ true → share_bits l k p ≡ true
+pub fewer : (k p : Prefix) (l : ℕ) → share_bits (l + 1) k p ≡ true → share_bits l k p ≡ true
 fewer k p zero h = refl
 fewer k p (suc l) h =
     let parts = test_parts (suc l + 1) k.len p.len (k.bits / block_size (suc l + 1)) (p.bits / block_size (suc l + 1)) (omega arith) h in
@@ -133,7 +133,7 @@ fewer k p (suc l) h =
     test_yes (suc l) k.len p.len (k.bits / block_size (suc l)) (p.bits / block_size (suc l)) (omega (arith, parts.0)) (omega (arith, parts.1)) (half k.bits ∙ ap (λ n. n / 2) parts.2 ∙ sym (half p.bits))
 
 -- how many numbers of a row pass a test
-abbrev passing : (ℕ → Bool) → ℕ → ℕ → ℕ
+abbrev pub passing : (ℕ → Bool) → ℕ → ℕ → ℕ
 passing f a n = length (filter f (range_with_len a n))
 
 same_case : (b c : Bool) (a : ℕ) (xs ys : List ℕ) → b ≡ c → length xs ≡ length ys → length (cond b (a ∷ xs) xs) ≡ length (cond c (a ∷ ys) ys)

@@ -1,5 +1,5 @@
 -- The entries that cover a prefix, and those that it covers (RFC 6811 section 2).
-use Rattle.std.specs.Prelude.{ℕ, ◌+◌, ◌/◌, ◌==◌, ◌&&◌, ◌||◌, Bool, not, List, [], Option, None, Some, filter, length, nat_le}
+use Rattle.std.specs.Prelude.{ℕ, ◌+◌, ◌*◌, ◌/◌, ◌==◌, ◌&&◌, ◌||◌, Bool, not, List, [], Option, None, Some, filter, length, nat_le}
 use Rattle.std.specs.List.{list_any, range_with_len}
 use Rattle.std.specs.Borrow.{Bor}
 use Rattle.net_prefix.specs.Cover.{block_size}
@@ -31,6 +31,20 @@ part_behind len p q = share_bits len p q && not (share_bits (len + 1) p q)
 -- which some of them part from the prefix, whether it has a value or only two sides
 unfoldable pub nodes_towards : {V : Type 0} → Prefix → List (Prefix × V) → ℕ
 nodes_towards prefix entries = length (filter (λ len. list_any (λ e. part_behind len prefix e.0) entries) (range_with_len 0 (prefix.len + 1)))
+
+-- whether the prefix lies in the block of this length and number
+abbrev pub lies_in : ℕ → ℕ → Prefix → Bool
+lies_in len number p = nat_le len p.len && (p.bits / block_size len == number)
+
+-- whether a trie with these entries has a node at that block: one of them is there, or both its halves have some
+abbrev pub is_node : {V : Type 0} → ℕ → ℕ → List (Prefix × V) → Bool
+is_node len number entries =
+    list_any (λ e. e.0.len == len && (e.0.bits / block_size len == number)) entries
+    || (list_any (λ e. lies_in (len + 1) (2 * number) e.0) entries && list_any (λ e. lies_in (len + 1) (2 * number + 1) e.0) entries)
+
+-- how many nodes of such a trie cover the prefix
+unfoldable pub nodes_covering : {V : Type 0} → Prefix → List (Prefix × V) → ℕ
+nodes_covering prefix entries = length (filter (λ len. is_node len (prefix.bits / block_size len) entries) (range_with_len 0 (prefix.len + 1)))
 
 -- a walk to the entries that cover a prefix: those still to come, how many nodes were looked at so far, and how many
 -- are still to be looked at

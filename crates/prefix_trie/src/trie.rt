@@ -1,9 +1,9 @@
 //! A map from prefixes to values.
-ghost use Rattle.std.specs.Prelude.{◌≡◌, ◌^◌, ◌<◌, [], None, length, IfOk, IfErr, OnErr, is_ok, if◌then◌else◌};
+ghost use Rattle.std.specs.Prelude.{◌≡◌, ◌+◌, ◌^◌, ◌<◌, ◌≤◌, [], None, length, IfOk, IfErr, OnErr, is_ok, if◌then◌else◌};
 ghost use Rattle.std.specs.Option.{option_copied};
 ghost use Rattle.prefix_trie.specs.TrieWalks.{all_after, all_marked, first_key};
 ghost use Rattle.std.specs.Fn.{FnOnceReturnsAtMut};
-ghost use Rattle.prefix_trie.specs.CoverWalks.{all_covered, all_covering, nodes_towards};
+ghost use Rattle.prefix_trie.specs.CoverWalks.{all_covered, all_covering, nodes_covering, nodes_towards};
 ghost use Rattle.prefix_trie.specs.TrieMap.{IsRising, Updates, found, with_entry, without};
 
 use crate::covering::Covering;
@@ -85,12 +85,16 @@ impl<V: Marked, A: Allocator> Trie<V, A> {
         }
     }
 
-    /// The entries whose prefixes cover the prefix, the shortest first.
+    /// The entries whose prefixes cover the prefix, the shortest first. The walk looks at the nodes that cover it, and
+    /// at one more at most, where the way ends.
     pub fn covering(&self, prefix: &Prefix) -> Covering<'_, V, A>
         ensures left { result.left ≡ all_covering prefix.now self.now }
         ensures visited { result.visited ≡ 0 }
         ensures nodes_left { result.nodes_left ≡ nodes_towards prefix.now self.now }
+        ensures least { nodes_covering prefix.now self.now ≤ result.nodes_left }
+        ensures most { result.nodes_left ≤ nodes_covering prefix.now self.now + 1 }
     {
+        is_address(prefix.bits);
         Covering::new(&self.tree, *prefix)
     }
 
