@@ -1,4 +1,5 @@
--- Reading the list again: a list that can't be had leaves everything as it is, and one that can is published, unless it is the one that is served.
+-- Reading the list again (own): a list that can't be had leaves everything as it is, and one that can is published,
+-- unless it is the one that is served.
 use Rattle.std.specs.Prelude.{◌≡◌, ℕ, true, false, List, Option, Some, None, Result, Ok, Err, length}
 use Rattle.csv.specs.Reading.{default_config, records, strip_bom}
 use Rattle.net_prefix.specs.declared.payload.Vrp.{Vrp}
@@ -47,7 +48,8 @@ pub record HandsIn (set : List Vrp) (old : Served) (under : ℕ) (new : Served) 
   pub serial : new.serial ≡ under
   pub payloads : new.payloads ≡ length set
 
--- what handing in a set has led to: nothing, where there is no memory for it. Where it is the newest one already, the same versions are kept; else it is one more, under the next serial
+-- what handing in a set has led to: nothing, where there is no memory for it. Where it is the newest one already, the
+-- same versions are kept; else it is one more, under the next serial
 abbrev pub Publishes : List Vrp → Served → Reread → Served → Type 0
 Publishes set old (Refused why) new = (why ≡ NoMemory) × (new ≡ old)
 Publishes set old Same new =
@@ -55,7 +57,8 @@ Publishes set old Same new =
 Publishes set old (Published serial) new =
     (is_newest_set (versions old) set ≡ false) × (serial ≡ serial_after (newest_serial (versions old))) × HandsIn set old serial new
 
--- what reading a file that was opened has led to: nothing, since its list can't be had, or the set that it spells was handed in
+-- what reading a file that was opened has led to: nothing, since its list can't be had, or the set that it spells was
+-- handed in
 abbrev pub RereadsFile : Option (List ℕ) → Served → Reread → Served → Type 0
 RereadsFile file old (Refused why) new = IsNoList file why × (new ≡ old)
 RereadsFile file old Same new = (set : List Vrp) × IsSetOfText file set × Publishes set old Same new

@@ -3,9 +3,8 @@
 //! `NetWire` is the wire over which `cache_turns` serves. `main_cache` reads the words exactly (`specs/Words.antt`), and
 //! tells what the operator has to mend from what the system didn't give (`specs/Exits.antt`). `ServedList` takes the list
 //! again while routers are served: one that can't be had changes nothing, and one that is served already publishes
-//! nothing (`specs/Rereads.antt`). That `NetWire` reads and
-//! writes the system's sockets, what files and the clock do, how settings are read, and what is printed, is shown by
-//! tests. Nothing is encrypted, and routers aren't told apart.
+//! nothing (`specs/Rereads.antt`). That `NetWire` reads and writes the system's sockets, what files and the clock do,
+//! how settings are read, and what is printed, is shown by tests. Nothing is encrypted, and routers aren't told apart.
 #![tactic(auto)]
 
 mod every;

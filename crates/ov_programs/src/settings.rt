@@ -59,8 +59,7 @@ pub struct CacheSettings {
 
 impl CacheSettings {
     /// The settings that the octets of a file tell: `listen`, `csv` and `session`, and `other_session`, `refresh`, `retry`
-    /// and `expire` where they aren't the usual ones, and `reread`, `log` and
-    /// `status`. Keys of other names are passed over.
+    /// and `expire` where they aren't the usual ones, and `reread`, `log` and `status`. Keys of other names are passed over.
     pub fn read(alloc: Global, octets: &[u8]) -> Result<CacheSettings, SettingsFault>
         ensures intervals { IfOk result (λ settings. are_lawful settings.intervals ≡ true) }
         ensures reread { IfOk result (λ settings. IfSome settings.reread (λ seconds. 1 ≤ seconds)) }
