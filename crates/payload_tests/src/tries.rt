@@ -1,6 +1,8 @@
-//! A trie: what its calls answer, and that it stays as it was where a growth is refused.
+//! A trie: what its calls answer, which of them takes memory, and that it stays as it was where a growth is refused.
+ghost use Rattle.std.specs.Iterator.{IsFinite};
+
 use net_prefix::Prefix;
-use prefix_trie::{Entries, Marked, Trie};
+use prefix_trie::{Marked, Trie};
 use refusing::Refusing;
 use std::alloc::{AllocError, Allocator};
 use std::process::Abort;
@@ -89,7 +91,12 @@ fn an_entry_is_changed_and_taken_out(rt: HostRuntime) -> Result<(), Fail> {
 }
 
 // Whether just these of the entries are still to come.
-fn comes<A: Allocator>(mut entries: Entries<'_, Slots, A>, expected: &[(u32, u8, u64)]) -> bool {
+fn comes<'a, I: Iterator<Item = (Prefix, &'a Slots)>>(
+    mut entries: I,
+    expected: &[(u32, u8, u64)],
+) -> bool
+    requires { I.can_next entries × IsFinite (I.remaining entries) }
+{
     for (bits, len, marks) in expected {
         let Some((prefix, slots)) = entries.next() else {
             return false;
@@ -143,6 +150,9 @@ const GROWING: [(u32, u8, u64); 7] = [
     (0x0000_0000,  0, 64),
 ];
 
+// How many requests for memory that takes.
+const REQUESTS: u64 = 9;
+
 // Whether the trie has just these.
 fn has_just<A: Allocator>(trie: &Trie<Slots, A>, entries: &[(u32, u8, u64)]) -> bool {
     for (bits, len, marks) in entries {
@@ -157,29 +167,37 @@ fn has_just<A: Allocator>(trie: &Trie<Slots, A>, entries: &[(u32, u8, u64)]) -> 
 }
 
 // Puts each in, and again where a growth is refused. Answers how often one was.
-fn put_all<A: Allocator + Clone>(rt: &impl Abort, mut trie: Trie<Slots, A>) -> Result<u32, Fail> {
+fn put_all<A: Allocator + Clone>(rt: &impl Abort, trie: &mut Trie<Slots, A>) -> Result<u32, Fail> {
     let mut refused = 0u32;
     for (at, (bits, len, marks)) in GROWING.iter().enumerate() {
         let prefix = Prefix::new(*bits, *len)?;
         if let Err(failed) = trie.insert(prefix, Slots(*marks)) {
             refused = refused.saturating_add(1);
             assert!(rt; failed.value == Slots(*marks));
-            assert!(rt; has_just(&trie, &GROWING[..at]));
+            assert!(rt; has_just(trie, &GROWING[..at]));
             assert!(rt; trie.marked_after(None, *marks).is_none());
             assert!(rt; matches!(trie.insert(prefix, Slots(*marks)), Ok(None)));
         }
     }
-    assert!(rt; has_just(&trie, &GROWING));
+    assert!(rt; has_just(trie, &GROWING));
     Ok(refused)
+}
+
+// Fills the trie, and answers how often a growth was refused.
+fn refusals_in<A: Allocator + Clone>(
+    rt: &impl Abort,
+    mut trie: Trie<Slots, A>,
+) -> Result<u32, Fail> {
+    put_all(rt, &mut trie)
 }
 
 #[test]
 fn a_refused_growth_leaves_the_trie(rt: HostRuntime) -> Result<(), Fail> {
-    let mut refusals = 0u32;
+    let mut refusals = 0u64;
     let mut left = true;
     for nth in 1..100u64 {
         let heap = Refusing::new(rt.alloc(), nth);
-        let refused = put_all(&rt, Trie::new(&heap))?;
+        let refused = refusals_in(&rt, Trie::new(&heap))?;
         left = heap.has_refused();
         if !left {
             assert_eq!(rt; refused, 0);
@@ -189,6 +207,87 @@ fn a_refused_growth_leaves_the_trie(rt: HostRuntime) -> Result<(), Fail> {
         refusals = refusals.saturating_add(1);
     }
     assert!(rt; !left);
-    assert_eq!(rt; refusals, 9);
+    assert_eq!(rt; refusals, REQUESTS);
     Ok(())
+}
+
+// The entries of GROWING in the order of prefixes.
+#[rattlefmt::skip]
+const RISING: [(u32, u8, u64); 7] = [
+    (0x0000_0000,  0, 64),
+    (0x0900_0000,  8,  8),
+    (0x0a00_0000,  8,  2),
+    (0x0a00_0000, 16,  1),
+    (0x0a40_0000, 16, 32),
+    (0x8000_0000,  1, 16),
+    (0xc000_0200, 24,  4),
+];
+
+// Whether each call that only looks finds them.
+fn finds_all<A: Allocator>(trie: &Trie<Slots, A>) -> Result<bool, Fail> {
+    let ten = Prefix::new(0x0a00_0000, 8)?;
+    let host = Prefix::new(0x0a00_0001, 32)?;
+    let below = Prefix::new(0x0a00_0000, 16)?;
+    let marked = Prefix::new(0x0a40_0000, 16)?;
+    Ok(
+        has_just(trie, &RISING)
+            && comes(trie.iter(), &RISING)
+            && comes(trie.covered(&ten), &RISING[2..5])
+            && comes(trie.covering(&host), &[RISING[0], RISING[2], RISING[3]])
+            && trie.after(Some(ten)) == Some(below)
+            && trie.marked_after(Some(ten), 2 | 4 | 32) == Some(marked),
+    )
+}
+
+// What the calls leave that put no new prefix in.
+#[rattlefmt::skip]
+const LEFT: [(u32, u8, u64); 5] = [
+    (0x0000_0000,  0,  64),
+    (0x0900_0000,  8, 128),
+    (0x0a40_0000, 16,  32),
+    (0x8000_0000,  1, 256),
+    (0xc000_0200, 24,   4),
+];
+
+// Whether each of those calls answers right.
+fn changes_what_is_there<A: Allocator + Clone>(trie: &mut Trie<Slots, A>) -> Result<bool, Fail> {
+    let nine = Prefix::new(0x0900_0000, 8)?;
+    let ten = Prefix::new(0x0a00_0000, 8)?;
+    let below = Prefix::new(0x0a00_0000, 16)?;
+    let upper = Prefix::new(0x8000_0000, 1)?;
+    let missing = Prefix::new(0x0b00_0000, 8)?;
+    Ok(
+        trie.update(&nine, |slots: &mut Slots| slots.0 = 128)
+            && !trie.update(&missing, |slots: &mut Slots| slots.0 = 128)
+            && matches!(trie.insert(upper, Slots(256)), Ok(Some(Slots(16))))
+            && trie.remove(&ten) == Some(Slots(2))
+            && trie.remove(&below) == Some(Slots(1))
+            && trie.remove(&missing).is_none()
+            && comes(trie.iter(), &LEFT),
+    )
+}
+
+// Fills the trie, makes each call that is to take no memory, and puts a new prefix in, which the heap has to refuse.
+fn asks_for_one<B, A: Allocator + Clone>(
+    rt: &impl Abort,
+    heap: &Refusing<B>,
+    mut trie: Trie<Slots, A>,
+) -> Result<(), Fail> {
+    assert_eq!(rt; put_all(rt, &mut trie)?, 0);
+    assert!(rt; finds_all(&trie)?);
+    assert!(rt; changes_what_is_there(&mut trie)?);
+    assert!(rt; !heap.has_refused());
+    let Err(failed) = trie.insert(Prefix::new(0x0b00_0000, 8)?, Slots(512)) else {
+        panic!(rt; "a new prefix was put in");
+    };
+    assert!(rt; heap.has_refused() && failed.value == Slots(512));
+    assert!(rt; comes(trie.iter(), &LEFT));
+    Ok(())
+}
+
+// The first request behind those of GROWING is refused, whichever call makes it.
+#[test]
+fn only_an_insert_of_a_new_prefix_takes_memory(rt: HostRuntime) -> Result<(), Fail> {
+    let heap = Refusing::new(rt.alloc(), REQUESTS + 1);
+    asks_for_one(&rt, &heap, Trie::new(&heap))
 }
