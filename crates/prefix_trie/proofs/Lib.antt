@@ -8,6 +8,7 @@ pub mod CoverNodes
 pub mod EntryLists
 pub mod Forks
 pub mod Firsts
+pub mod MapLaws
 pub mod MarkBits
 pub mod Nexts
 pub mod Partings

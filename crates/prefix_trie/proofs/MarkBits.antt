@@ -1,8 +1,8 @@
 -- Marks as bits of a number.
-use Rattle.std.proofs.Common.{◌≡◌, ℕ, zero, suc, ◌<◌, ◌==◌, ◌||◌, false, not, bit_and, bit_or, min, max, refl, ap, ◌∙◌, arith}
+use Rattle.std.proofs.Common.{◌≡◌, ℕ, zero, suc, ◌*◌, ◌^◌, ◌<◌, ◌==◌, ◌||◌, false, not, bit_and, bit_or, min, max, refl, ap, ◌∙◌, arith}
 use Rattle.std.proofs.lemmas.Bool.Decides.{nat_tests}
-use Rattle.std.proofs.lemmas.Nat.{le_or_l}
-use Rattle.std.proofs.lemmas.Nat.Bits.{bit_at_and, bit_at_or, bit_at-zero, same_from_bits}
+use Rattle.std.proofs.lemmas.Nat.{le_or_l, pow_pos}
+use Rattle.std.proofs.lemmas.Nat.Bits.{and_pow, bit_at_and, bit_at_or, bit_at-lt, bit_at-zero, same_from_bits}
 use Rattle.std.specs.Int.{bit_at}
 
 shared : (a b m : ℕ) → bit_and (bit_or a b) m ≡ bit_or (bit_and a m) (bit_and b m)
@@ -27,3 +27,12 @@ either (suc x) y =
 -- marks meet those of two sets where they meet those of one
 pub joined_marks : (a b marks : ℕ) → not (bit_and (bit_or a b) marks == 0) ≡ (not (bit_and a marks == 0) || not (bit_and b marks == 0))
 joined_marks a b marks = rw (shared a b marks) (either (bit_and a marks) (bit_and b marks))
+
+bit_case : (bit power : ℕ) → bit < 2 → 0 < power → not (bit * power == 0) ≡ (bit == 1)
+bit_case zero power small some = grind (arith, nat_tests)
+bit_case (suc zero) power small some = grind (arith, nat_tests)
+bit_case (suc (suc bit)) power small some = absurd (omega arith)
+
+-- marks meet the one of a slot where they have it
+pub meets_bit : (marks slot : ℕ) → not (bit_and marks (2 ^ slot) == 0) ≡ (bit_at marks slot == 1)
+meets_bit marks slot = rw (and_pow marks slot) (bit_case (bit_at marks slot) (2 ^ slot) (bit_at-lt marks slot) (pow_pos slot))
