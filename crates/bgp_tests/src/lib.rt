@@ -18,3 +18,5 @@ mod messages;
 mod selection;
 #[cfg(test)]
 mod session_table;
+#[cfg(test)]
+mod waiting_prefixes;

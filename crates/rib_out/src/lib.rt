@@ -1,10 +1,22 @@
-//! What a peer was last sent: Adj-RIB-Out.
+//! What a peer was last sent, and what waits for it: Adj-RIB-Out.
 //!
 //! `AdjOut` keeps, for each prefix that a peer was told of and that wasn't withdrawn since, the octets of the
 //! attributes that went with it (RFC 4271 section 3.2). Only `announce` takes memory, and where it gets none the
-//! table stays as it was. What is sent, and when, is decided above.
+//! table stays as it was.
+//!
+//! `Waiting` keeps, for each known prefix, which slots a withdrawal of it waits for, and which an announcement. Making
+//! the record of a prefix takes memory, and marking takes none. The next prefix of which something waits for a slot is
+//! found through the marks.
+//!
+//! What is sent, and when, is decided above.
 #![tactic(auto)]
 
 mod adj_out;
+mod marks;
+mod slots;
+mod waiting;
+mod waits;
 
 pub use adj_out::{AdjOut, HeldRoutes};
+pub use marks::Owed;
+pub use waiting::Waiting;

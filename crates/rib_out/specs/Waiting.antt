@@ -1,0 +1,33 @@
+-- What waits of each known prefix for each peer's slot: for nothing it waits where the peer was sent what it is to hold.
+use Rattle.std.specs.Prelude.{ℕ, Bool, List, Option, None, Some, is_some, ◌||◌, if◌then◌else◌}
+use Rattle.std.specs.List.{sum_by}
+use Rattle.std.specs.Map.{values_of}
+use Rattle.std.specs.Option.{option_and_then}
+use Rattle.net_prefix.specs.declared.prefix.Prefix.{Prefix}
+use Rattle.prefix_trie.specs.TrieMap.{found}
+use Rattle.rib_out.specs.Slots.{has_slot, share_slot}
+use Rattle.rib_out.specs.declared.marks.Marks.{Marks}
+use Rattle.rib_out.specs.declared.marks.Owed.{Owed}
+use Rattle.rib_out.specs.declared.marks.Owed.TheVariants.{Withdrawal, Announcement}
+use Rattle.rib_out.specs.declared.waits.Waits.{Waits}
+
+-- whether two sets of marks have one in common
+abbrev pub marks_meet : Marks → Marks → Bool
+marks_meet a b = share_slot a.withdrawals b.withdrawals || share_slot a.announcements b.announcements
+
+-- what waits for a slot, by the marks of a prefix
+abbrev pub owed_by : Waits → ℕ → Option Owed
+owed_by waits slot =
+    if has_slot waits.marks.withdrawals slot then Some Withdrawal else (if has_slot waits.marks.announcements slot then Some Announcement else None)
+
+-- what waits of a prefix for a slot: nothing, where the prefix isn't known
+abbrev pub owed_at : List (Prefix × Waits) → ℕ → Prefix → Option Owed
+owed_at records slot prefix = option_and_then (λ waits. owed_by waits slot) (found records prefix)
+
+-- whether a prefix is known
+abbrev pub is_known : List (Prefix × Waits) → Prefix → Bool
+is_known records prefix = is_some (found records prefix)
+
+-- of how many prefixes something waits for a slot
+abbrev pub count_owed : List (Prefix × Waits) → ℕ → ℕ
+count_owed records slot = sum_by (λ waits. if is_some (owed_by waits slot) then 1 else 0) (values_of records)

@@ -1,0 +1,106 @@
+//! What waits of one prefix.
+ghost use Rattle.std.specs.Prelude.{◌≡◌, ◌↔◌, ◌<◌, ◌==◌, ℕ, IsTrue, None, Some, bit_and, is_some, if◌then◌else◌};
+
+use crate::marks::{Marks, Owed};
+use crate::slots;
+use prefix_trie::Marked;
+
+/// The marks of one prefix: for a slot waits a withdrawal of it, or an announcement, or nothing.
+#[derive(Clone, Copy)]
+pub(crate) struct Waits {
+    marks: Marks,
+    pub ghost never_both: { bit_and marks.withdrawals marks.announcements ≡ 0 },
+}
+
+impl Marked for Waits {
+    type Marks = Marks;
+
+    ghost marks_of = { λ waits. waits.marks };
+
+    fn marks(&self) -> Marks {
+        self.marks
+    }
+}
+
+impl Waits {
+    ghost use Rattle.rib_out.specs.Waiting.{marks_meet, owed_by};
+    ghost use Rattle.rib_out.specs.declared.waits.Waits.{Waits};
+
+    /// For no slot waits anything.
+    pub(crate) fn for_none() -> Self
+        ensures { (s : ℕ) → owed_by result s ≡ None }
+    {
+        Waits {
+            marks: Marks {
+                withdrawals: 0,
+                announcements: 0,
+            },
+        }
+    }
+
+    /// What waits for the slot.
+    pub(crate) fn owed(&self, slot: u8) -> Option<Owed>
+        requires { slot < 64 }
+        ensures { result ≡ owed_by self.now slot }
+    {
+        if slots::has(self.marks.withdrawals, slot) {
+            Some(Owed::Withdrawal)
+        } else if slots::has(self.marks.announcements, slot) {
+            Some(Owed::Announcement)
+        } else {
+            None
+        }
+    }
+
+    /// The same, but for what waits for the slot.
+    pub(crate) fn with(&self, slot: u8, owed: Option<Owed>) -> Self
+        requires { slot < 64 }
+        ensures { (s : ℕ) → owed_by result s ≡ (if s == slot then owed else owed_by self.now s) }
+    {
+        let withdrawals = slots::without(self.marks.withdrawals, slot);
+        let announcements = slots::without(self.marks.announcements, slot);
+        let marks = match owed {
+            Some(Owed::Withdrawal) => Marks {
+                withdrawals: slots::with(withdrawals, slot),
+                announcements,
+            },
+            Some(Owed::Announcement) => Marks {
+                withdrawals,
+                announcements: slots::with(announcements, slot),
+            },
+            None => Marks {
+                withdrawals,
+                announcements,
+            },
+        };
+        Waits { marks }
+    }
+
+    /// The mark of a prefix of which this waits for the slot.
+    pub(crate) fn mark_of(slot: u8, owed: Owed) -> Marks
+        requires { slot < 64 }
+        ensures { (waits : Waits) → IsTrue (marks_meet waits.marks result) ↔ (owed_by waits slot ≡ Some owed) }
+    {
+        match owed {
+            Owed::Withdrawal => Marks {
+                withdrawals: slots::only(slot),
+                announcements: 0,
+            },
+            Owed::Announcement => Marks {
+                withdrawals: 0,
+                announcements: slots::only(slot),
+            },
+        }
+    }
+
+    /// The marks of a prefix of which anything waits for the slot.
+    pub(crate) fn marks_for(slot: u8) -> Marks
+        requires { slot < 64 }
+        ensures { (waits : Waits) → marks_meet waits.marks result ≡ is_some (owed_by waits slot) }
+    {
+        Marks {
+            withdrawals: slots::only(slot),
+            announcements: slots::only(slot),
+        }
+    }
+}
