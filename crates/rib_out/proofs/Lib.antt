@@ -1,1 +1,5 @@
+pub mod OwedMarks
 pub mod Prefixes
+pub mod Records
+pub mod SlotBits
+pub mod Walks

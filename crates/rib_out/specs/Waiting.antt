@@ -1,10 +1,10 @@
 -- What waits of each known prefix for each peer's slot: for nothing it waits where the peer was sent what it is to hold.
-use Rattle.std.specs.Prelude.{ℕ, Bool, List, Option, None, Some, is_some, ◌||◌, if◌then◌else◌}
+use Rattle.std.specs.Prelude.{ℕ, ◌≡◌, ◌≢◌, ◌==◌, Bool, List, Option, None, Some, is_some, ◌||◌, if◌then◌else◌}
 use Rattle.std.specs.List.{sum_by}
 use Rattle.std.specs.Map.{values_of}
 use Rattle.std.specs.Option.{option_and_then}
 use Rattle.net_prefix.specs.declared.prefix.Prefix.{Prefix}
-use Rattle.prefix_trie.specs.TrieMap.{found}
+use Rattle.prefix_trie.specs.TrieMap.{found, with_entry}
 use Rattle.rib_out.specs.Slots.{has_slot, share_slot}
 use Rattle.rib_out.specs.declared.marks.Marks.{Marks}
 use Rattle.rib_out.specs.declared.marks.Owed.{Owed}
@@ -31,3 +31,16 @@ is_known records prefix = is_some (found records prefix)
 -- of how many prefixes something waits for a slot
 abbrev pub count_owed : List (Prefix × Waits) → ℕ → ℕ
 count_owed records slot = sum_by (λ waits. if is_some (owed_by waits slot) then 1 else 0) (values_of records)
+
+-- what waits of a known prefix for a slot was changed, and nothing else
+pub record IsSet (slot : ℕ) (owed : Option Owed) (old new : List (Prefix × Waits)) (prefix : Prefix) : Type 0 where
+  pub before : Waits
+  pub after : Waits
+  pub there : found old prefix ≡ Some before
+  pub changed : (s : ℕ) → owed_by after s ≡ (if s == slot then owed else owed_by before s)
+  pub entries : new ≡ with_entry old prefix after
+
+-- nothing changed but what waits for one slot
+pub record IsOfSlot (slot : ℕ) (old new : List (Prefix × Waits)) : Type 0 where
+  pub others : (s : ℕ) (p : Prefix) → s ≢ slot → owed_at new s p ≡ owed_at old s p
+  pub known : (p : Prefix) → is_known new p ≡ is_known old p

@@ -4,7 +4,7 @@ ghost use Rattle.std.specs.Ordering.{is_gt};
 ghost use Rattle.net_prefix.specs.declared.prefix.Prefix.{Prefix};
 ghost use Rattle.net_prefix.specs.PrefixOrder.{prefix_cmp, IsAbove};
 ghost use Rattle.rib_out.specs.Held.{is_prefix};
-ghost use Rattle.rib_out.specs.Waiting.{count_owed, is_known, owed_at};
+ghost use Rattle.rib_out.specs.Waiting.{IsOfSlot, IsSet, count_owed, is_known, owed_at, owed_by};
 
 use crate::marks::Owed;
 use crate::waits::Waits;
@@ -58,7 +58,7 @@ impl<A: Allocator> Waiting<A> {
         ensures owed { (s : ℕ) (p : Prefix) → owed_at self.new s p ≡ (if s == slot && is_prefix prefix p then owed else owed_at self.old s p) }
         ensures known { (p : Prefix) → is_known self.new p ≡ is_known self.old p }
     {
-        self.records.update(&prefix, |waits: &mut Waits| *waits = waits.with(slot, owed));
+        mark(&mut self.records, slot, prefix, owed);
     }
 
     /// What waits of the prefix for the slot.
@@ -97,13 +97,12 @@ impl<A: Allocator> Waiting<A> {
     fn clear_first(&mut self, slot: u8) -> bool
         requires { slot < 64 }
         ensures cleared { MatchBool result (count_owed self.new slot + 1 ≡ count_owed self.old slot) ((p : Prefix) → owed_at self.new slot p ≡ None) }
-        ensures others { (s : ℕ) (p : Prefix) → s ≢ slot → owed_at self.new s p ≡ owed_at self.old s p }
-        ensures known { (p : Prefix) → is_known self.new p ≡ is_known self.old p }
+        ensures others { IsOfSlot slot self.old self.new }
     {
         let Some(first) = self.records.marked_after(None, Waits::marks_for(slot)) else {
             return false;
         };
-        self.records.update(&first, |waits: &mut Waits| *waits = waits.with(slot, None));
+        mark(&mut self.records, slot, first, None);
         true
     }
 
@@ -133,4 +132,19 @@ impl<A: Allocator + Clone> Waiting<A> {
             Err(_) => Err(AllocError),
         }
     }
+}
+
+// Changes what waits of a known prefix for the slot.
+fn mark<A: Allocator>(records: &mut Trie<Waits, A>, slot: u8, prefix: Prefix, owed: Option<Owed>)
+    requires slot { slot < 64 }
+    requires known { is_known records.old prefix ≡ true }
+    ensures { IsSet slot owed records.old records.new prefix }
+{
+    let change = |waits: &mut Waits|
+        requires { slot < 64 }
+        ensures { (s : ℕ) → owed_by waits.new s ≡ (if s == slot then owed else owed_by waits.old s) }
+    {
+        waits.set(slot, owed);
+    };
+    records.update(&prefix, change);
 }

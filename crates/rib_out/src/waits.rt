@@ -52,10 +52,10 @@ impl Waits {
         }
     }
 
-    /// The same, but for what waits for the slot.
-    pub(crate) fn with(&self, slot: u8, owed: Option<Owed>) -> Self
+    /// What waits for the slot from now on.
+    pub(crate) fn set(&mut self, slot: u8, owed: Option<Owed>)
         requires { slot < 64 }
-        ensures { (s : ℕ) → owed_by result s ≡ (if s == slot then owed else owed_by self.now s) }
+        ensures { (s : ℕ) → owed_by self.new s ≡ (if s == slot then owed else owed_by self.old s) }
     {
         let withdrawals = slots::without(self.marks.withdrawals, slot);
         let announcements = slots::without(self.marks.announcements, slot);
@@ -73,7 +73,7 @@ impl Waits {
                 announcements,
             },
         };
-        Waits { marks }
+        *self = Waits { marks };
     }
 
     /// The mark of a prefix of which this waits for the slot.

@@ -1,0 +1,80 @@
+-- What waits of a prefix, by its marks.
+use Rattle.std.proofs.Common.{◌≡◌, ◌↔◌, ℕ, ◌^◌, ◌==◌, ◌&&◌, ◌||◌, Bool, true, false, cond, not, IsTrue, None, Some, is_some, bit_and, refl, ap, arith}
+use Rattle.std.proofs.lemmas.Nat.Bits.{bit_at_and, bit_at-zero, same_from_bits}
+use Rattle.prefix_trie.proofs.MarkBits.{meets_bit}
+use Rattle.rib_out.specs.Slots.{has_slot, share_slot}
+use Rattle.rib_out.specs.Waiting.{marks_meet, owed_by}
+use Rattle.rib_out.specs.declared.marks.Owed.TheVariants.{Withdrawal, Announcement}
+use Rattle.rib_out.specs.declared.waits.Waits.{Waits}
+use Rattle.rib_out.proofs.SlotBits.{apart_from_slots, slots_from_apart}
+
+none_shared : (slots : ℕ) → share_slot slots 0 ≡ false
+none_shared slots =
+    let none : bit_and slots 0 ≡ 0 = same_from_bits (bit_and slots 0) 0 (λ s. let both = bit_at_and slots 0 s in let zero = bit_at-zero s in omega arith) in
+    ap (λ n. not (n == 0)) none
+
+withdrawal_case : (x y : Bool) → IsTrue (x || false) ↔ (cond x (Some Withdrawal) (cond y (Some Announcement) None) ≡ Some Withdrawal)
+withdrawal_case true y = (λ _. refl, λ _. refl)
+withdrawal_case false true = (λ h. absurd cc, λ h. absurd cc)
+withdrawal_case false false = (λ h. absurd cc, λ h. absurd cc)
+
+announcement_case : (x y : Bool) → (x && y) ≡ false → IsTrue (false || y) ↔ (cond x (Some Withdrawal) (cond y (Some Announcement) None) ≡ Some Announcement)
+announcement_case true true h = absurd cc
+announcement_case true false h = (λ e. absurd cc, λ e. absurd cc)
+announcement_case false true h = (λ _. refl, λ _. refl)
+announcement_case false false h = (λ e. absurd cc, λ e. absurd cc)
+
+any_case : (x y : Bool) → (x || y) ≡ is_some (cond x (Some Withdrawal) (cond y (Some Announcement) None))
+any_case true y = refl
+any_case false true = refl
+any_case false false = refl
+
+-- a withdrawal waits for a slot where the marks meet its mark for a withdrawal
+pub meets_withdrawal : (waits : Waits) (slot : ℕ) → IsTrue (marks_meet waits.marks (record { withdrawals = 2 ^ slot; announcements = 0 })) ↔ (owed_by waits slot ≡ Some Withdrawal)
+meets_withdrawal waits slot =
+    rw (meets_bit waits.marks.withdrawals slot, none_shared waits.marks.announcements)
+    (withdrawal_case (has_slot waits.marks.withdrawals slot) (has_slot waits.marks.announcements slot))
+
+-- and so an announcement
+pub meets_announcement : (waits : Waits) (slot : ℕ) → IsTrue (marks_meet waits.marks (record { withdrawals = 0; announcements = 2 ^ slot })) ↔ (owed_by waits slot ≡ Some Announcement)
+meets_announcement waits slot =
+    rw (meets_bit waits.marks.announcements slot, none_shared waits.marks.withdrawals)
+    (announcement_case (has_slot waits.marks.withdrawals slot) (has_slot waits.marks.announcements slot)
+    (slots_from_apart waits.marks.withdrawals waits.marks.announcements slot waits.never_both))
+
+-- and something where they meet either
+pub meets_either : (waits : Waits) (slot : ℕ) → marks_meet waits.marks (record { withdrawals = 2 ^ slot; announcements = 2 ^ slot }) ≡ is_some (owed_by waits slot)
+meets_either waits slot =
+    rw (meets_bit waits.marks.withdrawals slot, meets_bit waits.marks.announcements slot)
+    (any_case (has_slot waits.marks.withdrawals slot) (has_slot waits.marks.announcements slot))
+
+module _ (old other : ℕ) (slot : ℕ) where
+  -- one slot is in neither of two sets, which share none
+  abbrev pub IsWithout : ℕ → ℕ → Type 0
+  IsWithout old new = (s : ℕ) → has_slot new s ≡ (not (s == slot) && has_slot old s)
+
+  without_case : (b x y : Bool) → (x && y) ≡ false → ((not b && x) && (not b && y)) ≡ false
+  without_case true x y h = refl
+  without_case false x y h = h
+
+  pub apart_without : (a b : ℕ) → IsWithout old a → IsWithout other b → bit_and old other ≡ 0 → bit_and a b ≡ 0
+  apart_without a b left right h =
+      apart_from_slots a b (λ s. rw (left s, right s) (without_case (s == slot) (has_slot old s) (has_slot other s) (slots_from_apart old other s h)))
+
+module _ (a b c other slot : ℕ) where
+  with_case : (b x y : Bool) → (x && (not b && y)) ≡ false → ((b || x) && (not b && y)) ≡ false
+  with_case true x y h = refl
+  with_case false x y h = h
+
+  with_case_right : (b x y : Bool) → ((not b && y) && x) ≡ false → ((not b && y) && (b || x)) ≡ false
+  with_case_right true x y h = refl
+  with_case_right false x y h = h
+
+  -- a slot that is in neither of two sets may be put into one of them
+  pub apart_with : ((s : ℕ) → has_slot b s ≡ (not (s == slot) && has_slot other s)) → ((s : ℕ) → has_slot c s ≡ (s == slot || has_slot a s)) → bit_and a b ≡ 0 → bit_and c b ≡ 0
+  apart_with without with h =
+      apart_from_slots c b (λ s. rw (with s, without s) (with_case (s == slot) (has_slot a s) (has_slot other s) (rw (without s) at (slots_from_apart a b s h))))
+
+  pub apart_with_right : ((s : ℕ) → has_slot b s ≡ (not (s == slot) && has_slot other s)) → ((s : ℕ) → has_slot c s ≡ (s == slot || has_slot a s)) → bit_and b a ≡ 0 → bit_and b c ≡ 0
+  apart_with_right without with h =
+      apart_from_slots b c (λ s. rw (with s, without s) (with_case_right (s == slot) (has_slot a s) (has_slot other s) (rw (without s) at (slots_from_apart b a s h))))
