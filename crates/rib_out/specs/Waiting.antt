@@ -1,4 +1,4 @@
--- What waits of each known prefix for each peer's slot: for nothing it waits where the peer was sent what it is to hold.
+-- What waits of each known prefix for each peer's slot (own): a withdrawal of it, an announcement of it, or nothing.
 use Rattle.std.specs.Prelude.{ℕ, ◌≡◌, ◌≢◌, ◌==◌, Bool, List, Option, None, Some, is_some, ◌||◌, if◌then◌else◌}
 use Rattle.std.specs.List.{sum_by}
 use Rattle.std.specs.Map.{values_of}
