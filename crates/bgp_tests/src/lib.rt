@@ -13,6 +13,8 @@ mod commands;
 #[cfg(test)]
 mod export;
 #[cfg(test)]
+mod loc_rib;
+#[cfg(test)]
 mod messages;
 #[cfg(test)]
 mod selection;

@@ -1,2 +1,4 @@
+pub mod BookContents
+pub mod KeptPlaces
 pub mod Selection
 pub mod Steps

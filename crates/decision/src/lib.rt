@@ -5,10 +5,15 @@
 //! address always leave one. The policies, and what makes a route a candidate, stand above. No call takes memory.
 #![tactic(auto)]
 
+mod book;
 mod candidate;
 mod meter;
+mod places;
+mod plain_book;
 mod selection;
 
+pub use book::{Book, Change};
 pub use candidate::{Candidate, LOCAL_SLOT, MAX_CANDIDATES};
 pub use meter::Meter;
+pub use plain_book::PlainBook;
 pub use selection::{choose, one_best};
