@@ -2,3 +2,6 @@ pub mod Best
 pub mod One
 pub mod Laws
 pub mod SameMembers
+pub mod PlaceLists
+pub mod BestPlaces
+pub mod BookRows

@@ -1,10 +1,10 @@
 -- How a plain book keeps the places of each prefix.
-use Rattle.std.specs.Prelude.{ℕ, ◌≡◌, ◌≤◌, Bool, not, nat_eq, is_some, Option, Some, None, List, [], length, map, filter, filter_map, All, MatchOption, option_map, option_and_then, unwrap_or}
+use Rattle.std.specs.Prelude.{ℕ, ◌≡◌, ◌≤◌, Bool, not, nat_eq, is_some, Option, Some, None, List, [], length, map, filter, filter_map, All, MatchOption, option_map, option_and_then, unwrap_or, ◌∷◌, if◌then◌else◌}
 use Rattle.std.specs.BTreeMap.{is_at}
 use Rattle.std.specs.List.{IsDistinct}
 use Rattle.std.specs.List.Sorted.{IsStrictlySortedBy}
 use Rattle.std.specs.Map.{lookup, keys_of, values_of}
-use Rattle.decision.specs.BookContents.{AreApart, changed}
+use Rattle.decision.specs.BookContents.{AreApart, changed, is_prefix}
 use Rattle.decision.specs.Selection.{IsSelected}
 use Rattle.decision.specs.declared.book.Change.{Change}
 use Rattle.decision.specs.declared.candidate.Candidate.{Candidate}
@@ -55,9 +55,25 @@ IsKept kept = ArePlaces kept.places × IsBestAt kept.places kept.best
 abbrev pub IsBook : List (Prefix × Kept) → Type 0
 IsBook book = IsStrictlySortedBy prefix_cmp (keys_of book) × All IsKept (values_of book)
 
+-- a slot without a candidate alone
+abbrev pub alone : ℕ → Kept
+alone slot = record { places = (slot, None) ∷ []; best = None }
+
+-- what is kept of a prefix
+abbrev pub kept_at : List (Prefix × Kept) → Prefix → Option Kept
+kept_at book prefix = lookup (is_at (prefix_cmp prefix)) book
+
+-- the places of what is kept
+abbrev pub places_in : Option Kept → List (ℕ × Option Candidate)
+places_in kept = unwrap_or (option_map (λ k. k.places) kept) []
+
 -- the places of a prefix
 abbrev pub places_at : List (Prefix × Kept) → Prefix → List (ℕ × Option Candidate)
-places_at book prefix = unwrap_or (option_map (λ kept. kept.places) (lookup (is_at (prefix_cmp prefix)) book)) []
+places_at book prefix = places_in (kept_at book prefix)
+
+-- this is kept of the prefix now, and of each other one what was
+abbrev pub Puts : List (Prefix × Kept) → List (Prefix × Kept) → Prefix → Option Kept → Type 0
+Puts old new p kept = (q : Prefix) → kept_at new q ≡ (if is_prefix p q then kept else kept_at old q)
 
 -- each prefix that has a best candidate, with it
 abbrev pub rows_of : List (Prefix × Kept) → List (Prefix × Candidate)

@@ -57,7 +57,7 @@ pub trait Book<A: Allocator + Clone>: Drop {
         ensures places { (s : ℕ) (p : ThePrefix) → has_place self.new s p ≡ has_place self.old s p }
         ensures best { IsBestOf (λ s. offer self.new s prefix) (best_at (rows self.new) prefix) }
         ensures others { (p : ThePrefix) → is_prefix prefix p ≡ false → best_at (rows self.new) p ≡ best_at (rows self.old) p }
-        ensures counted { (meter.old.count ≤ meter.new.count) × (meter.new.count ≤ min (meter.old.count + 1) (2 ^ 64 - 1)) };
+        ensures counted { (meter.old.count ≤ meter.new.count) × (meter.new.count ≤ meter.old.count + 1) };
 
     /// The slot's candidate goes, and its place with it. It chooses once at most, and never where there was no
     /// candidate, and takes no memory.
@@ -66,7 +66,7 @@ pub trait Book<A: Allocator + Clone>: Drop {
         ensures places { (s : ℕ) (p : ThePrefix) → has_place self.new s p ≡ (if s == slot && is_prefix prefix p then false else has_place self.old s p) }
         ensures best { IsBestOf (λ s. offer self.new s prefix) (best_at (rows self.new) prefix) }
         ensures others { (p : ThePrefix) → is_prefix prefix p ≡ false → best_at (rows self.new) p ≡ best_at (rows self.old) p }
-        ensures counted { (meter.old.count ≤ meter.new.count) × (meter.new.count ≤ min (meter.old.count + 1) (2 ^ 64 - 1)) }
+        ensures counted { (meter.old.count ≤ meter.new.count) × (meter.new.count ≤ meter.old.count + 1) }
         ensures never { offer self.old slot prefix ≡ None → meter.new.count ≡ meter.old.count };
 
     /// The best candidate of a prefix. Each row is the best of its prefix's candidates; a candidate is at its own

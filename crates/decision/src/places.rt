@@ -1,5 +1,6 @@
 //! The places of one prefix.
 ghost use Rattle.std.specs.Prelude.{◌≡◌, ◌≤◌, ◌<◌, ◌+◌, ◌-◌, ◌^◌, ◌++◌, ◌∷◌, ◌&&◌, [], ℕ, List, None, true, false, Option, Some, All, IfOk, IfSome, IsTrue, ◌↔◌, is_ok, is_some, length, map, min, filter, filter_map, nat_eq, not, if◌then◌else◌};
+ghost use Rattle.std.specs.Map.{lookup};
 ghost use Rattle.decision.specs.BookContents.{AreApart, changed};
 ghost use Rattle.decision.specs.KeptPlaces.{ArePlaces, IsBestAt, IsKept, candidate_of, candidates_of, is_placed, with_changes, without_slot};
 
@@ -58,14 +59,7 @@ impl<A: Allocator> Places<A> {
         ensures few { length self.old.places ≤ 65 → length self.new.places ≤ 65 }
         ensures there { is_placed self.old.places slot ≡ true → is_ok result ≡ true }
     {
-        if has_place(&self.places, slot) {
-            return Ok(());
-        }
-        if self.places.len() >= MAX_CANDIDATES {
-            return Err(AllocError);
-        }
-        self.places.reserve_exact(1)?;
-        self.places.push_reserved((slot, None));
+        add_place(&mut self.places, slot)?;
         Ok(())
     }
 
@@ -76,12 +70,12 @@ impl<A: Allocator> Places<A> {
         requires apart { AreApart (candidate_of (with_changes changes.now self.old.places)) }
         ensures places { self.new.places ≡ with_changes changes.now self.old.places }
         ensures kept { IsKept self.new }
-        ensures counted { (meter.old.count ≤ meter.new.count) × (meter.new.count ≤ min (meter.old.count + 1) (2 ^ 64 - 1)) }
+        ensures counted { (meter.old.count ≤ meter.new.count) × (meter.new.count ≤ meter.old.count + 1) }
     {
         if are_idle(changes, &self.places) {
             return;
         }
-        make(changes, self.places.as_mut_slice());
+        make(changes, &mut self.places);
         self.choose_again(meter);
     }
 
@@ -90,12 +84,12 @@ impl<A: Allocator> Places<A> {
         requires { IsKept self.old }
         ensures places { self.new.places ≡ without_slot slot self.old.places }
         ensures kept { IsKept self.new }
-        ensures counted { (meter.old.count ≤ meter.new.count) × (meter.new.count ≤ min (meter.old.count + 1) (2 ^ 64 - 1)) }
+        ensures counted { (meter.old.count ≤ meter.new.count) × (meter.new.count ≤ meter.old.count + 1) }
         ensures never { candidate_of self.old.places slot ≡ None → meter.new.count ≡ meter.old.count }
         ensures empty { IsTrue result ↔ (self.new.places ≡ []) }
     {
         let gone = candidate_at(&self.places, slot);
-        self.places.retain(|place| slot != place.0);
+        remove_place(&mut self.places, slot);
         if gone.is_some() {
             self.choose_again(meter);
         }
@@ -107,8 +101,9 @@ impl<A: Allocator> Places<A> {
         requires { ArePlaces self.old.places }
         ensures places { self.new.places ≡ self.old.places }
         ensures best { IsBestAt self.new.places self.new.best }
-        ensures counted { meter.new.count ≡ min (meter.old.count + 1) (2 ^ 64 - 1) }
+        ensures counted { (meter.old.count ≤ meter.new.count) × (meter.new.count ≤ meter.old.count + 1) }
     {
+        is_count(meter.count);
         let candidates = candidates(&self.places);
         self.best = match choose(meter, &candidates) {
             Some(best) => Some(best.slot),
@@ -117,21 +112,62 @@ impl<A: Allocator> Places<A> {
     }
 }
 
+// A count has 64 bits.
+fn is_count(count: u64)
+    ensures { count < 2 ^ 64 }
+{}
+
+// Makes a place for the slot, and takes no more memory than it needs.
+fn add_place<A: Allocator>(places: &mut Vec<Place, A>, slot: u8) -> Result<(), AllocError>
+    ensures places { places.new.items ≡ (if is_ok result && not (is_placed places.old.items slot) then places.old.items ++ (slot, None) ∷ [] else places.old.items) }
+    ensures few { length places.old.items ≤ 65 → length places.new.items ≤ 65 }
+    ensures there { is_placed places.old.items slot ≡ true → is_ok result ≡ true }
+{
+    if has_place(places, slot) {
+        return Ok(());
+    }
+    if places.len() >= MAX_CANDIDATES {
+        return Err(AllocError);
+    }
+    places.reserve_exact(1)?;
+    places.push_reserved((slot, None));
+    Ok(())
+}
+
+// Takes the slot's place away.
+fn remove_place<A: Allocator>(places: &mut Vec<Place, A>, slot: u8)
+    ensures { places.new.items ≡ without_slot slot places.old.items }
+{
+    places.retain(|place| slot != place.0);
+}
+
 // Whether the slot has a place.
 fn has_place(places: &[Place], slot: u8) -> bool
     ensures { result ≡ is_placed places.now slot }
 {
-    places.iter().any(|place| slot == place.0)
+    place_at(places, slot).is_some()
 }
 
 // The candidate of the slot.
 fn candidate_at(places: &[Place], slot: u8) -> Option<Candidate>
     ensures { result ≡ candidate_of places.now slot }
 {
-    match places.iter().find(|place| slot == place.0) {
-        Some(place) => place.1,
+    match place_at(places, slot) {
+        Some(candidate) => candidate,
         None => None,
     }
+}
+
+// What is at the slot's place, if it has one.
+fn place_at(places: &[Place], slot: u8) -> Option<Option<Candidate>>
+    ensures { result ≡ lookup (nat_eq slot) places.now }
+{
+    for place in places {
+        if place.0 == slot {
+            return Some(place.1);
+        }
+    }
+    None
 }
 
 // All candidates.
@@ -140,9 +176,9 @@ fn candidates(places: &[Place]) -> ArrayVec<Candidate, MAX_CANDIDATES>
     ensures { result.items ≡ candidates_of places.now }
 {
     let mut candidates = ArrayVec::new();
-    for (_, candidate) in places {
-        if let Some(candidate) = candidate {
-            candidates.push(*candidate);
+    for place in places {
+        if let Some(candidate) = place.1 {
+            candidates.push(candidate);
         }
     }
     candidates
@@ -181,7 +217,13 @@ fn is_same(first: Option<Candidate>, second: Option<Candidate>) -> bool
 }
 
 // Makes the changes.
-fn make(changes: &[Change], places: &mut [Place])
+fn make<A: Allocator>(changes: &[Change], places: &mut Vec<Place, A>)
+    ensures { places.new.items ≡ with_changes changes.now places.old.items }
+{
+    make_each(changes, places.as_mut_slice());
+}
+
+fn make_each(changes: &[Change], places: &mut [Place])
     ensures { places.new ≡ with_changes changes.now places.old }
 {
     for place in places.iter_mut() {

@@ -1,7 +1,6 @@
 //! A book that chooses again among all candidates of a prefix.
-ghost use Rattle.std.specs.Prelude.{◌≡◌, ◌==◌, ◌&&◌, ℕ, OnErr, OnOk, is_ok, if◌then◌else◌};
-ghost use Rattle.decision.specs.BookContents.{is_prefix};
-ghost use Rattle.decision.specs.KeptPlaces.{candidate_of, is_placed, places_at, rows_of};
+ghost use Rattle.std.specs.Prelude.{◌≡◌, None, Some, OnErr, OnOk, slice_get};
+ghost use Rattle.decision.specs.KeptPlaces.{IsBook, Puts, alone, candidate_of, is_placed, kept_at, places_at, rows_of};
 
 use crate::book::{Book, Change};
 use crate::candidate::Candidate;
@@ -9,7 +8,7 @@ use crate::meter::Meter;
 use crate::places::Places;
 use net_prefix::Prefix;
 use std::alloc::{AllocError, Allocator, Global};
-use std::collections::BTreeMap;
+use std::collections::{BTreeMap, btree_map};
 use std::marker::Model;
 use std::ops::Bound;
 
@@ -35,13 +34,40 @@ impl<A: Allocator> Model for PlainBook<A> {
 
 impl<A: Allocator + Clone> PlainBook<A> {
     // Begins to keep a prefix at which the slot has a place.
-    fn add_prefix(&mut self, slot: u8, prefix: Prefix) -> Result<(), AllocError> {
+    fn add_prefix(&mut self, slot: u8, prefix: Prefix) -> Result<(), AllocError>
+        requires { kept_at self.old prefix ≡ None }
+        ensures ok { OnOk result (Puts self.old self.new prefix (Some (alone slot))) }
+        ensures err { OnErr result (self.new ≡ self.old) }
+        ensures rows { rows_of self.new ≡ rows_of self.old }
+    {
         let places = Places::of(self.alloc.clone()?, slot)?;
         match self.prefixes.insert(prefix, places) {
             Ok(_) => Ok(()),
             Err(_) => Err(AllocError),
         }
     }
+
+    // Keeps the prefix no longer.
+    fn remove_prefix(&mut self, prefix: Prefix)
+        ensures gone { Puts self.old self.new prefix None }
+        ensures book { IsBook self.new }
+    {
+        self.prefixes.remove(&prefix);
+    }
+}
+
+// The first row of a range.
+fn first_row<A: Allocator>(
+    range: btree_map::Range<'_, Prefix, Places<A>>,
+) -> Option<(Prefix, Candidate)>
+    ensures { result ≡ slice_get (rows_of range.entry) 0 }
+{
+    for (prefix, places) in range {
+        if let Some(best) = places.best() {
+            return Some((*prefix, best));
+        }
+    }
+    None
 }
 
 impl<A: Allocator + Clone> Book<A> for PlainBook<A> {
@@ -64,9 +90,10 @@ impl<A: Allocator + Clone> Book<A> for PlainBook<A> {
     }
 
     fn change(&mut self, meter: &mut Meter, prefix: Prefix, changes: &[Change]) {
-        if let Some(places) = self.prefixes.get_mut(&prefix) {
-            places.change(meter, changes);
-        }
+        let Some(places) = self.prefixes.get_mut(&prefix) else {
+            return;
+        };
+        places.change(meter, changes);
     }
 
     fn leave(&mut self, meter: &mut Meter, slot: u8, prefix: Prefix) {
@@ -74,7 +101,7 @@ impl<A: Allocator + Clone> Book<A> for PlainBook<A> {
             return;
         };
         if places.leave(meter, slot) {
-            self.prefixes.remove(&prefix);
+            self.remove_prefix(prefix);
         }
     }
 
@@ -86,15 +113,15 @@ impl<A: Allocator + Clone> Book<A> for PlainBook<A> {
     }
 
     fn row_after(&self, after: Option<Prefix>) -> Option<(Prefix, Candidate)> {
-        let start = match after {
-            Some(prefix) => Bound::Excluded(prefix),
-            None => Bound::Unbounded,
-        };
-        for (prefix, places) in self.prefixes.range((start, Bound::Unbounded)) {
-            if let Some(best) = places.best() {
-                return Some((*prefix, best));
+        match after {
+            Some(prefix) => first_row(
+                self.prefixes
+                    .range((Bound::Excluded(prefix), Bound::Unbounded)),
+            ),
+            None => {
+                let all: (Bound<Prefix>, Bound<Prefix>) = (Bound::Unbounded, Bound::Unbounded);
+                first_row(self.prefixes.range(all))
             }
         }
-        None
     }
 }
