@@ -42,18 +42,27 @@ fn has_prefixes(table: &AdjIn, prefixes: &[Prefix]) -> bool {
     table.prefix_after(after).is_none()
 }
 
-fn has_route(table: &AdjIn, slot: u8, prefix: Prefix) -> bool {
-    table.get(slot, prefix).is_some()
-}
-
-// Whether the only route of the table is one of slot 0.
-fn is_only_route(table: &AdjIn, only: Prefix) -> bool {
-    for (prefix, slot, attrs) in table.routes() {
-        if prefix != only || slot != 0 || attrs.next_hop() != Some(0xc000_0201) {
+// Whether these are just the prefixes to which the slot has a route, by each of both ways to find them.
+fn has_routes(table: &AdjIn, slot: u8, prefixes: &[Prefix]) -> bool {
+    let mut after = None;
+    let mut routes = table.routes_of(slot);
+    for prefix in prefixes {
+        let Some((found, attrs)) = routes.next() else {
+            return false;
+        };
+        if found != *prefix || attrs.next_hop() != Some(0xc000_0201) {
             return false;
         }
+        if table.slot_prefix_after(slot, after) != Some(found) {
+            return false;
+        }
+        after = Some(found);
     }
-    has_route(table, 0, only)
+    table.slot_prefix_after(slot, after).is_none() && routes.next().is_none()
+}
+
+fn has_route(table: &AdjIn, slot: u8, prefix: Prefix) -> bool {
+    table.get(slot, prefix).is_some()
 }
 
 #[test]
@@ -66,9 +75,54 @@ fn the_latest_route_of_each_slot_is_kept(rt: HostRuntime) -> Result<(), Fail> {
     table.withdraw(1, high);
     assert!(rt; !has_route(&table, 1, high));
     table.drop_slot(1);
-    assert!(rt; is_only_route(&table, low));
+    assert!(rt; has_prefixes(&table, &[low]) && !has_route(&table, 1, low));
+    assert!(rt; has_routes(&table, 0, &[low]));
     table.drop_slot(0);
     assert!(rt; has_prefixes(&table, &[]));
+    Ok(())
+}
+
+#[test]
+fn the_routes_of_a_slot_are_found(rt: HostRuntime) -> Result<(), Fail> {
+    let low = Prefix::new(0x0a00_0000, 16)?;
+    let middle = Prefix::new(0x0a00_0000, 24)?;
+    let high = Prefix::new(0xc000_0200, 24)?;
+    let routes = [
+        (9, low),
+        (63, low),
+        (2, low),
+        (2, high),
+        (63, middle),
+        (9, low),
+    ];
+    let mut table = table_of(&rt, rt.alloc(), &routes)?;
+    assert!(rt; has_routes(&table, 2, &[low, high]));
+    assert!(rt; has_routes(&table, 9, &[low]));
+    assert!(rt; has_routes(&table, 63, &[low, middle]));
+    assert!(rt; has_routes(&table, 8, &[]));
+    table.withdraw(2, low);
+    assert!(rt; has_routes(&table, 2, &[high]) && has_routes(&table, 9, &[low]));
+    table.drop_slot(63);
+    assert!(rt; has_routes(&table, 63, &[]) && has_routes(&table, 9, &[low]));
+    assert!(rt; has_prefixes(&table, &[low, high]));
+    Ok(())
+}
+
+#[test]
+fn a_slot_without_a_mark_has_routes_too(rt: HostRuntime) -> Result<(), Fail> {
+    let low = Prefix::new(0x0a00_0000, 16)?;
+    let high = Prefix::new(0xc000_0200, 24)?;
+    let mut table = table_of(
+        &rt,
+        rt.alloc(),
+        &[(64, low), (0, low), (255, low), (64, high)],
+    )?;
+    assert!(rt; table.routes_of(64).count() == 2 && has_routes(&table, 0, &[low]));
+    table.drop_slot(64);
+    assert!(rt; !has_route(&table, 64, low) && !has_route(&table, 64, high));
+    assert!(rt; has_route(&table, 255, low) && has_prefixes(&table, &[low]));
+    table.drop_slot(255);
+    assert!(rt; has_routes(&table, 0, &[low]));
     Ok(())
 }
 
@@ -80,18 +134,19 @@ fn fill<A: Allocator + Clone>(
 ) -> Result<u32, Fail> {
     let mut refused = 0u32;
     for number in 0..64u32 {
-        let prefix = Prefix::new(number * 256, 24)?;
-        if let Err(fault) = table.announce(0, prefix, attrs.clone()?) {
+        // Two routes to each prefix, the one of the higher slot first.
+        let slot = 1 - number as u8 % 2;
+        let prefix = Prefix::new(number / 2 * 256, 24)?;
+        if let Err(fault) = table.announce(slot, prefix, attrs.clone()?) {
             refused = refused.saturating_add(1);
             assert_eq!(rt; fault.number(), 20);
-            assert!(rt; table.get(0, prefix).is_none());
-            let mut kept = 0u32;
-            for (_, slot, _) in table.routes() {
-                assert_eq!(rt; slot, 0);
-                kept = kept.saturating_add(1);
-            }
-            assert_eq!(rt; kept, number);
-            table.announce(0, prefix, attrs.clone()?)?;
+            assert!(rt; table.get(slot, prefix).is_none());
+            let kept = table
+                .routes_of(0)
+                .count()
+                .saturating_add(table.routes_of(1).count());
+            assert!(rt; kept == number as usize);
+            table.announce(slot, prefix, attrs.clone()?)?;
         }
     }
     Ok(refused)

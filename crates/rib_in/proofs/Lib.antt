@@ -1,1 +1,5 @@
-pub mod RouteKeys
+pub mod Ordered
+pub mod RouteLists
+pub mod SlotWalks
+pub mod Tables
+pub mod Walks

@@ -1,2 +1,4 @@
 pub mod LatestRoutes
+pub mod PrefixRoutes
 pub mod RibNumbers
+pub mod RoutesFall

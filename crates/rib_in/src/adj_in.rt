@@ -1,72 +1,41 @@
 //! The routes by prefix and slot.
-ghost use Rattle.std.specs.Prelude.{◌≡◌, [], ℕ, None, Some, OnOk, OnErr, IfSome, IfNone, IsSome, ◌==◌, ◌<◌, false, if◌then◌else◌};
-ghost use Rattle.std.specs.Option.{option_copied};
+ghost use Rattle.std.specs.Prelude.{◌≡◌, [], ◌<◌, ℕ, None, Some, OnOk, OnErr, IfOk, IfSome, IfNone, IsSome, ◌==◌, false, if◌then◌else◌};
+ghost use Rattle.std.specs.List.Sorted.{IsStrictlySortedBy};
+ghost use Rattle.std.specs.Map.{keys_of, lookup};
+ghost use Rattle.std.specs.Option.{option_copied, option_map, is_some};
 ghost use Rattle.std.specs.Ordering.{is_gt};
-ghost use Rattle.std.specs.declared.cmp.Ordering.TheVariants.{Less};
-ghost use Rattle.std.specs.Iterator.{YieldsFirstBy, item_count};
-ghost use Rattle.net_prefix.specs.declared.prefix.Prefix.{Prefix};
-ghost use Rattle.rib_in.specs.declared.adj_in.RouteKey.{RouteKey};
-ghost use Rattle.rib_in.specs.LatestRoutes.{route_at, is_route, entry_of, key_cmp, HasRoute, IsRising};
 ghost use Rattle.net_prefix.specs.PrefixOrder.{prefix_cmp, IsAbove};
+ghost use Rattle.net_prefix.specs.declared.prefix.Prefix.{Prefix};
+ghost use Rattle.prefix_trie.specs.TrieMap.{IsRising, found};
+ghost use Rattle.rib_in.specs.PrefixRoutes.{is_only};
+ghost use Rattle.rib_in.specs.LatestRoutes.{HasRoute, is_prefix, is_route, route_at, route_in, routes_of};
 
 use crate::fault::RibFault;
+use crate::prefix_routes::{MARKS, PrefixRoutes, mark};
+use crate::slot_routes::SlotRoutes;
 use bgp_attr::Attrs;
 use net_prefix::Prefix;
+use prefix_trie::Trie;
 use std::alloc::{Allocator, Global};
-use std::collections::{BTreeMap, btree_map};
 use std::marker::Model;
-use std::ops::Bound;
 use std::rc::Rc;
-
-/// Of which prefix and slot a route is. Routes are ordered by prefix, then by slot.
-#[derive(Clone, Copy, Debug, PartialEq, Eq, PartialOrd, Ord)]
-pub struct RouteKey {
-    pub prefix: Prefix,
-    pub slot: u8,
-}
-
-fn slot_of(key: &RouteKey) -> u8
-    ensures { result ≡ key.now.slot }
-{
-    key.slot
-}
-
-// Attributes that the routes of one UPDATE share.
-#[derive(Drop)]
-struct SharedAttrs<A: Allocator> {
-    attrs: Rc<Attrs<A>, A>,
-}
-
-impl<A: Allocator> Model for SharedAttrs<A> {
-    ghost use Rattle.bgp_attr.specs.PathAttributes.{PathAttributes};
-
-    ghost Value = { PathAttributes };
-
-    ghost view = { λ s. s.attrs.value };
-}
-
-impl<A: Allocator> SharedAttrs<A> {
-    fn attrs(&self) -> &Attrs<A>
-        ensures { result.now ≡ self.now }
-    {
-        &self.attrs
-    }
-}
 
 /// The latest route of each slot and prefix.
 #[derive(Drop)]
 pub struct AdjIn<A: Allocator = Global> {
-    routes: BTreeMap<RouteKey, SharedAttrs<A>, A>,
+    routes: Trie<PrefixRoutes<A>, A>,
+    // Of the routes to one prefix but the first. There is none where the allocator couldn't be cloned.
+    alloc: Option<A>,
 }
 
 impl<A: Allocator> Model for AdjIn<A> {
-    ghost use Rattle.std.specs.Prelude.{List};
-    ghost use Rattle.bgp_attr.specs.PathAttributes.{PathAttributes};
-    ghost use Rattle.rib_in.specs.declared.adj_in.RouteKey.{RouteKey};
+    ghost use Rattle.rib_in.specs.LatestRoutes.{RouteTable, HasNoEmptyList};
 
-    ghost Value = { List (RouteKey × PathAttributes) };
+    ghost Value = { RouteTable };
 
-    ghost view = { λ t. t.routes.entries };
+    ghost view = { λ t. t.routes };
+
+    ghost invariant = { λ t. HasNoEmptyList t.routes };
 }
 
 impl<A: Allocator + Clone> AdjIn<A> {
@@ -74,8 +43,10 @@ impl<A: Allocator + Clone> AdjIn<A> {
     pub fn new(alloc: A) -> Self
         ensures { result ≡ [] }
     {
+        let more = alloc.clone().ok();
         AdjIn {
-            routes: BTreeMap::new(alloc),
+            routes: Trie::new(alloc),
+            alloc: more,
         }
     }
 
@@ -83,8 +54,8 @@ impl<A: Allocator + Clone> AdjIn<A> {
     pub fn get(&self, slot: u8, prefix: Prefix) -> Option<&Attrs<A>>
         ensures { option_copied result ≡ route_at self.now slot prefix }
     {
-        match self.routes.get(&RouteKey { prefix, slot }) {
-            Some(shared) => Some(shared.attrs()),
+        match self.routes.get(&prefix) {
+            Some(routes) => routes.get(slot),
             None => None,
         }
     }
@@ -101,27 +72,84 @@ impl<A: Allocator + Clone> AdjIn<A> {
         // Replacing a route takes no memory.
         ensures absent { OnErr result (route_at self.old slot prefix ≡ None) }
     {
-        match self
-            .routes
-            .insert(RouteKey { prefix, slot }, SharedAttrs { attrs })
-        {
-            Ok(_) => Ok(()),
-            Err(_) => Err(RibFault::NoMemory),
+        match self.has_route(slot, prefix) {
+            Some(true) => {
+                self.routes
+                    .update(&prefix, |routes| routes.replace(slot, attrs));
+                Ok(())
+            }
+            Some(false) => {
+                let route = self.boxed(PrefixRoutes::one(slot, attrs))?;
+                self.routes.update(&prefix, |routes| routes.put(route));
+                Ok(())
+            }
+            None => match self.routes.insert(prefix, PrefixRoutes::one(slot, attrs)) {
+                Ok(_) => Ok(()),
+                Err(_) => Err(RibFault::NoMemory),
+            },
         }
+    }
+
+    // Whether the slot has a route to the prefix, if any slot has.
+    fn has_route(&self, slot: u8, prefix: Prefix) -> Option<bool>
+        ensures { result ≡ option_map (λ routes. is_some (route_in routes slot)) (found self.now prefix) }
+    {
+        match self.routes.get(&prefix) {
+            Some(routes) => Some(routes.get(slot).is_some()),
+            None => None,
+        }
+    }
+
+    // Takes memory for a route.
+    fn boxed(&self, route: PrefixRoutes<A>) -> Result<Box<PrefixRoutes<A>, A>, RibFault>
+        ensures { IfOk result (λ boxed. boxed.value ≡ route) }
+    {
+        match self.memory() {
+            Some(alloc) => match Box::new(alloc, route) {
+                Ok(boxed) => Ok(boxed),
+                Err(_) => Err(RibFault::NoMemory),
+            },
+            None => Err(RibFault::NoMemory),
+        }
+    }
+
+    fn memory(&self) -> Option<A> {
+        self.alloc.as_ref()?.clone().ok()
     }
 
     /// The slot withdrew its route to the prefix.
     pub fn withdraw(&mut self, slot: u8, prefix: Prefix)
         ensures { (s : ℕ) (p : Prefix) → route_at self.new s p ≡ (if is_route slot prefix s p then None else route_at self.old s p) }
     {
-        self.routes.remove(&RouteKey { prefix, slot });
+        let Some(only) = self.is_only(slot, prefix) else {
+            return;
+        };
+        if only {
+            self.routes.remove(&prefix);
+        } else {
+            self.routes.update(&prefix, |routes| routes.withdraw(slot));
+        }
+    }
+
+    // Whether no other slot has a route to the prefix, if any slot has.
+    fn is_only(&self, slot: u8, prefix: Prefix) -> Option<bool>
+        ensures { result ≡ option_map (is_only slot) (found self.now prefix) }
+    {
+        match self.routes.get(&prefix) {
+            Some(routes) => Some(routes.is_only(slot)),
+            None => None,
+        }
     }
 
     /// The slot's session has ended: none of its routes is kept.
     pub fn drop_slot(&mut self, slot: u8)
         ensures { (s : ℕ) (p : Prefix) → route_at self.new s p ≡ (if s == slot then None else route_at self.old s p) }
     {
-        self.routes.retain(|key, _| key.slot != slot);
+        let mut last = None;
+        while let Some(prefix) = self.slot_prefix_after(slot, last) {
+            self.withdraw(slot, prefix);
+            last = Some(prefix);
+        }
     }
 
     /// The least prefix above the given one to which a slot has a route, or the least of all.
@@ -131,97 +159,57 @@ impl<A: Allocator + Clone> AdjIn<A> {
         ensures least { IfSome result (λ p. (s : ℕ) (q : Prefix) → IsAbove after q → IsSome (route_at self.now s q) → is_gt (prefix_cmp p q) ≡ false) }
         ensures none { IfNone result ((s : ℕ) (q : Prefix) → IsAbove after q → route_at self.now s q ≡ None) }
     {
-        match after {
-            Some(prefix) => self.prefix_above(prefix),
-            None => self.first_prefix(),
-        }
+        self.rises();
+        self.routes.after(after)
     }
 
-    fn prefix_above(&self, after: Prefix) -> Option<Prefix>
-        ensures has { IfSome result (λ p. HasRoute self.now p) }
-        ensures above { IfSome result (λ p. prefix_cmp after p ≡ Less) }
-        ensures least { IfSome result (λ p. (s : ℕ) (q : Prefix) → prefix_cmp after q ≡ Less → IsSome (route_at self.now s q) → is_gt (prefix_cmp p q) ≡ false) }
-        ensures none { IfNone result ((s : ℕ) (q : Prefix) → prefix_cmp after q ≡ Less → route_at self.now s q ≡ None) }
+    // The least prefix above the given one, or of all, to which a slot below 64 has a route: found through the marks.
+    fn marked_prefix_after(&self, slot: u8, after: Option<Prefix>) -> Option<Prefix>
+        requires { slot < 64 }
+        ensures has { IfSome result (λ p. IsSome (route_at self.now slot p)) }
+        ensures above { IfSome result (λ p. IsAbove after p) }
+        ensures least { IfSome result (λ p. (q : Prefix) → IsAbove after q → IsSome (route_at self.now slot q) → is_gt (prefix_cmp p q) ≡ false) }
+        ensures none { IfNone result ((q : Prefix) → IsAbove after q → route_at self.now slot q ≡ None) }
     {
-        // No slot is above 255, so that this key is above each route to the prefix.
-        let last = RouteKey {
-            prefix: after,
-            slot: u8::MAX,
-        };
-        match self.key_above(last) {
-            Some(key) => Some(key.prefix),
-            None => None,
-        }
+        self.rises();
+        self.routes.marked_after(after, mark(slot))
     }
 
-    fn key_above(&self, after: RouteKey) -> Option<RouteKey>
-        ensures has { IfSome result (λ key. IsSome (route_at self.now key.slot key.prefix)) }
-        ensures above { IfSome result (λ key. key_cmp after key ≡ Less) }
-        ensures octet { IfSome result (λ key. key.slot < 256) }
-        ensures least { IfSome result (λ key. (q : RouteKey) → key_cmp after q ≡ Less → IsSome (route_at self.now q.slot q.prefix) → is_gt (key_cmp key q) ≡ false) }
-        ensures none { IfNone result ((q : RouteKey) → key_cmp after q ≡ Less → route_at self.now q.slot q.prefix ≡ None) }
+    /// The least prefix above the given one, or of all, to which the slot has a route. That of a slot below 64 is found
+    /// through the marks, in time of the prefix's length.
+    pub fn slot_prefix_after(&self, slot: u8, after: Option<Prefix>) -> Option<Prefix>
+        ensures has { IfSome result (λ p. IsSome (route_at self.now slot p)) }
+        ensures above { IfSome result (λ p. IsAbove after p) }
+        ensures least { IfSome result (λ p. (q : Prefix) → IsAbove after q → IsSome (route_at self.now slot q) → is_gt (prefix_cmp p q) ≡ false) }
+        ensures none { IfNone result ((q : Prefix) → IsAbove after q → route_at self.now slot q ≡ None) }
     {
-        let mut above = self
-            .routes
-            .range((Bound::Excluded(after), Bound::Unbounded));
-        match above.next() {
-            Some((key, _)) => Some(RouteKey {
-                prefix: key.prefix,
-                slot: slot_of(key),
-            }),
-            None => None,
+        if slot < MARKS {
+            return self.marked_prefix_after(slot, after);
         }
+        let mut last = after;
+        while let Some(prefix) = self.prefix_after(last) {
+            if self.get(slot, prefix).is_some() {
+                return Some(prefix);
+            }
+            last = Some(prefix);
+        }
+        None
     }
 
-    fn first_prefix(&self) -> Option<Prefix>
-        ensures has { IfSome result (λ p. HasRoute self.now p) }
-        ensures least { IfSome result (λ p. (s : ℕ) (q : Prefix) → IsSome (route_at self.now s q) → is_gt (prefix_cmp p q) ≡ false) }
-        ensures none { IfNone result ((s : ℕ) (q : Prefix) → route_at self.now s q ≡ None) }
+    /// The routes of a slot, in rising order of prefix.
+    pub fn routes_of(&self, slot: u8) -> SlotRoutes<'_, A>
+        ensures all { result ≡ routes_of slot self.now }
+        ensures rising { IsStrictlySortedBy prefix_cmp (keys_of result) }
+        ensures found { (p : Prefix) → lookup (is_prefix p) result ≡ route_at self.now slot p }
     {
-        match self.routes.first_key_value() {
-            Some((key, _)) => Some(key.prefix),
-            None => None,
-        }
+        self.rises();
+        SlotRoutes::among(self.routes.iter(), slot)
     }
 
-    /// The routes, in rising order of prefix, then slot.
-    pub fn routes(&self) -> Routes<'_, A>
-        ensures all { result ≡ self.now }
-        ensures rising { IsRising self.now }
+    // The prefixes rise.
+    fn rises(&self)
+        ensures { IsRising self.now }
     {
-        Routes {
-            rest: self.routes.iter(),
-        }
-    }
-}
-
-/// Routes in rising order: the prefix, the slot and the attributes of each.
-#[derive(Drop)]
-pub struct Routes<'a, A: Allocator = Global> {
-    rest: btree_map::Iter<'a, RouteKey, SharedAttrs<A>>,
-}
-
-impl<'a, A: Allocator> Model for Routes<'a, A> {
-    ghost use Rattle.std.specs.Prelude.{List};
-    ghost use Rattle.bgp_attr.specs.PathAttributes.{PathAttributes};
-    ghost use Rattle.rib_in.specs.declared.adj_in.RouteKey.{RouteKey};
-
-    ghost Value = { List (RouteKey × PathAttributes) };
-
-    ghost view = { λ routes. routes.rest };
-}
-
-impl<'a, A: Allocator> Iterator for Routes<'a, A> {
-    type Item = (Prefix, u8, &'a Attrs<A>);
-
-    ghost next_gives = { YieldsFirstBy (λ item. entry_of item.0 item.1 item.2.now) (λ rest. rest) };
-
-    ghost remaining = { item_count (λ rest. rest) };
-
-    fn next(&mut self) -> Option<(Prefix, u8, &'a Attrs<A>)> {
-        match self.rest.next() {
-            Some((key, shared)) => Some((key.prefix, key.slot, shared.attrs())),
-            None => None,
-        }
+        self.routes.len();
     }
 }

@@ -2,12 +2,17 @@
 //!
 //! `AdjIn` keeps the attributes of the latest route of each slot and prefix (RFC 4271 section 3.2): an announcement
 //! replaces the route before it, a withdrawal takes it out, and the end of a session takes out each route of its
-//! slot. Attributes are shared by the routes of one UPDATE. Only `announce` takes memory, and where it gets none
-//! the table stays as it was. Which route is chosen, and whether one is taken at all, is decided above.
+//! slot. Attributes are shared by the routes of one UPDATE. The routes stand in a trie by prefix, whose marks are the
+//! slots, so that the routes of one slot are found without looking at the others. Only `announce` takes memory, and
+//! where it gets none the table stays as it was. Which route is chosen, and whether one is taken at all, is decided
+//! above.
 #![tactic(auto)]
 
 mod adj_in;
 mod fault;
+mod prefix_routes;
+mod slot_routes;
 
-pub use adj_in::{AdjIn, RouteKey, Routes};
+pub use adj_in::AdjIn;
 pub use fault::RibFault;
+pub use slot_routes::SlotRoutes;

@@ -13,8 +13,7 @@ use Rattle.decision.proofs.Laws.{selected_member}
 use Rattle.export_rules.specs.Export.{AreAccepted, IsSender, export_at, exported_of, fitting}
 use Rattle.export_rules.specs.declared.export.ExportPeer.{ExportPeer}
 use Rattle.net_prefix.specs.declared.prefix.Prefix.{Prefix}
-use Rattle.rib_in.specs.LatestRoutes.{route_at}
-use Rattle.rib_in.specs.declared.adj_in.RouteKey.{RouteKey}
+use Rattle.rib_in.specs.LatestRoutes.{RouteTable, route_at}
 use Rattle.speaker.specs.AdjRibIn.{route}
 use Rattle.speaker.specs.Agreement.{SlotAgrees, tables_after}
 use Rattle.speaker.specs.Candidates.{IsCandidate}
@@ -31,11 +30,11 @@ use Rattle.speaker.proofs.SlotStates.{slot_session}
 -- From the slots to the whole: what the selection reads, what is exported, and what a call queues.
 
 -- the slots of a speaker are as these histories leave them
-abbrev pub SlotsAgree : Config → Configuration → (ℕ → Option Linked) → List (RouteKey × PathAttributes) → (ℕ → List happens.Event) → Type 0
+abbrev pub SlotsAgree : Config → Configuration → (ℕ → Option Linked) → RouteTable → (ℕ → List happens.Event) → Type 0
 SlotsAgree config conf links adj_in histories = (s : ℕ) → SlotAgrees config (peer_at conf s) (links s) (route_at adj_in s) (histories s)
 
 -- one slot changes
-pub slots_changed : (config : Config) (conf conf2 : Configuration) (links links2 : ℕ → Option Linked) (adj_in adj_in2 : List (RouteKey × PathAttributes)) (hs hs2 : ℕ → List happens.Event) (slot : ℕ)
+pub slots_changed : (config : Config) (conf conf2 : Configuration) (links links2 : ℕ → Option Linked) (adj_in adj_in2 : RouteTable) (hs hs2 : ℕ → List happens.Event) (slot : ℕ)
     → SlotsAgree config conf links adj_in hs
     → ((t : ℕ) → t ≢ slot → peer_at conf2 t ≡ peer_at conf t) → ((t : ℕ) → t ≢ slot → links2 t ≡ links t)
     → ((t : ℕ) → t ≢ slot → (p : Prefix) → route_at adj_in2 t p ≡ route_at adj_in t p) → ((t : ℕ) → t ≢ slot → hs2 t ≡ hs t)
@@ -54,7 +53,7 @@ slots_changed config conf conf2 links links2 adj_in adj_in2 hs hs2 slot all peer
     ]
 
 -- what the selection reads of these slots
-abbrev pub tables_in : Configuration → (ℕ → Option Linked) → List (RouteKey × PathAttributes) → Tables
+abbrev pub tables_in : Configuration → (ℕ → Option Linked) → RouteTable → Tables
 tables_in conf links adj_in = record { conf = conf; sessions = λ s. option_map (λ l. l.peer.session) (links s); routes = λ s prefix. route_at adj_in s prefix }
 
 pub slot_route : (config : Config) (peer : Option ConfiguredPeer) (l : Option Linked) (routes : Prefix → Option PathAttributes) (h : List happens.Event) (p : Prefix) → SlotAgrees config peer l routes h
@@ -62,7 +61,7 @@ pub slot_route : (config : Config) (peer : Option ConfiguredPeer) (l : Option Li
 slot_route config peer l routes h p a = sym (a.routes_are p)
 
 -- the run's tables are those that are kept
-pub tables_same : (config : Config) (r : Run) (conf : Configuration) (links : ℕ → Option Linked) (adj_in : List (RouteKey × PathAttributes)) → configuration_of config r ≡ conf
+pub tables_same : (config : Config) (r : Run) (conf : Configuration) (links : ℕ → Option Linked) (adj_in : RouteTable) → configuration_of config r ≡ conf
     → SlotsAgree config conf links adj_in (λ s. history config s r) → tables_after config r ≡ tables_in conf links adj_in
 tables_same config r conf links adj_in same all = λ i. record {
   conf = same i;
@@ -79,13 +78,13 @@ export_found : (t : Tables) (c : Candidate) (peer : ExportPeer) (prefix : Prefix
 export_found t c peer prefix None best is = let candidate = best_candidate t prefix c best in let route_is = candidate.route in absurd (cc)
 export_found t c peer prefix (Some attrs) best is = inl (c, attrs, best, is, refl)
 
-export_best : (t : Tables) (adj_in : List (RouteKey × PathAttributes)) (peer : ExportPeer) (prefix : Prefix) (found : Option Candidate)
+export_best : (t : Tables) (adj_in : RouteTable) (peer : ExportPeer) (prefix : Prefix) (found : Option Candidate)
     → ((s : ℕ) (p : Prefix) → t.routes s p ≡ route_at adj_in s p) → MatchOption found (HasNoCandidate t prefix) (λ c. IsBest t prefix c)
     → IsExport t peer prefix (option_and_then (λ c. option_and_then (λ attrs. export_at c attrs peer) (route_at adj_in c.slot prefix)) found)
 export_best t adj_in peer prefix None routes none = inr (none, refl)
 export_best t adj_in peer prefix (Some c) routes best = export_found t c peer prefix (route_at adj_in c.slot prefix) best (routes c.slot prefix)
 
-pub export_is : (t : Tables) (loc_rib : Prefix → Option Candidate) (adj_in : List (RouteKey × PathAttributes)) (peer : ExportPeer) (prefix : Prefix)
+pub export_is : (t : Tables) (loc_rib : Prefix → Option Candidate) (adj_in : RouteTable) (peer : ExportPeer) (prefix : Prefix)
     → ((s : ℕ) (p : Prefix) → t.routes s p ≡ route_at adj_in s p) → AreBest t loc_rib → IsExport t peer prefix (export_in loc_rib adj_in peer prefix)
 export_is t loc_rib adj_in peer prefix routes is = export_best t adj_in peer prefix (loc_rib prefix) routes (is prefix)
 
@@ -102,7 +101,7 @@ found_short : (c : Candidate) (peer : ExportPeer) (found : Option PathAttributes
 found_short c peer None a is = absurd (cc)
 found_short c peer (Some attrs) a is = export_at_short (c.slot == peer.slot) (attributes_spelling (exported_of attrs peer)) a is
 
-best_short : (adj_in : List (RouteKey × PathAttributes)) (peer : ExportPeer) (prefix : Prefix) (found : Option Candidate) (a : List ℕ)
+best_short : (adj_in : RouteTable) (peer : ExportPeer) (prefix : Prefix) (found : Option Candidate) (a : List ℕ)
     → option_and_then (λ c. option_and_then (λ attrs. export_at c attrs peer) (route_at adj_in c.slot prefix)) found ≡ Some a → length a ≤ 4068
 best_short adj_in peer prefix None a is = absurd (cc)
 best_short adj_in peer prefix (Some c) a is = found_short c peer (route_at adj_in c.slot prefix) a is
@@ -120,7 +119,7 @@ pub export_peer_found : (s : SpeakerState) (t : ℕ) (p : ConfiguredPeer) (prefi
 export_peer_found s t p prefix is = ap (λ found. option_and_then (λ x. export_in (best_at s.loc_rib) s.adj_in (export_peer_of s.conf t x) prefix) found) is
 
 -- what is written of the best route is good to the peer
-pub on_accepted : (b : Bool) (loc_rib : List (Prefix × Candidate)) (adj_in : List (RouteKey × PathAttributes)) (peer : ExportPeer) (p : Prefix) (octets : List ℕ) (c : Candidate) (attrs : PathAttributes)
+pub on_accepted : (b : Bool) (loc_rib : List (Prefix × Candidate)) (adj_in : RouteTable) (peer : ExportPeer) (p : Prefix) (octets : List ℕ) (c : Candidate) (attrs : PathAttributes)
     → best_at loc_rib p ≡ Some c → route_at adj_in c.slot p ≡ Some attrs → OnTrue b (IsSender peer → missing_of attrs ≡ None → AreAccepted peer.own octets)
     → OnTrue b (IsAccepted loc_rib adj_in peer p octets)
 on_accepted true loc_rib adj_in peer p octets c attrs best route good = λ sender complete. good sender (complete c attrs best route)

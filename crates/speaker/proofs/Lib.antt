@@ -1,8 +1,8 @@
 pub mod CandidateLists
-pub mod ChosenRoutes
 pub mod Results
 pub mod Places
 pub mod Serving
+pub mod ChosenRoutes
 pub mod RouteChanges
 pub mod SentPrefixes
 pub mod Histories

@@ -7,15 +7,14 @@ use Rattle.bgp_attr.specs.PathAttributes.{PathAttributes}
 use Rattle.bgp_conf.proofs.PrefixOrder.{is_eq-nat_cmp}
 use Rattle.net_prefix.specs.PrefixOrder.{prefix_cmp}
 use Rattle.net_prefix.specs.declared.prefix.Prefix.{Prefix}
-use Rattle.rib_in.specs.LatestRoutes.{route_at, is_route}
-use Rattle.rib_in.specs.declared.adj_in.RouteKey.{RouteKey}
+use Rattle.rib_in.specs.LatestRoutes.{RouteTable, route_at, is_route}
 use Rattle.speaker.specs.AdjRibIn.{is_among}
 
 -- What the prefixes of an UPDATE make of the routes of its slot.
 
 -- a table of routes
 abbrev pub Routes : Type 0
-Routes = List (RouteKey × PathAttributes)
+Routes = RouteTable
 
 -- the slot's routes to these prefixes become this, and no other route changes
 abbrev pub IsSet : ℕ → List Prefix → Option PathAttributes → Routes → Routes → Type 0

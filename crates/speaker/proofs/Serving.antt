@@ -99,7 +99,7 @@ Walks-start done slot s up = record {
 }
 
 -- a prefix between the last one and the next one has nothing
-none_between : {X : Type 0} (p q : Prefix) (found : Option X) → (IsSome found → is_gt (prefix_cmp p q) ≡ false) → rank_of q < rank_of p → found ≡ None
+pub none_between : {X : Type 0} (p q : Prefix) (found : Option X) → (IsSome found → is_gt (prefix_cmp p q) ≡ false) → rank_of q < rank_of p → found ≡ None
 none_between p q None least under = refl
 none_between p q (Some x) least under = let high = greater_from_rank p q under in let low = least refl in cc
 

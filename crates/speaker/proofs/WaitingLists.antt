@@ -17,8 +17,7 @@ use Rattle.export_rules.specs.declared.export.ExportPeer.{ExportPeer}
 use Rattle.net_prefix.specs.PrefixOrder.{prefix_cmp}
 use Rattle.net_prefix.specs.declared.prefix.Prefix.{Prefix}
 use Rattle.net_prefix.proofs.PayloadSets.{prefix_cmp_total}
-use Rattle.rib_in.specs.LatestRoutes.{route_at}
-use Rattle.rib_in.specs.declared.adj_in.RouteKey.{RouteKey}
+use Rattle.rib_in.specs.LatestRoutes.{RouteTable, route_at}
 use Rattle.rib_out.specs.Held.{held_at, is_prefix}
 use Rattle.speaker.specs.Export.{export_in}
 use Rattle.speaker.specs.Linked.{Linked}
@@ -78,7 +77,7 @@ is_same-Decides (Some a) (Some b) =
     (λ e. ap Some (decides.0 e), λ e. decides.1 (cc))
 
 -- what is exported of a prefix is of its best route
-found_none : (adj_in : List (RouteKey × PathAttributes)) (peer : ExportPeer) (q : Prefix) (found : Option Candidate) (held : Option (List ℕ))
+found_none : (adj_in : RouteTable) (peer : ExportPeer) (q : Prefix) (found : Option Candidate) (held : Option (List ℕ))
     → not (is_same held (option_and_then (λ c. option_and_then (λ attrs. export_at c attrs peer) (route_at adj_in c.slot q)) found)) ≡ true → (is_some found || is_some held) ≡ true
 found_none adj_in peer q None None differs = absurd (cc)
 found_none adj_in peer q None (Some octets) differs = refl
@@ -89,7 +88,7 @@ passes_both true b h = refl
 passes_both false true h = h refl
 passes_both false false h = refl
 
-pub any_differing : (loc_rib : List (Prefix × Candidate)) (adj_in : List (RouteKey × PathAttributes)) (peer : ExportPeer) (held : List (Prefix × List ℕ)) (q : Prefix)
+pub any_differing : (loc_rib : List (Prefix × Candidate)) (adj_in : RouteTable) (peer : ExportPeer) (held : List (Prefix × List ℕ)) (q : Prefix)
     → list_any (is_prefix q) (differing (held_at held) (export_in (best_at loc_rib) adj_in peer) (known_prefixes loc_rib held)) ≡ not (is_same (held_at held q) (export_in (best_at loc_rib) adj_in peer q))
 any_differing loc_rib adj_in peer held q =
     any_filter (λ prefix. not (is_same (held_at held prefix) (export_in (best_at loc_rib) adj_in peer prefix))) q (known_prefixes loc_rib held)
@@ -105,7 +104,7 @@ true_from_not true h = absurd (h refl)
 true_from_not false h = refl
 
 -- the known prefixes that differ are those of which other octets are held than are exported
-pub differing_is : (loc_rib : List (Prefix × Candidate)) (adj_in : List (RouteKey × PathAttributes)) (peer : ExportPeer) (held : List (Prefix × List ℕ)) (q : Prefix)
+pub differing_is : (loc_rib : List (Prefix × Candidate)) (adj_in : RouteTable) (peer : ExportPeer) (held : List (Prefix × List ℕ)) (q : Prefix)
     → Contains (differing (held_at held) (export_in (best_at loc_rib) adj_in peer) (known_prefixes loc_rib held)) q ↔ (held_at held q ≢ export_in (best_at loc_rib) adj_in peer q)
 differing_is loc_rib adj_in peer held q =
     let test = any_differing loc_rib adj_in peer held q in
@@ -115,7 +114,7 @@ differing_is loc_rib adj_in peer held q =
     )
 
 -- what is listed of a slot that is there and whose session is Established
-pub listed_of : (loc_rib : List (Prefix × Candidate)) (adj_in : List (RouteKey × PathAttributes)) (peer : ExportPeer) (l : Linked) (found : Option ExportPeer) (link : Option Linked) (prefixes : List Prefix)
+pub listed_of : (loc_rib : List (Prefix × Candidate)) (adj_in : RouteTable) (peer : ExportPeer) (l : Linked) (found : Option ExportPeer) (link : Option Linked) (prefixes : List Prefix)
     → Some peer ≡ found → Some l ≡ link → l.peer.session.state ≡ Established
     → prefixes ≡ differing (held_at l.adj_out) (export_in (best_at loc_rib) adj_in peer) (known_prefixes loc_rib l.adj_out) → prefixes ≡ waiting_at loc_rib adj_in found link
 listed_of loc_rib adj_in peer l found link prefixes there linked established is =

@@ -8,8 +8,7 @@ use Rattle.decision.specs.declared.candidate.Candidate.{Candidate}
 use Rattle.export_rules.specs.Export.{AreAccepted, IsSender, export_at}
 use Rattle.export_rules.specs.declared.export.ExportPeer.{ExportPeer}
 use Rattle.net_prefix.specs.declared.prefix.Prefix.{Prefix}
-use Rattle.rib_in.specs.LatestRoutes.{route_at}
-use Rattle.rib_in.specs.declared.adj_in.RouteKey.{RouteKey}
+use Rattle.rib_in.specs.LatestRoutes.{RouteTable, route_at}
 use Rattle.speaker.specs.LocRib.{IsBest, HasNoCandidate}
 use Rattle.speaker.specs.SpeakerState.{SpeakerState}
 use Rattle.speaker.specs.Tables.{Tables, best_at}
@@ -26,7 +25,7 @@ IsExport t peer prefix octets =
     ⊎ (HasNoCandidate t prefix × (octets ≡ None))
 
 -- the same of the tables that are kept
-abbrev pub export_in : (Prefix → Option Candidate) → List (RouteKey × PathAttributes) → ExportPeer → Prefix → Option (List ℕ)
+abbrev pub export_in : (Prefix → Option Candidate) → RouteTable → ExportPeer → Prefix → Option (List ℕ)
 export_in loc_rib adj_in peer prefix =
     option_and_then (λ c. option_and_then (λ attrs. export_at c attrs peer) (route_at adj_in c.slot prefix)) (loc_rib prefix)
 
@@ -36,7 +35,7 @@ export_to s slot prefix = option_and_then (λ peer. export_in (best_at s.loc_rib
 
 -- the peer finds no fault with these octets of attributes, where the best route of the prefix lacks no attribute that
 -- routes need (RFC 4271 section 6.3)
-abbrev pub IsAccepted : List (Prefix × Candidate) → List (RouteKey × PathAttributes) → ExportPeer → Prefix → List ℕ → Type 0
+abbrev pub IsAccepted : List (Prefix × Candidate) → RouteTable → ExportPeer → Prefix → List ℕ → Type 0
 IsAccepted loc_rib adj_in peer prefix octets =
     IsSender peer
     → ((c : Candidate) (attrs : PathAttributes) → best_at loc_rib prefix ≡ Some c → route_at adj_in c.slot prefix ≡ Some attrs → missing_of attrs ≡ None)

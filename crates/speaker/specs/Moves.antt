@@ -15,9 +15,8 @@ use Rattle.bgp_msg.specs.MessageStream.{needed_of}
 use Rattle.net_prefix.specs.declared.transport.Transport.{Transport}
 use Rattle.net_prefix.specs.declared.transport.Transport.TheVariants.{None as NoConnection, Opening, Listening, Open as Connected, Closing}
 use Rattle.net_prefix.specs.declared.prefix.Prefix.{Prefix}
-use Rattle.rib_in.specs.declared.adj_in.RouteKey.{RouteKey}
 use Rattle.speaker.specs.AdjRibIn.{word_if, update_heard}
-use Rattle.rib_in.specs.LatestRoutes.{route_at}
+use Rattle.rib_in.specs.LatestRoutes.{RouteTable, route_at}
 use Rattle.speaker.specs.Linked.{Linked}
 use Rattle.speaker.specs.SpeakerState.{SpeakerState}
 use Rattle.speaker.specs.Tables.{link_at}
@@ -59,7 +58,7 @@ pub record AreOf (terms : Terms) (expected : Expected) (kind : PeerKind) : Type 
   pub kind_is : kind ≡ kind_of terms
 
 -- the UPDATE, where there is one, makes this of the slot's routes, and of no other ones
-abbrev pub IsHeard : ℕ → Option UpdateBody → List (RouteKey × PathAttributes) → List (RouteKey × PathAttributes) → Type 0
+abbrev pub IsHeard : ℕ → Option UpdateBody → RouteTable → RouteTable → Type 0
 IsHeard slot update old new =
     (s : ℕ) (prefix : Prefix) → route_at new s prefix ≡ (if s == slot then word_if update prefix (route_at old s prefix) else route_at old s prefix)
 

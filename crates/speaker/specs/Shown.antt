@@ -1,13 +1,11 @@
 -- What operators see of the tables.
 use Rattle.std.specs.Prelude.{ℕ, ◌==◌, List, [], ◌∷◌, Option, Some, None, if◌then◌else◌}
-use Rattle.bgp_attr.specs.PathAttributes.{PathAttributes}
 use Rattle.bgp_fsm.specs.Transports.{transport_of}
 use Rattle.bgp_fsm.specs.declared.session.Session.{Session}
 use Rattle.decision.specs.declared.candidate.Candidate.{Candidate}
 use Rattle.net_prefix.specs.declared.prefix.Prefix.{Prefix}
 use Rattle.net_prefix.specs.declared.transport.Transport.{Transport}
 use Rattle.net_prefix.specs.declared.transport.Transport.TheVariants.{None as NoConnection}
-use Rattle.rib_in.specs.declared.adj_in.RouteKey.{RouteKey}
 use Rattle.speaker.specs.Linked.{Linked}
 use Rattle.speaker.specs.declared.views.BestRoute.{BestRoute}
 
@@ -19,11 +17,6 @@ shown_of entry = record { prefix = entry.0; slot = entry.1.slot; degree = entry.
 abbrev pub transport_at : Option Session → Transport
 transport_at None = NoConnection
 transport_at (Some session) = transport_of session
-
--- the routes of a slot, in the order of the table
-abbrev pub routes_of : ℕ → List (RouteKey × PathAttributes) → List (Prefix × PathAttributes)
-routes_of slot [] = []
-routes_of slot (e ∷ table) = if e.0.slot == slot then (e.0.prefix, e.1) ∷ routes_of slot table else routes_of slot table
 
 -- what a list shows that may not be there
 abbrev pub listed : Option (List (Prefix × List ℕ)) → List (Prefix × List ℕ)

@@ -4,7 +4,7 @@ use Rattle.bgp_attr.specs.PathAttributes.{PathAttributes}
 use Rattle.bgp_conf.specs.Configuration.{Configuration}
 use Rattle.decision.specs.declared.candidate.Candidate.{Candidate}
 use Rattle.net_prefix.specs.declared.prefix.Prefix.{Prefix}
-use Rattle.rib_in.specs.declared.adj_in.RouteKey.{RouteKey}
+use Rattle.rib_in.specs.LatestRoutes.{RouteTable}
 use Rattle.speaker.specs.declared.config.Config.{Config}
 use Rattle.speaker.specs.Linked.{Linked}
 use Rattle.speaker.specs.Tables.{Tables, tables, link_at}
@@ -16,7 +16,7 @@ pub record SpeakerState : Type 0 where
   pub moment : ℕ
   pub conf : Configuration
   pub links : List (ℕ × Linked)
-  pub adj_in : List (RouteKey × PathAttributes)
+  pub adj_in : RouteTable
   pub loc_rib : List (Prefix × Candidate)
   pub stopped : Bool
 

@@ -9,8 +9,7 @@ use Rattle.bgp_conf.specs.Configuration.{Configuration}
 use Rattle.bgp_fsm.specs.declared.session.Session.{Session}
 use Rattle.decision.specs.declared.candidate.Candidate.{Candidate}
 use Rattle.net_prefix.specs.declared.prefix.Prefix.{Prefix}
-use Rattle.rib_in.specs.declared.adj_in.RouteKey.{RouteKey}
-use Rattle.rib_in.specs.LatestRoutes.{route_at}
+use Rattle.rib_in.specs.LatestRoutes.{RouteTable, route_at}
 use Rattle.net_prefix.specs.PrefixOrder.{prefix_cmp}
 use Rattle.speaker.specs.Linked.{Linked}
 
@@ -33,5 +32,5 @@ abbrev pub best_at : List (Prefix × Candidate) → Prefix → Option Candidate
 best_at routes prefix = lookup (is_at (prefix_cmp prefix)) routes
 
 -- what the selection reads of these slots
-abbrev pub tables : Configuration → List (ℕ × Linked) → List (RouteKey × PathAttributes) → Tables
+abbrev pub tables : Configuration → List (ℕ × Linked) → RouteTable → Tables
 tables conf links adj_in = record { conf = conf; sessions = λ slot. session_at links slot; routes = λ slot prefix. route_at adj_in slot prefix }

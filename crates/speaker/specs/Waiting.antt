@@ -15,8 +15,8 @@ use Rattle.decision.specs.declared.candidate.Candidate.{Candidate}
 use Rattle.export_rules.specs.declared.export.ExportPeer.{ExportPeer}
 use Rattle.net_prefix.specs.PrefixOrder.{prefix_cmp}
 use Rattle.net_prefix.specs.declared.prefix.Prefix.{Prefix}
-use Rattle.rib_in.specs.declared.adj_in.RouteKey.{RouteKey}
 use Rattle.rib_out.specs.Held.{held_at}
+use Rattle.rib_in.specs.LatestRoutes.{RouteTable}
 use Rattle.speaker.specs.Agreement.{tables_after}
 use Rattle.speaker.specs.Export.{IsExport, export_in, export_peer_of}
 use Rattle.speaker.specs.Held.{held}
@@ -60,7 +60,7 @@ abbrev pub if_established : State → List Prefix → List Prefix
 if_established state prefixes = if is_established state then prefixes else []
 
 -- the known prefixes that wait of this slot, as the tables stand
-abbrev pub waiting_at : List (Prefix × Candidate) → List (RouteKey × PathAttributes) → Option ExportPeer → Option Linked → List Prefix
+abbrev pub waiting_at : List (Prefix × Candidate) → RouteTable → Option ExportPeer → Option Linked → List Prefix
 waiting_at loc_rib adj_in None found = []
 waiting_at loc_rib adj_in (Some peer) None = []
 waiting_at loc_rib adj_in (Some peer) (Some l) =

@@ -206,8 +206,8 @@ impl<A: Allocator + Clone> Speaker<A> {
     }
 }
 
-// The place of a prefix among all prefixes: they are ordered by address, then by length.
-fn place(prefix: Prefix) -> u64
+/// The place of a prefix among all prefixes: they are ordered by address, then by length.
+pub fn place(prefix: Prefix) -> u64
     ensures place { result ≡ rank_of prefix }
     ensures below { result < 2 ^ 38 }
 {

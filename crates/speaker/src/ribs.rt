@@ -7,6 +7,7 @@ ghost use Rattle.speaker.specs.LocRib.{IsLocRib};
 
 use crate::choosing::best;
 use crate::link::Link;
+use crate::queueing::place;
 use bgp_conf::Conf;
 use decision::{Candidate, Meter};
 use net_prefix::Prefix;
@@ -90,10 +91,14 @@ fn best_of_all<A: Allocator + Clone>(
     ensures { IfOk result (λ routes. IsLocRib (tables conf.now links.now.entries adj_in.now) routes.entries) }
 {
     let mut chosen = BTreeMap::new(alloc);
-    for (prefix, _, _) in adj_in.routes() {
+    let mut after = None;
+    while let Some(prefix) = adj_in.prefix_after(after) {
         if let Some(route) = best(conf, links, adj_in, meter, prefix) {
             chosen.insert(prefix, route)?;
         }
+        // Places rise, so the walk ends.
+        let _place = place(prefix);
+        after = Some(prefix);
     }
     Ok(chosen)
 }

@@ -16,16 +16,17 @@ ghost use Rattle.speaker.specs.Held.{held};
 ghost use Rattle.speaker.specs.Runs.{Run, history};
 ghost use Rattle.speaker.specs.declared.config.Config.{Config};
 ghost use Rattle.speaker.specs.Tables.{link_at, session_at};
-ghost use Rattle.speaker.specs.Shown.{held_by, routes_of, shown_of, transport_at};
+ghost use Rattle.rib_in.specs.LatestRoutes.{routes_of};
+ghost use Rattle.speaker.specs.Shown.{held_by, shown_of, transport_at};
 ghost use Rattle.speaker.specs.Waiting.{IsWaitingIn, waiting_of};
 ghost use Rattle.bgp_peer.specs.PeerLimits.{ring_octets, room_for_update};
 
 use crate::step::Speaker;
 use crate::waiting::{Waiting, WaitingPrefixes};
-use bgp_attr::Attrs;
 use bgp_fsm::State;
 use decision::Candidate;
 use net_prefix::{Prefix, Transport, Vrp};
+use rib_in::SlotRoutes;
 use std::alloc::{Allocator, Global};
 use std::collections::btree_map;
 use std::marker::Model;
@@ -97,41 +98,6 @@ impl Iterator for Payloads<'_> {
         let (first, rest) = self.payloads.split_first()?;
         self.payloads = rest;
         Some(*first)
-    }
-}
-
-/// The routes that a slot's peer has announced and not taken back, in rising order.
-#[derive(Drop)]
-pub struct AdjRibIn<'a, A: Allocator = Global> {
-    pub(crate) routes: rib_in::Routes<'a, A>,
-    pub(crate) slot: u8,
-}
-
-impl<'a, A: Allocator> Model for AdjRibIn<'a, A> {
-    ghost use Rattle.std.specs.Prelude.{List};
-    ghost use Rattle.bgp_attr.specs.PathAttributes.{PathAttributes};
-    ghost use Rattle.net_prefix.specs.declared.prefix.Prefix.{Prefix};
-    ghost use Rattle.speaker.specs.Shown.{routes_of};
-
-    ghost Value = { List (Prefix × PathAttributes) };
-
-    ghost view = { λ routes. routes_of routes.slot routes.routes };
-}
-
-impl<'a, A: Allocator> Iterator for AdjRibIn<'a, A> {
-    type Item = (Prefix, &'a Attrs<A>);
-
-    ghost next_gives = { YieldsFirstBy (λ item. (item.0, item.1.now)) (λ rest. rest) };
-
-    ghost remaining = { item_count (λ rest. rest) };
-
-    fn next(&mut self) -> Option<(Prefix, &'a Attrs<A>)> {
-        while let Some((prefix, from, attrs)) = self.routes.next() {
-            if from == self.slot {
-                return Some((prefix, attrs));
-            }
-        }
-        None
     }
 }
 
@@ -222,16 +188,13 @@ impl<A: Allocator + Clone> Speaker<A> {
 
     /// The routes that a slot's peer has announced and not taken back, in rising order; none where the slot
     /// isn't configured.
-    pub fn adj_in(&self, slot: u8) -> AdjRibIn<'_, A>
+    pub fn adj_in(&self, slot: u8) -> SlotRoutes<'_, A>
         // Each prefix once.
         ensures rising { IsStrictlySortedBy prefix_cmp (keys_of result) }
         ensures kept { result ≡ routes_of slot self.now.adj_in }
         ensures agrees { (config : Config) (r : Run) (prefix : ThePrefix) → Agrees config r self.now → lookup (is_prefix prefix) result ≡ route (history config slot r) prefix }
     {
-        AdjRibIn {
-            routes: self.ribs.adj_in.routes(),
-            slot,
-        }
+        self.ribs.adj_in.routes_of(slot)
     }
 
     /// What a slot's peer holds of what it was sent, in rising order; nothing where the slot isn't configured.

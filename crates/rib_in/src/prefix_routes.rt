@@ -1,0 +1,178 @@
+//! The routes to one prefix.
+ghost use Rattle.std.specs.Prelude.{◌≡◌, ◌<◌, [], ◌∷◌};
+ghost use Rattle.std.specs.Option.{option_copied, is_some};
+ghost use Rattle.std.specs.Map.{set_value};
+ghost use Rattle.std.specs.BTreeMap.{is_at};
+ghost use Rattle.std.specs.Ordering.{nat_cmp};
+ghost use Rattle.rib_in.specs.LatestRoutes.{route_in};
+ghost use Rattle.rib_in.specs.PrefixRoutes.{IsLeft, is_next_only, is_only, mark_of, marks_of, with_first};
+
+use bgp_attr::Attrs;
+use prefix_trie::Marked;
+use std::alloc::Allocator;
+use std::cmp::Ordering;
+use std::marker::Model;
+use std::mem;
+use std::rc::Rc;
+
+// How many slots have a mark.
+pub(crate) const MARKS: u8 = 64;
+
+// The mark of a slot: a bit for each of the first 64.
+pub(crate) fn mark(slot: u8) -> u64
+    ensures { result ≡ mark_of slot }
+{
+    if slot < MARKS { 1 << slot } else { 0 }
+}
+
+/// The routes to one prefix, in rising order of slot: at least one.
+#[derive(Drop)]
+pub(crate) struct PrefixRoutes<A: Allocator> {
+    slot: u8,
+    // Shared with the other routes of the UPDATE.
+    attrs: Rc<Attrs<A>, A>,
+    // Those of higher slots.
+    higher: Option<Box<PrefixRoutes<A>, A>>,
+}
+
+impl<A: Allocator> Model for PrefixRoutes<A> {
+    ghost use Rattle.std.specs.Prelude.{◌∷◌, length};
+    ghost use Rattle.rib_in.specs.LatestRoutes.{RouteList};
+
+    ghost Value = { RouteList };
+
+    ghost use Rattle.rib_in.specs.PrefixRoutes.{AreRoutes, higher_of};
+
+    ghost view = { λ r. (r.slot, r.attrs.value) ∷ higher_of r.higher };
+
+    ghost invariant = { λ r. AreRoutes r.slot r.attrs.value r.higher };
+
+    ghost size = { length };
+
+    ghost use Rattle.rib_in.specs.RoutesFall.{falls};
+
+    ghost size_decreases = { λ r h. falls (record { dealloc_token = A.dealloc_token }) r };
+}
+
+impl<A: Allocator> PrefixRoutes<A> {
+    /// One route.
+    pub(crate) fn one(slot: u8, attrs: Rc<Attrs<A>, A>) -> Self
+        ensures { result ≡ (slot, attrs.value) ∷ [] }
+    {
+        PrefixRoutes {
+            slot,
+            attrs,
+            higher: None,
+        }
+    }
+
+    /// The attributes of the slot's route.
+    pub(crate) fn get(&self, slot: u8) -> Option<&Attrs<A>>
+        ensures { option_copied result ≡ route_in self.now slot }
+    {
+        if self.slot == slot {
+            return Some(&self.attrs);
+        }
+        match &self.higher {
+            Some(higher) => higher.get(slot),
+            None => None,
+        }
+    }
+
+    /// Whether no other slot has a route.
+    pub(crate) fn is_only(&self, slot: u8) -> bool
+        ensures { result ≡ is_only slot self.now }
+    {
+        self.slot == slot && self.higher.is_none()
+    }
+
+    /// Replaces the slot's route, where it has one.
+    pub(crate) fn replace(&mut self, slot: u8, attrs: Rc<Attrs<A>, A>)
+        ensures { self.new ≡ set_value (is_at (nat_cmp slot)) self.old attrs.value }
+    {
+        if self.slot == slot {
+            self.attrs = attrs;
+            return;
+        }
+        let Some(higher) = &mut self.higher else {
+            return;
+        };
+        higher.replace(slot, attrs);
+    }
+
+    /// Puts the first of some routes in.
+    pub(crate) fn put(&mut self, mut route: Box<PrefixRoutes<A>, A>)
+        ensures { self.new ≡ with_first self.old route.value }
+    {
+        match route.slot.cmp(&self.slot) {
+            Ordering::Less => {
+                mem::swap(self, &mut *route);
+                self.higher = Some(route);
+            }
+            Ordering::Equal => {
+                let PrefixRoutes { attrs, .. } = Box::into_inner(route);
+                self.attrs = attrs;
+            }
+            Ordering::Greater => match &mut self.higher {
+                Some(higher) => higher.put(route),
+                None => {
+                    route.higher = None;
+                    self.higher = Some(route);
+                }
+            },
+        }
+    }
+
+    /// Takes out the slot's route, where another slot has one.
+    pub(crate) fn withdraw(&mut self, slot: u8)
+        ensures { IsLeft slot self.old self.new }
+    {
+        if self.slot == slot {
+            let Some(higher) = self.higher.take() else {
+                return;
+            };
+            *self = Box::into_inner(higher);
+            return;
+        }
+        if self.is_next_only(slot) {
+            self.higher = None;
+            return;
+        }
+        let Some(higher) = &mut self.higher else {
+            return;
+        };
+        higher.withdraw(slot);
+    }
+
+    // Whether there is just one higher route, of that slot.
+    fn is_next_only(&self, slot: u8) -> bool
+        ensures { result ≡ is_next_only slot self.now }
+    {
+        match &self.higher {
+            Some(higher) => higher.is_only(slot),
+            None => false,
+        }
+    }
+
+    // The marks of the slots that have a route.
+    fn slots(&self) -> u64
+        ensures { result ≡ marks_of self.now }
+    {
+        match &self.higher {
+            Some(higher) => mark(self.slot) | higher.slots(),
+            None => mark(self.slot),
+        }
+    }
+}
+
+impl<A: Allocator> Marked for PrefixRoutes<A> {
+    ghost use Rattle.rib_in.specs.PrefixRoutes.{marks_of};
+
+    type Marks = u64;
+
+    ghost marks_of = { marks_of };
+
+    fn marks(&self) -> u64 {
+        self.slots()
+    }
+}
