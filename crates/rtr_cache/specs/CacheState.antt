@@ -106,6 +106,11 @@ abbrev pub transport_of : Option Conn → Transport
 transport_of None = transports.None
 transport_of (Some conn) = if conn.is_open then transports.Open else transports.Closing
 
+-- whether a client has sent no whole PDU yet
+abbrev pub awaits_first_pdu : Option Conn → Bool
+awaits_first_pdu None = false
+awaits_first_pdu (Some conn) = conn.is_first
+
 -- something is left of a response only where a PDU finds no room
 abbrev pub IsAtRest : Conn → Type 0
 IsAtRest conn = conn.left ≢ [] → ring_octets < length conn.ring + room_for_pdu

@@ -4,7 +4,7 @@ ghost use Rattle.std.specs.Prelude.{◌≡◌, OnErr, length};
 ghost use Rattle.std.specs.Option.{option_map};
 ghost use Rattle.net_prefix.specs.PayloadSets.{IsPayloadSet};
 ghost use Rattle.rtr_cache.specs.CacheTable.{notified, pumped};
-ghost use Rattle.rtr_cache.specs.CacheState.{AllAreAtRest, AllAreNotified, ComesUp, GoesDown, HearsOctets, IsNew, Loads, OthersStay, Ticks, client_at, transport_of};
+ghost use Rattle.rtr_cache.specs.CacheState.{AllAreAtRest, AllAreNotified, ComesUp, GoesDown, HearsOctets, IsNew, Loads, OthersStay, Ticks, awaits_first_pdu, client_at, transport_of};
 ghost use Rattle.rtr_cache.specs.ClientHistory.{Makes, Took, call_of};
 ghost use Rattle.rtr_cache.specs.declared.other_session.OtherSession.TheVariants.{Report};
 
@@ -109,6 +109,16 @@ impl<A: Allocator + Clone> Cache<A> {
         match self.clients.get(key as usize) {
             Some(client) => client.transport(),
             None => Transport::None,
+        }
+    }
+
+    /// Whether there is such a client, and it has sent no whole PDU yet.
+    pub fn awaits_first_pdu(&self, key: u64) -> bool
+        ensures { result ≡ awaits_first_pdu (client_at self.now key) }
+    {
+        match self.clients.get(key as usize) {
+            Some(client) => client.awaits_first_pdu(),
+            None => false,
         }
     }
 

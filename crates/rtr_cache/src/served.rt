@@ -51,6 +51,13 @@ impl<A: Allocator + Clone> ServedClient<A> {
         }
     }
 
+    /// Whether no PDU of it was read.
+    pub fn awaits_first_pdu(&self) -> bool
+        ensures { result ≡ self.now.is_first }
+    {
+        self.receiver.place().is_first
+    }
+
     /// Octets came: each PDU that they complete is heard, and what is to be said is queued.
     pub fn receive(&mut self, publisher: &Publisher<A>, octets: &[u8])
         ensures { (refused : List Bool) × (self.new ≡ pumped (hears_octets publisher.now refused self.old octets.now)) }

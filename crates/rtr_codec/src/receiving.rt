@@ -44,6 +44,13 @@ impl Receiver {
         }
     }
 
+    /// Where on the connection the PDU at the front stands.
+    pub fn place(&self) -> Place
+        ensures { result ≡ self.now.place }
+    {
+        self.place
+    }
+
     /// Takes octets that come, up to the end of the PDU at the front, and answers how many.
     pub fn push(&mut self, octets: &[u8]) -> usize
         ensures count { result ≡ min (needed_of self.old.place self.old.part) (length octets.now) }
