@@ -1,5 +1,5 @@
 -- What connections carry, one step of a turn after another.
-use Rattle.std.proofs.Common.{◌≡◌, ◌≢◌, ◌≤◌, ◌<◌, ◌-◌, ◌^◌, ℕ, zero, suc, List, [], ◌∷◌, ◌++◌, refl, sym, ap, subst, ◌∙◌, append_assoc, append-nil, inl, inr, ◌⊎◌, Option, Some, None, Result, Ok, Err, arith}
+use Rattle.std.proofs.Common.{◌≡◌, ◌≢◌, ◌≤◌, ◌<◌, ◌-◌, ◌^◌, ℕ, zero, suc, Bool, true, false, List, [], ◌∷◌, ◌++◌, refl, sym, ap, subst, ◌∙◌, append_assoc, append-nil, inl, inr, ◌⊎◌, Option, Some, None, Result, Ok, Err, arith}
 use Rattle.std.proofs.lemmas.Bool.{cases_eq}
 use Rattle.std.proofs.lemmas.Option.{same_Some}
 use Rattle.rtr_cache.specs.declared.other_session.OtherSession.{OtherSession}
@@ -11,13 +11,18 @@ use Rattle.rtr_cache.proofs.TellingHistories.{told_from_empty}
 use Rattle.rtr_codec.specs.declared.intervals.Intervals.{Intervals}
 use Rattle.cache_turns.specs.Calls.{WireCall, Accept, Close}
 use Rattle.cache_turns.specs.Carrying.{CarriesWhole, given, heard, taken}
-use Rattle.cache_turns.specs.Serving.{Connection, Sides}
+use Rattle.cache_turns.specs.Patience.{arriving_at}
+use Rattle.cache_turns.specs.Serving.{Connection, Sides, judged}
 use Rattle.cache_turns.specs.Turns.{Accepts, ComesUp, Counts, GoesDown, IsTold, LacksMemory, LinksStay, OtherLinksStay, Stops, TakesTurn, TakesTurns, TellsCache, Turns, VisitsBelow, VisitsConnection, VisitsLink, idle, link_at, link_left, settled, sides}
 use Rattle.cache_turns.specs.Wires.{WireState, nothing_told, one_more}
 use Rattle.cache_turns.specs.declared.fault.LoopFault.{LoopFault}
 use Rattle.cache_turns.specs.declared.fault.LoopFault.TheVariants as stop
 use Rattle.cache_turns.specs.declared.link.Visit.{Visit}
-use Rattle.cache_turns.specs.declared.link.Visit.TheVariants.{Stays, Faulty, Ended, Closed}
+use Rattle.cache_turns.specs.declared.patience.Moments.{Moments}
+use Rattle.cache_turns.specs.declared.patience.Patience.{Patience}
+use Rattle.cache_turns.specs.declared.wire.Parting.{Parting}
+use Rattle.cache_turns.specs.declared.wire.Parting.TheVariants as parting
+use Rattle.cache_turns.specs.declared.link.Visit.TheVariants.{Stays, Faulty, Ended, Closed, Overdue}
 use Rattle.cache_turns.proofs.Exchanges.{Carries, Visited, run_on, serves_carries}
 use Rattle.cache_turns.proofs.Counting.{goes_on, goes_on_by_one}
 use Rattle.cache_turns.proofs.Effects.{AreOf, AreOfSocket, IsIdle, Silent, given-on, handed-on, heard-on, idle_socket, silent, taken-on, up-on}
@@ -35,8 +40,8 @@ record IsCarried (first : CacheState) (turns : Sides) (key : ℕ) (link : Connec
   pub takes : handed_out key history ≡ taken link.number turns.wire.calls ++ link.waiting
 
 -- and behind more calls
-carried_on : (first : CacheState) (old new : Sides) (key number : ℕ) (waiting left : List ℕ) (history : List Turn) (calls : List WireCall) → IsCarried first old key (record { number = number; waiting = waiting }) → IsRun old.cache history new.cache → new.wire.calls ≡ calls ++ old.wire.calls → StaysUp key history → heard key history ≡ given number calls → waiting ++ handed_out key history ≡ taken number calls ++ left → IsCarried first new key (record { number = number; waiting = left })
-carried_on first old new key number waiting left history calls c run asks up hears takes =
+carried_on : (first : CacheState) (old new : Sides) (key number : ℕ) (waiting left : List ℕ) (before later : Moments) (history : List Turn) (calls : List WireCall) → IsCarried first old key (record { number = number; waiting = waiting; moments = before }) → IsRun old.cache history new.cache → new.wire.calls ≡ calls ++ old.wire.calls → StaysUp key history → heard key history ≡ given number calls → waiting ++ handed_out key history ≡ taken number calls ++ left → IsCarried first new key (record { number = number; waiting = left; moments = later })
+carried_on first old new key number waiting left before later history calls c run asks up hears takes =
     record {
       before = c.before;
       start = c.start;
@@ -64,7 +69,7 @@ carried_on first old new key number waiting left history calls c run asks up hea
 -- beside calls that carry nothing of it
 carried_beside : (first : CacheState) (old new : Sides) (key : ℕ) (link : Connection) (history : List Turn) (calls : List WireCall) → IsCarried first old key link → IsRun old.cache history new.cache → new.wire.calls ≡ calls ++ old.wire.calls → Silent key history → IsIdle link.number calls → IsCarried first new key link
 carried_beside first old new key link history calls c run asks quiet rests =
-    carried_on first old new key link.number link.waiting link.waiting history calls c run asks quiet.up (quiet.hears ∙ sym rests.gives)
+    carried_on first old new key link.number link.waiting link.waiting link.moments link.moments history calls c run asks quiet.up (quiet.hears ∙ sym rests.gives)
     (ap (λ (l : List ℕ). link.waiting ++ l) quiet.hands ∙ (append-nil link.waiting ∙ ap (λ (l : List ℕ). l ++ link.waiting) (sym rests.takes)))
 
 -- so it is of each connection, each has a number of its own, and numbers that didn't come yet have carried nothing
@@ -173,12 +178,27 @@ passed first old new are step =
           apart = λ other another differs there. are.apart 0 other link another differs is there;
         }
 
+-- a connection that stays was found to
+judged_stays : (over : Bool) (found : Visit) → judged over found ≡ Stays → found ≡ Stays
+judged_stays false found is = is
+judged_stays true Stays is = refl
+judged_stays true Faulty is = is
+judged_stays true Ended is = is
+judged_stays true Closed is = is
+judged_stays true Overdue is = is
+
 -- a visit to a connection
-visit_changes : (first : CacheState) (old new : Turns) (key : ℕ) (link : Connection) → AreCarried first old → link_at old key ≡ Some link → VisitsConnection old key link new → Changes first old key new
-visit_changes first old new key link are there v = by_visit v.visit refl v.tells (ap (λ (c : Counts). c.wire) v.counts) v.stands
+visit_changes : (first : CacheState) (now : ℕ) (old new : Turns) (key : ℕ) (link : Connection) → AreCarried first old → link_at old key ≡ Some link → VisitsConnection now old key link new → Changes first old key new
+visit_changes first now old new key link are there v = by_visit v.visit refl v.tells (ap (λ (c : Counts). c.wire) v.counts) v.stands
   where
-    met : Visited key link (sides old) v.visit v.left v.behind
-    met = serves_carries key link (sides old) v.visit v.left v.behind v.serves
+    met : Visited key link (sides old) v.attends.found v.left.waiting v.behind
+    met = serves_carries key link (sides old) v.attends.found v.left.waiting v.behind v.attends.stands.serves
+
+    kept : Connection
+    kept = record { number = link.number; waiting = v.left.waiting; moments = v.left.moments }
+
+    same : v.left ≡ kept
+    same = ap (λ (n : ℕ). record { number = n; waiting = v.left.waiting; moments = v.left.moments }) v.attends.stands.number
 
     c : Carries key link.number link.waiting met.waits (sides old) v.behind
     c = met.carries
@@ -198,8 +218,8 @@ visit_changes first old new key link are there v = by_visit v.visit refl v.tells
           here = here;
         }
 
-    stays : v.visit ≡ Stays → new.cache ≡ v.behind.cache → new.counts.wire ≡ v.behind.wire → link_at new key ≡ Some (record { number = link.number; waiting = v.left }) → Changes first old key new
-    stays is same_cache same_wire now =
+    stays : v.visit ≡ Stays → new.cache ≡ v.behind.cache → new.counts.wire ≡ v.behind.wire → link_at new key ≡ Some kept → Changes first old key new
+    stays is same_cache same_wire stands =
         change c.history c.calls run asks arrivals c.of_client c.of_socket here
       where
         run : IsRun old.cache c.history new.cache
@@ -213,38 +233,39 @@ visit_changes first old new key link are there v = by_visit v.visit refl v.tells
 
         here : (after : Connection) → link_at new key ≡ Some after → IsHere first old new key after
         here after is_after =
-            subst (λ (l : Connection). IsHere first old new key l) (same_Some (record { number = link.number; waiting = v.left }) after (sym now ∙ is_after))
+            subst (λ (l : Connection). IsHere first old new key l) (same_Some kept after (sym stands ∙ is_after))
             (record {
               carried =
-                  carried_on first (sides old) (sides new) key link.number link.waiting v.left c.history c.calls (are.each key link there) run asks c.up c.hears
-                  (c.takes ∙ ap (λ (l : List ℕ). taken link.number c.calls ++ l) (met.stays is));
+                  carried_on first (sides old) (sides new) key link.number link.waiting v.left.waiting link.moments v.left.moments c.history c.calls (are.each key link there) run asks c.up c.hears
+                  (c.takes ∙ ap (λ (l : List ℕ). taken link.number c.calls ++ l) (met.stays (judged_stays _ v.attends.found (sym v.attends.judges ∙ is))));
               numbered = (let below = are.numbered key link there in omega (arith, below, arrivals));
               apart = λ other another differs is_there. are.apart key other link another differs there is_there;
             })
 
-    lost : new.counts.wire.calls ≡ Close link.number ∷ v.behind.wire.calls → new.counts.wire.arrivals ≡ v.behind.wire.arrivals → GoesDown v.behind.cache key new.cache → link_at new key ≡ None → Changes first old key new
-    lost asks arrivals down gone =
-        change (turn_of v.behind.cache (WentDown key down.0) ∷ c.history) (Close link.number ∷ c.calls) (c.run, down.1)
-        (asks ∙ ap (λ (l : List WireCall). Close link.number ∷ l) c.asks)
+    lost : (why : Parting) → new.counts.wire.calls ≡ Close link.number why ∷ v.behind.wire.calls → new.counts.wire.arrivals ≡ v.behind.wire.arrivals → GoesDown v.behind.cache key new.cache → link_at new key ≡ None → Changes first old key new
+    lost why asks arrivals down gone =
+        change (turn_of v.behind.cache (WentDown key down.0) ∷ c.history) (Close link.number why ∷ c.calls) (c.run, down.1)
+        (asks ∙ ap (λ (l : List WireCall). Close link.number why ∷ l) c.asks)
         (arrivals ∙ c.arrivals)
         (refl, c.of_client)
         (tt, c.of_socket)
         (λ after is. absurd (let wrong : Some after ≡ None = sym is ∙ gone in cc))
 
-    by_visit : (visit : Visit) → v.visit ≡ visit → TellsCache visit v.behind.cache key new.cache → new.counts.wire ≡ (settled visit link.number (record old.counts { wire = v.behind.wire })).wire → link_at new key ≡ link_left visit (record { number = link.number; waiting = v.left }) → Changes first old key new
-    by_visit Stays is tells wire stands = stays is tells wire stands
-    by_visit Faulty is tells wire stands = lost (ap (λ (w : WireState). w.calls) wire) (ap (λ (w : WireState). w.arrivals) wire) tells stands
-    by_visit Ended is tells wire stands = lost (ap (λ (w : WireState). w.calls) wire) (ap (λ (w : WireState). w.arrivals) wire) tells stands
-    by_visit Closed is tells wire stands = lost (ap (λ (w : WireState). w.calls) wire) (ap (λ (w : WireState). w.arrivals) wire) tells stands
+    by_visit : (visit : Visit) → v.visit ≡ visit → TellsCache visit v.behind.cache key new.cache → new.counts.wire ≡ (settled visit link.number (record old.counts { wire = v.behind.wire })).wire → link_at new key ≡ link_left visit v.left → Changes first old key new
+    by_visit Stays is tells wire stands = stays is tells wire (stands ∙ ap (λ (l : Connection). Some l) same)
+    by_visit Faulty is tells wire stands = lost parting.Failed (ap (λ (w : WireState). w.calls) wire) (ap (λ (w : WireState). w.arrivals) wire) tells stands
+    by_visit Ended is tells wire stands = lost parting.Ended (ap (λ (w : WireState). w.calls) wire) (ap (λ (w : WireState). w.arrivals) wire) tells stands
+    by_visit Closed is tells wire stands = lost parting.Closed (ap (λ (w : WireState). w.calls) wire) (ap (λ (w : WireState). w.arrivals) wire) tells stands
+    by_visit Overdue is tells wire stands = lost parting.Overdue (ap (λ (w : WireState). w.calls) wire) (ap (λ (w : WireState). w.arrivals) wire) tells stands
 
-visit_carries : (first : CacheState) (old new : Turns) (key : ℕ) (link : Option Connection) → AreCarried first old → link_at old key ≡ link → VisitsLink old key link new → AreCarried first new
-visit_carries first old new key None are is same = subst (λ (t : Turns). AreCarried first t) (sym same) are
-visit_carries first old new key (Some link) are is v = changed first old new key are (visit_changes first old new key link are is v)
+visit_carries : (first : CacheState) (now : ℕ) (old new : Turns) (key : ℕ) (link : Option Connection) → AreCarried first old → link_at old key ≡ link → VisitsLink now old key link new → AreCarried first new
+visit_carries first now old new key None are is same = subst (λ (t : Turns). AreCarried first t) (sym same) are
+visit_carries first now old new key (Some link) are is v = changed first old new key are (visit_changes first now old new key link are is v)
 
-visits_carry : (first : CacheState) (places : ℕ) (old new : Turns) → AreCarried first old → VisitsBelow places old new → AreCarried first new
-visits_carry first zero old new are same = subst (λ (t : Turns). AreCarried first t) (sym same) are
-visits_carry first (suc key) old new are v =
-    visit_carries first v.0 new key (link_at v.0 key) (visits_carry first key old v.0 are v.1) refl v.2
+visits_carry : (first : CacheState) (now places : ℕ) (old new : Turns) → AreCarried first old → VisitsBelow now places old new → AreCarried first new
+visits_carry first now zero old new are same = subst (λ (t : Turns). AreCarried first t) (sym same) are
+visits_carry first now (suc key) old new are v =
+    visit_carries first now v.0 new key (link_at v.0 key) (visits_carry first now key old v.0 are v.1) refl v.2
 
 idle_accept : (number : ℕ) → IsIdle number (Accept ∷ [])
 idle_accept number = record { gives = refl; takes = refl }
@@ -253,8 +274,8 @@ quiet_none : (key : ℕ) → Silent key []
 quiet_none key = record { hears = refl; hands = refl; up = tt }
 
 -- a connection comes up: it has carried nothing, and its client has heard nothing
-comes_changes : (first : CacheState) (old new : Turns) → AreCarried first old → (comes : ComesUp old new) → new.counts.wire.arrivals < 2 ^ 64 - 1 → Changes first old comes.key new
-comes_changes first old new are comes below =
+comes_changes : (first : CacheState) (now : ℕ) (old new : Turns) → AreCarried first old → (comes : ComesUp now old new) → new.counts.wire.arrivals < 2 ^ 64 - 1 → Changes first old comes.key new
+comes_changes first now old new are comes below =
     record {
       history = history;
       calls = Accept ∷ [];
@@ -265,7 +286,7 @@ comes_changes first old new are comes below =
       rests = λ other another _ _. idle_accept another.number;
       unused = λ number _. idle_accept number;
       others = comes.others;
-      here = λ link is. subst (λ (l : Connection). IsHere first old new comes.key l) (same_Some (record { number = count; waiting = [] }) link (sym comes.now ∙ is)) newcomer;
+      here = λ link is. subst (λ (l : Connection). IsHere first old new comes.key l) (same_Some (record { number = count; waiting = []; moments = arriving_at now }) link (sym comes.here ∙ is)) newcomer;
     }
   where
     count : ℕ
@@ -292,7 +313,7 @@ comes_changes first old new are comes below =
     unseen : IsIdle count new.counts.wire.calls
     unseen = idle_on count old.counts.wire.calls (Accept ∷ []) new.counts.wire.calls asks (are.unused count (omega arith)) (idle_accept count)
 
-    newcomer : IsHere first old new comes.key (record { number = count; waiting = [] })
+    newcomer : IsHere first old new comes.key (record { number = count; waiting = []; moments = arriving_at now })
     newcomer =
         record {
           carried = record {
@@ -311,8 +332,8 @@ comes_changes first old new are comes below =
         }
 
 -- a connection that comes leaves the others, also where the cache or memory refuses it
-pub accepts_passes : (old new : Turns) → Accepts old new → (ComesUp old new) ⊎ (Passes old new)
-accepts_passes old new (inl none) =
+pub accepts_passes : (now : ℕ) (old new : Turns) → Accepts now old new → (ComesUp now old new) ⊎ (Passes old new)
+accepts_passes now old new (inl none) =
     inr (record {
       history = [];
       calls = Accept ∷ [];
@@ -323,10 +344,10 @@ accepts_passes old new (inl none) =
       rests = idle_accept;
       links = λ key. ap (λ (t : Turns). link_at t key) none;
     })
-accepts_passes old new (inr (inl away)) =
+accepts_passes now old new (inr (inl away)) =
     inr (record {
       history = turn_of old.cache (CameUp (Err away.why)) ∷ [];
-      calls = Close old.counts.wire.arrivals ∷ Accept ∷ [];
+      calls = Close old.counts.wire.arrivals parting.NoPlace ∷ Accept ∷ [];
       run = (refl, away.refused);
       asks = ap (λ (c : Counts). c.wire.calls) away.counts;
       arrivals = omega (arith, ap (λ (c : Counts). c.wire.arrivals) away.counts, goes_on old.counts.wire.arrivals);
@@ -334,7 +355,7 @@ accepts_passes old new (inr (inl away)) =
       rests = λ number. record { gives = refl; takes = refl };
       links = away.links;
     })
-accepts_passes old new (inr (inr comes)) = inl comes
+accepts_passes now old new (inr (inr comes)) = inl comes
 
 pub lacks_passes : (old new : Turns) → LacksMemory old new → Passes old new
 lacks_passes old new lacks =
@@ -381,39 +402,40 @@ settled_arrives Stays number counts = refl
 settled_arrives Faulty number counts = refl
 settled_arrives Ended number counts = refl
 settled_arrives Closed number counts = refl
+settled_arrives Overdue number counts = refl
 
-visits_arrive : (places : ℕ) (old new : Turns) → VisitsBelow places old new → new.counts.wire.arrivals ≡ old.counts.wire.arrivals
-visits_arrive zero old new same = ap (λ (t : Turns). t.counts.wire.arrivals) same
-visits_arrive (suc key) old new v = by_link (link_at v.0 key) v.2 ∙ visits_arrive key old v.0 v.1
+visits_arrive : (now places : ℕ) (old new : Turns) → VisitsBelow now places old new → new.counts.wire.arrivals ≡ old.counts.wire.arrivals
+visits_arrive now zero old new same = ap (λ (t : Turns). t.counts.wire.arrivals) same
+visits_arrive now (suc key) old new v = by_link (link_at v.0 key) v.2 ∙ visits_arrive now key old v.0 v.1
   where
-    by_link : (link : Option Connection) → VisitsLink v.0 key link new → new.counts.wire.arrivals ≡ v.0.counts.wire.arrivals
+    by_link : (link : Option Connection) → VisitsLink now v.0 key link new → new.counts.wire.arrivals ≡ v.0.counts.wire.arrivals
     by_link None same = ap (λ (t : Turns). t.counts.wire.arrivals) same
     by_link (Some link) visited =
         ap (λ (c : Counts). c.wire.arrivals) visited.counts
         ∙ (settled_arrives visited.visit link.number (record v.0.counts { wire = visited.behind.wire })
-        ∙ (serves_carries key link (sides v.0) visited.visit visited.left visited.behind visited.serves).carries.arrivals)
+        ∙ (serves_carries key link (sides v.0) visited.attends.found visited.left.waiting visited.behind visited.attends.stands.serves).carries.arrivals)
 
-accepts_arrive : (old new : Turns) → (ComesUp old new) ⊎ (Passes old new) → old.counts.wire.arrivals ≤ new.counts.wire.arrivals
-accepts_arrive old new (inl comes) = omega (arith, ap (λ (c : Counts). c.wire.arrivals) comes.counts, goes_on old.counts.wire.arrivals)
-accepts_arrive old new (inr passes) = passes.arrivals
+accepts_arrive : (now : ℕ) (old new : Turns) → (ComesUp now old new) ⊎ (Passes old new) → old.counts.wire.arrivals ≤ new.counts.wire.arrivals
+accepts_arrive now old new (inl comes) = omega (arith, ap (λ (c : Counts). c.wire.arrivals) comes.counts, goes_on old.counts.wire.arrivals)
+accepts_arrive now old new (inr passes) = passes.arrivals
 
-accepts_carry : (first : CacheState) (old new : Turns) → AreCarried first old → (ComesUp old new) ⊎ (Passes old new) → new.counts.wire.arrivals < 2 ^ 64 - 1 → AreCarried first new
-accepts_carry first old new are (inl comes) below = changed first old new comes.key are (comes_changes first old new are comes below)
-accepts_carry first old new are (inr passes) below = passed first old new are passes
+accepts_carry : (first : CacheState) (now : ℕ) (old new : Turns) → AreCarried first old → (ComesUp now old new) ⊎ (Passes old new) → new.counts.wire.arrivals < 2 ^ 64 - 1 → AreCarried first new
+accepts_carry first now old new are (inl comes) below = changed first old new comes.key are (comes_changes first now old new are comes below)
+accepts_carry first now old new are (inr passes) below = passed first old new are passes
 
 turn_arrives : (now : ℕ) (old new : Turns) (result : Result (Unit {0}) LoopFault) → TakesTurn now old result new → old.counts.wire.arrivals ≤ new.counts.wire.arrivals
 turn_arrives now old new (Ok nothing) turn =
-    omega (arith, accepts_arrive old turn.admitted (accepts_passes old turn.admitted turn.accepts), visits_arrive _ turn.admitted turn.visited turn.visits, (tick_passes now turn.visited new turn.tells).arrivals)
+    omega (arith, accepts_arrive now old turn.admitted (accepts_passes now old turn.admitted turn.accepts), visits_arrive now _ turn.admitted turn.visited turn.visits, (tick_passes now turn.visited new turn.tells).arrivals)
 turn_arrives now old new (Err stop.Accept) stops = (stops_passes old new stops).arrivals
 turn_arrives now old new (Err stop.NoMemory) lacks = (lacks_passes old new lacks).arrivals
 
 turn_carries : (first : CacheState) (now : ℕ) (old new : Turns) (result : Result (Unit {0}) LoopFault) → AreCarried first old → TakesTurn now old result new → new.counts.wire.arrivals < 2 ^ 64 - 1 → AreCarried first new
 turn_carries first now old new (Ok nothing) are turn below =
     let ticks = tick_passes now turn.visited new turn.tells in
-    let come : turn.admitted.counts.wire.arrivals < 2 ^ 64 - 1 = omega (arith, below, visits_arrive _ turn.admitted turn.visited turn.visits, ticks.arrivals) in
+    let come : turn.admitted.counts.wire.arrivals < 2 ^ 64 - 1 = omega (arith, below, visits_arrive now _ turn.admitted turn.visited turn.visits, ticks.arrivals) in
     passed first turn.visited new
-    (visits_carry first _ turn.admitted turn.visited
-    (accepts_carry first old turn.admitted are (accepts_passes old turn.admitted turn.accepts) come) turn.visits)
+    (visits_carry first now _ turn.admitted turn.visited
+    (accepts_carry first now old turn.admitted are (accepts_passes now old turn.admitted turn.accepts) come) turn.visits)
     ticks
 turn_carries first now old new (Err stop.Accept) are stops below = passed first old new are (stops_passes old new stops)
 turn_carries first now old new (Err stop.NoMemory) are lacks below = passed first old new are (lacks_passes old new lacks)
@@ -429,8 +451,8 @@ turns_carry first (now ∷ moments) old new are turns below =
     let come : turns.0.counts.wire.arrivals < 2 ^ 64 - 1 = omega (arith, below, turns_arrive moments turns.0 new turns.3) in
     turns_carry first moments turns.0 new (turn_carries first now old turns.0 turns.1 are turns.2 come) turns.3 below
 
-at_first : (first : CacheState) (before : List Turn) (cache : CacheState) → IsRun first before cache → AreCarried first (idle cache nothing_told)
-at_first first before cache made =
+at_first : (patience : Patience) (first : CacheState) (before : List Turn) (cache : CacheState) → IsRun first before cache → AreCarried first (idle patience cache nothing_told)
+at_first patience first before cache made =
     record {
       before = before;
       made = made;
@@ -441,10 +463,10 @@ at_first first before cache made =
     }
 
 -- each connection carries whole versions
-pub carries_whole : (session : ℕ) (intervals : Intervals) (other_session : OtherSession) (before : List Turn) (cache : CacheState) (moments : List ℕ) (new : Turns) (key : ℕ) (link : Connection) → IsRun (empty_cache session intervals other_session) before cache → TakesTurns moments (idle cache nothing_told) new → new.counts.wire.arrivals < 2 ^ 64 - 1 → link_at new key ≡ Some link → CarriesWhole (empty_cache session intervals other_session) new key link
-carries_whole session intervals other_session before cache moments new key link made turns below is =
+pub carries_whole : (session : ℕ) (intervals : Intervals) (other_session : OtherSession) (before : List Turn) (patience : Patience) (cache : CacheState) (moments : List ℕ) (new : Turns) (key : ℕ) (link : Connection) → IsRun (empty_cache session intervals other_session) before cache → TakesTurns moments (idle patience cache nothing_told) new → new.counts.wire.arrivals < 2 ^ 64 - 1 → link_at new key ≡ Some link → CarriesWhole (empty_cache session intervals other_session) new key link
+carries_whole session intervals other_session before patience cache moments new key link made turns below is =
     let first = empty_cache session intervals other_session in
-    let c = (turns_carry first moments (idle cache nothing_told) new (at_first first before cache made) turns below).each key link is in
+    let c = (turns_carry first moments (idle patience cache nothing_told) new (at_first patience first before cache made) turns below).each key link is in
     record {
       before = c.before;
       start = c.start;

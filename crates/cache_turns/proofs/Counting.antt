@@ -1,15 +1,15 @@
 -- What turns count, one step after another: the clients lost are those of the wire's faults, of its ends of input and of the loop's closes.
-use Rattle.std.proofs.Common.{◌≡◌, ◌<◌, ◌≤◌, ◌+◌, ◌-◌, ◌^◌, ℕ, zero, suc, List, [], ◌∷◌, refl, sym, ap, ◌∙◌, subst, arith, inl, inr, Option, Some, None, Result, Ok, Err}
+use Rattle.std.proofs.Common.{◌≡◌, ◌<◌, ◌≤◌, ◌+◌, ◌-◌, ◌^◌, ℕ, zero, suc, Bool, false, true, List, [], ◌∷◌, refl, sym, ap, ◌∙◌, subst, arith, inl, inr, Option, Some, None, Result, Ok, Err}
 use Rattle.net_prefix.specs.declared.transport.Transport.{Transport}
 use Rattle.net_prefix.specs.declared.transport.Transport.TheVariants as transport
 use Rattle.rtr_cache.specs.CacheState.{client_at, transport_of}
-use Rattle.cache_turns.specs.Serving.{Answers, Connection, GoesOn, Reads, Serves, Sides, found_at_rest, found_by_write}
+use Rattle.cache_turns.specs.Serving.{Answers, Connection, GoesOn, Reads, Serves, Sides, found_at_rest, found_by_write, judged}
 use Rattle.cache_turns.specs.Turns.{Accepts, AreBelowGreatest, Counts, LosesNoMore, TakesTurn, Turned, Turns, VisitsBelow, VisitsLink, link_at, settled, sides}
 use Rattle.cache_turns.specs.Wires.{WireState, one_more, reading, writing}
 use Rattle.cache_turns.specs.declared.fault.LoopFault.{LoopFault}
 use Rattle.cache_turns.specs.declared.fault.LoopFault.TheVariants.{Accept, NoMemory}
 use Rattle.cache_turns.specs.declared.link.Visit.{Visit}
-use Rattle.cache_turns.specs.declared.link.Visit.TheVariants.{Stays, Faulty, Ended, Closed}
+use Rattle.cache_turns.specs.declared.link.Visit.TheVariants.{Stays, Faulty, Ended, Closed, Overdue}
 use Rattle.cache_turns.specs.declared.wire.Received.{Received}
 use Rattle.cache_turns.specs.declared.wire.Received.TheVariants.{Octets as Came, Nothing as NoneCame, End, Fault as ReadFault}
 use Rattle.cache_turns.specs.declared.wire.Sent.{Sent}
@@ -82,6 +82,7 @@ Tells Stays old new = Counted old.faults old.ends new
 Tells Faulty old new = Counted (one_more old.faults) old.ends new
 Tells Ended old new = Counted old.faults (one_more old.ends) new
 Tells Closed old new = Counted old.faults old.ends new
+Tells Overdue old new = Counted old.faults old.ends new
 
 tells_found : (visit found : Visit) (old new : WireState) → visit ≡ found → Tells found old new → Tells visit old new
 tells_found visit found old new is tells = subst (λ (v : Visit). Tells v old new) (sym is) tells
@@ -116,6 +117,7 @@ goes_on_tells Stays old mid new faults ends t = record { faults_are = t.faults_a
 goes_on_tells Faulty old mid new faults ends t = record { faults_are = t.faults_are ∙ ap one_more faults; ends_are = t.ends_are ∙ ends }
 goes_on_tells Ended old mid new faults ends t = record { faults_are = t.faults_are ∙ faults; ends_are = t.ends_are ∙ ap one_more ends }
 goes_on_tells Closed old mid new faults ends t = record { faults_are = t.faults_are ∙ faults; ends_are = t.ends_are ∙ ends }
+goes_on_tells Overdue old mid new faults ends t = record { faults_are = t.faults_are ∙ faults; ends_are = t.ends_are ∙ ends }
 
 serves_tells : (key : ℕ) (link : Connection) (old : Sides) (visit : Visit) (left : List ℕ) (new : Sides) → Serves key link old visit left new → Tells visit old.wire new.wire
 serves_tells key link old visit left new serves = by_read serves.received serves.reads serves.goes_on
@@ -131,6 +133,15 @@ serves_tells key link old visit left new serves = by_read serves.received serves
     by_read ReadFault reads found =
         let is : new.wire ≡ reading link.number reads.buf ReadFault old.wire = ap (λ (s : Sides). s.wire) found.1 ∙ reads.asks in
         tells_found visit Faulty old.wire new.wire found.0 (record { faults_are = ap (λ (w : WireState). w.faults) is; ends_are = ap (λ (w : WireState). w.ends) is })
+
+-- what is judged tells what was found
+judged_tells : (over : Bool) (found visit : Visit) (old new : WireState) → visit ≡ judged over found → Tells found old new → Tells visit old new
+judged_tells false found visit old new is told = tells_found visit found old new is told
+judged_tells true Stays visit old new is told = tells_found visit Overdue old new is told
+judged_tells true Faulty visit old new is told = tells_found visit Faulty old new is told
+judged_tells true Ended visit old new is told = tells_found visit Ended old new is told
+judged_tells true Closed visit old new is told = tells_found visit Closed old new is told
+judged_tells true Overdue visit old new is told = tells_found visit Overdue old new is told
 
 -- a visit loses as it counts
 settles : (visit : Visit) (number : ℕ) (counts : Counts) (wire : WireState) → Tells visit counts.wire wire → LosesAsCounted counts (settled visit number (record counts { wire = wire }))
@@ -152,28 +163,35 @@ settles Closed number counts wire told =
       rises = record { lost = goes_on counts.lost; closed = goes_on counts.closed; faults = omega (arith, told.faults_are); ends = omega (arith, told.ends_are) };
       lost = λ below. omega (arith, goes_on_by_one counts.lost below.lost, goes_on_by_one counts.closed below.closed, told.faults_are, told.ends_are);
     }
+settles Overdue number counts wire told =
+    record {
+      rises = record { lost = goes_on counts.lost; closed = goes_on counts.closed; faults = omega (arith, told.faults_are); ends = omega (arith, told.ends_are) };
+      lost = λ below. omega (arith, goes_on_by_one counts.lost below.lost, goes_on_by_one counts.closed below.closed, told.faults_are, told.ends_are);
+    }
 
 counted_as : (old mid new : Counts) → new ≡ mid → LosesAsCounted old mid → LosesAsCounted old new
 counted_as old mid new same loses = subst (λ (c : Counts). LosesAsCounted old c) (sym same) loses
 
-visit_loses : (old new : Turns) (key : ℕ) (link : Option Connection) → VisitsLink old key link new → LosesAsCounted old.counts new.counts
-visit_loses old new key None same = counted_as _ _ _ (ap (λ (t : Turns). t.counts) same) (loses_none old.counts)
-visit_loses old new key (Some link) visited =
+visit_loses : (now : ℕ) (old new : Turns) (key : ℕ) (link : Option Connection) → VisitsLink now old key link new → LosesAsCounted old.counts new.counts
+visit_loses now old new key None same = counted_as _ _ _ (ap (λ (t : Turns). t.counts) same) (loses_none old.counts)
+visit_loses now old new key (Some link) visited =
     counted_as _ _ _ visited.counts
-    (settles visited.visit link.number old.counts visited.behind.wire (serves_tells key link (sides old) visited.visit visited.left visited.behind visited.serves))
+    (settles visited.visit link.number old.counts visited.behind.wire
+    (judged_tells _ visited.attends.found visited.visit old.counts.wire visited.behind.wire visited.attends.judges
+    (serves_tells key link (sides old) visited.attends.found visited.left.waiting visited.behind visited.attends.stands.serves)))
 
-visits_lose : (places : ℕ) (old new : Turns) → VisitsBelow places old new → LosesAsCounted old.counts new.counts
-visits_lose zero old new same = counted_as _ _ _ (ap (λ (t : Turns). t.counts) same) (loses_none old.counts)
-visits_lose (suc key) old new v = loses_both _ _ _ (visits_lose key old v.0 v.1) (visit_loses v.0 new key (link_at v.0 key) v.2)
+visits_lose : (now places : ℕ) (old new : Turns) → VisitsBelow now places old new → LosesAsCounted old.counts new.counts
+visits_lose now zero old new same = counted_as _ _ _ (ap (λ (t : Turns). t.counts) same) (loses_none old.counts)
+visits_lose now (suc key) old new v = loses_both _ _ _ (visits_lose now key old v.0 v.1) (visit_loses now v.0 new key (link_at v.0 key) v.2)
 
-accepting_loses : (old new : Turns) → Accepts old new → LosesAsCounted old.counts new.counts
-accepting_loses old new (inl none) = counted_as _ _ _ (ap (λ (t : Turns). t.counts) none) (loses_nothing _ _ refl refl refl refl)
-accepting_loses old new (inr (inl away)) = counted_as _ _ _ away.counts (loses_nothing _ _ refl refl refl refl)
-accepting_loses old new (inr (inr comes)) = counted_as _ _ _ comes.counts (loses_nothing _ _ refl refl refl refl)
+accepting_loses : (now : ℕ) (old new : Turns) → Accepts now old new → LosesAsCounted old.counts new.counts
+accepting_loses now old new (inl none) = counted_as _ _ _ (ap (λ (t : Turns). t.counts) none) (loses_nothing _ _ refl refl refl refl)
+accepting_loses now old new (inr (inl away)) = counted_as _ _ _ away.counts (loses_nothing _ _ refl refl refl refl)
+accepting_loses now old new (inr (inr comes)) = counted_as _ _ _ comes.counts (loses_nothing _ _ refl refl refl refl)
 
 turned_loses : (now : ℕ) (old new : Turns) → Turned now old new → LosesAsCounted old.counts new.counts
 turned_loses now old new turn =
-    counted_as _ _ _ (ap (λ (t : Turns). t.counts) turn.tells.same) (loses_both _ _ _ (accepting_loses old turn.admitted turn.accepts) (visits_lose _ turn.admitted turn.visited turn.visits))
+    counted_as _ _ _ (ap (λ (t : Turns). t.counts) turn.tells.same) (loses_both _ _ _ (accepting_loses now old turn.admitted turn.accepts) (visits_lose now _ turn.admitted turn.visited turn.visits))
 
 no_more : (old new : Counts) → LosesAsCounted old new → LosesNoMore old new
 no_more old new loses = λ below. omega (arith, loses.lost below)

@@ -66,7 +66,7 @@ abbrev pub IsOfSocket : ℕ → WireCall → Type 0
 IsOfSocket number Accept = Unit {0}
 IsOfSocket number (Read other buf received) = other ≡ number
 IsOfSocket number (Write other octets sent) = other ≡ number
-IsOfSocket number (Close other) = Unit {0}
+IsOfSocket number (Close other why) = Unit {0}
 
 abbrev pub AreOfSocket : ℕ → List WireCall → Type 0
 AreOfSocket number [] = Unit {0}
@@ -88,7 +88,7 @@ idle_call number other (Write k octets (Went count)) is differs =
     record { gives = refl; takes = passed_over (k == other) (take count octets) [] (ne_eqb k other (λ same. differs (sym same ∙ is))) }
 idle_call number other (Write k octets NoneWent) is differs = record { gives = refl; takes = refl }
 idle_call number other (Write k octets WriteFault) is differs = record { gives = refl; takes = refl }
-idle_call number other (Close k) is differs = record { gives = refl; takes = refl }
+idle_call number other (Close k why) is differs = record { gives = refl; takes = refl }
 
 pub idle_socket : (number other : ℕ) (calls : List WireCall) → AreOfSocket number calls → other ≢ number → IsIdle other calls
 idle_socket number other [] are differs = record { gives = refl; takes = refl }

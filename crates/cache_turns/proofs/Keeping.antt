@@ -10,7 +10,7 @@ use Rattle.cache_turns.specs.Turns.{Accepts, TakesTurn, TakesTurns, TellsCache, 
 use Rattle.cache_turns.specs.declared.fault.LoopFault.{LoopFault}
 use Rattle.cache_turns.specs.declared.fault.LoopFault.TheVariants.{Accept, NoMemory}
 use Rattle.cache_turns.specs.declared.link.Visit.{Visit}
-use Rattle.cache_turns.specs.declared.link.Visit.TheVariants.{Stays, Faulty, Ended, Closed}
+use Rattle.cache_turns.specs.declared.link.Visit.TheVariants.{Stays, Faulty, Ended, Closed, Overdue}
 use Rattle.cache_turns.specs.declared.wire.Received.{Received}
 use Rattle.cache_turns.specs.declared.wire.Received.TheVariants.{Octets as Came, Nothing as NoneCame, End, Fault as ReadFault}
 
@@ -75,29 +75,30 @@ telling_keeps Stays old key new same = same_keeps old new same
 telling_keeps Faulty old key new down = going_down_keeps old new key down.0 down.1
 telling_keeps Ended old key new down = going_down_keeps old new key down.0 down.1
 telling_keeps Closed old key new down = going_down_keeps old new key down.0 down.1
+telling_keeps Overdue old key new down = going_down_keeps old new key down.0 down.1
 
-visit_keeps : (old new : Turns) (key : ℕ) (link : Option Connection) → VisitsLink old key link new → Keeps old.cache new.cache
-visit_keeps old new key None same = ap (λ (t : Turns). t.cache.shared.kept) same
-visit_keeps old new key (Some link) visited =
+visit_keeps : (now : ℕ) (old new : Turns) (key : ℕ) (link : Option Connection) → VisitsLink now old key link new → Keeps old.cache new.cache
+visit_keeps now old new key None same = ap (λ (t : Turns). t.cache.shared.kept) same
+visit_keeps now old new key (Some link) visited =
     keeps_on old.cache visited.behind.cache new.cache
-    (serving_keeps key link (sides old) visited.visit visited.left visited.behind visited.serves)
+    (serving_keeps key link (sides old) visited.attends.found visited.left.waiting visited.behind visited.attends.stands.serves)
     (telling_keeps visited.visit visited.behind.cache key new.cache visited.tells)
 
-visits_keep : (places : ℕ) (old new : Turns) → VisitsBelow places old new → Keeps old.cache new.cache
-visits_keep zero old new same = ap (λ (t : Turns). t.cache.shared.kept) same
-visits_keep (suc key) old new visits =
-    keeps_on old.cache visits.0.cache new.cache (visits_keep key old visits.0 visits.1) (visit_keeps visits.0 new key (link_at visits.0 key) visits.2)
+visits_keep : (now places : ℕ) (old new : Turns) → VisitsBelow now places old new → Keeps old.cache new.cache
+visits_keep now zero old new same = ap (λ (t : Turns). t.cache.shared.kept) same
+visits_keep now (suc key) old new visits =
+    keeps_on old.cache visits.0.cache new.cache (visits_keep now key old visits.0 visits.1) (visit_keeps now visits.0 new key (link_at visits.0 key) visits.2)
 
-accepting_keeps : (old new : Turns) → Accepts old new → Keeps old.cache new.cache
-accepting_keeps old new (inl none) = ap (λ (t : Turns). t.cache.shared.kept) none
-accepting_keeps old new (inr (inl away)) = coming_up_keeps old.cache new.cache (Err away.why) away.refused
-accepting_keeps old new (inr (inr comes)) = coming_up_keeps old.cache new.cache (Ok (tells_client comes.key)) comes.comes
+accepting_keeps : (now : ℕ) (old new : Turns) → Accepts now old new → Keeps old.cache new.cache
+accepting_keeps now old new (inl none) = ap (λ (t : Turns). t.cache.shared.kept) none
+accepting_keeps now old new (inr (inl away)) = coming_up_keeps old.cache new.cache (Err away.why) away.refused
+accepting_keeps now old new (inr (inr comes)) = coming_up_keeps old.cache new.cache (Ok (tells_client comes.key)) comes.comes
 
 -- a turn publishes nothing
 pub turn_keeps : (now : ℕ) (old new : Turns) (result : Result (Unit {0}) LoopFault) → TakesTurn now old result new → Keeps old.cache new.cache
 turn_keeps now old new (Ok nothing) turn =
-    keeps_on old.cache turn.admitted.cache new.cache (accepting_keeps old turn.admitted turn.accepts)
-    (keeps_on turn.admitted.cache turn.visited.cache new.cache (visits_keep _ turn.admitted turn.visited turn.visits) (tick_keeps turn.visited.cache new.cache now turn.tells.result turn.tells.ticks))
+    keeps_on old.cache turn.admitted.cache new.cache (accepting_keeps now old turn.admitted turn.accepts)
+    (keeps_on turn.admitted.cache turn.visited.cache new.cache (visits_keep now _ turn.admitted turn.visited turn.visits) (tick_keeps turn.visited.cache new.cache now turn.tells.result turn.tells.ticks))
 turn_keeps now old new (Err Accept) stops = ap (λ (t : Turns). t.cache.shared.kept) stops
 turn_keeps now old new (Err NoMemory) lacks = coming_up_keeps old.cache new.cache (Ok (tells_client lacks.key)) lacks.comes
 

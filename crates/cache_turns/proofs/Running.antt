@@ -7,7 +7,7 @@ use Rattle.cache_turns.specs.Turns.{ComesUp, TakesTurn, TakesTurns, TellsCache, 
 use Rattle.cache_turns.specs.declared.fault.LoopFault.{LoopFault}
 use Rattle.cache_turns.specs.declared.fault.LoopFault.TheVariants.{Accept, NoMemory}
 use Rattle.cache_turns.specs.declared.link.Visit.{Visit}
-use Rattle.cache_turns.specs.declared.link.Visit.TheVariants.{Stays, Faulty, Ended, Closed}
+use Rattle.cache_turns.specs.declared.link.Visit.TheVariants.{Stays, Faulty, Ended, Closed, Overdue}
 use Rattle.cache_turns.proofs.Carrying.{Passes, accepts_passes, lacks_passes, stops_passes, tick_passes}
 use Rattle.cache_turns.proofs.Exchanges.{run_on, serves_carries}
 
@@ -26,29 +26,30 @@ tells_lead Stays old key new same = ([], same)
 tells_lead Faulty old key new down = by_call old (WentDown key down.0) new down.1
 tells_lead Ended old key new down = by_call old (WentDown key down.0) new down.1
 tells_lead Closed old key new down = by_call old (WentDown key down.0) new down.1
+tells_lead Overdue old key new down = by_call old (WentDown key down.0) new down.1
 
-visit_leads : (old new : Turns) (key : ℕ) (link : Option Connection) → VisitsLink old key link new → Leads old.cache new.cache
-visit_leads old new key None same = ([], ap (λ (t : Turns). t.cache) same)
-visit_leads old new key (Some link) visited =
-    let served = (serves_carries key link (sides old) visited.visit visited.left visited.behind visited.serves).carries in
+visit_leads : (now : ℕ) (old new : Turns) (key : ℕ) (link : Option Connection) → VisitsLink now old key link new → Leads old.cache new.cache
+visit_leads now old new key None same = ([], ap (λ (t : Turns). t.cache) same)
+visit_leads now old new key (Some link) visited =
+    let served = (serves_carries key link (sides old) visited.attends.found visited.left.waiting visited.behind visited.attends.stands.serves).carries in
     leads_on old.cache visited.behind.cache new.cache (served.history, served.run) (tells_lead visited.visit visited.behind.cache key new.cache visited.tells)
 
-visits_lead : (places : ℕ) (old new : Turns) → VisitsBelow places old new → Leads old.cache new.cache
-visits_lead zero old new same = ([], ap (λ (t : Turns). t.cache) same)
-visits_lead (suc key) old new v =
-    leads_on old.cache v.0.cache new.cache (visits_lead key old v.0 v.1) (visit_leads v.0 new key (link_at v.0 key) v.2)
+visits_lead : (now places : ℕ) (old new : Turns) → VisitsBelow now places old new → Leads old.cache new.cache
+visits_lead now zero old new same = ([], ap (λ (t : Turns). t.cache) same)
+visits_lead now (suc key) old new v =
+    leads_on old.cache v.0.cache new.cache (visits_lead now key old v.0 v.1) (visit_leads now v.0 new key (link_at v.0 key) v.2)
 
 passes_lead : (old new : Turns) → Passes old new → Leads old.cache new.cache
 passes_lead old new passes = (passes.history, passes.run)
 
-accepting_leads : (old new : Turns) → (ComesUp old new) ⊎ (Passes old new) → Leads old.cache new.cache
-accepting_leads old new (inl comes) = by_call old.cache (CameUp (Ok (tells_client comes.key))) new.cache comes.comes
-accepting_leads old new (inr passes) = passes_lead old new passes
+accepting_leads : (now : ℕ) (old new : Turns) → (ComesUp now old new) ⊎ (Passes old new) → Leads old.cache new.cache
+accepting_leads now old new (inl comes) = by_call old.cache (CameUp (Ok (tells_client comes.key))) new.cache comes.comes
+accepting_leads now old new (inr passes) = passes_lead old new passes
 
 turn_leads : (now : ℕ) (old new : Turns) (result : Result (Unit {0}) LoopFault) → TakesTurn now old result new → Leads old.cache new.cache
 turn_leads now old new (Ok nothing) turn =
-    leads_on old.cache turn.admitted.cache new.cache (accepting_leads old turn.admitted (accepts_passes old turn.admitted turn.accepts))
-    (leads_on turn.admitted.cache turn.visited.cache new.cache (visits_lead _ turn.admitted turn.visited turn.visits) (passes_lead turn.visited new (tick_passes now turn.visited new turn.tells)))
+    leads_on old.cache turn.admitted.cache new.cache (accepting_leads now old turn.admitted (accepts_passes now old turn.admitted turn.accepts))
+    (leads_on turn.admitted.cache turn.visited.cache new.cache (visits_lead now _ turn.admitted turn.visited turn.visits) (passes_lead turn.visited new (tick_passes now turn.visited new turn.tells)))
 turn_leads now old new (Err Accept) stops = passes_lead old new (stops_passes old new stops)
 turn_leads now old new (Err NoMemory) lacks = passes_lead old new (lacks_passes old new lacks)
 

@@ -4,9 +4,10 @@ use Rattle.std.proofs.Math.ListN.{get_or, set}
 use Rattle.std.proofs.lemmas.List.{get_or-set_same, length-set}
 use Rattle.rtr_cache.specs.CacheTable.{Conn}
 use Rattle.rtr_cache.specs.CacheState.{CacheState, OthersStay, client_at}
-use Rattle.cache_turns.specs.Serving.{Connection, Serves, Sides}
+use Rattle.cache_turns.specs.Serving.{Attends, Connection, Sides}
 use Rattle.cache_turns.specs.Turns.{EachHasAClient, TellsCache, Turns, Visits, VisitsBelow, VisitsLink, link_at, link_left, settled, sides}
 use Rattle.cache_turns.specs.declared.link.Visit.{Visit}
+use Rattle.cache_turns.specs.declared.patience.Patience.{Patience}
 
 -- one more place with nothing at it changes no place
 pub same_places : {X : Type 0} → (xs : List (Option X)) (at : ℕ) → get_or (xs ++ None ∷ []) at None ≡ get_or xs at None
@@ -63,17 +64,18 @@ each_other old new links left key each taken_out stay other there = by_place (em
         (each other (subst (λ (l : Option Connection). IsSome l) same.1 still))
 
 -- a visit to a connection, which was taken out for it
-pub visited : (old new : Turns) (places : List (Option Connection)) (key : ℕ) (link after : Connection) (visit : Visit) (behind : Sides) → link_at old key ≡ Some link → key < length old.links → places ≡ set old.links key None → Serves key link (sides old) visit after.waiting behind → after.number ≡ link.number → new.counts ≡ settled visit after.number (record old.counts { wire = behind.wire }) → TellsCache visit behind.cache key new.cache → new.links ≡ set places key (link_left visit after) → Visits old key new
-visited old new places key link after visit behind here within taken_out serves number counts tells links =
-    subst (λ (l : Option Connection). VisitsLink old key l new) (sym here)
+pub visited : (now : ℕ) (old new : Turns) (places : List (Option Connection)) (key : ℕ) (link after : Connection) (visit : Visit) (behind : Sides) → link_at old key ≡ Some link → key < length old.links → places ≡ set old.links key None → Attends old.patience now key link (sides old) visit after behind → new.patience ≡ old.patience → new.counts ≡ settled visit after.number (record old.counts { wire = behind.wire }) → TellsCache visit behind.cache key new.cache → new.links ≡ set places key (link_left visit after) → Visits now old key new
+visited now old new places key link after visit behind here within taken_out attends patience counts tells links =
+    subst (λ (l : Option Connection). VisitsLink now old key l new) (sym here)
     (record {
       visit = visit;
-      left = after.waiting;
+      left = after;
       behind = behind;
-      serves = serves;
-      counts = counts ∙ ap (λ (n : ℕ). settled visit n (record old.counts { wire = behind.wire })) number;
+      attends = attends;
+      patience = patience;
+      counts = counts ∙ ap (λ (n : ℕ). settled visit n (record old.counts { wire = behind.wire })) attends.stands.number;
       tells = tells;
-      stands = ap (λ (l : List (Option Connection)). get_or l key None) links ∙ (get_or-set_same places key (link_left visit after) None inside ∙ ap (λ (n : ℕ). link_left visit (record { number = n; waiting = after.waiting })) number);
+      stands = ap (λ (l : List (Option Connection)). get_or l key None) links ∙ get_or-set_same places key (link_left visit after) None inside;
       others = λ other differs. ap (λ (l : List (Option Connection)). get_or l other None) links ∙ (set_other places key (link_left visit after) other differs ∙ (ap (λ (l : List (Option Connection)). get_or l other None) taken_out ∙ set_other old.links key None other differs));
     })
   where
@@ -81,5 +83,5 @@ visited old new places key link after visit behind here within taken_out serves 
     inside = omega (arith, within, ap (λ (l : List (Option Connection)). length l) taken_out, length-set old.links key None)
 
 -- one key more is visited
-pub visited_next : (key : ℕ) (old now next : Turns) → VisitsBelow key old now → Visits now key next → VisitsBelow (key + 1) old next
-visited_next key old now next before here = subst (λ (n : ℕ). VisitsBelow n old next) (sym (add-one key)) (now, before, here)
+pub visited_next : (now key : ℕ) (old mid next : Turns) → VisitsBelow now key old mid → Visits now mid key next → VisitsBelow now (key + 1) old next
+visited_next now key old mid next before here = subst (λ (n : ℕ). VisitsBelow now n old next) (sym (add-one key)) (mid, before, here)

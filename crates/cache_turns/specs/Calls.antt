@@ -5,6 +5,8 @@ use Rattle.std.specs.Coded.{Coded, code_by, coded×, coded⊎, coded_list, coded
 use base.Stored.{coded_unit}
 use Rattle.cache_turns.specs.declared.log.Note.{Note}
 use Rattle.cache_turns.specs.declared.log.Note.TheVariants as note
+use Rattle.cache_turns.specs.declared.wire.Parting.{Parting}
+use Rattle.cache_turns.specs.declared.wire.Parting.TheVariants.{NoPlace, Ended, Failed, Closed, Overdue}
 use Rattle.cache_turns.specs.declared.wire.Received.{Received}
 use Rattle.cache_turns.specs.declared.wire.Received.TheVariants.{Octets as Came, Nothing as NoneCame, End, Fault as ReadFault}
 use Rattle.cache_turns.specs.declared.wire.Sent.{Sent}
@@ -15,16 +17,16 @@ pub data WireCall : Type 0 where
   Accept : WireCall  -- for a connection
   Read : (number : ℕ) (buf : List ℕ) (received : Received) → WireCall  -- the buffer is as the read left it
   Write : (number : ℕ) (octets : List ℕ) (sent : Sent) → WireCall  -- all that was offered
-  Close : (number : ℕ) → WireCall
+  Close : (number : ℕ) (parting : Parting) → WireCall  -- why it ends
 
 -- what a wire notes of a call
 abbrev pub call_of : Note → WireCall
 call_of note.Accept = Accept
 call_of (note.Read number buf received) = Read number buf.now received
 call_of (note.Write number octets sent) = Write number octets.now sent
-call_of (note.Close number) = Close number
+call_of (note.Close number parting) = Close number parting
 
--- how proofs keep the answers of reads and of writes
+-- how proofs keep the answers of reads and of writes, and why a connection ends
 abbrev received_sum : Received → ℕ ⊎ (Unit {0} ⊎ (Unit {0} ⊎ Unit {0}))
 received_sum (Came count) = inl count
 received_sum NoneCame = inr (inl tt)
@@ -58,6 +60,34 @@ sent_back (Went count) = refl
 sent_back NoneWent = refl
 sent_back WriteFault = refl
 
+abbrev PartingSum : Type 0
+PartingSum = Unit {0} ⊎ (Unit {0} ⊎ (Unit {0} ⊎ (Unit {0} ⊎ Unit {0})))
+
+abbrev parting_sum : Parting → PartingSum
+parting_sum NoPlace = inl tt
+parting_sum Ended = inr (inl tt)
+parting_sum Failed = inr (inr (inl tt))
+parting_sum Closed = inr (inr (inr (inl tt)))
+parting_sum Overdue = inr (inr (inr (inr tt)))
+
+abbrev parting_of : PartingSum → Parting
+parting_of (inl _) = NoPlace
+parting_of (inr (inl _)) = Ended
+parting_of (inr (inr (inl _))) = Failed
+parting_of (inr (inr (inr (inl _)))) = Closed
+parting_of (inr (inr (inr (inr _)))) = Overdue
+
+pub parting_back : (parting : Parting) → parting_of (parting_sum parting) ≡ parting
+parting_back NoPlace = refl
+parting_back Ended = refl
+parting_back Failed = refl
+parting_back Closed = refl
+parting_back Overdue = refl
+
+abbrev pub parting_code : Coded Parting
+parting_code =
+    code_by PartingSum (coded⊎ coded_unit (coded⊎ coded_unit (coded⊎ coded_unit (coded⊎ coded_unit coded_unit)))) parting_sum parting_of parting_back
+
 abbrev pub received_code : Coded Received
 received_code =
     code_by (ℕ ⊎ (Unit {0} ⊎ (Unit {0} ⊎ Unit {0}))) (coded⊎ coded_ℕ (coded⊎ coded_unit (coded⊎ coded_unit coded_unit))) received_sum received_of received_back
@@ -68,28 +98,28 @@ sent_code =
 
 -- and the calls
 abbrev CallSum : Type 0
-CallSum = Unit {0} ⊎ ((ℕ × (List ℕ × Received)) ⊎ ((ℕ × (List ℕ × Sent)) ⊎ ℕ))
+CallSum = Unit {0} ⊎ ((ℕ × (List ℕ × Received)) ⊎ ((ℕ × (List ℕ × Sent)) ⊎ (ℕ × Parting)))
 
 abbrev call_sum : WireCall → CallSum
 call_sum Accept = inl tt
 call_sum (Read number buf received) = inr (inl (number, (buf, received)))
 call_sum (Write number octets sent) = inr (inr (inl (number, (octets, sent))))
-call_sum (Close number) = inr (inr (inr number))
+call_sum (Close number parting) = inr (inr (inr (number, parting)))
 
 abbrev call_from : CallSum → WireCall
 call_from (inl _) = Accept
 call_from (inr (inl r)) = Read r.0 r.1.0 r.1.1
 call_from (inr (inr (inl w))) = Write w.0 w.1.0 w.1.1
-call_from (inr (inr (inr number))) = Close number
+call_from (inr (inr (inr c))) = Close c.0 c.1
 
 pub call_back : (call : WireCall) → call_from (call_sum call) ≡ call
 call_back Accept = refl
 call_back (Read number buf received) = refl
 call_back (Write number octets sent) = refl
-call_back (Close number) = refl
+call_back (Close number parting) = refl
 
 abbrev pub call_code : Coded WireCall
 call_code =
     code_by CallSum
-    (coded⊎ coded_unit (coded⊎ (coded× coded_ℕ (coded× (coded_list coded_ℕ) received_code)) (coded⊎ (coded× coded_ℕ (coded× (coded_list coded_ℕ) sent_code)) coded_ℕ)))
+    (coded⊎ coded_unit (coded⊎ (coded× coded_ℕ (coded× (coded_list coded_ℕ) received_code)) (coded⊎ (coded× coded_ℕ (coded× (coded_list coded_ℕ) sent_code)) (coded× coded_ℕ parting_code))))
     call_sum call_from call_back

@@ -1,24 +1,29 @@
--- A visit to a connection: its client hears what the socket gives, and the socket is offered what the cache hands out for the client.
-use Rattle.std.specs.Prelude.{◌≡◌, ◌≢◌, ℕ, List, [], length, Result, Ok, Err, take, drop}
+-- A visit to a connection: its client hears what the socket gives, the socket is offered what the cache hands out for the client, and a client that was silent for too long loses its place.
+use Rattle.std.specs.Prelude.{◌≡◌, ◌≢◌, ℕ, List, [], Bool, false, true, length, Option, Result, Ok, Err, take, drop}
 use Rattle.net_prefix.specs.declared.transport.Transport.{Transport}
 use Rattle.net_prefix.specs.declared.transport.Transport.TheVariants.{None as NoClient, Opening, Listening, Open, Closing}
-use Rattle.rtr_cache.specs.CacheState.{CacheState, client_at, transport_of}
+use Rattle.rtr_cache.specs.CacheState.{CacheState, awaits_first_pdu, client_at, transport_of}
+use Rattle.rtr_cache.specs.CacheTable.{Conn}
 use Rattle.rtr_cache.specs.ClientHistory.{Heard, Makes, Took}
 use Rattle.rtr_cache.specs.declared.event.CacheReport.{CacheReport}
 use Rattle.rtr_cache.specs.declared.refusal.CacheRefusal.{CacheRefusal}
+use Rattle.cache_turns.specs.Patience.{heard_at, outlasts}
 use Rattle.cache_turns.specs.TurnOctets.{turn_octets}
 use Rattle.cache_turns.specs.Wires.{FitsIn, WireState, reading, writing}
 use Rattle.cache_turns.specs.declared.link.Visit.{Visit}
-use Rattle.cache_turns.specs.declared.link.Visit.TheVariants.{Stays, Faulty, Ended, Closed}
+use Rattle.cache_turns.specs.declared.link.Visit.TheVariants.{Stays, Faulty, Ended, Closed, Overdue}
+use Rattle.cache_turns.specs.declared.patience.Moments.{Moments}
+use Rattle.cache_turns.specs.declared.patience.Patience.{Patience}
 use Rattle.cache_turns.specs.declared.wire.Received.{Received}
 use Rattle.cache_turns.specs.declared.wire.Received.TheVariants.{Octets as Came, Nothing as NoneCame, End, Fault as ReadFault}
 use Rattle.cache_turns.specs.declared.wire.Sent.{Sent}
 use Rattle.cache_turns.specs.declared.wire.Sent.TheVariants.{Octets as Went, Nothing as NoneWent, Fault as WriteFault}
 
--- a connection: the number of its socket, and what was taken of the cache for it and not yet written
+-- a connection: the number of its socket, what was taken of the cache for it and not yet written, and when it came and was heard
 pub record Connection : Type 0 where
   pub number : ℕ
   pub waiting : List ℕ
+  pub moments : Moments
 
 -- what lies on the two sides of the connections
 pub record Sides : Type 0 where
@@ -105,9 +110,41 @@ GoesOn NoneCame key link old visit left new = Answers key link old visit left ne
 GoesOn End key link old visit left new = (visit ≡ Ended) × (new ≡ old)
 GoesOn ReadFault key link old visit left new = (visit ≡ Faulty) × (new ≡ old)
 
--- a visit to the connection of the client of this key: what it finds, and what it leaves waiting
+-- the connection of the client of this key is served: what that finds, and what it leaves waiting
 pub record Serves (key : ℕ) (link : Connection) (old : Sides) (visit : Visit) (left : List ℕ) (new : Sides) : Type 0 where
   pub received : Received
   pub behind : Sides
   pub reads : Reads key link.number received old behind
   pub goes_on : GoesOn received key link behind visit left new
+
+-- octets that came are those of this moment
+abbrev pub heard_by : ℕ → Option Conn → Received → Moments → Moments
+heard_by now client (Came count) moments = heard_at now (transport_of client) moments
+heard_by now client NoneCame moments = moments
+heard_by now client End moments = moments
+heard_by now client ReadFault moments = moments
+
+-- and how the connection stands behind that
+pub record Stands (now key : ℕ) (link : Connection) (old : Sides) (found : Visit) (left : Connection) (new : Sides) : Type 0 where
+  pub serves : Serves key link old found left.waiting new
+  pub number : left.number ≡ link.number
+  pub moments : left.moments ≡ heard_by now (client_at old.cache key) serves.received link.moments
+
+-- a client was silent for too long
+abbrev pub is_over : Patience → Moments → Option Conn → ℕ → Bool
+is_over patience moments client now = outlasts patience moments (transport_of client) (awaits_first_pdu client) now
+
+-- one that would stay then loses its place
+abbrev pub judged : Bool → Visit → Visit
+judged false found = found
+judged true Stays = Overdue
+judged true Faulty = Faulty
+judged true Ended = Ended
+judged true Closed = Closed
+judged true Overdue = Overdue
+
+-- a visit at this moment to the connection of the client of this key: it is served, and then judged
+pub record Attends (patience : Patience) (now key : ℕ) (link : Connection) (old : Sides) (visit : Visit) (left : Connection) (new : Sides) : Type 0 where
+  pub found : Visit
+  pub stands : Stands now key link old found left new
+  pub judges : visit ≡ judged (is_over patience left.moments (client_at new.cache key) now) found

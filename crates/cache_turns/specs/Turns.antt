@@ -5,21 +5,26 @@ use Rattle.rtr_cache.specs.ClientHistory.{CameUp, Makes, Ticked, WentDown}
 use Rattle.rtr_cache.specs.declared.event.CacheReport.{CacheReport}
 use Rattle.rtr_cache.specs.declared.refusal.CacheRefusal.{CacheRefusal}
 use Rattle.cache_turns.specs.Calls.{Accept}
-use Rattle.cache_turns.specs.Serving.{Connection, Serves, Sides}
+use Rattle.cache_turns.specs.Patience.{arriving_at}
+use Rattle.cache_turns.specs.Serving.{Attends, Connection, Sides}
 use Rattle.cache_turns.specs.Wires.{WireState, accept_failing, arriving, calling, closing, one_more}
 use Rattle.cache_turns.specs.declared.fault.LoopFault.{LoopFault}
 use Rattle.cache_turns.specs.declared.fault.LoopFault.TheVariants as stop
 use Rattle.cache_turns.specs.declared.link.Visit.{Visit}
-use Rattle.cache_turns.specs.declared.link.Visit.TheVariants.{Stays, Faulty, Ended, Closed}
+use Rattle.cache_turns.specs.declared.link.Visit.TheVariants.{Stays, Faulty, Ended, Closed, Overdue}
+use Rattle.cache_turns.specs.declared.patience.Patience.{Patience}
+use Rattle.cache_turns.specs.declared.wire.Parting.{Parting}
+use Rattle.cache_turns.specs.declared.wire.Parting.TheVariants as parting
 
 -- what a loop counts, and what its wire does
 pub record Counts : Type 0 where
   pub lost : ℕ  -- connections of which the cache was told that they are gone
-  pub closed : ℕ  -- connections closed since the cache had closed the session and said all
+  pub closed : ℕ  -- connections closed since the cache had closed the session and said all, or since their clients were silent for too long
   pub wire : WireState
 
--- a loop: what is counted, its cache, and the connection of each client under the client's key
+-- a loop: how long its clients may be silent, what is counted, its cache, and the connection of each client under the client's key
 pub record Turns : Type 0 where
+  pub patience : Patience
   pub counts : Counts
   pub cache : CacheState
   pub links : List (Option Connection)
@@ -37,8 +42,8 @@ abbrev pub EachHasAClient : CacheState → List (Option Connection) → Type 0
 EachHasAClient cache links = (key : ℕ) → IsSome (slice_index_or links key None) → IsSome (client_at cache key)
 
 -- a loop before its first turn
-abbrev pub idle : CacheState → WireState → Turns
-idle cache wire = record { counts = record { lost = 0; closed = 0; wire = wire }; cache = cache; links = [] }
+abbrev pub idle : Patience → CacheState → WireState → Turns
+idle patience cache wire = record { patience = patience; counts = record { lost = 0; closed = 0; wire = wire }; cache = cache; links = [] }
 
 -- every connection stays, and every one but that of a key
 abbrev pub LinksStay : Turns → Turns → Type 0
@@ -58,26 +63,29 @@ NoneComes old new = new ≡ record old { counts = counts_of_wire (calling Accept
 -- a connection comes whose client the cache refuses, and is closed
 pub record TurnsAway (old new : Turns) : Type 0 where
   pub why : CacheRefusal
-  pub counts : new.counts ≡ counts_of_wire (λ wire. closing wire.arrivals (arriving wire)) old.counts
+  pub patience : new.patience ≡ old.patience
+  pub counts : new.counts ≡ counts_of_wire (λ wire. closing wire.arrivals parting.NoPlace (arriving wire)) old.counts
   pub refused : Makes old.cache (CameUp (Err why)) new.cache
   pub links : LinksStay old new
 
 -- a connection comes, and stands under the key of its client
-pub record ComesUp (old new : Turns) : Type 0 where
+pub record ComesUp (now : ℕ) (old new : Turns) : Type 0 where
   pub key : ℕ
+  pub patience : new.patience ≡ old.patience
   pub counts : new.counts ≡ counts_of_wire arriving old.counts
   pub comes : Makes old.cache (CameUp (Ok (tells_client key))) new.cache
   pub before : link_at old key ≡ None
-  pub now : link_at new key ≡ Some (record { number = old.counts.wire.arrivals; waiting = [] })
+  pub here : link_at new key ≡ Some (record { number = old.counts.wire.arrivals; waiting = []; moments = arriving_at now })
   pub others : OtherLinksStay old key new
 
 -- accepting goes well: no connection comes, or one is closed, or one is let in
-abbrev pub Accepts : Turns → Turns → Type 0
-Accepts old new = NoneComes old new ⊎ (TurnsAway old new ⊎ ComesUp old new)
+abbrev pub Accepts : ℕ → Turns → Turns → Type 0
+Accepts now old new = NoneComes old new ⊎ (TurnsAway old new ⊎ ComesUp now old new)
 
 -- memory is refused for a connection that came: its client is with the cache, and nothing else changes
 pub record LacksMemory (old new : Turns) : Type 0 where
   pub key : ℕ
+  pub patience : new.patience ≡ old.patience
   pub counts : new.counts ≡ counts_of_wire arriving old.counts
   pub comes : Makes old.cache (CameUp (Ok (tells_client key))) new.cache
   pub links : LinksStay old new
@@ -88,20 +96,25 @@ Stops old stop.Accept new = new ≡ record old { counts = counts_of_wire accept_
 Stops old stop.NoMemory new = LacksMemory old new
 
 -- what accepting makes of a loop
-abbrev pub Admits : Turns → Result (Unit {0}) LoopFault → Turns → Type 0
-Admits old (Ok nothing) new = Accepts old new
-Admits old (Err fault) new = Stops old fault new
+abbrev pub Admits : ℕ → Turns → Result (Unit {0}) LoopFault → Turns → Type 0
+Admits now old (Ok nothing) new = Accepts now old new
+Admits now old (Err fault) new = Stops old fault new
 
 -- a client is lost, and its socket closed
-abbrev pub losing : ℕ → Counts → Counts
-losing number counts = record counts { lost = one_more counts.lost; wire = closing number counts.wire }
+abbrev pub losing : ℕ → Parting → Counts → Counts
+losing number why counts = record counts { lost = one_more counts.lost; wire = closing number why counts.wire }
+
+-- and counted as closed
+abbrev pub closing_it : ℕ → Parting → Counts → Counts
+closing_it number why counts = losing number why (record counts { closed = one_more counts.closed })
 
 -- what a visit that found this is counted as
 abbrev pub settled : Visit → ℕ → Counts → Counts
 settled Stays number counts = counts
-settled Faulty number counts = losing number counts
-settled Ended number counts = losing number counts
-settled Closed number counts = losing number (record counts { closed = one_more counts.closed })
+settled Faulty number counts = losing number parting.Failed counts
+settled Ended number counts = losing number parting.Ended counts
+settled Closed number counts = closing_it number parting.Closed counts
+settled Overdue number counts = closing_it number parting.Overdue counts
 
 -- the cache is told that a client is gone
 abbrev pub GoesDown : CacheState → ℕ → CacheState → Type 0
@@ -113,6 +126,7 @@ TellsCache Stays old key new = new ≡ old
 TellsCache Faulty old key new = GoesDown old key new
 TellsCache Ended old key new = GoesDown old key new
 TellsCache Closed old key new = GoesDown old key new
+TellsCache Overdue old key new = GoesDown old key new
 
 -- what stands under a key behind a visit
 abbrev pub link_left : Visit → Connection → Option Connection
@@ -120,34 +134,36 @@ link_left Stays link = Some link
 link_left Faulty link = None
 link_left Ended link = None
 link_left Closed link = None
+link_left Overdue link = None
 
 -- a visit to the connection under a key: what it found and made of the client and its connection; each one that ends is counted as lost, and its socket closed
-pub record VisitsConnection (old : Turns) (key : ℕ) (link : Connection) (new : Turns) : Type 0 where
+pub record VisitsConnection (now : ℕ) (old : Turns) (key : ℕ) (link : Connection) (new : Turns) : Type 0 where
   pub visit : Visit
-  pub left : List ℕ
+  pub left : Connection
   pub behind : Sides
-  pub serves : Serves key link (sides old) visit left behind
+  pub attends : Attends old.patience now key link (sides old) visit left behind
+  pub patience : new.patience ≡ old.patience
   pub counts : new.counts ≡ settled visit link.number (record old.counts { wire = behind.wire })
   pub tells : TellsCache visit behind.cache key new.cache
-  pub stands : link_at new key ≡ link_left visit (record { number = link.number; waiting = left })
+  pub stands : link_at new key ≡ link_left visit left
   pub others : OtherLinksStay old key new
 
 -- a key without a connection has no visit
-abbrev pub VisitsLink : Turns → ℕ → Option Connection → Turns → Type 0
-VisitsLink old key None new = new ≡ old
-VisitsLink old key (Some link) new = VisitsConnection old key link new
+abbrev pub VisitsLink : ℕ → Turns → ℕ → Option Connection → Turns → Type 0
+VisitsLink now old key None new = new ≡ old
+VisitsLink now old key (Some link) new = VisitsConnection now old key link new
 
-abbrev pub Visits : Turns → ℕ → Turns → Type 0
-Visits old key new = VisitsLink old key (link_at old key) new
+abbrev pub Visits : ℕ → Turns → ℕ → Turns → Type 0
+Visits now old key new = VisitsLink now old key (link_at old key) new
 
 -- the keys below this one are visited, each once
-abbrev pub VisitsBelow : ℕ → Turns → Turns → Type 0
-VisitsBelow zero old new = new ≡ old
-VisitsBelow (suc key) old new = (mid : Turns) × VisitsBelow key old mid × Visits mid key new
+abbrev pub VisitsBelow : ℕ → ℕ → Turns → Turns → Type 0
+VisitsBelow now zero old new = new ≡ old
+VisitsBelow now (suc key) old new = (mid : Turns) × VisitsBelow now key old mid × Visits now mid key new
 
 -- all are
-abbrev pub VisitsAll : Turns → Turns → Type 0
-VisitsAll old new = VisitsBelow (length old.links) old new
+abbrev pub VisitsAll : ℕ → Turns → Turns → Type 0
+VisitsAll now old new = VisitsBelow now (length old.links) old new
 
 -- the cache is told the moment
 pub record IsTold (now : ℕ) (old new : Turns) : Type 0 where
@@ -159,8 +175,8 @@ pub record IsTold (now : ℕ) (old new : Turns) : Type 0 where
 pub record Turned (now : ℕ) (old new : Turns) : Type 0 where
   pub admitted : Turns
   pub visited : Turns
-  pub accepts : Accepts old admitted
-  pub visits : VisitsAll admitted visited
+  pub accepts : Accepts now old admitted
+  pub visits : VisitsAll now admitted visited
   pub tells : IsTold now visited new
 
 -- a turn, and its answer

@@ -1,8 +1,9 @@
--- What the calls of a wire make of it: each is kept in mind with its answer, and each fault, each end of input and each connection is counted.
-use Rattle.std.specs.Prelude.{◌≡◌, ◌+◌, ◌-◌, ◌^◌, ◌≤◌, ℕ, nat_lt, if◌then◌else◌, List, [], ◌∷◌, Option, Some, None, ⊤}
+-- What the calls of a wire make of it: each is kept in mind with its answer, and each fault, each end of input, each connection and each octet is counted.
+use Rattle.std.specs.Prelude.{◌≡◌, ◌+◌, ◌-◌, ◌^◌, ◌≤◌, ℕ, nat_lt, min, if◌then◌else◌, List, [], ◌∷◌, Option, Some, None, ⊤}
 use Rattle.cache_turns.specs.Calls.{WireCall, Accept, Read, Write, Close}
 use Rattle.cache_turns.specs.declared.wire.Accepted.{Accepted}
 use Rattle.cache_turns.specs.declared.wire.Accepted.TheVariants.{Connection, Nothing as NoneWaits, Fault as AcceptFault}
+use Rattle.cache_turns.specs.declared.wire.Parting.{Parting}
 use Rattle.cache_turns.specs.declared.wire.Received.{Received}
 use Rattle.cache_turns.specs.declared.wire.Received.TheVariants.{Octets as Came, Nothing as NoneCame, End, Fault as ReadFault}
 use Rattle.cache_turns.specs.declared.wire.Sent.{Sent}
@@ -14,15 +15,21 @@ pub record WireState : Type 0 where
   pub accept_faults : ℕ  -- those of them that asked for a connection
   pub ends : ℕ  -- ends of input
   pub arrivals : ℕ  -- connections that came
+  pub octets_in : ℕ  -- octets that came
+  pub octets_out : ℕ  -- octets that went
   pub calls : List WireCall
 
 -- before its first call
 abbrev pub nothing_told : WireState
-nothing_told = record { faults = 0; accept_faults = 0; ends = 0; arrivals = 0; calls = [] }
+nothing_told = record { faults = 0; accept_faults = 0; ends = 0; arrivals = 0; octets_in = 0; octets_out = 0; calls = [] }
 
 -- a count goes on by one, and stays at the greatest u64
 abbrev pub one_more : ℕ → ℕ
 one_more count = if nat_lt count (2 ^ 64 - 1) then count + 1 else count
+
+-- a count goes on by so many, and stays at the greatest u64
+abbrev pub more : ℕ → ℕ → ℕ
+more by count = min (count + by) (2 ^ 64 - 1)
 
 -- a fault is told
 abbrev pub failing : WireState → WireState
@@ -53,7 +60,7 @@ accepting AcceptFault wire = accept_failing wire
 
 -- what a read told is counted
 abbrev pub told_by_read : Received → WireState → WireState
-told_by_read (Came count) wire = wire
+told_by_read (Came count) wire = record wire { octets_in = more count wire.octets_in }
 told_by_read NoneCame wire = wire
 told_by_read End wire = record wire { ends = one_more wire.ends }
 told_by_read ReadFault wire = failing wire
@@ -64,7 +71,7 @@ reading number buf received wire = calling (Read number buf received) (told_by_r
 
 -- what a write told is counted
 abbrev pub told_by_write : Sent → WireState → WireState
-told_by_write (Went count) wire = wire
+told_by_write (Went count) wire = record wire { octets_out = more count wire.octets_out }
 told_by_write NoneWent wire = wire
 told_by_write WriteFault wire = failing wire
 
@@ -73,8 +80,8 @@ abbrev pub writing : ℕ → List ℕ → Sent → WireState → WireState
 writing number octets sent wire = calling (Write number octets sent) (told_by_write sent wire)
 
 -- behind a close
-abbrev pub closing : ℕ → WireState → WireState
-closing number wire = calling (Close number) wire
+abbrev pub closing : ℕ → Parting → WireState → WireState
+closing number parting wire = calling (Close number parting) wire
 
 -- a read puts no more octets into a buffer than it holds
 abbrev pub FitsIn : ℕ → Received → Type 0

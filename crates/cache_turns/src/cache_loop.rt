@@ -3,17 +3,20 @@ ghost use Rattle.std.specs.Prelude.{◌≡◌, ◌≢◌, ◌<◌, ℕ, ⊤, [],
 ghost use Rattle.rtr_cache.specs.CacheState.{OthersStay, client_at, tells_client};
 ghost use Rattle.rtr_cache.specs.ClientHistory.{CameUp, Loaded, Makes};
 ghost use Rattle.rtr_cache.specs.declared.refusal.CacheRefusal.{CacheRefusal};
+ghost use Rattle.cache_turns.specs.Patience.{arriving_at};
 ghost use Rattle.cache_turns.specs.TurnOctets.{turn_octets};
-ghost use Rattle.cache_turns.specs.Turns.{Admits, GoesDown, IsTold, TakesTurn, TellsCache, Visits, VisitsAll, idle, link_at, link_left, losing, settled};
+ghost use Rattle.cache_turns.specs.Turns.{Admits, GoesDown, IsTold, TakesTurn, TellsCache, Visits, VisitsAll, closing_it, idle, link_at, link_left, losing, settled};
 
 use crate::fault::LoopFault;
 use crate::link::{Link, Visit};
-use crate::wire::{Accepted, Wire};
+use crate::patience::Patience;
+use crate::wire::{Accepted, Parting, Wire};
 use net_prefix::Vrp;
 use rtr_cache::{Cache, CacheEvent, CacheRefusal, CacheReport};
 use std::alloc::{AllocError, Allocator, Global};
 use std::collections::BTreeSet;
 use std::marker::Model;
+use std::time::Duration;
 
 /// The most octets that a turn reads of a connection, and the most that wait to be written to it.
 pub const TURN_OCTETS: usize = 4_096;
@@ -23,6 +26,7 @@ pub const TURN_OCTETS: usize = 4_096;
 pub struct CacheLoop<W: Wire, A: Allocator = Global> {
     alloc: A,
     wire: W,
+    patience: Patience,
     cache: Cache<A>,
     // The connection of the client of key k stands at place k.
     links: Vec<Option<Link<W, A>>, A>,
@@ -35,20 +39,33 @@ impl<W: Wire, A: Allocator> Model for CacheLoop<W, A> {
 
     ghost Value = { Turns };
 
-    ghost view = { λ c. record { counts = record { lost = c.lost; closed = c.closed; wire = W.state c.wire }; cache = c.cache; links = c.links.items } };
+    ghost view = { λ c. record { patience = c.patience; counts = record { lost = c.lost; closed = c.closed; wire = W.state c.wire }; cache = c.cache; links = c.links.items } };
 
     ghost invariant = { λ c. EachHasAClient c.cache c.links.items };
 }
 
 impl<W: Wire + Drop, A: Allocator + Clone> CacheLoop<W, A> {
-    /// The turns of this cache on this wire, before the first.
+    /// The turns of this cache on this wire, before the first, with the usual patience.
     pub fn new(alloc: A, wire: W, cache: Cache<A>) -> Result<Self, AllocError>
-        ensures { IfOk result (λ turns. turns ≡ idle cache (W.state wire)) }
+        ensures { IfOk result (λ turns. turns ≡ idle (record { first = 60; idle = 7200 }) cache (W.state wire)) }
+    {
+        CacheLoop::with_patience(alloc, wire, cache, Patience::USUAL)
+    }
+
+    /// The same, with how long clients may be silent.
+    pub fn with_patience(
+        alloc: A,
+        wire: W,
+        cache: Cache<A>,
+        patience: Patience,
+    ) -> Result<Self, AllocError>
+        ensures { IfOk result (λ turns. turns ≡ idle patience cache (W.state wire)) }
     {
         let links = Vec::new(alloc.clone()?);
         Ok(CacheLoop {
             alloc,
             wire,
+            patience,
             cache,
             links,
             lost: 0,
@@ -57,12 +74,13 @@ impl<W: Wire + Drop, A: Allocator + Clone> CacheLoop<W, A> {
     }
 
     /// One turn: a connection that waits is accepted, what came on each is handed to the cache and what the cache
-    /// has queued for it goes out, and the cache is told the moment. A moment before the last one tells it nothing.
+    /// has queued for it goes out, one whose client was silent for too long ends, and the cache is told the moment. A
+    /// moment before the last one tells it nothing.
     pub fn turn(&mut self, now: u64) -> Result<(), LoopFault>
         ensures { TakesTurn now self.old result self.new }
     {
-        self.admit()?;
-        self.visit_all();
+        self.admit(now)?;
+        self.visit_all(now);
         self.tell(now);
         Ok(())
     }
@@ -93,11 +111,19 @@ impl<W: Wire + Drop, A: Allocator + Clone> CacheLoop<W, A> {
         self.lost
     }
 
-    /// How many connections were closed since the cache had closed their session and said all.
+    /// How many connections were closed since the cache had closed their session and said all, or since their clients
+    /// were silent for too long.
     pub fn closed(&self) -> u64
         ensures { result ≡ self.now.counts.closed }
     {
         self.closed
+    }
+
+    /// Rests until a turn may find something to do, or so long.
+    pub fn wait(&mut self, most: Duration)
+        ensures { self.new ≡ self.old }
+    {
+        self.wire.wait(most);
     }
 
     /// The wire.
@@ -108,8 +134,8 @@ impl<W: Wire + Drop, A: Allocator + Clone> CacheLoop<W, A> {
     }
 
     // Accepts a connection that waits. One whose client the cache refuses is closed.
-    fn admit(&mut self) -> Result<(), LoopFault>
-        ensures { Admits self.old result self.new }
+    fn admit(&mut self, now: u64) -> Result<(), LoopFault>
+        ensures { Admits now self.old result self.new }
     {
         let socket = match self.wire.accept() {
             Accepted::Connection(socket, _) => socket,
@@ -117,10 +143,10 @@ impl<W: Wire + Drop, A: Allocator + Clone> CacheLoop<W, A> {
             Accepted::Fault => return Err(LoopFault::Accept),
         };
         let Some(client) = self.new_client() else {
-            self.wire.close(socket);
+            self.wire.close(socket, Parting::NoPlace);
             return Ok(());
         };
-        self.let_in(client as usize, socket)?;
+        self.let_in(client as usize, socket, now)?;
         Ok(())
     }
 
@@ -138,14 +164,14 @@ impl<W: Wire + Drop, A: Allocator + Clone> CacheLoop<W, A> {
     }
 
     // Puts the connection of this client, on this socket, where it belongs.
-    fn let_in(&mut self, client: usize, socket: W::Socket) -> Result<(), AllocError>
+    fn let_in(&mut self, client: usize, socket: W::Socket, now: u64) -> Result<(), AllocError>
         requires { IsSome (client_at self.old.cache client) }
         ensures same { self.new ≡ record self.old { links = self.new.links } }
-        ensures here { OnOk result (link_at self.new client ≡ Some (record { number = W.number socket; waiting = [] })) }
+        ensures here { OnOk result (link_at self.new client ≡ Some (record { number = W.number socket; waiting = []; moments = arriving_at now })) }
         ensures others { (key : ℕ) → key ≢ client → link_at self.new key ≡ link_at self.old key }
         ensures err { OnErr result ((key : ℕ) → link_at self.new key ≡ link_at self.old key) }
     {
-        let link = Link::new(self.alloc.clone()?, socket)?;
+        let link = Link::new(self.alloc.clone()?, socket, now)?;
         self.seat(client, link)
     }
 
@@ -162,26 +188,33 @@ impl<W: Wire + Drop, A: Allocator + Clone> CacheLoop<W, A> {
     }
 
     #[tactic(auto, unfolding(crate::specs::TurnOctets::turn_octets))]
-    fn visit_all(&mut self)
-        ensures { VisitsAll self.old self.new }
+    fn visit_all(&mut self, now: u64)
+        ensures { VisitsAll now self.old self.new }
     {
         let mut buf = [0; TURN_OCTETS];
         for client in 0..self.links.len() {
-            self.visit(client, &mut buf);
+            self.visit(client, now, &mut buf);
         }
     }
 
     // Visits the connection of this client, if it has one.
-    fn visit(&mut self, client: usize, buf: &mut [u8])
+    fn visit(&mut self, client: usize, now: u64, buf: &mut [u8])
         requires place { client < length self.old.links }
         requires room { length buf.old ≡ turn_octets }
-        ensures visits { Visits self.old client self.new }
+        ensures visits { Visits now self.old client self.new }
         ensures places { length self.new.links ≡ length self.old.links }
     {
         let Some(mut link) = take_out(&mut self.links, client) else {
             return;
         };
-        let visit = link.visit(client as u64, &mut self.wire, &mut self.cache, buf);
+        let visit = link.visit(
+            client as u64,
+            now,
+            &self.patience,
+            &mut self.wire,
+            &mut self.cache,
+            buf,
+        );
         self.settle(client, link, visit);
     }
 
@@ -190,28 +223,41 @@ impl<W: Wire + Drop, A: Allocator + Clone> CacheLoop<W, A> {
         requires place { client < length self.old.links }
         requires taken_out { link_at self.old client ≡ None }
         requires served { visit ≡ Visit.Stays → IsSome (client_at self.old.cache client) }
+        ensures patience { self.new.patience ≡ self.old.patience }
         ensures counts { self.new.counts ≡ settled visit link.number self.old.counts }
         ensures tells { TellsCache visit self.old.cache client self.new.cache }
         ensures links { self.new.links ≡ slice_set self.old.links client (link_left visit link) }
     {
         match visit {
             Visit::Stays => self.links[client] = Some(link),
-            Visit::Faulty | Visit::Ended => self.lose(client, link),
-            Visit::Closed => {
-                self.closed = self.closed.saturating_add(1);
-                self.lose(client, link);
-            }
+            Visit::Faulty => self.lose(client, link, Parting::Failed),
+            Visit::Ended => self.lose(client, link, Parting::Ended),
+            Visit::Closed => self.close(client, link, Parting::Closed),
+            Visit::Overdue => self.close(client, link, Parting::Overdue),
         }
     }
 
-    // Ends the connection of this client, and tells the cache that it is gone.
-    fn lose(&mut self, client: usize, link: Link<W, A>)
+    // Ends the connection of this client, which the other side may still hold.
+    fn close(&mut self, client: usize, link: Link<W, A>, parting: Parting)
         requires { link_at self.old client ≡ None }
-        ensures counts { self.new.counts ≡ losing link.number self.old.counts }
+        ensures patience { self.new.patience ≡ self.old.patience }
+        ensures counts { self.new.counts ≡ closing_it link.number parting self.old.counts }
         ensures cache { GoesDown self.old.cache client self.new.cache }
         ensures links { self.new.links ≡ slice_set self.old.links client None }
     {
-        link.close(&mut self.wire);
+        self.closed = self.closed.saturating_add(1);
+        self.lose(client, link, parting);
+    }
+
+    // Ends the connection of this client, and tells the cache that it is gone.
+    fn lose(&mut self, client: usize, link: Link<W, A>, parting: Parting)
+        requires { link_at self.old client ≡ None }
+        ensures patience { self.new.patience ≡ self.old.patience }
+        ensures counts { self.new.counts ≡ losing link.number parting self.old.counts }
+        ensures cache { GoesDown self.old.cache client self.new.cache }
+        ensures links { self.new.links ≡ slice_set self.old.links client None }
+    {
+        link.close(&mut self.wire, parting);
         tell_gone(&mut self.cache, client as u64);
         self.lost = self.lost.saturating_add(1);
     }

@@ -6,8 +6,8 @@
 //! octets, and the client hears just what its own socket gave. Then it writes once, where there is anything to write: it
 //! offers all octets that wait, or where none wait those that the cache hands out; what doesn't go waits, and while
 //! octets wait nothing more is taken of the cache (`specs/Serving.antt`). A connection ends where its socket has told a
-//! fault or the end of its input, or where the cache has closed it and all that was said is written, and nowhere else.
-//! Each that ends is counted as lost, once. A turn that ends the program changes no connection. Over all turns what a
+//! fault or the end of its input, where the cache has closed it and all that was said is written, or where its client
+//! was silent for too long (`specs/Patience.antt`), and nowhere else. Each that ends is counted as lost, once. A turn that ends the program changes no connection. Over all turns what a
 //! socket takes is just what the cache hands out for its client: a front of whole PDUs (`specs/Carrying.antt`). No turn
 //! publishes anything: what is served changes between turns, by `load`, alone.
 #![tactic(auto)]
@@ -18,6 +18,7 @@ mod laws;
 mod link;
 mod log;
 mod outgoing;
+mod patience;
 mod wire;
 
 pub use cache_loop::{CacheLoop, TURN_OCTETS};
@@ -27,4 +28,5 @@ pub use laws::{
     turns_are_calls_of_the_cache, turns_publish_nothing,
 };
 pub use log::{Log, Note};
-pub use wire::{Accepted, Received, Sent, Wire};
+pub use patience::{CLOSING_SECONDS, Patience};
+pub use wire::{Accepted, Parting, Received, Sent, Wire};

@@ -1,15 +1,17 @@
 //! One client's connection.
 ghost use Rattle.std.specs.Prelude.{◌≡◌, ◌≢◌, [], IfOk, IsSome, Result, length};
-ghost use Rattle.rtr_cache.specs.CacheState.{OthersStay, client_at};
+ghost use Rattle.rtr_cache.specs.CacheState.{OthersStay, client_at, transport_of};
 ghost use Rattle.rtr_cache.specs.ClientHistory.{Heard, Makes};
 ghost use Rattle.rtr_cache.specs.declared.event.CacheReport.{CacheReport};
 ghost use Rattle.rtr_cache.specs.declared.refusal.CacheRefusal.{CacheRefusal};
-ghost use Rattle.cache_turns.specs.Serving.{Answers, Reads, Serves, Writes};
+ghost use Rattle.cache_turns.specs.Patience.{arriving_at};
+ghost use Rattle.cache_turns.specs.Serving.{Answers, Attends, Reads, Stands, Writes, heard_by, is_over, judged};
 ghost use Rattle.cache_turns.specs.TurnOctets.{turn_octets};
 ghost use Rattle.cache_turns.specs.Wires.{closing};
 
 use crate::outgoing::Outgoing;
-use crate::wire::{Received, Sent, Wire};
+use crate::patience::{Moments, Patience};
+use crate::wire::{Parting, Received, Sent, Wire};
 use net_prefix::Transport;
 use rtr_cache::{Cache, CacheEvent};
 use std::alloc::{AllocError, Allocator, Global};
@@ -26,6 +28,8 @@ pub(crate) enum Visit {
     Ended,
     /// The cache has closed the session, and all that it said is written.
     Closed,
+    /// The client was silent for too long.
+    Overdue,
 }
 
 /// A client's connection.
@@ -33,6 +37,7 @@ pub(crate) enum Visit {
 pub(crate) struct Link<W: Wire, A: Allocator = Global> {
     socket: W::Socket,
     outgoing: Outgoing<A>,
+    moments: Moments,
 }
 
 impl<W: Wire, A: Allocator> Model for Link<W, A> {
@@ -40,35 +45,76 @@ impl<W: Wire, A: Allocator> Model for Link<W, A> {
 
     ghost Value = { Connection };
 
-    ghost view = { λ link. record { number = W.number link.socket; waiting = link.outgoing } };
+    ghost view = { λ link. record { number = W.number link.socket; waiting = link.outgoing; moments = link.moments } };
 }
 
 impl<W: Wire, A: Allocator + Clone> Link<W, A> {
-    /// The connection of a client on this socket.
-    pub fn new(alloc: A, socket: W::Socket) -> Result<Self, AllocError>
-        ensures { IfOk result (λ link. link ≡ record { number = W.number socket; waiting = [] }) }
+    /// The connection of a client that comes now, on this socket.
+    pub fn new(alloc: A, socket: W::Socket, now: u64) -> Result<Self, AllocError>
+        ensures { IfOk result (λ link. link ≡ record { number = W.number socket; waiting = []; moments = arriving_at now }) }
     {
         Ok(Link {
             socket,
             outgoing: Outgoing::new(alloc)?,
+            moments: Moments::new(now),
         })
     }
 
-    /// What came is handed to the cache as this client's, and what the cache has queued for it goes out.
+    /// What came is handed to the cache as this client's, and what the cache has queued for it goes out. A client that
+    /// was silent for too long loses its place.
     pub fn visit(
         &mut self,
         client: u64,
+        now: u64,
+        patience: &Patience,
         wire: &mut W,
         cache: &mut Cache<A>,
         buf: &mut [u8],
     ) -> Visit
         requires { length buf.old ≡ turn_octets }
-        ensures serves { Serves client self.old (record { wire = W.state wire.old; cache = cache.old }) result self.new.waiting (record { wire = W.state wire.new; cache = cache.new }) }
-        ensures number { self.new.number ≡ self.old.number }
+        ensures attends { Attends patience.now now client self.old (record { wire = W.state wire.old; cache = cache.old }) result self.new (record { wire = W.state wire.new; cache = cache.new }) }
         ensures others { OthersStay cache.old client cache.new }
         ensures there { IsSome (client_at cache.old client) → IsSome (client_at cache.new client) }
     {
-        match self.receive(client, wire, cache, buf) {
+        let found = self.serve(client, now, wire, cache, buf);
+        self.judge(client, now, patience, cache, found)
+    }
+
+    // One that would stay loses its place where its client was silent for too long.
+    fn judge(
+        &self,
+        client: u64,
+        now: u64,
+        patience: &Patience,
+        cache: &Cache<A>,
+        found: Visit,
+    ) -> Visit
+        ensures { result ≡ judged (is_over patience.now self.now.moments (client_at cache.now client) now) found }
+    {
+        let transport = cache.transport(client);
+        let awaits_first_pdu = cache.awaits_first_pdu(client);
+        match found {
+            Visit::Stays if patience.is_over(self.moments, transport, awaits_first_pdu, now) => {
+                Visit::Overdue
+            }
+            _ => found,
+        }
+    }
+
+    fn serve(
+        &mut self,
+        client: u64,
+        now: u64,
+        wire: &mut W,
+        cache: &mut Cache<A>,
+        buf: &mut [u8],
+    ) -> Visit
+        requires { length buf.old ≡ turn_octets }
+        ensures stands { Stands now client self.old (record { wire = W.state wire.old; cache = cache.old }) result self.new (record { wire = W.state wire.new; cache = cache.new }) }
+        ensures others { OthersStay cache.old client cache.new }
+        ensures there { IsSome (client_at cache.old client) → IsSome (client_at cache.new client) }
+    {
+        match self.receive(client, now, wire, cache, buf) {
             Received::Octets(_) | Received::Nothing => self.answer(client, wire, cache),
             Received::End => Visit::Ended,
             Received::Fault => Visit::Faulty,
@@ -76,29 +122,31 @@ impl<W: Wire, A: Allocator + Clone> Link<W, A> {
     }
 
     /// Ends the connection.
-    pub fn close(self, wire: &mut W)
-        ensures { W.state wire.new ≡ closing self.number (W.state wire.old) }
+    pub fn close(self, wire: &mut W, parting: Parting)
+        ensures { W.state wire.new ≡ closing self.number parting (W.state wire.old) }
     {
         let Link { socket, .. } = self;
-        wire.close(socket);
+        wire.close(socket, parting);
     }
 
     // Hands what came to the cache.
     fn receive(
         &mut self,
         client: u64,
+        now: u64,
         wire: &mut W,
         cache: &mut Cache<A>,
         buf: &mut [u8],
     ) -> Received
         requires { length buf.old ≡ turn_octets }
         ensures reads { Reads client self.old.number result (record { wire = W.state wire.old; cache = cache.old }) (record { wire = W.state wire.new; cache = cache.new }) }
-        ensures same { self.new ≡ self.old }
+        ensures same { self.new ≡ record self.old { moments = heard_by now (client_at cache.old client) result self.old.moments } }
         ensures others { OthersStay cache.old client cache.new }
         ensures there { IsSome (client_at cache.old client) → IsSome (client_at cache.new client) }
     {
         let received = wire.read(&mut self.socket, buf);
         if let Received::Octets(count) = received {
+            self.moments.hear(cache.transport(client), now);
             hear(cache, client, &buf[..count]);
         }
         received
@@ -107,7 +155,7 @@ impl<W: Wire, A: Allocator + Clone> Link<W, A> {
     // Takes what is to be written, where all that was taken is written, and writes it.
     fn answer(&mut self, client: u64, wire: &mut W, cache: &mut Cache<A>) -> Visit
         ensures answers { Answers client self.old (record { wire = W.state wire.old; cache = cache.old }) result self.new.waiting (record { wire = W.state wire.new; cache = cache.new }) }
-        ensures number { self.new.number ≡ self.old.number }
+        ensures same { self.new ≡ record self.old { waiting = self.new.waiting } }
         ensures others { OthersStay cache.old client cache.new }
         ensures there { IsSome (client_at cache.old client) → IsSome (client_at cache.new client) }
     {
@@ -124,7 +172,7 @@ impl<W: Wire, A: Allocator + Clone> Link<W, A> {
     // Writes what was taken, as much as goes.
     fn write(&mut self, wire: &mut W) -> Visit
         ensures writes { Writes self.old.number self.old.waiting (W.state wire.old) result self.new.waiting (W.state wire.new) }
-        ensures number { self.new.number ≡ self.old.number }
+        ensures same { self.new ≡ record self.old { waiting = self.new.waiting } }
     {
         match wire.write(&mut self.socket, self.outgoing.octets()) {
             Sent::Octets(count) => {

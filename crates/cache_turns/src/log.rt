@@ -4,7 +4,7 @@ ghost use Rattle.std.specs.Coded.{coded_list};
 ghost use Rattle.cache_turns.specs.Calls.{WireCall, call_code, call_of};
 ghost use base.Fml.{ftrue};
 
-use crate::wire::{Received, Sent};
+use crate::wire::{Parting, Received, Sent};
 use std::marker::Model;
 
 /// The calls of a wire, the newest first. It takes no memory and no time.
@@ -25,7 +25,7 @@ pub enum Note<'a> {
     Read(u64, &'a [u8], Received),
     /// All octets that were offered.
     Write(u64, &'a [u8], Sent),
-    Close(u64),
+    Close(u64, Parting),
 }
 
 impl Log {

@@ -3,6 +3,8 @@ ghost use Rattle.std.specs.Prelude.{◌≡◌, ℕ, length};
 ghost use Rattle.cache_turns.specs.Wires.{FitsIn, FitsInSent, IsNumbered, WireState, accepting, closing, reading, writing};
 
 use std::net::SocketAddr;
+use std::time::Duration;
+use thiserror::Error;
 
 /// What asking for a connection answers.
 #[derive(Drop)]
@@ -36,8 +38,28 @@ pub enum Sent {
     Fault,
 }
 
-/// Sockets that don't wait. A wire counts its faults, the ends of input that it has told, and the connections that came;
-/// for proofs it keeps each call in mind, with its answer, and the number of each socket.
+/// Why a connection ends.
+#[derive(Clone, Copy, Debug, PartialEq, Eq, Error)]
+pub enum Parting {
+    /// The cache had no place for it.
+    #[error("there was no place for it")]
+    NoPlace,
+    /// Its other side sends no more.
+    #[error("it sends no more")]
+    Ended,
+    /// The wire failed.
+    #[error("its connection failed")]
+    Failed,
+    /// The cache has closed the session, and all that it said is written.
+    #[error("the cache closed the session")]
+    Closed,
+    /// Its other side was silent for too long.
+    #[error("it was silent for too long")]
+    Overdue,
+}
+
+/// Sockets that don't wait. A wire counts its faults, the ends of input that it has told, the connections that came, and
+/// octets; for proofs it keeps each call in mind, with its answer, and the number of each socket.
 pub trait Wire {
     type Socket: Drop;
 
@@ -63,8 +85,12 @@ pub trait Wire {
         ensures tells { state self.new ≡ writing (number socket.old) octets.now result (state self.old) };
 
     /// Ends the connection.
-    fn close(&mut self, socket: Self::Socket)
-        ensures tells { state self.new ≡ closing (number socket) (state self.old) };
+    fn close(&mut self, socket: Self::Socket, parting: Parting)
+        ensures tells { state self.new ≡ closing (number socket) parting (state self.old) };
+
+    /// Waits until a call may answer anew, or so long.
+    fn wait(&mut self, most: Duration)
+        ensures same { state self.new ≡ state self.old };
 
     /// How many calls answered a fault; it stays at the greatest u64.
     fn faults(&self) -> u64
@@ -73,4 +99,12 @@ pub trait Wire {
     /// How many reads answered an end; it stays at the greatest u64.
     fn ends(&self) -> u64
         ensures { result ≡ (state self.now).ends };
+
+    /// How many octets came; it stays at the greatest u64.
+    fn octets_in(&self) -> u64
+        ensures { result ≡ (state self.now).octets_in };
+
+    /// How many octets went; it stays at the greatest u64.
+    fn octets_out(&self) -> u64
+        ensures { result ≡ (state self.now).octets_out };
 }

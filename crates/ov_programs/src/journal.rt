@@ -24,12 +24,14 @@ pub enum LogLine {
     /// A router came or went.
     #[error("{0}")]
     Router(RouterEvent),
-    /// What is served, and to how many routers.
-    #[error("status: serial {serial}, payloads {payloads}, routers {routers}")]
+    /// What is served, to how many routers, and how many octets came and went since the start.
+    #[error("status: serial {serial}, payloads {payloads}, routers {routers}, octets {octets_in} in, {octets_out} out")]
     Status {
         serial: u32,
         payloads: usize,
         routers: usize,
+        octets_in: u64,
+        octets_out: u64,
     },
 }
 

@@ -7,6 +7,7 @@
 //! how settings are read, and what is printed, is shown by tests. Nothing is encrypted, and routers aren't told apart.
 #![tactic(auto)]
 
+mod accept_fault;
 mod every;
 mod fault;
 mod journal;
@@ -16,10 +17,12 @@ mod reread;
 mod router_event;
 mod served_list;
 mod settings;
+mod waiter;
 mod words;
 
+pub use accept_fault::AcceptFault;
 pub use cache_turns::{
-    Accepted, CacheLoop, Log, LoopFault, Note, Received, Sent, TURN_OCTETS, Wire,
+    Accepted, CacheLoop, Log, LoopFault, Note, Parting, Patience, Received, Sent, TURN_OCTETS, Wire,
 };
 pub use every::Every;
 pub use fault::ExitFault;
@@ -27,6 +30,6 @@ pub use journal::LogLine;
 pub use mains::{main_cache, serve_cache};
 pub use net_wire::{NetSocket, NetWire};
 pub use reread::{ListFault, Reread};
-pub use router_event::{Parting, RouterEvent};
+pub use router_event::RouterEvent;
 pub use served_list::ServedList;
 pub use settings::{CacheSettings, SessionSource, SettingsFault};

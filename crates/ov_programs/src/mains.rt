@@ -14,15 +14,15 @@ use crate::words::read_words;
 use cache_turns::{CacheLoop, Wire};
 use rtr_cache::{Cache, CacheEvent};
 use std::alloc::AllocGlobal;
+use std::fs;
 use std::io::Write;
 use std::net::{Net, TcpListener, TcpStream};
 use std::rt::{Clock, Files};
 use std::time::{Duration, Instant, SystemTime};
-use std::{fs, thread};
 use vrp_csv::read_list;
 
-/// How long a program rests between two turns (own choice).
-const PAUSE_MILLISECONDS: u64 = 1;
+/// How long a program rests at most between two turns (own choice).
+const REST_MILLISECONDS: u64 = 50;
 
 /// `ovcache SETTINGS TURNS`: a cache that serves the list of its settings for so many turns. Its output is the log, and
 /// stays as it is where the settings ask for none; a fault has its line on `errors`. The answer is the exit status.
@@ -76,7 +76,8 @@ where
 {
     let (cache, serial, payloads) = load_cache(rt, settings, output)?;
     let wire = NetWire::listening(rt, settings.listen)?;
-    let turns_of_cache = CacheLoop::new(rt.alloc(), wire, cache)?;
+    let patience = settings.patience;
+    let turns_of_cache = CacheLoop::with_patience(rt.alloc(), wire, cache, patience)?;
     let mut served = ServedList::new(turns_of_cache, serial, payloads);
     take_turns(rt, settings, &mut served, turns, output)
 }
@@ -107,7 +108,7 @@ where
         if status.is_due(now) {
             tell_status(rt, settings.log, served, output);
         }
-        thread::sleep(rt, Duration::from_millis(PAUSE_MILLISECONDS));
+        served.wait(Duration::from_millis(REST_MILLISECONDS));
     }
     Ok(())
 }
@@ -160,10 +161,13 @@ fn tell_status<R: Clock, W: Wire + Drop, O: Write>(
 )
     ensures { is_on ≡ false → output.new ≡ output.old }
 {
+    let wire = served.turns().wire();
     let line = LogLine::Status {
         serial: served.serial(),
         payloads: served.payloads(),
         routers: served.turns().connections(),
+        octets_in: wire.octets_in(),
+        octets_out: wire.octets_out(),
     };
     log(rt, is_on, output, line);
 }

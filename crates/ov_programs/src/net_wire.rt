@@ -3,13 +3,17 @@ ghost use Rattle.std.specs.Prelude.{◌≡◌, IfOk, length};
 ghost use Rattle.cache_turns.specs.Calls.{call_of};
 ghost use Rattle.cache_turns.specs.Wires.{FitsIn, FitsInSent, calling, connecting, failing, nothing_told, one_more, told_by_read, told_by_write};
 
-use crate::router_event::{Parting, RouterEvent};
-use cache_turns::{Accepted, Log, Note, Received, Sent, Wire};
+use crate::accept_fault::{AcceptFault, is_not_yet};
+use crate::router_event::RouterEvent;
+use crate::waiter::Waiter;
+use cache_turns::{Accepted, Log, Note, Parting, Received, Sent, Wire};
 use mio::net::TcpStream;
 use std::alloc::AllocGlobal;
-use std::io::{self, ErrorKind, Read, Write};
+use std::io::{self, Read, Write};
 use std::marker::Model;
+use std::mem;
 use std::net::{self, Net, OpenListener, SocketAddr, TcpListener};
+use std::time::Duration;
 
 /// A TCP socket that doesn't wait.
 #[derive(Drop)]
@@ -18,8 +22,6 @@ pub struct NetSocket {
     address: SocketAddr,
     // How many connections came before it.
     number: u64,
-    // Why it would be closed now.
-    parting: Parting,
 }
 
 /// TCP sockets that don't wait, and the listener whose connections are accepted.
@@ -31,7 +33,13 @@ pub struct NetWire<'a, R: Net<Listener = TcpListener, Stream = net::TcpStream> +
     accept_faults: u64,
     ends: u64,
     arrivals: u64,
+    octets_in: u64,
+    octets_out: u64,
     calls: Log,
+    // None where nothing is listened to.
+    waiter: Option<Waiter>,
+    // Whether a connection came, or octets came or went, since the last wait.
+    is_busy: bool,
     // What was seen since a connection was asked for last. Where there is no memory for more, it is left out.
     events: Vec<RouterEvent>,
     // Whether descriptors were wanting when a connection was asked for last.
@@ -44,15 +52,15 @@ impl<'a, R: Net<Listener = TcpListener, Stream = net::TcpStream> + AllocGlobal> 
 
     ghost Value = { WireState };
 
-    ghost view = { λ wire. record { faults = wire.faults; accept_faults = wire.accept_faults; ends = wire.ends; arrivals = wire.arrivals; calls = wire.calls.calls } };
+    ghost view = { λ wire. record { faults = wire.faults; accept_faults = wire.accept_faults; ends = wire.ends; arrivals = wire.arrivals; octets_in = wire.octets_in; octets_out = wire.octets_out; calls = wire.calls.calls } };
 }
 
 impl<'a, R: Net<Listener = TcpListener, Stream = net::TcpStream> + AllocGlobal> NetWire<'a, R> {
-    /// A wire that only connects.
+    /// A wire that only connects, and never waits.
     pub fn new(net: &'a R) -> Self
         ensures { result ≡ nothing_told }
     {
-        NetWire::with_listener(net, None)
+        NetWire::with_listener(net, None, None)
     }
 
     /// A wire that listens at the address too.
@@ -61,10 +69,12 @@ impl<'a, R: Net<Listener = TcpListener, Stream = net::TcpStream> + AllocGlobal> 
     {
         let listener = TcpListener::bind(net, address)?;
         listener.set_nonblocking(true)?;
-        Ok(NetWire::with_listener(net, Some(listener)))
+        let waiter = Waiter::new(net)?;
+        waiter.watch_listener(&listener)?;
+        Ok(NetWire::with_listener(net, Some(listener), Some(waiter)))
     }
 
-    fn with_listener(net: &'a R, listener: Option<TcpListener>) -> Self
+    fn with_listener(net: &'a R, listener: Option<TcpListener>, waiter: Option<Waiter>) -> Self
         ensures { result ≡ nothing_told }
     {
         NetWire {
@@ -74,7 +84,11 @@ impl<'a, R: Net<Listener = TcpListener, Stream = net::TcpStream> + AllocGlobal> 
             accept_faults: 0,
             ends: 0,
             arrivals: 0,
+            octets_in: 0,
+            octets_out: 0,
             calls: Log::new(),
+            waiter,
+            is_busy: false,
             events: Vec::new(net.alloc()),
             lacks_descriptors: false,
         }
@@ -89,7 +103,6 @@ impl<'a, R: Net<Listener = TcpListener, Stream = net::TcpStream> + AllocGlobal> 
                 stream,
                 address,
                 number: self.arrivals,
-                parting: Parting::NoPlace,
             }),
             Err(_) => {
                 self.fail();
@@ -119,18 +132,21 @@ impl<'a, R: Net<Listener = TcpListener, Stream = net::TcpStream> + AllocGlobal> 
     }
 
     // The socket of a connection that has come.
-    fn let_in(&mut self, stream: TcpStream, address: SocketAddr) -> NetSocket
+    fn let_in(&mut self, stream: net::TcpStream, address: SocketAddr) -> NetSocket
         ensures number { result.number ≡ self.old.arrivals }
         ensures tells { self.new ≡ record self.old { arrivals = one_more self.old.arrivals } }
     {
         let number = self.arrivals;
         self.arrivals = self.arrivals.saturating_add(1);
         self.see(RouterEvent::Came(address));
+        let mut stream = TcpStream::from_std(stream);
+        if let Some(waiter) = &self.waiter {
+            waiter.watch(&mut stream);
+        }
         NetSocket {
             stream,
             address,
             number,
-            parting: Parting::NoPlace,
         }
     }
 
@@ -168,7 +184,11 @@ impl<'a, R: Net<Listener = TcpListener, Stream = net::TcpStream> + AllocGlobal> 
                 self.ends = self.ends.saturating_add(1);
                 Received::End
             }
-            Ok(count) => Received::Octets(count),
+            Ok(count) => {
+                self.is_busy = true;
+                self.octets_in = self.octets_in.saturating_add(count as u64);
+                Received::Octets(count)
+            }
             Err(error) if is_not_yet(error.kind()) => Received::Nothing,
             Err(_) => {
                 self.fail();
@@ -183,7 +203,11 @@ impl<'a, R: Net<Listener = TcpListener, Stream = net::TcpStream> + AllocGlobal> 
         ensures tells { self.new ≡ told_by_write result self.old }
     {
         match stream.write(octets) {
-            Ok(count) => Sent::Octets(count),
+            Ok(count) => {
+                self.is_busy = true;
+                self.octets_out = self.octets_out.saturating_add(count as u64);
+                Sent::Octets(count)
+            }
             Err(error) if is_not_yet(error.kind()) => Sent::Nothing,
             Err(_) => {
                 self.fail();
@@ -209,14 +233,15 @@ impl<R: Net<Listener = TcpListener, Stream = net::TcpStream> + AllocGlobal> Wire
         };
         match listener.accept() {
             Ok((stream, address)) => {
+                self.is_busy = true;
                 self.lacks_descriptors = false;
                 // A connection that can't be made one that doesn't wait is gone.
                 if stream.set_nonblocking(true).is_err() {
                     return Accepted::Nothing;
                 }
-                Accepted::Connection(self.let_in(TcpStream::from_std(stream), address), address)
+                Accepted::Connection(self.let_in(stream, address), address)
             }
-            Err(error) => match accept_fault_of(&error) {
+            Err(error) => match AcceptFault::of(&error) {
                 AcceptFault::OfOne => Accepted::Nothing,
                 AcceptFault::Wanting => {
                     self.lack_descriptors();
@@ -233,27 +258,30 @@ impl<R: Net<Listener = TcpListener, Stream = net::TcpStream> + AllocGlobal> Wire
 
     fn read(&mut self, socket: &mut NetSocket, buf: &mut [u8]) -> Received {
         let received = self.receive(&mut socket.stream, buf);
-        socket.parting = match received {
-            Received::Octets(_) | Received::Nothing => Parting::Closed,
-            Received::End => Parting::Ended,
-            Received::Fault => Parting::Failed,
-        };
         self.note(&Note::Read(socket.number, buf, received));
         received
     }
 
     fn write(&mut self, socket: &mut NetSocket, octets: &[u8]) -> Sent {
         let sent = self.send(&mut socket.stream, octets);
-        if let Sent::Fault = sent {
-            socket.parting = Parting::Failed;
-        }
         self.note(&Note::Write(socket.number, octets, sent));
         sent
     }
 
-    fn close(&mut self, socket: NetSocket) {
-        self.see(RouterEvent::Went(socket.address, socket.parting));
-        self.note(&Note::Close(socket.number));
+    fn close(&mut self, socket: NetSocket, parting: Parting) {
+        self.see(RouterEvent::Went(socket.address, parting));
+        self.note(&Note::Close(socket.number, parting));
+    }
+
+    // Behind a turn that moved anything there is no rest.
+    fn wait(&mut self, most: Duration) {
+        let is_busy = mem::replace(&mut self.is_busy, false);
+        if is_busy {
+            return;
+        }
+        if let Some(waiter) = &mut self.waiter {
+            waiter.wait(most);
+        }
     }
 
     fn faults(&self) -> u64 {
@@ -263,45 +291,12 @@ impl<R: Net<Listener = TcpListener, Stream = net::TcpStream> + AllocGlobal> Wire
     fn ends(&self) -> u64 {
         self.ends
     }
-}
 
-// Whether a call would have to wait.
-fn is_not_yet(kind: ErrorKind) -> bool {
-    matches!(kind, ErrorKind::WouldBlock | ErrorKind::Interrupted)
-}
-
-// What a fault of `accept` is.
-#[derive(Clone, Copy, Debug, PartialEq, Eq)]
-enum AcceptFault {
-    // It is one of the connection that came, which is gone then; or none came.
-    OfOne,
-    // There is no descriptor or no memory for the one that waits.
-    Wanting,
-    // It is one of the listener.
-    OfAll,
-}
-
-fn accept_fault_of(error: &io::Error) -> AcceptFault {
-    match error.raw_os_error() {
-        // Errors without a kind: EPERM, ENONET, EPROTO, ENOPROTOOPT, EOPNOTSUPP, EHOSTDOWN.
-        Some(1 | 64 | 71 | 92 | 95 | 112) => AcceptFault::OfOne,
-        // ENOMEM, ENFILE, EMFILE, ENOBUFS.
-        Some(12 | 23 | 24 | 105) => AcceptFault::Wanting,
-        _ if is_of_one_connection(error.kind()) => AcceptFault::OfOne,
-        _ => AcceptFault::OfAll,
+    fn octets_in(&self) -> u64 {
+        self.octets_in
     }
-}
 
-// Whether a fault of `accept` is one of the connection that came, which is gone then, and not one of the listener.
-fn is_of_one_connection(kind: ErrorKind) -> bool {
-    is_not_yet(kind)
-        || matches!(
-            kind,
-            ErrorKind::ConnectionAborted
-                | ErrorKind::ConnectionReset
-                | ErrorKind::HostUnreachable
-                | ErrorKind::NetworkUnreachable
-                | ErrorKind::NetworkDown
-                | ErrorKind::TimedOut
-        )
+    fn octets_out(&self) -> u64 {
+        self.octets_out
+    }
 }

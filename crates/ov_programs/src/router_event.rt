@@ -1,23 +1,7 @@
 //! What a wire sees of routers.
+use cache_turns::Parting;
 use std::net::SocketAddr;
 use thiserror::Error;
-
-/// Why a router has gone.
-#[derive(Clone, Copy, Debug, PartialEq, Eq, Error)]
-pub enum Parting {
-    /// The cache had no place for it.
-    #[error("there was no place for it")]
-    NoPlace,
-    /// It sends no more.
-    #[error("it sends no more")]
-    Ended,
-    /// Its connection failed.
-    #[error("its connection failed")]
-    Failed,
-    /// The cache closed the session, and what it had said is written.
-    #[error("the cache closed the session")]
-    Closed,
-}
 
 /// What a wire sees of routers.
 #[derive(Clone, Copy, Debug, PartialEq, Eq, Error)]

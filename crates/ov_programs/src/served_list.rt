@@ -1,5 +1,5 @@
 //! A payload list that is served while its file changes.
-ghost use Rattle.std.specs.Prelude.{◌≡◌, ◌↔◌, IfOk, None, length};
+ghost use Rattle.std.specs.Prelude.{◌≡◌};
 ghost use Rattle.cache_turns.specs.Turns.{TakesTurn};
 ghost use Rattle.vrp_delta.specs.Versions.{newest_serial};
 ghost use Rattle.ov_programs.specs.Rereads.{Publishes, Rereads};
@@ -11,6 +11,7 @@ use std::alloc::Global;
 use std::collections::BTreeSet;
 use std::io::{self, Read};
 use std::marker::Model;
+use std::time::Duration;
 use vrp_csv::read_list;
 
 /// The turns of a cache, and what it serves.
@@ -54,6 +55,13 @@ impl<W: Wire + Drop> ServedList<W> {
         ensures same { self.new ≡ record self.old { turns = self.new.turns } }
     {
         self.turns.turn(now)
+    }
+
+    /// Rests until a turn may find something to do, or so long.
+    pub fn wait(&mut self, most: Duration)
+        ensures { self.new ≡ self.old }
+    {
+        self.turns.wait(most);
     }
 
     /// Takes the list of a file that was opened again. A list that can't be had changes nothing, and one that is served

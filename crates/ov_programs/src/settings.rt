@@ -1,7 +1,8 @@
 //! The settings of the programs, in TOML.
-ghost use Rattle.std.specs.Prelude.{◌≡◌, ◌≤◌, IfOk, IfSome, true};
+ghost use Rattle.std.specs.Prelude.{◌≡◌, ◌≤◌, ◌<◌, IfOk, IfSome, true};
 ghost use Rattle.rtr_codec.specs.Intervals.{are_lawful};
 
+use cache_turns::Patience;
 use rtr_cache::OtherSession;
 use rtr_codec::Intervals;
 use std::alloc::{AllocError, AllocFailed, Global};
@@ -49,6 +50,8 @@ pub struct CacheSettings {
     pub other_session: OtherSession,
     /// What each End of Data tells.
     pub intervals: Intervals,
+    /// For how many seconds a router may be silent.
+    pub patience: Patience,
     /// After how many seconds the list is read again, if it is.
     pub reread: Option<u32>,
     /// Whether it writes a log.
@@ -59,10 +62,13 @@ pub struct CacheSettings {
 
 impl CacheSettings {
     /// The settings that the octets of a file tell: `listen`, `csv` and `session`, and `other_session`, `refresh`, `retry`
-    /// and `expire` where they aren't the usual ones, and `reread`, `log` and `status`. Keys of other names are passed over.
+    /// and `expire` where they aren't the usual ones, and `first`, `idle`, `reread`, `log` and `status`. Keys of other
+    /// names are passed over.
     pub fn read(alloc: Global, octets: &[u8]) -> Result<CacheSettings, SettingsFault>
         ensures intervals { IfOk result (λ settings. are_lawful settings.intervals ≡ true) }
+        ensures patience { IfOk result (λ settings. (1 ≤ settings.patience.first) × (settings.intervals.refresh < settings.patience.idle)) }
         ensures reread { IfOk result (λ settings. IfSome settings.reread (λ seconds. 1 ≤ seconds)) }
+        ensures status { IfOk result (λ settings. IfSome settings.status (λ seconds. 1 ≤ seconds)) }
     {
         let Ok(text) = str::from_utf8(octets) else {
             return Err(SettingsFault::Settings);
@@ -75,6 +81,7 @@ impl CacheSettings {
         let session = session_of(&table)?;
         let other_session = other_session_of(&table)?;
         let intervals = intervals_of(&table)?;
+        let patience = patience_of(&table, intervals)?;
         let reread = seconds_of(&table, "reread")?;
         let log = has_log(&table)?;
         let status = seconds_of(&table, "status")?;
@@ -84,6 +91,7 @@ impl CacheSettings {
             session,
             other_session,
             intervals,
+            patience,
             reread,
             log,
             status,
@@ -153,6 +161,22 @@ fn intervals_of(table: &Table) -> Result<Intervals, SettingsFault>
         return Err(SettingsFault::Settings);
     }
     Ok(intervals)
+}
+
+// For how long a router may be silent: at first a minute, later up to the expire interval, where the keys aren't there.
+// One that asks again when it is to, after the refresh interval, keeps its place.
+fn patience_of(table: &Table, intervals: Intervals) -> Result<Patience, SettingsFault>
+    ensures first { IfOk result (λ patience. 1 ≤ patience.first) }
+    ensures idle { IfOk result (λ patience. intervals.refresh < patience.idle) }
+{
+    let patience = Patience {
+        first: seconds_of(table, "first")?.unwrap_or(Patience::USUAL.first),
+        idle: seconds_of(table, "idle")?.unwrap_or(intervals.expire),
+    };
+    if patience.idle <= intervals.refresh {
+        return Err(SettingsFault::Settings);
+    }
+    Ok(patience)
 }
 
 // The number at a key, if the key is there.

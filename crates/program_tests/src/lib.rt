@@ -1,7 +1,9 @@
-//! Tests alone: the cache over sockets, over a wire in memory, a cache that resets another session, a list that is read
-//! again, and the texts and statuses of the program.
+//! Tests alone: the cache over sockets, over a wire in memory, a cache that resets another session, routers that are
+//! silent, a list that is read again, what faults of `accept` mean, and the texts and statuses of the program.
 #![tactic(auto)]
 
+#[cfg(test)]
+mod accept_faults;
 #[cfg(test)]
 mod day;
 #[cfg(test)]
@@ -10,6 +12,8 @@ mod loopback;
 mod memory_wire;
 #[cfg(test)]
 mod other_session;
+#[cfg(test)]
+mod patience;
 #[cfg(test)]
 mod rereads;
 #[cfg(test)]

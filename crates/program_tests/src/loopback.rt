@@ -1,7 +1,7 @@
 //! A router without a program of its own takes a list over a loopback socket.
 
 use net_prefix::{Asn, Prefix, Vrp};
-use ov_programs::{Accepted, CacheLoop, NetWire, Received, Sent, Wire};
+use ov_programs::{Accepted, CacheLoop, NetWire, Parting, Received, Sent, Wire};
 use rtr_cache::{Cache, CacheEvent};
 use rtr_codec::Intervals;
 use std::alloc::{AllocGlobal, Global};
@@ -114,7 +114,7 @@ fn a_wire_tells_what_another_sends_and_its_end(rt: HostRuntime) -> Result<(), Fa
     assert_eq!(rt; router.write(&mut near, &[1, 2, 3]), Sent::Octets(3));
     assert_eq!(rt; received(&mut server, &mut far), Received::Octets(3));
     assert_eq!(rt; server.ends(), 0);
-    router.close(near);
+    router.close(near, Parting::Closed);
     assert_eq!(rt; received(&mut server, &mut far), Received::End);
     assert_eq!(rt;
         (server.ends(), server.faults(), router.faults()),

@@ -4,7 +4,7 @@ ghost use Rattle.cache_turns.specs.Calls.{call_of};
 ghost use Rattle.cache_turns.specs.Wires.{FitsIn, FitsInSent, calling, failing, told_by_read, told_by_write};
 
 use net_prefix::{Asn, Prefix, Vrp};
-use ov_programs::{Accepted, CacheLoop, Log, LoopFault, Note, Received, Sent, Wire};
+use ov_programs::{Accepted, CacheLoop, Log, LoopFault, Note, Parting, Received, Sent, Wire};
 use rtr_cache::{Cache, CacheEvent};
 use rtr_codec::Intervals;
 use std::alloc::{AllocGlobal, Global};
@@ -14,6 +14,7 @@ use std::marker::Model;
 use std::net::{Ipv4Addr, SocketAddr, SocketAddrV4};
 use std::process::Abort;
 use std::test::Fail;
+use std::time::Duration;
 
 // The most octets of a read and of a write.
 const READ_OCTETS: usize = 5;
@@ -141,6 +142,8 @@ struct MemoryWire {
     accept_faults: u64,
     ends: u64,
     arrivals: u64,
+    octets_in: u64,
+    octets_out: u64,
     log: Log,
 }
 
@@ -156,7 +159,7 @@ impl Model for MemoryWire {
 
     ghost Value = { WireState };
 
-    ghost view = { λ wire. record { faults = wire.faults; accept_faults = wire.accept_faults; ends = wire.ends; arrivals = wire.arrivals; calls = wire.log.calls } };
+    ghost view = { λ wire. record { faults = wire.faults; accept_faults = wire.accept_faults; ends = wire.ends; arrivals = wire.arrivals; octets_in = wire.octets_in; octets_out = wire.octets_out; calls = wire.log.calls } };
 }
 
 impl MemoryWire {
@@ -175,6 +178,8 @@ impl MemoryWire {
             accept_faults: 0,
             ends: 0,
             arrivals: 0,
+            octets_in: 0,
+            octets_out: 0,
             log: Log::new(),
         }
     }
@@ -214,7 +219,10 @@ impl MemoryWire {
         }
         match router.ask(buf) {
             0 => Received::Nothing,
-            count => Received::Octets(count),
+            count => {
+                self.octets_in = self.octets_in.saturating_add(count as u64);
+                Received::Octets(count)
+            }
         }
     }
 
@@ -226,7 +234,11 @@ impl MemoryWire {
             return Sent::Fault;
         }
         match self.routers.get_mut(router) {
-            Some(router) => Sent::Octets(router.hear(octets)),
+            Some(router) => {
+                let count = router.hear(octets);
+                self.octets_out = self.octets_out.saturating_add(count as u64);
+                Sent::Octets(count)
+            }
             None => Sent::Nothing,
         }
     }
@@ -270,12 +282,14 @@ impl Wire for MemoryWire {
         sent
     }
 
-    fn close(&mut self, socket: Plug) {
+    fn close(&mut self, socket: Plug, parting: Parting) {
         if let Some(router) = self.routers.get_mut(socket.router) {
             router.is_closed = true;
         }
-        self.note(&Note::Close(socket.number));
+        self.note(&Note::Close(socket.number, parting));
     }
+
+    fn wait(&mut self, _most: Duration) {}
 
     fn faults(&self) -> u64 {
         self.faults
@@ -283,6 +297,14 @@ impl Wire for MemoryWire {
 
     fn ends(&self) -> u64 {
         self.ends
+    }
+
+    fn octets_in(&self) -> u64 {
+        self.octets_in
+    }
+
+    fn octets_out(&self) -> u64 {
+        self.octets_out
     }
 }
 

@@ -80,16 +80,17 @@ fn wrong_words_are_arguments(rt: HostRuntime) -> Result<(), Fail> {
 }
 
 // Settings but for the list's path.
-const GOOD_SETTINGS: [&str; 6] = [
+const GOOD_SETTINGS: [&str; 7] = [
     SETTINGS,
     "session = 0\nlisten = \"127.0.0.1:0\"\nrefresh = 1\nretry = 7200\nexpire = 172800\n",
     "session = 65535\nlisten = \"127.0.0.1:0\"\nother = [1]\n[table]\nsession = \"no\"\n",
     "session = \"clock\"\nlisten = \"127.0.0.1:0\"\nother_session = \"reset\"\n",
     "session = 7\nlisten = \"127.0.0.1:0\"\nother_session = \"report\"\n",
     "session = 7\nlisten = \"127.0.0.1:0\"\nreread = 1\nlog = false\nstatus = 4294967295\n",
+    "session = 7\nlisten = \"127.0.0.1:0\"\nfirst = 1\nidle = 3601\n",
 ];
 
-const BAD_SETTINGS: [&str; 24] = [
+const BAD_SETTINGS: [&str; 27] = [
     "listen = \"127.0.0.1:0\"\nsession = 7\nno toml",
     "listen = \"127.0.0.1:0\"\n",
     "session = 7\n",
@@ -114,6 +115,9 @@ const BAD_SETTINGS: [&str; 24] = [
     "listen = \"127.0.0.1:0\"\nsession = 7\nlog = \"yes\"\n",
     "listen = \"127.0.0.1:0\"\nsession = 7\nlog = 1\n",
     "listen = \"127.0.0.1:0\"\nsession = 7\nlog = true\nstatus = 0\n",
+    "listen = \"127.0.0.1:0\"\nsession = 7\nfirst = 0\n",
+    "listen = \"127.0.0.1:0\"\nsession = 7\nidle = 3600\n",
+    "listen = \"127.0.0.1:0\"\nsession = 7\nidle = \"no\"\n",
 ];
 
 #[test]

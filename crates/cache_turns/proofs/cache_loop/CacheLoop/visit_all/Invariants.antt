@@ -4,4 +4,4 @@ use Rattle.cache_turns.proofs.cache_loop.CacheLoop.visit_all.Given as goal
 
 abbrev pub invariant-loop-client : goal.invariant-loop-client
 invariant-loop-client g l =
-    VisitsBelow l.client l.fn.self l.self × (length l.self.links ≡ length l.fn.self.links) × (l.client-end ≡ length l.fn.self.links)
+    VisitsBelow l.fn.now l.client l.fn.self l.self × (length l.self.links ≡ length l.fn.self.links) × (l.client-end ≡ length l.fn.self.links)
