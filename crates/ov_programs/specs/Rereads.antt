@@ -1,6 +1,6 @@
 -- Reading the list again (own): a list that can't be had leaves everything as it is, and one that can is published,
 -- unless it is the one that is served.
-use Rattle.std.specs.Prelude.{◌≡◌, ℕ, true, false, List, Option, Some, None, Result, Ok, Err, length}
+use Rattle.std.specs.Prelude.{◌≡◌, ℕ, true, false, List, [], ◌∷◌, Option, Some, None, Result, Ok, Err, length}
 use Rattle.csv.specs.Reading.{default_config, records, strip_bom}
 use Rattle.net_prefix.specs.declared.payload.Vrp.{Vrp}
 use Rattle.rtr_cache.specs.CacheState.{tells_serial}
@@ -15,11 +15,21 @@ use Rattle.ov_programs.specs.declared.reread.ListFault.TheVariants.{NoFile, Row,
 use Rattle.ov_programs.specs.declared.reread.Reread.{Reread}
 use Rattle.ov_programs.specs.declared.reread.Reread.TheVariants.{Refused, Same, Published}
 
--- a loop and what its cache serves: the newest serial, and how many payloads the set has that was read last
+-- how many payloads the newest version has
+abbrev pub newest_count : List Version → ℕ
+newest_count [] = 0
+newest_count (version ∷ older) = length version.set
+
+-- a loop and what its cache serves: the newest serial, and how many payloads that version has
 pub record Served : Type 0 where
   pub turns : Turns
   pub serial : ℕ
   pub payloads : ℕ
+
+-- they are those of the newest version that is kept
+pub record IsNewest (kept : List Version) (serial payloads : ℕ) : Type 0 where
+  pub serial_is : serial ≡ newest_serial kept
+  pub payloads_are : payloads ≡ newest_count kept
 
 -- what the cache keeps, the newest version first
 abbrev pub versions : Served → List Version

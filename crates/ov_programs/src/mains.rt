@@ -1,6 +1,6 @@
 //! What the programs' mains do.
 ghost use Rattle.std.specs.Prelude.{◌≡◌, ◌≢◌, ◌≤◌, ℕ, List, Err, IfErr, IfOk, false};
-ghost use Rattle.vrp_delta.specs.Versions.{newest_serial};
+ghost use Rattle.ov_programs.specs.Rereads.{IsNewest};
 ghost use Rattle.ov_programs.specs.Words.{IsCall};
 
 use crate::every::Every;
@@ -189,7 +189,7 @@ fn load_cache<R: Files + Clock + AllocGlobal, O: Write>(
     output: &mut O,
 ) -> Result<(Cache, u32, usize), ExitFault>
     ensures fault { IfErr result (λ fault. fault ≢ ExitFault.Arguments) }
-    ensures serial { IfOk result (λ loaded. loaded.1 ≡ newest_serial loaded.0.shared.kept) }
+    ensures newest { IfOk result (λ loaded. IsNewest loaded.0.shared.kept loaded.1 loaded.2) }
     ensures quiet { settings.now.log ≡ false → output.new ≡ output.old }
 {
     let session = session_id(rt, settings.session)?;

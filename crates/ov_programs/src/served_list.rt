@@ -1,8 +1,7 @@
 //! A payload list that is served while its file changes.
 ghost use Rattle.std.specs.Prelude.{◌≡◌};
 ghost use Rattle.cache_turns.specs.Turns.{TakesTurn};
-ghost use Rattle.vrp_delta.specs.Versions.{newest_serial};
-ghost use Rattle.ov_programs.specs.Rereads.{Publishes, Rereads};
+ghost use Rattle.ov_programs.specs.Rereads.{IsNewest, Publishes, Rereads};
 
 use crate::reread::{ListFault, Reread};
 use cache_turns::{CacheLoop, LoopFault, Wire};
@@ -25,21 +24,19 @@ pub struct ServedList<W: Wire> {
 }
 
 impl<W: Wire> Model for ServedList<W> {
-    ghost use Rattle.std.specs.Prelude.{◌≡◌};
-    ghost use Rattle.vrp_delta.specs.Versions.{newest_serial};
-    ghost use Rattle.ov_programs.specs.Rereads.{Served};
+    ghost use Rattle.ov_programs.specs.Rereads.{IsNewest, Served};
 
     ghost Value = { Served };
 
     ghost view = { λ s. record { turns = s.turns; serial = s.serial; payloads = s.payloads } };
 
-    ghost invariant = { λ s. s.serial ≡ newest_serial s.turns.cache.shared.kept };
+    ghost invariant = { λ s. IsNewest s.turns.cache.shared.kept s.serial s.payloads };
 }
 
 impl<W: Wire + Drop> ServedList<W> {
     /// The turns of a cache that serves so many payloads under this serial.
     pub fn new(turns: CacheLoop<W>, serial: u32, payloads: usize) -> Self
-        requires { serial ≡ newest_serial turns.cache.shared.kept }
+        requires { IsNewest turns.cache.shared.kept serial payloads }
         ensures { result ≡ record { turns = turns; serial = serial; payloads = payloads } }
     {
         ServedList {
