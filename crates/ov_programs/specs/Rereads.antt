@@ -1,6 +1,6 @@
 -- Reading the list again (own): a list that can't be had leaves everything as it is, and one that can is published,
 -- unless it is the one that is served.
-use Rattle.std.specs.Prelude.{◌≡◌, ℕ, true, false, List, [], ◌∷◌, Option, Some, None, Result, Ok, Err, length}
+use Rattle.std.specs.Prelude.{◌≡◌, ◌⊎◌, ℕ, Bool, true, false, List, [], ◌∷◌, Option, Some, None, Result, Ok, Err, length}
 use Rattle.csv.specs.Reading.{default_config, records, strip_bom}
 use Rattle.net_prefix.specs.declared.payload.Vrp.{Vrp}
 use Rattle.rtr_cache.specs.CacheState.{tells_serial}
@@ -9,7 +9,8 @@ use Rattle.vrp_csv.specs.PayloadList.{IsLoad, IsRefused}
 use Rattle.vrp_csv.specs.declared.fault.CsvFault.{CsvFault}
 use Rattle.vrp_csv.specs.declared.list.Loaded.{Loaded}
 use Rattle.vrp_delta.specs.Versions.{Version, is_newest_set, newest_serial, serial_after}
-use Rattle.cache_turns.specs.Turns.{Turns}
+use Rattle.cache_turns.specs.Turns.{TakesTurn, Turns}
+use Rattle.cache_turns.specs.declared.fault.LoopFault.{LoopFault}
 use Rattle.ov_programs.specs.declared.reread.ListFault.{ListFault}
 use Rattle.ov_programs.specs.declared.reread.ListFault.TheVariants.{NoFile, Row, NoMemory}
 use Rattle.ov_programs.specs.declared.reread.Reread.{Reread}
@@ -78,3 +79,16 @@ RereadsFile file old (Published serial) new = (set : List Vrp) × IsSetOfText fi
 abbrev pub Rereads : {L E : Type 0} → (L → Option (List ℕ)) → Result L E → Served → Reread → Served → Type 0
 Rereads remaining (Ok file) old answer new = RereadsFile (remaining file) old answer new
 Rereads remaining (Err why) old answer new = (answer ≡ Refused NoFile) × (new ≡ old)
+
+-- the list is read again just where it is due: its file is opened, or can't be
+abbrev pub RereadsWhenDue : {L : Type 0} → (L → Option (List ℕ)) → Bool → Served → Option Reread → Served → Type 0
+RereadsWhenDue remaining false old answer new = (answer ≡ None) × (new ≡ old)
+RereadsWhenDue {L} remaining true old answer new =
+    (led : Reread) × (answer ≡ Some led) × (((file : L) × RereadsFile (remaining file) old led new) ⊎ ((led ≡ Refused NoFile) × (new ≡ old)))
+
+-- what is done at a moment: the list is read again where it is due, and then a turn is taken
+pub record ServesAt {L : Type 0} (remaining : L → Option (List ℕ)) (is_due : Bool) (now : ℕ) (old : Served) (answer : Option Reread) (result : Result (Unit {0}) LoopFault) (new : Served) : Type 0 where
+  pub between : Served
+  pub rereads : RereadsWhenDue remaining is_due old answer between
+  pub takes : TakesTurn now between.turns result new.turns
+  pub same : new ≡ record between { turns = new.turns }

@@ -100,10 +100,12 @@ where
     let mut status = Every::new(settings.status);
     for _ in 0..turns {
         let now = start.elapsed(rt)?.as_secs();
-        if reread.is_due(now) {
-            reread_list(rt, settings, served, output);
+        let list = || fs::open(rt, settings.csv.as_str());
+        let (led, turned) = served.serve(rt.alloc(), now, &mut reread, list);
+        if let Some(led) = led {
+            tell_list(rt, settings.log, led, served.payloads(), output);
         }
-        served.turn(now)?;
+        turned?;
         tell_routers(rt, settings.log, served, output);
         if status.is_due(now) {
             tell_status(rt, settings.log, served, output);
@@ -113,24 +115,16 @@ where
     Ok(())
 }
 
-// Reads the list again.
-fn reread_list<R: Files + Clock + AllocGlobal, W: Wire + Drop, O: Write>(
-    rt: &R,
-    settings: &CacheSettings,
-    served: &mut ServedList<W>,
-    output: &mut O,
-)
-    ensures { settings.now.log ≡ false → output.new ≡ output.old }
+// Writes to the log what reading the list again has led to.
+fn tell_list<R: Clock, O: Write>(rt: &R, is_on: bool, led: Reread, payloads: usize, output: &mut O)
+    ensures { is_on ≡ false → output.new ≡ output.old }
 {
-    let line = match served.reread(rt.alloc(), fs::open(rt, settings.csv.as_str())) {
+    let line = match led {
         Reread::Refused(why) => LogLine::Refused(why),
         Reread::Same => return,
-        Reread::Published(serial) => LogLine::Loaded {
-            serial,
-            payloads: served.payloads(),
-        },
+        Reread::Published(serial) => LogLine::Loaded { serial, payloads },
     };
-    log(rt, settings.log, output, line);
+    log(rt, is_on, output, line);
 }
 
 // Writes what the last turn saw of routers to the log.

@@ -1,8 +1,10 @@
 //! A payload list that is served while its file changes.
-ghost use Rattle.std.specs.Prelude.{◌≡◌};
+ghost use Rattle.std.specs.Prelude.{◌≡◌, if◌then◌else◌};
 ghost use Rattle.cache_turns.specs.Turns.{TakesTurn};
-ghost use Rattle.ov_programs.specs.Rereads.{IsNewest, Publishes, Rereads};
+ghost use Rattle.ov_programs.specs.Passing.{have_passed};
+ghost use Rattle.ov_programs.specs.Rereads.{IsNewest, Publishes, Rereads, RereadsWhenDue, ServesAt};
 
+use crate::every::Every;
 use crate::reread::{ListFault, Reread};
 use cache_turns::{CacheLoop, LoopFault, Wire};
 use net_prefix::Vrp;
@@ -52,6 +54,41 @@ impl<W: Wire + Drop> ServedList<W> {
         ensures same { self.new ≡ record self.old { turns = self.new.turns } }
     {
         self.turns.turn(now)
+    }
+
+    /// What is done at a moment: where the list is due, its file is opened and it is read again; then a turn is taken.
+    /// Answers what reading the list again has led to, where it was due, and what the turn has.
+    pub fn serve<L: Read + Drop, F: FnOnce() -> io::Result<L>>(
+        &mut self,
+        alloc: Global,
+        now: u64,
+        due: &mut Every,
+        opens: F,
+    ) -> (Option<Reread>, Result<(), LoopFault>)
+        requires { F.IsAlwaysCallable opens }
+        ensures serves { ServesAt L.remaining (have_passed due.old.seconds due.old.last now) now self.old result.0 result.1 self.new }
+        ensures due { due.new ≡ record due.old { last = if have_passed due.old.seconds due.old.last now then now else due.old.last } }
+    {
+        let reread = self.reread_when_due(alloc, now, due, opens);
+        (reread, self.turn(now))
+    }
+
+    fn reread_when_due<L: Read + Drop, F: FnOnce() -> io::Result<L>>(
+        &mut self,
+        alloc: Global,
+        now: u64,
+        due: &mut Every,
+        opens: F,
+    ) -> Option<Reread>
+        requires { F.IsAlwaysCallable opens }
+        ensures rereads { RereadsWhenDue L.remaining (have_passed due.old.seconds due.old.last now) self.old result self.new }
+        ensures due { due.new ≡ record due.old { last = if have_passed due.old.seconds due.old.last now then now else due.old.last } }
+    {
+        if due.is_due(now) {
+            Some(self.reread(alloc, opens()))
+        } else {
+            None
+        }
     }
 
     /// Rests until a turn may find something to do, or so long.
