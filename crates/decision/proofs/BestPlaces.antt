@@ -1,15 +1,15 @@
 -- The best candidate of a prefix's places.
-use Rattle.std.proofs.Common.{◌≡◌, ◌≢◌, ℕ, ◌<◌, ◌≤◌, ◌↔◌, Bool, true, false, cond, inl, inr, nat_eq, List, [], ◌∷◌, length, All, AllPairs, Contains, Option, Some, None, is_some, option_and_then, option_map, not, MatchOption, slice_index_or, refl, sym, ◌∙◌, ap, subst, arith}
+use Rattle.std.proofs.Common.{◌≡◌, ℕ, Bool, true, false, cond, inl, inr, nat_eq, List, [], ◌∷◌, All, Contains, Option, Some, None, is_some, option_and_then, option_map, not, MatchOption, slice_index_or, refl, sym, ◌∙◌, ap, subst, arith}
 use Rattle.std.specs.List.{AllByRecursion, IsDistinct, cons_option}
 use Rattle.std.specs.Map.{lookup, keys_of}
 use Rattle.std.proofs.lemmas.List.Kept.{AllPairs-cons}
-use Rattle.decision.specs.BookContents.{AreApart, AreOffered, IsBestOf}
-use Rattle.decision.specs.KeptPlaces.{ArePlaces, IsBestAt, IsKept, Kept, candidate_of, candidates_of, is_placed, without_slot}
-use Rattle.decision.specs.Selection.{AreDistinct, DifferInRank, IsSelected, selection}
+use Rattle.decision.specs.BookContents.{AreApart, IsBestOf, Kept, candidate_of, is_placed}
+use Rattle.decision.specs.KeptPlaces.{ArePlaces, IsBestAt, IsKept, candidates_of, without_slot}
+use Rattle.decision.specs.Selection.{AreDistinct, DifferInRank, IsSelected}
 use Rattle.decision.specs.declared.candidate.Candidate.{Candidate}
 use Rattle.decision.proofs.Laws.{at_among, contains_among, among_one}
 use Rattle.decision.proofs.One.{Among, among_selection}
-use Rattle.decision.proofs.PlaceLists.{same_slot, slot_itself, other_slot, slots_differ, turned, placed_of_some, candidate_without, same_best}
+use Rattle.decision.proofs.PlaceLists.{same_slot, slot_itself, other_slot, turned, placed_of_some, candidate_without, same_best}
 
 elsewhere_head : (k : ℕ) (p : ℕ × Option Candidate) (ps : List (ℕ × Option Candidate)) → AllByRecursion (λ t. nat_eq k t ≡ false) (keys_of (p ∷ ps)) → (s : ℕ) → is_some (cond (nat_eq s p.0) (Some p.1) (lookup (nat_eq s) ps)) ≡ true
     → (b : Bool) → nat_eq s p.0 ≡ b → (is_placed ps s ≡ true → nat_eq s k ≡ false) → nat_eq s k ≡ false

@@ -1,5 +1,5 @@
 -- The rows of a plain book, and what a call makes of its places.
-use Rattle.std.proofs.Common.{Result, Ok, Err, OnOk, OnErr, is_ok, not, length, filter, slice_get, ◌≡◌, ◌≢◌, ℕ, ◌+◌, ◌<◌, ◌≤◌, Bool, true, false, cond, ◌&&◌, inl, inr, nat_eq, List, [], ◌∷◌, ◌++◌, All, Option, Some, None, is_some, option_map, option_and_then, unwrap_or, IfSome, IsSome, filter_map, refl, sym, ◌∙◌, ap, subst, arith}
+use Rattle.std.proofs.Common.{Result, Ok, Err, OnOk, OnErr, is_ok, not, length, filter, slice_get, ◌≡◌, ℕ, ◌≤◌, Bool, true, false, cond, ◌&&◌, inl, inr, nat_eq, List, [], ◌∷◌, ◌++◌, All, Option, Some, None, is_some, option_map, option_and_then, unwrap_or, IfSome, IsSome, refl, sym, ◌∙◌, ap, subst, arith}
 use Rattle.std.proofs.lemmas.Bool.{cases_order}
 use Rattle.std.proofs.lemmas.List.{append-nil}
 use Rattle.std.proofs.lemmas.List.Elements.{filter_agree, filter_map-append}
@@ -13,8 +13,8 @@ use Rattle.std.specs.Map.{lookup, keys_of, values_of, set_value, remove_entry}
 use Rattle.std.specs.Ordering.{is_eq, is_lt, match_ordering}
 use Rattle.std.specs.declared.cmp.Ordering.{Ordering}
 use Rattle.std.specs.declared.cmp.Ordering.TheVariants.{Less, Equal, Greater}
-use Rattle.decision.specs.BookContents.{AreApart, IsBestOf, best_at, changed, first_after, is_prefix}
-use Rattle.decision.specs.KeptPlaces.{ArePlaces, IsBook, IsKept, Kept, Puts, alone, candidate_of, candidates_of, is_placed, kept_at, places_at, places_in, rows_of, with_changes, without_slot}
+use Rattle.decision.specs.BookContents.{AreApart, IsBestOf, best_at, changed, first_after, is_prefix, Kept, candidate_of, is_placed, kept_at, places_at, places_in, rows_of}
+use Rattle.decision.specs.KeptPlaces.{ArePlaces, IsBook, IsKept, Puts, alone, candidates_of, with_changes, without_slot}
 use Rattle.decision.specs.declared.book.Change.{Change}
 use Rattle.decision.specs.declared.candidate.Candidate.{Candidate}
 use Rattle.decision.proofs.BestPlaces.{best_kept, best_moved}

@@ -1,5 +1,5 @@
 -- The candidates of each prefix by slot, and the best of each: Loc-RIB (RFC 4271 sections 3.2 and 9.1).
-use Rattle.std.specs.Prelude.{ℕ, ◌≡◌, ◌≢◌, ◌==◌, ◌↔◌, Bool, true, Option, Some, None, List, fold, find, Contains, MatchOption, if◌then◌else◌}
+use Rattle.std.specs.Prelude.{ℕ, ◌≡◌, ◌≢◌, ◌==◌, ◌↔◌, Bool, true, Option, Some, None, List, fold, find, Contains, MatchOption, if◌then◌else◌, [], nat_eq, is_some, option_map, option_and_then, unwrap_or, filter_map}
 use Rattle.std.specs.BTreeMap.{is_at}
 use Rattle.std.specs.Map.{lookup}
 use Rattle.std.specs.Ordering.{is_eq, is_lt}
@@ -42,3 +42,44 @@ best_at rows prefix = lookup (is_at (prefix_cmp prefix)) rows
 -- the first row above the prefix, or of all
 abbrev pub first_after : Option Prefix → List (Prefix × Candidate) → Option (Prefix × Candidate)
 first_after after rows = find (λ row. is_above after row.0) rows
+
+-- the slots that have a place at a prefix, each with its candidate, and the best of these
+pub record Kept : Type 0 where
+  pub places : List (ℕ × Option Candidate)
+  pub best : Option Candidate
+
+-- the candidate of a slot
+abbrev pub candidate_of : List (ℕ × Option Candidate) → ℕ → Option Candidate
+candidate_of places slot = option_and_then (λ candidate. candidate) (lookup (nat_eq slot) places)
+
+-- whether the slot has a place
+abbrev pub is_placed : List (ℕ × Option Candidate) → ℕ → Bool
+is_placed places slot = is_some (lookup (nat_eq slot) places)
+
+-- what is kept of a prefix
+abbrev pub kept_at : List (Prefix × Kept) → Prefix → Option Kept
+kept_at book prefix = lookup (is_at (prefix_cmp prefix)) book
+
+-- the places of what is kept
+abbrev pub places_in : Option Kept → List (ℕ × Option Candidate)
+places_in kept = unwrap_or (option_map (λ k. k.places) kept) []
+
+-- the places of a prefix
+abbrev pub places_at : List (Prefix × Kept) → Prefix → List (ℕ × Option Candidate)
+places_at book prefix = places_in (kept_at book prefix)
+
+-- each prefix that has a best candidate, with it
+abbrev pub rows_of : List (Prefix × Kept) → List (Prefix × Candidate)
+rows_of book = filter_map (λ entry. option_map (λ best. (entry.0, best)) entry.1.best) book
+
+-- what is kept of all prefixes, which rise
+abbrev pub BookState : Type 0
+BookState = List (Prefix × Kept)
+
+-- the candidate of a slot, of a prefix
+abbrev pub offer_at : BookState → ℕ → Prefix → Option Candidate
+offer_at book slot prefix = candidate_of (places_at book prefix) slot
+
+-- whether the slot has a place at the prefix
+abbrev pub has_place_at : BookState → ℕ → Prefix → Bool
+has_place_at book slot prefix = is_placed (places_at book prefix) slot

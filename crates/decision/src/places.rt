@@ -1,8 +1,8 @@
 //! The places of one prefix.
 ghost use Rattle.std.specs.Prelude.{◌≡◌, ◌≤◌, ◌<◌, ◌+◌, ◌-◌, ◌^◌, ◌++◌, ◌∷◌, ◌&&◌, [], ℕ, List, None, true, false, Option, Some, All, IfOk, IfSome, IsTrue, ◌↔◌, is_ok, is_some, length, map, min, filter, filter_map, nat_eq, not, if◌then◌else◌};
 ghost use Rattle.std.specs.Map.{lookup};
-ghost use Rattle.decision.specs.BookContents.{AreApart, changed};
-ghost use Rattle.decision.specs.KeptPlaces.{ArePlaces, IsBestAt, IsKept, candidate_of, candidates_of, is_placed, with_changes, without_slot};
+ghost use Rattle.decision.specs.BookContents.{AreApart, changed, candidate_of, is_placed};
+ghost use Rattle.decision.specs.KeptPlaces.{ArePlaces, IsBestAt, IsKept, candidates_of, with_changes, without_slot};
 
 use crate::book::Change;
 use crate::candidate::{Candidate, MAX_CANDIDATES};
@@ -24,7 +24,7 @@ pub(crate) struct Places<A: Allocator> {
 
 impl<A: Allocator> Model for Places<A> {
     ghost use Rattle.std.specs.Prelude.{option_and_then};
-    ghost use Rattle.decision.specs.KeptPlaces.{Kept, candidate_of};
+    ghost use Rattle.decision.specs.BookContents.{Kept, candidate_of};
 
     ghost Value = { Kept };
 

@@ -1,6 +1,7 @@
 //! A book that chooses again among all candidates of a prefix.
 ghost use Rattle.std.specs.Prelude.{◌≡◌, None, Some, OnErr, OnOk, slice_get};
-ghost use Rattle.decision.specs.KeptPlaces.{IsBook, Puts, alone, candidate_of, is_placed, kept_at, places_at, rows_of};
+ghost use Rattle.decision.specs.KeptPlaces.{IsBook, Puts, alone};
+ghost use Rattle.decision.specs.BookContents.{candidate_of, is_placed, kept_at, places_at, rows_of};
 
 use crate::book::{Book, Change};
 use crate::candidate::Candidate;
@@ -22,7 +23,8 @@ pub struct PlainBook<A: Allocator = Global> {
 
 impl<A: Allocator> Model for PlainBook<A> {
     ghost use Rattle.std.specs.Prelude.{List};
-    ghost use Rattle.decision.specs.KeptPlaces.{IsBook, Kept};
+    ghost use Rattle.decision.specs.KeptPlaces.{IsBook};
+    ghost use Rattle.decision.specs.BookContents.{Kept};
     ghost use Rattle.net_prefix.specs.declared.prefix.Prefix.{Prefix};
 
     ghost Value = { List (Prefix × Kept) };
@@ -71,11 +73,7 @@ fn first_row<A: Allocator>(
 }
 
 impl<A: Allocator + Clone> Book<A> for PlainBook<A> {
-    ghost offer = { λ book slot prefix. candidate_of (places_at book prefix) slot };
-
-    ghost has_place = { λ book slot prefix. is_placed (places_at book prefix) slot };
-
-    ghost rows = { rows_of };
+    ghost kept = { λ book. book };
 
     fn empty(alloc: A) -> Result<Self, AllocError> {
         let prefixes = BTreeMap::new(alloc.clone()?);

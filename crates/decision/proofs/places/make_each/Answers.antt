@@ -1,4 +1,4 @@
-use Rattle.std.proofs.Common.{◌≡◌, ℕ, Option, None, length, get_or, slice_set, ap, ◌∙◌, arith}
+use Rattle.std.proofs.Common.{Option, None, get_or, slice_set, ap, ◌∙◌, arith}
 use Rattle.decision.specs.declared.candidate.Candidate.{Candidate}
 use Rattle.decision.proofs.PlaceLists.{changes_next}
 use Rattle.decision.proofs.places.make_each.Goals as goal

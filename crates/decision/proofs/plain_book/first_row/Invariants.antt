@@ -1,5 +1,5 @@
 use Rattle.std.proofs.Common.{◌≡◌, slice_get}
-use Rattle.decision.specs.KeptPlaces.{rows_of}
+use Rattle.decision.specs.BookContents.{rows_of}
 use Rattle.decision.proofs.plain_book.first_row.Given as goal
 
 abbrev pub invariant-loop-prefix : goal.invariant-loop-prefix

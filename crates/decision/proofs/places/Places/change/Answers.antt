@@ -1,6 +1,6 @@
 use Rattle.std.proofs.Common.{sym, subst, ◌∙◌}
-use Rattle.decision.specs.BookContents.{AreApart}
-use Rattle.decision.specs.KeptPlaces.{ArePlaces, IsKept, candidate_of, with_changes}
+use Rattle.decision.specs.BookContents.{AreApart, candidate_of}
+use Rattle.decision.specs.KeptPlaces.{ArePlaces, IsKept, with_changes}
 use Rattle.decision.proofs.PlaceLists.{places_changed}
 use Rattle.decision.proofs.places.Places.change.Goals as goal
 

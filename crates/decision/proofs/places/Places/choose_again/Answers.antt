@@ -1,5 +1,6 @@
 use Rattle.std.proofs.Common.{◌≡◌, [], ap, sym, subst, ◌∙◌, MatchOption, option_and_then, option_map}
-use Rattle.decision.specs.KeptPlaces.{ArePlaces, IsBestAt, candidate_of, candidates_of}
+use Rattle.decision.specs.KeptPlaces.{ArePlaces, IsBestAt, candidates_of}
+use Rattle.decision.specs.BookContents.{candidate_of}
 use Rattle.decision.specs.Selection.{AreDistinct, IsSelected}
 use Rattle.decision.proofs.BestPlaces.{best_chosen, distinct_places}
 use Rattle.decision.proofs.places.Places.choose_again.Goals as goal

@@ -1,5 +1,6 @@
-use Rattle.std.proofs.Common.{◌≡◌, ℕ, List, Option, ap, sym, subst, ◌∙◌, None, false, is_some, option_and_then}
-use Rattle.decision.specs.KeptPlaces.{ArePlaces, IsBestAt, IsKept, Kept, candidate_of, without_slot}
+use Rattle.std.proofs.Common.{◌≡◌, ℕ, List, Option, ap, sym, subst, ◌∙◌, None, option_and_then}
+use Rattle.decision.specs.KeptPlaces.{ArePlaces, IsBestAt, IsKept, without_slot}
+use Rattle.decision.specs.BookContents.{Kept, candidate_of}
 use Rattle.decision.specs.declared.candidate.Candidate.{Candidate}
 use Rattle.decision.proofs.BestPlaces.{best_stays}
 use Rattle.decision.proofs.PlaceLists.{is_none, places_without}

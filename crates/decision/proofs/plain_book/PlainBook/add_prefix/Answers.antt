@@ -1,6 +1,6 @@
 use Rattle.std.proofs.Common.{◌≡◌, Some, None, cond, ap, sym, subst, ◌∙◌}
-use Rattle.decision.specs.BookContents.{is_prefix}
-use Rattle.decision.specs.KeptPlaces.{IsKept, Kept, alone, kept_at, rows_of}
+use Rattle.decision.specs.BookContents.{is_prefix, kept_at, rows_of}
+use Rattle.decision.specs.KeptPlaces.{IsKept, alone}
 use Rattle.decision.proofs.BookRows.{book_inserted, kept_alone, kept_is, rows_inserted}
 use Rattle.decision.proofs.plain_book.PlainBook.add_prefix.Goals as goal
 

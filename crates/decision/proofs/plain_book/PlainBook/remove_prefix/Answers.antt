@@ -1,6 +1,5 @@
 use Rattle.std.proofs.Common.{None, cond, ap, ◌∙◌}
-use Rattle.decision.specs.BookContents.{is_prefix}
-use Rattle.decision.specs.KeptPlaces.{kept_at}
+use Rattle.decision.specs.BookContents.{is_prefix, kept_at}
 use Rattle.decision.proofs.BookRows.{book_removed}
 use Rattle.decision.proofs.plain_book.PlainBook.remove_prefix.Goals as goal
 

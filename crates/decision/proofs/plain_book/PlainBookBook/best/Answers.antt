@@ -1,11 +1,8 @@
-use Rattle.std.proofs.Common.{ℕ, ◌≡◌, true, is_some, IfSome, option_and_then, ap, sym, ◌∙◌, subst}
+use Rattle.std.proofs.Common.{option_and_then, ap, sym, ◌∙◌, subst}
 use Rattle.std.specs.Option.{option_copied}
-use Rattle.std.specs.List.Sorted.{IsStrictlySortedBy}
-use Rattle.std.specs.Map.{keys_of}
-use Rattle.decision.specs.BookContents.{AreApart, IsBestOf, best_at}
-use Rattle.decision.specs.KeptPlaces.{IsBook, Kept, candidate_of, places_at, rows_of}
+use Rattle.decision.specs.BookContents.{best_at, Kept, rows_of}
+use Rattle.decision.specs.KeptPlaces.{IsBook}
 use Rattle.decision.proofs.BookRows.{best_book, book_own, book_places, best_rows, rows_rise}
-use Rattle.net_prefix.specs.PrefixOrder.{prefix_cmp}
 use Rattle.decision.proofs.plain_book.PlainBookBook.best.Goals as goal
 
 pub returns-in-Some-clause-best : goal.returns-in-Some-clause-best

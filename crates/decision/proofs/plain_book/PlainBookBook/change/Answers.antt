@@ -1,8 +1,7 @@
-use Rattle.std.proofs.Common.{◌≡◌, ℕ, Bool, All, sym, ap, subst, ◌∙◌, Some, None, true, cond}
+use Rattle.std.proofs.Common.{◌≡◌, All, sym, ap, subst, ◌∙◌, Some, None, true, cond}
 use Rattle.std.specs.Option.{option_copied_mut}
-use Rattle.decision.specs.BookContents.{AreApart, IsBestOf, best_at, changed, is_prefix}
-use Rattle.net_prefix.specs.declared.prefix.Prefix.{Prefix}
-use Rattle.decision.specs.KeptPlaces.{IsBook, Kept, Puts, candidate_of, is_placed, kept_at, places_at, rows_of, with_changes}
+use Rattle.decision.specs.BookContents.{AreApart, IsBestOf, best_at, changed, is_prefix, candidate_of, is_placed, kept_at, places_at, rows_of}
+use Rattle.decision.specs.KeptPlaces.{Puts}
 use Rattle.decision.proofs.BookRows.{best_book, book_written, change_apart, change_offers, change_places, idle_offers, is_found, others_stay}
 use Rattle.decision.proofs.plain_book.PlainBookBook.change.Goals as goal
 

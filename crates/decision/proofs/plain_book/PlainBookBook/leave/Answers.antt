@@ -1,7 +1,7 @@
-use Rattle.std.proofs.Common.{◌≡◌, ℕ, [], nat_eq, false, sym, ap, subst, ◌∙◌, Some, None, cond, ◌&&◌}
+use Rattle.std.proofs.Common.{◌≡◌, [], nat_eq, false, sym, ap, subst, ◌∙◌, Some, None, cond, ◌&&◌}
 use Rattle.std.specs.Option.{option_copied_mut}
-use Rattle.decision.specs.BookContents.{IsBestOf, best_at, is_prefix}
-use Rattle.decision.specs.KeptPlaces.{IsBook, Puts, candidate_of, is_placed, kept_at, places_at, places_in, rows_of, without_slot}
+use Rattle.decision.specs.BookContents.{IsBestOf, best_at, is_prefix, candidate_of, is_placed, kept_at, places_at, places_in, rows_of}
+use Rattle.decision.specs.KeptPlaces.{Puts, without_slot}
 use Rattle.decision.proofs.BookRows.{best_book, book_written, is_found, leave_offers, leave_places, others_stay, puts_none}
 use Rattle.decision.proofs.plain_book.PlainBookBook.leave.Goals as goal
 

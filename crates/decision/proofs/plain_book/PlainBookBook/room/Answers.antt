@@ -1,10 +1,9 @@
-use Rattle.std.proofs.Common.{◌≡◌, ℕ, sym, ap, subst, ◌∙◌, Some, None, true, is_ok, OnOk, OnErr, cond, nat_eq, ◌&&◌}
+use Rattle.std.proofs.Common.{◌≡◌, sym, ap, subst, ◌∙◌, Some, None, true, is_ok, OnOk, OnErr, cond, nat_eq, ◌&&◌}
 use Rattle.std.specs.Option.{option_copied_mut}
 use Rattle.std.specs.BTreeMap.{is_at}
-use Rattle.decision.specs.BookContents.{is_prefix}
+use Rattle.decision.specs.BookContents.{is_prefix, candidate_of, is_placed, kept_at, places_at, places_in, rows_of}
 use Rattle.net_prefix.specs.PrefixOrder.{prefix_cmp}
-use Rattle.net_prefix.specs.declared.prefix.Prefix.{Prefix}
-use Rattle.decision.specs.KeptPlaces.{Kept, Puts, alone, candidate_of, is_placed, kept_at, places_at, places_in, rows_of}
+use Rattle.decision.specs.KeptPlaces.{Puts, alone}
 use Rattle.decision.proofs.BookRows.{book_kept, book_written, first_offers, first_places, is_found, kept_added, no_place_yet, puts_added, room_offers, room_places, rows_set}
 use Rattle.decision.proofs.plain_book.PlainBookBook.room.Goals as goal
 

@@ -1,6 +1,5 @@
-use Rattle.std.proofs.Common.{◌≡◌, ap, sym, ◌∙◌, Some, None, slice_get, rules}
-use Rattle.decision.specs.BookContents.{first_after}
-use Rattle.decision.specs.KeptPlaces.{rows_of}
+use Rattle.std.proofs.Common.{ap, sym, ◌∙◌, Some, None, slice_get, rules}
+use Rattle.decision.specs.BookContents.{first_after, rows_of}
 use Rattle.decision.proofs.BookRows.{row_above, row_of_all}
 use Rattle.decision.proofs.plain_book.PlainBookBook.row_after.Goals as goal
 
