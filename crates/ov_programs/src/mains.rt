@@ -62,7 +62,8 @@ where
     serve_cache(rt, &settings, turns, output)
 }
 
-/// Serves the list of these settings for so many turns. Nothing is written to the output where they ask for no log.
+/// Serves the list of these settings for so many turns: it is read before the first, and again between two of them, as
+/// `ServedList::serve` says of each. Nothing is written to the output where they ask for no log.
 pub fn serve_cache<R, O: Write>(
     rt: &R,
     settings: &CacheSettings,

@@ -10,6 +10,7 @@ use std::io::{ErrorKind, Read, Write};
 use std::net::{Net, TcpListener, TcpStream};
 use std::process::Abort;
 use std::test::Fail;
+use std::time::{Duration, Instant};
 
 const PAYLOADS: u32 = 1_000;
 
@@ -120,5 +121,31 @@ fn a_wire_tells_what_another_sends_and_its_end(rt: HostRuntime) -> Result<(), Fa
         (server.ends(), server.faults(), router.faults()),
         (1, 0, 0)
     );
+    Ok(())
+}
+
+#[test]
+fn a_rest_ends_when_a_socket_is_ready(rt: HostRuntime) -> Result<(), Fail> {
+    let long = Duration::from_secs(30);
+    let mut server = NetWire::listening(&rt, "127.0.0.1:0".parse()?)?;
+    let address = server.local_address().ok_or("no address")?;
+    let start = Instant::now(&rt)?;
+    let mut router = TcpStream::connect(&rt, address)?;
+    server.wait(long);
+    let mut socket = accepted(&mut server).ok_or("none accepted")?;
+    // Behind a connection that came there is no rest, and the new socket is ready for octets that go.
+    server.wait(long);
+    server.wait(long);
+    router.write_all(&[1])?;
+    server.wait(long);
+    assert_eq!(rt; received(&mut server, &mut socket), Received::Octets(1));
+    assert_eq!(rt; (server.octets_in(), server.octets_out()), (1, 0));
+    server.wait(long);
+    assert!(rt; start.elapsed(&rt)? < long);
+    // Now nothing is ready.
+    let start = Instant::now(&rt)?;
+    let short = Duration::from_millis(20);
+    server.wait(short);
+    assert!(rt; start.elapsed(&rt)? >= short);
     Ok(())
 }

@@ -3,9 +3,59 @@
 use ov_programs::{CacheLoop, NetWire, Parting, RouterEvent, Wire};
 use rtr_cache::Cache;
 use rtr_codec::Intervals;
+use std::alloc::AllocGlobal;
 use std::io::Write;
-use std::net::{SocketAddr, TcpStream};
+use std::net::{Net, TcpListener, TcpStream};
 use std::test::Fail;
+
+// What a router sends, and at which moment; behind it the connection is still there.
+#[derive(Clone, Copy)]
+struct Sending {
+    now: u64,
+    octets: &'static [u8],
+}
+
+const RESET_QUERY: [u8; 8] = [1, 2, 0, 0, 0, 0, 0, 8];
+
+// A Reset Query without its last octet, an octet now and then.
+const SLOW: [Sending; 3] = [
+    Sending {
+        now: 0,
+        octets: &[1, 2, 0, 0],
+    },
+    Sending {
+        now: 30,
+        octets: &[0, 0],
+    },
+    Sending {
+        now: 59,
+        octets: &[0],
+    },
+];
+
+const SILENT: [Sending; 1] = [Sending {
+    now: 59,
+    octets: &[],
+}];
+
+const ASKING: [Sending; 4] = [
+    Sending {
+        now: 0,
+        octets: &RESET_QUERY,
+    },
+    Sending {
+        now: 7_199,
+        octets: &[],
+    },
+    Sending {
+        now: 7_199,
+        octets: &RESET_QUERY,
+    },
+    Sending {
+        now: 14_398,
+        octets: &[],
+    },
+];
 
 // How many connections there are behind some turns at this moment.
 fn connections_at<W: Wire + Drop>(turns: &mut CacheLoop<W>, now: u64) -> Result<usize, Fail> {
@@ -15,40 +65,32 @@ fn connections_at<W: Wire + Drop>(turns: &mut CacheLoop<W>, now: u64) -> Result<
     Ok(turns.connections())
 }
 
-// Whether the last turn saw the router of this address go so.
-fn went(events: &[RouterEvent], address: SocketAddr, parting: Parting) -> bool {
-    events.contains(&RouterEvent::Went(address, parting))
+// Whether the connection stands as long as it sends so, and is gone at a last moment.
+fn is_gone_at<R>(rt: &R, sendings: &[Sending], last: u64) -> Result<bool, Fail>
+where
+    R: Net<Listener = TcpListener, Stream = TcpStream> + AllocGlobal,
+{
+    let cache = Cache::new(rt.alloc(), 7, Intervals::USUAL)?;
+    let wire = NetWire::listening(rt, "127.0.0.1:0".parse()?)?;
+    let address = wire.local_address().ok_or("no address")?;
+    let mut turns = CacheLoop::new(rt.alloc(), wire, cache)?;
+    let mut router = TcpStream::connect(rt, address)?;
+    let mut stands = connections_at(&mut turns, 0)? == 1;
+    for sending in sendings {
+        router.write_all(sending.octets)?;
+        stands = stands && connections_at(&mut turns, sending.now)? == 1;
+    }
+    turns.turn(last)?;
+    let went = RouterEvent::Went(router.local_addr()?, Parting::Overdue);
+    Ok(stands && turns.wire().events().contains(&went) && turns.connections() == 0)
 }
 
 #[test]
 fn a_client_without_a_whole_pdu_loses_its_place_after_a_minute(
     rt: HostRuntime,
 ) -> Result<(), Fail> {
-    let cache = Cache::new(rt.alloc(), 7, Intervals::USUAL)?;
-    let wire = NetWire::listening(&rt, "127.0.0.1:0".parse()?)?;
-    let address = wire.local_address().ok_or("no address")?;
-    let mut turns = CacheLoop::new(rt.alloc(), wire, cache)?;
-    let silent = TcpStream::connect(&rt, address)?;
-    turns.turn(10)?;
-    let came = [RouterEvent::Came(silent.local_addr()?)];
-    assert!(rt; turns.wire().events() == came.as_slice());
-    let mut slow = TcpStream::connect(&rt, address)?;
-    let mut asking = TcpStream::connect(&rt, address)?;
-    asking.write_all(&[1, 2, 0, 0, 0, 0, 0, 8])?;
-    assert_eq!(rt; connections_at(&mut turns, 10)?, 3);
-    // An octet now and then is no PDU.
-    for (octet, now) in [(1, 30), (2, 50), (0, 69)] {
-        slow.write_all(&[octet])?;
-        assert_eq!(rt; connections_at(&mut turns, now)?, 3);
-    }
-    turns.turn(70)?;
-    let events = turns.wire().events();
-    assert!(rt; went(events, silent.local_addr()?, Parting::Overdue));
-    assert!(rt; went(events, slow.local_addr()?, Parting::Overdue));
-    assert_eq!(rt;
-        (turns.connections(), turns.lost(), turns.closed()),
-        (1, 2, 2)
-    );
+    assert!(rt; is_gone_at(&rt, &SILENT, 60)?);
+    assert!(rt; is_gone_at(&rt, &SLOW, 60)?);
     Ok(())
 }
 
@@ -56,19 +98,6 @@ fn a_client_without_a_whole_pdu_loses_its_place_after_a_minute(
 fn a_client_that_asks_no_more_loses_its_place_after_the_expire_interval(
     rt: HostRuntime,
 ) -> Result<(), Fail> {
-    let cache = Cache::new(rt.alloc(), 7, Intervals::USUAL)?;
-    let wire = NetWire::listening(&rt, "127.0.0.1:0".parse()?)?;
-    let address = wire.local_address().ok_or("no address")?;
-    let mut turns = CacheLoop::new(rt.alloc(), wire, cache)?;
-    let mut router = TcpStream::connect(&rt, address)?;
-    for now in [0, 59, 7_258] {
-        router.write_all(&[1, 2, 0, 0, 0, 0, 0, 8])?;
-        assert_eq!(rt; connections_at(&mut turns, now)?, 1);
-    }
-    assert_eq!(rt; connections_at(&mut turns, 14_457)?, 1);
-    turns.turn(14_458)?;
-    let events = turns.wire().events();
-    assert!(rt; went(events, router.local_addr()?, Parting::Overdue));
-    assert_eq!(rt; turns.connections(), 0);
+    assert!(rt; is_gone_at(&rt, &ASKING, 14_399)?);
     Ok(())
 }
