@@ -1,5 +1,5 @@
 -- The least prefix to which a slot has a route, and walks over prefixes.
-use Rattle.std.proofs.Common.{◌≡◌, ℕ, ◌-◌, ◌+◌, ◌^◌, ◌<◌, ◌==◌, ◌≢◌, ◌&&◌, Bool, true, false, not, cond, List, [], ◌∷◌, Option, None, Some, IfSome, IfNone, IsSome, bit_and, length, refl, sym, ap, subst, ◌∙◌, arith}
+use Rattle.std.proofs.Common.{◌≡◌, ℕ, ◌-◌, ◌+◌, ◌^◌, ◌<◌, ◌==◌, ◌≢◌, ◌&&◌, Bool, true, false, not, cond, [], ◌∷◌, Option, None, Some, IfSome, IfNone, IsSome, bit_and, length, refl, sym, ap, ◌∙◌, arith}
 use Rattle.std.proofs.lemmas.Bool.{eq-eqb, eqb-true}
 use Rattle.std.specs.List.{filter}
 use Rattle.std.specs.Option.{is_some}

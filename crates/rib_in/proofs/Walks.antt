@@ -1,9 +1,8 @@
 -- The first of the entries that a test finds, in the order of prefixes.
-use Rattle.std.proofs.Common.{◌≡◌, ◌⊎◌, inl, inr, ℕ, zero, ◌+◌, ◌*◌, ◌^◌, ◌<◌, ◌==◌, ◌≢◌, ◌&&◌, ◌||◌, Bool, true, false, not, cond, List, [], ◌∷◌, Option, None, Some, IfSome, IfNone, IsSome, bit_and, bit_or, nat_lt, refl, sym, ap, subst, ◌∙◌, arith}
+use Rattle.std.proofs.Common.{◌≡◌, ◌⊎◌, inl, inr, ℕ, ◌*◌, ◌^◌, ◌<◌, ◌==◌, ◌≢◌, ◌&&◌, ◌||◌, Bool, true, false, not, cond, List, [], ◌∷◌, Option, None, Some, bit_and, nat_lt, refl, sym, ap, subst, ◌∙◌, arith}
 use Rattle.std.proofs.lemmas.Bool.Decides.{eqb_tells, nat_tests}
 use Rattle.std.proofs.lemmas.Nat.{pow_pos}
 use Rattle.std.proofs.lemmas.Nat.Bits.{and_pow, bit_at-pow_other}
-use Rattle.std.specs.Int.{bit_at}
 use Rattle.std.specs.Int.Bits.{and_self, and_zero_l}
 use Rattle.std.specs.BTreeMap.{is_at}
 use Rattle.std.specs.List.{AllByRecursion, filter}
@@ -21,10 +20,9 @@ use Rattle.prefix_trie.specs.TrieMap.{IsRising, found}
 use Rattle.prefix_trie.specs.TrieWalks.{all_after, first_key}
 use Rattle.prefix_trie.proofs.MarkBits.{joined_marks}
 use Rattle.bgp_attr.specs.PathAttributes.{PathAttributes}
-use Rattle.rib_in.specs.LatestRoutes.{HasNoEmptyList, HasRoute, RouteList, RouteTable, is_prefix, listed, route_among, route_at, route_in, routes_of}
+use Rattle.rib_in.specs.LatestRoutes.{RouteList, RouteTable, is_prefix, listed, route_among, route_at, route_in, routes_of}
 use Rattle.rib_in.specs.PrefixRoutes.{mark_of, marks_of}
 use Rattle.rib_in.proofs.RouteLists.{not_at, here}
-use Rattle.rib_in.proofs.Tables.{no_empty_found}
 
 -- whether a prefix stands above the given one, where one is given
 abbrev pub is_above : Option Prefix → Prefix → Bool

@@ -1,5 +1,5 @@
 -- The routes to one prefix: at least one, of slots that rise, and the marks by which those of a slot are found.
-use Rattle.std.specs.Prelude.{ℕ, ◌≡◌, ◌^◌, ◌<◌, ◌==◌, Bool, false, not, List, [], ◌∷◌, Option, Some, None, Box, filter, length, bit_or, nat_lt, if◌then◌else◌}
+use Rattle.std.specs.Prelude.{ℕ, ◌≡◌, ◌^◌, ◌<◌, ◌==◌, Bool, false, not, [], ◌∷◌, Option, Some, None, Box, filter, length, bit_or, nat_lt, if◌then◌else◌}
 use Rattle.std.specs.BTreeMap.{is_at, insert_entry}
 use Rattle.std.specs.List.Sorted.{IsStrictlySortedBy}
 use Rattle.std.specs.Map.{keys_of}

@@ -1,8 +1,7 @@
 -- The routes of the higher slots are fewer by one.
-use Rattle.std.specs.Prelude.{◌≤◌, suc, Option, None, Some, Box, length}
+use Rattle.std.specs.Prelude.{◌≤◌, suc, None, Some, length}
 use Rattle.std.proofs.Common.{arith}
 use Rattle.std.specs.declared.alloc.Allocator as allocator
-use Rattle.rib_in.specs.LatestRoutes.{RouteList}
 use Rattle.rib_in.specs.PrefixRoutes.{higher_of}
 use Rattle.rib_in.specs.declared.prefix_routes.PrefixRoutes.TheInside.{Inside}
 use Rattle.rib_in.specs.declared.prefix_routes.PrefixRoutes.TheDeep.{deep-PrefixRoutes}

@@ -1,11 +1,10 @@
-use Rattle.std.proofs.Common.{◌≡◌, ◌<◌, ◌∷◌, [], rules, Some, None, length, refl, sym, ap, subst, ◌∙◌, arith}
-use Rattle.std.proofs.lemmas.Map.{length-set_value}
-use Rattle.std.specs.BTreeMap.{is_at, insert_entry}
+use Rattle.std.proofs.Common.{◌≡◌, rules, Some, None, ap, ◌∙◌, arith}
+use Rattle.std.specs.BTreeMap.{is_at}
 use Rattle.std.specs.Map.{set_value}
 use Rattle.std.specs.Option.{is_some}
 use Rattle.std.specs.Ordering.{nat_cmp}
 use Rattle.prefix_trie.specs.TrieMap.{found, with_entry}
-use Rattle.rib_in.specs.LatestRoutes.{HasNoEmptyList, RouteList, route_in}
+use Rattle.rib_in.specs.LatestRoutes.{route_in}
 use Rattle.rib_in.specs.PrefixRoutes.{with_first}
 use Rattle.rib_in.proofs.Tables.{first_put, is_nowhere, is_there, more_put, no_empty_with, other_put, put_back, put_more, taken}
 use Rattle.rib_in.proofs.adj_in.AdjIn.announce.Goals as goal

@@ -1,6 +1,3 @@
-use Rattle.std.proofs.Common.{ap, ◌∙◌, ◌==◌, bit_and, not}
-use Rattle.prefix_trie.specs.TrieWalks.{all_after, all_marked, first_key}
-use Rattle.rib_in.specs.PrefixRoutes.{marks_of}
 use Rattle.rib_in.proofs.SlotWalks.{slot_above, slot_has, slot_least, slot_none}
 use Rattle.rib_in.proofs.adj_in.AdjIn.marked_prefix_after.Goals as goal
 

@@ -1,4 +1,3 @@
-use Rattle.std.proofs.Common.{ℕ}
 use Rattle.net_prefix.specs.PrefixOrder.{IsAbove}
 use Rattle.net_prefix.specs.declared.prefix.Prefix.{Prefix}
 use Rattle.rib_in.proofs.SlotWalks.{NonePassed, left_above}

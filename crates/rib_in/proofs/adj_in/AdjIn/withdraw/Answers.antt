@@ -1,5 +1,5 @@
 use Rattle.std.proofs.Common.{◌≡◌, rules, false, Some, ◌∙◌}
-use Rattle.prefix_trie.specs.TrieMap.{found, with_entry, without}
+use Rattle.prefix_trie.specs.TrieMap.{found}
 use Rattle.rib_in.specs.PrefixRoutes.{IsLeft, is_only, others_of}
 use Rattle.rib_in.proofs.Tables.{is_there, left_after, no_empty_without, one_out, only_out, taken}
 use Rattle.rib_in.proofs.adj_in.AdjIn.withdraw.Goals as goal

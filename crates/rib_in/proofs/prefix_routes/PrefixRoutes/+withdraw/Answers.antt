@@ -1,5 +1,5 @@
-use Rattle.std.proofs.Common.{◌≡◌, false, Some, refl, sym, ap, ◌∙◌}
-use Rattle.rib_in.specs.PrefixRoutes.{is_only, others_of}
+use Rattle.std.proofs.Common.{◌≡◌, false, Some, refl, sym, ◌∙◌}
+use Rattle.rib_in.specs.PrefixRoutes.{is_only}
 use Rattle.rib_in.proofs.RouteLists.{left_first, next_only, one_route, routes_left}
 use Rattle.rib_in.proofs.prefix_routes.PrefixRoutes.+withdraw.Goals as goal
 
