@@ -15,7 +15,8 @@ const ATTRIBUTES: [u8; 20] = [
     0x40, 1, 1, 0, 0x40, 2, 6, 2, 1, 0, 0, 0xfd, 0xe9, 0x40, 3, 4, 192, 0, 2, 1,
 ];
 
-fn shared<A: Allocator + Clone>(rt: &impl Abort, alloc: A) -> Result<Rc<Attrs<A>, A>, Fail> {
+/// The attributes, to be shared by routes.
+pub fn shared<A: Allocator + Clone>(rt: &impl Abort, alloc: A) -> Result<Rc<Attrs<A>, A>, Fail> {
     let Ok(attrs) = read_attrs(alloc.clone()?, &ATTRIBUTES, PeerKind::External(Asn(65001))) else {
         panic!(rt; "the attributes are good");
     };

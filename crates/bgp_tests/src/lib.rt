@@ -17,6 +17,8 @@ mod loc_rib;
 #[cfg(test)]
 mod messages;
 #[cfg(test)]
+mod routes;
+#[cfg(test)]
 mod selection;
 #[cfg(test)]
 mod session_table;

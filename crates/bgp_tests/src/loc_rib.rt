@@ -1,6 +1,7 @@
 //! The best route of each prefix as candidates come, change and go, and a refused growth.
-ghost use Rattle.std.specs.Prelude.{◌≡◌, ℕ, IfSome, true};
-ghost use Rattle.net_prefix.specs.declared.prefix.Prefix.{Prefix as ThePrefix};
+ghost use Rattle.std.specs.Prelude.{◌≡◌, IfSome};
+ghost use Rattle.bgp_tests.specs.Addressed.{AreAddressed};
+ghost use Rattle.decision.specs.BookContents.{offer_at};
 
 use bgp_attr::Origin;
 use decision::{Book, Candidate, Change, Meter, PlainBook};
@@ -10,20 +11,23 @@ use std::alloc::{AllocError, Allocator};
 use std::process::Abort;
 use std::test::Fail;
 
-// A candidate of this degree of preference. Its peer's address is the slot.
-fn candidate(slot: u8, degree: u64) -> Candidate
-    ensures slot { result.slot ≡ slot }
-    ensures address { result.address ≡ slot }
+/// A candidate of this degree of preference, if there is one. Its peer's address is the slot.
+pub fn candidate(slot: u8, degree: Option<u64>) -> Option<Candidate>
+    ensures slot { IfSome result (λ c. c.slot ≡ slot) }
+    ensures address { IfSome result (λ c. c.address ≡ slot) }
 {
-    Candidate {
-        slot,
-        degree,
-        path_length: 1,
-        origin: Origin::Igp,
-        external: true,
-        cost: 0,
-        identifier: u32::from(slot),
-        address: u32::from(slot),
+    match degree {
+        Some(degree) => Some(Candidate {
+            slot,
+            degree,
+            path_length: 1,
+            origin: Origin::Igp,
+            external: true,
+            cost: 0,
+            identifier: u32::from(slot),
+            address: u32::from(slot),
+        }),
+        None => None,
     }
 }
 
@@ -34,17 +38,27 @@ fn offer<A: Allocator + Clone, B: Book<A>>(
     prefix: Prefix,
     slot: u8,
     degree: Option<u64>,
-)
-    requires place { B.has_place book.old slot prefix ≡ true }
-    requires apart { (s : ℕ) → IfSome (B.offer book.old s prefix) (λ c. c.address ≡ s) }
-    ensures place { (s : ℕ) (p : ThePrefix) → B.has_place book.new s p ≡ B.has_place book.old s p }
-    ensures apart { (s : ℕ) → IfSome (B.offer book.new s prefix) (λ c. c.address ≡ s) }
+) -> Result<(), AllocError>
+    requires { AreAddressed (offer_at (B.kept book.old)) }
+    ensures { AreAddressed (offer_at (B.kept book.new)) }
 {
-    let candidate = match degree {
-        Some(degree) => Some(candidate(slot, degree)),
-        None => None,
-    };
+    book.room(slot, prefix)?;
+    let candidate = candidate(slot, degree);
     book.change(meter, prefix, &[Change { slot, candidate }]);
+    Ok(())
+}
+
+// The slot leaves the prefix.
+fn leave<A: Allocator + Clone, B: Book<A>>(
+    book: &mut B,
+    meter: &mut Meter,
+    prefix: Prefix,
+    slot: u8,
+)
+    requires { AreAddressed (offer_at (B.kept book.old)) }
+    ensures { AreAddressed (offer_at (B.kept book.new)) }
+{
+    book.leave(meter, slot, prefix);
 }
 
 fn slot_of_best<A: Allocator + Clone, B: Book<A>>(book: &B, prefix: Prefix) -> Option<u8> {
@@ -71,31 +85,28 @@ fn follows_its_candidates<A: Allocator + Clone, B: Book<A>>(
     mut book: B,
     prefix: Prefix,
 ) -> Result<(), Fail>
-    requires { (s : ℕ) → IfSome (B.offer book s prefix) (λ c. c.address ≡ s) }
+    requires { AreAddressed (offer_at (B.kept book)) }
 {
     let mut meter = Meter::new();
-    book.room(1, prefix)?;
-    book.room(2, prefix)?;
-    assert_eq!(rt; slot_of_best(&book, prefix), None);
-    offer(&mut book, &mut meter, prefix, 1, Some(100));
+    offer(&mut book, &mut meter, prefix, 1, Some(100))?;
     assert_eq!(rt; slot_of_best(&book, prefix), Some(1));
-    offer(&mut book, &mut meter, prefix, 2, Some(200));
+    offer(&mut book, &mut meter, prefix, 2, Some(200))?;
     assert_eq!(rt; slot_of_best(&book, prefix), Some(2));
     assert_eq!(rt; meter.count(), 2);
 
     // The same candidate again is no change.
-    offer(&mut book, &mut meter, prefix, 2, Some(200));
+    offer(&mut book, &mut meter, prefix, 2, Some(200))?;
     assert_eq!(rt; meter.count(), 2);
 
-    // The best one goes, with its place and without it.
-    offer(&mut book, &mut meter, prefix, 2, None);
+    // The best one goes, and its place stays; then the other one goes with its place.
+    offer(&mut book, &mut meter, prefix, 2, None)?;
     assert_eq!(rt; slot_of_best(&book, prefix), Some(1));
-    book.leave(&mut meter, 1, prefix);
+    leave(&mut book, &mut meter, prefix, 1);
     assert_eq!(rt; slot_of_best(&book, prefix), None);
     assert_eq!(rt; meter.count(), 4);
 
     // A place without a candidate goes without a choice.
-    book.leave(&mut meter, 2, prefix);
+    leave(&mut book, &mut meter, prefix, 2);
     assert_eq!(rt; meter.count(), 4);
     Ok(())
 }
@@ -106,12 +117,24 @@ fn a_withdrawn_best_gives_way_to_the_next(rt: HostRuntime) -> Result<(), Fail> {
     follows_its_candidates(&rt, book, Prefix::new(0x0a00_0000, 16)?)
 }
 
-// Makes a place of slot 3 at the prefix and offers a candidate there.
-fn add<A: Allocator + Clone, B: Book<A>>(book: &mut B, prefix: Prefix) -> Result<(), AllocError>
-    requires { (s : ℕ) (p : ThePrefix) → IfSome (B.offer book.old s p) (λ c. c.address ≡ s) }
+// The rows of a book with candidates at two prefixes, and a place at one between them.
+fn shows_rows<A: Allocator + Clone, B: Book<A>>(
+    rt: &impl Abort,
+    mut book: B,
+    low: Prefix,
+    middle: Prefix,
+    high: Prefix,
+) -> Result<(), Fail>
+    requires { AreAddressed (offer_at (B.kept book)) }
 {
-    book.room(3, prefix)?;
-    offer(book, &mut Meter::new(), prefix, 3, Some(100));
+    let mut meter = Meter::new();
+    offer(&mut book, &mut meter, high, 3, Some(100))?;
+    offer(&mut book, &mut meter, low, 3, Some(100))?;
+    book.room(3, middle)?;
+    assert_eq!(rt; row_after(&book, None), Some((low, 3)));
+    assert_eq!(rt; row_after(&book, Some(low)), Some((high, 3)));
+    assert_eq!(rt; row_after(&book, Some(middle)), Some((high, 3)));
+    assert_eq!(rt; row_after(&book, Some(high)), None);
     Ok(())
 }
 
@@ -120,15 +143,8 @@ fn the_rows_rise(rt: HostRuntime) -> Result<(), Fail> {
     let low = Prefix::new(0x0a00_0000, 16)?;
     let middle = Prefix::new(0x0a00_0000, 24)?;
     let high = Prefix::new(0x0a01_0000, 16)?;
-    let mut book = PlainBook::empty(rt.alloc())?;
-    add(&mut book, high)?;
-    add(&mut book, low)?;
-    book.room(3, middle)?;
-    assert_eq!(rt; row_after(&book, None), Some((low, 3)));
-    assert_eq!(rt; row_after(&book, Some(low)), Some((high, 3)));
-    assert_eq!(rt; row_after(&book, Some(middle)), Some((high, 3)));
-    assert_eq!(rt; row_after(&book, Some(high)), None);
-    Ok(())
+    let book = PlainBook::empty(rt.alloc())?;
+    shows_rows(&rt, book, low, middle, high)
 }
 
 // Makes a place at each of some prefixes, and asks again where a growth is refused. Answers how often one was.

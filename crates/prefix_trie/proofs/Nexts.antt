@@ -68,11 +68,11 @@ module _ {V : Type 0} where
   rest_after None e t es rising h = rest_first e t es rising h
   rest_after (Some k) e t es rising h = rest_above k e t es rising h
 
-  none_case : (es : List (Prefix × V)) → None ≡ first_of es → es ≡ []
+  pub none_case : (es : List (Prefix × V)) → None ≡ first_of es → es ≡ []
   none_case [] h = refl
   none_case (e ∷ es) h = absurd cc
 
-  some_case : (k : Option Prefix) (e : Prefix × V) (es l : List (Prefix × V)) → IsRising es → all_after k es ≡ l → Some e ≡ first_of l → l ≡ e ∷ all_above e.0 es
+  pub some_case : (k : Option Prefix) (e : Prefix × V) (es l : List (Prefix × V)) → IsRising es → all_after k es ≡ l → Some e ≡ first_of l → l ≡ e ∷ all_above e.0 es
   some_case k e es [] rising is h = absurd cc
   some_case k e es (y ∷ t) rising is h =
       let same : y ≡ e = cc in

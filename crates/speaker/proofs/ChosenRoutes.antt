@@ -70,8 +70,10 @@ chosen_next t adj_in after p found chosen new same h above least place is here o
     not_prefix : (q : Prefix) (b : Bool) → is_prefix p q ≡ b → (p ≡ q → ⊥) → b ≡ false
     not_prefix q true at other = absurd (other (same_from_is_prefix p q at))
     not_prefix q false at other = refl
+
     apart : (q : Prefix) → rank_of q < rank_of p → is_prefix p q ≡ false
     apart q before = not_prefix q _ refl (λ one. let rank : rank_of p ≡ rank_of q = (λ i. rank_of (one i)) in absurd (omega (arith, before, rank)))
+
     apart_above : (q : Prefix) → reached (Some p) ≤ rank_of q → is_prefix p q ≡ false
     apart_above q higher = not_prefix q _ refl (λ one. let rank : rank_of p ≡ rank_of q = (λ i. rank_of (one i)) in absurd (omega (arith, higher, rank)))
 

@@ -1,0 +1,3 @@
+pub mod BookRooms
+pub mod EndedSlots
+pub mod RowWalks

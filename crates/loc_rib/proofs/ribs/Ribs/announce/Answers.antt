@@ -1,0 +1,15 @@
+use Rattle.loc_rib.proofs.BookRooms.{apart_same, on_err, roomy_left, same_place}
+use Rattle.loc_rib.proofs.ribs.Ribs.announce.Goals as goal
+
+pub invariant_of-self-then-is_err : goal.invariant_of-self-then-is_err
+invariant_of-self-then-is_err g c =
+    let none = on_err c.announce.result _ c.announce.ensures.absent c.if-is_err.ensures.value in
+    let same = on_err c.announce.result _ c.announce.ensures.err c.if-is_err.ensures.value in
+    rw same
+    (roomy_left c.self.inside.adj_in (g.B.Book.kept c.self.inside.book) (g.B.Book.kept c.room.new.self) (g.B.Book.kept c.leave.new.self) c.args.slot c.args.prefix c.self.invariant none
+    c.in_ok-room.ensures.offers c.in_ok-room.ensures.places c.leave.ensures.offers c.leave.ensures.places (λ s p at. same_place c.args.slot c.args.prefix s p at))
+
+pub change-requires-clause-distinct : goal.change-requires-clause-distinct
+change-requires-clause-distinct g c =
+    let apart = rw (← c.self.view_is) at c.requires.apart in
+    apart_same c.args.slot c.args.candidate _ _ (λ s. c.room.ensures.offers s c.args.prefix) apart

@@ -1,0 +1,140 @@
+//! Adj-RIB-In and Loc-RIB (RFC 4271 section 3.2): the peers' latest routes, the candidates that they make, and the best
+//! route of each prefix.
+ghost use Rattle.std.specs.Prelude.{◌≡◌, ◌==◌, ℕ, All, IfOk, OnOk, OnErr, None, Some, if◌then◌else◌};
+ghost use Rattle.std.specs.List.Sorted.{IsStrictlySortedBy};
+ghost use Rattle.std.specs.Map.{keys_of};
+ghost use Rattle.std.specs.Option.{IfSome, IsSome};
+ghost use Rattle.decision.specs.BookContents.{AreApart, IsBestOf, best_at, changed, is_prefix, offer_at, rows_of};
+ghost use Rattle.decision.specs.declared.candidate.Candidate.{Candidate as TheCandidate};
+ghost use Rattle.net_prefix.specs.PrefixOrder.{prefix_cmp};
+ghost use Rattle.net_prefix.specs.declared.prefix.Prefix.{Prefix as ThePrefix};
+ghost use Rattle.rib_in.specs.LatestRoutes.{is_route, route_at};
+ghost use Rattle.loc_rib.specs.RibTables.{started};
+
+use crate::rows::Rows;
+use bgp_attr::Attrs;
+use decision::{Book, Candidate, Change, Meter};
+use net_prefix::Prefix;
+use rib_in::AdjIn;
+use std::alloc::{AllocError, Allocator};
+use std::marker::Model;
+use std::rc::Rc;
+
+/// The routes that came, the candidates that they make, and the best of each prefix.
+#[derive(Drop)]
+pub struct Ribs<A: Allocator + Clone, B: Book<A>> {
+    adj_in: AdjIn<A>,
+    pub(crate) book: B,
+    meter: Meter,
+}
+
+impl<A: Allocator + Clone, B: Book<A>> Model for Ribs<A, B> {
+    ghost use Rattle.loc_rib.specs.RibTables.{RibTables, AreRoomy};
+
+    ghost Value = { RibTables };
+
+    ghost view = { λ r. record { adj_in = r.adj_in; book = B.kept r.book } };
+
+    ghost invariant = { λ r. AreRoomy r.adj_in (B.kept r.book) };
+}
+
+impl<A: Allocator + Clone, B: Book<A>> Ribs<A, B> {
+    /// No routes.
+    pub fn new(alloc: A) -> Result<Self, AllocError>
+        ensures { IfOk result (λ ribs. ribs ≡ started) }
+    {
+        let adj_in = AdjIn::new(alloc.clone()?);
+        let book = B::empty(alloc)?;
+        Ok(Ribs {
+            adj_in,
+            book,
+            meter: Meter::new(),
+        })
+    }
+
+    /// The slot's route to the prefix is this one from now on, and makes this candidate. Where memory is refused, all
+    /// is as before.
+    pub fn announce(
+        &mut self,
+        slot: u8,
+        prefix: Prefix,
+        attrs: Rc<Attrs<A>, A>,
+        candidate: Option<Candidate>,
+    ) -> Result<(), AllocError>
+        requires named { IfSome candidate (λ c. c.slot ≡ slot) }
+        requires apart { AreApart (λ s. if slot == s then candidate else offer_at self.old.book s prefix) }
+        ensures routes { OnOk result ((s : ℕ) (p : ThePrefix) → route_at self.new.adj_in s p ≡ (if is_route slot prefix s p then Some attrs.value else route_at self.old.adj_in s p)) }
+        ensures offers { OnOk result ((s : ℕ) (p : ThePrefix) → offer_at self.new.book s p ≡ (if is_route slot prefix s p then candidate else offer_at self.old.book s p)) }
+        ensures err { OnErr result (((s : ℕ) (p : ThePrefix) → route_at self.new.adj_in s p ≡ route_at self.old.adj_in s p) × ((s : ℕ) (p : ThePrefix) → offer_at self.new.book s p ≡ offer_at self.old.book s p)) }
+    {
+        self.book.room(slot, prefix)?;
+        if self.adj_in.announce(slot, prefix, attrs).is_err() {
+            self.book.leave(&mut self.meter, slot, prefix);
+            return Err(AllocError);
+        }
+        let change = Change { slot, candidate };
+        self.book.change(&mut self.meter, prefix, &[change]);
+        Ok(())
+    }
+
+    /// The slot has no route to the prefix any more.
+    pub fn withdraw(&mut self, slot: u8, prefix: Prefix)
+        ensures routes { (s : ℕ) (p : ThePrefix) → route_at self.new.adj_in s p ≡ (if is_route slot prefix s p then None else route_at self.old.adj_in s p) }
+        ensures offers { (s : ℕ) (p : ThePrefix) → offer_at self.new.book s p ≡ (if is_route slot prefix s p then None else offer_at self.old.book s p) }
+    {
+        self.adj_in.withdraw(slot, prefix);
+        self.book.leave(&mut self.meter, slot, prefix);
+    }
+
+    /// The slot's session has ended: none of its routes is kept.
+    pub fn drop_slot(&mut self, slot: u8)
+        ensures routes { (s : ℕ) (p : ThePrefix) → route_at self.new.adj_in s p ≡ (if s == slot then None else route_at self.old.adj_in s p) }
+        ensures offers { (s : ℕ) (p : ThePrefix) → offer_at self.new.book s p ≡ (if s == slot then None else offer_at self.old.book s p) }
+    {
+        let mut after = None;
+        while let Some(prefix) = self.adj_in.slot_prefix_after(slot, after) {
+            self.withdraw(slot, prefix);
+            after = Some(prefix);
+        }
+    }
+
+    /// Changes candidates of routes to a prefix, and chooses its best one again.
+    pub fn change(&mut self, prefix: Prefix, changes: &[Change])
+        requires routed { All (λ c. IsSome (route_at self.old.adj_in c.slot prefix)) changes.now }
+        requires named { All (λ c. IfSome c.candidate (λ route. route.slot ≡ c.slot)) changes.now }
+        requires apart { AreApart (λ s. changed changes.now s (offer_at self.old.book s prefix)) }
+        ensures routes { self.new.adj_in ≡ self.old.adj_in }
+        ensures offers { (s : ℕ) (p : ThePrefix) → offer_at self.new.book s p ≡ (if is_prefix prefix p then changed changes.now s (offer_at self.old.book s p) else offer_at self.old.book s p) }
+    {
+        self.book.change(&mut self.meter, prefix, changes);
+    }
+
+    /// The latest route of each slot and prefix.
+    pub fn routes(&self) -> &AdjIn<A>
+        ensures { result.now ≡ self.now.adj_in }
+    {
+        &self.adj_in
+    }
+
+    /// The best route of a prefix.
+    pub fn best(&self, prefix: Prefix) -> Option<Candidate>
+        ensures { result ≡ best_at (rows_of self.now.book) prefix }
+    {
+        self.book.best(prefix)
+    }
+
+    /// Loc-RIB has the best of each prefix's candidates.
+    pub fn is_chosen(&self)
+        ensures best { (p : ThePrefix) → IsBestOf (λ s. offer_at self.now.book s p) (best_at (rows_of self.now.book) p) }
+        ensures rising { IsStrictlySortedBy prefix_cmp (keys_of (rows_of self.now.book)) }
+    {
+        let _ = self.book.best(Prefix { bits: 0, len: 0 });
+    }
+
+    /// Loc-RIB, row by row in rising order.
+    pub fn rows(&self) -> Rows<'_, A, B>
+        ensures { result ≡ rows_of self.now.book }
+    {
+        Rows::of(self)
+    }
+}
