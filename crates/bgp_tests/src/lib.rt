@@ -9,11 +9,11 @@ mod adj_rib_out;
 #[cfg(test)]
 mod attributes;
 #[cfg(test)]
+mod books;
+#[cfg(test)]
 mod commands;
 #[cfg(test)]
 mod export;
-#[cfg(test)]
-mod loc_rib;
 #[cfg(test)]
 mod messages;
 #[cfg(test)]

@@ -4,7 +4,7 @@ ghost use Rattle.bgp_tests.specs.Addressed.{AreAddressed};
 ghost use Rattle.decision.specs.BookContents.{offer_at};
 
 use crate::adj_rib_in::shared;
-use crate::loc_rib::candidate;
+use crate::books::candidate;
 use bgp_attr::Attrs;
 use decision::{Book, PlainBook};
 use loc_rib::Ribs;

@@ -26,7 +26,7 @@ pub roomy_changed : (adj_in : RouteTable) (old new : BookState) (prefix : Prefix
     → ((s : ℕ) (p : Prefix) → offer_at new s p ≡ cond (is_prefix prefix p) (changed changes s (offer_at old s p)) (offer_at old s p))
     → ((s : ℕ) (p : Prefix) → has_place_at new s p ≡ has_place_at old s p) → ((p : Prefix) → is_prefix prefix p ≡ true → p ≡ prefix) → AreRoomy adj_in new
 roomy_changed adj_in old new prefix changes h routed offers places same = record {
-  room = λ s p there. places s p ∙ h.room s p there;
+  places = λ s p. places s p ∙ h.places s p;
   routed = λ s p there. here s p (is_prefix prefix p) refl (offers s p) there;
 }
   where
@@ -49,20 +49,17 @@ pub roomy_left : (adj_in : RouteTable) (old made new : BookState) (slot : ℕ) (
     → ((s : ℕ) (p : Prefix) → offer_at new s p ≡ cond (s == slot && is_prefix prefix p) None (offer_at made s p)) → ((s : ℕ) (p : Prefix) → has_place_at new s p ≡ cond (s == slot && is_prefix prefix p) false (has_place_at made s p))
     → ((s : ℕ) (p : Prefix) → (s == slot && is_prefix prefix p) ≡ true → (s ≡ slot) × (p ≡ prefix)) → AreRoomy adj_in new
 roomy_left adj_in old made new slot prefix h none offers places left_offers left_places same = record {
-  room = λ s p there. room_here s p (s == slot && is_prefix prefix p) refl (left_places s p) (places s p) there;
+  places = λ s p. place_here s p (s == slot && is_prefix prefix p) refl (left_places s p) (places s p);
   routed = λ s p there. routed_here s p (s == slot && is_prefix prefix p) refl (left_offers s p) there;
 }
   where
-    not_there : (s : ℕ) (p : Prefix) → (s == slot && is_prefix prefix p) ≡ true → IsSome (route_at adj_in s p) → ⊥
-    not_there s p is there =
+    place_here : (s : ℕ) (p : Prefix) (b : Bool) → (s == slot && is_prefix prefix p) ≡ b → has_place_at new s p ≡ cond b false (has_place_at made s p) → has_place_at made s p ≡ cond b true (has_place_at old s p)
+        → has_place_at new s p ≡ is_some (route_at adj_in s p)
+    place_here s p true is now was =
         let at = same s p is in
         let nothing : route_at adj_in s p ≡ None = ap (λ x. route_at adj_in x p) at.0 ∙ ap (λ q. route_at adj_in slot q) at.1 ∙ none in
-        let never = subst (λ o. IsSome o) nothing there in cc
-
-    room_here : (s : ℕ) (p : Prefix) (b : Bool) → (s == slot && is_prefix prefix p) ≡ b → has_place_at new s p ≡ cond b false (has_place_at made s p) → has_place_at made s p ≡ cond b true (has_place_at old s p)
-        → IsSome (route_at adj_in s p) → has_place_at new s p ≡ true
-    room_here s p true is now was there = absurd (not_there s p is there)
-    room_here s p false is now was there = now ∙ was ∙ h.room s p there
+        now ∙ sym (ap is_some nothing)
+    place_here s p false is now was = now ∙ was ∙ h.places s p
 
     routed_here : (s : ℕ) (p : Prefix) (b : Bool) → (s == slot && is_prefix prefix p) ≡ b → offer_at new s p ≡ cond b None (offer_at made s p) → IsSome (offer_at new s p) → IsSome (route_at adj_in s p)
     routed_here s p true is now there = let never = subst (λ o. IsSome o) now there in absurd (cc)

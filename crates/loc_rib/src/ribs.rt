@@ -66,6 +66,8 @@ impl<A: Allocator + Clone, B: Book<A>> Ribs<A, B> {
         ensures routes { OnOk result ((s : ℕ) (p : ThePrefix) → route_at self.new.adj_in s p ≡ (if is_route slot prefix s p then Some attrs.value else route_at self.old.adj_in s p)) }
         ensures offers { OnOk result ((s : ℕ) (p : ThePrefix) → offer_at self.new.book s p ≡ (if is_route slot prefix s p then candidate else offer_at self.old.book s p)) }
         ensures err { OnErr result (((s : ℕ) (p : ThePrefix) → route_at self.new.adj_in s p ≡ route_at self.old.adj_in s p) × ((s : ℕ) (p : ThePrefix) → offer_at self.new.book s p ≡ offer_at self.old.book s p)) }
+        // A route that replaces another takes no memory.
+        ensures absent { OnErr result (route_at self.old.adj_in slot prefix ≡ None) }
     {
         self.book.room(slot, prefix)?;
         if self.adj_in.announce(slot, prefix, attrs).is_err() {
