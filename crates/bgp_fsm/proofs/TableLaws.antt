@@ -25,6 +25,10 @@ enters_by_message input s other enters = grind (arith, common_steps)
 pub stays_established : (input : Input) (s : Session) → transport_of (session_after input s) ≡ Connected → is_established s.state ≡ true → is_established (session_after input s).state ≡ true
 stays_established input s stands is = grind (arith, common_steps)
 
+-- while Established lasts, so does the peer's identifier
+pub keeps_identifier : (input : Input) (s : Session) → is_established s.state ≡ true → is_established (session_after input s).state ≡ true → (session_after input s).identifier ≡ s.identifier
+keeps_identifier input s was is = grind (arith, common_steps)
+
 -- the connection of an Established session stands
 pub established_stands : (s : Session) → is_established s.state ≡ true → transport_of s ≡ Connected
 established_stands s is = grind (arith, common_steps)

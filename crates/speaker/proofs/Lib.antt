@@ -4,6 +4,7 @@ pub mod Places
 pub mod Serving
 pub mod ChosenRoutes
 pub mod RouteChanges
+pub mod KeptOffers
 pub mod SentPrefixes
 pub mod Histories
 pub mod SlotStates

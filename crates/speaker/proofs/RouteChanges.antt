@@ -32,7 +32,7 @@ both_equal Greater Less = refl
 both_equal Greater Equal = refl
 both_equal Greater Greater = refl
 
-is_route-parts : (slot : ℕ) (e : Prefix) (s : ℕ) (p : Prefix) → is_route slot e s p ≡ (s == slot && is_eq (prefix_cmp e p))
+pub is_route-parts : (slot : ℕ) (e : Prefix) (s : ℕ) (p : Prefix) → is_route slot e s p ≡ (s == slot && is_eq (prefix_cmp e p))
 is_route-parts slot e s p = rw (both_equal (prefix_cmp e p) (nat_cmp slot s), is_eq-nat_cmp slot s) refl
 
 or_false : (b : Bool) → b ≡ (b || false)

@@ -2,6 +2,7 @@ pub mod Linked
 pub mod Tables
 pub mod Candidates
 pub mod LocRib
+pub mod Offers
 pub mod Export
 pub mod Queueing
 pub mod SpeakerState

@@ -1,0 +1,410 @@
+use Rattle.std.proofs.Common.{◌≡◌, ◌≢◌, ◌<◌, ◌==◌, ◌&&◌, ◌↔◌, ℕ, Bool, true, false, List, [], Option, Some, None, cond, refl, sym, ap, ◌∙◌, subst, inl, inr, arith}
+use Rattle.std.proofs.lemmas.Grind.{common_steps}
+use Rattle.std.specs.List.Sorted.{IsStrictlySortedBy}
+use Rattle.std.specs.Map.{keys_of}
+use Rattle.std.specs.Option.{IsSome, MatchOption, option_map}
+use Rattle.std.proofs.lemmas.Bool.{cases_eq, eq-eqb, eqb-true, ne_eqb}
+use Rattle.bgp_attr.specs.PathAttributes.{PathAttributes}
+use Rattle.bgp_conf.specs.Configuration.{Configuration, peer_at}
+use Rattle.bgp_fsm.proofs.TableLaws.{keeps_identifier, left_is}
+use Rattle.bgp_fsm.specs.SessionTable.{effects_of, session_after}
+use Rattle.bgp_fsm.specs.StateTests.{is_established}
+use Rattle.bgp_fsm.specs.declared.input.Input.{Input}
+use Rattle.bgp_fsm.specs.declared.session.Session.{Session}
+use Rattle.bgp_peer.specs.Slot.{Slot}
+use Rattle.decision.specs.BookContents.{IsBestOf, best_at}
+use Rattle.decision.specs.declared.candidate.Candidate.{Candidate}
+use Rattle.net_prefix.specs.PrefixOrder.{prefix_cmp}
+use Rattle.net_prefix.specs.declared.prefix.Prefix.{Prefix}
+use Rattle.rib_in.specs.LatestRoutes.{RouteTable, is_route, route_at}
+use Rattle.speaker.specs.Candidates.{IsCandidateOf, IsCandidate, MakesNone, HasNoneAt, IsOnlyCandidateAt}
+use Rattle.speaker.specs.Linked.{Linked}
+use Rattle.speaker.specs.LocRib.{HasNoCandidate, IsBest, IsLocRib}
+use Rattle.speaker.specs.Moves.{IsPut, moved}
+use Rattle.speaker.specs.Offers.{AreKept, IsOffer, KeepsUpdated, Offers, read_in}
+use Rattle.speaker.specs.Serving.{IsStill, IsToldAt}
+use Rattle.speaker.specs.SpeakerState.{SpeakerState, tables_of}
+use Rattle.speaker.specs.Tables.{Tables, link_at, session_at}
+use Rattle.speaker.proofs.CandidateLists.{candidate_made, none_routed}
+use Rattle.speaker.proofs.Places.{same_from_is_prefix}
+use Rattle.speaker.proofs.RouteChanges.{is_route-parts}
+
+-- What leaves a slot's candidate of a prefix as it is.
+
+-- of this slot and prefix the selection reads the same in both tables
+pub record IsAlike (t u : Tables) (slot : ℕ) (prefix : Prefix) : Type 0 where
+  pub own : u.conf.own ≡ t.conf.own
+  pub reach : u.conf.reach ≡ t.conf.reach
+  pub peer : peer_at u.conf slot ≡ peer_at t.conf slot
+  pub identifier : option_map (λ (s : Session). s.identifier) (u.sessions slot) ≡ option_map (λ (s : Session). s.identifier) (t.sessions slot)
+  pub route : u.routes slot prefix ≡ t.routes slot prefix
+
+alike_back : (t u : Tables) (slot : ℕ) (prefix : Prefix) → IsAlike t u slot prefix → IsAlike u t slot prefix
+alike_back t u slot prefix a = record { own = sym a.own; reach = sym a.reach; peer = sym a.peer; identifier = sym a.identifier; route = sym a.route }
+
+identifier_of : (found : Option Session) (identifier : ℕ) → option_map (λ (s : Session). s.identifier) found ≡ Some identifier
+    → (session : Session) × (found ≡ Some session) × (session.identifier ≡ identifier)
+identifier_of None identifier is = absurd (cc)
+identifier_of (Some session) identifier is = (session, refl, cc)
+
+candidate_alike : (t u : Tables) (prefix : Prefix) (c : Candidate) → IsAlike t u c.slot prefix → IsCandidate t prefix c → IsCandidate u prefix c
+candidate_alike t u prefix c a is =
+    let found = identifier_of (u.sessions c.slot) is.session.identifier (a.identifier ∙ ap (option_map (λ (s : Session). s.identifier)) is.session_is) in
+    let made = is.made in
+    record {
+      session = found.0;
+      attrs = is.attrs;
+      slot_is = is.slot_is;
+      session_is = found.1;
+      route = a.route ∙ is.route;
+      made = record {
+        peer = made.peer;
+        path = made.path;
+        next_hop = made.next_hop;
+        configured = a.peer ∙ made.configured;
+        origin_is = made.origin_is;
+        path_is = made.path_is;
+        next_hop_is = made.next_hop_is;
+        without_own_as = rw a.own made.without_own_as;
+        not_own_address = made.not_own_address;
+        resolves = rw a.reach made.resolves;
+        degree_is = made.degree_is;
+        length_is = made.length_is;
+        external_is = rw a.own made.external_is;
+        identifier_is = made.identifier_is ∙ sym found.2;
+        address_is = made.address_is;
+      };
+    }
+
+candidate_at_slot : (t u : Tables) (slot : ℕ) (prefix : Prefix) (c : Candidate) → IsAlike t u slot prefix → c.slot ≡ slot → IsCandidate t prefix c → IsCandidate u prefix c
+candidate_at_slot t u slot prefix c a at is = candidate_alike t u prefix c (subst (λ s. IsAlike t u s prefix) (sym at) a) is
+
+-- the candidate stays
+pub offer_alike : (t u : Tables) (slot : ℕ) (prefix : Prefix) (found : Option Candidate) → IsAlike t u slot prefix → IsOffer t slot prefix found → IsOffer u slot prefix found
+offer_alike t u slot prefix None a none = λ c at is. none c at (candidate_at_slot u t slot prefix c (alike_back t u slot prefix a) at is)
+offer_alike t u slot prefix (Some c) a one = record {
+  at_slot = one.at_slot;
+  is_one = candidate_at_slot t u slot prefix c a one.at_slot one.is_one;
+  alone = λ d here is. one.alone d here (candidate_at_slot u t slot prefix d (alike_back t u slot prefix a) here is);
+}
+
+none_offered : (t : Tables) (slot : ℕ) (prefix : Prefix) (found : Option Candidate) → t.routes slot prefix ≡ None → IsOffer t slot prefix found → found ≡ None
+none_offered t slot prefix None nothing is = refl
+none_offered t slot prefix (Some c) nothing one =
+    let route = subst (λ s. t.routes s prefix ≡ Some one.is_one.attrs) one.at_slot one.is_one.route in
+    absurd (cc)
+
+-- where there is no route in either table, nothing is kept
+pub offer_unrouted : (t u : Tables) (slot : ℕ) (prefix : Prefix) (found : Option Candidate) → t.routes slot prefix ≡ None → u.routes slot prefix ≡ None
+    → IsOffer t slot prefix found → IsOffer u slot prefix found
+offer_unrouted t u slot prefix found nothing still is =
+    let none = none_offered t slot prefix found nothing is in
+    subst (λ f. IsOffer u slot prefix f) (sym none) (λ c at made. let route = subst (λ s. u.routes s prefix ≡ Some made.attrs) at made.route in cc)
+
+some_once : {X : Type 0} {x y : X} → Some x ≡ Some y → x ≡ y
+some_once is = cc
+
+both_true : (a b : Bool) → (a && b) ≡ true → (a ≡ true) × (b ≡ true)
+both_true true b h = (refl, h)
+both_true false b h = absurd (cc)
+
+-- whether both name one route
+same_route : (slot : ℕ) (prefix : Prefix) (s : ℕ) (p : Prefix) → is_route slot prefix s p ≡ true → (s ≡ slot) × (p ≡ prefix)
+same_route slot prefix s p is =
+    let parts = both_true (s == slot) _ (sym (is_route-parts slot prefix s p) ∙ is) in
+    (eqb-true s slot parts.0, sym (same_from_is_prefix prefix p parts.1))
+
+-- Established that isn't left lasts
+lasting : (input : Input) (s : Session) → is_established s.state ≡ true → (effects_of input s).left ≡ false → is_established (session_after input s).state ≡ true
+lasting input s was lasts = grind (arith, common_steps)
+
+none_if : {X : Type 0} (o : Option X) → (IsSome o → ⊥) → o ≡ None
+none_if None not = refl
+none_if (Some x) not = absurd (not refl)
+
+-- the session of a slot that is there
+session_linked : (found : Option Linked) (l : Linked) → found ≡ Some l → option_map (λ (x : Linked). x.peer.session) found ≡ Some l.peer.session
+session_linked found l is = rw is refl
+
+-- what is none isn't there
+no_none : {X P : Type 0} (o : Option X) → o ≡ None → IsSome o → P
+no_none o none there = absurd (let never = subst (λ x. IsSome x) none there in cc)
+
+some_if : {X : Type 0} (o p : Option X) → o ≡ p → IsSome p → IsSome o
+some_if o p is there = rw is there
+
+-- the same tables and candidates
+pub kept_same : (t u : Tables) (f g : Offers) → t ≡ u → g ≡ f → AreKept t f → AreKept u g
+kept_same t u f g tables offers kept = subst (λ x. AreKept x g) tables (subst (λ x. AreKept t x) (sym offers) kept)
+
+-- some slots' routes go, with their candidates
+pub kept_gone : (conf : Configuration) (sessions : ℕ → Option Session) (old new : RouteTable) (had has : Offers) (gone : ℕ → Prefix → Bool)
+    → ((slot : ℕ) (prefix : Prefix) → route_at new slot prefix ≡ cond (gone slot prefix) None (route_at old slot prefix))
+    → ((slot : ℕ) (prefix : Prefix) → has slot prefix ≡ cond (gone slot prefix) None (had slot prefix))
+    → AreKept (read_in conf sessions old) had → AreKept (read_in conf sessions new) has
+kept_gone conf sessions old new had has gone routes offers kept = record {
+  made = λ slot prefix. made_here slot prefix (gone slot prefix) (routes slot prefix) (offers slot prefix);
+  routed = λ slot prefix there. kept.routed slot prefix (routed_here slot prefix (gone slot prefix) (routes slot prefix) there);
+  below = kept.below;
+}
+  where
+    made_here : (slot : ℕ) (prefix : Prefix) (b : Bool) → route_at new slot prefix ≡ cond b None (route_at old slot prefix) → has slot prefix ≡ cond b None (had slot prefix)
+        → IsOffer (read_in conf sessions new) slot prefix (has slot prefix)
+    made_here slot prefix true route offer = subst (λ f. IsOffer (read_in conf sessions new) slot prefix f) (sym offer) (none_routed (read_in conf sessions new) prefix slot route)
+    made_here slot prefix false route offer =
+        subst (λ f. IsOffer (read_in conf sessions new) slot prefix f) (sym offer)
+        (offer_alike (read_in conf sessions old) (read_in conf sessions new) slot prefix (had slot prefix) (record { own = refl; reach = refl; peer = refl; identifier = refl; route = route }) (kept.made slot prefix))
+
+    routed_here : (slot : ℕ) (prefix : Prefix) (b : Bool) → route_at new slot prefix ≡ cond b None (route_at old slot prefix) → IsSome (route_at new slot prefix) → IsSome (route_at old slot prefix)
+    routed_here slot prefix true route there = no_none (route_at new slot prefix) route there
+    routed_here slot prefix false route there = some_if (route_at old slot prefix) (route_at new slot prefix) (sym route) there
+
+-- one route comes, and makes this candidate
+pub kept_come : (conf : Configuration) (slot identifier : ℕ) (prefix : Prefix) (attrs : PathAttributes) (found : Option Candidate) (old new : RouteTable) (had has : Offers)
+    → MatchOption found (MakesNone conf slot identifier attrs) (λ c. (c.slot ≡ slot) × IsCandidateOf conf identifier attrs c)
+    → ((s : ℕ) (p : Prefix) → route_at new s p ≡ cond (is_route slot prefix s p) (Some attrs) (route_at old s p))
+    → ((s : ℕ) (p : Prefix) → has s p ≡ cond (is_route slot prefix s p) found (had s p))
+    → KeepsUpdated conf slot identifier old new had has
+kept_come conf slot identifier prefix attrs found old new had has made routes offers session established same sessions there kept = record {
+  made = λ s p. made_here s p (is_route slot prefix s p) refl (routes s p) (offers s p);
+  routed = λ s p routed. routed_here s p (is_route slot prefix s p) refl (routes s p) routed;
+  below = kept.below;
+}
+  where
+    here : (s : ℕ) (p : Prefix) → is_route slot prefix s p ≡ true → (s ≡ slot) × (p ≡ prefix)
+    here s p is = same_route slot prefix s p is
+
+    made_there : (s : ℕ) (p : Prefix) → s ≡ slot → p ≡ prefix → route_at new s p ≡ Some attrs → IsOffer (read_in conf sessions new) s p found
+    made_there s p slots prefixes route =
+        subst (λ x. IsOffer (read_in conf sessions new) x p found) (sym slots)
+        (candidate_made (read_in conf sessions new) p slot identifier session attrs found (kept.below slot session there) there (subst (λ x. route_at new x p ≡ Some attrs) slots route) (sym same) made)
+
+    made_here : (s : ℕ) (p : Prefix) (b : Bool) → is_route slot prefix s p ≡ b → route_at new s p ≡ cond b (Some attrs) (route_at old s p) → has s p ≡ cond b found (had s p)
+        → IsOffer (read_in conf sessions new) s p (has s p)
+    made_here s p true is route offer =
+        let at = here s p is in
+        subst (λ f. IsOffer (read_in conf sessions new) s p f) (sym offer) (made_there s p at.0 at.1 route)
+    made_here s p false is route offer =
+        subst (λ f. IsOffer (read_in conf sessions new) s p f) (sym offer)
+        (offer_alike (read_in conf sessions old) (read_in conf sessions new) s p (had s p) (record { own = refl; reach = refl; peer = refl; identifier = refl; route = route }) (kept.made s p))
+
+    routed_here : (s : ℕ) (p : Prefix) (b : Bool) → is_route slot prefix s p ≡ b → route_at new s p ≡ cond b (Some attrs) (route_at old s p) → IsSome (route_at new s p)
+        → (x : Session) × (sessions s ≡ Some x) × (is_established x.state ≡ true)
+    routed_here s p true is route routed = let at = here s p is in (session, ap sessions at.0 ∙ there, established)
+    routed_here s p false is route routed = kept.routed s p (some_if (route_at old s p) (route_at new s p) (sym route) routed)
+
+-- nothing has changed at any route
+pub kept_still : (conf : Configuration) (sessions : ℕ → Option Session) (old new : RouteTable) (had has : Offers) → ((s : ℕ) (p : Prefix) → route_at new s p ≡ route_at old s p)
+    → ((s : ℕ) (p : Prefix) → has s p ≡ had s p) → AreKept (read_in conf sessions old) had → AreKept (read_in conf sessions new) has
+kept_still conf sessions old new had has routes offers kept = kept_gone conf sessions old new had has (λ s p. false) routes offers kept
+
+-- a session takes an input, and its routes go where it leaves Established
+pub kept_moved : (slot : ℕ) (l : Linked) (input : Input) (old new : SpeakerState) (had has : Offers) → link_at old.links slot ≡ Some l → IsPut slot (moved l input) old new → new.conf ≡ old.conf
+    → ((s : ℕ) (p : Prefix) → route_at new.adj_in s p ≡ cond ((effects_of input l.peer.session).left && s == slot) None (route_at old.adj_in s p))
+    → ((s : ℕ) (p : Prefix) → has s p ≡ cond ((effects_of input l.peer.session).left && s == slot) None (had s p))
+    → AreKept (tables_of old) had → AreKept (tables_of new) has
+kept_moved slot l input old new had has linked put conf routes offers kept = record {
+  made = λ s p. elim (cases_eq s slot) [
+    | inl same ↦ subst (λ x. IsOffer (tables_of new) x p (has x p)) (sym same) (made_here p _ refl _ refl)
+    | inr other ↦ made_there s p other
+  ];
+  routed = λ s p there. elim (cases_eq s slot) [
+    | inl same ↦ subst (λ x. (session : Session) × (session_at new.links x ≡ Some session) × (is_established session.state ≡ true)) (sym same) (routed_here p _ refl (subst (λ x. IsSome (route_at new.adj_in x p)) same there))
+    | inr other ↦
+        let before = kept.routed s p (some_if (route_at old.adj_in s p) (route_at new.adj_in s p) (sym (route_off s p other)) there) in
+        (before.0, session_off s other ∙ before.1, before.2)
+  ];
+  below = λ s session there. elim (cases_eq s slot) [
+    | inl same ↦ subst (λ x. x < 64) (sym same) (kept.below slot l.peer.session (session_linked (link_at old.links slot) l linked))
+    | inr other ↦ kept.below s session (sym (session_off s other) ∙ there)
+  ];
+}
+  where
+    left : Bool
+    left = (effects_of input l.peer.session).left
+
+    session_on : session_at new.links slot ≡ Some (session_after input l.peer.session)
+    session_on = session_linked (link_at new.links slot) (moved l input) (put slot ∙ rw (eq-eqb slot slot refl) refl)
+
+    session_was : session_at old.links slot ≡ Some l.peer.session
+    session_was = session_linked (link_at old.links slot) l linked
+
+    session_off : (s : ℕ) → s ≢ slot → session_at new.links s ≡ session_at old.links s
+    session_off s other = let same : link_at new.links s ≡ link_at old.links s = put s ∙ rw (ne_eqb s slot other) refl in ap (option_map (λ (x : Linked). x.peer.session)) same
+
+    off_none : {X : Type 0} (b : Bool) (x y : X) → cond (b && false) x y ≡ y
+    off_none true x y = refl
+    off_none false x y = refl
+
+    on_left : {X : Type 0} (b : Bool) (x y : X) → cond (b && true) x y ≡ cond b x y
+    on_left true x y = refl
+    on_left false x y = refl
+
+    route_off : (s : ℕ) (p : Prefix) → s ≢ slot → route_at new.adj_in s p ≡ route_at old.adj_in s p
+    route_off s p other = routes s p ∙ rw (ne_eqb s slot other) (off_none (effects_of input l.peer.session).left None (route_at old.adj_in s p))
+
+    offer_off : (s : ℕ) (p : Prefix) → s ≢ slot → has s p ≡ had s p
+    offer_off s p other = offers s p ∙ rw (ne_eqb s slot other) (off_none (effects_of input l.peer.session).left None (had s p))
+
+    route_on : (p : Prefix) → route_at new.adj_in slot p ≡ cond (effects_of input l.peer.session).left None (route_at old.adj_in slot p)
+    route_on p = routes slot p ∙ rw (eq-eqb slot slot refl) (on_left (effects_of input l.peer.session).left None (route_at old.adj_in slot p))
+
+    offer_on : (p : Prefix) → has slot p ≡ cond (effects_of input l.peer.session).left None (had slot p)
+    offer_on p = offers slot p ∙ rw (eq-eqb slot slot refl) (on_left (effects_of input l.peer.session).left None (had slot p))
+
+    made_there : (s : ℕ) (p : Prefix) → s ≢ slot → IsOffer (tables_of new) s p (has s p)
+    made_there s p other =
+        subst (λ f. IsOffer (tables_of new) s p f) (sym (offer_off s p other))
+        (offer_alike (tables_of old) (tables_of new) s p (had s p)
+        (record { own = ap (λ (c : Configuration). c.own) conf; reach = ap (λ (c : Configuration). c.reach) conf; peer = ap (λ c. peer_at c s) conf; identifier = ap (option_map (λ (x : Session). x.identifier)) (session_off s other); route = route_off s p other })
+        (kept.made s p))
+
+    -- where it stays Established, so does its identifier
+    stays : (p : Prefix) → (effects_of input l.peer.session).left ≡ false → IsSome (route_at old.adj_in slot p)
+        → (is_established (session_after input l.peer.session).state ≡ true) × ((session_after input l.peer.session).identifier ≡ l.peer.session.identifier)
+    stays p lasts there =
+        let before = kept.routed slot p there in
+        let same : before.0 ≡ l.peer.session = some_once (sym before.1 ∙ session_was) in
+        let was : is_established l.peer.session.state ≡ true = sym (ap (λ (x : Session). is_established x.state) same) ∙ before.2 in
+        let is : is_established (session_after input l.peer.session).state ≡ true = lasting input l.peer.session was lasts in
+        (is, keeps_identifier input l.peer.session was is)
+
+    made_here : (p : Prefix) (b : Bool) → (effects_of input l.peer.session).left ≡ b → (found : Option PathAttributes) → route_at old.adj_in slot p ≡ found → IsOffer (tables_of new) slot p (has slot p)
+    made_here p true is found was =
+        let gone : has slot p ≡ None = offer_on p ∙ rw is refl in
+        let unrouted : route_at new.adj_in slot p ≡ None = route_on p ∙ rw is refl in
+        subst (λ f. IsOffer (tables_of new) slot p f) (sym gone) (none_routed (tables_of new) p slot unrouted)
+    made_here p false is None was =
+        let still : has slot p ≡ had slot p = offer_on p ∙ rw is refl in
+        subst (λ f. IsOffer (tables_of new) slot p f) (sym still)
+        (offer_unrouted (tables_of old) (tables_of new) slot p (had slot p) was (route_on p ∙ rw is was) (kept.made slot p))
+    made_here p false is (Some attrs) was =
+        let lasts = stays p is (rw was refl) in
+        let still : has slot p ≡ had slot p = offer_on p ∙ rw is refl in
+        subst (λ f. IsOffer (tables_of new) slot p f) (sym still)
+        (offer_alike (tables_of old) (tables_of new) slot p (had slot p)
+        (record {
+          own = ap (λ (c : Configuration). c.own) conf;
+          reach = ap (λ (c : Configuration). c.reach) conf;
+          peer = ap (λ c. peer_at c slot) conf;
+          identifier = ap (option_map (λ (x : Session). x.identifier)) session_on ∙ ap Some lasts.1 ∙ sym (ap (option_map (λ (x : Session). x.identifier)) session_was);
+          route = route_on p ∙ rw is refl;
+        })
+        (kept.made slot p))
+
+    routed_here : (p : Prefix) (b : Bool) → (effects_of input l.peer.session).left ≡ b → IsSome (route_at new.adj_in slot p) → (session : Session) × (session_at new.links slot ≡ Some session) × (is_established session.state ≡ true)
+    routed_here p true is there = no_none (route_at new.adj_in slot p) (route_on p ∙ rw is refl) there
+    routed_here p false is there =
+        let lasts = stays p is (some_if (route_at old.adj_in slot p) (route_at new.adj_in slot p) (sym (route_on p ∙ rw is refl)) there) in
+        (session_after input l.peer.session, session_on, lasts.0)
+
+-- a slot keeps its session
+pub kept_put : (slot : ℕ) (l m : Linked) (old new : SpeakerState) (had has : Offers) → link_at old.links slot ≡ Some l → m.peer.session ≡ l.peer.session → IsPut slot m old new
+    → new.conf ≡ old.conf → new.adj_in ≡ old.adj_in → has ≡ had → AreKept (tables_of old) had → AreKept (tables_of new) has
+kept_put slot l m old new had has linked session put conf adj_in book kept =
+    kept_same (tables_of old) (tables_of new) had has
+    (λ i. record {
+      conf = sym conf i;
+      sessions = λ s. sym (sessions s) i;
+      routes = λ s p. route_at (sym adj_in i) s p;
+    }) book kept
+  where
+    sessions : (s : ℕ) → session_at new.links s ≡ session_at old.links s
+    sessions s = elim (cases_eq s slot) [
+      | inl same ↦
+          subst (λ x. session_at new.links x ≡ session_at old.links x) (sym same)
+          (session_linked (link_at new.links slot) m (put slot ∙ rw (eq-eqb slot slot refl) refl) ∙ ap Some session ∙ sym (session_linked (link_at old.links slot) l linked))
+      | inr other ↦ let same : link_at new.links s ≡ link_at old.links s = put s ∙ rw (ne_eqb s slot other) refl in ap (option_map (λ (x : Linked). x.peer.session)) same
+    ]
+
+-- a peer is told something
+pub kept_told : (slot : ℕ) (p : Prefix) (export : Option (List ℕ)) (old new : SpeakerState) (had : Offers) → IsToldAt slot p export old new → AreKept (tables_of old) had → AreKept (tables_of new) had
+kept_told slot p export old new had told =
+    kept_put slot told.before told.after old new had had told.was (ap (λ (x : Slot). x.session) told.told.peer) told.puts
+    (ap (λ (s : SpeakerState). s.conf) told.rest) (ap (λ (s : SpeakerState). s.adj_in) told.rest) refl
+
+-- no slot has changed
+pub kept_still_links : (old new : SpeakerState) (had : Offers) → IsStill old new → AreKept (tables_of old) had → AreKept (tables_of (record old { links = new.links })) had
+kept_still_links old new had still kept =
+    kept_same (tables_of old) (tables_of (record old { links = new.links })) had had
+    (λ i. record {
+      conf = old.conf;
+      sessions = λ s. sym (ap (option_map (λ (l : Linked). l.peer.session)) (still.links s)) i;
+      routes = λ s p. route_at old.adj_in s p;
+    }) refl kept
+
+-- a peer is added to a slot that has no routes
+pub kept_added : (slot : ℕ) (peer : Slot) (old new : SpeakerState) (had has : Offers) → slot < 64 → IsPut slot (record { peer = peer; adj_out = [] }) old new → ((p : Prefix) → route_at old.adj_in slot p ≡ None)
+    → new.conf.own ≡ old.conf.own → new.conf.reach ≡ old.conf.reach → ((s : ℕ) → s ≢ slot → peer_at new.conf s ≡ peer_at old.conf s)
+    → new.adj_in ≡ old.adj_in → has ≡ had → AreKept (tables_of old) had → AreKept (tables_of new) has
+kept_added slot peer old new had has within put unrouted own reach peers adj_in book kept = record {
+  made = λ s p. subst (λ f. IsOffer (tables_of new) s p f) (ap (λ (o : Offers). o s p) (sym book)) (elim (cases_eq s slot) [
+    | inl same ↦
+        let was : route_at old.adj_in s p ≡ None = subst (λ x. route_at old.adj_in x p ≡ None) (sym same) (unrouted p) in
+        offer_unrouted (tables_of old) (tables_of new) s p (had s p) was (route_same s p ∙ was) (kept.made s p)
+    | inr other ↦
+        offer_alike (tables_of old) (tables_of new) s p (had s p)
+        (record { own = own; reach = reach; peer = peers s other; identifier = ap (option_map (λ (x : Session). x.identifier)) (session_off s other); route = route_same s p })
+        (kept.made s p)
+  ]);
+  routed = λ s p there.
+      let was = some_if (route_at old.adj_in s p) (route_at new.adj_in s p) (sym (route_same s p)) there in
+      elim (cases_eq s slot) [
+        | inl same ↦ no_none (route_at old.adj_in s p) (subst (λ x. route_at old.adj_in x p ≡ None) (sym same) (unrouted p)) was
+        | inr other ↦ let before = kept.routed s p was in (before.0, session_off s other ∙ before.1, before.2)
+      ];
+  below = λ s session there. elim (cases_eq s slot) [
+    | inl same ↦ subst (λ x. x < 64) (sym same) within
+    | inr other ↦ kept.below s session (sym (session_off s other) ∙ there)
+  ];
+}
+  where
+    session_off : (s : ℕ) → s ≢ slot → session_at new.links s ≡ session_at old.links s
+    session_off s other = let same : link_at new.links s ≡ link_at old.links s = put s ∙ rw (ne_eqb s slot other) refl in ap (option_map (λ (x : Linked). x.peer.session)) same
+
+    route_same : (s : ℕ) (p : Prefix) → route_at new.adj_in s p ≡ route_at old.adj_in s p
+    route_same s p = ap (λ t. route_at t s p) adj_in
+
+-- the candidates of all routes were made again
+pub kept_remade : (old new : SpeakerState) (had has : Offers) → ((slot : ℕ) (prefix : Prefix) → (session : Session) → session_at old.links slot ≡ Some session → slot < 64 → IsSome (route_at old.adj_in slot prefix) → IsOffer (tables_of new) slot prefix (has slot prefix))
+    → ((slot : ℕ) (prefix : Prefix) → route_at old.adj_in slot prefix ≡ None → has slot prefix ≡ had slot prefix)
+    → new.links ≡ old.links → new.adj_in ≡ old.adj_in → AreKept (tables_of old) had → AreKept (tables_of new) has
+kept_remade old new had has remade still links adj_in kept = record {
+  made = λ s p. made_here s p (route_at old.adj_in s p) refl;
+  routed = λ s p there. let before = kept.routed s p (some_if (route_at old.adj_in s p) (route_at new.adj_in s p) (ap (λ t. route_at t s p) (sym adj_in)) there) in (before.0, ap (λ t. session_at t s) links ∙ before.1, before.2);
+  below = λ s session there. kept.below s session (ap (λ t. session_at t s) (sym links) ∙ there);
+}
+  where
+    made_here : (s : ℕ) (p : Prefix) (found : Option PathAttributes) → route_at old.adj_in s p ≡ found → IsOffer (tables_of new) s p (has s p)
+    made_here s p None is =
+        subst (λ f. IsOffer (tables_of new) s p f) (sym (still s p is))
+        (offer_unrouted (tables_of old) (tables_of new) s p (had s p) is (ap (λ t. route_at t s p) adj_in ∙ is) (kept.made s p))
+    made_here s p (Some attrs) is =
+        let there : IsSome (route_at old.adj_in s p) = rw is refl in
+        let before = kept.routed s p there in
+        remade s p before.0 before.1 (kept.below s before.0 before.1) there
+
+-- Loc-RIB has the best of the candidates of all routes
+
+kept_none : (t : Tables) (offers : Offers) (p : Prefix) → AreKept t offers → ((s : ℕ) → offers s p ≡ None) → HasNoCandidate t p
+kept_none t offers p kept none c is =
+    let here : HasNoneAt t p c.slot = subst (λ f. IsOffer t c.slot p f) (none c.slot) (kept.made c.slot p) in here c refl is
+
+kept_candidate : (t : Tables) (offers : Offers) (p : Prefix) (c : Candidate) → AreKept t offers → IsCandidate t p c ↔ (offers c.slot p ≡ Some c)
+kept_candidate t offers p c kept = (λ is. from (offers c.slot p) refl is, λ is. let here = subst (λ f. IsOffer t c.slot p f) is (kept.made c.slot p) in here.is_one)
+  where
+    from : (found : Option Candidate) → offers c.slot p ≡ found → IsCandidate t p c → offers c.slot p ≡ Some c
+    from None at is = let here : HasNoneAt t p c.slot = subst (λ f. IsOffer t c.slot p f) at (kept.made c.slot p) in absurd (here c refl is)
+    from (Some d) at is = let here : IsOnlyCandidateAt t p c.slot d = subst (λ f. IsOffer t c.slot p f) at (kept.made c.slot p) in at ∙ ap Some (sym (here.alone c refl is))
+
+kept_best : (t : Tables) (offers : Offers) (p : Prefix) (best : Option Candidate) → AreKept t offers → IsBestOf (λ s. offers s p) best → MatchOption best (HasNoCandidate t p) (λ c. IsBest t p c)
+kept_best t offers p None kept is = kept_none t offers p kept is
+kept_best t offers p (Some c) kept is = (
+  is.0,
+  λ d. (λ has. (kept_candidate t offers p d kept).1 ((is.1 d).0 has), λ candidate. (is.1 d).1 ((kept_candidate t offers p d kept).0 candidate)),
+  is.2,
+)
+
+pub kept_loc_rib : (t : Tables) (offers : Offers) (rows : List (Prefix × Candidate)) → ((p : Prefix) → IsBestOf (λ s. offers s p) (best_at rows p)) → IsStrictlySortedBy prefix_cmp (keys_of rows)
+    → AreKept t offers → IsLocRib t rows
+kept_loc_rib t offers rows best rising kept = record { rising = rising; best = λ p. kept_best t offers p (best_at rows p) kept (best p) }
