@@ -85,9 +85,11 @@ fn the_latest_route_of_each_slot_is_kept(rt: HostRuntime) -> Result<(), Fail> {
     let mut table = table_of(&rt, rt.alloc(), &[(1, high), (0, low), (1, low)])?;
     assert!(rt; has_route(&table, 1, low) && !has_route(&table, 0, high));
     assert!(rt; has_prefixes(&table, &[low, high]));
+    assert!(rt; table.is_routed(low) && table.is_routed(high));
     table.withdraw(1, high);
-    assert!(rt; !has_route(&table, 1, high));
+    assert!(rt; !has_route(&table, 1, high) && !table.is_routed(high));
     table.drop_slot(1);
+    assert!(rt; table.is_routed(low));
     assert!(rt; has_prefixes(&table, &[low]) && !has_route(&table, 1, low));
     assert!(rt; has_routes(&table, 0, &[low]));
     table.drop_slot(0);

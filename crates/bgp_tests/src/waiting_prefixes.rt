@@ -87,6 +87,25 @@ fn what_waits_changes_until_nothing_does(rt: HostRuntime) -> Result<(), Fail> {
     Ok(())
 }
 
+#[test]
+fn a_record_goes_once_nothing_of_it_waits(rt: HostRuntime) -> Result<(), Fail> {
+    let (low, high) = (Prefix::new(0x0a00_0000, 16)?, Prefix::new(0x0a80_0000, 9)?);
+    let mut waiting = Waiting::new(rt.alloc());
+    mark(&mut waiting, 63, low, Some(Owed::Announcement))?;
+    waiting.add(high)?;
+    waiting.release(low);
+    assert!(rt; waiting.is_known(low) && knows(&waiting, &[low, high]));
+    mark(&mut waiting, 63, low, None)?;
+    assert!(rt; waiting.is_known(low));
+    waiting.release(low);
+    assert!(rt; !waiting.is_known(low) && knows(&waiting, &[high]));
+
+    // Of a prefix that isn't known nothing changes.
+    waiting.release(low);
+    assert!(rt; knows(&waiting, &[high]));
+    Ok(())
+}
+
 // Makes prefixes known, and again where a growth is refused, and marks each. Answers how often one was.
 fn fill<A: Allocator + Clone>(rt: &impl Abort, heap: A) -> Result<u32, Fail> {
     let mut waiting = Waiting::new(heap);

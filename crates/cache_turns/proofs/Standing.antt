@@ -7,7 +7,6 @@ use Rattle.rtr_cache.specs.CacheState.{CacheState, OthersStay, client_at}
 use Rattle.cache_turns.specs.Serving.{Attends, Connection, Sides}
 use Rattle.cache_turns.specs.Turns.{EachHasAClient, TellsCache, Turns, Visits, VisitsBelow, VisitsLink, link_at, link_left, settled, sides}
 use Rattle.cache_turns.specs.declared.link.Visit.{Visit}
-use Rattle.cache_turns.specs.declared.patience.Patience.{Patience}
 
 -- one more place with nothing at it changes no place
 pub same_places : {X : Type 0} → (xs : List (Option X)) (at : ℕ) → get_or (xs ++ None ∷ []) at None ≡ get_or xs at None

@@ -1,5 +1,6 @@
 pub mod Calls
 pub mod Carrying
+pub mod Holding
 pub mod Patience
 pub mod Serving
 pub mod TurnOctets

@@ -1,13 +1,15 @@
 //! The turns of a cache: routers connect, ask and are answered.
-ghost use Rattle.std.specs.Prelude.{◌≡◌, ◌≢◌, ◌<◌, ℕ, ⊤, [], Err, None, Ok, OnOk, OnErr, IfOk, IsSome, MatchOption, Some, count_by, is_some, length, slice_index_or, slice_set};
+ghost use Rattle.std.specs.Prelude.{◌≡◌, ◌≢◌, ◌<◌, ◌+◌, ℕ, ⊤, [], Err, None, Ok, OnOk, OnErr, IfOk, IsSome, MatchOption, Some, count_by, is_some, length, slice_index_or, slice_set};
 ghost use Rattle.rtr_cache.specs.CacheState.{OthersStay, client_at, tells_client};
 ghost use Rattle.rtr_cache.specs.ClientHistory.{CameUp, Loaded, Makes};
 ghost use Rattle.rtr_cache.specs.declared.refusal.CacheRefusal.{CacheRefusal};
+ghost use Rattle.cache_turns.specs.Holding.{held, holding_of};
 ghost use Rattle.cache_turns.specs.Patience.{arriving_at};
 ghost use Rattle.cache_turns.specs.TurnOctets.{turn_octets};
 ghost use Rattle.cache_turns.specs.Turns.{Admits, GoesDown, IsTold, TakesTurn, TellsCache, Visits, VisitsAll, closing_it, idle, link_at, link_left, losing, settled};
 
 use crate::fault::LoopFault;
+use crate::holding::{Holding, holding_of};
 use crate::link::{Link, Visit};
 use crate::patience::Patience;
 use crate::wire::{Accepted, Parting, Wire};
@@ -101,6 +103,14 @@ impl<W: Wire + Drop, A: Allocator + Clone> CacheLoop<W, A> {
         ensures { result ≡ count_by is_some self.now.links }
     {
         self.links.iter().filter(|link| link.is_some()).count()
+    }
+
+    /// How many routers hold this serial, another one, and none.
+    pub fn holding(&self, serial: u32) -> Holding
+        ensures counts { result ≡ holding_of serial (held self.now) }
+        ensures all { result.current + (result.behind + result.without) ≡ count_by is_some self.now.links }
+    {
+        holding_of(&self.cache, self.links.as_slice(), serial)
     }
 
     /// How many clients were lost: for each the cache was told that the connection is gone. It stays at the greatest

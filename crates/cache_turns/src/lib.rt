@@ -14,6 +14,7 @@
 
 mod cache_loop;
 mod fault;
+mod holding;
 mod laws;
 mod link;
 mod log;
@@ -23,6 +24,7 @@ mod wire;
 
 pub use cache_loop::{CacheLoop, TURN_OCTETS};
 pub use fault::LoopFault;
+pub use holding::Holding;
 pub use laws::{
     connections_carry_whole_versions, no_more_are_lost_than_are_counted,
     turns_are_calls_of_the_cache, turns_publish_nothing,

@@ -3,12 +3,15 @@ use crate::first_path::{CONFIG, Call, REACHABLE, UP_TO_ROUTE, calls};
 use net_prefix::Prefix;
 use refusing::Refusing;
 use speaker::{BestRoute, Event, Refusal, Report, Speaker, State};
-use std::alloc::{AllocError, Allocator, Global};
+use std::alloc::{AllocError, Global};
 use std::process::Abort;
 use std::test::Fail;
 
 // An event of a slot that there is not.
 const NO_SLOT: Call<'static> = Call::Step(Event::Up(64));
+
+// A speaker over a heap that refuses a growth.
+type OverRefusing<'heap> = Speaker<&'heap Refusing<Global>>;
 
 // What a call answers.
 #[derive(Clone, Copy, Debug, PartialEq, Eq)]
@@ -33,7 +36,7 @@ enum Ending {
     Stopped,
 }
 
-fn answer_to<A: Allocator + Clone>(speaker: &mut Speaker<A>, call: Call<'_>) -> Answer {
+fn answer_to(speaker: &mut OverRefusing<'_>, call: Call<'_>) -> Answer {
     match call {
         Call::Step(event) => match speaker.step(event) {
             Ok(Report::NOTHING) => Answer::AsWithMemory,
@@ -63,7 +66,7 @@ struct Shown {
     held: Option<Prefix>,
 }
 
-fn look_at<A: Allocator + Clone>(alloc: Global, speaker: &Speaker<A>) -> Result<Shown, AllocError> {
+fn look_at(alloc: Global, speaker: &OverRefusing<'_>) -> Result<Shown, AllocError> {
     Ok(Shown {
         sessions: [speaker.session(0), speaker.session(1)],
         announced: speaker.adj_in(0).next().map(|(prefix, _)| prefix),
@@ -74,9 +77,9 @@ fn look_at<A: Allocator + Clone>(alloc: Global, speaker: &Speaker<A>) -> Result<
 
 // Whether a stopped speaker answers 44 to the call, and to an event of a slot that there is not, and shows what it
 // showed before.
-fn is_still<A: Allocator + Clone>(
+fn is_still(
     alloc: Global,
-    speaker: &mut Speaker<A>,
+    speaker: &mut OverRefusing<'_>,
     call: Call<'_>,
     before: &Shown,
 ) -> Result<bool, AllocError> {
@@ -87,10 +90,10 @@ fn is_still<A: Allocator + Clone>(
 }
 
 // Want of memory has stopped the speaker: whatever is called answers 44 and changes nothing.
-fn stays_stopped<A: Allocator + Clone>(
+fn stays_stopped(
     rt: &impl Abort,
     alloc: Global,
-    mut speaker: Speaker<A>,
+    mut speaker: OverRefusing<'_>,
     calls: &[Call<'_>],
 ) -> Result<(), Fail> {
     let before = look_at(alloc, &speaker)?;
@@ -101,10 +104,10 @@ fn stays_stopped<A: Allocator + Clone>(
 }
 
 // The first of the calls has answered 44; this is what the speaker showed before it.
-fn refused<A: Allocator + Clone>(
+fn refused(
     rt: &impl Abort,
     alloc: Global,
-    mut speaker: Speaker<A>,
+    mut speaker: OverRefusing<'_>,
     calls: &[Call<'_>],
     before: &Shown,
 ) -> Result<Ending, Fail> {
@@ -137,13 +140,13 @@ fn when_refused(call: Call<'_>) -> Answer {
 }
 
 // Plays the calls on a speaker over the heap.
-fn play<B: Allocator>(
+fn play(
     rt: &impl Abort,
     alloc: Global,
-    heap: &Refusing<B>,
+    heap: &Refusing<Global>,
     calls: &[Call<'_>],
 ) -> Result<Ending, Fail> {
-    let mut speaker = match Speaker::new(heap, CONFIG) {
+    let mut speaker: OverRefusing<'_> = match Speaker::new(heap, CONFIG) {
         Ok(speaker) => speaker,
         Err(why) => {
             assert_eq!(rt; why, Refusal::NoMemory);

@@ -26,12 +26,16 @@ unrouted None never = refl
 unrouted (Some c) never = absurd (never refl)
 
 -- without routes the slot has no candidates
-pub offers_dropped : (slot : ℕ) (adj_in : RouteTable) (old now : BookState) → AreRoomy adj_in now → KeepsOthers slot old now → ((p : Prefix) → route_at adj_in slot p ≡ None)
-    → (s : ℕ) (p : Prefix) → offer_at now s p ≡ cond (s == slot) None (offer_at old s p)
-offers_dropped slot adj_in old now roomy kept none s p =
+pub offers_gone : (slot : ℕ) (adj_in : RouteTable) (old now : BookState) → ((s : ℕ) (p : Prefix) → IsSome (offer_at now s p) → IsSome (route_at adj_in s p)) → KeepsOthers slot old now
+    → ((p : Prefix) → route_at adj_in slot p ≡ None) → (s : ℕ) (p : Prefix) → offer_at now s p ≡ cond (s == slot) None (offer_at old s p)
+offers_gone slot adj_in old now routed kept none s p =
     elim (cases_eq s slot) [
       | inl same ↦
-          let nothing : offer_at now slot p ≡ None = unrouted (offer_at now slot p) (λ there. let routed = subst (λ o. IsSome o) (none p) (roomy.routed slot p there) in absurd (cc)) in
+          let nothing : offer_at now slot p ≡ None = unrouted (offer_at now slot p) (λ there. let some = subst (λ o. IsSome o) (none p) (routed slot p there) in absurd (cc)) in
           ap (λ x. offer_at now x p) same ∙ nothing ∙ sym (ap (λ b. cond b None (offer_at old s p)) (eq-eqb s slot same))
       | inr other ↦ kept s p other ∙ sym (ap (λ b. cond b None (offer_at old s p)) (ne_eqb s slot other))
     ]
+
+pub offers_dropped : (slot : ℕ) (adj_in : RouteTable) (old now : BookState) → AreRoomy adj_in now → KeepsOthers slot old now → ((p : Prefix) → route_at adj_in slot p ≡ None)
+    → (s : ℕ) (p : Prefix) → offer_at now s p ≡ cond (s == slot) None (offer_at old s p)
+offers_dropped slot adj_in old now roomy kept none = offers_gone slot adj_in old now roomy.routed kept none

@@ -1,12 +1,13 @@
 //! Adj-RIB-In and Loc-RIB (RFC 4271 section 3.2): the peers' latest routes, the candidates that they make, and the best
 //! route of each prefix.
-ghost use Rattle.std.specs.Prelude.{◌≡◌, ◌==◌, ℕ, All, IfOk, OnOk, OnErr, None, Some, if◌then◌else◌};
+ghost use Rattle.std.specs.Prelude.{◌≡◌, ◌==◌, ℕ, false, All, IfOk, OnOk, OnErr, None, Some, if◌then◌else◌};
 ghost use Rattle.std.specs.List.Sorted.{IsStrictlySortedBy};
 ghost use Rattle.std.specs.Map.{keys_of};
-ghost use Rattle.std.specs.Option.{IfSome, IsSome};
+ghost use Rattle.std.specs.Option.{IfNone, IfSome, IsSome};
+ghost use Rattle.std.specs.Ordering.{is_gt};
 ghost use Rattle.decision.specs.BookContents.{AreApart, IsBestOf, best_at, changed, is_prefix, offer_at, rows_of};
 ghost use Rattle.decision.specs.declared.candidate.Candidate.{Candidate as TheCandidate};
-ghost use Rattle.net_prefix.specs.PrefixOrder.{prefix_cmp};
+ghost use Rattle.net_prefix.specs.PrefixOrder.{IsAbove, prefix_cmp};
 ghost use Rattle.net_prefix.specs.declared.prefix.Prefix.{Prefix as ThePrefix};
 ghost use Rattle.rib_in.specs.LatestRoutes.{is_route, route_at};
 ghost use Rattle.loc_rib.specs.RibTables.{started};
@@ -66,6 +67,7 @@ impl<A: Allocator + Clone, B: Book<A>> Ribs<A, B> {
         ensures routes { OnOk result ((s : ℕ) (p : ThePrefix) → route_at self.new.adj_in s p ≡ (if is_route slot prefix s p then Some attrs.value else route_at self.old.adj_in s p)) }
         ensures offers { OnOk result ((s : ℕ) (p : ThePrefix) → offer_at self.new.book s p ≡ (if is_route slot prefix s p then candidate else offer_at self.old.book s p)) }
         ensures err { OnErr result (((s : ℕ) (p : ThePrefix) → route_at self.new.adj_in s p ≡ route_at self.old.adj_in s p) × ((s : ℕ) (p : ThePrefix) → offer_at self.new.book s p ≡ offer_at self.old.book s p)) }
+        ensures others { (p : ThePrefix) → is_prefix prefix p ≡ false → best_at (rows_of self.new.book) p ≡ best_at (rows_of self.old.book) p }
         // A route that replaces another takes no memory.
         ensures absent { OnErr result (route_at self.old.adj_in slot prefix ≡ None) }
     {
@@ -83,6 +85,7 @@ impl<A: Allocator + Clone, B: Book<A>> Ribs<A, B> {
     pub fn withdraw(&mut self, slot: u8, prefix: Prefix)
         ensures routes { (s : ℕ) (p : ThePrefix) → route_at self.new.adj_in s p ≡ (if is_route slot prefix s p then None else route_at self.old.adj_in s p) }
         ensures offers { (s : ℕ) (p : ThePrefix) → offer_at self.new.book s p ≡ (if is_route slot prefix s p then None else offer_at self.old.book s p) }
+        ensures others { (p : ThePrefix) → is_prefix prefix p ≡ false → best_at (rows_of self.new.book) p ≡ best_at (rows_of self.old.book) p }
     {
         self.adj_in.withdraw(slot, prefix);
         self.book.leave(&mut self.meter, slot, prefix);
@@ -107,13 +110,15 @@ impl<A: Allocator + Clone, B: Book<A>> Ribs<A, B> {
         requires apart { AreApart (λ s. changed changes.now s (offer_at self.old.book s prefix)) }
         ensures routes { self.new.adj_in ≡ self.old.adj_in }
         ensures offers { (s : ℕ) (p : ThePrefix) → offer_at self.new.book s p ≡ (if is_prefix prefix p then changed changes.now s (offer_at self.old.book s p) else offer_at self.old.book s p) }
+        ensures others { (p : ThePrefix) → is_prefix prefix p ≡ false → best_at (rows_of self.new.book) p ≡ best_at (rows_of self.old.book) p }
     {
         self.book.change(&mut self.meter, prefix, changes);
     }
 
-    /// The latest route of each slot and prefix.
+    /// The latest route of each slot and prefix. A candidate is always one of a route.
     pub fn routes(&self) -> &AdjIn<A>
-        ensures { result.now ≡ self.now.adj_in }
+        ensures all { result.now ≡ self.now.adj_in }
+        ensures routed { (s : ℕ) (p : ThePrefix) → IsSome (offer_at self.now.book s p) → IsSome (route_at self.now.adj_in s p) }
     {
         &self.adj_in
     }
@@ -133,10 +138,27 @@ impl<A: Allocator + Clone, B: Book<A>> Ribs<A, B> {
         let _ = self.book.best(Prefix { bits: 0, len: 0 });
     }
 
+    /// The least prefix above the given one that has a best route, or the least of all.
+    pub fn prefix_after(&self, after: Option<Prefix>) -> Option<Prefix>
+        ensures has { IfSome result (λ p. IsSome (best_at (rows_of self.now.book) p)) }
+        ensures routed { IfSome result (λ p. (s : ℕ) × IsSome (route_at self.now.adj_in s p)) }
+        ensures above { IfSome result (λ p. IsAbove after p) }
+        ensures least { IfSome result (λ p. (q : ThePrefix) → IsAbove after q → IsSome (best_at (rows_of self.now.book) q) → is_gt (prefix_cmp p q) ≡ false) }
+        ensures none { IfNone result ((q : ThePrefix) → IsAbove after q → best_at (rows_of self.now.book) q ≡ None) }
+    {
+        self.is_chosen();
+        match self.book.row_after(after) {
+            Some((prefix, _)) => Some(prefix),
+            None => None,
+        }
+    }
+
     /// Loc-RIB, row by row in rising order.
     pub fn rows(&self) -> Rows<'_, A, B>
-        ensures { result ≡ rows_of self.now.book }
+        ensures all { result ≡ rows_of self.now.book }
+        ensures rising { IsStrictlySortedBy prefix_cmp (keys_of result) }
     {
+        self.is_chosen();
         Rows::of(self)
     }
 }

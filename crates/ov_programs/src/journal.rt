@@ -24,12 +24,16 @@ pub enum LogLine {
     /// A router came or went.
     #[error("{0}")]
     Router(RouterEvent),
-    /// What is served, to how many routers, and how many octets came and went since the start.
-    #[error("status: serial {serial}, payloads {payloads}, routers {routers}, octets {octets_in} in, {octets_out} out")]
+    /// What is served, to how many routers, how many of them hold it, another list, and none, and how many octets came
+    /// and went since the start.
+    #[error("status: serial {serial}, payloads {payloads}, routers {routers} ({current} current, {behind} behind, {without} without), octets {octets_in} in, {octets_out} out")]
     Status {
         serial: u32,
         payloads: usize,
         routers: usize,
+        current: usize,
+        behind: usize,
+        without: usize,
         octets_in: u64,
         octets_out: u64,
     },

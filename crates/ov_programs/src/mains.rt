@@ -147,7 +147,7 @@ where
     }
 }
 
-// Writes what is served to the log.
+// Writes what is served, and what routers hold, to the log.
 fn tell_status<R: Clock, W: Wire + Drop, O: Write>(
     rt: &R,
     is_on: bool,
@@ -156,11 +156,17 @@ fn tell_status<R: Clock, W: Wire + Drop, O: Write>(
 )
     ensures { is_on ≡ false → output.new ≡ output.old }
 {
-    let wire = served.turns().wire();
+    let turns = served.turns();
+    let wire = turns.wire();
+    let serial = served.serial();
+    let holding = turns.holding(serial);
     let line = LogLine::Status {
-        serial: served.serial(),
+        serial,
         payloads: served.payloads(),
-        routers: served.turns().connections(),
+        routers: turns.connections(),
+        current: holding.current,
+        behind: holding.behind,
+        without: holding.without,
         octets_in: wire.octets_in(),
         octets_out: wire.octets_out(),
     };

@@ -152,6 +152,19 @@ fn a_stream_has_its_pdus_however_it_is_cut(rt: HostRuntime) {
 }
 
 #[test]
+fn a_receiver_goes_on_behind_a_pdu_that_was_read_whole(rt: HostRuntime) {
+    let mut receiver = Receiver::new(End::Client);
+    receiver.pass_whole(&Pdu::CacheResponse { session: 7 });
+    let place = Place {
+        end: End::Client,
+        is_first: false,
+        has_response: true,
+    };
+    assert_eq!(rt; receiver.place(), place);
+    assert!(rt; receiver.octets().is_empty());
+}
+
+#[test]
 fn a_fault_is_shown_with_its_octets(rt: HostRuntime) {
     let mut receiver = Receiver::new(End::Cache);
     let taken = receiver.push(&[1, 5, 0, 0, 0, 0, 0, 12, 1, 2, 3, 4]);

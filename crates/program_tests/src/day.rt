@@ -46,7 +46,7 @@ const LOG: [&str; 2] = [
 2026-01-01T00:00:40Z list refused: row 0: the first row is not the header of a payload list
 2026-01-01T00:00:50Z list loaded: serial 3, payloads 2
 2026-01-01T00:01:00Z list refused: the file can't be opened
-2026-01-01T00:01:00Z status: serial 3, payloads 2, routers 1, octets 8 in, 64 out
+2026-01-01T00:01:00Z status: serial 3, payloads 2, routers 1 (0 current, 1 behind, 0 without), octets 8 in, 64 out
 2026-01-01T00:01:10Z list refused: the file can't be opened
 ",
 ];

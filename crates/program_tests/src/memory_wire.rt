@@ -3,6 +3,7 @@ ghost use Rattle.std.specs.Prelude.{◌≡◌, ◌≤◌, if◌then◌else◌, l
 ghost use Rattle.cache_turns.specs.Calls.{call_of};
 ghost use Rattle.cache_turns.specs.Wires.{FitsIn, FitsInSent, calling, failing, told_by_read, told_by_write};
 
+use cache_turns::Holding;
 use net_prefix::{Asn, Prefix, Vrp};
 use ov_programs::{Accepted, CacheLoop, Log, LoopFault, Note, Parting, Received, Sent, Wire};
 use rtr_cache::{Cache, CacheEvent};
@@ -318,6 +319,8 @@ struct Served {
     fault: Option<LoopFault>,
     lost: u64,
     closed: u64,
+    // By serial 1, and by serial 2.
+    holding: [Holding; 2],
 }
 
 // Serves the routers beside so many clients that say nothing.
@@ -345,6 +348,7 @@ fn serve(rt: &impl AllocGlobal, silent: u64, fails_at: u64) -> Result<Served, Fa
         fault,
         lost: turns.lost(),
         closed: turns.closed(),
+        holding: [turns.holding(1), turns.holding(2)],
     })
 }
 
@@ -355,6 +359,14 @@ fn others_are_served(rt: &impl Abort, routers: &[Router], failed: Option<usize>)
             assert!(rt; router.has_its_answer(), "{place} of {routers:?}");
             assert_eq!(rt; router.is_closed, router.kind != Kind::Staying);
         }
+    }
+}
+
+fn holding(current: usize, behind: usize) -> Holding {
+    Holding {
+        current,
+        behind,
+        without: 0,
     }
 }
 
@@ -374,6 +386,8 @@ fn a_failing_call_costs_one_client(rt: HostRuntime) -> Result<(), Fail> {
             None => {
                 others_are_served(&rt, &served.routers, None);
                 assert_eq!(rt; (served.lost, served.told, served.closed), (2, 1, 1));
+                // One has stayed, with the list of serial 1.
+                assert_eq!(rt; served.holding, [holding(1, 0), holding(0, 1)]);
                 assert!(rt; fails_at > 50, "{fails_at}");
                 return Ok(());
             }
@@ -394,5 +408,7 @@ fn a_refused_client_is_closed_and_the_others_are_served(rt: HostRuntime) -> Resu
     };
     assert_eq!(rt; served.routers[2], refused);
     assert_eq!(rt; (served.lost, served.told, served.closed), (2, 1, 1));
+    // None has a connection.
+    assert_eq!(rt; served.holding, [holding(0, 0), holding(0, 0)]);
     Ok(())
 }

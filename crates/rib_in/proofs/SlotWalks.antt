@@ -1,8 +1,9 @@
 -- The least prefix to which a slot has a route, and walks over prefixes.
-use Rattle.std.proofs.Common.{◌≡◌, ℕ, ◌-◌, ◌+◌, ◌^◌, ◌<◌, ◌==◌, ◌≢◌, ◌&&◌, Bool, true, false, not, cond, [], ◌∷◌, Option, None, Some, IfSome, IfNone, IsSome, bit_and, length, refl, sym, ap, ◌∙◌, arith}
+use Rattle.std.proofs.Common.{◌≡◌, ℕ, ◌-◌, ◌+◌, ◌^◌, ◌<◌, ◌==◌, ◌≢◌, ◌&&◌, Bool, true, false, not, cond, [], ◌∷◌, Option, None, Some, IfSome, IfNone, IsSome, MatchBool, bit_and, length, refl, sym, ap, subst, ◌∙◌, arith}
 use Rattle.std.proofs.lemmas.Bool.{eq-eqb, eqb-true}
 use Rattle.std.specs.List.{filter}
-use Rattle.std.specs.Option.{is_some}
+use Rattle.std.specs.Borrow.{Bor}
+use Rattle.std.specs.Option.{is_some, option_copied}
 use Rattle.std.specs.Ordering.{nat_cmp, is_eq, is_gt, is_lt, ordering_then}
 use Rattle.std.specs.declared.cmp.Ordering.{Ordering}
 use Rattle.std.specs.declared.cmp.Ordering.TheVariants.{Less, Equal, Greater}
@@ -22,6 +23,21 @@ use Rattle.rib_in.proofs.Walks.{above_from, above_to, after_by, filter_twice, fi
 some_route : (routes : RouteList) → 0 < length routes → (s : ℕ) × IsSome (route_in routes s)
 some_route [] h = absurd (omega arith)
 some_route (e ∷ es) h = (e.0, rw (here e.0) refl)
+
+routed_by : (table : RouteTable) (p : Prefix) (o : Option RouteList) → found table p ≡ o → HasNoEmptyList table → MatchBool (is_some o) (HasRoute table p) ((s : ℕ) → route_at table s p ≡ None)
+routed_by table p None is full = λ s. ap (λ o. route_among o s) is
+routed_by table p (Some routes) is full = let s = some_route routes (no_empty_found p routes table full is) in (s.0, rw is s.1)
+
+some_copied : {V : Type 0} (r : Option (Bor V)) → is_some r ≡ is_some (option_copied r)
+some_copied None = refl
+some_copied (Some v) = refl
+
+-- where the routes to a prefix are found, some slot has one
+pub routed : (table : RouteTable) (p : Prefix) (r : Option (Bor RouteList)) (b : Bool) → HasNoEmptyList table → option_copied r ≡ found table p → b ≡ is_some r
+    → MatchBool b (HasRoute table p) ((s : ℕ) → route_at table s p ≡ None)
+routed table p r b full copied is =
+    let tells : is_some (found table p) ≡ b = sym (is ∙ some_copied r ∙ ap is_some copied) in
+    subst (λ t. MatchBool t (HasRoute table p) ((s : ℕ) → route_at table s p ≡ None)) tells (routed_by table p (found table p) refl full)
 
 there_from : (o : Option RouteList) (slot : ℕ) → IsSome (route_among o slot) → (routes : RouteList) × (o ≡ Some routes) × IsSome (route_in routes slot)
 there_from None slot h = absurd cc

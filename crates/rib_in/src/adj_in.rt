@@ -1,5 +1,5 @@
 //! The routes by prefix and slot.
-ghost use Rattle.std.specs.Prelude.{◌≡◌, [], ◌<◌, ℕ, None, Some, OnOk, OnErr, IfOk, IfSome, IfNone, IsSome, ◌==◌, false, if◌then◌else◌};
+ghost use Rattle.std.specs.Prelude.{◌≡◌, [], ◌<◌, ℕ, None, Some, OnOk, OnErr, IfOk, IfSome, IfNone, IsSome, MatchBool, ◌==◌, false, if◌then◌else◌};
 ghost use Rattle.std.specs.List.Sorted.{IsStrictlySortedBy};
 ghost use Rattle.std.specs.Map.{keys_of, lookup};
 ghost use Rattle.std.specs.Option.{option_copied, option_map, is_some};
@@ -58,6 +58,13 @@ impl<A: Allocator + Clone> AdjIn<A> {
             Some(routes) => routes.get(slot),
             None => None,
         }
+    }
+
+    /// Whether some slot has a route to the prefix.
+    pub fn is_routed(&self, prefix: Prefix) -> bool
+        ensures { MatchBool result (HasRoute self.now prefix) ((s : ℕ) → route_at self.now s prefix ≡ None) }
+    {
+        self.routes.get(&prefix).is_some()
     }
 
     /// The slot announced a route to the prefix, which replaces the one before it (RFC 4271 section 3.1).

@@ -1,7 +1,9 @@
 -- What waits of a prefix, by its marks.
-use Rattle.std.proofs.Common.{◌≡◌, ◌↔◌, ℕ, ◌^◌, ◌==◌, ◌&&◌, ◌||◌, Bool, true, false, cond, not, IsTrue, None, Some, is_some, bit_and, refl, ap, arith}
-use Rattle.std.proofs.lemmas.Nat.Bits.{bit_at_and, bit_at-zero, same_from_bits}
+use Rattle.std.proofs.Common.{◌≡◌, ◌↔◌, ℕ, zero, suc, ◌^◌, ◌<◌, ◌==◌, ◌&&◌, ◌||◌, Bool, true, false, cond, not, IsTrue, None, Some, is_some, bit_and, refl, sym, ap, ◌∙◌, arith}
+use Rattle.std.proofs.lemmas.Bool.{eq-eqb, eqb-true}
+use Rattle.std.proofs.lemmas.Nat.Bits.{bit_at_and, bit_at-lt, bit_at-zero, same_from_bits}
 use Rattle.prefix_trie.proofs.MarkBits.{meets_bit}
+use Rattle.std.specs.Int.{bit_at}
 use Rattle.rib_out.specs.Slots.{has_slot, share_slot}
 use Rattle.rib_out.specs.Waiting.{marks_meet, owed_by}
 use Rattle.rib_out.specs.declared.marks.Owed.TheVariants.{Withdrawal, Announcement}
@@ -47,6 +49,43 @@ pub meets_either : (waits : Waits) (slot : ℕ) → marks_meet waits.marks (reco
 meets_either waits slot =
     rw (meets_bit waits.marks.withdrawals slot, meets_bit waits.marks.announcements slot)
     (any_case (has_slot waits.marks.withdrawals slot) (has_slot waits.marks.announcements slot))
+
+no_bit : (x : ℕ) → x < 2 → (x == 1) ≡ false → x ≡ 0
+no_bit zero small h = refl
+no_bit (suc zero) small h = absurd cc
+no_bit (suc (suc x)) small h = absurd (omega arith)
+
+-- a set without slots is 0
+no_slots : (slots : ℕ) → ((s : ℕ) → has_slot slots s ≡ false) → slots ≡ 0
+no_slots slots none = same_from_bits slots 0 (λ s. no_bit (bit_at slots s) (bit_at-lt slots s) (none s) ∙ sym (bit_at-zero s))
+
+no_slot : (slots s : ℕ) → slots ≡ 0 → has_slot slots s ≡ false
+no_slot slots s is = ap (λ n. has_slot n s) is ∙ ap (λ n. n == 1) (bit_at-zero s)
+
+neither_case : (x y : Bool) → cond x (Some Withdrawal) (cond y (Some Announcement) None) ≡ None → (x ≡ false) × (y ≡ false)
+neither_case true y h = absurd cc
+neither_case false true h = absurd cc
+neither_case false false h = (refl, refl)
+
+-- nothing waits for any slot just where no mark is set
+module _ (waits : Waits) where
+  abbrev OwesNone : Type 0
+  OwesNone = (s : ℕ) → owed_by waits s ≡ None
+
+  neither : OwesNone → (s : ℕ) → (has_slot waits.marks.withdrawals s ≡ false) × (has_slot waits.marks.announcements s ≡ false)
+  neither none s = neither_case (has_slot waits.marks.withdrawals s) (has_slot waits.marks.announcements s) (none s)
+
+  pub idle_marks : waits.marks.withdrawals ≡ 0 → IsTrue (waits.marks.announcements == 0) ↔ OwesNone
+  idle_marks is = (
+    λ h s. rw (no_slot waits.marks.withdrawals s is, no_slot waits.marks.announcements s (eqb-true waits.marks.announcements 0 h)) refl,
+    λ none. eq-eqb waits.marks.announcements 0 (no_slots waits.marks.announcements (λ s. (neither none s).1)),
+  )
+
+  pub needed_marks : (waits.marks.withdrawals ≡ 0 → ⊥) → IsTrue (waits.marks.withdrawals == 0) ↔ OwesNone
+  needed_marks some = (
+    λ h. absurd (some (eqb-true waits.marks.withdrawals 0 h)),
+    λ none. absurd (some (no_slots waits.marks.withdrawals (λ s. (neither none s).0))),
+  )
 
 module _ (old other : ℕ) (slot : ℕ) where
   -- one slot is in neither of two sets, which share none

@@ -1,11 +1,10 @@
 -- What waits of a prefix behind a change of the records.
-use Rattle.std.proofs.Common.{◌≡◌, ℕ, ◌+◌, ◌==◌, ◌&&◌, Bool, true, false, cond, List, Option, None, Some, is_some, refl, sym, ap, subst, ◌∙◌, arith}
+use Rattle.std.proofs.Common.{◌≡◌, ◌↔◌, ℕ, ◌+◌, ◌==◌, ◌&&◌, Bool, true, false, cond, IsTrue, List, Option, None, Some, is_some, refl, sym, ap, subst, ◌∙◌, arith}
 use Rattle.std.proofs.lemmas.Bool.Decides.{nat_tests}
 use Rattle.std.proofs.lemmas.Map.Entries.{sum_by-insert_entry}
 use Rattle.std.specs.List.{sum_by}
 use Rattle.std.specs.Map.{values_of}
-use Rattle.std.specs.Borrow.{Bor}
-use Rattle.std.specs.Option.{option_and_then, option_copied, option_map, unwrap_or}
+use Rattle.std.specs.Option.{option_and_then, option_map, unwrap_or}
 use Rattle.net_prefix.specs.declared.prefix.Prefix.{Prefix}
 use Rattle.net_prefix.proofs.PayloadSets.{prefix_cmp_total}
 use Rattle.prefix_trie.specs.TrieMap.{IsRising, Updates, found, with_entry, without}
@@ -89,9 +88,9 @@ count_owed-set slot old new p h rising some =
     let new_is : count_owed new slot ≡ sum_by weight (values_of (with_entry old p h.after)) = ap (λ (es : List (Prefix × Waits)). count_owed es slot) h.entries in
     omega (arith, new_is, sums, none, was)
 
-pub none_found : {V : Type 0} (r : Option (Bor V)) (o : Option V) → is_some r ≡ false → option_copied r ≡ o → o ≡ None
-none_found None o h e = sym e
-none_found (Some x) o h e = absurd cc
+pub no_value : {X : Type 0} (o : Option X) → is_some o ≡ false → o ≡ None
+no_value None h = refl
+no_value (Some x) h = absurd cc
 
 same_case : (b : Bool) (mine other : Option Owed) → mine ≡ None → (b ≡ true → other ≡ None) → cond b mine other ≡ other
 same_case true mine other h k = h ∙ sym (k refl)
@@ -113,3 +112,11 @@ module _ (old : List (Prefix × Waits)) (p : Prefix) (waits : Waits) where
   pub is_known-added : (ok : Bool) (new : List (Prefix × Waits)) → new ≡ cond ok (with_entry old p waits) old → (q : Prefix) → is_known new q ≡ cond (ok && is_prefix p q) true (is_known old q)
   is_known-added true new is q = ap (λ (es : List (Prefix × Waits)). is_known es q) is ∙ is_known-with_entry old p q waits
   is_known-added false new is q = ap (λ (es : List (Prefix × Waits)). is_known es q) is
+
+-- ---- a record of which nothing waits
+pub idle_by : (es : List (Prefix × Waits)) (p : Prefix) (w : Waits) (b : Bool) → found es p ≡ Some w → IsTrue b ↔ ((s : ℕ) → owed_by w s ≡ None)
+    → IsTrue b ↔ (is_known es p ≡ true) × ((s : ℕ) → owed_at es s p ≡ None)
+idle_by es p w b there tells = (
+  λ is. (ap is_some there, λ s. ap (option_and_then (λ x. owed_by x s)) there ∙ tells.0 is s),
+  λ idle. tells.1 (λ s. sym (ap (option_and_then (λ x. owed_by x s)) there) ∙ idle.1 s),
+)

@@ -13,7 +13,7 @@ use Rattle.rib_out.specs.Waiting.{IsOfSlot, IsSet, count_owed, is_known, marks_m
 use Rattle.rib_out.specs.declared.marks.Marks.{Marks}
 use Rattle.rib_out.specs.declared.marks.Owed.{Owed}
 use Rattle.rib_out.specs.declared.waits.Waits.{Waits}
-use Rattle.rib_out.proofs.Records.{count_owed-set, is_known-set, known_value, owed_at-set}
+use Rattle.rib_out.proofs.Records.{count_owed-set, is_known-set, known_value, no_value, owed_at-set}
 
 -- the first of the marked prefixes above one, or of all
 abbrev first_marked : Marks → Option Prefix → List (Prefix × Waits) → Option Prefix
@@ -69,10 +69,6 @@ module _ (es : List (Prefix × Waits)) (after : Option Prefix) where
   pub known_none : (r : Option Prefix) → r ≡ first_key (all_after after es) → IfNone r ((q : Prefix) → IsAbove after q → is_known es q ≡ false)
   known_none None is = λ q above. ap is_some (none_after after es is q above)
   known_none (Some p) is = tt
-
-no_value : {X : Type 0} (o : Option X) → is_some o ≡ false → o ≡ None
-no_value None h = refl
-no_value (Some x) h = absurd cc
 
 none_owed : (slot : ℕ) (o : Option Waits) → ((w : Waits) → o ≡ Some w → is_some (owed_by w slot) ≡ false) → option_and_then (λ w. owed_by w slot) o ≡ None
 none_owed slot None h = refl

@@ -1,5 +1,5 @@
 //! What waits of each known prefix for each peer's slot.
-ghost use Rattle.std.specs.Prelude.{◌≡◌, ◌≢◌, ◌+◌, ◌<◌, ◌==◌, ◌&&◌, ℕ, [], None, Some, IfSome, IfNone, IfErr, IsTrue, MatchBool, is_ok, true, false, if◌then◌else◌};
+ghost use Rattle.std.specs.Prelude.{◌≡◌, ◌≢◌, ◌↔◌, ◌+◌, ◌<◌, ◌==◌, ◌&&◌, ℕ, [], None, Some, IfSome, IfNone, IfErr, IsSome, IsTrue, MatchBool, is_ok, true, false, if◌then◌else◌};
 ghost use Rattle.std.specs.Ordering.{is_gt};
 ghost use Rattle.net_prefix.specs.declared.prefix.Prefix.{Prefix};
 ghost use Rattle.net_prefix.specs.PrefixOrder.{prefix_cmp, IsAbove};
@@ -49,6 +49,36 @@ impl<A: Allocator> Waiting<A> {
         ensures known { (p : Prefix) → is_known self.new p ≡ (if is_prefix prefix p then false else is_known self.old p) }
     {
         self.records.remove(&prefix);
+    }
+
+    /// A known prefix of which nothing waits for any slot isn't known any more; of any other one nothing changes. It
+    /// takes no memory.
+    pub fn release(&mut self, prefix: Prefix)
+        ensures owed { (s : ℕ) (p : Prefix) → owed_at self.new s p ≡ owed_at self.old s p }
+        ensures known { (p : Prefix) → is_prefix prefix p ≡ false → is_known self.new p ≡ is_known self.old p }
+        ensures idle { ((s : ℕ) → owed_at self.old s prefix ≡ None) → is_known self.new prefix ≡ false }
+        ensures waits { (s : ℕ) → IsSome (owed_at self.old s prefix) → is_known self.new prefix ≡ true }
+    {
+        if self.is_idle(prefix) {
+            self.forget(prefix);
+        }
+    }
+
+    // Whether the prefix is known, and nothing of it waits for any slot.
+    fn is_idle(&self, prefix: Prefix) -> bool
+        ensures { IsTrue result ↔ (is_known self.now prefix ≡ true) × ((s : ℕ) → owed_at self.now s prefix ≡ None) }
+    {
+        match self.records.get(&prefix) {
+            Some(waits) => waits.is_idle(),
+            None => false,
+        }
+    }
+
+    /// Whether the prefix is known.
+    pub fn is_known(&self, prefix: Prefix) -> bool
+        ensures { result ≡ is_known self.now prefix }
+    {
+        self.records.get(&prefix).is_some()
     }
 
     /// What waits of a known prefix for the slot from now on. It takes no memory.
@@ -124,7 +154,7 @@ impl<A: Allocator + Clone> Waiting<A> {
         ensures known { (p : Prefix) → is_known self.new p ≡ (if is_ok result && is_prefix prefix p then true else is_known self.old p) }
         ensures there { is_known self.old prefix ≡ true → is_ok result ≡ true }
     {
-        if self.records.get(&prefix).is_some() {
+        if self.is_known(prefix) {
             return Ok(());
         }
         match self.records.insert(prefix, Waits::for_none()) {

@@ -38,6 +38,13 @@ impl Waits {
         }
     }
 
+    /// Whether nothing waits for any slot.
+    pub(crate) fn is_idle(&self) -> bool
+        ensures { IsTrue result ↔ ((s : ℕ) → owed_by self.now s ≡ None) }
+    {
+        self.marks.withdrawals == 0 && self.marks.announcements == 0
+    }
+
     /// What waits for the slot.
     pub(crate) fn owed(&self, slot: u8) -> Option<Owed>
         requires { slot < 64 }

@@ -15,7 +15,7 @@ use Rattle.rtr_codec.proofs.Streams.{goes_on}
 -- an open connection that has heard a PDU, by what it has not read
 abbrev heard_open : Conn → List ℕ → Conn
 heard_open conn unread =
-    record { is_open = true; is_first = false; unread = unread; ring = conn.ring; left = conn.left; told = conn.told; notified = conn.notified }
+    record { is_open = true; is_first = false; unread = unread; ring = conn.ring; left = conn.left; told = conn.told; notified = conn.notified; handed = conn.handed }
 
 -- a connection that stays open has heard a PDU, and what is unread stays so
 abbrev rejoined : List ℕ → Conn → Conn

@@ -1,4 +1,5 @@
 pub mod CacheSteps
+pub mod HandingOut
 pub mod Hearing
 pub mod Leading
 pub mod Notifying

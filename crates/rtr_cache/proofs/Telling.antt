@@ -13,11 +13,13 @@ use Rattle.rtr_codec.specs.PduFaults.{number_of}
 use Rattle.rtr_codec.specs.PduSpelling.{Content, Serial_notify, Serial_query, Reset_query, Cache_response, Announce, Withdraw, Ipv6_prefix, End_of_data, Cache_reset, Router_key, Error_report, spelling}
 use Rattle.rtr_codec.specs.PduStream.{Item, WholePdu, FaultyPdu, pdus_from, unread_from}
 use Rattle.rtr_codec.specs.Responses.{response, spellings}
-use Rattle.rtr_cache.specs.CacheTable.{Conn, Shared, begins, closed, fails, first_refused, fresh_conn, has_room, hears, hears_all, hears_fault, hears_item, hears_octets, hears_pdu, is_due, is_idle, is_news, notified, other_session_answer, place_of, pumped, queued, queues, quoted_of, reset_query, serial_answer, serial_query, unless_busy, wants_notify}
+use Rattle.rtr_cache.specs.CacheTable.{Conn, Shared, begins, closed, fails, first_refused, fresh_conn, hands_out, has_room, hears, hears_all, hears_fault, hears_item, hears_octets, hears_pdu, is_due, is_idle, is_news, notified, other_session_answer, place_of, pumped, queued, queues, quoted_of, reset_query, serial_answer, serial_query, unless_busy, wants_notify}
 use Rattle.rtr_cache.specs.declared.other_session.OtherSession.{OtherSession}
 use Rattle.rtr_cache.specs.declared.other_session.OtherSession.TheVariants.{Report, Reset}
+use Rattle.rtr_cache.specs.HandedOut.{handing, nothing_handed}
 use Rattle.rtr_cache.specs.Telling.{Alone, AnswersItem, AnswersItems, AnswersReset, AnswersSerial, AreAside, IsNotified, SaysWhole, Told, Whole, all_pdus, pdus_of}
 use Rattle.vrp_delta.specs.Versions.{Version, newest_serial, version_of}
+use Rattle.rtr_cache.proofs.HandingOut.{handing-append}
 
 cases_bool : (b : Bool) → (b ≡ true) ⊎ (b ≡ false)
 cases_bool true = inl refl
@@ -25,8 +27,8 @@ cases_bool false = inr refl
 
 -- where ring, response and openness are the same so is what is said
 pub same_says :
-    (gone : List ℕ) (told : List Told) (a b : Conn) → a.ring ≡ b.ring → a.left ≡ b.left → a.is_open ≡ b.is_open → SaysWhole gone told a → SaysWhole gone told b
-same_says gone told a b ring left is_open h = record {
+    (gone : List ℕ) (told : List Told) (a b : Conn) → a.ring ≡ b.ring → a.left ≡ b.left → a.is_open ≡ b.is_open → a.handed ≡ b.handed → SaysWhole gone told a → SaysWhole gone told b
+same_says gone told a b ring left is_open handed h = record {
   said = h.said;
   unsaid = h.unsaid;
   last = h.last;
@@ -35,14 +37,15 @@ same_says gone told a b ring left is_open h = record {
   while_open = λ o. ((h.while_open (is_open ∙ o)).0 ∙ left, (h.while_open (is_open ∙ o)).1);
   when_closed = λ c. sym left ∙ h.when_closed (is_open ∙ c);
   last_word = h.last_word;
+  read = sym handed ∙ h.read;
 }
 
 -- a client that has just come up
 pub says_fresh : SaysWhole [] [] fresh_conn
-says_fresh = record { said = []; unsaid = []; last = []; octets_are = refl; parts = refl; while_open = λ o. (refl, refl); when_closed = λ c. refl; last_word = inl refl }
+says_fresh = record { said = []; unsaid = []; last = []; octets_are = refl; parts = refl; while_open = λ o. (refl, refl); when_closed = λ c. refl; last_word = inl refl; read = refl }
 
 -- octets are handed out
-pub says_taken : (gone : List ℕ) (told : List Told) (conn : Conn) (count : ℕ) → SaysWhole gone told conn → SaysWhole (gone ++ take count conn.ring) told (record conn { ring = drop count conn.ring })
+pub says_taken : (gone : List ℕ) (told : List Told) (conn : Conn) (count : ℕ) → SaysWhole gone told conn → SaysWhole (gone ++ take count conn.ring) told (hands_out count conn)
 says_taken gone told conn count h = record {
   said = h.said;
   unsaid = h.unsaid;
@@ -52,6 +55,7 @@ says_taken gone told conn count h = record {
   while_open = h.while_open;
   when_closed = h.when_closed;
   last_word = h.last_word;
+  read = ap (handing (take count conn.ring)) h.read ∙ sym (handing-append gone (take count conn.ring) nothing_handed);
 }
 
 -- one PDU more is queued
@@ -81,6 +85,7 @@ next_by gone told conn content contents h (inl is_open) =
       while_open = λ o. (refl, refl);
       when_closed = λ c. absurd (not_both conn.is_open is_open c);
       last_word = inl refl;
+      read = h.read;
     }
   where
     not_both : (b : Bool) → b ≡ true → b ≡ false → ⊥
@@ -103,7 +108,7 @@ says_queues gone told conn (content ∷ contents) h =
     h
 
 pub says_pumped : (gone : List ℕ) (told : List Told) (conn : Conn) → SaysWhole gone told conn → SaysWhole gone told (pumped conn)
-says_pumped gone told conn h = says_queues gone told conn conn.left (same_says gone told conn (record conn { left = conn.left }) refl refl refl h)
+says_pumped gone told conn h = says_queues gone told conn conn.left (same_says gone told conn (record conn { left = conn.left }) refl refl refl refl h)
 
 -- the connection closes
 says_closed : (gone : List ℕ) (told : List Told) (conn : Conn) → SaysWhole gone told conn → SaysWhole gone told (closed conn)
@@ -116,6 +121,7 @@ says_closed gone told conn h = record {
   while_open = λ o. absurd cc;
   when_closed = λ c. refl;
   last_word = h.last_word;
+  read = h.read;
 }
 
 says_fails : (gone : List ℕ) (told : List Told) (conn : Conn) (code : ErrorCode) (quoted : List ℕ) → conn.is_open ≡ true → SaysWhole gone told conn → SaysWhole gone told (fails conn code quoted)
@@ -128,6 +134,7 @@ says_fails gone told conn code quoted is_open h = record {
   while_open = λ o. absurd cc;
   when_closed = λ c. refl;
   last_word = inr (number_of code, quoted, refl);
+  read = h.read;
 }
 
 -- what a call tells, and what is said behind it
@@ -162,6 +169,7 @@ queued_alone gone told conn content is_open idle h =
       while_open = λ o. (sym idle, refl);
       when_closed = λ c. idle;
       last_word = inl refl;
+      read = h.read;
     }
 
 tells_answer_if :
@@ -194,6 +202,7 @@ tells_begins allowed gone told conn false session intervals version old is_open 
         while_open = λ o. (refl, at.1);
         when_closed = λ c. absurd (not_both conn.is_open is_open c);
         last_word = h.last_word;
+        read = h.read;
       };
     }
   where
@@ -324,7 +333,7 @@ tells_hears :
     → Tells (AnswersItem shared item) gone told (hears shared refused conn item)
 tells_hears shared refused gone told conn item h =
     tells_by_open (AnswersItem shared item) gone told conn.is_open _ conn
-    (λ is_open. tells_item shared refused gone told (record conn { is_first = false }) item is_open (same_says gone told conn (record conn { is_first = false }) refl refl refl h))
+    (λ is_open. tells_item shared refused gone told (record conn { is_first = false }) item is_open (same_says gone told conn (record conn { is_first = false }) refl refl refl refl h))
     (tells_nothing (AnswersItem shared item) gone told conn (nothing_to shared item) h)
 
 -- PDUs one after another
@@ -354,7 +363,7 @@ tells_octets shared refused gone told conn octets h =
     let before : Conn = record conn { unread = unread_from (place_of conn) conn.unread octets } in
     let heard : Tells (AnswersItems shared (pdus_from (place_of conn) conn.unread octets)) gone told (hears_octets shared refused conn octets) =
     tells_by_open (AnswersItems shared (pdus_from (place_of conn) conn.unread octets)) gone told conn.is_open (hears_all shared refused before items) conn
-    (λ is_open. tells_all shared refused gone told before items (same_says gone told conn before refl refl refl h))
+    (λ is_open. tells_all shared refused gone told before items (same_says gone told conn before refl refl refl refl h))
     (tells_nothing (AnswersItems shared (pdus_from (place_of conn) conn.unread octets)) gone told conn (nothing_to_all shared items) h) in
     record { now = heard.now; is_allowed = heard.is_allowed; says = says_pumped gone (told ++ heard.now) (hears_octets shared refused conn octets) heard.says }
 
@@ -371,7 +380,7 @@ tells_notify_if shared gone told conn true may h =
     record {
       now = Alone content ∷ [];
       is_allowed = inr refl;
-      says = same_says gone (told ++ Alone content ∷ []) (record conn { ring = conn.ring ++ spelling content }) (record (queued conn content) { notified = Some shared.now }) refl refl refl (queued_alone gone told conn content (may refl).0 (may refl).1 h);
+      says = same_says gone (told ++ Alone content ∷ []) (record conn { ring = conn.ring ++ spelling content }) (record (queued conn content) { notified = Some shared.now }) refl refl refl refl (queued_alone gone told conn content (may refl).0 (may refl).1 h);
     }
 tells_notify_if shared gone told conn false may h = tells_nothing (IsNotified shared) gone told conn (inl refl) h
 

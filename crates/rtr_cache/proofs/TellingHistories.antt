@@ -6,9 +6,10 @@ use Rattle.std.proofs.lemmas.List.{take_at, length-take-le}
 use Rattle.std.proofs.lemmas.Option.{same_Some}
 use Rattle.net_prefix.specs.declared.payload.Vrp.{Vrp}
 use Rattle.rtr_codec.specs.declared.intervals.Intervals.{Intervals}
-use Rattle.rtr_cache.specs.CacheState.{CacheState, AllAreNotified, HandsOut, HearsOctets, client_at, empty_cache}
-use Rattle.rtr_cache.specs.CacheTable.{Conn, Shared, fresh_conn, hears_octets, notified, pumped}
+use Rattle.rtr_cache.specs.CacheState.{CacheState, AllAreNotified, HandsOut, HearsOctets, client_at, empty_cache, held_serial}
+use Rattle.rtr_cache.specs.CacheTable.{Conn, Shared, fresh_conn, hands_out, hears_octets, notified, pumped}
 use Rattle.rtr_cache.specs.ClientHistory.{AnswersOctets, Call, CameUp, Heard, IsRun, IsToldBy, IsToldWhole, KeepsClient, Loaded, Makes, StaysUp, Ticked, Took, Turn, WentDown, handed_by, handed_out}
+use Rattle.rtr_cache.specs.HandedOut.{Handed, serial_in}
 use Rattle.rtr_cache.specs.Telling.{IsNotified, SaysWhole, Told}
 use Rattle.rtr_cache.specs.declared.event.CacheReport.{CacheReport}
 use Rattle.rtr_cache.specs.declared.other_session.OtherSession.{OtherSession}
@@ -142,13 +143,13 @@ taken_by key found taken buf count handed gone told after conn there made h (inl
     let fits : count ≤ length made.0.ring = omega (arith, least) in
     let octets : take count handed ≡ take count conn.ring = handed_is count made.0.ring buf handed fits made.3 ∙ ap (λ (c : Conn). take count c.ring) is in
     let by : handed_by key (Took taken buf (Ok count) handed) ≡ take count conn.ring = if_true (taken == key) (take count handed) [] (eq-eqb taken key same) ∙ octets in
-    let rest = pumped (record conn { ring = drop count conn.ring }) in
+    let rest = pumped (hands_out count conn) in
     record {
       conn = rest;
-      is = sym (ap (client_at after) same) ∙ (made.4 ∙ ap (λ (c : Conn). Some (pumped (record c { ring = drop count c.ring }))) is);
+      is = sym (ap (client_at after) same) ∙ (made.4 ∙ ap (λ (c : Conn). Some (pumped (hands_out count c))) is);
       now = [];
       by_call = refl;
-      says = nothing_more (gone ++ handed_by key (Took taken buf (Ok count) handed)) told rest (subst (λ (x : List ℕ). SaysWhole (gone ++ x) told rest) (sym by) (says_pumped (gone ++ take count conn.ring) told (record conn { ring = drop count conn.ring }) (says_taken gone told conn count h)));
+      says = nothing_more (gone ++ handed_by key (Took taken buf (Ok count) handed)) told rest (subst (λ (x : List ℕ). SaysWhole (gone ++ x) told rest) (sym by) (says_pumped (gone ++ take count conn.ring) told (hands_out count conn) (says_taken gone told conn count h)));
     }
 
 goes_taken :
@@ -192,3 +193,11 @@ pub told_from_empty :
     → client_at start key ≡ Some fresh_conn → IsRun start history end → StaysUp key history → IsToldWhole key history (client_at end key)
 told_from_empty session intervals other_session before start end key history made fresh run up =
     told_whole start end key history (sets-run (empty_cache session intervals other_session) start before tt made) fresh run up
+
+-- what a client holds is what a router reads in what was handed out
+pub held_from_empty :
+    (session : ℕ) (intervals : Intervals) (other_session : OtherSession) (before : List Turn) (start end : CacheState) (key : ℕ) (history : List Turn) → IsRun (empty_cache session intervals other_session) before start
+    → client_at start key ≡ Some fresh_conn → IsRun start history end → StaysUp key history → held_serial (client_at end key) ≡ serial_in (handed_out key history)
+held_from_empty session intervals other_session before start end key history made fresh run up =
+    let told = told_from_empty session intervals other_session before start end key history made fresh run up in
+    ap held_serial told.is ∙ ap (λ (h : Handed). h.serial) told.says.read

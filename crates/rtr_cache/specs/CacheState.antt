@@ -5,7 +5,7 @@ use Rattle.net_prefix.specs.declared.payload.Vrp.{Vrp}
 use Rattle.net_prefix.specs.declared.transport.Transport.{Transport}
 use Rattle.net_prefix.specs.declared.transport.Transport.TheVariants as transports
 use Rattle.rtr_cache.specs.CacheLimits.{most_clients, ring_octets, room_for_pdu}
-use Rattle.rtr_cache.specs.CacheTable.{Conn, Shared, fresh_conn, hears_octets, notified, pumped}
+use Rattle.rtr_cache.specs.CacheTable.{Conn, Shared, fresh_conn, hands_out, hears_octets, notified, pumped}
 use Rattle.rtr_codec.specs.Intervals.{are_lawful}
 use Rattle.rtr_codec.specs.declared.intervals.Intervals.{Intervals}
 use Rattle.rtr_cache.specs.declared.event.CacheReport.{CacheReport}
@@ -97,7 +97,7 @@ abbrev pub HandsOut : CacheState → ℕ → List ℕ → Result ℕ CacheRefusa
 HandsOut old key buf (Ok count) buf_after new =
     (conn : Conn) × (client_at old key ≡ Some conn) × (count ≡ min (length buf) (length conn.ring))
     × (buf_after ≡ take count conn.ring ++ drop count buf)
-    × (client_at new key ≡ Some (pumped (record conn { ring = drop count conn.ring })))
+    × (client_at new key ≡ Some (pumped (hands_out count conn)))
     × OthersStay old key new × (new.shared ≡ old.shared)
 HandsOut old key buf (Err why) buf_after new = (why ≡ NoClient) × (client_at old key ≡ None)
 
@@ -110,6 +110,11 @@ transport_of (Some conn) = if conn.is_open then transports.Open else transports.
 abbrev pub awaits_first_pdu : Option Conn → Bool
 awaits_first_pdu None = false
 awaits_first_pdu (Some conn) = conn.is_first
+
+-- the serial of the last End of Data that was handed out whole for a client
+abbrev pub held_serial : Option Conn → Option ℕ
+held_serial None = None
+held_serial (Some conn) = conn.handed.serial
 
 -- something is left of a response only where a PDU finds no room
 abbrev pub IsAtRest : Conn → Type 0

@@ -21,6 +21,7 @@ use Rattle.rtr_codec.specs.PduSpelling.{Content, Serial_notify, Serial_query, Re
 use Rattle.rtr_codec.specs.PduStream.{Item, WholePdu, FaultyPdu, pdus_from, unread_from}
 use Rattle.rtr_codec.specs.Responses.{response}
 use Rattle.rtr_cache.specs.CacheLimits.{quoted_octets, ring_octets, room_for_pdu, seconds_between_notifies}
+use Rattle.rtr_cache.specs.HandedOut.{Handed, handing, nothing_handed}
 use Rattle.rtr_cache.specs.declared.other_session.OtherSession.{OtherSession}
 use Rattle.rtr_cache.specs.declared.other_session.OtherSession.TheVariants.{Report, Reset}
 use Rattle.vrp_delta.specs.Versions.{Version, newest_serial, version_of}
@@ -42,10 +43,11 @@ pub record Conn : Type 0 where
   pub left : List Content  -- what is still to be said of the response in progress
   pub told : Option ℕ  -- the serial that the client was told last, by an End of Data or a Notify
   pub notified : Option ℕ  -- the moment of the last Notify
+  pub handed : Handed  -- what was handed out, as the router reads it
 
 -- a connection that has just come up
 abbrev pub fresh_conn : Conn
-fresh_conn = record { is_open = true; is_first = true; unread = []; ring = []; left = []; told = None; notified = None }
+fresh_conn = record { is_open = true; is_first = true; unread = []; ring = []; left = []; told = None; notified = None; handed = nothing_handed }
 
 -- where on the connection the next PDU stands
 abbrev pub place_of : Conn → Place
@@ -181,6 +183,10 @@ queues conn (content ∷ contents) =
 
 abbrev pub pumped : Conn → Conn
 pumped conn = queues conn conn.left
+
+-- the first octets of the ring are handed out
+abbrev pub hands_out : ℕ → Conn → Conn
+hands_out count conn = record conn { ring = drop count conn.ring; handed = handing (take count conn.ring) conn.handed }
 
 -- the newest serial isn't the one that the client was told; a client that was told none waits for its first response
 abbrev pub is_news : List Version → Option ℕ → Bool

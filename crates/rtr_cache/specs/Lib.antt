@@ -3,6 +3,7 @@ pub mod CacheNumbers
 pub mod CacheState
 pub mod CacheTable
 pub mod ClientHistory
+pub mod HandedOut
 pub mod Sending
 pub mod Telling
 pub mod Unsaid

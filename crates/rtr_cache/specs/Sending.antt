@@ -1,8 +1,9 @@
 -- What a cache says on one connection.
-use Rattle.std.specs.Prelude.{◌≡◌, ◌≤◌, ◌+◌, ℕ, Bool, true, false, List, [], ◌∷◌, ◌++◌, length, Option, Some, None}
+use Rattle.std.specs.Prelude.{◌≡◌, ◌≤◌, ◌+◌, ℕ, Bool, true, false, List, [], ◌∷◌, ◌++◌, drop, length, take, Option, Some, None}
 use Rattle.rtr_codec.specs.declared.place.End.TheVariants.{Cache}
 use Rattle.rtr_cache.specs.CacheLimits.{ring_octets, room_for_report}
 use Rattle.rtr_cache.specs.CacheTable.{Conn, Shared, hears_item, told_by}
+use Rattle.rtr_cache.specs.HandedOut.{Handed, handing, nothing_handed}
 use Rattle.rtr_codec.specs.PduSpelling.{Content, spelling}
 use Rattle.rtr_codec.specs.PduStream.{Item, Wants}
 use Rattle.rtr_codec.specs.Receiving.{Reception}
@@ -15,11 +16,12 @@ pub record Sending : Type 0 where
   pub left : List Content
   pub told : Option ℕ
   pub notified : Option ℕ
+  pub handed : Handed
 
 -- the end of a connection, by what was read of it and what is said on it
 abbrev pub conn_of : Bool → List ℕ → Sending → Conn
 conn_of is_first unread s =
-    record { is_open = s.is_open; is_first = is_first; unread = unread; ring = s.ring; left = s.left; told = s.told; notified = s.notified }
+    record { is_open = s.is_open; is_first = is_first; unread = unread; ring = s.ring; left = s.left; told = s.told; notified = s.notified; handed = s.handed }
 
 -- the same behind a PDU: nothing is unread
 abbrev pub behind_pdu : Sending → Conn
@@ -27,7 +29,11 @@ behind_pdu s = conn_of false [] s
 
 -- a connection that has just come up
 abbrev pub fresh_sending : Sending
-fresh_sending = record { is_open = true; ring = []; left = []; told = None; notified = None }
+fresh_sending = record { is_open = true; ring = []; left = []; told = None; notified = None; handed = nothing_handed }
+
+-- the first octets of the ring are handed out
+abbrev pub taken : ℕ → Sending → Sending
+taken count s = record s { ring = drop count s.ring; handed = handing (take count s.ring) s.handed }
 
 -- a PDU is queued
 abbrev pub put : Sending → Content → Sending

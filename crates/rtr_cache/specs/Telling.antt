@@ -7,6 +7,7 @@ use Rattle.rtr_codec.specs.PduSpelling.{Content, Serial_notify, Serial_query, Re
 use Rattle.rtr_codec.specs.PduStream.{Item, WholePdu, FaultyPdu}
 use Rattle.rtr_codec.specs.Responses.{changed_by, response, spellings}
 use Rattle.rtr_cache.specs.CacheTable.{Conn, Shared}
+use Rattle.rtr_cache.specs.HandedOut.{handing, nothing_handed}
 use Rattle.vrp_delta.specs.Versions.{Version, newest_serial, version_of}
 
 -- one thing that a client is told: a PDU of its own, or a whole response, which leads from the old set to the version
@@ -80,7 +81,7 @@ abbrev pub IsLastWord : List Content → Type 0
 IsLastWord last = (last ≡ []) ⊎ ((code : ℕ) × (quoted : List ℕ) × (last ≡ Error_report code quoted ∷ []))
 
 -- What has gone out and what waits in the ring are whole PDUs: while the connection is open all that the client is told but what its response has left;
--- once the cache has closed it a front of what the client is told, and at most one Error Report behind it.
+-- once the cache has closed it a front of what the client is told, and at most one Error Report behind it. What has gone out is read as the router reads it.
 pub record SaysWhole (gone : List ℕ) (told : List Told) (conn : Conn) : Type 0 where
   pub said : List Content
   pub unsaid : List Content
@@ -90,3 +91,4 @@ pub record SaysWhole (gone : List ℕ) (told : List Told) (conn : Conn) : Type 0
   pub while_open : conn.is_open ≡ true → (unsaid ≡ conn.left) × (last ≡ [])
   pub when_closed : conn.is_open ≡ false → conn.left ≡ []
   pub last_word : IsLastWord last
+  pub read : conn.handed ≡ handing gone nothing_handed

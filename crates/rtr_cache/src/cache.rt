@@ -4,7 +4,7 @@ ghost use Rattle.std.specs.Prelude.{◌≡◌, OnErr, length};
 ghost use Rattle.std.specs.Option.{option_map};
 ghost use Rattle.net_prefix.specs.PayloadSets.{IsPayloadSet};
 ghost use Rattle.rtr_cache.specs.CacheTable.{notified, pumped};
-ghost use Rattle.rtr_cache.specs.CacheState.{AllAreAtRest, AllAreNotified, ComesUp, GoesDown, HearsOctets, IsNew, Loads, OthersStay, Ticks, awaits_first_pdu, client_at, transport_of};
+ghost use Rattle.rtr_cache.specs.CacheState.{AllAreAtRest, AllAreNotified, ComesUp, GoesDown, HearsOctets, IsNew, Loads, OthersStay, Ticks, awaits_first_pdu, client_at, held_serial, transport_of};
 ghost use Rattle.rtr_cache.specs.ClientHistory.{Makes, Took, call_of};
 ghost use Rattle.rtr_cache.specs.declared.other_session.OtherSession.TheVariants.{Report};
 
@@ -120,6 +120,14 @@ impl<A: Allocator + Clone> Cache<A> {
             Some(client) => client.awaits_first_pdu(),
             None => false,
         }
+    }
+
+    /// The serial of the last End of Data that was handed out whole for the client: what its router holds, once it has
+    /// read all that was handed out. None before the first one, and where there is no such client.
+    pub fn held_serial(&self, key: u64) -> Option<u32>
+        ensures { result ≡ held_serial (client_at self.now key) }
+    {
+        self.clients.get(key as usize)?.held_serial()
     }
 
     fn load<B: Allocator>(&mut self, set: &BTreeSet<Vrp, B>) -> Result<CacheReport, CacheRefusal>

@@ -2,9 +2,10 @@
 //! to 8).
 ghost use Rattle.std.specs.Prelude.{◌≡◌, ◌≢◌, ◌<◌, ◌≤◌, ◌+◌, ◌++◌, Bool, List, [], None, Some, drop, false, if◌then◌else◌, length, true, ℕ};
 ghost use Rattle.rtr_cache.specs.CacheLimits.{ring_octets, room_for_pdu};
-ghost use Rattle.rtr_cache.specs.CacheState.{CacheState, client_at, empty_cache};
+ghost use Rattle.rtr_cache.specs.CacheState.{CacheState, client_at, empty_cache, held_serial};
 ghost use Rattle.rtr_cache.specs.CacheTable.{Conn, Shared, first_refused, fresh_conn, hears, hears_all, hears_from, pumped, queues};
-ghost use Rattle.rtr_cache.specs.ClientHistory.{IsRun, IsToldWhole, StaysUp, Turn};
+ghost use Rattle.rtr_cache.specs.ClientHistory.{IsRun, IsToldWhole, StaysUp, Turn, handed_out};
+ghost use Rattle.rtr_cache.specs.HandedOut.{serial_in};
 ghost use Rattle.rtr_cache.specs.declared.other_session.OtherSession.{OtherSession};
 ghost use Rattle.rtr_codec.specs.PduSpelling.{Content};
 ghost use Rattle.rtr_codec.specs.PduStream.{Item, Wants, meaning, needed_of, place_after};
@@ -17,6 +18,12 @@ ghost use Rattle.rtr_codec.specs.declared.place.Place.{Place};
 /// when its query was read, and read onto the set that it leads from it gives that version's.
 pub fn clients_are_told_whole_versions()
     ensures { (session : ℕ) (intervals : Intervals) (other_session : OtherSession) (before : List Turn) (start end : CacheState) (key : ℕ) (history : List Turn) → IsRun (empty_cache session intervals other_session) before start → client_at start key ≡ Some fresh_conn → IsRun start history end → StaysUp key history → IsToldWhole key history (client_at end key) }
+{}
+
+/// And the serial that a client holds is that of the last End of Data that a router reads in all that was handed out
+/// for the client since its Up.
+pub fn held_serials_are_handed_out()
+    ensures { (session : ℕ) (intervals : Intervals) (other_session : OtherSession) (before : List Turn) (start end : CacheState) (key : ℕ) (history : List Turn) → IsRun (empty_cache session intervals other_session) before start → client_at start key ≡ Some fresh_conn → IsRun start history end → StaysUp key history → held_serial (client_at end key) ≡ serial_in (handed_out key history) }
 {}
 
 /// No more octets than are wanted are one row, where they complete a PDU or a fault, and none where they don't. What

@@ -10,6 +10,7 @@
 
 mod cache;
 mod event;
+mod handed_out;
 mod laws;
 mod other_session;
 mod publisher;
@@ -23,7 +24,7 @@ mod unsaid;
 pub use cache::{CACHE_CLIENTS, Cache};
 pub use event::{CacheEvent, CacheReport};
 pub use laws::{
-    clients_are_told_whole_versions, closed_connection_hears_nothing,
+    clients_are_told_whole_versions, closed_connection_hears_nothing, held_serials_are_handed_out,
     octets_are_heard_piece_by_piece, queueing_changes_no_more, queueing_keeps_what_is_said,
     queueing_leaves_room, queueing_stops_at_a_full_ring,
 };

@@ -7,8 +7,9 @@ ghost use Rattle.rtr_codec.specs.PduSpelling.{Error_report, content_of, length_o
 ghost use Rattle.rtr_codec.specs.PduFaults.{number_of};
 ghost use Rattle.rtr_codec.specs.declared.fault.ErrorCode.TheVariants.{NoDataAvailable};
 ghost use Rattle.vrp_delta.specs.Versions.{Version, newest_serial};
-ghost use Rattle.rtr_cache.specs.Sending.{IsNext, behind_pdu, conn_of, fresh_sending, put, said};
+ghost use Rattle.rtr_cache.specs.Sending.{IsNext, behind_pdu, conn_of, fresh_sending, put, said, taken};
 
+use crate::handed_out::HandedOut;
 use crate::publisher::Publisher;
 use crate::response::Response;
 use arrayvec::ArrayVec;
@@ -40,6 +41,8 @@ pub struct Sender<A: Allocator = Global> {
     told: Option<u32>,
     // The moment of the last Serial Notify.
     notified: Option<u64>,
+    // What was taken.
+    handed: HandedOut,
 }
 
 impl<A: Allocator> Model for Sender<A> {
@@ -48,7 +51,7 @@ impl<A: Allocator> Model for Sender<A> {
 
     ghost Value = { Sending };
 
-    ghost view = { λ s. record { is_open = s.is_open; ring = s.ring.items; left = left_of s.response; told = s.told; notified = s.notified } };
+    ghost view = { λ s. record { is_open = s.is_open; ring = s.ring.items; left = left_of s.response; told = s.told; notified = s.notified; handed = s.handed } };
 
     ghost invariant = { λ s. IsInOrder s.is_open s.ring.items s.ring.capacity s.response };
 }
@@ -65,6 +68,7 @@ impl<A: Allocator> Sender<A> {
             response: None,
             told: None,
             notified: None,
+            handed: HandedOut::new(),
         })
     }
 
@@ -79,9 +83,18 @@ impl<A: Allocator> Sender<A> {
     pub fn take(&mut self, buf: &mut [u8]) -> usize
         ensures count { result ≡ min (length buf.old) (length self.old.ring) }
         ensures octets { buf.new ≡ take result self.old.ring ++ drop result buf.old }
-        ensures exact { self.new ≡ record self.old { ring = drop result self.old.ring } }
+        ensures exact { self.new ≡ taken result self.old }
     {
-        self.ring.read_into(buf)
+        let count = self.ring.read_into(buf);
+        self.handed.read(&buf[..count]);
+        count
+    }
+
+    /// The serial of the last End of Data that was handed out whole.
+    pub fn held_serial(&self) -> Option<u32>
+        ensures { result ≡ self.now.handed.serial }
+    {
+        self.handed.serial()
     }
 
     /// Queues what the response has left while there is room.

@@ -1,7 +1,7 @@
 //! One client's end of a connection.
 ghost use Rattle.std.specs.Prelude.{◌≡◌, ◌≤◌, ◌<◌, ◌++◌, Bool, ℕ, List, IfOk, length, min, take, drop, true, false, if◌then◌else◌};
 ghost use Rattle.net_prefix.specs.declared.transport.Transport.TheVariants.{Open as Connected, Closing};
-ghost use Rattle.rtr_cache.specs.CacheTable.{fresh_conn, hears_octets, notified, pumped};
+ghost use Rattle.rtr_cache.specs.CacheTable.{fresh_conn, hands_out, hears_octets, notified, pumped};
 
 use crate::publisher::Publisher;
 use crate::sender::Sender;
@@ -79,11 +79,18 @@ impl<A: Allocator + Clone> ServedClient<A> {
     pub fn take(&mut self, buf: &mut [u8]) -> usize
         ensures count { result ≡ min (length buf.old) (length self.old.ring) }
         ensures octets { buf.new ≡ take result self.old.ring ++ drop result buf.old }
-        ensures rest { self.new ≡ pumped (record self.old { ring = drop result self.old.ring }) }
+        ensures rest { self.new ≡ pumped (hands_out result self.old) }
     {
         let count = self.sender.take(buf);
         self.sender.pump();
         count
+    }
+
+    /// The serial of the last End of Data that was handed out whole.
+    pub fn held_serial(&self) -> Option<u32>
+        ensures { result ≡ self.now.handed.serial }
+    {
+        self.sender.held_serial()
     }
 
     fn is_open(&self) -> bool

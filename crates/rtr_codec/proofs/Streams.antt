@@ -2,7 +2,7 @@ use Rattle.std.proofs.Common.{◌≡◌, ◌≤◌, ◌<◌, ℕ, Bool, true, fa
 use Rattle.std.proofs.lemmas.Bool.{leb-true, eqb-true, and_parts, not-false}
 use Rattle.std.proofs.lemmas.List.{get_or_append_left}
 use Rattle.octet_streams.specs.Grammar.{IsGrammar}
-use Rattle.octet_streams.proofs.Streams.{meaning-whole, end-then, others-then, goes_on as item_goes_on, wants_none as no_item, wants-then as nothing_then}
+use Rattle.octet_streams.proofs.Streams.{meaning-whole, end-then, others-then, goes_on as item_goes_on, items_from-append, place_from-append, unread_from-append, wants_none as no_item, wants-then as nothing_then}
 use Rattle.rtr_codec.specs.declared.fault.ErrorCode.TheVariants.{UnsupportedType, CorruptData}
 use Rattle.rtr_codec.specs.declared.fault.PduFault.{PduFault}
 use Rattle.rtr_codec.specs.declared.fault.PduFault.TheVariants.{Unanswered, Header}
@@ -12,7 +12,7 @@ use Rattle.rtr_codec.specs.declared.place.Place.{Place}
 use Rattle.rtr_codec.specs.PduContents.{content_at, kind_at, told_length}
 use Rattle.rtr_codec.specs.PduFaults.{header_fault, is_faulty_report, is_other_version, is_unknown, is_unlawful}
 use Rattle.rtr_codec.specs.PduSpelling.{Content}
-use Rattle.rtr_codec.specs.PduStream.{Item, WholePdu, FaultyPdu, IsPdu, Wants, item_with, meaning, ends_stream, place_after, pdu_grammar, pdus, unread, GoesOn, needed_of}
+use Rattle.rtr_codec.specs.PduStream.{Item, WholePdu, FaultyPdu, IsPdu, Wants, item_with, meaning, ends_stream, place_after, pdu_grammar, pdus, pdus_from, place_from, unread, unread_from, GoesOn, needed_of}
 use Rattle.rtr_codec.specs.PduTypes.{is_lawful_length, type_of}
 
 -- PDUs are a grammar.
@@ -124,6 +124,18 @@ pub goes_on :
 unfolding pdu_grammar
 goes_on place part piece more wants some fits = item_goes_on pdu_grammar is_grammar place part piece more wants some fits
 
+-- a stream goes on where it stopped
+pub pdus_from-append :
+    (place : Place) (part octets more : List ℕ)
+    → pdus_from place part (octets ++ more) ≡ pdus_from place part octets ++ pdus_from (place_from place part octets) (unread_from place part octets) more
+pdus_from-append place part octets more = items_from-append pdu_grammar is_grammar place part octets more
+
+pub unread_behind : (place : Place) (part octets more : List ℕ) → unread_from place part (octets ++ more) ≡ unread_from (place_from place part octets) (unread_from place part octets) more
+unread_behind place part octets more = unread_from-append pdu_grammar is_grammar place part octets more
+
+pub place_behind : (place : Place) (part octets more : List ℕ) → place_from place part (octets ++ more) ≡ place_from (place_from place part octets) (unread_from place part octets) more
+place_behind place part octets more = place_from-append pdu_grammar is_grammar place part octets more
+
 -- nothing is whole yet
 pub wants_none : (place : Place) (octets : List ℕ) → Wants place octets → meaning place octets ≡ None
 unfolding pdu_grammar
@@ -147,3 +159,10 @@ pub fault-then :
     → (pdus place (octets ++ more) ≡ FaultyPdu fault octets ∷ []) × (unread place (octets ++ more) ≡ octets ++ more)
 unfolding pdu_grammar
 fault-then place octets more fault found = let all = end-then pdu_grammar is_grammar place octets more (FaultyPdu fault octets) found refl in (all.0, all.1)
+
+-- and where the connection stands behind a PDU and more
+pub place-then :
+    (place : Place) (octets more : List ℕ) (content : Content) → meaning place octets ≡ Some (WholePdu content octets)
+    → place_from place [] (octets ++ more) ≡ place_from (place_after place (Some (WholePdu content octets))) [] more
+unfolding pdu_grammar
+place-then place octets more content found = (others-then pdu_grammar is_grammar place octets more (WholePdu content octets) found refl).2

@@ -1,8 +1,8 @@
 //! One end's reading of a connection.
-ghost use Rattle.std.specs.Prelude.{◌≡◌, ◌≤◌, ◌<◌, min, length, take};
+ghost use Rattle.std.specs.Prelude.{◌≡◌, ◌≤◌, ◌<◌, ◌||◌, ℕ, List, [], false, min, length, take};
 ghost use Rattle.rtr_codec.specs.PduSpelling.{content_of};
-ghost use Rattle.rtr_codec.specs.PduStream.{Tells, Wants, is_cache_response, meaning, needed_of};
-ghost use Rattle.rtr_codec.specs.Receiving.{Reception, UsesAll, beginning, emptied, item_shown, passed_by, received};
+ghost use Rattle.rtr_codec.specs.PduStream.{Tells, Wants, WholePdu, is_cache_response, meaning, needed_of};
+ghost use Rattle.rtr_codec.specs.Receiving.{Reception, UsesAll, beginning, emptied, item_shown, passed, passed_by, received};
 
 use crate::header::MAX_PDU;
 use crate::pdu::Pdu;
@@ -87,6 +87,20 @@ impl Receiver {
             Step::Whole(pdu, _) => says_response(&pdu),
             Step::Faulty(..) => false,
         };
+        self.go_on(is_response);
+    }
+
+    /// Goes on behind a PDU that `read` has found where nothing of it was pushed. What was pushed is dropped.
+    pub fn pass_whole(&mut self, pdu: &Pdu<'_>)
+        ensures { (octets : List ℕ) → self.new ≡ passed self.old (WholePdu (content_of pdu.now) octets) }
+    {
+        self.go_on(says_response(pdu));
+    }
+
+    // Goes on behind a PDU or fault.
+    fn go_on(&mut self, is_response: bool)
+        ensures { self.new ≡ record { place = record { end = self.old.place.end; is_first = false; has_response = is_response || self.old.place.has_response }; part = [] } }
+    {
         self.clear();
         self.place = Place {
             end: self.place.end,

@@ -1,11 +1,11 @@
-use Rattle.std.proofs.Common.{◌≡◌, ◌≢◌, ◌<◌, ◌==◌, ◌&&◌, ◌||◌, ℕ, Bool, true, false, List, [], ◌∷◌, Option, Some, None, Result, Ok, Err, OnOk, OnErr, is_none, nat_le, cond, refl, sym, ap, ◌∙◌, subst}
+use Rattle.std.proofs.Common.{◌≡◌, ◌≢◌, ◌==◌, ◌&&◌, ◌||◌, ℕ, Bool, true, false, List, [], ◌∷◌, Option, Some, None, Result, Ok, Err, OnErr, is_none, nat_le, cond, refl, sym, ap, ◌∙◌, subst}
 use Rattle.std.proofs.lemmas.Bool.{eq-eqb, ne_eqb, eqb-true}
 use Rattle.std.specs.BTreeMap.{is_at}
 use Rattle.std.specs.Option.{option_map}
 use Rattle.std.specs.Ordering.{nat_cmp}
 use Rattle.bgp_conf.proofs.PrefixOrder.{is_eq-nat_cmp}
 use Rattle.bgp_attr.specs.PathAttributes.{PathAttributes}
-use Rattle.bgp_conf.specs.Configuration.{Configuration, peer_at}
+use Rattle.bgp_conf.specs.Configuration.{AddressesDiffer, Configuration, peer_at}
 use Rattle.bgp_conf.specs.ConfAfter.{TakesMemory, conf_after, peer_after, configured_of}
 use Rattle.bgp_conf.specs.FirstRefusal.{first_refusal}
 use Rattle.bgp_conf.specs.declared.command.Command.{Command}
@@ -25,6 +25,7 @@ use Rattle.bgp_peer.specs.SessionInputs as happens
 use Rattle.bgp_peer.specs.SessionInputs.{Configured, Signalled, Handed, session}
 use Rattle.bgp_peer.specs.Slot.{configured}
 use Rattle.bgp_peer.proofs.Agreeing.{agrees-new}
+use Rattle.decision.specs.BookContents.{offer_at}
 use Rattle.net_prefix.specs.declared.asn.Asn.{Asn}
 use Rattle.net_prefix.specs.declared.prefix.Prefix.{Prefix}
 use Rattle.net_prefix.specs.declared.transport.Transport.{Transport}
@@ -35,14 +36,17 @@ use Rattle.speaker.proofs.Histories.{no_route}
 use Rattle.speaker.proofs.SlotStates.{SlotIs, slot_agrees, configured_from}
 use Rattle.speaker.specs.FirstRefusal.{refused_at, awaits_up}
 use Rattle.speaker.specs.Linked.{Linked}
+use Rattle.speaker.specs.Offers.{AreMadeAgain, IsSound, Offers}
 use Rattle.speaker.specs.Moves.{Moves, IsPut, moved}
 use Rattle.speaker.specs.Runs.{Call, Run, turn, Up_call, Fail_call, Bytes_call, Tick_call, Command_call, Take_call, conf_called, configuration_of, history, moment_after, terms_in}
 use Rattle.speaker.specs.SpeakerState.{SpeakerState}
-use Rattle.speaker.specs.Tables.{link_at}
+use Rattle.speaker.specs.Tables.{link_at, tables}
 use Rattle.speaker.specs.declared.config.Config.{Config}
 use Rattle.speaker.proofs.Calls.{slots_changed}
 use Rattle.speaker.proofs.Events.{holds_put, slot_is, slot_of}
+use Rattle.speaker.proofs.KeptOffers.{kept_added, kept_again, moves_keep}
 use Rattle.speaker.proofs.SlotOctets.{slot_signalled}
+use Rattle.speaker.proofs.SoundOffers.{sound_conf}
 
 -- Connections that stand or fail, and commands, as the run with them has them.
 
@@ -86,7 +90,7 @@ holds_signalled config call r slot l input old new h linked is shut moves conf m
     let other : input ≡ Up → is_established (session (history config slot r)).state ≡ false =
     λ up. not_yet (session (history config slot r)) _ refl (λ k. shut up (ap transport_of here.link.peer.session ∙ k)) in
     let H : List happens.Event → Type 0 = λ x. SlotIs config peer.0 (moved l input) (route_at new.adj_in slot) x in
-    holds_put config r (turn call [] ∷ r) slot (moved l input) old new h conf moment moves.rest moves.links
+    holds_put config r (turn call [] ∷ r) slot (moved l input) old new h conf moment (moves_keep slot l input old new linked moves) moves.rest moves.links
     (λ t away p. moves.routes t p ∙ left_there slot t (effects_of input l.peer.session).left (route_at old.adj_in t p) away)
     (λ t away. histories t ∙ rw (ne_eqb t slot away) refl)
     peer.0 peer.1
@@ -110,25 +114,19 @@ holds_enable config r slot old new h may moves =
     holds_signalled config (Command_call (Enable slot)) r slot found.0 Start old new h found.1 refl (λ e. cc) (moves found.0 found.1) refl refl (λ t. refl)
 
 -- an entry of `reach`
-holds_reach : (config : Config) (r : Run) (prefix : Prefix) (cost : ℕ) (old new : SpeakerState) → Holds config r old → new.conf ≡ conf_after old.conf (Reach prefix cost)
+pub holds_reach : (config : Config) (r : Run) (prefix : Prefix) (cost : ℕ) (old new : SpeakerState) → Holds config r old → new.conf ≡ conf_after old.conf (Reach prefix cost)
     → ((s : ℕ) → peer_at new.conf s ≡ peer_after old.conf (Reach prefix cost) s) → new.config ≡ old.config → new.moment ≡ old.moment → new.links ≡ old.links → new.adj_in ≡ old.adj_in → new.stopped ≡ old.stopped
-    → Holds config (turn (Command_call (Reach prefix cost)) [] ∷ r) new
-holds_reach config r prefix cost old new h conf peers config_same moment links adj_in stopped = record {
+    → AreMadeAgain (tables new.conf old.links old.adj_in) (offer_at old.book) (offer_at new.book) → Holds config (turn (Command_call (Reach prefix cost)) [] ∷ r) new
+holds_reach config r prefix cost old new h conf peers config_same moment links adj_in stopped again = record {
   config_is = config_same ∙ h.config_is;
   moment = moment ∙ h.moment;
   conf = conf ∙ ap (λ c. conf_after c (Reach prefix cost)) h.conf;
   peers = (h.peers.0, λ t peer at. h.peers.1 t peer (sym (peers t) ∙ at));
   slots = λ t. let P : Option ConfiguredPeer → Type 0 = λ x. SlotAgrees config x (link_at old.links t) (route_at old.adj_in t) (history config t r) in
       rw (links, adj_in) (subst P (sym (peers t)) (h.slots t));
+  kept = kept_again old new links adj_in again h.kept;
   running = stopped ∙ h.running;
 }
-
-pub on_reach : {T F : Type 0} (result : Result T F) (prefix : Prefix) (cost : ℕ) (old new : SpeakerState) → OnOk result (new.conf ≡ conf_after old.conf (Reach prefix cost))
-    → OnOk result ((s : ℕ) → peer_at new.conf s ≡ peer_after old.conf (Reach prefix cost) s) → new.config ≡ old.config → new.moment ≡ old.moment → new.links ≡ old.links → new.adj_in ≡ old.adj_in → new.stopped ≡ old.stopped
-    → OnOk result ((config : Config) (r : Run) → Holds config r old → Holds config (turn (Command_call (Reach prefix cost)) [] ∷ r) new)
-on_reach (Ok done) prefix cost old new conf peers config_same moment links adj_in stopped = λ config r holds.
-    holds_reach config r prefix cost old new holds conf peers config_same moment links adj_in stopped
-on_reach (Err why) prefix cost old new conf peers config_same moment links adj_in stopped = tt
 
 -- with a new peer each is one that was accepted
 added_taken : (own : Asn) (slot t : ℕ) (before : Option ConfiguredPeer) (peer found : ConfiguredPeer) → IsTaken own slot peer → (before ≡ Some found → IsTaken own t found)
@@ -175,8 +173,8 @@ is_taken config r slot peer s h may = record {
 pub holds_added : (config : Config) (r : Run) (slot : ℕ) (peer : PeerConf) (old new : SpeakerState) → Holds config r old → first_refusal old.conf 0 (AddPeer slot peer) ≡ None
     → new.conf ≡ conf_after old.conf (AddPeer slot peer) → ((s : ℕ) → peer_at new.conf s ≡ peer_after old.conf (AddPeer slot peer) s)
     → IsPut slot (record { peer = configured (terms_in config (configured_of peer)).own peer.mode; adj_out = [] }) old new
-    → new.config ≡ old.config → new.moment ≡ old.moment → new.adj_in ≡ old.adj_in → new.stopped ≡ old.stopped → Holds config (turn (Command_call (AddPeer slot peer)) [] ∷ r) new
-holds_added config r slot peer old new h may conf peers put config_same moment adj_in stopped =
+    → new.config ≡ old.config → new.moment ≡ old.moment → new.adj_in ≡ old.adj_in → new.book ≡ old.book → new.stopped ≡ old.stopped → Holds config (turn (Command_call (AddPeer slot peer)) [] ∷ r) new
+holds_added config r slot peer old new h may conf peers put config_same moment adj_in book stopped =
     let free : peer_at old.conf slot ≡ None = peer_at-from_accepted old.conf 0 slot peer may in
     let before = h.slots slot in
     let vacant : is_established (session (history config slot r)).state ≡ false = before.vacant (sym before.configured ∙ ap (option_map (terms_in config)) free) in
@@ -200,8 +198,22 @@ holds_added config r slot peer old new h may conf peers put config_same moment a
             };
             routes_are = λ p. before.routes_are p ∙ no_route (history config slot r) p vacant;
           })));
+      kept =
+          kept_added slot (configured (terms_in config (configured_of peer)).own peer.mode) old new (offer_at old.book) (offer_at new.book) (slot-from_accepted old.conf 0 slot peer may) put
+          (λ p. before.routes_are p ∙ no_route (history config slot r) p vacant)
+          (ap (λ (c : Configuration). c.own) conf) (ap (λ (c : Configuration). c.reach) conf) (λ t other. peers t ∙ rw (ne_eqb t slot other) refl)
+          adj_in (ap (λ b. offer_at b) book) h.kept;
       running = stopped ∙ h.running;
     }
+
+-- its slot had no candidates, since no peer was there
+pub sound_added : (conf conf2 : Configuration) (offers : Offers) (slot : ℕ) (peer : PeerConf) → IsSound conf offers → AddressesDiffer conf2.peers → first_refusal conf 0 (AddPeer slot peer) ≡ None
+    → ((s : ℕ) → peer_at conf2 s ≡ peer_after conf (AddPeer slot peer) s) → IsSound conf2 offers
+sound_added conf conf2 offers slot peer sound addresses may peers = sound_conf conf conf2 offers sound addresses (λ s found at. still s found (s == slot) refl at)
+  where
+    still : (s : ℕ) (found : ConfiguredPeer) (b : Bool) → (s == slot) ≡ b → peer_at conf s ≡ Some found → peer_at conf2 s ≡ Some found
+    still s found true same at = let free = peer_at-from_accepted conf 0 slot peer may in let here = ap (λ x. peer_at conf x) (sym (eqb-true s slot same)) ∙ at in absurd (let never = sym free ∙ here in cc)
+    still s found false other at = peers s ∙ ap (λ b. cond b (Some (configured_of peer)) (peer_at conf s)) other ∙ at
 
 -- an insertion puts the slot
 pub put_inserted : (slot : ℕ) (link l : Linked) (f g : ℕ → Option Linked) → ((s : ℕ) → g s ≡ cond (is_at (nat_cmp slot) s) (Some link) (f s)) → link ≡ l

@@ -20,13 +20,14 @@ use Rattle.speaker.specs.AdjRibIn.{update_heard, word_if}
 use Rattle.speaker.specs.Agreement.{Hears, SlotAgrees, Holds}
 use Rattle.speaker.proofs.SlotStates.{SlotIs, slot_agrees, slot_from, linked_from}
 use Rattle.speaker.specs.Linked.{Linked}
-use Rattle.speaker.specs.Moves.{KeepsRest, IsPut, Pushes, TakesItem, moved, taken_on, taken_of}
+use Rattle.speaker.specs.Moves.{KeepsKept, KeepsRest, IsPut, Pushes, TakesItem, moved, taken_on, taken_of}
 use Rattle.speaker.specs.Runs.{Run, turn, Bytes_call, Tick_call, configuration_of, history, moment_after, terms_in}
 use Rattle.speaker.specs.SpeakerState.{SpeakerState}
 use Rattle.speaker.specs.Tables.{link_at}
 use Rattle.speaker.specs.declared.config.Config.{Config}
 use Rattle.speaker.proofs.Calls.{slots_changed}
 use Rattle.speaker.proofs.Histories.{route_stays}
+use Rattle.speaker.proofs.KeptOffers.{pushes_keep}
 use Rattle.speaker.proofs.Messages.{rest_kept}
 use Rattle.speaker.proofs.SlotEvents.{with_peer}
 use Rattle.speaker.proofs.SlotOctets.{slot_pushed, slot_taken, slot_shut, WithRest}
@@ -35,10 +36,10 @@ use Rattle.speaker.proofs.SlotOctets.{slot_pushed, slot_taken, slot_shut, WithRe
 
 -- one slot of the speaker changes
 pub holds_put : (config : Config) (r1 r2 : Run) (slot : ℕ) (l : Linked) (old new : SpeakerState) → Holds config r1 old → configuration_of config r2 ≡ configuration_of config r1 → moment_after r2 ≡ moment_after r1
-    → KeepsRest old new → IsPut slot l old new → ((t : ℕ) → t ≢ slot → (p : Prefix) → route_at new.adj_in t p ≡ route_at old.adj_in t p)
+    → KeepsKept old new → KeepsRest old new → IsPut slot l old new → ((t : ℕ) → t ≢ slot → (p : Prefix) → route_at new.adj_in t p ≡ route_at old.adj_in t p)
     → ((t : ℕ) → t ≢ slot → history config t r2 ≡ history config t r1)
     → (peer : ConfiguredPeer) → peer_at old.conf slot ≡ Some peer → SlotIs config peer l (route_at new.adj_in slot) (history config slot r2) → Holds config r2 new
-holds_put config r1 r2 slot l old new h conf moment keeps put routes histories peer configured here = record {
+holds_put config r1 r2 slot l old new h conf moment kept keeps put routes histories peer configured here = record {
   config_is = keeps.config ∙ h.config_is;
   moment = keeps.moment ∙ h.moment ∙ sym moment;
   conf = keeps.conf ∙ h.conf ∙ sym conf;
@@ -49,6 +50,7 @@ holds_put config r1 r2 slot l old new h conf moment keeps put routes histories p
       (λ t other. put t ∙ off t other)
       routes histories
       (rw (keeps.conf, put slot, eq-eqb slot slot refl, configured) (slot_agrees config peer l (route_at new.adj_in slot) (history config slot r2) here));
+  kept = kept h.kept;
   running = keeps.stopped ∙ h.running;
 }
   where
@@ -113,15 +115,15 @@ left_on false r = refl
 -- the octets and the item that they complete are taken
 takes_found : (config : Config) (r1 r2 : Run) (slot : ℕ) (peer : ConfiguredPeer) (l : Linked) (found : Option Item) (old mid new : SpeakerState) → meaning l.peer.rest ≡ found
     → Holds config r1 old → configuration_of config r2 ≡ configuration_of config r1 → moment_after r2 ≡ moment_after r1 → ((t : ℕ) → t ≢ slot → history config t r2 ≡ history config t r1) → peer_at old.conf slot ≡ Some peer
-    → KeepsRest old mid → IsPut slot l old mid → mid.adj_in ≡ old.adj_in
+    → KeepsKept old mid → KeepsRest old mid → IsPut slot l old mid → mid.adj_in ≡ old.adj_in
     → transport_of l.peer.session ≡ Connected → HasHeard (λ x rest. WithRest config peer l (route_at old.adj_in slot) x rest) (history config slot r2) l.peer.rest
     → TakesItem slot (terms_in config peer) l found mid new → Holds config r2 new
-takes_found config r1 r2 slot peer l None old mid new is h conf moment histories configured keeps put routes connected heard takes =
+takes_found config r1 r2 slot peer l None old mid new is h conf moment histories configured kept keeps put routes connected heard takes =
     let same : (t : ℕ) (p : Prefix) → route_at new.adj_in t p ≡ route_at old.adj_in t p = λ t p. takes.1 t p ∙ ap (λ table. route_at table t p) routes in
-    holds_put config r1 r2 slot l old new h conf moment (rest_kept old mid new keeps takes.2) (λ s. takes.0 s ∙ put s) (λ t other p. same t p) histories
+    holds_put config r1 r2 slot l old new h conf moment (λ before. takes.2 (kept before)) (rest_kept old mid new keeps takes.3) (λ s. takes.0 s ∙ put s) (λ t other p. same t p) histories
     peer configured (same_routes config peer l (route_at old.adj_in slot) (route_at new.adj_in slot) (history config slot r2) (heard.0 is) (same slot))
-takes_found config r1 r2 slot peer l (Some item) old mid new is h conf moment histories configured keeps put routes connected heard takes =
-    holds_put config r1 r2 slot (moved l (input_of l.peer.session.state (terms_in config peer) item)) old new h conf moment (rest_kept old mid new keeps takes.2)
+takes_found config r1 r2 slot peer l (Some item) old mid new is h conf moment histories configured kept keeps put routes connected heard takes =
+    holds_put config r1 r2 slot (moved l (input_of l.peer.session.state (terms_in config peer) item)) old new h conf moment (λ before. takes.2 (kept before)) (rest_kept old mid new keeps takes.3)
     (λ s. takes.0 s ∙ ap (λ other. cond (s == slot) (Some (moved l (input_of l.peer.session.state (terms_in config peer) item))) other) (put s)
     ∙ cond_again (s == slot) (Some (moved l (input_of l.peer.session.state (terms_in config peer) item))) (Some l) (link_at old.links s))
     (λ t other p. takes.1 t p ∙ rw (ne_eqb t slot other) (left_off (effects_of (input_of l.peer.session.state (terms_in config peer) item) l.peer.session).left (route_at mid.adj_in t p)) ∙ ap (λ table. route_at table t p) routes)
@@ -144,7 +146,7 @@ holds_heard config r done slot peer l octets old mid new h configured linked con
     let H : List happens.Event → Type 0 = λ x. HasHeard (λ y rest. WithRest config peer l (route_at old.adj_in slot) y rest) x (l.peer.rest ++ octets) in
     let heard = subst H on (slot_pushed config peer l (route_at old.adj_in slot) (history config slot (turn (Bytes_call slot done) [] ∷ r)) octets connected few here) in
     takes_found config (turn (Bytes_call slot done) [] ∷ r) (turn (Bytes_call slot (done ++ octets)) [] ∷ r) slot peer (with_peer l (pushed l.peer octets)) _ old mid new refl h refl refl
-    (λ t other. bytes_off config slot (done ++ octets) r t other ∙ sym (bytes_off config slot done r t other)) configured pushes.rest pushes.links pushes.routes connected heard takes
+    (λ t other. bytes_off config slot (done ++ octets) r t other ∙ sym (bytes_off config slot done r t other)) configured (pushes_keep slot l octets old mid linked pushes) pushes.rest pushes.links pushes.routes connected heard takes
 
 -- octets come to a connection that is closed or closing
 pub holds_shut : (config : Config) (r : Run) (done : List ℕ) (slot : ℕ) (peer : ConfiguredPeer) (l : Linked) (octets : List ℕ) (old new : SpeakerState)
@@ -158,7 +160,7 @@ holds_shut config r done slot peer l octets old new h configured linked shut pus
     let after = subst H on (slot_shut config peer l (route_at old.adj_in slot) (history config slot (turn (Bytes_call slot done) [] ∷ r)) octets shut here) in
     let R : List ℕ → Type 0 = λ x. SlotIs config peer (with_peer l (record { session = l.peer.session; rest = x; ring = l.peer.ring })) (route_at old.adj_in slot) (history config slot (turn (Bytes_call slot (done ++ octets)) [] ∷ r)) in
     let same = subst R (sym (append-nil l.peer.rest)) after in
-    holds_put config (turn (Bytes_call slot done) [] ∷ r) (turn (Bytes_call slot (done ++ octets)) [] ∷ r) slot (with_peer l (pushed l.peer [])) old new h refl refl pushes.rest pushes.links
+    holds_put config (turn (Bytes_call slot done) [] ∷ r) (turn (Bytes_call slot (done ++ octets)) [] ∷ r) slot (with_peer l (pushed l.peer [])) old new h refl refl (pushes_keep slot l [] old new linked pushes) pushes.rest pushes.links
     (λ t other p. ap (λ table. route_at table t p) pushes.routes)
     (λ t other. bytes_off config slot (done ++ octets) r t other ∙ sym (bytes_off config slot done r t other))
     peer configured (same_routes config peer (with_peer l (pushed l.peer [])) (route_at old.adj_in slot) (route_at new.adj_in slot) (history config slot (turn (Bytes_call slot (done ++ octets)) [] ∷ r)) same (λ p. ap (λ table. route_at table slot p) pushes.routes))
@@ -193,6 +195,7 @@ holds_nothing config r slot s h = record {
   conf = h.conf;
   peers = h.peers;
   slots = λ t. let P : List happens.Event → Type 0 = λ x. SlotAgrees config (peer_at s.conf t) (link_at s.links t) (route_at s.adj_in t) x in subst P (sym (bytes_none config slot r t _ refl)) (h.slots t);
+  kept = h.kept;
   running = h.running;
 }
 
@@ -214,6 +217,7 @@ holds_ticked config r now s h = record {
   conf = h.conf;
   peers = h.peers;
   slots = λ t. slot_ticked config (peer_at s.conf t) (link_at s.links t) (route_at s.adj_in t) (history config t r) now (h.slots t);
+  kept = h.kept;
   running = h.running;
 }
 

@@ -3,31 +3,29 @@ use Rattle.std.proofs.lemmas.Grind.{common_steps}
 use Rattle.std.specs.List.Sorted.{IsStrictlySortedBy}
 use Rattle.std.specs.Map.{keys_of}
 use Rattle.std.specs.Option.{IsSome, MatchOption, option_map}
-use Rattle.std.proofs.lemmas.Bool.{cases_eq, eq-eqb, eqb-true, ne_eqb}
+use Rattle.std.proofs.lemmas.Bool.{cases_eq, eq-eqb, ne_eqb}
 use Rattle.bgp_attr.specs.PathAttributes.{PathAttributes}
 use Rattle.bgp_conf.specs.Configuration.{Configuration, peer_at}
-use Rattle.bgp_fsm.proofs.TableLaws.{keeps_identifier, left_is}
+use Rattle.bgp_fsm.proofs.TableLaws.{keeps_identifier}
 use Rattle.bgp_fsm.specs.SessionTable.{effects_of, session_after}
 use Rattle.bgp_fsm.specs.StateTests.{is_established}
 use Rattle.bgp_fsm.specs.declared.input.Input.{Input}
 use Rattle.bgp_fsm.specs.declared.session.Session.{Session}
-use Rattle.bgp_peer.specs.Slot.{Slot}
-use Rattle.decision.specs.BookContents.{IsBestOf, best_at}
+use Rattle.bgp_peer.specs.Slot.{Slot, handed, pushed}
+use Rattle.decision.specs.BookContents.{IsBestOf, best_at, offer_at}
 use Rattle.decision.specs.declared.candidate.Candidate.{Candidate}
 use Rattle.net_prefix.specs.PrefixOrder.{prefix_cmp}
 use Rattle.net_prefix.specs.declared.prefix.Prefix.{Prefix}
-use Rattle.rib_in.specs.LatestRoutes.{RouteTable, is_route, route_at}
-use Rattle.speaker.specs.Candidates.{IsCandidateOf, IsCandidate, MakesNone, HasNoneAt, IsOnlyCandidateAt}
+use Rattle.rib_in.specs.LatestRoutes.{RouteTable, route_at}
+use Rattle.speaker.specs.Candidates.{IsCandidate, IsMade, HasNoneAt, IsOnlyCandidateAt}
 use Rattle.speaker.specs.Linked.{Linked}
 use Rattle.speaker.specs.LocRib.{HasNoCandidate, IsBest, IsLocRib}
-use Rattle.speaker.specs.Moves.{IsPut, moved}
-use Rattle.speaker.specs.Offers.{AreKept, IsOffer, KeepsUpdated, Offers, read_in}
+use Rattle.speaker.specs.Moves.{Hands, IsPut, KeepsKept, Moves, Pushes, moved}
+use Rattle.speaker.specs.Offers.{AreKept, AreMadeAgain, IsOffer, Offers, read_in}
 use Rattle.speaker.specs.Serving.{IsStill, IsToldAt}
 use Rattle.speaker.specs.SpeakerState.{SpeakerState, tables_of}
-use Rattle.speaker.specs.Tables.{Tables, link_at, session_at}
+use Rattle.speaker.specs.Tables.{Tables, link_at, session_at, tables}
 use Rattle.speaker.proofs.CandidateLists.{candidate_made, none_routed}
-use Rattle.speaker.proofs.Places.{same_from_is_prefix}
-use Rattle.speaker.proofs.RouteChanges.{is_route-parts}
 
 -- What leaves a slot's candidate of a prefix as it is.
 
@@ -104,16 +102,6 @@ offer_unrouted t u slot prefix found nothing still is =
 some_once : {X : Type 0} {x y : X} → Some x ≡ Some y → x ≡ y
 some_once is = cc
 
-both_true : (a b : Bool) → (a && b) ≡ true → (a ≡ true) × (b ≡ true)
-both_true true b h = (refl, h)
-both_true false b h = absurd (cc)
-
--- whether both name one route
-same_route : (slot : ℕ) (prefix : Prefix) (s : ℕ) (p : Prefix) → is_route slot prefix s p ≡ true → (s ≡ slot) × (p ≡ prefix)
-same_route slot prefix s p is =
-    let parts = both_true (s == slot) _ (sym (is_route-parts slot prefix s p) ∙ is) in
-    (eqb-true s slot parts.0, sym (same_from_is_prefix prefix p parts.1))
-
 -- Established that isn't left lasts
 lasting : (input : Input) (s : Session) → is_established s.state ≡ true → (effects_of input s).left ≡ false → is_established (session_after input s).state ≡ true
 lasting input s was lasts = grind (arith, common_steps)
@@ -159,38 +147,34 @@ kept_gone conf sessions old new had has gone routes offers kept = record {
     routed_here slot prefix true route there = no_none (route_at new slot prefix) route there
     routed_here slot prefix false route there = some_if (route_at old slot prefix) (route_at new slot prefix) (sym route) there
 
--- one route comes, and makes this candidate
-pub kept_come : (conf : Configuration) (slot identifier : ℕ) (prefix : Prefix) (attrs : PathAttributes) (found : Option Candidate) (old new : RouteTable) (had has : Offers)
-    → MatchOption found (MakesNone conf slot identifier attrs) (λ c. (c.slot ≡ slot) × IsCandidateOf conf identifier attrs c)
-    → ((s : ℕ) (p : Prefix) → route_at new s p ≡ cond (is_route slot prefix s p) (Some attrs) (route_at old s p))
-    → ((s : ℕ) (p : Prefix) → has s p ≡ cond (is_route slot prefix s p) found (had s p))
-    → KeepsUpdated conf slot identifier old new had has
-kept_come conf slot identifier prefix attrs found old new had has made routes offers session established same sessions there kept = record {
-  made = λ s p. made_here s p (is_route slot prefix s p) refl (routes s p) (offers s p);
-  routed = λ s p routed. routed_here s p (is_route slot prefix s p) refl (routes s p) routed;
+-- routes of the slot with these attributes come, and make this candidate
+pub kept_come : (conf : Configuration) (slot identifier : ℕ) (attrs : PathAttributes) (found : Option Candidate) (old new : RouteTable) (had has : Offers) (come : ℕ → Prefix → Bool)
+    → ((s : ℕ) (p : Prefix) → come s p ≡ true → s ≡ slot) → IsMade conf slot identifier attrs found
+    → ((s : ℕ) (p : Prefix) → route_at new s p ≡ cond (come s p) (Some attrs) (route_at old s p))
+    → ((s : ℕ) (p : Prefix) → has s p ≡ cond (come s p) found (had s p))
+    → (session : Session) → is_established session.state ≡ true → session.identifier ≡ identifier → (sessions : ℕ → Option Session) → sessions slot ≡ Some session
+    → AreKept (read_in conf sessions old) had → AreKept (read_in conf sessions new) has
+kept_come conf slot identifier attrs found old new had has come here made routes offers session established same sessions there kept = record {
+  made = λ s p. made_here s p (come s p) refl (routes s p) (offers s p);
+  routed = λ s p routed. routed_here s p (come s p) refl (routes s p) routed;
   below = kept.below;
 }
   where
-    here : (s : ℕ) (p : Prefix) → is_route slot prefix s p ≡ true → (s ≡ slot) × (p ≡ prefix)
-    here s p is = same_route slot prefix s p is
-
-    made_there : (s : ℕ) (p : Prefix) → s ≡ slot → p ≡ prefix → route_at new s p ≡ Some attrs → IsOffer (read_in conf sessions new) s p found
-    made_there s p slots prefixes route =
+    made_there : (s : ℕ) (p : Prefix) → s ≡ slot → route_at new s p ≡ Some attrs → IsOffer (read_in conf sessions new) s p found
+    made_there s p slots route =
         subst (λ x. IsOffer (read_in conf sessions new) x p found) (sym slots)
         (candidate_made (read_in conf sessions new) p slot identifier session attrs found (kept.below slot session there) there (subst (λ x. route_at new x p ≡ Some attrs) slots route) (sym same) made)
 
-    made_here : (s : ℕ) (p : Prefix) (b : Bool) → is_route slot prefix s p ≡ b → route_at new s p ≡ cond b (Some attrs) (route_at old s p) → has s p ≡ cond b found (had s p)
+    made_here : (s : ℕ) (p : Prefix) (b : Bool) → come s p ≡ b → route_at new s p ≡ cond b (Some attrs) (route_at old s p) → has s p ≡ cond b found (had s p)
         → IsOffer (read_in conf sessions new) s p (has s p)
-    made_here s p true is route offer =
-        let at = here s p is in
-        subst (λ f. IsOffer (read_in conf sessions new) s p f) (sym offer) (made_there s p at.0 at.1 route)
+    made_here s p true is route offer = subst (λ f. IsOffer (read_in conf sessions new) s p f) (sym offer) (made_there s p (here s p is) route)
     made_here s p false is route offer =
         subst (λ f. IsOffer (read_in conf sessions new) s p f) (sym offer)
         (offer_alike (read_in conf sessions old) (read_in conf sessions new) s p (had s p) (record { own = refl; reach = refl; peer = refl; identifier = refl; route = route }) (kept.made s p))
 
-    routed_here : (s : ℕ) (p : Prefix) (b : Bool) → is_route slot prefix s p ≡ b → route_at new s p ≡ cond b (Some attrs) (route_at old s p) → IsSome (route_at new s p)
+    routed_here : (s : ℕ) (p : Prefix) (b : Bool) → come s p ≡ b → route_at new s p ≡ cond b (Some attrs) (route_at old s p) → IsSome (route_at new s p)
         → (x : Session) × (sessions s ≡ Some x) × (is_established x.state ≡ true)
-    routed_here s p true is route routed = let at = here s p is in (session, ap sessions at.0 ∙ there, established)
+    routed_here s p true is route routed = (session, ap sessions (here s p is) ∙ there, established)
     routed_here s p false is route routed = kept.routed s p (some_if (route_at old s p) (route_at new s p) (sym route) routed)
 
 -- nothing has changed at any route
@@ -317,6 +301,18 @@ kept_put slot l m old new had has linked session put conf adj_in book kept =
       | inr other ↦ let same : link_at new.links s ≡ link_at old.links s = put s ∙ rw (ne_eqb s slot other) refl in ap (option_map (λ (x : Linked). x.peer.session)) same
     ]
 
+-- so it is where a session takes an input, octets come, or octets are handed out
+pub moves_keep : (slot : ℕ) (l : Linked) (input : Input) (old new : SpeakerState) → link_at old.links slot ≡ Some l → Moves slot l input old new → KeepsKept old new
+moves_keep slot l input old new linked moves = kept_moved slot l input old new (offer_at old.book) (offer_at new.book) linked moves.links moves.rest.conf moves.routes moves.offers
+
+pub pushes_keep : (slot : ℕ) (l : Linked) (octets : List ℕ) (old new : SpeakerState) → link_at old.links slot ≡ Some l → Pushes slot l octets old new → KeepsKept old new
+pushes_keep slot l octets old new linked pushes =
+    kept_put slot l (record { peer = pushed l.peer octets; adj_out = l.adj_out }) old new (offer_at old.book) (offer_at new.book) linked refl pushes.links pushes.rest.conf pushes.routes (ap (λ b. offer_at b) pushes.book)
+
+pub hands_keep : (slot : ℕ) (l : Linked) (count : ℕ) (old new : SpeakerState) → link_at old.links slot ≡ Some l → Hands slot l count old new → KeepsKept old new
+hands_keep slot l count old new linked hands =
+    kept_put slot l (record { peer = handed l.peer count; adj_out = l.adj_out }) old new (offer_at old.book) (offer_at new.book) linked refl hands.links hands.rest.conf hands.routes (ap (λ b. offer_at b) hands.book)
+
 -- a peer is told something
 pub kept_told : (slot : ℕ) (p : Prefix) (export : Option (List ℕ)) (old new : SpeakerState) (had : Offers) → IsToldAt slot p export old new → AreKept (tables_of old) had → AreKept (tables_of new) had
 kept_told slot p export old new had told =
@@ -383,6 +379,14 @@ kept_remade old new had has remade still links adj_in kept = record {
         let there : IsSome (route_at old.adj_in s p) = rw is refl in
         let before = kept.routed s p there in
         remade s p before.0 before.1 (kept.below s before.0 before.1) there
+
+-- with another configuration the candidates of all routes were made again
+pub kept_again : (old new : SpeakerState) → new.links ≡ old.links → new.adj_in ≡ old.adj_in → AreMadeAgain (tables new.conf old.links old.adj_in) (offer_at old.book) (offer_at new.book) → KeepsKept old new
+kept_again old new links adj_in again =
+    kept_remade old new (offer_at old.book) (offer_at new.book)
+    (λ slot prefix session linked below there.
+    subst (λ t. IsOffer t slot prefix (offer_at new.book slot prefix)) (λ i. tables new.conf (sym links i) (sym adj_in i)) (again.made slot prefix session below linked there))
+    again.still links adj_in
 
 -- Loc-RIB has the best of the candidates of all routes
 

@@ -2,9 +2,11 @@ pub mod CandidateLists
 pub mod Results
 pub mod Places
 pub mod Serving
-pub mod ChosenRoutes
 pub mod RouteChanges
 pub mod KeptOffers
+pub mod SoundOffers
+pub mod HeardOffers
+pub mod RemadeOffers
 pub mod SentPrefixes
 pub mod Histories
 pub mod SlotStates
@@ -25,3 +27,6 @@ pub mod WaitingLists
 pub mod OneBest
 pub mod Moments
 pub mod WaitingRuns
+pub mod Marking
+pub mod Owing
+pub mod AddedMarks

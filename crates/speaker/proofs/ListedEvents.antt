@@ -1,9 +1,12 @@
 use Rattle.std.proofs.Common.{◌≡◌, ◌<◌, ◌++◌, inl, inr, ℕ, zero, suc, true, length, replicate, cond, IfOk, IfErr, arith, append_assoc, length-append, List, [], ◌∷◌, Option, Some, None, Result, Ok, Err, refl, sym, ap, ◌∙◌, subst}
-use Rattle.std.specs.Option.{MatchOption}
+use Rattle.std.specs.Option.{MatchOption, option_map}
 use Rattle.bgp_conf.specs.declared.refusal.Refusal.{Refusal}
 use Rattle.bgp_conf.specs.declared.refusal.Refusal.TheVariants.{NoMemory}
+use Rattle.decision.specs.BookContents.{offer_at}
+use Rattle.rib_in.specs.LatestRoutes.{route_at}
 use Rattle.speaker.specs.Agreement.{Agrees}
 use Rattle.speaker.specs.FirstRefusal.{refusal_by, refusal_in, refusal_of, Grows, LacksMemory}
+use Rattle.speaker.specs.Linked.{Linked}
 use Rattle.speaker.specs.Played.{Follows, GoesOn, HasRun, HasStopped, IsPlayed}
 use Rattle.speaker.specs.Queueing.{Queue}
 use Rattle.speaker.specs.Runs.{Run, turn, call_of, configuration_of, report_of}
@@ -11,6 +14,7 @@ use Rattle.speaker.specs.SpeakerState.{SpeakerState, IsAsBefore, started, tables
 use Rattle.speaker.specs.declared.config.Config.{Config}
 use Rattle.speaker.specs.declared.event.Event.{Event}
 use Rattle.speaker.specs.declared.event.Report.{Report}
+use Rattle.speaker.proofs.KeptOffers.{kept_same}
 use Rattle.speaker.proofs.Refusals.{refusal_same}
 use Rattle.speaker.proofs.WaitingLists.{nothing_rises}
 
@@ -30,6 +34,11 @@ agrees_new config own = record {
       link = λ l there. absurd (cc);
       vacant = λ none. refl;
       routes_are = λ prefix. refl;
+    };
+    kept = record {
+      made = λ slot prefix. λ c at is. let none = is.made.configured in absurd (cc);
+      routed = λ slot prefix there. absurd (cc);
+      below = λ slot session there. absurd (cc);
     };
     running = refl;
   };
@@ -56,12 +65,20 @@ agrees_same config r old new same a = record {
     conf = same.conf ∙ a.holds.conf;
     peers = rw same.conf a.holds.peers;
     slots = λ t. rw (same.conf, same.links t, same.adj_in) (a.holds.slots t);
+    kept = kept_same (tables_of old) (tables_of new) (offer_at old.book) (offer_at new.book) tables (ap (λ b. offer_at b) same.book) a.holds.kept;
     running = same.stopped ∙ a.holds.running;
   };
   loc_rib = rw same.loc_rib a.loc_rib;
   settled = a.settled;
   thrifty = a.thrifty;
 }
+  where
+    tables : tables_of old ≡ tables_of new
+    tables i = record {
+      conf = sym same.conf i;
+      sessions = λ s. option_map (λ (l : Linked). l.peer.session) (sym (same.links s) i);
+      routes = λ s p. route_at (sym same.adj_in i) s p;
+    }
 
 pub played_none : (config : Config) (s : SpeakerState) → Agrees config [] s → IsPlayed config [] [] s
 played_none config s agrees = inl (record { r = []; follows = refl; agrees = agrees })

@@ -1,4 +1,6 @@
 use Rattle.std.proofs.Common.{◌≡◌, ◌≢◌, ◌≤◌, ◌<◌, ◌+◌, ◌==◌, ◌^◌, ℕ, Bool, true, false, List, [], ◌∷◌, Option, Some, None, Result, Ok, Err, OnOk, length, cond, MatchOption, refl, sym, ap, ◌∙◌, subst}
+use Rattle.std.specs.List.Sorted.{IsStrictlySortedBy}
+use Rattle.std.specs.Map.{keys_of}
 use Rattle.std.specs.Option.{option_map}
 use Rattle.bgp_attr.specs.AsPath.{PathSegment}
 use Rattle.bgp_attr.specs.PathAttributes.{PathAttributes, missing_of}
@@ -11,8 +13,10 @@ use Rattle.bgp_peer.specs.SentMessages.{ring_of}
 use Rattle.bgp_peer.specs.SessionInputs as happens
 use Rattle.bgp_peer.specs.SessionInputs.{Queued, session}
 use Rattle.bgp_peer.proofs.Agreeing.{ring-is}
+use Rattle.decision.specs.BookContents.{IsBestOf, offer_at}
 use Rattle.decision.specs.declared.candidate.Candidate.{Candidate}
 use Rattle.export_rules.specs.Export.{AreAccepted}
+use Rattle.net_prefix.specs.PrefixOrder.{prefix_cmp}
 use Rattle.net_prefix.specs.declared.prefix.Prefix.{Prefix}
 use Rattle.rib_in.specs.LatestRoutes.{route_at}
 use Rattle.rib_out.specs.Held.{held_at}
@@ -23,6 +27,7 @@ use Rattle.speaker.specs.Held.{held, told_in}
 use Rattle.speaker.specs.Linked.{Linked}
 use Rattle.speaker.specs.LocRib.{HasNoCandidate, IsBest, IsLocRib}
 use Rattle.speaker.specs.Candidates.{IsCandidate}
+use Rattle.speaker.specs.Offers.{AreKept}
 use Rattle.speaker.specs.Queueing.{Queue, IsServed, update_saying, rank_of}
 use Rattle.speaker.specs.Runs.{Call, Run, turn, configuration_of, history}
 use Rattle.speaker.specs.Serving.{HasRoom, IsServedAt, IsStill, IsToldAt}
@@ -33,6 +38,7 @@ use Rattle.speaker.proofs.Calls.{best_candidate, tables_same, export_is, export_
 use Rattle.speaker.proofs.Commands.{own_is, peer_of}
 use Rattle.speaker.proofs.Events.{holds_put, slot_is}
 use Rattle.speaker.proofs.Histories.{route_stays}
+use Rattle.speaker.proofs.KeptOffers.{kept_loc_rib, kept_still_links, kept_told}
 use Rattle.speaker.proofs.QueuedUpdates.{IsGood, saying_faultless, slot_queued, saying_is_update, saying_names, saying_says, named_is}
 use Rattle.speaker.proofs.SlotStates.{SlotIs, linked_from}
 
@@ -132,13 +138,15 @@ queues_told slot p export now new told up room exported accepts news config call
     let short : (a : List ℕ) → export ≡ Some a → length a ≤ 4068 = λ a some. export_short now slot p a (exported ∙ some) in
     let after = slot_queued config peer.0 p export told.before told.after (route_at now.adj_in slot) (history config slot (turn call queue ∷ r)) short up room told.told before in
     let routes : new.adj_in ≡ now.adj_in = ap (λ (s : SpeakerState). s.adj_in) told.rest in
+    let book : new.book ≡ now.book = ap (λ (s : SpeakerState). s.book) told.rest in
     let loc_rib : new.loc_rib ≡ now.loc_rib = ap (λ (s : SpeakerState). s.loc_rib) told.rest in
     let T : Tables → Type 0 = λ t. IsLocRib t new.loc_rib in (
       (slot, update_saying p export) ∷ queue,
       record {
         holds =
             holds_put config (turn call queue ∷ r) (turn call ((slot, update_saying p export) ∷ queue) ∷ r) slot told.after now new passes.holds refl refl
-            (record { config = ap (λ (s : SpeakerState). s.config) told.rest; moment = ap (λ (s : SpeakerState). s.moment) told.rest; conf = ap (λ (s : SpeakerState). s.conf) told.rest; loc_rib = loc_rib; stopped = ap (λ (s : SpeakerState). s.stopped) told.rest })
+            (λ kept. subst (λ b. AreKept (tables_of new) (offer_at b)) (sym book) (kept_told slot p export now new (offer_at now.book) told kept))
+            (record { config = ap (λ (s : SpeakerState). s.config) told.rest; moment = ap (λ (s : SpeakerState). s.moment) told.rest; conf = ap (λ (s : SpeakerState). s.conf) told.rest; stopped = ap (λ (s : SpeakerState). s.stopped) told.rest })
             told.puts (λ t other q. ap (λ table. route_at table t q) routes) (λ t other. off_slot config t slot call (update_saying p export) queue r other)
             peer.0 peer.1 (rw (routes, at_slot config slot call (update_saying p export) queue r) after);
         loc_rib = subst T (sym (tables_queued config call r queue slot (update_saying p export))) (rw loc_rib passes.loc_rib);
@@ -158,6 +166,7 @@ queues_still now new still config call r queue passes =
           conf = passes.holds.conf;
           peers = passes.holds.peers;
           slots = λ t. subst (λ l. SlotAgrees config (peer_at now.conf t) l (route_at now.adj_in t) (history config t (turn call queue ∷ r))) (sym (still.links t)) (passes.holds.slots t);
+          kept = kept_still_links now new (offer_at now.book) still passes.holds.kept;
           running = passes.holds.running;
         };
         loc_rib = passes.loc_rib;
@@ -206,19 +215,12 @@ agrees_served config call r queue s passes thrifty served =
       thrifty = (passes.owed, thrifty);
     }
 
--- another choice of Loc-RIB changes nothing that a run has of the slots
-pub holds_chosen : (config : Config) (r : Run) (old new : SpeakerState) (loc_rib : List (Prefix × Candidate)) → new ≡ record old { loc_rib = loc_rib } → Holds config r old → Holds config r new
-holds_chosen config r old new loc_rib is h =
-    let P : SpeakerState → Type 0 = λ s. Holds config r s in
-    let same : Holds config r (record old { loc_rib = loc_rib }) = record { config_is = h.config_is; moment = h.moment; conf = h.conf; peers = h.peers; slots = h.slots; running = h.running } in
-    subst P (sym is) same
-
--- a step's end: Loc-RIB was chosen, and then it queued
-pub settled_agrees : {T F : Type 0} (result : Result T F) (old mid new : SpeakerState) → IsLocRib (tables_of mid) mid.loc_rib → mid ≡ record old { loc_rib = mid.loc_rib } → QueuesOn mid new
-    → OnOk result ((slot : ℕ) → slot < 64 → IsServedAt new slot)
+-- a step's end: Loc-RIB has the best of the candidates that are kept, and then it queued
+pub settled_agrees : {T F : Type 0} (result : Result T F) (old new : SpeakerState) → ((p : Prefix) → IsBestOf (λ s. offer_at old.book s p) (best_at old.loc_rib p)) → IsStrictlySortedBy prefix_cmp (keys_of old.loc_rib)
+    → QueuesOn old new → OnOk result ((slot : ℕ) → slot < 64 → IsServedAt new slot)
     → OnOk result ((config : Config) (call : Call) (r : Run) → Holds config (turn call [] ∷ r) old → IsThrifty config r → (queue : Queue) × Agrees config (turn call queue ∷ r) new)
-settled_agrees (Err why) old mid new chosen rest queues served = tt
-settled_agrees (Ok done) old mid new chosen rest queues served = λ config call r holds thrifty.
-    let passes = passes_first config call r mid (holds_chosen config (turn call [] ∷ r) old mid mid.loc_rib rest holds) chosen in
-    let queued = queues config call r [] passes in
+settled_agrees (Err why) old new best rising queues served = tt
+settled_agrees (Ok done) old new best rising queues served = λ config call r holds thrifty.
+    let chosen : IsLocRib (tables_of old) old.loc_rib = kept_loc_rib (tables_of old) (offer_at old.book) old.loc_rib best rising holds.kept in
+    let queued = queues config call r [] (passes_first config call r old holds chosen) in
     (queued.0, agrees_served config call r queued.0 new queued.1 thrifty served)

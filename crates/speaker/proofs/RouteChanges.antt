@@ -3,23 +3,21 @@ use Rattle.std.specs.Ordering.{nat_cmp, ordering_then, is_eq}
 use Rattle.std.specs.declared.cmp.Ordering.{Ordering}
 use Rattle.std.specs.declared.cmp.Ordering.TheVariants.{Less, Equal, Greater}
 use Rattle.std.proofs.lemmas.List.{append-nil}
-use Rattle.bgp_attr.specs.PathAttributes.{PathAttributes}
 use Rattle.bgp_conf.proofs.PrefixOrder.{is_eq-nat_cmp}
 use Rattle.net_prefix.specs.PrefixOrder.{prefix_cmp}
 use Rattle.net_prefix.specs.declared.prefix.Prefix.{Prefix}
-use Rattle.rib_in.specs.LatestRoutes.{RouteTable, route_at, is_route}
+use Rattle.rib_in.specs.LatestRoutes.{is_route}
 use Rattle.speaker.specs.AdjRibIn.{is_among}
 
 -- What the prefixes of an UPDATE make of the routes of its slot.
 
--- a table of routes
-abbrev pub Routes : Type 0
-Routes = RouteTable
+-- what there is of each slot and prefix
+abbrev pub Found : Type 0 → Type 0
+Found X = ℕ → Prefix → Option X
 
--- the slot's routes to these prefixes become this, and no other route changes
-abbrev pub IsSet : ℕ → List Prefix → Option PathAttributes → Routes → Routes → Type 0
-IsSet slot prefixes what old new =
-    (s : ℕ) (p : Prefix) → route_at new s p ≡ cond (s == slot && is_among p prefixes) what (route_at old s p)
+-- what there is of the slot and these prefixes becomes this, and nothing else changes
+abbrev pub IsSet : {X : Type 0} → ℕ → List Prefix → Option X → Found X → Found X → Type 0
+IsSet slot prefixes what old new = (s : ℕ) (p : Prefix) → new s p ≡ cond (s == slot && is_among p prefixes) what (old s p)
 
 both_equal : (o p : Ordering) → is_eq (ordering_then o p) ≡ (is_eq p && is_eq o)
 both_equal Less Less = refl
@@ -57,27 +55,26 @@ none_set : {X : Type 0} (b : Bool) (what r : X) → r ≡ cond (b && false) what
 none_set true what r = refl
 none_set false what r = refl
 
-IsSet-none : (slot : ℕ) (what : Option PathAttributes) (old : Routes) → IsSet slot [] what old old
-IsSet-none slot what old s p = none_set (s == slot) what (route_at old s p)
+IsSet-none : {X : Type 0} (slot : ℕ) (what : Option X) (old : Found X) → IsSet slot [] what old old
+IsSet-none slot what old s p = none_set (s == slot) what (old s p)
 
 -- these prefixes so far, with those that are still to come
-pub record Sets (slot : ℕ) (prefixes seen rest : List Prefix) (what : Option PathAttributes) (old now : Routes) : Type 0 where
+pub record Sets {X : Type 0} (slot : ℕ) (prefixes seen rest : List Prefix) (what : Option X) (old now : Found X) : Type 0 where
   pub whole : seen ++ rest ≡ prefixes
-  pub routes : IsSet slot seen what old now
+  pub set : IsSet slot seen what old now
 
-pub Sets-start : (slot : ℕ) (prefixes rest : List Prefix) (what : Option PathAttributes) (old : Routes) → rest ≡ prefixes → Sets slot prefixes [] rest what old old
-Sets-start slot prefixes rest what old all = record { whole = all; routes = IsSet-none slot what old }
+pub Sets-start : {X : Type 0} (slot : ℕ) (prefixes rest : List Prefix) (what : Option X) (old : Found X) → rest ≡ prefixes → Sets slot prefixes [] rest what old old
+Sets-start slot prefixes rest what old all = record { whole = all; set = IsSet-none slot what old }
 
-pub Sets-more : (slot : ℕ) (prefixes seen rest next : List Prefix) (e : Prefix) (what : Option PathAttributes) (old now new : Routes)
+pub Sets-more : {X : Type 0} (slot : ℕ) (prefixes seen rest next : List Prefix) (e : Prefix) (what : Option X) (old now new : Found X)
     → Sets slot prefixes seen rest what old now → rest ≡ e ∷ next
-    → ((s : ℕ) (p : Prefix) → route_at new s p ≡ cond (is_route slot e s p) what (route_at now s p)) → Sets slot prefixes (seen ++ e ∷ []) next what old new
+    → ((s : ℕ) (p : Prefix) → new s p ≡ cond (is_route slot e s p) what (now s p)) → Sets slot prefixes (seen ++ e ∷ []) next what old new
 Sets-more slot prefixes seen rest next e what old now new h is set = record {
   whole = let here = rw is at h.whole in append_assoc seen (e ∷ []) next ∙ here;
-  routes = λ s p.
-      rw (set s p, is_route-parts slot e s p, h.routes s p, among_push p seen e)
-      (one_more (s == slot) (is_among p seen) (is_eq (prefix_cmp e p)) what (route_at old s p));
+  set = λ s p.
+      rw (set s p, is_route-parts slot e s p, h.set s p, among_push p seen e)
+      (one_more (s == slot) (is_among p seen) (is_eq (prefix_cmp e p)) what (old s p));
 }
 
-pub Sets-end : (slot : ℕ) (prefixes seen rest : List Prefix) (what : Option PathAttributes) (old now : Routes) → Sets slot prefixes seen rest what old now → rest ≡ []
-    → IsSet slot prefixes what old now
-Sets-end slot prefixes seen rest what old now h none = let here = rw none at h.whole in let all : seen ≡ prefixes = sym (append-nil seen) ∙ here in rw (← all) h.routes
+pub Sets-end : {X : Type 0} (slot : ℕ) (prefixes seen rest : List Prefix) (what : Option X) (old now : Found X) → Sets slot prefixes seen rest what old now → rest ≡ [] → IsSet slot prefixes what old now
+Sets-end slot prefixes seen rest what old now h none = let here = rw none at h.whole in let all : seen ≡ prefixes = sym (append-nil seen) ∙ here in rw (← all) h.set

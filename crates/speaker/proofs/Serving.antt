@@ -13,10 +13,12 @@ use Rattle.rib_out.proofs.Prefixes.{is_prefix-refl}
 use Rattle.speaker.specs.Agreement.{QueuesOn}
 use Rattle.speaker.specs.Export.{IsAccepted, export_in, export_peer_of, export_to}
 use Rattle.speaker.specs.Linked.{Linked}
+use Rattle.speaker.specs.Marks.{IsServedBy, announced_of, withdrawn_of}
 use Rattle.speaker.specs.Queueing.{rank_of, update_saying}
 use Rattle.speaker.specs.Serving.{IsServedAt, IsUpAt, HasRoom, HasRoomAt, IsOfSlot, IsStill, IsToldAt, Serves, IsDoneAt, IsGone, IsHad, IsNext}
 use Rattle.speaker.specs.SpeakerState.{SpeakerState}
 use Rattle.speaker.specs.Tables.{best_at, link_at}
+use Rattle.speaker.proofs.Owing.{announced_news, gone_idle, had_idle, withdrawn_parts}
 use Rattle.speaker.proofs.Passing.{Accepts, queues_told, queues_still}
 use Rattle.speaker.proofs.Places.{reached, above_from_rank, rank_from_above, greater_from_rank, same_from_is_prefix, same_from_rank}
 
@@ -201,27 +203,26 @@ pub export_now : (first now : SpeakerState) (slot : ℕ) (peer : ExportPeer) →
     → (prefix : Prefix) → export_to first slot prefix ≡ export_in (best_at now.loc_rib) now.adj_in peer prefix
 export_now first now slot peer rest is prefix = export_given first slot peer is prefix ∙ ap (λ (s : SpeakerState). export_in (best_at s.loc_rib) s.adj_in peer prefix) (sym rest)
 
--- what isn't exported is withdrawn
-pub Walks-withdrawn : (slot : ℕ) (first now new : SpeakerState) (after : Option Prefix) (p : Prefix) (peer : ExportPeer) → (h : Walks (IsGone (export_to first slot)) slot first after now)
-    → Some peer ≡ option_map (export_peer_of first.conf slot) (peer_at first.conf slot) → IsNext (held_at h.serves.after.adj_out) after (Some p) → rank_of p < 2 ^ 38 → HasRoomAt now slot
-    → export_in (best_at now.loc_rib) now.adj_in peer p ≡ None → IsToldAt slot p None now new → Walks (IsGone (export_to first slot)) slot first (Some p) new
-Walks-withdrawn slot first now new after p peer h is next place room none told =
-    Walks-told (IsGone (export_to first slot)) (held_at h.serves.after.adj_out) slot first now new after p None h (λ q idle missing. idle) next place room
-    (export_now first now slot peer h.serves.only.rest is p ∙ none) (λ gone. let found = rw gone at next.0 in (cc)) (λ missing. refl) (λ a some. absurd (cc)) told
+mapped : {X Y : Type 0} (f : X → Y) (o : Option X) (y : Y) → Some y ≡ option_map f o → (x : X) × (o ≡ Some x)
+mapped f None y is = absurd (cc)
+mapped f (Some x) y is = (x, refl)
 
--- what is exported stays
-pub Walks-stays : (slot : ℕ) (first now : SpeakerState) (after : Option Prefix) (p : Prefix) (peer : ExportPeer) (octets : List ℕ) → (h : Walks (IsGone (export_to first slot)) slot first after now)
-    → Some peer ≡ option_map (export_peer_of first.conf slot) (peer_at first.conf slot) → IsNext (held_at h.serves.after.adj_out) after (Some p) → rank_of p < 2 ^ 38
-    → export_in (best_at now.loc_rib) now.adj_in peer p ≡ Some octets → Walks (IsGone (export_to first slot)) slot first (Some p) now
-Walks-stays slot first now after p peer octets h is next place some =
-    Walks-kept (IsGone (export_to first slot)) (held_at h.serves.after.adj_out) slot first now after p h (λ q idle missing. idle) next place
-    (λ missing. let exported = export_now first now slot peer h.serves.only.rest is p ∙ some in absurd (cc))
+-- the slot is that of an Established peer
+pub served_by : (slot : ℕ) (first now : SpeakerState) (peer : ExportPeer) → (h : Serves slot first now) → Some peer ≡ option_map (export_peer_of first.conf slot) (peer_at first.conf slot) → IsServedBy now slot h.after
+served_by slot first now peer h is =
+    let found = mapped (export_peer_of first.conf slot) (peer_at first.conf slot) peer is in
+    record { peer = found.0; configured = ap (λ (s : SpeakerState). peer_at s.conf slot) h.only.rest ∙ found.1; linked = h.is; established = h.up }
 
--- without a best route nothing is exported
-none_exported : (slot : ℕ) (first now : SpeakerState) (peer : ExportPeer) (held : Prefix → Option (List ℕ)) → now ≡ record first { links = now.links }
-    → Some peer ≡ option_map (export_peer_of first.conf slot) (peer_at first.conf slot) → (q : Prefix) → best_at now.loc_rib q ≡ None → IsHad (export_to first slot) q (held q)
-none_exported slot first now peer held rest is q idle octets some =
-    let none : export_to first slot q ≡ None = export_now first now slot peer rest is q ∙ rw idle refl in absurd (cc)
+-- what is held and isn't exported is withdrawn
+pub Walks-withdrawn : (slot : ℕ) (first now new : SpeakerState) (after : Option Prefix) (p : Prefix) → (h : Walks (IsGone (export_to first slot)) slot first after now)
+    → IsNext (λ q. withdrawn_of (export_to now slot q) (held_at h.serves.after.adj_out q)) after (Some p) → rank_of p < 2 ^ 38 → HasRoomAt now slot → IsToldAt slot p None now new
+    → Walks (IsGone (export_to first slot)) slot first (Some p) new
+Walks-withdrawn slot first now new after p h next place room told =
+    let exports : export_to now slot ≡ export_to first slot = ap (λ e. e slot) (export_kept first now h.serves.only.rest) in
+    let parts = withdrawn_parts (export_to now slot p) (held_at h.serves.after.adj_out p) next.0 in
+    Walks-told (IsGone (export_to first slot)) (λ q. withdrawn_of (export_to now slot q) (held_at h.serves.after.adj_out q)) slot first now new after p None h
+    (λ q idle. subst (λ e. IsGone e q (held_at h.serves.after.adj_out q)) exports (gone_idle (export_to now slot) q (held_at h.serves.after.adj_out q) idle)) next place room
+    (sym (ap (λ e. e p) exports) ∙ parts.0) (λ gone. let some = subst (λ o. IsSome o) gone parts.1 in (cc)) (λ missing. refl) (λ a some. absurd (cc)) told
 
 -- what is exported is good to the slot's peer
 accepts_given : (slot : ℕ) (first now : SpeakerState) (p : Prefix) (peer : ExportPeer) (octets : List ℕ) → now ≡ record first { links = now.links }
@@ -234,24 +235,34 @@ accepts_given slot first now p peer octets rest is accepted a some q configured 
     let here : octets ≡ a = cc in
     subst (λ x. IsAccepted now.loc_rib now.adj_in x p a) same (subst (λ x. IsAccepted now.loc_rib now.adj_in peer p x) here accepted)
 
--- what is exported is announced
-pub Walks-announced : (slot : ℕ) (first now new : SpeakerState) (after : Option Prefix) (p : Prefix) (peer : ExportPeer) (octets : List ℕ) → (h : Walks (IsHad (export_to first slot)) slot first after now)
-    → Some peer ≡ option_map (export_peer_of first.conf slot) (peer_at first.conf slot) → IsNext (best_at now.loc_rib) after (Some p) → rank_of p < 2 ^ 38 → HasRoomAt now slot
-    → export_in (best_at now.loc_rib) now.adj_in peer p ≡ Some octets → held_at h.serves.after.adj_out p ≢ Some octets → IsAccepted now.loc_rib now.adj_in peer p octets → IsToldAt slot p (Some octets) now new
-    → Walks (IsHad (export_to first slot)) slot first (Some p) new
-Walks-announced slot first now new after p peer octets h is next place room some news accepted told =
-    let exported = export_now first now slot peer h.serves.only.rest is p ∙ some in
-    Walks-told (IsHad (export_to first slot)) (best_at now.loc_rib) slot first now new after p (Some octets) h (none_exported slot first now peer (held_at h.serves.after.adj_out) h.serves.only.rest is) next place room
-    exported news (λ others same. sym exported ∙ same) (accepts_given slot first now p peer octets h.serves.only.rest is accepted) told
+pub had_by : (slot : ℕ) (first now : SpeakerState) (held : Prefix → Option (List ℕ)) → export_to now slot ≡ export_to first slot → (q : Prefix) → announced_of (export_to now slot q) (held q) ≡ None
+    → IsHad (export_to first slot) q (held q)
+had_by slot first now held exports q idle = subst (λ e. IsHad e q (held q)) exports (had_idle (export_to now slot) q (held q) idle)
 
--- what is exported and held just so, or isn't exported, needs nothing
+pub gone_by : (slot : ℕ) (first now : SpeakerState) (held : Prefix → Option (List ℕ)) → export_to now slot ≡ export_to first slot → (q : Prefix) → withdrawn_of (export_to now slot q) (held q) ≡ None
+    → IsGone (export_to first slot) q (held q)
+gone_by slot first now held exports q idle = subst (λ e. IsGone e q (held q)) exports (gone_idle (export_to now slot) q (held q) idle)
+
+-- what is exported and isn't held just so is announced
+pub Walks-announced : (slot : ℕ) (first now new : SpeakerState) (after : Option Prefix) (p : Prefix) (peer : ExportPeer) (octets : List ℕ) → (h : Walks (IsHad (export_to first slot)) slot first after now)
+    → Some peer ≡ option_map (export_peer_of first.conf slot) (peer_at first.conf slot) → IsNext (λ q. announced_of (export_to now slot q) (held_at h.serves.after.adj_out q)) after (Some p) → rank_of p < 2 ^ 38 → HasRoomAt now slot
+    → export_in (best_at now.loc_rib) now.adj_in peer p ≡ Some octets → IsAccepted now.loc_rib now.adj_in peer p octets → IsToldAt slot p (Some octets) now new
+    → Walks (IsHad (export_to first slot)) slot first (Some p) new
+Walks-announced slot first now new after p peer octets h is next place room some accepted told =
+    let exported = export_now first now slot peer h.serves.only.rest is p ∙ some in
+    let exports : export_to now slot ≡ export_to first slot = ap (λ e. e slot) (export_kept first now h.serves.only.rest) in
+    Walks-told (IsHad (export_to first slot)) (λ q. announced_of (export_to now slot q) (held_at h.serves.after.adj_out q)) slot first now new after p (Some octets) h (had_by slot first now (held_at h.serves.after.adj_out) exports) next place room
+    exported (announced_news (export_to now slot p) (held_at h.serves.after.adj_out p) octets (ap (λ e. e p) exports ∙ exported) next.0) (λ others same. sym exported ∙ same)
+    (accepts_given slot first now p peer octets h.serves.only.rest is accepted) told
+
+-- where nothing is exported there is nothing to be had
 pub Walks-had : (slot : ℕ) (first now : SpeakerState) (after : Option Prefix) (p : Prefix) (peer : ExportPeer) → (h : Walks (IsHad (export_to first slot)) slot first after now)
-    → Some peer ≡ option_map (export_peer_of first.conf slot) (peer_at first.conf slot) → IsNext (best_at now.loc_rib) after (Some p) → rank_of p < 2 ^ 38
-    → ((octets : List ℕ) → export_in (best_at now.loc_rib) now.adj_in peer p ≡ Some octets → held_at h.serves.after.adj_out p ≡ Some octets)
-    → Walks (IsHad (export_to first slot)) slot first (Some p) now
-Walks-had slot first now after p peer h is next place had =
-    Walks-kept (IsHad (export_to first slot)) (best_at now.loc_rib) slot first now after p h (none_exported slot first now peer (held_at h.serves.after.adj_out) h.serves.only.rest is) next place
-    (λ octets some. had octets (sym (export_now first now slot peer h.serves.only.rest is p) ∙ some))
+    → Some peer ≡ option_map (export_peer_of first.conf slot) (peer_at first.conf slot) → IsNext (λ q. announced_of (export_to now slot q) (held_at h.serves.after.adj_out q)) after (Some p) → rank_of p < 2 ^ 38
+    → export_in (best_at now.loc_rib) now.adj_in peer p ≡ None → Walks (IsHad (export_to first slot)) slot first (Some p) now
+Walks-had slot first now after p peer h is next place none =
+    let exports : export_to now slot ≡ export_to first slot = ap (λ e. e slot) (export_kept first now h.serves.only.rest) in
+    Walks-kept (IsHad (export_to first slot)) (λ q. announced_of (export_to now slot q) (held_at h.serves.after.adj_out q)) slot first now after p h (had_by slot first now (held_at h.serves.after.adj_out) exports) next place
+    (λ octets some. let never = sym (export_now first now slot peer h.serves.only.rest is p ∙ none) ∙ some in absurd (cc))
 
 -- a refused growth leaves the walk where it is
 pub Serves-still : (slot : ℕ) (first now new : SpeakerState) → Serves slot first now → IsStill now new → Serves slot first new

@@ -21,6 +21,7 @@ use Rattle.speaker.specs.declared.config.Config.{Config}
 use Rattle.speaker.proofs.Calls.{tables_same}
 use Rattle.speaker.proofs.Commands.{peer_of}
 use Rattle.speaker.proofs.Events.{holds_put, slot_is}
+use Rattle.speaker.proofs.KeptOffers.{hands_keep}
 use Rattle.speaker.proofs.Passing.{passes_first, agrees_served}
 use Rattle.speaker.proofs.SlotEvents.{with_peer}
 use Rattle.speaker.proofs.SlotOctets.{slot_handed}
@@ -34,7 +35,7 @@ holds_handed config r slot l count old new h linked hands =
     let here = slot_handed config peer.0 l (route_at old.adj_in slot) (history config slot r) count (slot_is config r slot peer.0 l old h peer.1 linked) in
     let on : history config slot (turn (Take_call slot (take count l.peer.ring)) [] ∷ r) ≡ Handed (take count l.peer.ring) ∷ history config slot r = rw (eq-eqb slot slot refl) refl in
     let H : List happens.Event → Type 0 = λ x. SlotIs config peer.0 (with_peer l (handed l.peer count)) (route_at new.adj_in slot) x in
-    holds_put config r (turn (Take_call slot (take count l.peer.ring)) [] ∷ r) slot (with_peer l (handed l.peer count)) old new h refl refl hands.rest hands.links
+    holds_put config r (turn (Take_call slot (take count l.peer.ring)) [] ∷ r) slot (with_peer l (handed l.peer count)) old new h refl refl (hands_keep slot l count old new linked hands) hands.rest hands.links
     (λ t other p. ap (λ table. route_at table t p) hands.routes) (λ t other. rw (ne_eqb t slot other) refl)
     peer.0 peer.1 (subst H (sym on) (rw hands.routes here))
 
@@ -63,7 +64,7 @@ first_octets count ring buf new is octets =
 passes_handed : (config : Config) (r : Run) (slot : ℕ) (l : Linked) (count : ℕ) (old mid : SpeakerState) → Agrees config r old → link_at old.links slot ≡ Some l → Hands slot l count old mid
     → Passes config (Take_call slot (take count l.peer.ring)) r [] mid
 passes_handed config r slot l count old mid a linked hands =
-    let before : IsLocRib (tables_after config r) mid.loc_rib = rw hands.rest.loc_rib a.loc_rib in
+    let before : IsLocRib (tables_after config r) mid.loc_rib = rw hands.loc_rib a.loc_rib in
     let tables = tables_same config r old.conf (link_at old.links) old.adj_in (sym a.holds.conf) a.holds.slots ∙ tables_handed slot l count old mid linked hands in
     passes_first config (Take_call slot (take count l.peer.ring)) r mid (holds_handed config r slot l count old mid a.holds linked hands) (subst (λ t. IsLocRib t mid.loc_rib) tables before)
 

@@ -15,6 +15,7 @@ use Rattle.bgp_peer.specs.Agreement.{PeerAgrees, IsUpdateMessage}
 use Rattle.bgp_peer.specs.SentMessages.{ring_of, sent}
 use Rattle.bgp_peer.specs.SessionInputs as slot
 use Rattle.bgp_peer.specs.SessionInputs.{occupant, session}
+use Rattle.decision.specs.BookContents.{offer_at}
 use Rattle.net_prefix.specs.declared.asn.Asn.{Asn}
 use Rattle.net_prefix.specs.declared.prefix.Prefix.{Prefix}
 use Rattle.net_prefix.specs.declared.transport.Transport.TheVariants.{Open as Connected}
@@ -25,9 +26,10 @@ use Rattle.speaker.specs.Export.{IsExport, export_peer_of}
 use Rattle.speaker.specs.Held.{held, told_from, told_in}
 use Rattle.speaker.specs.Linked.{Linked}
 use Rattle.speaker.specs.LocRib.{IsLocRib}
+use Rattle.speaker.specs.Offers.{AreKept}
 use Rattle.speaker.specs.Queueing.{Queue, update_saying}
 use Rattle.speaker.specs.Runs.{Call, Run, turn, Bytes_call, configuration_of, history, moment_after, terms_in}
-use Rattle.speaker.specs.SpeakerState.{SpeakerState}
+use Rattle.speaker.specs.SpeakerState.{SpeakerState, tables_of}
 use Rattle.speaker.specs.Tables.{Tables, link_at}
 use Rattle.speaker.specs.declared.config.Config.{Config}
 use Rattle.bgp_peer.specs.PeerLimits.{ring_octets, room_for_update}
@@ -115,6 +117,8 @@ pub record Holds (config : Config) (r : Run) (s : SpeakerState) : Type 0 where
   pub conf : s.conf ≡ configuration_of config r
   pub peers : AreTaken config.asn s.conf
   pub slots : (slot : ℕ) → SlotAgrees config (peer_at s.conf slot) (link_at s.links slot) (route_at s.adj_in slot) (history config slot r)
+  -- the candidates that are kept are those of all routes
+  pub kept : AreKept (tables_of s) (offer_at s.book)
   pub running : s.stopped ≡ false
 
 -- these octets come on a configured slot, behind those of the same call that came before: all is as the run with them

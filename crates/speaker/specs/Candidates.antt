@@ -1,5 +1,5 @@
 -- The routes among which the selection chooses (RFC 4271 section 9.1.2).
-use Rattle.std.specs.Prelude.{◌≡◌, ◌≢◌, ◌<◌, ◌↔◌, ℕ, List, Some, false, Contains}
+use Rattle.std.specs.Prelude.{◌≡◌, ◌≢◌, ◌<◌, ◌↔◌, ℕ, List, Option, MatchOption, Some, false, Contains}
 use Rattle.bgp_attr.specs.PathAttributes.{PathAttributes}
 use Rattle.bgp_attr.specs.AsPath.{PathSegment, has_as, path_length_of}
 use Rattle.bgp_attr.specs.PeerKinds.{kind_between, is_external}
@@ -46,6 +46,11 @@ AreCandidates t prefix cs = (c : Candidate) → Contains cs c ↔ IsCandidate t 
 -- these attributes make no candidate of the slot
 abbrev pub MakesNone : Configuration → ℕ → ℕ → PathAttributes → Type 0
 MakesNone conf slot identifier attrs = (c : Candidate) → c.slot ≡ slot → IsCandidateOf conf identifier attrs c → ⊥
+
+-- what these attributes make of the slot: this candidate, or none
+abbrev pub IsMade : Configuration → ℕ → ℕ → PathAttributes → Option Candidate → Type 0
+IsMade conf slot identifier attrs found =
+    MatchOption found (MakesNone conf slot identifier attrs) (λ c. (c.slot ≡ slot) × IsCandidateOf conf identifier attrs c)
 
 -- the slot's route makes no candidate of the prefix
 abbrev pub HasNoneAt : Tables → Prefix → ℕ → Type 0

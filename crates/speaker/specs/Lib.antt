@@ -6,6 +6,7 @@ pub mod Offers
 pub mod Export
 pub mod Queueing
 pub mod SpeakerState
+pub mod RoutingState
 pub mod AdjRibIn
 pub mod Held
 pub mod Runs
@@ -16,3 +17,4 @@ pub mod FirstRefusal
 pub mod Played
 pub mod Shown
 pub mod Waiting
+pub mod Marks

@@ -4,10 +4,8 @@ use Rattle.bgp_fsm.specs.SessionTable.{effects_of}
 use Rattle.bgp_fsm.specs.declared.input.Input.{Input}
 use Rattle.bgp_fsm.specs.declared.session.Effects.{Effects}
 use Rattle.bgp_peer.specs.Slot.{Slot, pushed, taken_input, handed}
-use Rattle.bgp_attr.specs.PathAttributes.{PathAttributes}
-use Rattle.bgp_attr.specs.declared.peer.PeerKind.{PeerKind}
+use Rattle.decision.specs.BookContents.{offer_at}
 use Rattle.bgp_msg.specs.UpdateMeaning.{UpdateBody}
-use Rattle.bgp_msg.specs.declared.open_message.Expected.{Expected}
 use Rattle.bgp_msg.specs.MessageStream.{Item}
 use Rattle.bgp_peer.specs.SessionInputs.{Terms, expected_of, kind_of, input_of}
 use Rattle.bgp_fsm.specs.Transports.{transport_of}
@@ -18,8 +16,10 @@ use Rattle.net_prefix.specs.declared.prefix.Prefix.{Prefix}
 use Rattle.speaker.specs.AdjRibIn.{word_if, update_heard}
 use Rattle.rib_in.specs.LatestRoutes.{RouteTable, route_at}
 use Rattle.speaker.specs.Linked.{Linked}
-use Rattle.speaker.specs.SpeakerState.{SpeakerState}
+use Rattle.speaker.specs.Offers.{AreKept}
+use Rattle.speaker.specs.SpeakerState.{SpeakerState, tables_of}
 use Rattle.speaker.specs.Tables.{link_at}
+use Rattle.speaker.specs.declared.receiving.Sender.{Sender}
 
 -- entering Established begins with nothing sent, and leaving it forgets what was sent
 abbrev pub adj_out_after : Effects → List (Prefix × List ℕ) → List (Prefix × List ℕ)
@@ -38,24 +38,33 @@ abbrev pub IsDropped : Bool → ℕ → SpeakerState → SpeakerState → Type 0
 IsDropped left slot old new =
     (s : ℕ) (prefix : Prefix) → route_at new.adj_in s prefix ≡ (if left && s == slot then None else route_at old.adj_in s prefix)
 
--- the settings, the moment, the configuration and Loc-RIB stay
+-- the candidates of a slot go with its routes
+abbrev pub AreDropped : Bool → ℕ → SpeakerState → SpeakerState → Type 0
+AreDropped left slot old new =
+    (s : ℕ) (prefix : Prefix) → offer_at new.book s prefix ≡ (if left && s == slot then None else offer_at old.book s prefix)
+
+-- where the candidates that were kept were those of all routes, they still are
+abbrev pub KeepsKept : SpeakerState → SpeakerState → Type 0
+KeepsKept old new = AreKept (tables_of old) (offer_at old.book) → AreKept (tables_of new) (offer_at new.book)
+
+-- the settings, the moment and the configuration stay
 pub record KeepsRest (old new : SpeakerState) : Type 0 where
   pub config : new.config ≡ old.config
   pub moment : new.moment ≡ old.moment
   pub conf : new.conf ≡ old.conf
-  pub loc_rib : new.loc_rib ≡ old.loc_rib
   pub stopped : new.stopped ≡ old.stopped
 
 -- the input makes this of the slot and its routes, and of nothing else
 pub record Moves (slot : ℕ) (l : Linked) (input : Input) (old new : SpeakerState) : Type 0 where
   pub links : IsPut slot (moved l input) old new
   pub routes : IsDropped (effects_of input l.peer.session).left slot old new
+  pub offers : AreDropped (effects_of input l.peer.session).left slot old new
   pub rest : KeepsRest old new
 
--- the peer is judged by these terms
-pub record AreOf (terms : Terms) (expected : Expected) (kind : PeerKind) : Type 0 where
-  pub expected_is : expected ≡ expected_of terms
-  pub kind_is : kind ≡ kind_of terms
+-- the sender is judged by these terms
+pub record AreOf (terms : Terms) (sender : Sender) : Type 0 where
+  pub expected_is : sender.expected ≡ expected_of terms
+  pub kind_is : sender.kind ≡ kind_of terms
 
 -- the UPDATE, where there is one, makes this of the slot's routes, and of no other ones
 abbrev pub IsHeard : ℕ → Option UpdateBody → RouteTable → RouteTable → Type 0
@@ -77,21 +86,25 @@ taken_of p octets = taken_on (transport_of p.session) p.rest octets
 pub record Pushes (slot : ℕ) (l : Linked) (octets : List ℕ) (old new : SpeakerState) : Type 0 where
   pub links : IsPut slot (record { peer = pushed l.peer octets; adj_out = l.adj_out }) old new
   pub routes : new.adj_in ≡ old.adj_in
+  pub book : new.book ≡ old.book
   pub rest : KeepsRest old new
 
 -- where the rest is this item, it is taken: what it is to the session makes this of the slot, its UPDATE of the routes
 abbrev pub TakesItem : ℕ → Terms → Linked → Option Item → SpeakerState → SpeakerState → Type 0
 TakesItem slot terms l None old new =
-    ((s : ℕ) → link_at new.links s ≡ link_at old.links s) × ((s : ℕ) (prefix : Prefix) → route_at new.adj_in s prefix ≡ route_at old.adj_in s prefix) × KeepsRest old new
+    ((s : ℕ) → link_at new.links s ≡ link_at old.links s) × ((s : ℕ) (prefix : Prefix) → route_at new.adj_in s prefix ≡ route_at old.adj_in s prefix) × KeepsKept old new × KeepsRest old new
 TakesItem slot terms l (Some item) old new =
     IsPut slot (moved l (input_of l.peer.session.state terms item)) old new
     × ((s : ℕ) (prefix : Prefix) → route_at new.adj_in s prefix
     ≡ (if (effects_of (input_of l.peer.session.state terms item) l.peer.session).left && s == slot then None
     else (if s == slot then word_if (update_heard l.peer.session.state terms item) prefix (route_at old.adj_in s prefix) else route_at old.adj_in s prefix)))
+    × KeepsKept old new
     × KeepsRest old new
 
 -- so many of the first octets of the slot's ring are handed out
 pub record Hands (slot : ℕ) (l : Linked) (count : ℕ) (old new : SpeakerState) : Type 0 where
   pub links : IsPut slot (record { peer = handed l.peer count; adj_out = l.adj_out }) old new
   pub routes : new.adj_in ≡ old.adj_in
+  pub book : new.book ≡ old.book
+  pub loc_rib : new.loc_rib ≡ old.loc_rib
   pub rest : KeepsRest old new

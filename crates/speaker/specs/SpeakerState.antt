@@ -1,7 +1,7 @@
 -- A speaker, as others see it.
 use Rattle.std.specs.Prelude.{◌≡◌, ◌==◌, ◌||◌, ℕ, List, Bool, false, []}
-use Rattle.bgp_attr.specs.PathAttributes.{PathAttributes}
 use Rattle.bgp_conf.specs.Configuration.{Configuration}
+use Rattle.decision.specs.BookContents.{BookState}
 use Rattle.decision.specs.declared.candidate.Candidate.{Candidate}
 use Rattle.net_prefix.specs.declared.prefix.Prefix.{Prefix}
 use Rattle.rib_in.specs.LatestRoutes.{RouteTable}
@@ -9,14 +9,15 @@ use Rattle.speaker.specs.declared.config.Config.{Config}
 use Rattle.speaker.specs.Linked.{Linked}
 use Rattle.speaker.specs.Tables.{Tables, tables, link_at}
 
--- what others see of a speaker: its settings, the moment, the configured tables, its slots, Adj-RIB-In, Loc-RIB, and
--- whether want of memory has stopped it
+-- what others see of a speaker: its settings, the moment, the configured tables, its slots, Adj-RIB-In, the candidates
+-- that are kept, Loc-RIB, and whether want of memory has stopped it
 pub record SpeakerState : Type 0 where
   pub config : Config
   pub moment : ℕ
   pub conf : Configuration
   pub links : List (ℕ × Linked)
   pub adj_in : RouteTable
+  pub book : BookState
   pub loc_rib : List (Prefix × Candidate)
   pub stopped : Bool
 
@@ -32,6 +33,7 @@ started config = record {
   conf = record { own = config.asn; peers = []; reach = [] };
   links = [];
   adj_in = [];
+  book = [];
   loc_rib = [];
   stopped = false;
 }
@@ -47,5 +49,6 @@ pub record IsAsBefore (old new : SpeakerState) : Type 0 where
   pub conf : new.conf ≡ old.conf
   pub links : (slot : ℕ) → link_at new.links slot ≡ link_at old.links slot
   pub adj_in : new.adj_in ≡ old.adj_in
+  pub book : new.book ≡ old.book
   pub loc_rib : new.loc_rib ≡ old.loc_rib
   pub stopped : new.stopped ≡ old.stopped

@@ -4,7 +4,6 @@ use Rattle.std.specs.Map.{keys_of}
 use Rattle.std.specs.Set.{sorted_merge}
 use Rattle.std.specs.Option.{option_map}
 use Rattle.std.specs.Str.{bytes_eq}
-use Rattle.bgp_attr.specs.PathAttributes.{PathAttributes}
 use Rattle.bgp_conf.specs.Configuration.{peer_at}
 use Rattle.bgp_conf.specs.declared.conf.ConfiguredPeer.{ConfiguredPeer}
 use Rattle.bgp_fsm.specs.declared.state.State.{State}

@@ -1,27 +1,26 @@
-//! The candidates of a prefix, and the best of them (RFC 4271 section 9.1).
-ghost use Rattle.std.specs.Prelude.{◌≡◌, ◌<◌, ℕ, List, Option, MatchOption};
-ghost use Rattle.bgp_attr.specs.PathAttributes.{PathAttributes};
-ghost use Rattle.bgp_conf.specs.Configuration.{Configuration, AddressesDiffer};
-ghost use Rattle.decision.specs.declared.candidate.Candidate.{Candidate as Route};
-ghost use Rattle.speaker.specs.Tables.{Tables, tables};
-ghost use Rattle.speaker.specs.Candidates.{IsCandidateOf, IsCandidate, MakesNone, IsOnlyCandidateAt, HasNoneAt};
-ghost use Rattle.speaker.specs.LocRib.{IsBest, HasNoCandidate};
+//! The candidates that routes make (RFC 4271 section 9.1).
+ghost use Rattle.std.specs.Prelude.{◌≡◌, ◌<◌, MatchOption};
+ghost use Rattle.decision.specs.BookContents.{offer_at};
+ghost use Rattle.speaker.specs.Tables.{tables};
+ghost use Rattle.speaker.specs.Candidates.{IsMade};
+ghost use Rattle.speaker.specs.Marks.{AreMarked};
+ghost use Rattle.speaker.specs.Offers.{AreMadeAgain, AreRemade, IsRemade, IsSound, LacksRoute};
 
-use crate::link::Link;
+use crate::queueing::place;
+use crate::routing::{Links, Routing};
 use arrayvec::ArrayVec;
 use bgp_attr::{Attrs, PeerKind};
 use bgp_conf::{Conf, PEER_SLOTS};
-use decision::{Candidate, MAX_CANDIDATES, Meter, choose};
+use decision::{Book, Candidate, Change, MAX_CANDIDATES};
 use net_prefix::Prefix;
 use rib_in::AdjIn;
 use std::alloc::Allocator;
-use std::collections::BTreeMap;
 
 /// The degree of preference of a route of an external peer for which no rule sets one.
 const DEFAULT_DEGREE: u64 = 100;
 
-// The candidates of one prefix.
-type Candidates = ArrayVec<Candidate, MAX_CANDIDATES>;
+// Changes of one prefix's candidates.
+type Changes = ArrayVec<Change, MAX_CANDIDATES>;
 
 /// A route of a slot as a candidate: its next hop resolves and is not this session's own address, and its
 /// path does not hold the own AS.
@@ -31,7 +30,7 @@ pub fn candidate<A: Allocator + Clone>(
     identifier: u32,
     attrs: &Attrs<A>,
 ) -> Option<Candidate>
-    ensures { MatchOption result (MakesNone conf.now slot identifier attrs.now) (λ c. (c.slot ≡ slot) × IsCandidateOf conf.now identifier attrs.now c) }
+    ensures { IsMade conf.now slot identifier attrs.now result }
 {
     let peer = conf.peer(slot)?;
     let origin = attrs.origin()?;
@@ -53,38 +52,60 @@ pub fn candidate<A: Allocator + Clone>(
     })
 }
 
-// The candidate that a slot's latest route to a prefix makes.
-fn candidate_at<A: Allocator + Clone>(
+/// Makes the candidates of all routes again, and chooses the best route of each prefix again, once.
+pub fn choose_again<A: Allocator + Clone, B: Book<A>>(
     conf: &Conf<A>,
-    links: &BTreeMap<u8, Link<A>, A>,
+    links: &Links<A>,
+    routing: &mut Routing<A, B>,
+)
+    requires sound { IsSound conf.now (offer_at routing.old.book) }
+    requires marked { AreMarked conf.now links.now.entries routing.old }
+    ensures sound { IsSound conf.now (offer_at routing.new.book) }
+    ensures marked { AreMarked conf.now links.now.entries routing.new }
+    ensures routes { routing.new.adj_in ≡ routing.old.adj_in }
+    ensures made { AreMadeAgain (tables conf.now links.now.entries routing.old.adj_in) (offer_at routing.old.book) (offer_at routing.new.book) }
+{
+    let mut after = None;
+    while let Some(prefix) = routing.ribs.routes().prefix_after(after) {
+        let changes = remade(conf, links, routing.ribs.routes(), prefix);
+        routing.change(conf, links, prefix, changes.as_slice());
+        // Places rise, so the walk ends.
+        let _place = place(prefix);
+        after = Some(prefix);
+    }
+}
+
+// The candidates that the slots' routes to a prefix make now: a change for each slot that has a route.
+fn remade<A: Allocator + Clone>(
+    conf: &Conf<A>,
+    links: &Links<A>,
+    adj_in: &AdjIn<A>,
+    prefix: Prefix,
+) -> Changes
+    ensures { AreRemade (tables conf.now links.now.entries adj_in.now) prefix result.items }
+{
+    let mut changes = Changes::new();
+    for slot in 0..PEER_SLOTS {
+        if let Some(change) = remade_at(conf, links, adj_in, slot, prefix) {
+            changes.push(change);
+        }
+    }
+    changes
+}
+
+// The candidate that a slot's route to a prefix makes now, if it has one.
+fn remade_at<A: Allocator + Clone>(
+    conf: &Conf<A>,
+    links: &Links<A>,
     adj_in: &AdjIn<A>,
     slot: u8,
     prefix: Prefix,
-) -> Option<Candidate>
+) -> Option<Change>
     requires { slot < 64 }
-    ensures { MatchOption result (HasNoneAt (tables conf.now links.now.entries adj_in.now) prefix slot) (IsOnlyCandidateAt (tables conf.now links.now.entries adj_in.now) prefix slot) }
+    ensures { MatchOption result (LacksRoute (tables conf.now links.now.entries adj_in.now) slot prefix) (IsRemade (tables conf.now links.now.entries adj_in.now) slot prefix) }
 {
     let link = links.get(&slot)?;
     let attrs = adj_in.get(slot, prefix)?;
-    candidate(conf, slot, link.peer.identifier(), attrs)
-}
-
-/// The best route of a prefix, if it has a candidate.
-pub fn best<A: Allocator + Clone>(
-    conf: &Conf<A>,
-    links: &BTreeMap<u8, Link<A>, A>,
-    adj_in: &AdjIn<A>,
-    meter: &mut Meter,
-    prefix: Prefix,
-) -> Option<Candidate>
-    requires { AddressesDiffer conf.now.peers }
-    ensures { MatchOption result (HasNoCandidate (tables conf.now links.now.entries adj_in.now) prefix) (IsBest (tables conf.now links.now.entries adj_in.now) prefix) }
-{
-    let mut candidates = Candidates::new();
-    for slot in 0..PEER_SLOTS {
-        if let Some(route) = candidate_at(conf, links, adj_in, slot, prefix) {
-            candidates.push(route);
-        }
-    }
-    choose(meter, candidates.as_slice())
+    let candidate = candidate(conf, slot, link.peer.identifier(), attrs);
+    Some(Change { slot, candidate })
 }

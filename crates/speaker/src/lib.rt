@@ -13,7 +13,7 @@ mod link;
 mod obeying;
 mod queueing;
 mod receiving;
-mod ribs;
+mod routing;
 mod runs;
 mod slot_events;
 mod step;

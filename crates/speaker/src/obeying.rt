@@ -10,15 +10,17 @@ ghost use Rattle.speaker.specs.Agreement.{Holds};
 ghost use Rattle.speaker.specs.declared.config.Config.{Config as TheConfig};
 ghost use Rattle.speaker.specs.Tables.{link_at};
 
+use crate::choosing::choose_again;
 use crate::link::Link;
 use crate::step::Speaker;
 use bgp_conf::{Command, PeerConf};
 use bgp_fsm::Input;
 use bgp_msg::Open;
+use decision::Book;
 use std::alloc::{AllocError, Allocator};
 use std::collections::BTreeMap;
 
-impl<A: Allocator + Clone> Speaker<A> {
+impl<A: Allocator + Clone, B: Book<A>> Speaker<A, B> {
     ghost use Rattle.speaker.specs.SpeakerState.{IsAsBefore};
 
     // Makes the tables after a command that isn't refused.
@@ -34,7 +36,11 @@ impl<A: Allocator + Clone> Speaker<A> {
                 let _ = self.input(slot, Input::Start);
                 Ok(())
             }
-            Command::Reach(_, _) => self.conf.apply(command),
+            Command::Reach(_, _) => {
+                self.conf.apply(command)?;
+                choose_again(&self.conf, &self.links, &mut self.routing);
+                Ok(())
+            }
         }
     }
 

@@ -1,58 +1,74 @@
 //! What the peers are owed: the UPDATEs that make what each was sent its export of Loc-RIB.
 ghost use Rattle.std.specs.Prelude.{◌≡◌, ◌≢◌, ◌≤◌, ◌<◌, ◌+◌, ◌^◌, ◌↔◌, ℕ, false, Some, None, OnOk, OnErr, IsTrue, length};
 ghost use Rattle.std.specs.Bool.{OnTrue};
-ghost use Rattle.std.specs.Option.{option_map};
+ghost use Rattle.std.specs.Option.{IsSome, option_map};
 ghost use Rattle.bgp_conf.specs.Configuration.{peer_at};
 ghost use Rattle.bgp_fsm.specs.declared.state.State.TheVariants.{Established};
+ghost use Rattle.decision.specs.BookContents.{rows_of};
 ghost use Rattle.export_rules.specs.Export.{Tells, most_attributes};
 ghost use Rattle.rib_out.specs.Held.{held_at};
 ghost use Rattle.speaker.specs.Agreement.{QueuesOn};
 ghost use Rattle.speaker.specs.Export.{IsAccepted, export_in, export_peer_of, export_to};
 ghost use Rattle.speaker.specs.Linked.{Linked};
+ghost use Rattle.speaker.specs.Marks.{IsServedBy, announced_of, withdrawn_of};
 ghost use Rattle.speaker.specs.Queueing.{IsTold, rank_of};
 ghost use Rattle.speaker.specs.Serving.{IsServedAt, IsUpAt, HasRoom, HasRoomAt, IsOfSlot, IsStill, IsToldAt, Serves, IsDoneAt, IsGone, IsHad, IsNext};
 ghost use Rattle.speaker.specs.Tables.{best_at, link_at};
 
 use crate::link::Link;
-use crate::ribs::Ribs;
 use crate::step::Speaker;
 use arrayvec::ArrayVec;
-use bgp_conf::PEER_SLOTS;
+use bgp_conf::{Conf, PEER_SLOTS};
 use bgp_fsm::State;
 use bgp_msg::{MAX_MESSAGE, write_announcement, write_withdrawal};
 use bgp_peer::ROOM_FOR_UPDATE;
+use decision::Book;
 use export_rules::{ExportPeer, export_of};
+use loc_rib::Ribs;
 use net_prefix::Prefix;
+use rib_out::Owed;
 use std::alloc::{AllocError, Allocator};
 
 /// The octets of one message, or of its attributes.
 pub type Octets = ArrayVec<u8, MAX_MESSAGE>;
 
+/// What the export to a slot's peer asks of it.
+pub fn export_peer<A: Allocator + Clone>(conf: &Conf<A>, slot: u8) -> Option<ExportPeer>
+    ensures { result ≡ option_map (export_peer_of conf.now slot) (peer_at conf.now slot) }
+{
+    let peer = conf.peer(slot)?;
+    Some(ExportPeer {
+        slot,
+        own: conf.own(),
+        local: peer.local,
+    })
+}
+
 /// What is exported of a prefix: the best route, where there is one and it is exported to this peer. Answers
 /// false where nothing is; `octets` are then empty.
 #[tactic(auto, using(crate::proofs::Calls::on_accepted))]
-pub fn export<A: Allocator + Clone>(
-    ribs: &Ribs<A>,
+pub fn export<A: Allocator + Clone, B: Book<A>>(
+    ribs: &Ribs<A, B>,
     peer: &ExportPeer,
     prefix: Prefix,
     octets: &mut Octets,
 ) -> bool
-    ensures tells { Tells result octets.new.items (export_in (best_at ribs.now.loc_rib.entries) ribs.now.adj_in peer.now prefix) }
+    ensures tells { Tells result octets.new.items (export_in (best_at (rows_of ribs.now.book)) ribs.now.adj_in peer.now prefix) }
     ensures small { OnTrue result (length octets.new.items ≤ most_attributes) }
     // The peer finds no fault with it.
-    ensures accepted { OnTrue result (IsAccepted ribs.now.loc_rib.entries ribs.now.adj_in peer.now prefix octets.new.items) }
+    ensures accepted { OnTrue result (IsAccepted (rows_of ribs.now.book) ribs.now.adj_in peer.now prefix octets.new.items) }
 {
     octets.clear();
-    let Some(route) = ribs.loc_rib.get(&prefix) else {
+    let Some(route) = ribs.best(prefix) else {
         return false;
     };
-    let Some(attrs) = ribs.adj_in.get(route.slot, prefix) else {
+    let Some(attrs) = ribs.routes().get(route.slot, prefix) else {
         return false;
     };
-    export_of(route, attrs, peer, octets)
+    export_of(&route, attrs, peer, octets)
 }
 
-impl<A: Allocator + Clone> Speaker<A> {
+impl<A: Allocator + Clone, B: Book<A>> Speaker<A, B> {
     /// For each Established slot in rising order, queues the UPDATEs that it is owed, while its ring has room.
     pub(crate) fn queue_updates(&mut self) -> Result<(), AllocError>
         ensures rest { self.new ≡ record self.old { links = self.new.links } }
@@ -68,11 +84,12 @@ impl<A: Allocator + Clone> Speaker<A> {
     // Queues what a slot's peer is owed, withdrawals before announcements and each in rising order, while its
     // ring has room for an UPDATE.
     fn serve_slot(&mut self, slot: u8) -> Result<(), AllocError>
+        requires { slot < 64 }
         ensures only { IsOfSlot slot self.old self.new }
         ensures queues { QueuesOn self.old self.new }
         ensures served { OnOk result (IsServedAt self.new slot) }
     {
-        let Some(peer) = self.export_peer(slot) else {
+        let Some(peer) = export_peer(&self.conf, slot) else {
             return Ok(());
         };
         if !self.is_up(slot) {
@@ -80,31 +97,24 @@ impl<A: Allocator + Clone> Speaker<A> {
         }
         let mut octets = Octets::new();
         let mut message = Octets::new();
-        self.withdraw_all(slot, &peer, &mut octets, &mut message);
+        self.withdraw_all(slot, &peer, &mut message);
         self.announce_all(slot, &peer, &mut octets, &mut message)
     }
 
     // Withdraws what the peer holds and what isn't exported to it any more.
-    fn withdraw_all(
-        &mut self,
-        slot: u8,
-        peer: &ExportPeer,
-        octets: &mut Octets,
-        message: &mut Octets,
-    )
+    fn withdraw_all(&mut self, slot: u8, peer: &ExportPeer, message: &mut Octets)
+        requires slot { slot < 64 }
         requires peer { Some peer.now ≡ option_map (export_peer_of self.old.conf slot) (peer_at self.old.conf slot) }
         requires up { IsUpAt self.old slot }
         ensures serves { Serves slot self.old self.new }
         ensures done { IsDoneAt (IsGone (export_to self.old slot)) self.new slot }
     {
         let mut after = None;
-        while let Some(prefix) = self.held_after(slot, after) {
+        while let Some(prefix) = self.withdrawal_after(slot, after) {
             if !self.has_room(slot) {
                 return;
             }
-            if !export(&self.ribs, peer, prefix, octets) {
-                self.withdraw_at(slot, prefix, message);
-            }
+            self.withdraw_at(slot, prefix, message);
             // Places rise, so the walk ends.
             let _place = place(prefix);
             after = Some(prefix);
@@ -119,17 +129,18 @@ impl<A: Allocator + Clone> Speaker<A> {
         octets: &mut Octets,
         message: &mut Octets,
     ) -> Result<(), AllocError>
+        requires slot { slot < 64 }
         requires peer { Some peer.now ≡ option_map (export_peer_of self.old.conf slot) (peer_at self.old.conf slot) }
         requires up { IsUpAt self.old slot }
         ensures serves { Serves slot self.old self.new }
         ensures done { OnOk result (IsDoneAt (IsHad (export_to self.old slot)) self.new slot) }
     {
         let mut after = None;
-        while let Some(prefix) = self.ribs.prefix_after(after) {
+        while let Some(prefix) = self.announcement_after(slot, after) {
             if !self.has_room(slot) {
                 return Ok(());
             }
-            if export(&self.ribs, peer, prefix, octets) && !self.holds(slot, prefix, octets) {
+            if export(&self.routing.ribs, peer, prefix, octets) {
                 self.announce_at(slot, prefix, octets, message)?;
             }
             // Places rise, so the walk ends.
@@ -158,32 +169,37 @@ impl<A: Allocator + Clone> Speaker<A> {
         }
     }
 
-    // The least prefix that the slot's peer holds above the given one, or the least of all.
-    fn held_after(&self, slot: u8, after: Option<Prefix>) -> Option<Prefix>
-        ensures { (l : Linked) → link_at self.now.links slot ≡ Some l → IsNext (held_at l.adj_out) after result }
+    // The least prefix above the given one, or of all, that an Established peer holds and that isn't exported to it.
+    fn withdrawal_after(&self, slot: u8, after: Option<Prefix>) -> Option<Prefix>
+        requires { slot < 64 }
+        ensures { (l : Linked) → IsServedBy self.now slot l → IsNext (λ q. withdrawn_of (export_to self.now slot q) (held_at l.adj_out q)) after result }
     {
-        let link = self.links.get(&slot)?;
-        link.adj_out.prefix_after(after)
+        self.routing.next(slot, Owed::Withdrawal, after)
     }
 
-    // Whether the slot's peer holds just these octets of a prefix.
-    fn holds(&self, slot: u8, prefix: Prefix, octets: &Octets) -> bool
-        ensures { (l : Linked) → link_at self.now.links slot ≡ Some l → IsTrue result ↔ (held_at l.adj_out prefix ≡ Some octets.now.items) }
+    // The least prefix above the given one, or of all, that is exported to an Established peer and that it doesn't
+    // hold just so.
+    fn announcement_after(&self, slot: u8, after: Option<Prefix>) -> Option<Prefix>
+        requires { slot < 64 }
+        ensures { (l : Linked) → IsServedBy self.now slot l → IsNext (λ q. announced_of (export_to self.now slot q) (held_at l.adj_out q)) after result }
     {
-        match self.links.get(&slot) {
-            Some(link) => link.adj_out.holds(prefix, octets.as_slice()),
-            None => false,
-        }
+        self.routing.next(slot, Owed::Announcement, after)
     }
 
     fn withdraw_at(&mut self, slot: u8, prefix: Prefix, message: &mut Octets)
+        requires slot { slot < 64 }
         requires up { IsUpAt self.old slot }
         requires room { HasRoomAt self.old slot }
+        requires gone { export_to self.old slot prefix ≡ None }
+        requires held { (l : Linked) → IsServedBy self.old slot l → IsSome (held_at l.adj_out prefix) }
+        requires peer { IsSome (peer_at self.old.conf slot) }
         ensures { IsToldAt slot prefix None self.old self.new }
     {
-        if let Some(link) = self.links.get_mut(&slot) {
-            withdraw(link, prefix, message);
-        }
+        let Some(link) = self.links.get_mut(&slot) else {
+            return;
+        };
+        withdraw(link, prefix, message);
+        self.routing.told(slot, prefix);
     }
 
     fn announce_at(
@@ -193,16 +209,20 @@ impl<A: Allocator + Clone> Speaker<A> {
         octets: &Octets,
         message: &mut Octets,
     ) -> Result<(), AllocError>
+        requires slot { slot < 64 }
         requires up { IsUpAt self.old slot }
         requires room { HasRoomAt self.old slot }
         requires small { length octets.now.items ≤ most_attributes }
+        requires exported { export_to self.old slot prefix ≡ Some octets.now.items }
         ensures told { OnOk result (IsToldAt slot prefix (Some octets.now.items) self.old self.new) }
         ensures err { OnErr result (IsStill self.old self.new) }
     {
-        match self.links.get_mut(&slot) {
-            Some(link) => announce(link, prefix, octets, message),
-            None => Ok(()),
-        }
+        let Some(link) = self.links.get_mut(&slot) else {
+            return Ok(());
+        };
+        announce(link, prefix, octets, message)?;
+        self.routing.told(slot, prefix);
+        Ok(())
     }
 }
 

@@ -1,70 +1,97 @@
 //! A whole message of a slot's connection: what it is to the session, and the routes that an UPDATE brings.
-ghost use Rattle.std.specs.Prelude.{◌≡◌, ◌==◌, ◌&&◌, ℕ, Some, None, OnOk, IfOk, if◌then◌else◌};
+ghost use Rattle.std.specs.Prelude.{◌≡◌, ◌==◌, ◌&&◌, ◌⊎◌, ℕ, Some, None, OnOk, IfOk, IfSome, if◌then◌else◌};
 ghost use Rattle.std.specs.Option.{option_map, option_and_then};
+ghost use Rattle.bgp_fsm.specs.declared.state.State.TheVariants.{Established};
 ghost use Rattle.bgp_msg.specs.MessageFaults.{open_fault};
 ghost use Rattle.bgp_msg.specs.MessageStream.{WholeMessage, meaning};
 ghost use Rattle.bgp_msg.specs.UpdateMeaning.{update_fault};
 ghost use Rattle.bgp_peer.specs.SessionInputs.{Terms, expected_of, input_of, open_input, update_input};
 ghost use Rattle.bgp_msg.specs.MessageSpelling.{front_prefixes};
+ghost use Rattle.decision.specs.BookContents.{AreApart, offer_at};
 ghost use Rattle.net_prefix.specs.declared.prefix.Prefix.{Prefix as ThePrefix};
 ghost use Rattle.rib_in.specs.LatestRoutes.{route_at};
 ghost use Rattle.speaker.specs.AdjRibIn.{is_among, word_of, sound_update, update_heard};
+ghost use Rattle.speaker.specs.Marks.{AreMarked};
 ghost use Rattle.speaker.specs.Moves.{AreOf, IsHeard};
+ghost use Rattle.speaker.specs.Offers.{IsSound, KeepsHeard};
 
+use crate::choosing::candidate;
 use crate::link::Link;
+use crate::routing::{Links, Routing};
 use bgp_attr::{Attrs, PeerKind, UpdateFault};
+use bgp_conf::Conf;
 use bgp_fsm::{Input, State};
 use bgp_msg::{Expected, Frame, MessageType, Prefixes, Step, Update, read_open, read_update};
-use rib_in::AdjIn;
+use decision::{Book, Candidate};
 use std::alloc::{AllocError, Allocator};
 use std::rc::Rc;
 
+/// The peer whose octets are read: its slot, what its messages are judged by, and its BGP Identifier.
+#[derive(Clone, Copy)]
+pub struct Sender {
+    pub slot: u8,
+    pub kind: PeerKind,
+    pub expected: Expected,
+    /// What its OPEN gave, an IPv4 address as a number.
+    pub identifier: u32,
+}
+
 /// What stands at the front of a slot's rest is to the session: nothing yet, or an input. The routes of an
 /// UPDATE of an Established session are taken.
-pub fn take_front<A: Allocator + Clone>(
+pub fn take_front<A: Allocator + Clone, B: Book<A>>(
     alloc: &A,
-    adj_in: &mut AdjIn<A>,
-    slot: u8,
-    kind: PeerKind,
-    expected: Expected,
+    conf: &Conf<A>,
+    links: &Links<A>,
+    routing: &mut Routing<A, B>,
+    sender: Sender,
     link: &Link<A>,
 ) -> Result<Option<Input>, AllocError>
-    ensures input { IfOk result (λ found. (terms : Terms) → AreOf terms expected kind
+    requires sound { IsSound conf.now (offer_at routing.old.book) }
+    requires marked { AreMarked conf.now links.now.entries routing.old }
+    ensures sound { IsSound conf.now (offer_at routing.new.book) }
+    ensures marked { AreMarked conf.now links.now.entries routing.new }
+    ensures input { IfOk result (λ found. (terms : Terms) → AreOf terms sender
         → found ≡ option_map (input_of link.now.peer.session.state terms) (meaning link.now.peer.rest)) }
-    ensures routes { OnOk result ((terms : Terms) → AreOf terms expected kind
-        → IsHeard slot (option_and_then (update_heard link.now.peer.session.state terms) (meaning link.now.peer.rest)) adj_in.old adj_in.new) }
+    ensures routes { OnOk result ((terms : Terms) → AreOf terms sender
+        → IsHeard sender.slot (option_and_then (update_heard link.now.peer.session.state terms) (meaning link.now.peer.rest)) routing.old.adj_in routing.new.adj_in) }
+    ensures kept { OnOk result (KeepsHeard conf.now sender link.now.peer.session.state routing.old routing.new) }
 {
     match link.peer.front() {
         Step::Need => Ok(None),
         Step::Faulty(_) => Ok(Some(Input::Fault)),
         Step::Message(frame, _) => {
             let state = link.peer.state();
-            let input = judge(alloc, adj_in, slot, kind, expected, state, frame)?;
+            let input = judge(alloc, conf, links, routing, sender, state, frame)?;
             Ok(Some(input))
         }
     }
 }
 
 // A message. A type that the state doesn't expect is judged without its body being read.
-fn judge<A: Allocator + Clone>(
+fn judge<A: Allocator + Clone, B: Book<A>>(
     alloc: &A,
-    adj_in: &mut AdjIn<A>,
-    slot: u8,
-    kind: PeerKind,
-    expected: Expected,
+    conf: &Conf<A>,
+    links: &Links<A>,
+    routing: &mut Routing<A, B>,
+    sender: Sender,
     state: State,
     frame: Frame<'_>,
 ) -> Result<Input, AllocError>
-    ensures input { IfOk result (λ found. (terms : Terms) → AreOf terms expected kind
+    requires sound { IsSound conf.now (offer_at routing.old.book) }
+    requires marked { AreMarked conf.now links.now.entries routing.old }
+    ensures sound { IsSound conf.now (offer_at routing.new.book) }
+    ensures marked { AreMarked conf.now links.now.entries routing.new }
+    ensures input { IfOk result (λ found. (terms : Terms) → AreOf terms sender
         → found ≡ input_of state terms (WholeMessage frame.entry.kind frame.entry.body.now)) }
-    ensures routes { OnOk result ((terms : Terms) → AreOf terms expected kind
-        → IsHeard slot (update_heard state terms (WholeMessage frame.entry.kind frame.entry.body.now)) adj_in.old adj_in.new) }
+    ensures routes { OnOk result ((terms : Terms) → AreOf terms sender
+        → IsHeard sender.slot (update_heard state terms (WholeMessage frame.entry.kind frame.entry.body.now)) routing.old.adj_in routing.new.adj_in) }
+    ensures kept { OnOk result (KeepsHeard conf.now sender state routing.old routing.new) }
 {
     match (frame.kind, state) {
-        (MessageType::Open, State::OpenSent) => Ok(judge_open(frame.body, expected)),
+        (MessageType::Open, State::OpenSent) => Ok(judge_open(frame.body, sender.expected)),
         (MessageType::Open, _) => Ok(Input::Fault),
         (MessageType::Update, State::Established) => {
-            judge_update(alloc, adj_in, slot, frame.body, kind)
+            judge_update(alloc, conf, links, routing, sender, frame.body)
         }
         (MessageType::Update, _) => Ok(Input::Update),
         (MessageType::Keepalive, _) => Ok(Input::Keepalive),
@@ -81,19 +108,25 @@ fn judge_open(body: &[u8], expected: Expected) -> Input
     }
 }
 
-fn judge_update<A: Allocator + Clone>(
+fn judge_update<A: Allocator + Clone, B: Book<A>>(
     alloc: &A,
-    adj_in: &mut AdjIn<A>,
-    slot: u8,
+    conf: &Conf<A>,
+    links: &Links<A>,
+    routing: &mut Routing<A, B>,
+    sender: Sender,
     body: &[u8],
-    kind: PeerKind,
 ) -> Result<Input, AllocError>
-    ensures input { IfOk result (λ found. found ≡ update_input (update_fault kind body.now)) }
-    ensures routes { OnOk result (IsHeard slot (sound_update body.now (update_fault kind body.now)) adj_in.old adj_in.new) }
+    requires sound { IsSound conf.now (offer_at routing.old.book) }
+    requires marked { AreMarked conf.now links.now.entries routing.old }
+    ensures sound { IsSound conf.now (offer_at routing.new.book) }
+    ensures marked { AreMarked conf.now links.now.entries routing.new }
+    ensures input { IfOk result (λ found. found ≡ update_input (update_fault sender.kind body.now)) }
+    ensures routes { OnOk result (IsHeard sender.slot (sound_update body.now (update_fault sender.kind body.now)) routing.old.adj_in routing.new.adj_in) }
+    ensures kept { OnOk result (KeepsHeard conf.now sender Established routing.old routing.new) }
 {
-    match read_update(alloc.clone()?, body, kind) {
+    match read_update(alloc.clone()?, body, sender.kind) {
         Ok(update) => {
-            take_update(alloc, adj_in, slot, update)?;
+            take_update(alloc, conf, links, routing, sender, update)?;
             Ok(Input::Update)
         }
         Err(UpdateFault::NoMemory) => Err(AllocError),
@@ -101,42 +134,75 @@ fn judge_update<A: Allocator + Clone>(
     }
 }
 
-// Takes the routes of an UPDATE: withdrawals first, then announcements, so that a prefix that is both is
-// announced (RFC 4271 section 4.3).
-fn take_update<A: Allocator + Clone>(
+// Takes the routes of an UPDATE, with the candidate that they make: withdrawals first, then announcements, so that a
+// prefix that is both is announced (RFC 4271 section 4.3).
+fn take_update<A: Allocator + Clone, B: Book<A>>(
     alloc: &A,
-    adj_in: &mut AdjIn<A>,
-    slot: u8,
+    conf: &Conf<A>,
+    links: &Links<A>,
+    routing: &mut Routing<A, B>,
+    sender: Sender,
     update: Update<'_, A>,
 ) -> Result<(), AllocError>
-    ensures { OnOk result ((s : ℕ) (prefix : ThePrefix) → route_at adj_in.new s prefix ≡ (if s == slot then word_of update.entry prefix (route_at adj_in.old s prefix) else route_at adj_in.old s prefix)) }
+    requires sound { IsSound conf.now (offer_at routing.old.book) }
+    requires marked { AreMarked conf.now links.now.entries routing.old }
+    ensures sound { IsSound conf.now (offer_at routing.new.book) }
+    ensures marked { AreMarked conf.now links.now.entries routing.new }
+    ensures routes { OnOk result ((s : ℕ) (prefix : ThePrefix) → route_at routing.new.adj_in s prefix ≡ (if s == sender.slot then word_of update.entry prefix (route_at routing.old.adj_in s prefix) else route_at routing.old.adj_in s prefix)) }
+    ensures kept { OnOk result (KeepsHeard conf.now sender Established routing.old routing.new) }
 {
-    withdraw_each(adj_in, slot, update.withdrawn());
+    withdraw_each(conf, links, routing, sender.slot, update.withdrawn());
     let announced = update.announced();
     let attrs = Rc::new(alloc.clone()?, update.into_attrs())?;
-    announce_each(adj_in, slot, announced, &attrs)
+    let candidate = candidate(conf, sender.slot, sender.identifier, &attrs);
+    announce_each(
+        conf,
+        links,
+        routing,
+        sender.slot,
+        announced,
+        &attrs,
+        candidate,
+    )
 }
 
-fn withdraw_each<A: Allocator + Clone>(adj_in: &mut AdjIn<A>, slot: u8, prefixes: Prefixes<'_>)
-    ensures { (s : ℕ) (prefix : ThePrefix) → route_at adj_in.new s prefix ≡ (if s == slot && is_among prefix (front_prefixes prefixes.entry.octets.now).0 then None else route_at adj_in.old s prefix) }
+fn withdraw_each<A: Allocator + Clone, B: Book<A>>(
+    conf: &Conf<A>,
+    links: &Links<A>,
+    routing: &mut Routing<A, B>,
+    slot: u8,
+    prefixes: Prefixes<'_>,
+)
+    requires { AreMarked conf.now links.now.entries routing.old }
+    ensures marked { AreMarked conf.now links.now.entries routing.new }
+    ensures routes { (s : ℕ) (prefix : ThePrefix) → route_at routing.new.adj_in s prefix ≡ (if s == slot && is_among prefix (front_prefixes prefixes.entry.octets.now).0 then None else route_at routing.old.adj_in s prefix) }
+    ensures offers { (s : ℕ) (prefix : ThePrefix) → offer_at routing.new.book s prefix ≡ (if s == slot && is_among prefix (front_prefixes prefixes.entry.octets.now).0 then None else offer_at routing.old.book s prefix) }
 {
     for prefix in prefixes {
-        adj_in.withdraw(slot, prefix);
+        routing.withdraw(conf, links, slot, prefix);
     }
 }
 
-fn announce_each<A: Allocator + Clone>(
-    adj_in: &mut AdjIn<A>,
+// Where memory is refused, some of the prefixes have been announced.
+fn announce_each<A: Allocator + Clone, B: Book<A>>(
+    conf: &Conf<A>,
+    links: &Links<A>,
+    routing: &mut Routing<A, B>,
     slot: u8,
     prefixes: Prefixes<'_>,
     attrs: &Rc<Attrs<A>, A>,
+    candidate: Option<Candidate>,
 ) -> Result<(), AllocError>
-    ensures { OnOk result ((s : ℕ) (prefix : ThePrefix) → route_at adj_in.new s prefix ≡ (if s == slot && is_among prefix (front_prefixes prefixes.entry.octets.now).0 then Some attrs.now.value else route_at adj_in.old s prefix)) }
+    requires named { IfSome candidate (λ c. c.slot ≡ slot) }
+    requires apart { (prefix : ThePrefix) → AreApart (λ s. if slot == s then candidate else offer_at routing.old.book s prefix) }
+    requires marked { AreMarked conf.now links.now.entries routing.old }
+    ensures marked { AreMarked conf.now links.now.entries routing.new }
+    ensures routes { OnOk result ((s : ℕ) (prefix : ThePrefix) → route_at routing.new.adj_in s prefix ≡ (if s == slot && is_among prefix (front_prefixes prefixes.entry.octets.now).0 then Some attrs.now.value else route_at routing.old.adj_in s prefix)) }
+    ensures offers { OnOk result ((s : ℕ) (prefix : ThePrefix) → offer_at routing.new.book s prefix ≡ (if s == slot && is_among prefix (front_prefixes prefixes.entry.octets.now).0 then candidate else offer_at routing.old.book s prefix)) }
+    ensures some { (s : ℕ) (prefix : ThePrefix) → ((s ≡ slot) × (offer_at routing.new.book s prefix ≡ candidate)) ⊎ (offer_at routing.new.book s prefix ≡ offer_at routing.old.book s prefix) }
 {
     for prefix in prefixes {
-        if adj_in.announce(slot, prefix, attrs.clone()?).is_err() {
-            return Err(AllocError);
-        }
+        routing.announce(conf, links, slot, prefix, attrs.clone()?, candidate)?;
     }
     Ok(())
 }

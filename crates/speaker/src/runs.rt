@@ -11,7 +11,7 @@ use std::alloc::{Allocator, Global};
 
 /// The answers to a list of events, and the speaker after them.
 #[derive(Drop)]
-pub struct Trace<A: Allocator = Global> {
+pub struct Trace<A: Allocator + Clone = Global> {
     /// The answer to each event, in order.
     pub answers: Vec<Result<Report, Refusal>, A>,
     pub speaker: Speaker<A>,

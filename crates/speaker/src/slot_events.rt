@@ -4,8 +4,10 @@ ghost use Rattle.bgp_conf.specs.Configuration.{peer_at};
 ghost use Rattle.bgp_conf.specs.declared.conf.ConfiguredPeer.{ConfiguredPeer as ThePeer};
 ghost use Rattle.bgp_fsm.specs.SessionTable.{effects_of};
 ghost use Rattle.net_prefix.specs.declared.prefix.Prefix.{Prefix as ThePrefix};
+ghost use Rattle.decision.specs.BookContents.{offer_at};
 ghost use Rattle.rib_in.specs.LatestRoutes.{route_at};
 ghost use Rattle.bgp_msg.specs.MessageStream.{meaning};
+ghost use Rattle.speaker.specs.Marks.{AreMarked, IsFollowed};
 ghost use Rattle.speaker.specs.Moves.{Moves, Pushes, TakesItem, taken_of};
 ghost use Rattle.speaker.specs.Runs.{terms_in, Run, turn, Bytes_call};
 ghost use Rattle.speaker.specs.Agreement.{Hears};
@@ -13,15 +15,17 @@ ghost use Rattle.speaker.specs.declared.config.Config.{Config as TheConfig};
 ghost use Rattle.speaker.specs.Tables.{link_at};
 ghost use Rattle.speaker.specs.Linked.{Linked};
 
-use crate::receiving::take_front;
+use crate::receiving::{Sender, take_front};
+use crate::routing::{Links, Routing};
 use crate::step::Speaker;
 use bgp_attr::PeerKind;
+use bgp_conf::Conf;
 use bgp_fsm::{Effects, Input};
 use bgp_msg::Expected;
-use rib_in::AdjIn;
+use decision::Book;
 use std::alloc::{AllocError, Allocator};
 
-impl<A: Allocator + Clone> Speaker<A> {
+impl<A: Allocator + Clone, B: Book<A>> Speaker<A, B> {
     /// A slot's session takes an input. Where it leaves Established, its routes go.
     pub(crate) fn input(&mut self, slot: u8, input: Input) -> Effects
         ensures effects { (l : Linked) → link_at self.old.links slot ≡ Some l → result ≡ effects_of input l.peer.session }
@@ -31,7 +35,7 @@ impl<A: Allocator + Clone> Speaker<A> {
             return Effects::NONE;
         };
         let effects = link.input(input);
-        forget(&mut self.ribs.adj_in, slot, effects.left);
+        follow(&self.conf, &self.links, &mut self.routing, slot, &effects);
         effects
     }
 
@@ -71,10 +75,10 @@ impl<A: Allocator + Clone> Speaker<A> {
         ensures count { (l : Linked) → link_at self.old.links slot ≡ Some l → result ≡ taken_of l.peer octets.now }
         ensures pushes { (l : Linked) → link_at self.old.links slot ≡ Some l → Pushes slot l (take result octets.now) self.old self.new }
     {
-        match self.links.get_mut(&slot) {
-            Some(link) => link.push(octets),
-            None => 0,
-        }
+        let Some(link) = self.links.get_mut(&slot) else {
+            return 0;
+        };
+        link.push(octets)
     }
 
     // Takes the message at the front of the slot's rest, if it is whole or its header is faulty.
@@ -93,10 +97,20 @@ impl<A: Allocator + Clone> Speaker<A> {
         let Some(link) = self.links.get(&slot) else {
             return Ok(());
         };
-        let alloc = &self.alloc;
-        let adj_in = &mut self.ribs.adj_in;
-        let kind = PeerKind::between(self.config.asn, peer.asn);
-        let heard = take_front(alloc, adj_in, slot, kind, expected, link)?;
+        let sender = Sender {
+            slot,
+            kind: PeerKind::between(self.config.asn, peer.asn),
+            expected,
+            identifier: link.peer.identifier(),
+        };
+        let heard = take_front(
+            &self.alloc,
+            &self.conf,
+            &self.links,
+            &mut self.routing,
+            sender,
+            link,
+        )?;
         if let Some(input) = heard {
             let _ = self.input(slot, input);
         }
@@ -104,11 +118,25 @@ impl<A: Allocator + Clone> Speaker<A> {
     }
 }
 
-// Leaving Established removes all routes of the session.
-fn forget<A: Allocator + Clone>(adj_in: &mut AdjIn<A>, slot: u8, left: bool)
-    ensures { (s : ℕ) (prefix : ThePrefix) → route_at adj_in.new s prefix ≡ (if left && s == slot then None else route_at adj_in.old s prefix) }
+// Leaving Established removes all routes of the session, with the candidates that they make, and nothing waits for its
+// peer any more. Entering it, the peer waits for all that is exported to it.
+fn follow<A: Allocator + Clone, B: Book<A>>(
+    conf: &Conf<A>,
+    links: &Links<A>,
+    routing: &mut Routing<A, B>,
+    slot: u8,
+    effects: &Effects,
+)
+    requires { IsFollowed conf.now links.now.entries slot effects.now routing.old }
+    ensures marked { AreMarked conf.now links.now.entries routing.new }
+    ensures routes { (s : ℕ) (prefix : ThePrefix) → route_at routing.new.adj_in s prefix ≡ (if effects.now.left && s == slot then None else route_at routing.old.adj_in s prefix) }
+    ensures offers { (s : ℕ) (prefix : ThePrefix) → offer_at routing.new.book s prefix ≡ (if effects.now.left && s == slot then None else offer_at routing.old.book s prefix) }
 {
-    if left {
-        adj_in.drop_slot(slot);
+    if effects.left {
+        routing.clear(slot);
+        routing.drop_slot(conf, links, slot);
+    } else if effects.entered {
+        routing.clear(slot);
+        routing.enter(conf, links, slot);
     }
 }

@@ -10,18 +10,16 @@ ghost use Rattle.speaker.specs.Agreement.{Agrees, Holds, IsThrifty, Passes, Queu
 ghost use Rattle.speaker.specs.declared.config.Config.{Config as TheConfig};
 ghost use Rattle.speaker.specs.Tables.{link_at, session_at};
 ghost use Rattle.speaker.specs.Linked.{Linked};
-ghost use Rattle.speaker.specs.Export.{export_peer_of};
 ghost use Rattle.speaker.specs.Queueing.{Queue};
 ghost use Rattle.speaker.specs.Serving.{IsServedAt};
-ghost use Rattle.speaker.specs.LocRib.{IsLocRib};
 
 use crate::config::Config;
 use crate::event::{Event, Report};
 use crate::link::Link;
-use crate::ribs::Ribs;
+use crate::routing::Routing;
 use bgp_conf::{Command, Conf, Refusal};
 use bgp_fsm::Input;
-use export_rules::ExportPeer;
+use decision::{Book, PlainBook};
 use net_prefix::{Asn, Transport};
 use std::alloc::{AllocError, Allocator, Global};
 use std::collections::BTreeMap;
@@ -29,20 +27,22 @@ use std::marker::Model;
 
 /// A BGP speaker (RFC 4271): its peers' sessions, Adj-RIB-In, Loc-RIB and what each peer was sent.
 #[derive(Drop)]
-pub struct Speaker<A: Allocator = Global> {
+pub struct Speaker<A: Allocator + Clone = Global, B: Book<A> = PlainBook<A>> {
     pub(crate) alloc: A,
     pub(crate) config: Config,
     pub(crate) conf: Conf<A>,
     pub(crate) links: BTreeMap<u8, Link<A>, A>,
-    pub(crate) ribs: Ribs<A>,
+    pub(crate) routing: Routing<A, B>,
     // The moment of the last tick.
     moment: u64,
     // Whether memory was refused to a call other than a command: nothing is answered from then on.
     stopped: bool,
 }
 
-impl<A: Allocator> Model for Speaker<A> {
-    ghost use Rattle.bgp_conf.specs.Configuration.{AddressesDiffer};
+impl<A: Allocator + Clone, B: Book<A>> Model for Speaker<A, B> {
+    ghost use Rattle.decision.specs.BookContents.{offer_at, rows_of};
+    ghost use Rattle.speaker.specs.Marks.{AreMarked};
+    ghost use Rattle.speaker.specs.Offers.{IsSound};
     ghost use Rattle.speaker.specs.SpeakerState.{SpeakerState};
 
     ghost Value = { SpeakerState };
@@ -52,15 +52,16 @@ impl<A: Allocator> Model for Speaker<A> {
       moment = s.moment;
       conf = s.conf;
       links = s.links.entries;
-      adj_in = s.ribs.adj_in;
-      loc_rib = s.ribs.loc_rib.entries;
+      adj_in = s.routing.adj_in;
+      book = s.routing.book;
+      loc_rib = rows_of s.routing.book;
       stopped = s.stopped;
     } };
 
-    ghost invariant = { λ s. AddressesDiffer s.conf.peers };
+    ghost invariant = { λ s. IsSound s.conf (offer_at s.routing.book) × AreMarked s.conf s.links.entries s.routing };
 }
 
-impl<A: Allocator + Clone> Speaker<A> {
+impl<A: Allocator + Clone, B: Book<A>> Speaker<A, B> {
     ghost use Rattle.speaker.specs.SpeakerState.{SpeakerState, tables_of, started, is_out_of_range};
     ghost use Rattle.speaker.specs.FirstRefusal.{refusal_by, refusal_of, take_refusal_of, LacksMemory};
 
@@ -87,13 +88,13 @@ impl<A: Allocator + Clone> Speaker<A> {
     {
         let conf = Conf::new(alloc.clone()?, config.asn)?;
         let links = BTreeMap::new(alloc.clone()?);
-        let ribs = Ribs::new(alloc.clone()?)?;
+        let routing = Routing::new(alloc.clone()?)?;
         Ok(Speaker {
             alloc,
             config,
             conf,
             links,
-            ribs,
+            routing,
             moment: 0,
             stopped: false,
         })
@@ -239,22 +240,13 @@ impl<A: Allocator + Clone> Speaker<A> {
         }
     }
 
-    // The end of each step: Loc-RIB is chosen, and the peers are queued what they are owed.
+    // The end of each step: the peers are queued what they are owed.
     fn settle(&mut self) -> Result<(), AllocError>
         ensures { OnOk result ((config : TheConfig) (call : Call) (r : Run) → Holds config (turn call [] ∷ r) self.old → IsThrifty config r
             → (queue : Queue) × Agrees config (turn call queue ∷ r) self.new) }
     {
-        self.choose()?;
+        self.routing.ribs.is_chosen();
         self.queue_updates()
-    }
-
-    // Loc-RIB is chosen.
-    fn choose(&mut self) -> Result<(), AllocError>
-        ensures chosen { OnOk result (IsLocRib (tables_of self.new) self.new.loc_rib) }
-        ensures rest { self.new ≡ record self.old { loc_rib = self.new.loc_rib } }
-    {
-        let alloc = self.alloc.clone()?;
-        self.ribs.choose_all(alloc, &self.conf, &self.links)
     }
 
     // Queues the UPDATEs that are owed; want of memory stops the speaker.
@@ -267,17 +259,5 @@ impl<A: Allocator + Clone> Speaker<A> {
             Ok(()) => {}
             Err(_) => self.stopped = true,
         }
-    }
-
-    /// What the export to a slot's peer asks of it.
-    pub(crate) fn export_peer(&self, slot: u8) -> Option<ExportPeer>
-        ensures { result ≡ option_map (export_peer_of self.now.conf slot) (peer_at self.now.conf slot) }
-    {
-        let peer = self.conf.peer(slot)?;
-        Some(ExportPeer {
-            slot,
-            own: self.conf.own(),
-            local: peer.local,
-        })
     }
 }

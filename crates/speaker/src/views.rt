@@ -21,14 +21,15 @@ ghost use Rattle.speaker.specs.Shown.{held_by, shown_of, transport_at};
 ghost use Rattle.speaker.specs.Waiting.{IsWaitingIn, waiting_of};
 ghost use Rattle.bgp_peer.specs.PeerLimits.{ring_octets, room_for_update};
 
+use crate::queueing::export_peer;
 use crate::step::Speaker;
 use crate::waiting::{Waiting, WaitingPrefixes};
 use bgp_fsm::State;
-use decision::Candidate;
+use decision::{Book, PlainBook};
+use loc_rib::Rows;
 use net_prefix::{Prefix, Transport, Vrp};
 use rib_in::SlotRoutes;
 use std::alloc::{Allocator, Global};
-use std::collections::btree_map;
 use std::marker::Model;
 
 /// A row of Loc-RIB: a prefix, the slot of its best route, and that route's degree of preference.
@@ -41,21 +42,21 @@ pub struct BestRoute {
 
 /// Loc-RIB in rising order.
 #[derive(Drop)]
-pub struct LocRib<'a> {
-    pub(crate) routes: btree_map::Iter<'a, Prefix, Candidate>,
+pub struct LocRib<'a, A: Allocator + Clone = Global, B: Book<A> = PlainBook<A>> {
+    pub(crate) rows: Rows<'a, A, B>,
 }
 
-impl<'a> Model for LocRib<'a> {
+impl<'a, A: Allocator + Clone, B: Book<A>> Model for LocRib<'a, A, B> {
     ghost use Rattle.std.specs.Prelude.{List};
     ghost use Rattle.decision.specs.declared.candidate.Candidate.{Candidate};
     ghost use Rattle.net_prefix.specs.declared.prefix.Prefix.{Prefix};
 
     ghost Value = { List (Prefix × Candidate) };
 
-    ghost view = { λ routes. routes.routes };
+    ghost view = { λ routes. routes.rows };
 }
 
-impl Iterator for LocRib<'_> {
+impl<A: Allocator + Clone, B: Book<A>> Iterator for LocRib<'_, A, B> {
     type Item = BestRoute;
 
     ghost next_gives = { YieldsFirst (λ rest. map shown_of rest) };
@@ -63,9 +64,9 @@ impl Iterator for LocRib<'_> {
     ghost remaining = { item_count (λ rest. map shown_of rest) };
 
     fn next(&mut self) -> Option<BestRoute> {
-        let (prefix, route) = self.routes.next()?;
+        let (prefix, route) = self.rows.next()?;
         Some(BestRoute {
-            prefix: *prefix,
+            prefix,
             slot: route.slot,
             degree: route.degree,
         })
@@ -133,7 +134,7 @@ impl<'a, A: Allocator> Iterator for HeldRoutes<'a, A> {
     }
 }
 
-impl<A: Allocator + Clone> Speaker<A> {
+impl<A: Allocator + Clone, B: Book<A>> Speaker<A, B> {
     /// The state of a slot's session; none where the slot isn't configured.
     pub fn session(&self, slot: u8) -> Option<State>
         ensures kept { result ≡ option_map (λ s. s.state) (session_at self.now.links slot) }
@@ -167,7 +168,7 @@ impl<A: Allocator + Clone> Speaker<A> {
     }
 
     /// Loc-RIB in rising order.
-    pub fn loc_rib(&self) -> LocRib<'_>
+    pub fn loc_rib(&self) -> LocRib<'_, A, B>
         // Each prefix once.
         ensures rising { IsStrictlySortedBy prefix_cmp (keys_of result) }
         ensures kept { result ≡ self.now.loc_rib }
@@ -175,7 +176,7 @@ impl<A: Allocator + Clone> Speaker<A> {
             → Contains result (prefix, c) ↔ IsBest (tables_after config r) prefix c }
     {
         LocRib {
-            routes: self.ribs.loc_rib.iter(),
+            rows: self.routing.ribs.rows(),
         }
     }
 
@@ -194,7 +195,7 @@ impl<A: Allocator + Clone> Speaker<A> {
         ensures kept { result ≡ routes_of slot self.now.adj_in }
         ensures agrees { (config : Config) (r : Run) (prefix : ThePrefix) → Agrees config r self.now → lookup (is_prefix prefix) result ≡ route (history config slot r) prefix }
     {
-        self.ribs.adj_in.routes_of(slot)
+        self.routing.ribs.routes().routes_of(slot)
     }
 
     /// What a slot's peer holds of what it was sent, in rising order; nothing where the slot isn't configured.
@@ -221,7 +222,7 @@ impl<A: Allocator + Clone> Speaker<A> {
 
     /// The prefixes of which a slot's peer doesn't hold just what is exported to it, in rising order; none
     /// where its session isn't Established.
-    pub fn waiting(&self, slot: u8) -> WaitingPrefixes<'_, A>
+    pub fn waiting(&self, slot: u8) -> WaitingPrefixes<'_, A, B>
         // Each once.
         ensures rising { IsStrictlySortedBy prefix_cmp result }
         ensures kept { result ≡ waiting_of self.now slot }
@@ -232,7 +233,7 @@ impl<A: Allocator + Clone> Speaker<A> {
         self.waiting_rows(slot)
     }
 
-    fn waiting_rows(&self, slot: u8) -> WaitingPrefixes<'_, A>
+    fn waiting_rows(&self, slot: u8) -> WaitingPrefixes<'_, A, B>
         ensures all { result ≡ waiting_of self.now slot }
         ensures rising { IsStrictlySortedBy prefix_cmp result }
     {
@@ -241,15 +242,15 @@ impl<A: Allocator + Clone> Speaker<A> {
         }
     }
 
-    fn waiting_walk(&self, slot: u8) -> Option<Waiting<'_, A>>
+    fn waiting_walk(&self, slot: u8) -> Option<Waiting<'_, A, B>>
         ensures all { unwrap_or result [] ≡ waiting_of self.now slot }
         ensures rising { IsStrictlySortedBy prefix_cmp (unwrap_or result []) }
     {
-        let peer = self.export_peer(slot)?;
+        let peer = export_peer(&self.conf, slot)?;
         let link = self.links.get(&slot)?;
         if link.peer.state() != State::Established {
             return None;
         }
-        Some(Waiting::new(&self.ribs, link, peer))
+        Some(Waiting::new(&self.routing.ribs, link, peer))
     }
 }

@@ -3,6 +3,7 @@ ghost use Rattle.std.specs.Prelude.{◌≡◌, not};
 ghost use Rattle.std.specs.Iterator.{YieldsFirst, item_count};
 ghost use Rattle.std.specs.List.Sorted.{IsStrictlySortedBy};
 ghost use Rattle.std.specs.Map.{keys_of};
+ghost use Rattle.decision.specs.BookContents.{rows_of};
 ghost use Rattle.net_prefix.specs.PrefixOrder.{prefix_cmp};
 ghost use Rattle.rib_out.specs.Held.{held_at};
 ghost use Rattle.speaker.specs.Export.{export_in};
@@ -11,23 +12,22 @@ ghost use Rattle.speaker.specs.Waiting.{differing, first_of, is_same, known_pref
 
 use crate::link::Link;
 use crate::queueing::{Octets, export};
-use crate::ribs::Ribs;
-use decision::Candidate;
+use decision::{Book, PlainBook};
 use export_rules::ExportPeer;
+use loc_rib::{Ribs, Rows};
 use net_prefix::Prefix;
 use rib_out::{AdjOut, HeldRoutes};
 use std::alloc::{Allocator, Global};
 use std::cmp::Ordering;
-use std::collections::{BTreeMap, btree_map};
 use std::marker::Model;
 
 /// The prefixes of which a slot's peer doesn't hold just what is exported to it, in rising order.
 #[derive(Drop)]
-pub struct WaitingPrefixes<'a, A: Allocator = Global> {
-    pub(crate) waiting: Option<Waiting<'a, A>>,
+pub struct WaitingPrefixes<'a, A: Allocator + Clone = Global, B: Book<A> = PlainBook<A>> {
+    pub(crate) waiting: Option<Waiting<'a, A, B>>,
 }
 
-impl<'a, A: Allocator> Model for WaitingPrefixes<'a, A> {
+impl<'a, A: Allocator + Clone, B: Book<A>> Model for WaitingPrefixes<'a, A, B> {
     ghost use Rattle.std.specs.Prelude.{List, [], unwrap_or};
     ghost use Rattle.net_prefix.specs.declared.prefix.Prefix.{Prefix};
 
@@ -36,7 +36,7 @@ impl<'a, A: Allocator> Model for WaitingPrefixes<'a, A> {
     ghost view = { λ prefixes. unwrap_or prefixes.waiting [] };
 }
 
-impl<A: Allocator + Clone> Iterator for WaitingPrefixes<'_, A> {
+impl<A: Allocator + Clone, B: Book<A>> Iterator for WaitingPrefixes<'_, A, B> {
     type Item = Prefix;
 
     ghost next_gives = { YieldsFirst (λ rest. rest) };
@@ -53,14 +53,15 @@ impl<A: Allocator + Clone> Iterator for WaitingPrefixes<'_, A> {
 
 /// The known prefixes of which an Established peer doesn't hold just what is exported to it.
 #[derive(Drop)]
-pub struct Waiting<'a, A: Allocator> {
-    ribs: &'a Ribs<A>,
+pub struct Waiting<'a, A: Allocator + Clone, B: Book<A>> {
+    ribs: &'a Ribs<A, B>,
     adj_out: &'a AdjOut<A>,
     peer: ExportPeer,
-    known: KnownPrefixes<'a, A>,
+    known: KnownPrefixes<'a, A, B>,
 }
 
-impl<'a, A: Allocator> Model for Waiting<'a, A> {
+impl<'a, A: Allocator + Clone, B: Book<A>> Model for Waiting<'a, A, B> {
+    ghost use Rattle.decision.specs.BookContents.{rows_of};
     ghost use Rattle.std.specs.Prelude.{List};
     ghost use Rattle.net_prefix.specs.declared.prefix.Prefix.{Prefix};
     ghost use Rattle.rib_out.specs.Held.{held_at};
@@ -70,25 +71,25 @@ impl<'a, A: Allocator> Model for Waiting<'a, A> {
 
     ghost Value = { List Prefix };
 
-    ghost view = { λ w. differing (held_at w.adj_out.now) (export_in (best_at w.ribs.now.loc_rib.entries) w.ribs.now.adj_in w.peer) w.known };
+    ghost view = { λ w. differing (held_at w.adj_out.now) (export_in (best_at (rows_of w.ribs.now.book)) w.ribs.now.adj_in w.peer) w.known };
 }
 
-impl<'a, A: Allocator + Clone> Waiting<'a, A> {
+impl<'a, A: Allocator + Clone, B: Book<A>> Waiting<'a, A, B> {
     /// The prefixes that wait for the peer of this slot.
-    pub fn new(ribs: &'a Ribs<A>, link: &'a Link<A>, peer: ExportPeer) -> Self
-        ensures waiting { result ≡ differing (held_at link.now.adj_out) (export_in (best_at ribs.now.loc_rib.entries) ribs.now.adj_in peer) (known_prefixes ribs.now.loc_rib.entries link.now.adj_out) }
+    pub fn new(ribs: &'a Ribs<A, B>, link: &'a Link<A>, peer: ExportPeer) -> Self
+        ensures waiting { result ≡ differing (held_at link.now.adj_out) (export_in (best_at (rows_of ribs.now.book)) ribs.now.adj_in peer) (known_prefixes (rows_of ribs.now.book) link.now.adj_out) }
         ensures rising { IsStrictlySortedBy prefix_cmp result }
     {
         Waiting {
             ribs,
             adj_out: &link.adj_out,
             peer,
-            known: KnownPrefixes::new(&ribs.loc_rib, &link.adj_out),
+            known: KnownPrefixes::new(ribs, &link.adj_out),
         }
     }
 }
 
-impl<A: Allocator + Clone> Iterator for Waiting<'_, A> {
+impl<A: Allocator + Clone, B: Book<A>> Iterator for Waiting<'_, A, B> {
     type Item = Prefix;
 
     ghost next_gives = { YieldsFirst (λ rest. rest) };
@@ -107,14 +108,14 @@ impl<A: Allocator + Clone> Iterator for Waiting<'_, A> {
 }
 
 // Whether the peer doesn't hold of a prefix just what is exported to it.
-fn is_waiting<A: Allocator + Clone>(
-    ribs: &Ribs<A>,
+fn is_waiting<A: Allocator + Clone, B: Book<A>>(
+    ribs: &Ribs<A, B>,
     adj_out: &AdjOut<A>,
     peer: &ExportPeer,
     prefix: Prefix,
     octets: &mut Octets,
 ) -> bool
-    ensures { result ≡ not (is_same (held_at adj_out.now prefix) (export_in (best_at ribs.now.loc_rib.entries) ribs.now.adj_in peer.now prefix)) }
+    ensures { result ≡ not (is_same (held_at adj_out.now prefix) (export_in (best_at (rows_of ribs.now.book)) ribs.now.adj_in peer.now prefix)) }
 {
     if export(ribs, peer, prefix, octets) {
         !adj_out.holds(prefix, octets.as_slice())
@@ -125,15 +126,15 @@ fn is_waiting<A: Allocator + Clone>(
 
 // The prefixes of Loc-RIB and those that a peer holds, in rising order, each once.
 #[derive(Drop)]
-struct KnownPrefixes<'a, A: Allocator> {
+struct KnownPrefixes<'a, A: Allocator + Clone, B: Book<A>> {
     // The first of each, and what follows it.
     best: Option<Prefix>,
-    later_best: btree_map::Iter<'a, Prefix, Candidate>,
+    later_best: Rows<'a, A, B>,
     held: Option<Prefix>,
     later_held: HeldRoutes<'a, A>,
 }
 
-impl<'a, A: Allocator> Model for KnownPrefixes<'a, A> {
+impl<'a, A: Allocator + Clone, B: Book<A>> Model for KnownPrefixes<'a, A, B> {
     ghost use Rattle.std.specs.Prelude.{List, true};
     ghost use Rattle.std.specs.Map.{keys_of};
     ghost use Rattle.std.specs.Set.{sorted_merge};
@@ -146,12 +147,12 @@ impl<'a, A: Allocator> Model for KnownPrefixes<'a, A> {
     ghost view = { λ known. sorted_merge prefix_cmp true (first_of known.best (keys_of known.later_best)) (first_of known.held (keys_of known.later_held)) };
 }
 
-impl<'a, A: Allocator + Clone> KnownPrefixes<'a, A> {
-    fn new(loc_rib: &'a BTreeMap<Prefix, Candidate, A>, adj_out: &'a AdjOut<A>) -> Self
-        ensures all { result ≡ known_prefixes loc_rib.now.entries adj_out.now }
+impl<'a, A: Allocator + Clone, B: Book<A>> KnownPrefixes<'a, A, B> {
+    fn new(ribs: &'a Ribs<A, B>, adj_out: &'a AdjOut<A>) -> Self
+        ensures all { result ≡ known_prefixes (rows_of ribs.now.book) adj_out.now }
         ensures rising { IsStrictlySortedBy prefix_cmp result }
     {
-        let mut later_best = loc_rib.iter();
+        let mut later_best = ribs.rows();
         let mut later_held = adj_out.held();
         KnownPrefixes {
             best: next_best(&mut later_best),
@@ -162,7 +163,7 @@ impl<'a, A: Allocator + Clone> KnownPrefixes<'a, A> {
     }
 }
 
-impl<A: Allocator> Iterator for KnownPrefixes<'_, A> {
+impl<A: Allocator + Clone, B: Book<A>> Iterator for KnownPrefixes<'_, A, B> {
     type Item = Prefix;
 
     ghost next_gives = { YieldsFirst (λ rest. rest) };
@@ -200,11 +201,11 @@ impl<A: Allocator> Iterator for KnownPrefixes<'_, A> {
 }
 
 // The next prefix of Loc-RIB.
-fn next_best(routes: &mut btree_map::Iter<'_, Prefix, Candidate>) -> Option<Prefix>
+fn next_best<A: Allocator + Clone, B: Book<A>>(routes: &mut Rows<'_, A, B>) -> Option<Prefix>
     ensures { keys_of routes.old ≡ first_of result (keys_of routes.new) }
 {
     match routes.next() {
-        Some((prefix, _)) => Some(*prefix),
+        Some((prefix, _)) => Some(prefix),
         None => None,
     }
 }

@@ -1,17 +1,38 @@
 use Rattle.std.proofs.Common.{ap}
 use Rattle.bgp_msg.specs.MessageSpelling.{front_prefixes}
-use Rattle.speaker.proofs.Results.{OnOk-got}
+use Rattle.speaker.proofs.HeardOffers.{apart_still, some_more, some_none, some_still}
 use Rattle.speaker.proofs.RouteChanges.{Sets-start, Sets-more, Sets-end}
 use Rattle.speaker.proofs.receiving.announce_each.Goals as goal
 
 pub loop-prefix-init : goal.loop-prefix-init
-loop-prefix-init g c = Sets-start _ _ _ _ _ (ap (λ p. (front_prefixes p.octets.now).0) c.into_iter-prefix-iterator.ensures.into_iter_gives)
+loop-prefix-init g c =
+    let all = ap (λ p. (front_prefixes p.octets.now).0) c.into_iter-prefix-iterator.ensures.into_iter_gives in
+    (Sets-start _ _ _ _ _ all, Sets-start _ _ _ _ _ all, some_none _ _ _, c.requires.marked)
+
+pub announce-requires-clause-apart : goal.announce-requires-clause-apart
+announce-requires-clause-apart g c = apart_still _ _ _ _ c.loop-prefix.invariant.2 c.in-Some.prefix (c.requires.apart c.in-Some.prefix)
 
 pub loop-prefix-preserved : goal.loop-prefix-preserved
 loop-prefix-preserved g c =
-    let set = OnOk-got c.announce.result _ c.announce.ensures.ok c.if-is_err.ensures.value in
-    let here = rw c.in_ok-clone.ensures.cases at set in
-    Sets-more _ _ _ _ _ _ _ _ _ _ c.loop-prefix.invariant c.in-Some.ensures.steps here
+    let h = c.loop-prefix.invariant in
+    let routes = rw c.in_ok-clone.ensures.cases at c.in_ok-announce.ensures.routes in (
+      Sets-more _ _ _ _ _ _ _ _ _ _ h.0 c.in-Some.ensures.steps routes,
+      Sets-more _ _ _ _ _ _ _ _ _ _ h.1 c.in-Some.ensures.steps c.in_ok-announce.ensures.offers,
+      some_more _ c.in-Some.prefix _ _ _ _ h.2 c.in_ok-announce.ensures.offers,
+      c.in_ok-announce.ensures.marked,
+    )
 
-pub returns : goal.returns
-returns g c = Sets-end _ _ _ _ _ _ _ c.loop-prefix.invariant c.in-None.ensures.steps.0
+pub returns-in_err-clone-clause-some : goal.returns-in_err-clone-clause-some
+returns-in_err-clone-clause-some g c = c.loop-prefix.invariant.2
+
+pub returns-in_err-announce-clause-some : goal.returns-in_err-announce-clause-some
+returns-in_err-announce-clause-some g c = some_still _ _ _ _ _ c.loop-prefix.invariant.2 c.in_err-announce.ensures.err.1
+
+pub returns-clause-routes : goal.returns-clause-routes
+returns-clause-routes g c = Sets-end _ _ _ _ _ _ _ c.loop-prefix.invariant.0 c.in-None.ensures.steps.0
+
+pub returns-clause-offers : goal.returns-clause-offers
+returns-clause-offers g c = Sets-end _ _ _ _ _ _ _ c.loop-prefix.invariant.1 c.in-None.ensures.steps.0
+
+pub returns-clause-some : goal.returns-clause-some
+returns-clause-some g c = c.loop-prefix.invariant.2

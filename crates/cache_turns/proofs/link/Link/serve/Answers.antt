@@ -1,5 +1,5 @@
-use Rattle.std.proofs.Common.{refl, sym, ap, subst, ◌∙◌}
-use Rattle.cache_turns.specs.Serving.{Connection, GoesOn, Sides}
+use Rattle.std.proofs.Common.{refl, sym, subst}
+use Rattle.cache_turns.specs.Serving.{GoesOn, Sides}
 use Rattle.cache_turns.specs.declared.wire.Received.{Received}
 use Rattle.cache_turns.proofs.Answering.{answered, served}
 use Rattle.cache_turns.proofs.link.Link.serve.Goals as goal

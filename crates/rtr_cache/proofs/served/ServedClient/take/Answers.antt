@@ -1,5 +1,5 @@
-use Rattle.std.proofs.Common.{[], drop, false, ap, ◌∙◌}
-use Rattle.rtr_cache.specs.CacheTable.{Conn, pumped}
+use Rattle.std.proofs.Common.{[], false, ap, ◌∙◌}
+use Rattle.rtr_cache.specs.CacheTable.{Conn, hands_out, pumped}
 use Rattle.rtr_cache.specs.Sending.{Sending, conn_of}
 use Rattle.rtr_cache.proofs.Queueing.{pumped_same_open, still_receiving}
 use Rattle.rtr_cache.proofs.served.ServedClient.take.Goals as goal
@@ -13,4 +13,4 @@ pub returns-clause-rest : goal.returns-clause-rest
 returns-clause-rest g c =
     c.pump.ensures _ _
     ∙ ap (λ (s : Sending). pumped (conn_of c.self.inside.receiver.place.is_first c.self.inside.receiver.part s)) c.take-count.ensures.exact
-    ∙ ap (λ (conn : Conn). pumped (record conn { ring = drop c.take-count.result conn.ring })) c.self.view_is
+    ∙ ap (λ (conn : Conn). pumped (hands_out c.take-count.result conn)) c.self.view_is

@@ -1,36 +1,48 @@
-use Rattle.std.proofs.Common.{◌≡◌, ◌≢◌, ◌∙◌, Some, None, sym}
+use Rattle.std.proofs.Common.{◌≡◌, Some, None, ap, subst}
+use Rattle.decision.specs.BookContents.{rows_of}
 use Rattle.rib_out.specs.Held.{held_at}
-use Rattle.speaker.specs.Export.{export_in}
-use Rattle.speaker.specs.Serving.{HasRoomAt, IsNext}
+use Rattle.speaker.specs.Export.{IsAccepted, export_in, export_to}
+use Rattle.speaker.specs.Marks.{announced_of}
+use Rattle.speaker.specs.RoutingState.{RoutingState}
+use Rattle.speaker.specs.Serving.{HasRoomAt, IsHad}
 use Rattle.speaker.specs.Tables.{best_at}
-use Rattle.speaker.proofs.Serving.{Walks-announced, Walks-had, Serves-still}
+use Rattle.speaker.specs.declared.step.Speaker.TheInside.{Inside}
+use Rattle.speaker.proofs.Serving.{export_kept, had_by, left-smaller, served_by, Serves-still, Walks-announced, Walks-end, Walks-had}
 use Rattle.speaker.proofs.step.Speaker.announce_all.Goals as goal
-use Rattle.speaker.proofs.step.Speaker.announce_all.Goals.{then-export+then-not-holds+in_ok-announce_at, else-export, else-export-via-then-export+else-not-holds, else-export-via-else-export}
+use Rattle.speaker.proofs.step.Speaker.announce_all.Goals.{then-export+in_ok-announce_at, else-export}
 
 pub returns-in_err-announce_at-clause-serves : goal.returns-in_err-announce_at-clause-serves
 returns-in_err-announce_at-clause-serves g c = Serves-still _ _ c.loop-prefix.self _ c.loop-prefix.invariant.serves c.in_err-announce_at.ensures.err
 
+pub loop-prefix-smaller : goal.loop-prefix-smaller
+loop-prefix-smaller g c =
+    let h = c.loop-prefix.invariant in
+    let next = c.in-Some.ensures h.serves.after (served_by _ _ _ _ h.serves c.requires.peer) in
+    left-smaller _ _ h.place next.1 (rw (← c.place-place.ensures.place) c.place-place.ensures.below)
+
 pub loop-prefix-preserved : goal.loop-prefix-preserved
 loop-prefix-preserved g c =
     let h = c.loop-prefix.invariant in
-    let next : IsNext (best_at c.loop-prefix.self.loc_rib) c.loop-prefix.after (Some c.in-Some.prefix) = rw (← c.self.view_is) c.in-Some.ensures in
+    let next = c.in-Some.ensures h.serves.after (served_by _ _ _ _ h.serves c.requires.peer) in
     let below = rw c.place-place.ensures.place at c.place-place.ensures.below in
     let room : HasRoomAt c.loop-prefix.self c.args.slot = λ l is. (c.has_room.ensures l is).0 (let has = c.if-not-has_room.false in (cc)) in
     elim c.if-export.branch [
-      | then-export+then-not-holds+in_ok-announce_at w ↦
-          let some : export_in (best_at c.loop-prefix.self.loc_rib) c.loop-prefix.self.adj_in c.args.peer.now c.in-Some.prefix ≡ Some c.export.new.octets.items = rw (← c.self.view_is) w.if-export.ensures.tells in
-          let news : held_at c.loop-prefix.invariant.serves.after.adj_out c.in-Some.prefix ≢ Some c.export.new.octets.items =
-          λ held. let holds = (w.holds.ensures c.loop-prefix.invariant.serves.after c.loop-prefix.invariant.serves.is).1 held in let not = w.if-not-holds.true in (cc) in
-          rw w.self-is (Walks-announced _ _ _ _ _ _ _ _ c.loop-prefix.invariant c.requires.peer next below room some news (rw (← c.self.view_is) w.if-export.ensures.accepted) w.in_ok-announce_at.ensures.told)
+      | then-export+in_ok-announce_at w ↦
+          let tells =
+          subst (λ (t : RoutingState). export_in (best_at (rows_of t.book)) t.adj_in c.args.peer.now c.in-Some.prefix ≡ Some c.export.new.octets.items) (ap (λ (x : Inside g.row.A.Denot g.row.B.Denot). x.routing) c.self-inside.view_is) w.if-export.ensures.tells in
+          let accepted =
+          subst (λ (t : RoutingState). IsAccepted (rows_of t.book) t.adj_in c.args.peer.now c.in-Some.prefix c.export.new.octets.items) (ap (λ (x : Inside g.row.A.Denot g.row.B.Denot). x.routing) c.self-inside.view_is) w.if-export.ensures.accepted in
+          let some : export_in (best_at c.loop-prefix.self.loc_rib) c.loop-prefix.self.adj_in c.args.peer.now c.in-Some.prefix ≡ Some c.export.new.octets.items = rw (← c.self.view_is) tells in
+          rw w.self-is (Walks-announced _ _ _ _ _ _ _ _ h c.requires.peer next below room some (rw (← c.self.view_is) accepted) w.in_ok-announce_at.ensures.told)
       | else-export w ↦
-          rw w.self-is (Walks-had _ _ _ _ _ _ c.loop-prefix.invariant c.requires.peer next below
-          (elim w.else-export.branch [
-            | else-export-via-then-export+else-not-holds w' ↦
-                let some : export_in (best_at c.loop-prefix.self.loc_rib) c.loop-prefix.self.adj_in c.args.peer.now c.in-Some.prefix ≡ Some c.export.new.octets.items = rw (← c.self.view_is) w'.if-export.ensures.tells in
-                let held = (w'.holds.ensures c.loop-prefix.invariant.serves.after c.loop-prefix.invariant.serves.is).0 (let has = w'.if-not-holds.false in (cc)) in
-                λ octets is. held ∙ sym some ∙ is
-            | else-export-via-else-export w' ↦
-                let none : export_in (best_at c.loop-prefix.self.loc_rib) c.loop-prefix.self.adj_in c.args.peer.now c.in-Some.prefix ≡ None = rw (← c.self.view_is) w'.if-export.ensures.tells.0 in
-                λ octets is. let never = sym none ∙ is in absurd (cc)
-          ]))
+          let tells = subst (λ (t : RoutingState). export_in (best_at (rows_of t.book)) t.adj_in c.args.peer.now c.in-Some.prefix ≡ None) (ap (λ (x : Inside g.row.A.Denot g.row.B.Denot). x.routing) c.self-inside.view_is) w.if-export.ensures.tells.0 in
+          let none : export_in (best_at c.loop-prefix.self.loc_rib) c.loop-prefix.self.adj_in c.args.peer.now c.in-Some.prefix ≡ None = rw (← c.self.view_is) tells in
+          rw w.self-is (Walks-had _ _ _ _ _ _ h c.requires.peer next below none)
     ]
+
+pub returns-clause-done : goal.returns-clause-done
+returns-clause-done g c =
+    let h = c.loop-prefix.invariant in
+    let last = c.in_default.ensures h.serves.after (served_by _ _ _ _ h.serves c.requires.peer) in
+    Walks-end (IsHad (export_to c.args.self.now c.args.slot)) (λ q. announced_of (export_to c.loop-prefix.self c.args.slot q) (held_at h.serves.after.adj_out q)) c.args.slot c.args.self.now c.loop-prefix.self c.loop-prefix.after h
+    (had_by c.args.slot c.args.self.now c.loop-prefix.self (held_at h.serves.after.adj_out) (ap (λ e. e c.args.slot) (export_kept c.args.self.now c.loop-prefix.self h.serves.only.rest))) last

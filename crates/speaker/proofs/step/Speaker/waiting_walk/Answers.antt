@@ -1,5 +1,14 @@
-use Rattle.std.proofs.Common.{◌≡◌, rules}
+use Rattle.std.proofs.Common.{Some, ◌≡◌, rules, subst, ap}
+use Rattle.decision.specs.BookContents.{rows_of}
+use Rattle.rib_out.specs.Held.{held_at}
+use Rattle.std.specs.Option.{option_map}
+use Rattle.bgp_conf.specs.Configuration.{peer_at}
+use Rattle.speaker.specs.Export.{export_in, export_peer_of}
+use Rattle.speaker.specs.RoutingState.{RoutingState}
+use Rattle.speaker.specs.Tables.{best_at, link_at}
+use Rattle.speaker.specs.Waiting.{differing, known_prefixes}
 use Rattle.bgp_fsm.specs.declared.state.State.TheVariants.{Established}
+use Rattle.speaker.specs.declared.step.Speaker.TheInside.{Inside}
 use Rattle.speaker.proofs.WaitingLists.{listed_of, nothing_rises}
 use Rattle.speaker.proofs.step.Speaker.waiting_walk.Goals as goal
 
@@ -15,5 +24,9 @@ returns-then-ne-clause-rising g c = nothing_rises
 pub returns-clause-all : goal.returns-clause-all
 returns-clause-all g c =
     let established : c.in_ok-link.link.now.peer.session.state ≡ Established = search rules in
-    let there = rw (← c.self.view_is) at c.in_ok-peer.ensures in
-    rw (← c.self.view_is) (listed_of _ _ c.in_ok-peer.peer c.in_ok-link.link.now _ _ _ there c.in_ok-link.ensures.value established c.new.ensures.waiting)
+    let there = subst (λ (x : Inside g.row.A.Denot g.row.B.Denot). Some c.in_ok-peer.peer ≡ option_map (export_peer_of x.conf c.args.slot) (peer_at x.conf c.args.slot)) c.self-inside.view_is c.in_ok-peer.ensures in
+    let linked = subst (λ (x : Inside g.row.A.Denot g.row.B.Denot). Some c.in_ok-link.link.now ≡ link_at x.links.entries c.args.slot) c.self-inside.view_is c.in_ok-link.ensures.value in
+    let waiting : c.new.result ≡ differing (held_at c.in_ok-link.link.now.adj_out) (export_in (best_at (rows_of c.self.inside.routing.book)) c.self.inside.routing.adj_in c.in_ok-peer.peer) (known_prefixes (rows_of c.self.inside.routing.book) c.in_ok-link.link.now.adj_out) =
+    subst (λ (t : RoutingState). c.new.result ≡ differing (held_at c.in_ok-link.link.now.adj_out) (export_in (best_at (rows_of t.book)) t.adj_in c.in_ok-peer.peer) (known_prefixes (rows_of t.book) c.in_ok-link.link.now.adj_out))
+    (ap (λ (x : Inside g.row.A.Denot g.row.B.Denot). x.routing) c.self-inside.view_is) c.new.ensures.waiting in
+    rw (← c.self.view_is) (listed_of _ _ c.in_ok-peer.peer c.in_ok-link.link.now _ _ _ there linked established waiting)

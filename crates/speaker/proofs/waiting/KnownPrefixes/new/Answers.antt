@@ -10,7 +10,7 @@ use Rattle.speaker.proofs.waiting.KnownPrefixes.new.Goals as goal
 pub returns-clause-rising : goal.returns-clause-rising
 returns-clause-rising g c =
     let P : List Prefix → Type 0 = λ xs. IsStrictlySortedBy prefix_cmp xs in
-    let best : P (keys_of c.iter-later_best.result) = rw c.iter-later_best.ensures.rest c.iter-later_best.ensures.ordered in
+    let best : P (keys_of c.rows-later_best.result) = c.rows-later_best.ensures.rising in
     let held : P (keys_of c.held-later_held.result) = rw c.held-later_held.ensures.all c.held-later_held.ensures.rising in
     merged_rises (first_of c.next_best.result (keys_of c.next_best.new.routes)) (first_of c.next_held.result (keys_of c.next_held.new.routes))
     (subst P c.next_best.ensures best) (subst P c.next_held.ensures held)

@@ -1,3 +1,4 @@
+use Rattle.decision.specs.BookContents.{rows_of}
 use Rattle.rib_out.specs.Held.{held_at}
 use Rattle.speaker.specs.Export.{export_in}
 use Rattle.speaker.specs.Tables.{best_at}
@@ -6,4 +7,4 @@ use Rattle.speaker.proofs.waiting.Waiting.new.Goals as goal
 
 pub returns-clause-rising : goal.returns-clause-rising
 returns-clause-rising g c =
-    differing_rises (held_at c.link.inside.adj_out) (export_in (best_at c.args.ribs.now.loc_rib.entries) c.args.ribs.now.adj_in c.args.peer) c.new.result c.new.ensures.rising
+    differing_rises (held_at c.link.inside.adj_out) (export_in (best_at (rows_of c.args.ribs.now.book)) c.args.ribs.now.adj_in c.args.peer) c.new.result c.new.ensures.rising

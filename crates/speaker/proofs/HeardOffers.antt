@@ -1,0 +1,79 @@
+use Rattle.std.proofs.Common.{◌≡◌, ◌==◌, ◌&&◌, ◌⊎◌, ℕ, Bool, true, false, List, Option, Some, None, Result, Ok, Err, OnOk, cond, refl, sym, ap, ◌∙◌, subst, inl, inr}
+use Rattle.std.proofs.lemmas.Bool.{eq-eqb, eqb-true}
+use Rattle.bgp_attr.specs.PathAttributes.{PathAttributes}
+use Rattle.bgp_conf.specs.Configuration.{Configuration}
+use Rattle.bgp_fsm.specs.StateTests.{is_established}
+use Rattle.bgp_fsm.specs.declared.state.State.TheVariants.{Established}
+use Rattle.decision.specs.BookContents.{AreApart, offer_at}
+use Rattle.decision.specs.declared.candidate.Candidate.{Candidate}
+use Rattle.net_prefix.specs.declared.prefix.Prefix.{Prefix}
+use Rattle.rib_in.specs.LatestRoutes.{is_route, route_at}
+use Rattle.speaker.specs.AdjRibIn.{is_among}
+use Rattle.speaker.specs.Candidates.{IsMade}
+use Rattle.speaker.specs.Offers.{IsSound, KeepsHeard, Offers}
+use Rattle.speaker.specs.RoutingState.{RoutingState}
+use Rattle.speaker.specs.declared.receiving.Sender.{Sender}
+use Rattle.speaker.proofs.KeptOffers.{kept_come, kept_gone}
+use Rattle.speaker.proofs.RouteChanges.{IsSet, is_route-parts}
+use Rattle.speaker.proofs.SoundOffers.{apart_with, made_own, sound_gone, sound_some}
+
+-- The candidates that an UPDATE leaves.
+
+-- each is the slot's new one or as it was
+abbrev pub AreSome : ℕ → Option Candidate → Offers → Offers → Type 0
+AreSome slot found had has = (s : ℕ) (p : Prefix) → ((s ≡ slot) × (has s p ≡ found)) ⊎ (has s p ≡ had s p)
+
+pub some_none : (slot : ℕ) (found : Option Candidate) (had : Offers) → AreSome slot found had had
+some_none slot found had s p = inr refl
+
+pub both_true : (a b : Bool) → (a && b) ≡ true → a ≡ true
+both_true true b h = refl
+both_true false b h = absurd (cc)
+
+pub some_more : (slot : ℕ) (e : Prefix) (found : Option Candidate) (had now new : Offers) → AreSome slot found had now → ((s : ℕ) (p : Prefix) → new s p ≡ cond (is_route slot e s p) found (now s p))
+    → AreSome slot found had new
+some_more slot e found had now new some is s p = here (is_route slot e s p) refl (is s p)
+  where
+    here : (b : Bool) → is_route slot e s p ≡ b → new s p ≡ cond b found (now s p) → ((s ≡ slot) × (new s p ≡ found)) ⊎ (new s p ≡ had s p)
+    here true at now_is = inl (eqb-true s slot (both_true (s == slot) _ (sym (is_route-parts slot e s p) ∙ at)), now_is)
+    here false at now_is = elim (some s p) [ inl this ↦ inl (this.0, now_is ∙ this.1) | inr same ↦ inr (now_is ∙ same) ]
+
+pub some_still : (slot : ℕ) (found : Option Candidate) (had now new : Offers) → AreSome slot found had now → ((s : ℕ) (p : Prefix) → new s p ≡ now s p) → AreSome slot found had new
+some_still slot found had now new some is s p = elim (some s p) [ inl this ↦ inl (this.0, is s p ∙ this.1) | inr same ↦ inr (is s p ∙ same) ]
+
+-- with the slot's new one in place of its last they are as far apart as before
+pub apart_still : (slot : ℕ) (found : Option Candidate) (had has : Offers) → AreSome slot found had has → (p : Prefix) → AreApart (λ s. cond (slot == s) found (had s p))
+    → AreApart (λ s. cond (slot == s) found (has s p))
+apart_still slot found had has some p apart = subst (λ f. AreApart f) (λ i s. same s (slot == s) refl (some s p) i) apart
+  where
+    same : (s : ℕ) (b : Bool) → (slot == s) ≡ b → ((s ≡ slot) × (has s p ≡ found)) ⊎ (has s p ≡ had s p) → cond b found (had s p) ≡ cond b found (has s p)
+    same s true at some = refl
+    same s false at (inl this) = absurd (let back = eq-eqb slot s (sym this.0) in cc)
+    same s false at (inr as_was) = sym as_was
+
+-- behind the withdrawals
+pub apart_heard : (conf : Configuration) (slot identifier : ℕ) (attrs : PathAttributes) (found : Option Candidate) (withdrawn : List Prefix) (had mid : Offers) → IsSound conf had
+    → IsSet slot withdrawn None had mid → IsMade conf slot identifier attrs found → (p : Prefix) → AreApart (λ s. cond (slot == s) found (mid s p))
+apart_heard conf slot identifier attrs found withdrawn had mid sound gone made =
+    apart_with conf slot found mid (sound_gone conf had mid (λ s p. s == slot && is_among p withdrawn) sound gone) (made_own conf slot identifier attrs found made)
+
+pub sound_heard : (conf : Configuration) (slot identifier : ℕ) (attrs : PathAttributes) (found : Option Candidate) (withdrawn : List Prefix) (had mid has : Offers) → IsSound conf had
+    → IsSet slot withdrawn None had mid → IsMade conf slot identifier attrs found → AreSome slot found mid has → IsSound conf has
+sound_heard conf slot identifier attrs found withdrawn had mid has sound gone made some =
+    sound_some conf slot found mid has (sound_gone conf had mid (λ s p. s == slot && is_among p withdrawn) sound gone) (made_own conf slot identifier attrs found made) some
+
+pub sound_withdrawn : (conf : Configuration) (slot : ℕ) (withdrawn : List Prefix) (had mid : Offers) → IsSound conf had → IsSet slot withdrawn None had mid → IsSound conf mid
+sound_withdrawn conf slot withdrawn had mid sound gone = sound_gone conf had mid (λ s p. s == slot && is_among p withdrawn) sound gone
+
+-- an UPDATE that is taken leaves the candidates of all routes
+pub on_kept : {T F : Type 0} (result : Result T F) (conf : Configuration) (sender : Sender) (attrs : PathAttributes) (found : Option Candidate) (withdrawn announced : List Prefix) (old mid new : RoutingState)
+    → IsMade conf sender.slot sender.identifier attrs found
+    → IsSet sender.slot withdrawn None (route_at old.adj_in) (route_at mid.adj_in) → IsSet sender.slot withdrawn None (offer_at old.book) (offer_at mid.book)
+    → OnOk result (IsSet sender.slot announced (Some attrs) (route_at mid.adj_in) (route_at new.adj_in)) → OnOk result (IsSet sender.slot announced found (offer_at mid.book) (offer_at new.book))
+    → OnOk result (KeepsHeard conf sender Established old new)
+on_kept (Err why) conf sender attrs found withdrawn announced old mid new made routes_gone offers_gone routes offers = tt
+on_kept (Ok done) conf sender attrs found withdrawn announced old mid new made routes_gone offers_gone routes offers =
+    λ session established same sessions there kept.
+    kept_come conf sender.slot sender.identifier attrs found mid.adj_in new.adj_in (offer_at mid.book) (offer_at new.book) (λ s p. s == sender.slot && is_among p announced)
+    (λ s p come. eqb-true s sender.slot (both_true (s == sender.slot) _ come)) made routes offers session (ap is_established established) same sessions there
+    (kept_gone conf sessions old.adj_in mid.adj_in (offer_at old.book) (offer_at mid.book) (λ s p. s == sender.slot && is_among p withdrawn) routes_gone offers_gone kept)

@@ -1,0 +1,189 @@
+use Rattle.std.proofs.Common.{◌≡◌, ◌<◌, ◌≤◌, ◌+◌, ◌^◌, ◌==◌, ◌++◌, ℕ, Bool, true, false, List, [], ◌∷◌, Option, Some, None, All, length, cond, refl, sym, ap, ◌∙◌, subst, inl, inr, arith, length-append}
+use Rattle.std.specs.Option.{IfSome, IsSome}
+use Rattle.std.specs.Ordering.{is_gt}
+use Rattle.std.proofs.lemmas.Bool.{cases_lt, eq-eqb, eqb-true}
+use Rattle.std.proofs.lemmas.List.Elements.{All-push}
+use Rattle.bgp_fsm.specs.declared.session.Session.{Session}
+use Rattle.decision.specs.BookContents.{AreApart, changed, is_prefix}
+use Rattle.decision.specs.declared.book.Change.{Change}
+use Rattle.decision.specs.declared.candidate.Candidate.{Candidate}
+use Rattle.net_prefix.specs.PrefixOrder.{prefix_cmp, IsAbove}
+use Rattle.net_prefix.specs.declared.prefix.Prefix.{Prefix}
+use Rattle.rib_out.proofs.Prefixes.{is_prefix-refl}
+use Rattle.speaker.specs.Offers.{AreMadeAgain, AreRemade, IsOffer, IsOwn, IsRemade, IsSound, LacksRoute, Offers}
+use Rattle.speaker.specs.Queueing.{rank_of}
+use Rattle.speaker.specs.Tables.{Tables}
+use Rattle.speaker.proofs.Places.{above_from_rank, reached, same_from_is_prefix, same_from_rank}
+use Rattle.speaker.proofs.Serving.{IsPlace, none_between}
+use Rattle.speaker.proofs.SoundOffers.{apart_from_own, offer_own, own_named}
+
+-- The candidates of all routes made again, prefix by prefix, and of each slot by slot.
+
+-- one change more
+changed_push : (changes : List Change) (c : Change) (slot : ℕ) (before : Option Candidate) → changed (changes ++ c ∷ []) slot before ≡ cond (c.slot == slot) c.candidate (changed changes slot before)
+changed_push [] c slot before = refl
+changed_push (d ∷ changes) c slot before = changed_push changes c slot (cond (d.slot == slot) d.candidate before)
+
+-- the candidates of the slots below this one
+pub record RemadeBelow (t : Tables) (prefix : Prefix) (n : ℕ) (changes : List Change) : Type 0 where
+  pub few : length changes ≤ n
+  pub routed : All (λ c. IsSome (t.routes c.slot prefix)) changes
+  pub named : All (λ c. IfSome c.candidate (λ route. route.slot ≡ c.slot)) changes
+  pub made : (slot : ℕ) (session : Session) (before : Option Candidate) → slot < n → t.sessions slot ≡ Some session → IsSome (t.routes slot prefix) → IsOffer t slot prefix (changed changes slot before)
+  pub still : (slot : ℕ) (before : Option Candidate) → LacksRoute t slot prefix → changed changes slot before ≡ before
+  pub own : (slot : ℕ) (before : Option Candidate) → IsOwn t.conf slot before → IsOwn t.conf slot (changed changes slot before)
+
+pub RemadeBelow-none : (t : Tables) (prefix : Prefix) → RemadeBelow t prefix 0 []
+RemadeBelow-none t prefix = record {
+  few = omega arith;
+  routed = λ k d h. absurd (omega arith);
+  named = λ k d h. absurd (omega arith);
+  made = λ slot session before below. absurd (omega (arith, below));
+  still = λ slot before lacks. refl;
+  own = λ slot before own. own;
+}
+
+lacks_none : {P : Type 0} (t : Tables) (slot : ℕ) (prefix : Prefix) (session : Session) → LacksRoute t slot prefix → t.sessions slot ≡ Some session → IsSome (t.routes slot prefix) → P
+lacks_none t slot prefix session (inl none) linked there = absurd (let never = sym none ∙ linked in cc)
+lacks_none t slot prefix session (inr none) linked there = absurd (let never = subst (λ o. IsSome o) none there in cc)
+
+-- the next slot has no route
+pub RemadeBelow-same : (t : Tables) (prefix : Prefix) (n : ℕ) (changes : List Change) → RemadeBelow t prefix n changes → LacksRoute t n prefix → RemadeBelow t prefix (n + 1) changes
+RemadeBelow-same t prefix n changes h lacks = record {
+  few = omega (arith, h.few);
+  routed = h.routed;
+  named = h.named;
+  made = λ slot session before below linked there. elim (cases_lt slot n) [
+    | inl under ↦ h.made slot session before under linked there
+    | inr least ↦
+        let at : n ≡ slot = omega (arith, below, least) in
+        lacks_none t slot prefix session (subst (λ s. LacksRoute t s prefix) at lacks) linked there
+  ];
+  still = h.still;
+  own = h.own;
+}
+
+-- the next slot has this candidate
+pub RemadeBelow-push : (t : Tables) (prefix : Prefix) (n : ℕ) (changes : List Change) (c : Change) → RemadeBelow t prefix n changes → IsRemade t n prefix c → RemadeBelow t prefix (n + 1) (changes ++ c ∷ [])
+RemadeBelow-push t prefix n changes c h is = record {
+  few = omega (arith, h.few, length-append changes (c ∷ []));
+  routed = All-push (λ (d : Change). IsSome (t.routes d.slot prefix)) changes c h.routed (subst (λ s. IsSome (t.routes s prefix)) (sym is.slot_is) is.routed);
+  named =
+      All-push (λ (d : Change). IfSome d.candidate (λ route. route.slot ≡ d.slot)) changes c h.named
+      (subst (λ s. IfSome c.candidate (λ route. route.slot ≡ s)) (sym is.slot_is) (own_named t.conf n c.candidate (offer_own t n prefix c.candidate is.offer)));
+  made = λ slot session before below linked there.
+      subst (λ f. IsOffer t slot prefix f) (sym (changed_push changes c slot before)) (made_here slot session before (c.slot == slot) refl below linked there);
+  still = λ slot before lacks. changed_push changes c slot before ∙ still_here slot before (c.slot == slot) refl lacks;
+  own = λ slot before own.
+      subst (λ f. IsOwn t.conf slot f) (sym (changed_push changes c slot before)) (own_here slot before (c.slot == slot) refl own);
+}
+  where
+    at_slot : (slot : ℕ) → (c.slot == slot) ≡ true → n ≡ slot
+    at_slot slot same = sym is.slot_is ∙ eqb-true c.slot slot same
+
+    off_slot : (slot : ℕ) → (c.slot == slot) ≡ false → n ≡ slot → ⊥
+    off_slot slot other at = let same = eq-eqb c.slot slot (is.slot_is ∙ at) in cc
+
+    made_here : (slot : ℕ) (session : Session) (before : Option Candidate) (b : Bool) → (c.slot == slot) ≡ b → slot < n + 1 → t.sessions slot ≡ Some session → IsSome (t.routes slot prefix)
+        → IsOffer t slot prefix (cond b c.candidate (changed changes slot before))
+    made_here slot session before true same below linked there = subst (λ s. IsOffer t s prefix c.candidate) (at_slot slot same) is.offer
+    made_here slot session before false other below linked there = elim (cases_lt slot n) [
+      | inl under ↦ h.made slot session before under linked there
+      | inr least ↦ absurd (off_slot slot other (omega (arith, below, least)))
+    ]
+
+    still_here : (slot : ℕ) (before : Option Candidate) (b : Bool) → (c.slot == slot) ≡ b → LacksRoute t slot prefix → cond b c.candidate (changed changes slot before) ≡ before
+    still_here slot before true same lacks =
+        let at = at_slot slot same in
+        lacks_none t n prefix is.session (subst (λ s. LacksRoute t s prefix) (sym at) lacks) is.linked is.routed
+    still_here slot before false other lacks = h.still slot before lacks
+
+    own_here : (slot : ℕ) (before : Option Candidate) (b : Bool) → (c.slot == slot) ≡ b → IsOwn t.conf slot before → IsOwn t.conf slot (cond b c.candidate (changed changes slot before))
+    own_here slot before true same own = subst (λ s. IsOwn t.conf s c.candidate) (at_slot slot same) (offer_own t n prefix c.candidate is.offer)
+    own_here slot before false other own = h.own slot before own
+
+-- those of all slots
+pub RemadeBelow-all : (t : Tables) (prefix : Prefix) (n : ℕ) (changes : List Change) → n ≡ 64 → RemadeBelow t prefix n changes → AreRemade t prefix changes
+RemadeBelow-all t prefix n changes all h = record {
+  routed = h.routed;
+  named = h.named;
+  made = λ slot session before below. h.made slot session before (omega (arith, below, all));
+  still = h.still;
+  own = h.own;
+}
+
+-- made again, they are apart
+pub apart_remade : (t : Tables) (prefix : Prefix) (changes : List Change) (offers : Offers) → AreRemade t prefix changes → IsSound t.conf offers → AreApart (λ s. changed changes s (offers s prefix))
+apart_remade t prefix changes offers remade sound =
+    apart_from_own t.conf (λ s. changed changes s (offers s prefix)) sound.addresses (λ s. remade.own s (offers s prefix) (sound.own s prefix))
+
+own_remade : (t : Tables) (p q : Prefix) (changes : List Change) (s : ℕ) (before after : Option Candidate) (b : Bool) → AreRemade t p changes → IsOwn t.conf s before → after ≡ cond b (changed changes s before) before
+    → IsOwn t.conf s after
+own_remade t p q changes s before after true remade own is = subst (λ o. IsOwn t.conf s o) (sym is) (remade.own s before own)
+own_remade t p q changes s before after false remade own is = subst (λ o. IsOwn t.conf s o) (sym is) own
+
+pub sound_remade : (t : Tables) (p : Prefix) (changes : List Change) (had has : Offers) → AreRemade t p changes → IsSound t.conf had
+    → ((s : ℕ) (q : Prefix) → has s q ≡ cond (is_prefix p q) (changed changes s (had s q)) (had s q)) → IsSound t.conf has
+sound_remade t p changes had has remade sound offers = record {
+  addresses = sound.addresses;
+  own = λ s q. own_remade t p q changes s (had s q) (has s q) (is_prefix p q) remade (sound.own s q) (offers s q);
+}
+
+-- those of all prefixes up to one
+pub record RemadeUpTo (t : Tables) (had : Offers) (after : Option Prefix) (now : Offers) : Type 0 where
+  pub place : IsPlace after
+  pub made : (slot : ℕ) (q : Prefix) (session : Session) → rank_of q < reached after → slot < 64 → t.sessions slot ≡ Some session → IsSome (t.routes slot q) → IsOffer t slot q (now slot q)
+  pub still : (slot : ℕ) (q : Prefix) → t.routes slot q ≡ None → now slot q ≡ had slot q
+
+pub RemadeUpTo-none : (t : Tables) (had : Offers) → RemadeUpTo t had None had
+RemadeUpTo-none t had = record {
+  place = tt;
+  made = λ slot q session under. absurd (omega (arith, under));
+  still = λ slot q none. refl;
+}
+
+-- a prefix between the last one and the next has no route
+no_route_between : {X P : Type 0} (p q : Prefix) (found : Option X) → (IsSome found → is_gt (prefix_cmp p q) ≡ false) → rank_of q < rank_of p → IsSome found → P
+no_route_between p q found least under there = absurd (let never = subst (λ o. IsSome o) (none_between p q found least under) there in cc)
+
+-- the next prefix
+pub RemadeUpTo-more : (t : Tables) (had now new : Offers) (after : Option Prefix) (p : Prefix) (changes : List Change) → RemadeUpTo t had after now → IsAbove after p
+    → ((s : ℕ) (r : Prefix) → IsAbove after r → IsSome (t.routes s r) → is_gt (prefix_cmp p r) ≡ false) → rank_of p < 2 ^ 38
+    → AreRemade t p changes → ((s : ℕ) (q : Prefix) → new s q ≡ cond (is_prefix p q) (changed changes s (now s q)) (now s q)) → RemadeUpTo t had (Some p) new
+RemadeUpTo-more t had now new after p changes h above least place remade offers = record {
+  place = place;
+  made = λ slot q session under below linked there. subst (λ f. IsOffer t slot q f) (sym (offers slot q)) (made_here slot q session (is_prefix p q) refl under below linked there);
+  still = λ slot q none. offers slot q ∙ still_here slot q (is_prefix p q) refl none;
+}
+  where
+    behind : (q : Prefix) → rank_of q < reached (Some p) → is_prefix p q ≡ false → rank_of q < rank_of p
+    behind q under other = elim (cases_lt (rank_of q) (rank_of p)) [
+      | inl less ↦ less
+      | inr not_less ↦ let one : p ≡ q = same_from_rank p q (omega (arith, under, not_less)) in absurd (let same = ap (λ x. is_prefix p x) (sym one) ∙ is_prefix-refl p in cc)
+    ]
+
+    made_here : (slot : ℕ) (q : Prefix) (session : Session) (b : Bool) → is_prefix p q ≡ b → rank_of q < reached (Some p) → slot < 64 → t.sessions slot ≡ Some session → IsSome (t.routes slot q)
+        → IsOffer t slot q (cond b (changed changes slot (now slot q)) (now slot q))
+    made_here slot q session true same under below linked there =
+        let one : p ≡ q = same_from_is_prefix p q same in
+        subst (λ x. IsOffer t slot x (changed changes slot (now slot q))) one (remade.made slot session (now slot q) below linked (subst (λ x. IsSome (t.routes slot x)) (sym one) there))
+    made_here slot q session false other under below linked there = elim (cases_lt (rank_of q) (reached after)) [
+      | inl already ↦ h.made slot q session already below linked there
+      | inr between ↦ no_route_between p q (t.routes slot q) (least slot q (above_from_rank after q between)) (behind q under other) there
+    ]
+
+    still_here : (slot : ℕ) (q : Prefix) (b : Bool) → is_prefix p q ≡ b → t.routes slot q ≡ None → cond b (changed changes slot (now slot q)) (now slot q) ≡ had slot q
+    still_here slot q true same none =
+        let one : p ≡ q = same_from_is_prefix p q same in
+        remade.still slot (now slot q) (inr (subst (λ x. t.routes slot x ≡ None) (sym one) none)) ∙ h.still slot q none
+    still_here slot q false other none = h.still slot q none
+
+-- where no route is above, all are made again
+pub RemadeUpTo-all : (t : Tables) (had now : Offers) (after : Option Prefix) → RemadeUpTo t had after now → ((s : ℕ) (q : Prefix) → IsAbove after q → t.routes s q ≡ None) → AreMadeAgain t had now
+RemadeUpTo-all t had now after h none = record {
+  made = λ slot q session below linked there. elim (cases_lt (rank_of q) (reached after)) [
+    | inl already ↦ h.made slot q session already below linked there
+    | inr above ↦ absurd (let never = subst (λ o. IsSome o) (none slot q (above_from_rank after q above)) there in cc)
+  ];
+  still = h.still;
+}

@@ -1,0 +1,17 @@
+use Rattle.std.proofs.Common.{◌≡◌, ◌∙◌, ap}
+use Rattle.speaker.specs.Offers.{AreRemade}
+use Rattle.speaker.specs.RoutingState.{RoutingState}
+use Rattle.speaker.specs.Tables.{tables}
+use Rattle.speaker.proofs.RemadeOffers.{RemadeUpTo-more, sound_remade}
+use Rattle.speaker.proofs.choosing.choose_again.Goals as goal
+
+pub loop-prefix-preserved : goal.loop-prefix-preserved
+loop-prefix-preserved g c =
+    let h = c.loop-prefix.invariant in
+    let below = rw c.place-place.ensures.place at c.place-place.ensures.below in
+    let walked : c.routes.result.now ≡ c.args.routing.now.adj_in = c.routes.ensures.all ∙ ap (λ (t : RoutingState). t.adj_in) c.routing.view_is ∙ h.1 in
+    let read : c.routes-in-Some.result.now ≡ c.args.routing.now.adj_in = c.routes-in-Some.ensures.all ∙ ap (λ (t : RoutingState). t.adj_in) c.routing.view_is ∙ h.1 in
+    let least = rw walked at c.in-Some.ensures.least in
+    let remade : AreRemade (tables c.args.conf.now c.args.links.now.entries c.args.routing.now.adj_in) c.in-Some.prefix c.remade-changes.result.items = rw (← read) c.remade-changes.ensures in
+    let offers = rw c.as_slice.ensures.value at c.change.ensures.offers in
+    (RemadeUpTo-more _ _ _ _ _ _ _ h.0 c.in-Some.ensures.above least below remade offers, c.change.ensures.routes ∙ h.1, sound_remade _ _ _ _ _ remade h.2 offers, c.change.ensures.marked)

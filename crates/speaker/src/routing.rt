@@ -1,0 +1,255 @@
+//! The tables that routes go through: the routes that came with Loc-RIB, and what waits of each prefix for each peer.
+ghost use Rattle.std.specs.Prelude.{◌≡◌, ◌==◌, ◌&&◌, ◌<◌, ◌≢◌, ℕ, [], All, IfOk, OnOk, OnErr, IfSome, IfNone, None, Some, true, false, if◌then◌else◌};
+ghost use Rattle.std.specs.Option.{IsSome};
+ghost use Rattle.std.specs.Ordering.{is_gt};
+ghost use Rattle.bgp_conf.specs.Configuration.{peer_at};
+ghost use Rattle.decision.specs.BookContents.{AreApart, changed, is_prefix, offer_at};
+ghost use Rattle.net_prefix.specs.PrefixOrder.{IsAbove, prefix_cmp};
+ghost use Rattle.net_prefix.specs.declared.prefix.Prefix.{Prefix as ThePrefix};
+ghost use Rattle.rib_in.specs.LatestRoutes.{is_route, route_at};
+ghost use Rattle.rib_out.specs.Waiting.{is_known, owed_at};
+ghost use Rattle.speaker.specs.Linked.{Linked};
+ghost use Rattle.speaker.specs.Marks.{AreMarked, AreMarkedBut, IsUnmarked, mark_at, mark_of};
+ghost use Rattle.speaker.specs.RoutingState.{started};
+ghost use Rattle.speaker.specs.Tables.{link_at};
+
+use crate::link::Link;
+use crate::queueing::{Octets, export, export_peer, place};
+use bgp_attr::Attrs;
+use bgp_conf::{Conf, PEER_SLOTS};
+use bgp_fsm::State;
+use decision::{Book, Candidate, Change};
+use loc_rib::Ribs;
+use net_prefix::Prefix;
+use rib_out::{Owed, Waiting};
+use std::alloc::{AllocError, Allocator};
+use std::collections::BTreeMap;
+use std::marker::Model;
+use std::rc::Rc;
+
+/// The slots, by their numbers.
+pub type Links<A> = BTreeMap<u8, Link<A>, A>;
+
+/// The routes that came, the candidates that they make with Loc-RIB, and of each prefix what waits for each
+/// Established peer: a withdrawal, an announcement or nothing.
+#[derive(Drop)]
+pub struct Routing<A: Allocator + Clone, B: Book<A>> {
+    pub ribs: Ribs<A, B>,
+    waiting: Waiting<A>,
+}
+
+impl<A: Allocator + Clone, B: Book<A>> Model for Routing<A, B> {
+    ghost use Rattle.speaker.specs.RoutingState.{RoutingState};
+
+    ghost Value = { RoutingState };
+
+    ghost view = { λ t. record { adj_in = t.ribs.adj_in; book = t.ribs.book; waiting = t.waiting } };
+}
+
+impl<A: Allocator + Clone, B: Book<A>> Routing<A, B> {
+    /// No routes, and nothing waits.
+    pub fn new(alloc: A) -> Result<Self, AllocError>
+        ensures { IfOk result (λ t. t ≡ started) }
+    {
+        let waiting = Waiting::new(alloc.clone()?);
+        let ribs = Ribs::new(alloc)?;
+        Ok(Routing { ribs, waiting })
+    }
+
+    /// The slot's route to the prefix is this one from now on, and makes this candidate; each Established peer waits
+    /// for what it is owed of it. Where memory is refused, all is as before.
+    pub fn announce(
+        &mut self,
+        conf: &Conf<A>,
+        links: &Links<A>,
+        slot: u8,
+        prefix: Prefix,
+        attrs: Rc<Attrs<A>, A>,
+        candidate: Option<Candidate>,
+    ) -> Result<(), AllocError>
+        requires named { IfSome candidate (λ c. c.slot ≡ slot) }
+        requires apart { AreApart (λ s. if slot == s then candidate else offer_at self.old.book s prefix) }
+        requires marked { AreMarked conf.now links.now.entries self.old }
+        ensures routes { OnOk result ((s : ℕ) (p : ThePrefix) → route_at self.new.adj_in s p ≡ (if is_route slot prefix s p then Some attrs.value else route_at self.old.adj_in s p)) }
+        ensures offers { OnOk result ((s : ℕ) (p : ThePrefix) → offer_at self.new.book s p ≡ (if is_route slot prefix s p then candidate else offer_at self.old.book s p)) }
+        ensures err { OnErr result (((s : ℕ) (p : ThePrefix) → route_at self.new.adj_in s p ≡ route_at self.old.adj_in s p) × ((s : ℕ) (p : ThePrefix) → offer_at self.new.book s p ≡ offer_at self.old.book s p)) }
+        ensures marked { AreMarked conf.now links.now.entries self.new }
+    {
+        self.waiting.add(prefix)?;
+        let announced = self.ribs.announce(slot, prefix, attrs, candidate);
+        self.refresh(conf, links, prefix);
+        self.release(prefix);
+        announced
+    }
+
+    /// The slot has no route to the prefix any more.
+    pub fn withdraw(&mut self, conf: &Conf<A>, links: &Links<A>, slot: u8, prefix: Prefix)
+        requires { AreMarked conf.now links.now.entries self.old }
+        ensures routes { (s : ℕ) (p : ThePrefix) → route_at self.new.adj_in s p ≡ (if is_route slot prefix s p then None else route_at self.old.adj_in s p) }
+        ensures offers { (s : ℕ) (p : ThePrefix) → offer_at self.new.book s p ≡ (if is_route slot prefix s p then None else offer_at self.old.book s p) }
+        ensures marked { AreMarked conf.now links.now.entries self.new }
+    {
+        if self.ribs.routes().get(slot, prefix).is_none() {
+            return;
+        }
+        self.ribs.withdraw(slot, prefix);
+        self.refresh(conf, links, prefix);
+        self.release(prefix);
+    }
+
+    /// The slot's session has ended: none of its routes is kept.
+    pub fn drop_slot(&mut self, conf: &Conf<A>, links: &Links<A>, slot: u8)
+        requires { AreMarked conf.now links.now.entries self.old }
+        ensures routes { (s : ℕ) (p : ThePrefix) → route_at self.new.adj_in s p ≡ (if s == slot then None else route_at self.old.adj_in s p) }
+        ensures offers { (s : ℕ) (p : ThePrefix) → offer_at self.new.book s p ≡ (if s == slot then None else offer_at self.old.book s p) }
+        ensures marked { AreMarked conf.now links.now.entries self.new }
+    {
+        let mut after = None;
+        while let Some(prefix) = self.ribs.routes().slot_prefix_after(slot, after) {
+            self.withdraw(conf, links, slot, prefix);
+            // Places rise, so the walk ends.
+            let _place = place(prefix);
+            after = Some(prefix);
+        }
+    }
+
+    /// Changes candidates of routes to a prefix, and chooses its best one again.
+    pub fn change(&mut self, conf: &Conf<A>, links: &Links<A>, prefix: Prefix, changes: &[Change])
+        requires there { (s : ℕ) × IsSome (route_at self.old.adj_in s prefix) }
+        requires routed { All (λ c. IsSome (route_at self.old.adj_in c.slot prefix)) changes.now }
+        requires named { All (λ c. IfSome c.candidate (λ route. route.slot ≡ c.slot)) changes.now }
+        requires apart { AreApart (λ s. changed changes.now s (offer_at self.old.book s prefix)) }
+        requires marked { AreMarked conf.now links.now.entries self.old }
+        ensures routes { self.new.adj_in ≡ self.old.adj_in }
+        ensures offers { (s : ℕ) (p : ThePrefix) → offer_at self.new.book s p ≡ (if is_prefix prefix p then changed changes.now s (offer_at self.old.book s p) else offer_at self.old.book s p) }
+        ensures marked { AreMarked conf.now links.now.entries self.new }
+    {
+        self.ribs.change(prefix, changes);
+        self.refresh(conf, links, prefix);
+    }
+
+    /// Nothing waits for the slot.
+    pub fn clear(&mut self, slot: u8)
+        requires { slot < 64 }
+        ensures owed { (s : ℕ) (p : ThePrefix) → owed_at self.new.waiting s p ≡ (if s == slot then None else owed_at self.old.waiting s p) }
+        ensures known { (p : ThePrefix) → is_known self.new.waiting p ≡ is_known self.old.waiting p }
+        ensures rest { self.new ≡ record self.old { waiting = self.new.waiting } }
+    {
+        self.waiting.clear(slot);
+    }
+
+    /// The slot's session has entered Established: its peer waits for all that is exported to it.
+    pub fn enter(&mut self, conf: &Conf<A>, links: &Links<A>, slot: u8)
+        requires slot { slot < 64 }
+        requires fresh { (l : Linked) → link_at links.now.entries slot ≡ Some l → l.adj_out ≡ [] }
+        requires unmarked { IsUnmarked conf.now links.now.entries slot self.old }
+        ensures rest { self.new ≡ record self.old { waiting = self.new.waiting } }
+        ensures marked { AreMarked conf.now links.now.entries self.new }
+    {
+        let mut octets = Octets::new();
+        let mut after = None;
+        while let Some(prefix) = self.ribs.prefix_after(after) {
+            self.mark(conf, links, slot, prefix, &mut octets);
+            // Places rise, so the walk ends.
+            let _place = place(prefix);
+            after = Some(prefix);
+        }
+    }
+
+    /// The slot's peer was told what it was owed of the prefix.
+    pub fn told(&mut self, slot: u8, prefix: Prefix)
+        requires slot { slot < 64 }
+        requires known { is_known self.old.waiting prefix ≡ true }
+        ensures owed { (s : ℕ) (p : ThePrefix) → owed_at self.new.waiting s p ≡ (if s == slot && is_prefix prefix p then None else owed_at self.old.waiting s p) }
+        ensures known { (s : ℕ) (p : ThePrefix) → IsSome (route_at self.old.adj_in s p) → is_known self.new.waiting p ≡ is_known self.old.waiting p }
+        ensures rest { self.new ≡ record self.old { waiting = self.new.waiting } }
+    {
+        self.waiting.set(slot, prefix, None);
+        self.release(prefix);
+    }
+
+    /// The least prefix above the given one, or of all, of which this waits for the slot.
+    pub fn next(&self, slot: u8, owed: Owed, after: Option<Prefix>) -> Option<Prefix>
+        requires { slot < 64 }
+        ensures has { IfSome result (λ p. owed_at self.now.waiting slot p ≡ Some owed) }
+        ensures above { IfSome result (λ p. IsAbove after p) }
+        ensures least { IfSome result (λ p. (q : ThePrefix) → IsAbove after q → owed_at self.now.waiting slot q ≡ Some owed → is_gt (prefix_cmp p q) ≡ false) }
+        ensures none { IfNone result ((q : ThePrefix) → IsAbove after q → owed_at self.now.waiting slot q ≢ Some owed) }
+    {
+        self.waiting.next(slot, owed, after)
+    }
+
+    // What the prefix's new routes and best one make wait for each peer.
+    fn refresh(&mut self, conf: &Conf<A>, links: &Links<A>, prefix: Prefix)
+        requires known { is_known self.old.waiting prefix ≡ true }
+        requires marked { AreMarkedBut prefix conf.now links.now.entries self.old }
+        ensures marked { AreMarked conf.now links.now.entries self.new }
+        ensures rest { self.new ≡ record self.old { waiting = self.new.waiting } }
+    {
+        let mut octets = Octets::new();
+        for slot in 0..PEER_SLOTS {
+            self.mark(conf, links, slot, prefix, &mut octets);
+        }
+    }
+
+    // What of the prefix waits for the slot's peer, where there is one.
+    fn mark(
+        &mut self,
+        conf: &Conf<A>,
+        links: &Links<A>,
+        slot: u8,
+        prefix: Prefix,
+        octets: &mut Octets,
+    )
+        requires slot { slot < 64 }
+        requires known { is_known self.old.waiting prefix ≡ true }
+        ensures owed { (s : ℕ) (p : ThePrefix) → s < 64 → (link_at links.now.entries s ≡ None → owed_at self.old.waiting s p ≡ None)
+            → owed_at self.new.waiting s p ≡ (if s == slot && is_prefix prefix p then mark_at conf.now links.now.entries self.old s p else owed_at self.old.waiting s p) }
+        ensures known { (p : ThePrefix) → is_known self.new.waiting p ≡ is_known self.old.waiting p }
+        ensures rest { self.new ≡ record self.old { waiting = self.new.waiting } }
+    {
+        let Some(link) = links.get(&slot) else {
+            return;
+        };
+        let owed = owed(conf, &self.ribs, slot, link, prefix, octets);
+        self.waiting.set(slot, prefix, owed);
+    }
+
+    // A prefix without routes of which nothing waits isn't known any more.
+    fn release(&mut self, prefix: Prefix)
+        ensures owed { (s : ℕ) (p : ThePrefix) → owed_at self.new.waiting s p ≡ owed_at self.old.waiting s p }
+        ensures known { (s : ℕ) (p : ThePrefix) → IsSome (route_at self.old.adj_in s p) → is_known self.new.waiting p ≡ is_known self.old.waiting p }
+        ensures rest { self.new ≡ record self.old { waiting = self.new.waiting } }
+    {
+        if !self.ribs.routes().is_routed(prefix) {
+            self.waiting.release(prefix);
+        }
+    }
+}
+
+// What of the prefix is owed to the slot's peer: nothing, where its session isn't Established.
+fn owed<A: Allocator + Clone, B: Book<A>>(
+    conf: &Conf<A>,
+    ribs: &Ribs<A, B>,
+    slot: u8,
+    link: &Link<A>,
+    prefix: Prefix,
+    octets: &mut Octets,
+) -> Option<Owed>
+    ensures { result ≡ mark_of conf.now ribs.now.adj_in ribs.now.book slot prefix (peer_at conf.now slot) (Some link.now) }
+{
+    let peer = export_peer(conf, slot)?;
+    if link.peer.state() != State::Established {
+        return None;
+    }
+    if !export(ribs, &peer, prefix, octets) {
+        return match link.adj_out.get(prefix) {
+            Some(_) => Some(Owed::Withdrawal),
+            None => None,
+        };
+    }
+    if link.adj_out.holds(prefix, octets.as_slice()) {
+        return None;
+    }
+    Some(Owed::Announcement)
+}
