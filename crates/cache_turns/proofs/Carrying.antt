@@ -13,7 +13,7 @@ use Rattle.cache_turns.specs.Calls.{WireCall, Accept, Close}
 use Rattle.cache_turns.specs.Carrying.{CarriesWhole, given, heard, taken}
 use Rattle.cache_turns.specs.Patience.{arriving_at}
 use Rattle.cache_turns.specs.Serving.{Connection, Sides, judged}
-use Rattle.cache_turns.specs.Turns.{Accepts, ComesUp, Counts, GoesDown, IsTold, LacksMemory, LinksStay, OtherLinksStay, Stops, TakesTurn, TakesTurns, TellsCache, Turns, VisitsBelow, VisitsConnection, VisitsLink, idle, link_at, link_left, settled, sides}
+use Rattle.cache_turns.specs.Turns.{Accepts, ComesUp, Counts, GoesDown, IsTold, LacksMemory, LinksStay, OtherLinksStay, Stops, TakesTurn, TakesTurns, TellsCache, Turns, VisitsBelow, VisitsConnection, VisitsLink, idle, link_at, link_left, parting_for, settled, sides}
 use Rattle.cache_turns.specs.Wires.{WireState, nothing_told, one_more}
 use Rattle.cache_turns.specs.declared.fault.LoopFault.{LoopFault}
 use Rattle.cache_turns.specs.declared.fault.LoopFault.TheVariants as stop
@@ -94,7 +94,7 @@ record Changes (first : CacheState) (old : Turns) (key : ℕ) (new : Turns) : Ty
   pub run : IsRun old.cache history new.cache
   pub asks : new.counts.wire.calls ≡ calls ++ old.counts.wire.calls
   pub arrivals : old.counts.wire.arrivals ≤ new.counts.wire.arrivals
-  pub quiet : (other : ℕ) → other ≢ key → Silent other history
+  pub quiet : (other : ℕ) (another : Connection) → other ≢ key → link_at old other ≡ Some another → Silent other history
   pub rests : (other : ℕ) (another : Connection) → other ≢ key → link_at old other ≡ Some another → IsIdle another.number calls
   pub unused : (number : ℕ) → new.counts.wire.arrivals ≤ number → IsIdle number calls
   pub others : OtherLinksStay old key new
@@ -126,7 +126,7 @@ changed first old new key are step =
         subst (λ (k : ℕ). IsCarried first (sides new) k link) (sym same) (step.here link (ap (λ (k : ℕ). link_at new k) (sym same) ∙ is)).carried
     each other link is (inr differs) =
         let old_is = before_it other link differs is in
-        carried_beside first (sides old) (sides new) other link step.history step.calls (are.each other link old_is) step.run step.asks (step.quiet other differs) (step.rests other link differs old_is)
+        carried_beside first (sides old) (sides new) other link step.history step.calls (are.each other link old_is) step.run step.asks (step.quiet other link differs old_is) (step.rests other link differs old_is)
 
     numbered : (other : ℕ) (link : Connection) → link_at new other ≡ Some link → (other ≡ key) ⊎ (other ≡ key → ⊥) → link.number < new.counts.wire.arrivals
     numbered other link is (inl same) = (step.here link (ap (λ (k : ℕ). link_at new k) (sym same) ∙ is)).numbered
@@ -150,7 +150,7 @@ pub record Passes (old new : Turns) : Type 0 where
   pub run : IsRun old.cache history new.cache
   pub asks : new.counts.wire.calls ≡ calls ++ old.counts.wire.calls
   pub arrivals : old.counts.wire.arrivals ≤ new.counts.wire.arrivals
-  pub quiet : (other : ℕ) → Silent other history
+  pub quiet : (other : ℕ) (another : Connection) → link_at old other ≡ Some another → Silent other history
   pub rests : (number : ℕ) → IsIdle number calls
   pub links : LinksStay old new
 
@@ -163,7 +163,7 @@ passed first old new are step =
       run = step.run;
       asks = step.asks;
       arrivals = step.arrivals;
-      quiet = λ other _. step.quiet other;
+      quiet = λ other another _ is. step.quiet other another is;
       rests = λ other another _ _. step.rests another.number;
       unused = λ number _. step.rests number;
       others = λ other _. step.links other;
@@ -173,7 +173,7 @@ passed first old new are step =
     here : (link : Connection) → link_at old 0 ≡ Some link → IsHere first old new 0 link
     here link is =
         record {
-          carried = carried_beside first (sides old) (sides new) 0 link step.history step.calls (are.each 0 link is) step.run step.asks (step.quiet 0) (step.rests link.number);
+          carried = carried_beside first (sides old) (sides new) 0 link step.history step.calls (are.each 0 link is) step.run step.asks (step.quiet 0 link is) (step.rests link.number);
           numbered = (let below = are.numbered 0 link is in omega (arith, below, step.arrivals));
           apart = λ other another differs there. are.apart 0 other link another differs is there;
         }
@@ -211,7 +211,7 @@ visit_changes first now old new key link are there v = by_visit v.visit refl v.t
           run = run;
           asks = asks;
           arrivals = omega (arith, arrivals);
-          quiet = λ other differs. silent key other history of_client differs;
+          quiet = λ other another differs is. silent key other history of_client differs;
           rests = λ other another differs is. idle_socket link.number another.number calls of_socket (are.apart key other link another differs there is);
           unused = λ number come. idle_socket link.number number calls of_socket (λ same. let below = are.numbered key link there in absurd (omega (arith, come, arrivals, below, same)));
           others = v.others;
@@ -282,7 +282,7 @@ comes_changes first now old new are comes below =
       run = (refl, comes.comes);
       asks = asks;
       arrivals = omega (arith, arrivals, goes_on count);
-      quiet = λ other _. record { hears = refl; hands = refl; up = (tt, tt) };
+      quiet = λ other another differs is. record { hears = refl; hands = refl; up = (tt, tt) };
       rests = λ other another _ _. idle_accept another.number;
       unused = λ number _. idle_accept number;
       others = comes.others;
@@ -331,6 +331,23 @@ comes_changes first now old new are comes below =
           apart = λ other another differs there same. let under = are.numbered other another there in absurd (omega (arith, under, same));
         }
 
+lacks_passes : (old new : Turns) → LacksMemory old new → Passes old new
+lacks_passes old new lacks =
+    record {
+      history = turn_of lacks.told (WentDown lacks.key lacks.goes.0) ∷ turn_of old.cache (CameUp (Ok (tells_client lacks.key))) ∷ [];
+      calls = Close old.counts.wire.arrivals parting.NoMemory ∷ Accept ∷ [];
+      run = ((refl, lacks.comes), lacks.goes.1);
+      asks = ap (λ (c : Counts). c.wire.calls) lacks.counts;
+      arrivals = omega (arith, ap (λ (c : Counts). c.wire.arrivals) lacks.counts, goes_on old.counts.wire.arrivals);
+      quiet = λ other another is. record { hears = refl; hands = refl; up = (λ same. away other another is same, (tt, tt)) };
+      rests = λ number. record { gives = refl; takes = refl };
+      links = lacks.links;
+    }
+  where
+    -- no connection stands under the key of the one that goes again
+    away : (other : ℕ) (another : Connection) → link_at old other ≡ Some another → lacks.key ≡ other → ⊥
+    away other another is same = let wrong : None ≡ Some another = sym lacks.before ∙ (ap (link_at old) same ∙ is) in cc
+
 -- a connection that comes leaves the others, also where the cache or memory refuses it
 pub accepts_passes : (now : ℕ) (old new : Turns) → Accepts now old new → (ComesUp now old new) ⊎ (Passes old new)
 accepts_passes now old new (inl none) =
@@ -340,35 +357,23 @@ accepts_passes now old new (inl none) =
       run = ap (λ (t : Turns). t.cache) none;
       asks = ap (λ (t : Turns). t.counts.wire.calls) none;
       arrivals = omega (arith, ap (λ (t : Turns). t.counts.wire.arrivals) none);
-      quiet = quiet_none;
+      quiet = λ other another is. quiet_none other;
       rests = idle_accept;
       links = λ key. ap (λ (t : Turns). link_at t key) none;
     })
 accepts_passes now old new (inr (inl away)) =
     inr (record {
       history = turn_of old.cache (CameUp (Err away.why)) ∷ [];
-      calls = Close old.counts.wire.arrivals parting.NoPlace ∷ Accept ∷ [];
+      calls = Close old.counts.wire.arrivals (parting_for away.why) ∷ Accept ∷ [];
       run = (refl, away.refused);
       asks = ap (λ (c : Counts). c.wire.calls) away.counts;
       arrivals = omega (arith, ap (λ (c : Counts). c.wire.arrivals) away.counts, goes_on old.counts.wire.arrivals);
-      quiet = λ other. record { hears = refl; hands = refl; up = (tt, tt) };
+      quiet = λ other another is. record { hears = refl; hands = refl; up = (tt, tt) };
       rests = λ number. record { gives = refl; takes = refl };
       links = away.links;
     })
-accepts_passes now old new (inr (inr comes)) = inl comes
-
-pub lacks_passes : (old new : Turns) → LacksMemory old new → Passes old new
-lacks_passes old new lacks =
-    record {
-      history = turn_of old.cache (CameUp (Ok (tells_client lacks.key))) ∷ [];
-      calls = Accept ∷ [];
-      run = (refl, lacks.comes);
-      asks = ap (λ (c : Counts). c.wire.calls) lacks.counts;
-      arrivals = omega (arith, ap (λ (c : Counts). c.wire.arrivals) lacks.counts, goes_on old.counts.wire.arrivals);
-      quiet = λ other. record { hears = refl; hands = refl; up = (tt, tt) };
-      rests = idle_accept;
-      links = lacks.links;
-    }
+accepts_passes now old new (inr (inr (inl lacks))) = inr (lacks_passes old new lacks)
+accepts_passes now old new (inr (inr (inr comes))) = inl comes
 
 pub stops_passes : (old new : Turns) → Stops old stop.Accept new → Passes old new
 stops_passes old new same =
@@ -378,7 +383,7 @@ stops_passes old new same =
       run = ap (λ (t : Turns). t.cache) same;
       asks = ap (λ (t : Turns). t.counts.wire.calls) same;
       arrivals = omega (arith, ap (λ (t : Turns). t.counts.wire.arrivals) same);
-      quiet = quiet_none;
+      quiet = λ other another is. quiet_none other;
       rests = idle_accept;
       links = λ key. ap (λ (t : Turns). link_at t key) same;
     }
@@ -391,7 +396,7 @@ tick_passes now old new told =
       run = (refl, told.ticks);
       asks = ap (λ (t : Turns). t.counts.wire.calls) told.same;
       arrivals = omega (arith, ap (λ (t : Turns). t.counts.wire.arrivals) told.same);
-      quiet = λ other. record { hears = refl; hands = refl; up = (tt, tt) };
+      quiet = λ other another is. record { hears = refl; hands = refl; up = (tt, tt) };
       rests = λ number. record { gives = refl; takes = refl };
       links = λ key. ap (λ (t : Turns). link_at t key) told.same;
     }
@@ -427,7 +432,6 @@ turn_arrives : (now : ℕ) (old new : Turns) (result : Result (Unit {0}) LoopFau
 turn_arrives now old new (Ok nothing) turn =
     omega (arith, accepts_arrive now old turn.admitted (accepts_passes now old turn.admitted turn.accepts), visits_arrive now _ turn.admitted turn.visited turn.visits, (tick_passes now turn.visited new turn.tells).arrivals)
 turn_arrives now old new (Err stop.Accept) stops = (stops_passes old new stops).arrivals
-turn_arrives now old new (Err stop.NoMemory) lacks = (lacks_passes old new lacks).arrivals
 
 turn_carries : (first : CacheState) (now : ℕ) (old new : Turns) (result : Result (Unit {0}) LoopFault) → AreCarried first old → TakesTurn now old result new → new.counts.wire.arrivals < 2 ^ 64 - 1 → AreCarried first new
 turn_carries first now old new (Ok nothing) are turn below =
@@ -438,7 +442,6 @@ turn_carries first now old new (Ok nothing) are turn below =
     (accepts_carry first now old turn.admitted are (accepts_passes now old turn.admitted turn.accepts) come) turn.visits)
     ticks
 turn_carries first now old new (Err stop.Accept) are stops below = passed first old new are (stops_passes old new stops)
-turn_carries first now old new (Err stop.NoMemory) are lacks below = passed first old new are (lacks_passes old new lacks)
 
 turns_arrive : (moments : List ℕ) (old new : Turns) → TakesTurns moments old new → old.counts.wire.arrivals ≤ new.counts.wire.arrivals
 turns_arrive [] old new same = omega (arith, ap (λ (t : Turns). t.counts.wire.arrivals) same)

@@ -7,7 +7,7 @@ use Rattle.cache_turns.specs.Serving.{Answers, Connection, GoesOn, Reads, Serves
 use Rattle.cache_turns.specs.Turns.{Accepts, AreBelowGreatest, Counts, LosesNoMore, TakesTurn, Turned, Turns, VisitsBelow, VisitsLink, link_at, settled, sides}
 use Rattle.cache_turns.specs.Wires.{WireState, one_more, reading, writing}
 use Rattle.cache_turns.specs.declared.fault.LoopFault.{LoopFault}
-use Rattle.cache_turns.specs.declared.fault.LoopFault.TheVariants.{Accept, NoMemory}
+use Rattle.cache_turns.specs.declared.fault.LoopFault.TheVariants.{Accept}
 use Rattle.cache_turns.specs.declared.link.Visit.{Visit}
 use Rattle.cache_turns.specs.declared.link.Visit.TheVariants.{Stays, Faulty, Ended, Closed, Overdue}
 use Rattle.cache_turns.specs.declared.wire.Received.{Received}
@@ -187,7 +187,8 @@ visits_lose now (suc key) old new v = loses_both _ _ _ (visits_lose now key old 
 accepting_loses : (now : ℕ) (old new : Turns) → Accepts now old new → LosesAsCounted old.counts new.counts
 accepting_loses now old new (inl none) = counted_as _ _ _ (ap (λ (t : Turns). t.counts) none) (loses_nothing _ _ refl refl refl refl)
 accepting_loses now old new (inr (inl away)) = counted_as _ _ _ away.counts (loses_nothing _ _ refl refl refl refl)
-accepting_loses now old new (inr (inr comes)) = counted_as _ _ _ comes.counts (loses_nothing _ _ refl refl refl refl)
+accepting_loses now old new (inr (inr (inl lacks))) = counted_as _ _ _ lacks.counts (loses_nothing _ _ refl refl refl refl)
+accepting_loses now old new (inr (inr (inr comes))) = counted_as _ _ _ comes.counts (loses_nothing _ _ refl refl refl refl)
 
 turned_loses : (now : ℕ) (old new : Turns) → Turned now old new → LosesAsCounted old.counts new.counts
 turned_loses now old new turn =
@@ -202,5 +203,3 @@ turn_loses_no_more now old new (Ok nothing) turn = no_more _ _ (turned_loses now
 turn_loses_no_more now old new (Err Accept) stops =
     subst (λ (t : Turns). LosesNoMore old.counts t.counts) (sym stops)
     (λ below. omega (arith, goes_on old.counts.wire.faults))
-turn_loses_no_more now old new (Err NoMemory) lacks =
-    subst (λ (c : Counts). LosesNoMore old.counts c) (sym lacks.counts) (λ below. omega arith)

@@ -8,7 +8,7 @@ use Rattle.rtr_cache.specs.declared.refusal.CacheRefusal.{CacheRefusal}
 use Rattle.cache_turns.specs.Serving.{Connection, GoesOn, Hears, Serves, Sides, Takes}
 use Rattle.cache_turns.specs.Turns.{Accepts, TakesTurn, TakesTurns, TellsCache, Turns, VisitsBelow, VisitsLink, link_at, sides}
 use Rattle.cache_turns.specs.declared.fault.LoopFault.{LoopFault}
-use Rattle.cache_turns.specs.declared.fault.LoopFault.TheVariants.{Accept, NoMemory}
+use Rattle.cache_turns.specs.declared.fault.LoopFault.TheVariants.{Accept}
 use Rattle.cache_turns.specs.declared.link.Visit.{Visit}
 use Rattle.cache_turns.specs.declared.link.Visit.TheVariants.{Stays, Faulty, Ended, Closed, Overdue}
 use Rattle.cache_turns.specs.declared.wire.Received.{Received}
@@ -92,7 +92,9 @@ visits_keep now (suc key) old new visits =
 accepting_keeps : (now : ℕ) (old new : Turns) → Accepts now old new → Keeps old.cache new.cache
 accepting_keeps now old new (inl none) = ap (λ (t : Turns). t.cache.shared.kept) none
 accepting_keeps now old new (inr (inl away)) = coming_up_keeps old.cache new.cache (Err away.why) away.refused
-accepting_keeps now old new (inr (inr comes)) = coming_up_keeps old.cache new.cache (Ok (tells_client comes.key)) comes.comes
+accepting_keeps now old new (inr (inr (inl lacks))) =
+    keeps_on old.cache lacks.told new.cache (coming_up_keeps old.cache lacks.told (Ok (tells_client lacks.key)) lacks.comes) (going_down_keeps lacks.told new.cache lacks.key lacks.goes.0 lacks.goes.1)
+accepting_keeps now old new (inr (inr (inr comes))) = coming_up_keeps old.cache new.cache (Ok (tells_client comes.key)) comes.comes
 
 -- a turn publishes nothing
 pub turn_keeps : (now : ℕ) (old new : Turns) (result : Result (Unit {0}) LoopFault) → TakesTurn now old result new → Keeps old.cache new.cache
@@ -100,7 +102,6 @@ turn_keeps now old new (Ok nothing) turn =
     keeps_on old.cache turn.admitted.cache new.cache (accepting_keeps now old turn.admitted turn.accepts)
     (keeps_on turn.admitted.cache turn.visited.cache new.cache (visits_keep now _ turn.admitted turn.visited turn.visits) (tick_keeps turn.visited.cache new.cache now turn.tells.result turn.tells.ticks))
 turn_keeps now old new (Err Accept) stops = ap (λ (t : Turns). t.cache.shared.kept) stops
-turn_keeps now old new (Err NoMemory) lacks = coming_up_keeps old.cache new.cache (Ok (tells_client lacks.key)) lacks.comes
 
 -- nor do any
 pub turns_keep : (moments : List ℕ) (old new : Turns) → TakesTurns moments old new → Keeps old.cache new.cache

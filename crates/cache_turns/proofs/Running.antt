@@ -5,10 +5,10 @@ use Rattle.rtr_cache.specs.ClientHistory.{Call, CameUp, IsRun, Makes, Turn, Went
 use Rattle.cache_turns.specs.Serving.{Connection}
 use Rattle.cache_turns.specs.Turns.{ComesUp, TakesTurn, TakesTurns, TellsCache, Turns, VisitsBelow, VisitsLink, link_at, sides}
 use Rattle.cache_turns.specs.declared.fault.LoopFault.{LoopFault}
-use Rattle.cache_turns.specs.declared.fault.LoopFault.TheVariants.{Accept, NoMemory}
+use Rattle.cache_turns.specs.declared.fault.LoopFault.TheVariants.{Accept}
 use Rattle.cache_turns.specs.declared.link.Visit.{Visit}
 use Rattle.cache_turns.specs.declared.link.Visit.TheVariants.{Stays, Faulty, Ended, Closed, Overdue}
-use Rattle.cache_turns.proofs.Carrying.{Passes, accepts_passes, lacks_passes, stops_passes, tick_passes}
+use Rattle.cache_turns.proofs.Carrying.{Passes, accepts_passes, stops_passes, tick_passes}
 use Rattle.cache_turns.proofs.Exchanges.{run_on, serves_carries}
 
 -- calls of a cache lead from one state of it to another
@@ -51,7 +51,6 @@ turn_leads now old new (Ok nothing) turn =
     leads_on old.cache turn.admitted.cache new.cache (accepting_leads now old turn.admitted (accepts_passes now old turn.admitted turn.accepts))
     (leads_on turn.admitted.cache turn.visited.cache new.cache (visits_lead now _ turn.admitted turn.visited turn.visits) (passes_lead turn.visited new (tick_passes now turn.visited new turn.tells)))
 turn_leads now old new (Err Accept) stops = passes_lead old new (stops_passes old new stops)
-turn_leads now old new (Err NoMemory) lacks = passes_lead old new (lacks_passes old new lacks)
 
 -- any turns lead on from a run
 pub turns_lead : (moments : List ℕ) (start : CacheState) (before : List Turn) (old new : Turns) → IsRun start before old.cache → TakesTurns moments old new → (after : List Turn) × IsRun start (after ++ before) new.cache

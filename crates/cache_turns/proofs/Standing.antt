@@ -62,6 +62,10 @@ each_other old new links left key each taken_out stay other there = by_place (em
         subst (λ (c : Option Conn). IsSome c) (sym (stay other same.0))
         (each other (subst (λ (l : Option Connection). IsSome l) same.1 still))
 
+-- a client without a connection goes: each connection has its client
+pub sent_away : (old new : CacheState) (links : List (Option Connection)) (key : ℕ) → EachHasAClient old links → get_or links key None ≡ None → OthersStay old key new → EachHasAClient new links
+sent_away old new links key each none stay = each_other old new links links key each (sym (emptied_again links key none)) stay
+
 -- a visit to a connection, which was taken out for it
 pub visited : (now : ℕ) (old new : Turns) (places : List (Option Connection)) (key : ℕ) (link after : Connection) (visit : Visit) (behind : Sides) → link_at old key ≡ Some link → key < length old.links → places ≡ set old.links key None → Attends old.patience now key link (sides old) visit after behind → new.patience ≡ old.patience → new.counts ≡ settled visit after.number (record old.counts { wire = behind.wire }) → TellsCache visit behind.cache key new.cache → new.links ≡ set places key (link_left visit after) → Visits now old key new
 visited now old new places key link after visit behind here within taken_out attends patience counts tells links =

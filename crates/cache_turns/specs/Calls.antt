@@ -6,7 +6,7 @@ use base.Stored.{coded_unit}
 use Rattle.cache_turns.specs.declared.log.Note.{Note}
 use Rattle.cache_turns.specs.declared.log.Note.TheVariants as note
 use Rattle.cache_turns.specs.declared.wire.Parting.{Parting}
-use Rattle.cache_turns.specs.declared.wire.Parting.TheVariants.{NoPlace, Ended, Failed, Closed, Overdue}
+use Rattle.cache_turns.specs.declared.wire.Parting.TheVariants.{NoPlace, NoMemory, Ended, Failed, Closed, Overdue}
 use Rattle.cache_turns.specs.declared.wire.Received.{Received}
 use Rattle.cache_turns.specs.declared.wire.Received.TheVariants.{Octets as Came, Nothing as NoneCame, End, Fault as ReadFault}
 use Rattle.cache_turns.specs.declared.wire.Sent.{Sent}
@@ -61,24 +61,27 @@ sent_back NoneWent = refl
 sent_back WriteFault = refl
 
 abbrev PartingSum : Type 0
-PartingSum = Unit {0} ⊎ (Unit {0} ⊎ (Unit {0} ⊎ (Unit {0} ⊎ Unit {0})))
+PartingSum = Unit {0} ⊎ (Unit {0} ⊎ (Unit {0} ⊎ (Unit {0} ⊎ (Unit {0} ⊎ Unit {0}))))
 
 abbrev parting_sum : Parting → PartingSum
 parting_sum NoPlace = inl tt
-parting_sum Ended = inr (inl tt)
-parting_sum Failed = inr (inr (inl tt))
-parting_sum Closed = inr (inr (inr (inl tt)))
-parting_sum Overdue = inr (inr (inr (inr tt)))
+parting_sum NoMemory = inr (inl tt)
+parting_sum Ended = inr (inr (inl tt))
+parting_sum Failed = inr (inr (inr (inl tt)))
+parting_sum Closed = inr (inr (inr (inr (inl tt))))
+parting_sum Overdue = inr (inr (inr (inr (inr tt))))
 
 abbrev parting_of : PartingSum → Parting
 parting_of (inl _) = NoPlace
-parting_of (inr (inl _)) = Ended
-parting_of (inr (inr (inl _))) = Failed
-parting_of (inr (inr (inr (inl _)))) = Closed
-parting_of (inr (inr (inr (inr _)))) = Overdue
+parting_of (inr (inl _)) = NoMemory
+parting_of (inr (inr (inl _))) = Ended
+parting_of (inr (inr (inr (inl _)))) = Failed
+parting_of (inr (inr (inr (inr (inl _))))) = Closed
+parting_of (inr (inr (inr (inr (inr _))))) = Overdue
 
 pub parting_back : (parting : Parting) → parting_of (parting_sum parting) ≡ parting
 parting_back NoPlace = refl
+parting_back NoMemory = refl
 parting_back Ended = refl
 parting_back Failed = refl
 parting_back Closed = refl
@@ -86,7 +89,7 @@ parting_back Overdue = refl
 
 abbrev pub parting_code : Coded Parting
 parting_code =
-    code_by PartingSum (coded⊎ coded_unit (coded⊎ coded_unit (coded⊎ coded_unit (coded⊎ coded_unit coded_unit)))) parting_sum parting_of parting_back
+    code_by PartingSum (coded⊎ coded_unit (coded⊎ coded_unit (coded⊎ coded_unit (coded⊎ coded_unit (coded⊎ coded_unit coded_unit))))) parting_sum parting_of parting_back
 
 abbrev pub received_code : Coded Received
 received_code =

@@ -1,5 +1,5 @@
 -- How long a client may be silent before it loses its place (own).
-use Rattle.std.specs.Prelude.{◌+◌, ℕ, Bool, false, nat_le, if◌then◌else◌}
+use Rattle.std.specs.Prelude.{◌+◌, ℕ, Bool, false, max, nat_le, if◌then◌else◌}
 use Rattle.net_prefix.specs.declared.transport.Transport.{Transport}
 use Rattle.net_prefix.specs.declared.transport.Transport.TheVariants.{None as NoClient, Opening, Listening, Open, Closing}
 use Rattle.cache_turns.specs.declared.patience.Moments.{Moments}
@@ -17,9 +17,9 @@ have_passed seconds since now = nat_le (since + seconds) now
 abbrev pub arriving_at : ℕ → Moments
 arriving_at now = record { came = now; heard = now }
 
--- octets come: they count while the session is open
+-- octets come: they count while the session is open, and never for a moment before the last one
 abbrev pub heard_at : ℕ → Transport → Moments → Moments
-heard_at now Open moments = record moments { heard = now }
+heard_at now Open moments = record moments { heard = max moments.heard now }
 heard_at now Closing moments = moments
 heard_at now Listening moments = moments
 heard_at now Opening moments = moments

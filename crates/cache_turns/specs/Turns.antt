@@ -4,6 +4,7 @@ use Rattle.rtr_cache.specs.CacheState.{CacheState, client_at, tells_client}
 use Rattle.rtr_cache.specs.ClientHistory.{CameUp, Makes, Ticked, WentDown}
 use Rattle.rtr_cache.specs.declared.event.CacheReport.{CacheReport}
 use Rattle.rtr_cache.specs.declared.refusal.CacheRefusal.{CacheRefusal}
+use Rattle.rtr_cache.specs.declared.refusal.CacheRefusal.TheVariants.{Full}
 use Rattle.cache_turns.specs.Calls.{Accept}
 use Rattle.cache_turns.specs.Patience.{arriving_at}
 use Rattle.cache_turns.specs.Serving.{Attends, Connection, Sides}
@@ -60,12 +61,32 @@ counts_of_wire call counts = record counts { wire = call counts.wire }
 abbrev pub NoneComes : Turns → Turns → Type 0
 NoneComes old new = new ≡ record old { counts = counts_of_wire (calling Accept) old.counts }
 
+-- the cache is told that a client is gone
+abbrev pub GoesDown : CacheState → ℕ → CacheState → Type 0
+GoesDown old key new = (result : Result CacheReport CacheRefusal) × Makes old (WentDown key result) new
+
+-- why a connection ends whose client the cache refuses
+abbrev pub parting_for : CacheRefusal → Parting
+parting_for Full = parting.NoPlace
+parting_for other = parting.NoMemory
+
 -- a connection comes whose client the cache refuses, and is closed
 pub record TurnsAway (old new : Turns) : Type 0 where
   pub why : CacheRefusal
   pub patience : new.patience ≡ old.patience
-  pub counts : new.counts ≡ counts_of_wire (λ wire. closing wire.arrivals parting.NoPlace (arriving wire)) old.counts
+  pub counts : new.counts ≡ counts_of_wire (λ wire. closing wire.arrivals (parting_for why) (arriving wire)) old.counts
   pub refused : Makes old.cache (CameUp (Err why)) new.cache
+  pub links : LinksStay old new
+
+-- a connection comes for which there is no memory: its client comes up, the connection is closed, and the client goes again
+pub record LacksMemory (old new : Turns) : Type 0 where
+  pub key : ℕ
+  pub told : CacheState
+  pub patience : new.patience ≡ old.patience
+  pub counts : new.counts ≡ counts_of_wire (λ wire. closing wire.arrivals parting.NoMemory (arriving wire)) old.counts
+  pub comes : Makes old.cache (CameUp (Ok (tells_client key))) told
+  pub goes : GoesDown told key new.cache
+  pub before : link_at old key ≡ None
   pub links : LinksStay old new
 
 -- a connection comes, and stands under the key of its client
@@ -80,20 +101,11 @@ pub record ComesUp (now : ℕ) (old new : Turns) : Type 0 where
 
 -- accepting goes well: no connection comes, or one is closed, or one is let in
 abbrev pub Accepts : ℕ → Turns → Turns → Type 0
-Accepts now old new = NoneComes old new ⊎ (TurnsAway old new ⊎ ComesUp now old new)
-
--- memory is refused for a connection that came: its client is with the cache, and nothing else changes
-pub record LacksMemory (old new : Turns) : Type 0 where
-  pub key : ℕ
-  pub patience : new.patience ≡ old.patience
-  pub counts : new.counts ≡ counts_of_wire arriving old.counts
-  pub comes : Makes old.cache (CameUp (Ok (tells_client key))) new.cache
-  pub links : LinksStay old new
+Accepts now old new = NoneComes old new ⊎ (TurnsAway old new ⊎ (LacksMemory old new ⊎ ComesUp now old new))
 
 -- a turn that ends at this fault
 abbrev pub Stops : Turns → LoopFault → Turns → Type 0
 Stops old stop.Accept new = new ≡ record old { counts = counts_of_wire accept_failing old.counts }
-Stops old stop.NoMemory new = LacksMemory old new
 
 -- what accepting makes of a loop
 abbrev pub Admits : ℕ → Turns → Result (Unit {0}) LoopFault → Turns → Type 0
@@ -115,10 +127,6 @@ settled Faulty number counts = losing number parting.Failed counts
 settled Ended number counts = losing number parting.Ended counts
 settled Closed number counts = closing_it number parting.Closed counts
 settled Overdue number counts = closing_it number parting.Overdue counts
-
--- the cache is told that a client is gone
-abbrev pub GoesDown : CacheState → ℕ → CacheState → Type 0
-GoesDown old key new = (result : Result CacheReport CacheRefusal) × Makes old (WentDown key result) new
 
 -- what it is told behind a visit: of a connection that stays nothing
 abbrev pub TellsCache : Visit → CacheState → ℕ → CacheState → Type 0

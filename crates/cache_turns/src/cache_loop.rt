@@ -1,16 +1,18 @@
 //! The turns of a cache: routers connect, ask and are answered.
-ghost use Rattle.std.specs.Prelude.{◌≡◌, ◌≢◌, ◌<◌, ◌+◌, ℕ, ⊤, [], Err, None, Ok, OnOk, OnErr, IfOk, IsSome, MatchOption, Some, count_by, is_some, length, slice_index_or, slice_set};
+ghost use Rattle.std.specs.Prelude.{◌≡◌, ◌<◌, ◌+◌, ℕ, [], Err, None, Ok, OnOk, IfOk, IsSome, MatchResult, Some, count_by, is_some, length, slice_index_or, slice_set};
 ghost use Rattle.rtr_cache.specs.CacheState.{OthersStay, client_at, tells_client};
 ghost use Rattle.rtr_cache.specs.ClientHistory.{CameUp, Loaded, Makes};
 ghost use Rattle.rtr_cache.specs.declared.refusal.CacheRefusal.{CacheRefusal};
 ghost use Rattle.cache_turns.specs.Holding.{held, holding_of};
-ghost use Rattle.cache_turns.specs.Patience.{arriving_at};
 ghost use Rattle.cache_turns.specs.TurnOctets.{turn_octets};
-ghost use Rattle.cache_turns.specs.Turns.{Admits, GoesDown, IsTold, TakesTurn, TellsCache, Visits, VisitsAll, closing_it, idle, link_at, link_left, losing, settled};
+ghost use Rattle.cache_turns.specs.Turns.{Admits, GoesDown, IsTold, LinksStay, OtherLinksStay, TakesTurn, TellsCache, Visits, VisitsAll, closing_it, counts_of_wire, idle, link_at, link_left, losing, parting_for, settled};
+ghost use Rattle.cache_turns.specs.Wires.{closing};
+ghost use Rattle.cache_turns.specs.declared.wire.Parting.TheVariants.{NoMemory};
 
 use crate::fault::LoopFault;
 use crate::holding::{Holding, holding_of};
 use crate::link::{Link, Visit};
+use crate::outgoing::Outgoing;
 use crate::patience::Patience;
 use crate::wire::{Accepted, Parting, Wire};
 use net_prefix::Vrp;
@@ -143,7 +145,7 @@ impl<W: Wire + Drop, A: Allocator + Clone> CacheLoop<W, A> {
         &self.wire
     }
 
-    // Accepts a connection that waits. One whose client the cache refuses is closed.
+    // Accepts a connection that waits. One whose client the cache refuses, or for which there is no memory, is closed.
     fn admit(&mut self, now: u64) -> Result<(), LoopFault>
         ensures { Admits now self.old result self.new }
     {
@@ -152,49 +154,66 @@ impl<W: Wire + Drop, A: Allocator + Clone> CacheLoop<W, A> {
             Accepted::Nothing => return Ok(()),
             Accepted::Fault => return Err(LoopFault::Accept),
         };
-        let Some(client) = self.new_client() else {
-            self.wire.close(socket, Parting::NoPlace);
-            return Ok(());
+        let client = match self.new_client() {
+            Ok(client) => client as usize,
+            Err(why) => {
+                self.wire.close(socket, parting_for(why));
+                return Ok(());
+            }
         };
-        self.let_in(client as usize, socket, now)?;
+        match self.room_for(client) {
+            Ok(outgoing) => self.seat(client, Link::new(socket, outgoing, now)),
+            Err(_) => self.send_away(client, socket),
+        }
         Ok(())
     }
 
     // The key of a new client, unless the cache refuses it.
-    fn new_client(&mut self) -> Option<u64>
+    fn new_client(&mut self) -> Result<u64, CacheRefusal>
         ensures same { self.new ≡ record self.old { cache = self.new.cache } }
-        ensures comes { MatchOption result ((why : CacheRefusal) × Makes self.old.cache (CameUp (Err why)) self.new.cache) (λ key. Makes self.old.cache (CameUp (Ok (tells_client key))) self.new.cache) }
-        ensures unused { MatchOption result ⊤ (λ key. link_at self.old key ≡ None) }
-        ensures there { MatchOption result ⊤ (λ key. IsSome (client_at self.new.cache key)) }
+        ensures comes { MatchResult result (λ key. Makes self.old.cache (CameUp (Ok (tells_client key))) self.new.cache) (λ why. Makes self.old.cache (CameUp (Err why)) self.new.cache) }
+        ensures unused { IfOk result (λ key. link_at self.old key ≡ None) }
+        ensures there { IfOk result (λ key. IsSome (client_at self.new.cache key)) }
     {
-        match self.cache.step(CacheEvent::<Global>::Up) {
-            Ok(report) => report.client,
-            Err(_) => None,
+        let report = self.cache.step(CacheEvent::<Global>::Up)?;
+        match report.client {
+            Some(key) => Ok(key),
+            None => Err(CacheRefusal::NoMemory),
         }
     }
 
-    // Puts the connection of this client, on this socket, where it belongs.
-    fn let_in(&mut self, client: usize, socket: W::Socket, now: u64) -> Result<(), AllocError>
-        requires { IsSome (client_at self.old.cache client) }
+    // A place for the connection of a client, and room for what will wait to be written to it.
+    fn room_for(&mut self, client: usize) -> Result<Outgoing<A>, AllocError>
         ensures same { self.new ≡ record self.old { links = self.new.links } }
-        ensures here { OnOk result (link_at self.new client ≡ Some (record { number = W.number socket; waiting = []; moments = arriving_at now })) }
-        ensures others { (key : ℕ) → key ≢ client → link_at self.new key ≡ link_at self.old key }
-        ensures err { OnErr result ((key : ℕ) → link_at self.new key ≡ link_at self.old key) }
-    {
-        let link = Link::new(self.alloc.clone()?, socket, now)?;
-        self.seat(client, link)
-    }
-
-    fn seat(&mut self, client: usize, link: Link<W, A>) -> Result<(), AllocError>
-        requires { IsSome (client_at self.old.cache client) }
-        ensures same { self.new ≡ record self.old { links = self.new.links } }
-        ensures here { OnOk result (link_at self.new client ≡ Some link) }
-        ensures others { (key : ℕ) → key ≢ client → link_at self.new key ≡ link_at self.old key }
-        ensures err { OnErr result ((key : ℕ) → link_at self.new key ≡ link_at self.old key) }
+        ensures room { IfOk result (λ outgoing. outgoing ≡ []) }
+        ensures place { OnOk result (client < length self.new.links) }
+        ensures links { LinksStay self.old self.new }
     {
         make_place(&mut self.links, client)?;
+        Outgoing::new(self.alloc.clone()?)
+    }
+
+    // Puts the connection of a client where it belongs.
+    fn seat(&mut self, client: usize, link: Link<W, A>)
+        requires place { client < length self.old.links }
+        requires there { IsSome (client_at self.old.cache client) }
+        ensures same { self.new ≡ record self.old { links = self.new.links } }
+        ensures here { link_at self.new client ≡ Some link }
+        ensures others { OtherLinksStay self.old client self.new }
+    {
         self.links[client] = Some(link);
-        Ok(())
+    }
+
+    // Closes the socket of a client for whose connection there is no memory, and tells the cache that the client is gone.
+    fn send_away(&mut self, client: usize, socket: W::Socket)
+        requires unused { link_at self.old client ≡ None }
+        ensures patience { self.new.patience ≡ self.old.patience }
+        ensures counts { self.new.counts ≡ counts_of_wire (closing (W.number socket) NoMemory) self.old.counts }
+        ensures gone { GoesDown self.old.cache client self.new.cache }
+        ensures links { self.new.links ≡ self.old.links }
+    {
+        self.wire.close(socket, Parting::NoMemory);
+        tell_gone(&mut self.cache, client as u64);
     }
 
     #[tactic(auto, unfolding(crate::specs::TurnOctets::turn_octets))]
@@ -277,6 +296,16 @@ impl<W: Wire + Drop, A: Allocator + Clone> CacheLoop<W, A> {
         ensures { IsTold now self.old self.new }
     {
         let _past = self.cache.step(CacheEvent::<Global>::Tick(now));
+    }
+}
+
+// Why a connection ends whose client the cache refuses.
+fn parting_for(why: CacheRefusal) -> Parting
+    ensures { result ≡ parting_for why }
+{
+    match why {
+        CacheRefusal::Full => Parting::NoPlace,
+        _ => Parting::NoMemory,
     }
 }
 

@@ -1,5 +1,5 @@
 //! One client's connection.
-ghost use Rattle.std.specs.Prelude.{◌≡◌, ◌≢◌, [], IfOk, IsSome, Result, length};
+ghost use Rattle.std.specs.Prelude.{◌≡◌, ◌≢◌, [], IsSome, Result, length};
 ghost use Rattle.rtr_cache.specs.CacheState.{OthersStay, client_at, transport_of};
 ghost use Rattle.rtr_cache.specs.ClientHistory.{Heard, Makes};
 ghost use Rattle.rtr_cache.specs.declared.event.CacheReport.{CacheReport};
@@ -14,7 +14,7 @@ use crate::patience::{Moments, Patience};
 use crate::wire::{Parting, Received, Sent, Wire};
 use net_prefix::Transport;
 use rtr_cache::{Cache, CacheEvent};
-use std::alloc::{AllocError, Allocator, Global};
+use std::alloc::{Allocator, Global};
 use std::marker::Model;
 
 /// What a visit to a connection found.
@@ -49,15 +49,15 @@ impl<W: Wire, A: Allocator> Model for Link<W, A> {
 }
 
 impl<W: Wire, A: Allocator + Clone> Link<W, A> {
-    /// The connection of a client that comes now, on this socket.
-    pub fn new(alloc: A, socket: W::Socket, now: u64) -> Result<Self, AllocError>
-        ensures { IfOk result (λ link. link ≡ record { number = W.number socket; waiting = []; moments = arriving_at now }) }
+    /// The connection of a client that comes now, on this socket, with room for what will wait.
+    pub fn new(socket: W::Socket, outgoing: Outgoing<A>, now: u64) -> Self
+        ensures { result ≡ record { number = W.number socket; waiting = outgoing; moments = arriving_at now } }
     {
-        Ok(Link {
+        Link {
             socket,
-            outgoing: Outgoing::new(alloc)?,
+            outgoing,
             moments: Moments::new(now),
-        })
+        }
     }
 
     /// What came is handed to the cache as this client's, and what the cache has queued for it goes out. A client that

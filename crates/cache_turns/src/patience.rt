@@ -67,12 +67,12 @@ impl Moments {
         }
     }
 
-    /// Octets came now.
+    /// Octets came now. A moment before the last one is that one.
     pub fn hear(&mut self, transport: Transport, now: u64)
         ensures { self.new ≡ heard_at now transport self.old }
     {
         if transport == Transport::Open {
-            self.heard = now;
+            self.heard = self.heard.max(now);
         }
     }
 }

@@ -44,6 +44,9 @@ pub enum Parting {
     /// The cache had no place for it.
     #[error("there was no place for it")]
     NoPlace,
+    /// There was no memory for it.
+    #[error("there was no memory for it")]
+    NoMemory,
     /// Its other side sends no more.
     #[error("it sends no more")]
     Ended,

@@ -6,9 +6,10 @@ ghost use Rattle.cache_turns.specs.Wires.{FitsIn, FitsInSent, calling, failing, 
 use cache_turns::Holding;
 use net_prefix::{Asn, Prefix, Vrp};
 use ov_programs::{Accepted, CacheLoop, Log, LoopFault, Note, Parting, Received, Sent, Wire};
-use rtr_cache::{Cache, CacheEvent};
+use refusing::Refusing;
+use rtr_cache::{Cache, CacheEvent, CacheRefusal};
 use rtr_codec::Intervals;
-use std::alloc::{AllocGlobal, Global};
+use std::alloc::{AllocGlobal, Allocator, Global};
 use std::cmp::min;
 use std::collections::BTreeSet;
 use std::marker::Model;
@@ -62,7 +63,8 @@ struct Router {
     answered: usize,
     // Whether another octet came than the one that it awaits.
     is_misled: bool,
-    is_closed: bool,
+    // Why it was closed.
+    parting: Option<Parting>,
 }
 
 impl Router {
@@ -72,7 +74,7 @@ impl Router {
             asked: 0,
             answered: 0,
             is_misled: false,
-            is_closed: false,
+            parting: None,
         }
     }
 
@@ -285,7 +287,7 @@ impl Wire for MemoryWire {
 
     fn close(&mut self, socket: Plug, parting: Parting) {
         if let Some(router) = self.routers.get_mut(socket.router) {
-            router.is_closed = true;
+            router.parting = Some(parting);
         }
         self.note(&Note::Close(socket.number, parting));
     }
@@ -323,16 +325,31 @@ struct Served {
     holding: [Holding; 2],
 }
 
-// Serves the routers beside so many clients that say nothing.
-fn serve(rt: &impl AllocGlobal, silent: u64, fails_at: u64) -> Result<Served, Fail> {
-    let mut set = BTreeSet::new(rt.alloc());
+// The list.
+fn listed(alloc: Global) -> Result<BTreeSet<Vrp>, Fail> {
+    let mut set = BTreeSet::new(alloc);
     let _ = set.insert(Vrp::new(Prefix::parse("10.0.0.0/16")?, 24, Asn(65_002))?)?;
-    let mut cache = Cache::new(rt.alloc(), 7, Intervals::USUAL)?;
-    let _ = cache.step(CacheEvent::Load(&set))?;
+    Ok(set)
+}
+
+// A cache of the list that has so many clients which say nothing, before its turns.
+fn prepared<A: Allocator + Clone>(
+    alloc: A,
+    set: &BTreeSet<Vrp>,
+    silent: u64,
+    fails_at: u64,
+) -> Result<CacheLoop<MemoryWire, A>, CacheRefusal> {
+    let mut cache = Cache::new(alloc.clone()?, 7, Intervals::USUAL)?;
+    let _ = cache.step(CacheEvent::Load(set))?;
     for _ in 0..silent {
         let _ = cache.step(CacheEvent::<Global>::Up)?;
     }
-    let mut turns = CacheLoop::new(rt.alloc(), MemoryWire::failing_at(fails_at), cache)?;
+    let turns = CacheLoop::new(alloc, MemoryWire::failing_at(fails_at), cache)?;
+    Ok(turns)
+}
+
+// Serves the routers for twenty turns.
+fn turned<A: Allocator + Clone>(mut turns: CacheLoop<MemoryWire, A>) -> Served {
     let mut fault = None;
     for now in 0..20 {
         if let Err(stop) = turns.turn(now) {
@@ -341,7 +358,7 @@ fn serve(rt: &impl AllocGlobal, silent: u64, fails_at: u64) -> Result<Served, Fa
         }
     }
     let wire = turns.wire();
-    Ok(Served {
+    Served {
         routers: wire.routers,
         failed: wire.failed,
         told: wire.faults.saturating_add(wire.ends),
@@ -349,7 +366,13 @@ fn serve(rt: &impl AllocGlobal, silent: u64, fails_at: u64) -> Result<Served, Fa
         lost: turns.lost(),
         closed: turns.closed(),
         holding: [turns.holding(1), turns.holding(2)],
-    })
+    }
+}
+
+// Serves the routers beside so many clients that say nothing.
+fn serve(rt: &impl AllocGlobal, silent: u64, fails_at: u64) -> Result<Served, Fail> {
+    let set = listed(rt.alloc())?;
+    Ok(turned(prepared(rt.alloc(), &set, silent, fails_at)?))
 }
 
 // Each router but one has its answer, and is connected just where it stays.
@@ -357,7 +380,7 @@ fn others_are_served(rt: &impl Abort, routers: &[Router], failed: Option<usize>)
     for (place, router) in routers.iter().enumerate() {
         if failed != Some(place) {
             assert!(rt; router.has_its_answer(), "{place} of {routers:?}");
-            assert_eq!(rt; router.is_closed, router.kind != Kind::Staying);
+            assert_eq!(rt; router.parting.is_some(), router.kind != Kind::Staying);
         }
     }
 }
@@ -378,7 +401,7 @@ fn a_failing_call_costs_one_client(rt: HostRuntime) -> Result<(), Fail> {
             Some(Call::OfRouter(failed)) => {
                 assert_eq!(rt; served.fault, None);
                 let gone = served.routers.get(failed).ok_or("no router")?;
-                assert!(rt; gone.is_closed, "{fails_at}");
+                assert!(rt; gone.parting.is_some(), "{fails_at}");
                 others_are_served(&rt, &served.routers, Some(failed));
                 assert_eq!(rt; served.lost, served.told.saturating_add(served.closed));
             }
@@ -403,7 +426,7 @@ fn a_refused_client_is_closed_and_the_others_are_served(rt: HostRuntime) -> Resu
     assert_eq!(rt; served.fault, None);
     others_are_served(&rt, &served.routers, Some(2));
     let refused = Router {
-        is_closed: true,
+        parting: Some(Parting::NoPlace),
         ..Router::new(Kind::Staying)
     };
     assert_eq!(rt; served.routers[2], refused);
@@ -411,4 +434,38 @@ fn a_refused_client_is_closed_and_the_others_are_served(rt: HostRuntime) -> Resu
     // None has a connection.
     assert_eq!(rt; served.holding, [holding(0, 0), holding(0, 0)]);
     Ok(())
+}
+
+// A router that has not its answer was closed, and why.
+fn unserved(rt: &impl Abort, served: &Served) -> Option<Parting> {
+    assert_eq!(rt; served.fault, None);
+    let lost = served.routers.iter().position(|router| !router.has_its_answer());
+    others_are_served(rt, &served.routers, lost);
+    let parting = served.routers.get(lost?)?.parting;
+    assert!(rt; parting.is_some(), "{:?}", served.routers);
+    parting
+}
+
+#[test]
+fn a_refused_growth_costs_one_router(rt: HostRuntime) -> Result<(), Fail> {
+    let set = listed(rt.alloc())?;
+    let mut without_memory = 0;
+    for nth in 1..1_000 {
+        let heap = Refusing::new(rt.alloc(), nth);
+        let Ok(turns) = prepared(&heap, &set, 0, 0) else {
+            assert!(rt; heap.has_refused());
+            continue;
+        };
+        let parting = unserved(&rt, &turned(turns));
+        if !heap.has_refused() {
+            assert_eq!(rt; parting, None);
+            // The places of the connections, and the octets that wait of each of the three.
+            assert!(rt; without_memory >= 4, "{without_memory}");
+            return Ok(());
+        }
+        if parting == Some(Parting::NoMemory) {
+            without_memory += 1;
+        }
+    }
+    panic!(rt; "the turns make no end of requests");
 }
