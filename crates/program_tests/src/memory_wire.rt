@@ -393,31 +393,39 @@ fn holding(current: usize, behind: usize) -> Holding {
     }
 }
 
+// A call of one router's socket has failed: it is closed, and each other is served.
+fn one_is_lost(rt: &impl Abort, served: &Served, failed: usize) -> Result<(), Fail> {
+    assert_eq!(rt; served.fault, None);
+    let gone = served.routers.get(failed).ok_or("no router")?;
+    assert!(rt; gone.parting.is_some(), "{failed}");
+    others_are_served(rt, &served.routers, Some(failed));
+    assert_eq!(rt; served.lost, served.told.saturating_add(served.closed));
+    Ok(())
+}
+
+// No call has failed: one has stayed, with the list of serial 1.
+fn none_is_lost(rt: &impl Abort, served: &Served) {
+    assert_eq!(rt; served.fault, None);
+    others_are_served(rt, &served.routers, None);
+    assert_eq!(rt; (served.lost, served.told, served.closed), (2, 1, 1));
+    assert_eq!(rt; served.holding, [holding(1, 0), holding(0, 1)]);
+}
+
 #[test]
 fn a_failing_call_costs_one_client(rt: HostRuntime) -> Result<(), Fail> {
     for fails_at in 1..1_000 {
         let served = serve(&rt, 0, fails_at)?;
         match served.failed {
-            Some(Call::OfRouter(failed)) => {
-                assert_eq!(rt; served.fault, None);
-                let gone = served.routers.get(failed).ok_or("no router")?;
-                assert!(rt; gone.parting.is_some(), "{fails_at}");
-                others_are_served(&rt, &served.routers, Some(failed));
-                assert_eq!(rt; served.lost, served.told.saturating_add(served.closed));
-            }
-            Some(_) => assert_eq!(rt; served.fault, Some(LoopFault::Accept)),
+            Some(Call::OfRouter(failed)) => one_is_lost(&rt, &served, failed)?,
+            Some(Call::Accept) => assert_eq!(rt; served.fault, Some(LoopFault::Accept)),
             None => {
-                others_are_served(&rt, &served.routers, None);
-                assert_eq!(rt; (served.lost, served.told, served.closed), (2, 1, 1));
-                // One has stayed, with the list of serial 1.
-                assert_eq!(rt; served.holding, [holding(1, 0), holding(0, 1)]);
+                none_is_lost(&rt, &served);
                 assert!(rt; fails_at > 50, "{fails_at}");
                 return Ok(());
             }
         }
     }
-    assert!(rt; false, "each run had a fault");
-    Ok(())
+    panic!(rt; "each run had a fault");
 }
 
 #[test]
@@ -439,7 +447,10 @@ fn a_refused_client_is_closed_and_the_others_are_served(rt: HostRuntime) -> Resu
 // A router that has not its answer was closed, and why.
 fn unserved(rt: &impl Abort, served: &Served) -> Option<Parting> {
     assert_eq!(rt; served.fault, None);
-    let lost = served.routers.iter().position(|router| !router.has_its_answer());
+    let lost = served
+        .routers
+        .iter()
+        .position(|router| !router.has_its_answer());
     others_are_served(rt, &served.routers, lost);
     let parting = served.routers.get(lost?)?.parting;
     assert!(rt; parting.is_some(), "{:?}", served.routers);
@@ -449,7 +460,7 @@ fn unserved(rt: &impl Abort, served: &Served) -> Option<Parting> {
 #[test]
 fn a_refused_growth_costs_one_router(rt: HostRuntime) -> Result<(), Fail> {
     let set = listed(rt.alloc())?;
-    let mut without_memory = 0;
+    let mut without_memory = 0u64;
     for nth in 1..1_000 {
         let heap = Refusing::new(rt.alloc(), nth);
         let Ok(turns) = prepared(&heap, &set, 0, 0) else {
@@ -464,7 +475,7 @@ fn a_refused_growth_costs_one_router(rt: HostRuntime) -> Result<(), Fail> {
             return Ok(());
         }
         if parting == Some(Parting::NoMemory) {
-            without_memory += 1;
+            without_memory = without_memory.saturating_add(1);
         }
     }
     panic!(rt; "the turns make no end of requests");
