@@ -3,7 +3,7 @@ use Rattle.std.proofs.Common.{◌≡◌, ◌≢◌, ◌&&◌, true, false, not, 
 use Rattle.std.proofs.lemmas.Grind.{common_steps}
 use Rattle.net_prefix.specs.declared.transport.Transport.TheVariants.{Open as Connected}
 use Rattle.bgp_fsm.specs.declared.input.Input.{Input}
-use Rattle.bgp_fsm.specs.declared.input.Input.TheVariants.{Up, Fail, Fault}
+use Rattle.bgp_fsm.specs.declared.input.Input.TheVariants.{Up, Fail, Fault, NoMemory}
 use Rattle.bgp_fsm.specs.declared.session.Session.{Session}
 use Rattle.bgp_fsm.specs.SessionTable.{row_at, nothing, session_after, effects_of}
 use Rattle.bgp_fsm.specs.StateTests.{is_established, is_message}
@@ -44,6 +44,10 @@ stood_before input s other stands = grind (arith, common_steps)
 -- after a fault no connection stands
 pub fault_closes : (s : Session) → transport_of (session_after Fault s) ≢ Connected
 fault_closes s = grind (arith, common_steps)
+
+-- nor after a want of memory
+pub no_memory_closes : (s : Session) → transport_of (session_after NoMemory s) ≢ Connected
+no_memory_closes s = grind (arith, common_steps)
 
 -- without a connection no message is more than nothing
 pub message_ignored : (input : Input) (s : Session) → is_message input ≡ true → transport_of s ≢ Connected → row_at s.state input s ≡ (s, nothing)

@@ -7,7 +7,7 @@ use Rattle.bgp_msg.specs.declared.open_message.Open.{Open as OpenMessage}
 use Rattle.bgp_fsm.specs.declared.state.State.{State}
 use Rattle.bgp_fsm.specs.declared.state.State.TheVariants.{Idle, Connect, Active, OpenSent, OpenConfirm, Established}
 use Rattle.bgp_fsm.specs.declared.input.Input.{Input}
-use Rattle.bgp_fsm.specs.declared.input.Input.TheVariants.{Start, Up, Fail, Open, Keepalive, Update, Notification, Fault}
+use Rattle.bgp_fsm.specs.declared.input.Input.TheVariants.{Start, Up, Fail, Open, Keepalive, Update, Notification, Fault, NoMemory}
 use Rattle.bgp_fsm.specs.declared.session.Outgoing.{Outgoing}
 use Rattle.bgp_fsm.specs.declared.session.Outgoing.TheVariants.{Open as OwnOpen, Keepalive as OwnKeepalive}
 use Rattle.bgp_fsm.specs.declared.session.Effects.{Effects}
@@ -81,6 +81,7 @@ row_at OpenSent Keepalive s = (closed s, nothing)
 row_at OpenSent Update s = (closed s, nothing)
 row_at OpenSent Notification s = (closed s, nothing)
 row_at OpenSent Fault s = (closed s, nothing)
+row_at OpenSent NoMemory s = (closed s, nothing)
 row_at OpenConfirm Start s = (marked s, nothing)
 row_at OpenConfirm Keepalive s = (established s, enters)
 row_at OpenConfirm Fail s = (waiting_in Idle s, nothing)
@@ -88,6 +89,7 @@ row_at OpenConfirm (Open message) s = (closed s, nothing)
 row_at OpenConfirm Update s = (closed s, nothing)
 row_at OpenConfirm Notification s = (closed s, nothing)
 row_at OpenConfirm Fault s = (closed s, nothing)
+row_at OpenConfirm NoMemory s = (closed s, nothing)
 row_at Established Start s = (marked s, nothing)
 row_at Established Keepalive s = (s, nothing)
 row_at Established Update s = (s, nothing)
@@ -95,6 +97,7 @@ row_at Established Fail s = (waiting_in Idle s, leaves)
 row_at Established (Open message) s = (closed s, leaves)
 row_at Established Notification s = (closed s, leaves)
 row_at Established Fault s = (closed s, leaves)
+row_at Established NoMemory s = (closed s, leaves)
 -- any other pair of state and input is ignored
 row_at other input s = (s, nothing)
 

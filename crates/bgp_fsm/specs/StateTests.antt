@@ -3,7 +3,7 @@ use Rattle.std.specs.Prelude.{Bool, true, false}
 use Rattle.bgp_fsm.specs.declared.state.State.{State}
 use Rattle.bgp_fsm.specs.declared.state.State.TheVariants.{Idle, Connect, Active, OpenSent, OpenConfirm, Established}
 use Rattle.bgp_fsm.specs.declared.input.Input.{Input}
-use Rattle.bgp_fsm.specs.declared.input.Input.TheVariants.{Start, Up, Fail, Open, Keepalive, Update, Notification, Fault}
+use Rattle.bgp_fsm.specs.declared.input.Input.TheVariants.{Start, Up, Fail, Open, Keepalive, Update, Notification, Fault, NoMemory}
 
 -- routes are exchanged
 abbrev pub is_established : State → Bool
@@ -23,7 +23,7 @@ awaits_open OpenSent = true
 awaits_open OpenConfirm = false
 awaits_open Established = false
 
--- a message of the peer, and neither the operator nor the connection itself
+-- a message of the peer, and neither the operator nor the connection itself nor want of memory
 abbrev pub is_message : Input → Bool
 is_message Start = false
 is_message Up = false
@@ -33,3 +33,4 @@ is_message Keepalive = true
 is_message Update = true
 is_message Notification = true
 is_message Fault = true
+is_message NoMemory = false

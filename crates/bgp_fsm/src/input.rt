@@ -21,4 +21,6 @@ pub enum Input {
     Notification,
     /// A faulty message has come.
     Fault,
+    /// Memory was refused to what the session needs.
+    NoMemory,
 }

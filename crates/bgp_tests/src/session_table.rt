@@ -22,24 +22,29 @@ const PEER: Open = Open {
 type Row = (State, Input, State, Transport, Option<Outgoing>);
 
 #[rattlefmt::skip]
-const ROWS: [Row; 24] = [
+const ROWS: [Row; 30] = [
     (State::Idle,        Input::Start,        State::Active,      Transport::Listening, None),
     (State::Idle,        Input::Fail,         State::Idle,        Transport::None,      None),
     (State::Idle,        Input::Up,           State::Idle,        Transport::None,      None),
+    (State::Idle,        Input::NoMemory,     State::Idle,        Transport::None,      None),
+    (State::Connect,     Input::NoMemory,     State::Connect,     Transport::Opening,   None),
     (State::Active,      Input::Start,        State::Active,      Transport::Listening, None),
     (State::Active,      Input::Up,           State::OpenSent,    Transport::Open,      Some(Outgoing::Open(OWN))),
+    (State::Active,      Input::NoMemory,     State::Active,      Transport::Listening, None),
     (State::OpenSent,    Input::Open(PEER),   State::OpenConfirm, Transport::Open,      Some(Outgoing::Keepalive)),
     (State::OpenSent,    Input::Fail,         State::Active,      Transport::Listening, None),
     (State::OpenSent,    Input::Keepalive,    State::Idle,        Transport::Closing,   None),
     (State::OpenSent,    Input::Update,       State::Idle,        Transport::Closing,   None),
     (State::OpenSent,    Input::Notification, State::Idle,        Transport::Closing,   None),
     (State::OpenSent,    Input::Fault,        State::Idle,        Transport::Closing,   None),
+    (State::OpenSent,    Input::NoMemory,     State::Idle,        Transport::Closing,   None),
     (State::OpenConfirm, Input::Keepalive,    State::Established, Transport::Open,      None),
     (State::OpenConfirm, Input::Fail,         State::Idle,        Transport::None,      None),
     (State::OpenConfirm, Input::Open(PEER),   State::Idle,        Transport::Closing,   None),
     (State::OpenConfirm, Input::Update,       State::Idle,        Transport::Closing,   None),
     (State::OpenConfirm, Input::Notification, State::Idle,        Transport::Closing,   None),
     (State::OpenConfirm, Input::Fault,        State::Idle,        Transport::Closing,   None),
+    (State::OpenConfirm, Input::NoMemory,     State::Idle,        Transport::Closing,   None),
     (State::Established, Input::Start,        State::Established, Transport::Open,      None),
     (State::Established, Input::Keepalive,    State::Established, Transport::Open,      None),
     (State::Established, Input::Update,       State::Established, Transport::Open,      None),
@@ -47,6 +52,7 @@ const ROWS: [Row; 24] = [
     (State::Established, Input::Open(PEER),   State::Idle,        Transport::Closing,   None),
     (State::Established, Input::Notification, State::Idle,        Transport::Closing,   None),
     (State::Established, Input::Fault,        State::Idle,        Transport::Closing,   None),
+    (State::Established, Input::NoMemory,     State::Idle,        Transport::Closing,   None),
 ];
 
 // What the input makes of a session in this state.
@@ -85,6 +91,18 @@ fn a_closed_session_waits_for_the_loss_of_its_connection(rt: HostRuntime) -> Res
     assert_eq!(rt; session.transport(), Transport::None);
     let _ = session.input(Input::Start);
     assert_eq!(rt; session.transport(), Transport::Listening);
+    Ok(())
+}
+
+#[test]
+fn want_of_memory_ends_established(rt: HostRuntime) -> Result<(), Fail> {
+    let mut session = Session {
+        state: State::Established,
+        ..Session::new(OWN, Mode::Passive)
+    };
+    assert!(rt; session.input(Input::NoMemory).left);
+    assert!(rt; !session.input(Input::NoMemory).left);
+    assert_eq!(rt; session.transport(), Transport::Closing);
     Ok(())
 }
 
