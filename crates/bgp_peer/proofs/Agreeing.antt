@@ -12,13 +12,13 @@ use Rattle.bgp_msg.proofs.Streams.{message-then}
 use Rattle.bgp_msg.proofs.StreamPieces.{unread-push, unread-anew, unread-nil, read_alone}
 use Rattle.bgp_fsm.specs.declared.state.State.TheVariants.{Established}
 use Rattle.bgp_fsm.specs.declared.input.Input.{Input}
-use Rattle.bgp_fsm.specs.declared.input.Input.TheVariants.{Start, Up, Fail}
+use Rattle.bgp_fsm.specs.declared.input.Input.TheVariants.{Start, Up, Fail, NoMemory}
 use Rattle.bgp_fsm.specs.declared.session.Session.{Session}
 use Rattle.bgp_fsm.specs.declared.session.Effects.{Effects}
 use Rattle.bgp_fsm.specs.SessionTable.{session_after, effects_of}
 use Rattle.bgp_fsm.specs.StateTests.{is_message}
 use Rattle.bgp_fsm.specs.Transports.{transport_of}
-use Rattle.bgp_fsm.proofs.TableLaws.{fault_closes, stood_before}
+use Rattle.bgp_fsm.proofs.TableLaws.{fault_closes, no_memory_closes, stood_before}
 use Rattle.bgp_peer.specs.Slot.{Slot, said, kept, rest_after, configured, pushed, taken_input, queued, handed}
 use Rattle.bgp_peer.specs.SessionInputs.{Event, Configured, Signalled, Octet, Queued, Handed, Ticked, terms_of, stream, item_at, input_of, listed, after, session, onto}
 use Rattle.bgp_peer.specs.SentMessages.{given, with_said, sent, ring_of}
@@ -42,6 +42,7 @@ signal_rest :
 signal_rest Start s rest octets is same stands = same (stood_before Start s (λ e. cc) stands)
 signal_rest Up s rest octets is same stands = sym unread-nil
 signal_rest Fail s rest octets is same stands = sym unread-nil
+signal_rest NoMemory s rest octets is same stands = absurd (no_memory_closes s stands)
 signal_rest input s rest octets is same stands = absurd (cc)
 
 -- an input that is no message

@@ -31,7 +31,7 @@ pub record Terms : Type 0 where
 -- what happens to a slot
 pub data Event : Type 0 where
   Configured : (terms : Terms) → Event  -- a peer is configured, in place of any before
-  Signalled : (input : Input) → Event  -- an input that no octet brings: the operator enables the peer, its connection stands or fails
+  Signalled : (input : Input) → Event  -- an input that no octet brings: the operator enables the peer, its connection stands or fails, memory is refused
   Octet : (octet : ℕ) → Event  -- an octet comes on the connection
   Queued : (update : List ℕ) → Event  -- an UPDATE is queued
   Handed : (octets : List ℕ) → Event  -- octets are handed out

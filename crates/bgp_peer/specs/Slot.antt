@@ -10,7 +10,7 @@ use Rattle.bgp_msg.specs.declared.fault.HeaderFault.{HeaderFault}
 use Rattle.bgp_msg.specs.MessageFaults.{header_fault}
 use Rattle.bgp_msg.specs.MessageStream.{Item, WholeMessage, FaultyHeader, messages, unread, with_front, left_over}
 use Rattle.bgp_fsm.specs.declared.input.Input.{Input}
-use Rattle.bgp_fsm.specs.declared.input.Input.TheVariants.{Start, Up, Fail, Open as OpenInput, Keepalive as KeepaliveInput, Update, Notification, Fault}
+use Rattle.bgp_fsm.specs.declared.input.Input.TheVariants.{Start, Up, Fail, Open as OpenInput, Keepalive as KeepaliveInput, Update, Notification, Fault, NoMemory}
 use Rattle.bgp_fsm.specs.declared.session.Session.{Session}
 use Rattle.bgp_fsm.specs.declared.session.Outgoing.{Outgoing}
 use Rattle.bgp_fsm.specs.declared.session.Outgoing.TheVariants.{Open, Keepalive}
@@ -74,8 +74,9 @@ kept KeepaliveInput octets = octets
 kept Update octets = octets
 kept Notification octets = octets
 kept Fault octets = octets
+kept NoMemory octets = octets
 
--- what an input leaves of the rest: nothing of a message that it is
+-- what an input leaves of the rest: nothing of a message that it is, or that is being received where memory is refused
 abbrev pub rest_after : Input → List ℕ → List ℕ
 rest_after Start rest = rest
 rest_after Up rest = []
@@ -85,6 +86,7 @@ rest_after KeepaliveInput rest = []
 rest_after Update rest = []
 rest_after Notification rest = []
 rest_after Fault rest = []
+rest_after NoMemory rest = []
 
 -- the session takes this input: what the input ends is dropped, and what its row says is queued
 abbrev pub taken_input : Slot → Input → Slot

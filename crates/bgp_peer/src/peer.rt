@@ -116,9 +116,9 @@ impl<A: Allocator> Peer<A> {
         read(self.rest.as_slice())
     }
 
-    /// The session takes an input: the operator enables the peer, the connection stands or fails, or the message at
-    /// the front is this one. A message is dropped, what was queued or came on another connection too, and what the
-    /// row says is queued.
+    /// The session takes an input: the operator enables the peer, the connection stands or fails, memory is refused,
+    /// or the message at the front is this one. A message is dropped, also one that is being received where memory is
+    /// refused, what was queued or came on another connection too, and what the row says is queued.
     pub fn input(&mut self, input: Input) -> Effects
         ensures exact { self.new ≡ taken_input self.old input }
         ensures effects { result ≡ effects_of input self.old.session }
