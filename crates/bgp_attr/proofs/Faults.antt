@@ -8,14 +8,13 @@ use Rattle.std.specs.List.{find}
 use Rattle.std.specs.Prelude.{◌==◌, bit_and, not, MatchOption, ⊤}
 use Rattle.bgp_attr.specs.AttributeFaults.{Fault, Tells, attribute_fault, attribute_tests, attributes_fault, cut_fault, fault_among, first_fault, has_code, or_else, type_tests, value_tests, AttributeFlags, AttributeLength, MalformedAsPath, MalformedAttributeList}
 use Rattle.bgp_attr.specs.AsPath.{PathSegment}
-use Rattle.bgp_attr.specs.AttributeReading.{HasOctets, HasSegments, attributes_in}
+use Rattle.bgp_attr.specs.AttributeReading.{attributes_in}
 use Rattle.bgp_attr.specs.AttributeTable.{class_flags_of, class_of, type_of}
-use Rattle.bgp_attr.specs.PathReading.{is_malformed_path, is_no_path, path_at, segment_at}
+use Rattle.bgp_attr.specs.PathReading.{is_malformed_path, is_no_path, path_at}
 use Rattle.bgp_attr.specs.declared.attribute_type.AttributeType.TheVariants.{AsPath}
 use Rattle.bgp_attr.specs.ReceivedAttributes.{Attribute, Split, attribute_at, split_of, value_of}
 use Rattle.bgp_attr.specs.declared.fault.UpdateFault.{UpdateFault}
 use Rattle.bgp_attr.specs.declared.peer.PeerKind.{PeerKind}
-use Rattle.bgp_attr.proofs.Paths.{behind, path_at-none, path_at-some}
 use Rattle.bgp_attr.proofs.Splits.{split_of-none, split_of-some}
 
 -- How the first fault is looked for.
@@ -130,25 +129,15 @@ path-among kind earlier (a ∷ more) rest h =
       | inr other ↦ subst P (sym (ne_eqb a.code 2 other)) (path-among kind (a.code ∷ earlier) more rest none.1)
     ]
 
-segments_behind : (kind : PeerKind) (s : PathSegment) (o : Option (List PathSegment)) → is_no_path kind (behind (s ∷ []) o) ≡ false → HasSegments (behind (s ∷ []) o)
-segments_behind kind s None h = absurd cc
-segments_behind kind s (Some path) h = tt
+some_path : (kind : PeerKind) (o : Option (List PathSegment)) → is_no_path kind o ≡ false → IsSome o
+some_path kind None right = absurd cc
+some_path kind (Some path) right = refl
 
-segments_at : (kind : PeerKind) (octets : List ℕ) (o : Option (PathSegment × List ℕ)) → segment_at octets ≡ o → 0 < length octets → is_no_path kind (path_at octets) ≡ false → HasSegments (path_at octets)
-segments_at kind octets None h some right =
-    let wrong : is_no_path kind (path_at octets) ≡ true = ap (is_no_path kind) (path_at-none octets some h) in
-    absurd cc
-segments_at kind octets (Some found) h some right =
-    let is : path_at octets ≡ behind (found.0 ∷ []) (path_at found.1) = path_at-some octets found.0 found.1 h in
-    let P : Option (List PathSegment) → Type 0 = HasSegments in
-    subst P (sym is) (segments_behind kind found.0 (path_at found.1) (sym (ap (is_no_path kind) is) ∙ right))
+path_in : (kind : PeerKind) (o : Option (List ℕ)) → IsPathOrNone kind o → IsSome o → IsSome (option_and_then path_at o)
+path_in kind None right some = absurd cc
+path_in kind (Some value) right some = some_path kind (path_at value) right
 
-segments_in : (kind : PeerKind) (o : Option (List ℕ)) → IsPathOrNone kind o → HasOctets o → HasSegments (option_and_then path_at o)
-segments_in kind None right some = some
-segments_in kind (Some []) right some = absurd some
-segments_in kind (Some (octet ∷ more)) right some = segments_at kind (octet ∷ more) (segment_at (octet ∷ more)) refl (omega arith) right
-
--- octets without fault that need memory have a path of at least one segment
-pub path_has_segments : (kind : PeerKind) (octets : List ℕ) → attributes_fault kind octets ≡ None → HasOctets (value_of 2 (split_of octets).0) → HasSegments (attributes_in octets).as_path
+-- octets without fault among which there is an AS_PATH have a path
+pub has_path : (kind : PeerKind) (octets : List ℕ) → attributes_fault kind octets ≡ None → IsSome (value_of 2 (split_of octets).0) → IsSome (attributes_in octets).as_path
 unfolding attributes_fault attributes_in
-path_has_segments kind octets h some = segments_in kind (value_of 2 (split_of octets).0) (path-among kind [] (split_of octets).0 (split_of octets).1 h) some
+has_path kind octets h some = path_in kind (value_of 2 (split_of octets).0) (path-among kind [] (split_of octets).0 (split_of octets).1 h) some

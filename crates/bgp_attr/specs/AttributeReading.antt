@@ -49,15 +49,3 @@ attributes_from attributes =
 -- the attributes that octets say
 unfoldable pub attributes_in : List ℕ → PathAttributes
 attributes_in octets = attributes_from (split_of octets).0
-
--- there is a path of at least one segment
-abbrev pub HasSegments : Option (List PathSegment) → Type 0
-HasSegments None = ⊥
-HasSegments (Some []) = ⊥
-HasSegments (Some (segment ∷ more)) = Unit {0}
-
--- there is a value, and it is not empty
-abbrev pub HasOctets : Option (List ℕ) → Type 0
-HasOctets None = ⊥
-HasOctets (Some []) = ⊥
-HasOctets (Some (octet ∷ more)) = Unit {0}

@@ -1,5 +1,5 @@
 //! Reading an AS_PATH (RFC 4271 section 4.3, RFC 6793).
-ghost use Rattle.std.specs.Prelude.{◌≡◌, List, ◌<◌, ◌≤◌, ◌^◌, length, is_some, IfOk, OnErr, IfSome};
+ghost use Rattle.std.specs.Prelude.{◌≡◌, List, ◌<◌, ◌≤◌, ◌^◌, length, is_some, IfOk, IfSome};
 ghost use Rattle.std.specs.Option.{option_map};
 ghost use Rattle.bgp_attr.specs.AttributeReading.{segment_of, path_items};
 ghost use Rattle.bgp_attr.specs.AsPath.{PathSegment};
@@ -68,16 +68,12 @@ fn is_sequence_from(segment: RawSegment<'_>, asn: Asn) -> bool
 
 // The path that these octets are.
 pub(crate) fn read_path<A: Allocator + Clone>(
-    alloc: A,
+    alloc: &A,
     octets: &[u8],
 ) -> Result<Option<AsPath<A>>, AllocError>
     requires { length octets.now < 2 ^ 16 }
-    ensures found { IfOk result (λ path. path ≡ path_at octets.now) }
-    ensures memory { OnErr result (0 < length octets.now) }
+    ensures { IfOk result (λ path. path ≡ path_at octets.now) }
 {
-    if octets.is_empty() {
-        return Ok(Some(AsPath::new(Vec::new(alloc))));
-    }
     match read_segments(alloc, octets)? {
         Some(segments) => Ok(Some(AsPath::new(segments))),
         None => Ok(None),
@@ -85,7 +81,7 @@ pub(crate) fn read_path<A: Allocator + Clone>(
 }
 
 fn read_segments<A: Allocator + Clone>(
-    alloc: A,
+    alloc: &A,
     octets: &[u8],
 ) -> Result<Option<Vec<Segment<A>, A>>, AllocError>
     ensures { IfOk result (λ segments. option_map path_items segments ≡ path_at octets.now) }

@@ -1,9 +1,9 @@
 //! Reading the attributes of an UPDATE (RFC 4271 sections 4.3 and 6.3).
-ghost use Rattle.std.specs.Prelude.{◌≡◌, IfOk, IfErr, OnErr, Some, None, false};
+ghost use Rattle.std.specs.Prelude.{◌≡◌, IfOk, IfErr, OnErr, IsSome, Some, None, false};
 ghost use Rattle.std.specs.Option.{option_and_then};
 ghost use Rattle.bgp_attr.specs.AttributeFaults.{Judges, attribute_tests, attributes_fault, first_fault, has_other_length, seen, type_tests, value_tests};
 ghost use Rattle.bgp_attr.specs.AttributeFaults as faults;
-ghost use Rattle.bgp_attr.specs.AttributeReading.{HasOctets, HasSegments, as_came, attributes_in, next_hop_in, origin_in};
+ghost use Rattle.bgp_attr.specs.AttributeReading.{as_came, attributes_in, next_hop_in, origin_in};
 ghost use Rattle.bgp_attr.specs.AttributeTable.{length_of};
 ghost use Rattle.bgp_attr.specs.PathReading.{path_at};
 ghost use Rattle.bgp_attr.specs.ReceivedAttributes.{split_of};
@@ -19,16 +19,17 @@ use crate::peer::PeerKind;
 use std::alloc::{AllocError, Allocator};
 
 /// The attributes that these octets are, from a peer of this kind; or the first fault, from left to right. Which
-/// attributes are missing is told by [`Attrs::missing`]. Memory is taken for a path of at least one segment alone.
+/// attributes are missing is told by [`Attrs::missing`]. Memory is taken for an AS_PATH alone, and the allocator is
+/// cloned for nothing else.
 pub fn read_attrs<'a, A: Allocator + Clone>(
-    alloc: A,
+    alloc: &A,
     octets: &'a [u8],
     kind: PeerKind,
 ) -> Result<Attrs<A>, UpdateFault<'a>>
     ensures faultless { IfOk result (λ attrs. attributes_fault kind octets.now ≡ None) }
     ensures found { IfOk result (λ attrs. attrs ≡ attributes_in octets.now) }
     ensures fault { IfErr result (λ fault. seen fault ≡ attributes_fault kind octets.now) }
-    ensures memory { IfErr result (λ fault. seen fault ≡ None → HasSegments (attributes_in octets.now).as_path) }
+    ensures memory { IfErr result (λ fault. seen fault ≡ None → IsSome (attributes_in octets.now).as_path) }
 {
     check_attributes(octets, kind)?;
     Ok(take_attributes(alloc, octets)?)
@@ -128,9 +129,9 @@ pub fn is_host(address: u32) -> bool
 
 // The attributes by their codes.
 #[tactic(auto, unfolding(crate::specs::AttributeReading::attributes_in))]
-fn take_attributes<A: Allocator + Clone>(alloc: A, octets: &[u8]) -> Result<Attrs<A>, AllocError>
+fn take_attributes<A: Allocator + Clone>(alloc: &A, octets: &[u8]) -> Result<Attrs<A>, AllocError>
     ensures found { IfOk result (λ attrs. attrs ≡ attributes_in octets.now) }
-    ensures memory { OnErr result (HasOctets (received.value_of 2 (split_of octets.now).0)) }
+    ensures memory { OnErr result (IsSome (received.value_of 2 (split_of octets.now).0)) }
 {
     let as_path = path_of(alloc, octets)?;
     Ok(Attrs::new(origin_of(octets), as_path, next_hop_of(octets)))
@@ -145,9 +146,9 @@ fn origin_of(octets: &[u8]) -> Option<Origin>
     }
 }
 
-fn path_of<A: Allocator + Clone>(alloc: A, octets: &[u8]) -> Result<Option<AsPath<A>>, AllocError>
+fn path_of<A: Allocator + Clone>(alloc: &A, octets: &[u8]) -> Result<Option<AsPath<A>>, AllocError>
     ensures found { IfOk result (λ path. path ≡ option_and_then path_at (received.value_of 2 (split_of octets.now).0)) }
-    ensures memory { OnErr result (HasOctets (received.value_of 2 (split_of octets.now).0)) }
+    ensures memory { OnErr result (IsSome (received.value_of 2 (split_of octets.now).0)) }
 {
     match value_of(octets, AttributeType::AsPath.octet()) {
         Some(value) => read_path(alloc, value),
