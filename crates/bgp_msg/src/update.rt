@@ -6,7 +6,7 @@ ghost use Rattle.bgp_msg.specs.MessageSpelling.{counted_at, update_parts, prefix
 ghost use Rattle.bgp_msg.specs.UpdateMeaning.{CanBeWritten, IsUpdate, UpdateBody, written_body, parts_fault, said_by, fault_before_memory, update_fault, update_in};
 ghost use Rattle.bgp_attr.specs.AttributeFaults.{attributes_fault, seen};
 ghost use Rattle.bgp_attr.specs.ReceivedAttributes.{AreOctets};
-ghost use Rattle.bgp_attr.specs.AttributeReading.{HasSegments, attributes_in};
+ghost use Rattle.bgp_attr.specs.AttributeReading.{attributes_in};
 ghost use Rattle.bgp_attr.specs.declared.peer.PeerKind.{PeerKind};
 ghost use Rattle.std.specs.Iterator.{YieldsFirst, item_count};
 
@@ -93,18 +93,18 @@ impl Iterator for Prefixes<'_> {
 }
 
 /// The UPDATE of this body, or its first fault (RFC 4271 section 6.3). Own choice: the order of the checks,
-/// which is the order of the lines. Memory is taken for a path of at least one segment alone; what is missing,
-/// and the announced prefixes, are looked at behind it.
+/// which is the order of the lines. Memory is taken for an AS_PATH alone, and the allocator is cloned for nothing else;
+/// what is missing, and the announced prefixes, are looked at behind it.
 #[tactic(auto, unfolding(crate::specs::UpdateMeaning::update_fault, crate::specs::UpdateMeaning::update_in))]
 pub fn read_update<'a, A: Allocator + Clone>(
-    alloc: A,
+    alloc: &A,
     body: &'a [u8],
     kind: PeerKind,
 ) -> Result<Update<'a, A>, UpdateFault<'a>>
     ensures faultless { IfOk result (λ update. update_fault kind body.now ≡ None) }
     ensures value { IfOk result (λ update. update ≡ update_in body.now) }
     ensures fault { IfErr result (λ fault. IsSome (seen fault) → seen fault ≡ update_fault kind body.now) }
-    ensures memory { IfErr result (λ fault. seen fault ≡ None → (fault_before_memory kind (update_parts body.now) ≡ None) × HasSegments (update_in body.now).attrs.as_path) }
+    ensures memory { IfErr result (λ fault. seen fault ≡ None → (fault_before_memory kind (update_parts body.now) ≡ None) × IsSome (update_in body.now).attrs.as_path) }
 {
     let Some((withdrawn, attributes, announced)) = split_body(body) else {
         return Err(UpdateFault::MalformedAttributeList);
@@ -114,7 +114,7 @@ pub fn read_update<'a, A: Allocator + Clone>(
 
 // The UPDATE of these parts, or its first fault.
 fn read_parts<'a, A: Allocator + Clone>(
-    alloc: A,
+    alloc: &A,
     withdrawn: &'a [u8],
     attributes: &'a [u8],
     announced: &'a [u8],
@@ -123,7 +123,7 @@ fn read_parts<'a, A: Allocator + Clone>(
     ensures faultless { IfOk result (λ update. parts_fault kind (withdrawn.now, attributes.now, announced.now) ≡ None) }
     ensures value { IfOk result (λ update. update ≡ said_by (withdrawn.now, attributes.now, announced.now)) }
     ensures fault { IfErr result (λ fault. IsSome (seen fault) → seen fault ≡ parts_fault kind (withdrawn.now, attributes.now, announced.now)) }
-    ensures memory { IfErr result (λ fault. seen fault ≡ None → (fault_before_memory kind (Some (withdrawn.now, attributes.now, announced.now)) ≡ None) × HasSegments (attributes_in attributes.now).as_path) }
+    ensures memory { IfErr result (λ fault. seen fault ≡ None → (fault_before_memory kind (Some (withdrawn.now, attributes.now, announced.now)) ≡ None) × IsSome (attributes_in attributes.now).as_path) }
 {
     if !are_prefixes(withdrawn) {
         return Err(UpdateFault::InvalidNetworkField);
