@@ -17,7 +17,7 @@ const ATTRIBUTES: [u8; 20] = [
 
 /// The attributes, to be shared by routes.
 pub fn shared<A: Allocator + Clone>(rt: &impl Abort, alloc: A) -> Result<Rc<Attrs<A>, A>, Fail> {
-    let Ok(attrs) = read_attrs(alloc.clone()?, &ATTRIBUTES, PeerKind::External(Asn(65001))) else {
+    let Ok(attrs) = read_attrs(&alloc, &ATTRIBUTES, PeerKind::External(Asn(65001))) else {
         panic!(rt; "the attributes are good");
     };
     Ok(Rc::new(alloc, attrs)?)

@@ -67,7 +67,7 @@ const FAULTS: [(&str, &[u8], Option<u8>); 20] = [
 
 #[test]
 fn what_came_is_written_again(rt: HostRuntime) -> Result<(), Fail> {
-    let attrs = read_attrs(rt.alloc(), &RECEIVED, PEER)?;
+    let attrs = read_attrs(&rt.alloc(), &RECEIVED, PEER)?;
     assert!(rt; is_whole(&attrs));
     assert!(rt; is_written_as(&attrs.as_received(), &RECEIVED));
     Ok(())
@@ -87,21 +87,21 @@ fn is_written_as(attrs: &AttrsToWrite<'_>, octets: &[u8]) -> bool {
 
 #[test]
 fn several_spellings_are_read_alike(rt: HostRuntime) -> Result<(), Fail> {
-    let attrs = read_attrs(rt.alloc(), &SPELLED_OTHERWISE, PEER)?;
+    let attrs = read_attrs(&rt.alloc(), &SPELLED_OTHERWISE, PEER)?;
     assert!(rt; is_written_as(&attrs.as_received(), &RECEIVED));
     Ok(())
 }
 
 #[test]
 fn a_missing_next_hop_is_told(rt: HostRuntime) -> Result<(), Fail> {
-    let attrs = read_attrs(rt.alloc(), &RECEIVED[..13], PEER)?;
+    let attrs = read_attrs(&rt.alloc(), &RECEIVED[..13], PEER)?;
     assert_eq!(rt; attrs.missing(), Some(AttributeType::NextHop));
     Ok(())
 }
 
 #[test]
 fn a_path_is_told_by_its_segments(rt: HostRuntime) -> Result<(), Fail> {
-    let attrs = read_attrs(rt.alloc(), &WITH_A_SET, PEER)?;
+    let attrs = read_attrs(&rt.alloc(), &WITH_A_SET, PEER)?;
     assert_eq!(rt; attrs.missing(), Some(AttributeType::Origin));
     assert!(rt; attrs.as_path().is_some_and(is_the_path_with_a_set));
     Ok(())
@@ -124,7 +124,7 @@ fn is_the_path_with_a_set(path: &AsPath) -> bool {
 
 #[test]
 fn an_as_joins_the_first_sequence(rt: HostRuntime) -> Result<(), Fail> {
-    let attrs = read_attrs(rt.alloc(), &RECEIVED, PEER)?;
+    let attrs = read_attrs(&rt.alloc(), &RECEIVED, PEER)?;
     let mut out = ArrayVec::new();
     assert!(rt; write_prepended(&attrs, &mut out) && out.as_slice() == PREPENDED.as_slice());
     Ok(())
@@ -136,7 +136,7 @@ fn an_as_begins_a_segment_before_a_full_one(rt: HostRuntime) -> Result<(), Fail>
     for _ in 0..255 {
         octets.extend_from_slice(&[0, 0, 0xFD, 0xE9])?;
     }
-    let attrs = read_attrs(rt.alloc(), octets.as_slice(), PEER)?;
+    let attrs = read_attrs(&rt.alloc(), octets.as_slice(), PEER)?;
     let mut out = ArrayVec::new();
     assert!(rt; write_prepended(&attrs, &mut out));
     assert!(rt; out.as_slice().starts_with(&BEHIND_A_FULL_SEGMENT));
@@ -145,7 +145,7 @@ fn an_as_begins_a_segment_before_a_full_one(rt: HostRuntime) -> Result<(), Fail>
 
 // The subcode of the first fault of these attributes, which have one.
 fn subcode_of(alloc: Global, octets: &[u8]) -> Result<Option<u8>, Fail> {
-    match read_attrs(alloc, octets, PEER) {
+    match read_attrs(&alloc, octets, PEER) {
         Ok(_) => Err(Fail::new("no fault")),
         Err(fault) => Ok(fault.subcode()),
     }
@@ -162,7 +162,7 @@ fn the_first_fault_is_told(rt: HostRuntime) -> Result<(), Fail> {
 #[test]
 fn a_fault_tells_the_whole_attribute(rt: HostRuntime) -> Result<(), Fail> {
     let octets = [0x40, 3, 4, 0xC0, 0, 2, 0x0B, 0x40, 1, 1, 3];
-    let Err(fault) = read_attrs(rt.alloc(), &octets, PEER) else {
+    let Err(fault) = read_attrs(&rt.alloc(), &octets, PEER) else {
         return Err(Fail::new("origin 3"));
     };
     assert!(rt; is_told(&fault, &[0x40, 1, 1, 3]));
@@ -177,10 +177,10 @@ fn is_told(fault: &UpdateFault<'_>, data: &[u8]) -> bool {
 
 #[test]
 fn an_internal_path_begins_with_any_as(rt: HostRuntime) -> Result<(), Fail> {
-    let empty = read_attrs(rt.alloc(), &[0x40, 2, 0], PeerKind::Internal)?;
+    let empty = read_attrs(&rt.alloc(), &[0x40, 2, 0], PeerKind::Internal)?;
     assert_eq!(rt; length_of_path(&empty), Some(0));
     let other = [0x40, 2, 6, 2, 1, 0, 0, 0, 1];
-    let attrs = read_attrs(rt.alloc(), &other, PeerKind::Internal)?;
+    let attrs = read_attrs(&rt.alloc(), &other, PeerKind::Internal)?;
     assert_eq!(rt; length_of_path(&attrs), Some(1));
     Ok(())
 }

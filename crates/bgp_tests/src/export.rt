@@ -44,7 +44,7 @@ fn is_sent(attrs: &Attrs, peer: &ExportPeer) -> bool {
 
 #[test]
 fn sends_on_with_own_as_and_address(rt: HostRuntime) {
-    match read_attrs(rt.alloc(), &RECEIVED, PeerKind::External(Asn(65001))) {
+    match read_attrs(&rt.alloc(), &RECEIVED, PeerKind::External(Asn(65001))) {
         Ok(attrs) => {
             assert!(rt; is_sent(&attrs, &PEER));
             assert!(rt; !is_sent(&attrs, &ExportPeer { slot: 0, ..PEER }));

@@ -24,3 +24,5 @@ mod selection;
 mod session_table;
 #[cfg(test)]
 mod waiting_prefixes;
+#[cfg(test)]
+mod want_of_memory;

@@ -217,7 +217,7 @@ fn are(mut found: Prefixes<'_>, wanted: &[(u32, u8)]) -> bool {
 fn updates_name_their_prefixes(rt: HostRuntime) -> Result<(), Fail> {
     let kind = PeerKind::External(Asn(65001));
     let body = body_with(&[0x18, 10, 0, 0, 0x17, 10, 0, 1]);
-    let update = read_update(rt.alloc(), body.as_slice(), kind)
+    let update = read_update(&rt.alloc(), body.as_slice(), kind)
         .ok()
         .ok_or("an UPDATE")?;
     assert!(rt; are(update.withdrawn(), &[(0x0A000100, 24)]));
@@ -228,7 +228,7 @@ fn updates_name_their_prefixes(rt: HostRuntime) -> Result<(), Fail> {
 #[test]
 fn updates_have_attributes(rt: HostRuntime) -> Result<(), Fail> {
     let body = body_with(&[0x18, 10, 0, 0]);
-    let update = read_update(rt.alloc(), body.as_slice(), PeerKind::External(Asn(65001)))
+    let update = read_update(&rt.alloc(), body.as_slice(), PeerKind::External(Asn(65001)))
         .ok()
         .ok_or("an UPDATE")?;
     assert!(rt; update.attrs().next_hop() == Some(0xC000020B));
@@ -238,7 +238,7 @@ fn updates_have_attributes(rt: HostRuntime) -> Result<(), Fail> {
 
 #[test]
 fn an_update_may_say_nothing(rt: HostRuntime) -> Result<(), Fail> {
-    let nothing = read_update(rt.alloc(), &[0, 0, 0, 0], PeerKind::Internal)
+    let nothing = read_update(&rt.alloc(), &[0, 0, 0, 0], PeerKind::Internal)
         .ok()
         .ok_or("an UPDATE")?;
     assert!(rt; are(nothing.announced(), &[]));
@@ -251,7 +251,7 @@ const WITHOUT_NEXT_HOP: [u8; 21] = [
 ];
 
 fn is_faulty_update(alloc: Global, body: &[u8], fault: UpdateFault<'_>) -> bool {
-    read_update(alloc, body, PeerKind::External(Asn(65001))).err() == Some(fault)
+    read_update(&alloc, body, PeerKind::External(Asn(65001))).err() == Some(fault)
 }
 
 #[test]
