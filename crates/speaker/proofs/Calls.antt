@@ -7,7 +7,7 @@ use Rattle.bgp_attr.specs.PathAttributes.{PathAttributes, missing_of}
 use Rattle.bgp_conf.specs.Configuration.{Configuration, peer_at}
 use Rattle.bgp_conf.specs.declared.conf.ConfiguredPeer.{ConfiguredPeer}
 use Rattle.bgp_peer.specs.SessionInputs as happens
-use Rattle.bgp_peer.specs.SessionInputs.{Queued, session, terms_of}
+use Rattle.bgp_peer.specs.SessionInputs.{session, terms_of}
 use Rattle.decision.specs.declared.candidate.Candidate.{Candidate}
 use Rattle.decision.proofs.Laws.{selected_member}
 use Rattle.export_rules.specs.Export.{AreAccepted, IsSender, export_at, exported_of, fitting}
@@ -20,8 +20,8 @@ use Rattle.speaker.specs.Candidates.{IsCandidate}
 use Rattle.speaker.specs.Export.{IsAccepted, IsExport, export_in, export_to, export_peer_of}
 use Rattle.speaker.specs.Linked.{Linked}
 use Rattle.speaker.specs.LocRib.{AreBest, IsBest, HasNoCandidate}
-use Rattle.speaker.specs.Queueing.{Queue}
-use Rattle.speaker.specs.Runs.{Call, Run, turn, configuration_of, history}
+use Rattle.speaker.specs.Queueing.{Queue, Service}
+use Rattle.speaker.specs.Runs.{Call, Run, turn, configuration_of, history, served_by}
 use Rattle.speaker.specs.SpeakerState.{SpeakerState}
 use Rattle.speaker.specs.Tables.{Tables, best_at}
 use Rattle.speaker.specs.declared.config.Config.{Config}
@@ -125,11 +125,11 @@ pub on_accepted : (b : Bool) (loc_rib : List (Prefix × Candidate)) (adj_in : Ro
 on_accepted true loc_rib adj_in peer p octets c attrs best route good = λ sender complete. good sender (complete c attrs best route)
 on_accepted false loc_rib adj_in peer p octets c attrs best route good = tt
 
--- the slot of an UPDATE
-pub at_slot : (config : Config) (t : ℕ) (call : Call) (update : List ℕ) (queue : Queue) (r : Run)
-    → history config t (turn call ((t, update) ∷ queue) ∷ r) ≡ Queued update ∷ history config t (turn call queue ∷ r)
-at_slot config t call update queue r = rw (eq-eqb t t refl) refl
+-- the slot for which something is done
+pub at_slot : (config : Config) (t : ℕ) (call : Call) (service : Service) (queue : Queue) (r : Run)
+    → history config t (turn call ((t, service) ∷ queue) ∷ r) ≡ served_by service ∷ history config t (turn call queue ∷ r)
+at_slot config t call service queue r = rw (eq-eqb t t refl) refl
 
-pub off_slot : (config : Config) (t slot : ℕ) (call : Call) (update : List ℕ) (queue : Queue) (r : Run) → t ≢ slot
-    → history config t (turn call ((slot, update) ∷ queue) ∷ r) ≡ history config t (turn call queue ∷ r)
-off_slot config t slot call update queue r other = rw (ne_eqb t slot other) refl
+pub off_slot : (config : Config) (t slot : ℕ) (call : Call) (service : Service) (queue : Queue) (r : Run) → t ≢ slot
+    → history config t (turn call ((slot, service) ∷ queue) ∷ r) ≡ history config t (turn call queue ∷ r)
+off_slot config t slot call service queue r other = rw (ne_eqb t slot other) refl

@@ -38,7 +38,7 @@ use Rattle.speaker.specs.FirstRefusal.{refused_at, awaits_up}
 use Rattle.speaker.specs.Linked.{Linked}
 use Rattle.speaker.specs.Offers.{AreMadeAgain, IsSound, Offers}
 use Rattle.speaker.specs.Moves.{Moves, IsPut, moved}
-use Rattle.speaker.specs.Runs.{Call, Run, turn, Up_call, Fail_call, Bytes_call, Tick_call, Command_call, Take_call, conf_called, configuration_of, history, moment_after, terms_in}
+use Rattle.speaker.specs.Runs.{Call, Run, turn, Up_call, Fail_call, Bytes_call, Starved_call, Tick_call, Command_call, Take_call, conf_called, configuration_of, history, moment_after, terms_in}
 use Rattle.speaker.specs.SpeakerState.{SpeakerState}
 use Rattle.speaker.specs.Tables.{link_at, tables}
 use Rattle.speaker.specs.declared.config.Config.{Config}
@@ -65,11 +65,11 @@ pub peer_of : (config : Config) (r : Run) (slot : ℕ) (l : Linked) (s : Speaker
 peer_of config r slot l s h linked =
     configured_from config (peer_at s.conf slot) (link_at s.links slot) l (route_at s.adj_in slot) (history config slot r) linked (h.slots slot)
 
-left_here : (slot : ℕ) (left : Bool) (r : Option PathAttributes) → cond (left && slot == slot) None r ≡ cond left None r
+pub left_here : (slot : ℕ) (left : Bool) (r : Option PathAttributes) → cond (left && slot == slot) None r ≡ cond left None r
 left_here slot true r = rw (eq-eqb slot slot refl) refl
 left_here slot false r = refl
 
-left_there : (slot t : ℕ) (left : Bool) (r : Option PathAttributes) → t ≢ slot → cond (left && t == slot) None r ≡ r
+pub left_there : (slot t : ℕ) (left : Bool) (r : Option PathAttributes) → t ≢ slot → cond (left && t == slot) None r ≡ r
 left_there slot t true r other = rw (ne_eqb t slot other) refl
 left_there slot t false r other = refl
 
@@ -78,23 +78,23 @@ not_yet s true is shut = absurd (shut (established_stands s is))
 not_yet s false is shut = refl
 
 -- an input that is no message moves a slot; a connection comes up only where none stands
-pub holds_signalled : (config : Config) (call : Call) (r : Run) (slot : ℕ) (l : Linked) (input : Input) (old new : SpeakerState)
-    → Holds config r old → link_at old.links slot ≡ Some l → is_message input ≡ false → (input ≡ Up → transport_of l.peer.session ≢ Connected) → Moves slot l input old new
-    → configuration_of config (turn call [] ∷ r) ≡ configuration_of config r → moment_after (turn call [] ∷ r) ≡ moment_after r
-    → ((t : ℕ) → history config t (turn call [] ∷ r) ≡ cond (t == slot) (Signalled input ∷ history config t r) (history config t r))
-    → Holds config (turn call [] ∷ r) new
-holds_signalled config call r slot l input old new h linked is shut moves conf moment histories =
-    let peer = peer_of config r slot l old h linked in
-    let here = slot_is config r slot peer.0 l old h peer.1 linked in
-    let at : history config slot (turn call [] ∷ r) ≡ Signalled input ∷ history config slot r = histories slot ∙ rw (eq-eqb slot slot refl) refl in
-    let other : input ≡ Up → is_established (session (history config slot r)).state ≡ false =
-    λ up. not_yet (session (history config slot r)) _ refl (λ k. shut up (ap transport_of here.link.peer.session ∙ k)) in
+pub holds_signalled : (config : Config) (r1 r2 : Run) (slot : ℕ) (l : Linked) (input : Input) (old new : SpeakerState)
+    → Holds config r1 old → link_at old.links slot ≡ Some l → is_message input ≡ false → (input ≡ Up → transport_of l.peer.session ≢ Connected) → Moves slot l input old new
+    → configuration_of config r2 ≡ configuration_of config r1 → moment_after r2 ≡ moment_after r1
+    → ((t : ℕ) → history config t r2 ≡ cond (t == slot) (Signalled input ∷ history config t r1) (history config t r1))
+    → Holds config r2 new
+holds_signalled config r1 r2 slot l input old new h linked is shut moves conf moment histories =
+    let peer = peer_of config r1 slot l old h linked in
+    let here = slot_is config r1 slot peer.0 l old h peer.1 linked in
+    let at : history config slot r2 ≡ Signalled input ∷ history config slot r1 = histories slot ∙ rw (eq-eqb slot slot refl) refl in
+    let other : input ≡ Up → is_established (session (history config slot r1)).state ≡ false =
+    λ up. not_yet (session (history config slot r1)) _ refl (λ k. shut up (ap transport_of here.link.peer.session ∙ k)) in
     let H : List happens.Event → Type 0 = λ x. SlotIs config peer.0 (moved l input) (route_at new.adj_in slot) x in
-    holds_put config r (turn call [] ∷ r) slot (moved l input) old new h conf moment (moves_keep slot l input old new linked moves) moves.rest moves.links
+    holds_put config r1 r2 slot (moved l input) old new h conf moment (moves_keep slot l input old new linked moves) moves.rest moves.links
     (λ t away p. moves.routes t p ∙ left_there slot t (effects_of input l.peer.session).left (route_at old.adj_in t p) away)
     (λ t away. histories t ∙ rw (ne_eqb t slot away) refl)
     peer.0 peer.1
-    (subst H (sym at) (slot_signalled config peer.0 l (route_at old.adj_in slot) (route_at new.adj_in slot) (history config slot r) input is other here
+    (subst H (sym at) (slot_signalled config peer.0 l (route_at old.adj_in slot) (route_at new.adj_in slot) (history config slot r1) input is other here
     (λ p. moves.routes slot p ∙ left_here slot (effects_of input l.peer.session).left (route_at old.adj_in slot p))))
 
 -- where a connection may come up, none stands
@@ -111,13 +111,13 @@ pub holds_enable : (config : Config) (r : Run) (slot : ℕ) (old new : SpeakerSt
 holds_enable config r slot old new h may moves =
     let peer = some_from_not (nat_le 64 slot) (peer_at old.conf slot) Refusal.BadSlot may in
     let found = slot_of config r slot peer.0 old h peer.1 in
-    holds_signalled config (Command_call (Enable slot)) r slot found.0 Start old new h found.1 refl (λ e. cc) (moves found.0 found.1) refl refl (λ t. refl)
+    holds_signalled config r (turn (Command_call (Enable slot)) [] ∷ r) slot found.0 Start old new h found.1 refl (λ e. cc) (moves found.0 found.1) refl refl (λ t. refl)
 
 -- an entry of `reach`
 pub holds_reach : (config : Config) (r : Run) (prefix : Prefix) (cost : ℕ) (old new : SpeakerState) → Holds config r old → new.conf ≡ conf_after old.conf (Reach prefix cost)
-    → ((s : ℕ) → peer_at new.conf s ≡ peer_after old.conf (Reach prefix cost) s) → new.config ≡ old.config → new.moment ≡ old.moment → new.links ≡ old.links → new.adj_in ≡ old.adj_in → new.stopped ≡ old.stopped
+    → ((s : ℕ) → peer_at new.conf s ≡ peer_after old.conf (Reach prefix cost) s) → new.config ≡ old.config → new.moment ≡ old.moment → new.links ≡ old.links → new.adj_in ≡ old.adj_in
     → AreMadeAgain (tables new.conf old.links old.adj_in) (offer_at old.book) (offer_at new.book) → Holds config (turn (Command_call (Reach prefix cost)) [] ∷ r) new
-holds_reach config r prefix cost old new h conf peers config_same moment links adj_in stopped again = record {
+holds_reach config r prefix cost old new h conf peers config_same moment links adj_in again = record {
   config_is = config_same ∙ h.config_is;
   moment = moment ∙ h.moment;
   conf = conf ∙ ap (λ c. conf_after c (Reach prefix cost)) h.conf;
@@ -125,7 +125,6 @@ holds_reach config r prefix cost old new h conf peers config_same moment links a
   slots = λ t. let P : Option ConfiguredPeer → Type 0 = λ x. SlotAgrees config x (link_at old.links t) (route_at old.adj_in t) (history config t r) in
       rw (links, adj_in) (subst P (sym (peers t)) (h.slots t));
   kept = kept_again old new links adj_in again h.kept;
-  running = stopped ∙ h.running;
 }
 
 -- with a new peer each is one that was accepted
@@ -147,6 +146,7 @@ own_called : (call : Call) (conf : Configuration) → (conf_called call conf).ow
 own_called (Up_call slot) conf = refl
 own_called (Fail_call slot) conf = refl
 own_called (Bytes_call slot octets) conf = refl
+own_called (Starved_call slot before octet behind) conf = refl
 own_called (Tick_call now) conf = refl
 own_called (Command_call command) conf = own_after conf command
 own_called (Take_call slot octets) conf = refl
@@ -173,8 +173,8 @@ is_taken config r slot peer s h may = record {
 pub holds_added : (config : Config) (r : Run) (slot : ℕ) (peer : PeerConf) (old new : SpeakerState) → Holds config r old → first_refusal old.conf 0 (AddPeer slot peer) ≡ None
     → new.conf ≡ conf_after old.conf (AddPeer slot peer) → ((s : ℕ) → peer_at new.conf s ≡ peer_after old.conf (AddPeer slot peer) s)
     → IsPut slot (record { peer = configured (terms_in config (configured_of peer)).own peer.mode; adj_out = [] }) old new
-    → new.config ≡ old.config → new.moment ≡ old.moment → new.adj_in ≡ old.adj_in → new.book ≡ old.book → new.stopped ≡ old.stopped → Holds config (turn (Command_call (AddPeer slot peer)) [] ∷ r) new
-holds_added config r slot peer old new h may conf peers put config_same moment adj_in book stopped =
+    → new.config ≡ old.config → new.moment ≡ old.moment → new.adj_in ≡ old.adj_in → new.book ≡ old.book → Holds config (turn (Command_call (AddPeer slot peer)) [] ∷ r) new
+holds_added config r slot peer old new h may conf peers put config_same moment adj_in book =
     let free : peer_at old.conf slot ≡ None = peer_at-from_accepted old.conf 0 slot peer may in
     let before = h.slots slot in
     let vacant : is_established (session (history config slot r)).state ≡ false = before.vacant (sym before.configured ∙ ap (option_map (terms_in config)) free) in
@@ -203,7 +203,6 @@ holds_added config r slot peer old new h may conf peers put config_same moment a
           (λ p. before.routes_are p ∙ no_route (history config slot r) p vacant)
           (ap (λ (c : Configuration). c.own) conf) (ap (λ (c : Configuration). c.reach) conf) (λ t other. peers t ∙ rw (ne_eqb t slot other) refl)
           adj_in (ap (λ b. offer_at b) book) h.kept;
-      running = stopped ∙ h.running;
     }
 
 -- its slot had no candidates, since no peer was there

@@ -1,36 +1,41 @@
-use Rattle.std.proofs.Common.{◌≡◌, ◌≢◌, ◌≤◌, ◌<◌, ◌==◌, ◌&&◌, inl, inr, ℕ, Bool, true, false, List, [], ◌∷◌, ◌++◌, Option, Some, None, length, take, min, cond, refl, sym, ap, ◌∙◌, subst, arith, append-nil, append_assoc}
+use Rattle.std.proofs.Common.{◌≡◌, ◌≢◌, ◌≤◌, ◌<◌, ◌==◌, ◌&&◌, ◌^◌, inl, inr, ℕ, Bool, true, false, List, [], ◌∷◌, ◌++◌, Option, Some, None, length, take, min, cond, refl, sym, ap, ◌∙◌, subst, arith, append-nil, append_assoc}
 use Rattle.std.proofs.lemmas.Bool.{cases_eq, eq-eqb, ne_eqb, eqb-true, lt-ltb, le-ltb}
 use Rattle.std.proofs.lemmas.List.{length-take, nil_from_length}
 use Rattle.bgp_attr.specs.PathAttributes.{PathAttributes}
 use Rattle.bgp_conf.specs.Configuration.{peer_at}
 use Rattle.bgp_conf.specs.declared.conf.ConfiguredPeer.{ConfiguredPeer}
+use Rattle.bgp_fsm.proofs.TableLaws.{no_memory_closes}
 use Rattle.bgp_fsm.specs.SessionTable.{effects_of}
+use Rattle.bgp_fsm.specs.declared.input.Input.TheVariants.{NoMemory}
+use Rattle.bgp_fsm.specs.declared.session.Session.{Session}
 use Rattle.bgp_fsm.specs.Transports.{transport_of}
-use Rattle.bgp_msg.specs.MessageStream.{Item, Wants, meaning, needed_of}
+use Rattle.bgp_msg.specs.MessageStream.{Item, Wants, WholeMessage, meaning, needed_of}
+use Rattle.bgp_msg.specs.declared.frame.MessageType.TheVariants.{Update}
+use Rattle.bgp_peer.specs.Agreement.{holding}
 use Rattle.bgp_peer.specs.SessionInputs as happens
-use Rattle.bgp_peer.specs.SessionInputs.{Handed, Ticked, onto, session, input_of, stream}
+use Rattle.bgp_peer.specs.SessionInputs.{Handed, Octet, Signalled, Ticked, onto, session, input_of, stream}
 use Rattle.bgp_peer.specs.Slot.{Slot, pushed}
-use Rattle.bgp_peer.proofs.Agreeing.{agrees-tick, onto-append}
+use Rattle.bgp_peer.proofs.Agreeing.{agrees-tick, item_of_rest, onto-append}
 use Rattle.bgp_peer.proofs.Receiving.{HasHeard, wants-agreed}
 use Rattle.net_prefix.specs.declared.prefix.Prefix.{Prefix}
 use Rattle.net_prefix.specs.declared.transport.Transport.{Transport}
 use Rattle.net_prefix.specs.declared.transport.Transport.TheVariants.{None as NoConnection, Opening, Listening, Open as Connected, Closing}
 use Rattle.rib_in.specs.LatestRoutes.{route_at}
 use Rattle.speaker.specs.AdjRibIn.{update_heard, word_if}
-use Rattle.speaker.specs.Agreement.{Hears, SlotAgrees, Holds}
+use Rattle.speaker.specs.Agreement.{Hears, HearsUntil, IsFair, MayStarve, SlotAgrees, Holds}
 use Rattle.speaker.proofs.SlotStates.{SlotIs, slot_agrees, slot_from, linked_from}
 use Rattle.speaker.specs.Linked.{Linked}
-use Rattle.speaker.specs.Moves.{KeepsKept, KeepsRest, IsPut, Pushes, TakesItem, moved, taken_on, taken_of}
-use Rattle.speaker.specs.Runs.{Run, turn, Bytes_call, Tick_call, configuration_of, history, moment_after, terms_in}
+use Rattle.speaker.specs.Moves.{KeepsKept, KeepsRest, IsPut, Moves, Pushes, TakesItem, TakesMemoryAt, moved, taken_on, taken_of}
+use Rattle.speaker.specs.Runs.{Call, Run, turn, asked, starved_by, Bytes_call, Starved_call, Tick_call, configuration_of, history, moment_after, terms_in}
 use Rattle.speaker.specs.SpeakerState.{SpeakerState}
 use Rattle.speaker.specs.Tables.{link_at}
 use Rattle.speaker.specs.declared.config.Config.{Config}
 use Rattle.speaker.proofs.Calls.{slots_changed}
 use Rattle.speaker.proofs.Histories.{route_stays}
-use Rattle.speaker.proofs.KeptOffers.{pushes_keep}
+use Rattle.speaker.proofs.KeptOffers.{moves_keep, pushes_keep}
 use Rattle.speaker.proofs.Messages.{rest_kept}
 use Rattle.speaker.proofs.SlotEvents.{with_peer}
-use Rattle.speaker.proofs.SlotOctets.{slot_pushed, slot_taken, slot_shut, WithRest}
+use Rattle.speaker.proofs.SlotOctets.{slot_pushed, slot_signalled, slot_taken, slot_shut, WithRest}
 
 -- What each event makes of the speaker, as the run with it has it.
 
@@ -51,7 +56,6 @@ holds_put config r1 r2 slot l old new h conf moment kept keeps put routes histor
       routes histories
       (rw (keeps.conf, put slot, eq-eqb slot slot refl, configured) (slot_agrees config peer l (route_at new.adj_in slot) (history config slot r2) here));
   kept = kept h.kept;
-  running = keeps.stopped ∙ h.running;
 }
   where
     off : (t : ℕ) → t ≢ slot → cond (t == slot) (Some l) (link_at old.links t) ≡ link_at old.links t
@@ -165,6 +169,73 @@ holds_shut config r done slot peer l octets old new h configured linked shut pus
     (λ t other. bytes_off config slot (done ++ octets) r t other ∙ sym (bytes_off config slot done r t other))
     peer configured (same_routes config peer (with_peer l (pushed l.peer [])) (route_at old.adj_in slot) (route_at new.adj_in slot) (history config slot (turn (Bytes_call slot (done ++ octets)) [] ∷ r)) same (λ p. ap (λ table. route_at table slot p) pushes.routes))
 
+pub put_here : (slot : ℕ) (l : Linked) (old new : SpeakerState) → IsPut slot l old new → link_at new.links slot ≡ Some l
+put_here slot l old new put = rw (put slot, eq-eqb slot slot refl) refl
+
+-- of some octets the last, and those before it
+last_of : (octet : ℕ) (octets : List ℕ) → (front : List ℕ) × (last : ℕ) × (octet ∷ octets ≡ front ++ last ∷ [])
+last_of octet [] = ([], octet, refl)
+last_of octet (next ∷ octets) = let rest = last_of next octets in (octet ∷ rest.0, rest.1, ap (λ xs. octet ∷ xs) rest.2)
+
+front_of : (octets : List ℕ) → 0 < length octets → (front : List ℕ) × (last : ℕ) × (octets ≡ front ++ last ∷ [])
+front_of [] some = absurd (omega (arith, some))
+front_of (octet ∷ octets) some = last_of octet octets
+
+same_history : (a b : ℕ) (h k : List happens.Event) → List.◌∷◌ (Octet a) h ≡ Octet b ∷ k → (a ≡ b) × (h ≡ k)
+same_history a b h k is = (cc, cc)
+
+-- the slot whose UPDATE memory is refused to, with the octets behind it
+slot_starved : (config : Config) (peer : ConfiguredPeer) (l : Linked) (old new : Prefix → Option PathAttributes) (h : List happens.Event) (part behind : List ℕ)
+    → SlotIs config peer (with_peer l (holding part l.peer)) old h
+    → ((p : Prefix) → new p ≡ cond (effects_of NoMemory l.peer.session).left None (old p)) → SlotIs config peer (moved l NoMemory) new (onto behind (Signalled NoMemory ∷ h))
+slot_starved config peer l old new h part behind here change =
+    slot_shut config peer (moved l NoMemory) new (Signalled NoMemory ∷ h) behind (no_memory_closes l.peer.session)
+    (slot_signalled config peer (with_peer l (holding part l.peer)) old new h NoMemory refl (λ e. cc) here change)
+
+-- octets come to an open connection, and memory is refused to the UPDATE that the last of them completes
+pub starves_heard : (config : Config) (r : Run) (done : List ℕ) (slot : ℕ) (peer : ConfiguredPeer) (l : Linked) (octets behind : List ℕ) (old mid new : SpeakerState)
+    → Holds config (turn (Bytes_call slot done) [] ∷ r) old → peer_at old.conf slot ≡ Some peer → link_at old.links slot ≡ Some l → transport_of l.peer.session ≡ Connected
+    → 0 < length octets → length octets ≤ needed_of l.peer.rest → Pushes slot l octets old mid → TakesMemoryAt (with_peer l (pushed l.peer octets)) → Moves slot (with_peer l (pushed l.peer octets)) NoMemory mid new
+    → (before : List ℕ) × (octet : ℕ) × (after : List ℕ) × (done ++ (octets ++ behind) ≡ before ++ octet ∷ after)
+    × MayStarve (onto before (history config slot r)) octet × Holds config (turn (Starved_call slot before octet after) [] ∷ r) new
+starves_heard config r done slot peer l octets behind old mid new h configured linked connected some few pushes takes moves =
+    let was : Run = turn (Bytes_call slot done) [] ∷ r in
+    let first : SlotIs config peer l (route_at old.adj_in slot) (history config slot was) = slot_is config was slot peer l old h configured linked in
+    let heard = (slot_pushed config peer l (route_at old.adj_in slot) (history config slot was) octets connected few first).1 (WholeMessage Update takes.body) takes.is in
+    let cut = front_of octets some in
+    let split : onto octets (history config slot was) ≡ Octet cut.1 ∷ onto (done ++ cut.0) (history config slot r) =
+    ap (λ xs. onto xs (history config slot was)) cut.2 ∙ onto-append cut.0 (cut.1 ∷ []) (history config slot was)
+    ∙ ap (λ x. Octet cut.1 ∷ onto cut.0 x) (bytes_at config slot done r) ∙ ap (λ x. Octet cut.1 ∷ x) (sym (onto-append done cut.0 (history config slot r))) in
+    let same = same_history cut.1 heard.octet (onto (done ++ cut.0) (history config slot r)) heard.before (sym split ∙ heard.history_is) in
+    let at : history config slot (turn (Starved_call slot (done ++ cut.0) cut.1 behind) [] ∷ r) ≡ onto behind (Signalled NoMemory ∷ onto (done ++ cut.0) (history config slot r)) = rw (eq-eqb slot slot refl) refl in
+    let change : (p : Prefix) → route_at new.adj_in slot p ≡ cond (effects_of NoMemory l.peer.session).left None (route_at old.adj_in slot p) =
+    λ p. moves.routes slot p ∙ rw (eq-eqb slot slot refl) (left_on (effects_of NoMemory l.peer.session).left (route_at mid.adj_in slot p))
+        ∙ ap (λ table. cond (effects_of NoMemory l.peer.session).left None (route_at table slot p)) pushes.routes in
+    let after : SlotIs config peer (moved (with_peer l (pushed l.peer octets)) NoMemory) (route_at new.adj_in slot) (onto behind (Signalled NoMemory ∷ heard.before)) =
+    slot_starved config peer (with_peer l (pushed l.peer octets)) (route_at old.adj_in slot) (route_at new.adj_in slot) heard.before heard.part behind heard.holds change in
+    let H : List happens.Event → Type 0 = λ x. SlotIs config peer (moved (with_peer l (pushed l.peer octets)) NoMemory) (route_at new.adj_in slot) x in
+    let M : List happens.Event → ℕ → Type 0 = λ x octet. MayStarve x octet in
+    let may : MayStarve heard.before heard.octet = record {
+      body = takes.body;
+      established = ap (λ (x : Session). x.state) (sym heard.holds.link.peer.session) ∙ takes.established;
+      completes = item_of_rest heard.before (holding heard.part l.peer) heard.octet (Some (WholeMessage Update takes.body)) connected heard.whole heard.holds.link.peer;
+      needs = takes.needs;
+    } in (
+      done ++ cut.0,
+      cut.1,
+      behind,
+      ap (λ xs. done ++ (xs ++ behind)) cut.2 ∙ ap (λ xs. done ++ xs) (append_assoc cut.0 (cut.1 ∷ []) behind) ∙ sym (append_assoc done cut.0 (cut.1 ∷ behind)),
+      subst (λ octet. M (onto (done ++ cut.0) (history config slot r)) octet) (sym same.0) (subst (λ x. M x heard.octet) (sym same.1) may),
+      holds_put config was (turn (Starved_call slot (done ++ cut.0) cut.1 behind) [] ∷ r) slot (moved (with_peer l (pushed l.peer octets)) NoMemory) old new h refl refl
+          (λ before. moves_keep slot (with_peer l (pushed l.peer octets)) NoMemory mid new (put_here slot (with_peer l (pushed l.peer octets)) old mid pushes.links) moves (pushes_keep slot l octets old mid linked pushes before))
+          (rest_kept old mid new pushes.rest moves.rest)
+          (λ s. moves.links s ∙ ap (λ other. cond (s == slot) (Some (moved (with_peer l (pushed l.peer octets)) NoMemory)) other) (pushes.links s)
+              ∙ cond_again (s == slot) (Some (moved (with_peer l (pushed l.peer octets)) NoMemory)) (Some (with_peer l (pushed l.peer octets))) (link_at old.links s))
+          (λ t other p. moves.routes t p ∙ rw (ne_eqb t slot other) (left_off (effects_of NoMemory l.peer.session).left (route_at mid.adj_in t p)) ∙ ap (λ table. route_at table t p) pushes.routes)
+          (λ t other. rw (ne_eqb t slot other) refl)
+          peer configured (subst H (sym at) (subst (λ x. H (onto behind (Signalled NoMemory ∷ x))) (sym same.1) after)),
+    )
+
 -- a connection that takes nothing isn't open
 pub taken_shut : (config : Config) (r : Run) (slot : ℕ) (peer : ConfiguredPeer) (l : Linked) (octets : List ℕ) (s : SpeakerState)
     → Holds config r s → peer_at s.conf slot ≡ Some peer → link_at s.links slot ≡ Some l → taken_of l.peer octets ≡ 0 → 0 < length octets → transport_of l.peer.session ≢ Connected
@@ -180,9 +251,6 @@ taken_open l octets count is some = taken_connected (transport_of l.peer.session
 pub taken_wanted : (l : Linked) (octets : List ℕ) (count : ℕ) → count ≡ taken_of l.peer octets → length (take count octets) ≤ needed_of l.peer.rest
 taken_wanted l octets count is = few_octets l.peer octets count is
 
-pub put_here : (slot : ℕ) (l : Linked) (old new : SpeakerState) → IsPut slot l old new → link_at new.links slot ≡ Some l
-put_here slot l old new put = rw (put slot, eq-eqb slot slot refl) refl
-
 -- no octets are nothing that happens
 bytes_none : (config : Config) (slot : ℕ) (r : Run) (t : ℕ) (b : Bool) → (t == slot) ≡ b → cond b (history config t r) (history config t r) ≡ history config t r
 bytes_none config slot r t true is = refl
@@ -196,7 +264,6 @@ holds_nothing config r slot s h = record {
   peers = h.peers;
   slots = λ t. let P : List happens.Event → Type 0 = λ x. SlotAgrees config (peer_at s.conf t) (link_at s.links t) (route_at s.adj_in t) x in subst P (sym (bytes_none config slot r t _ refl)) (h.slots t);
   kept = h.kept;
-  running = h.running;
 }
 
 -- a moment, which comes to each slot
@@ -218,8 +285,10 @@ holds_ticked config r now s h = record {
   peers = h.peers;
   slots = λ t. slot_ticked config (peer_at s.conf t) (link_at s.links t) (route_at s.adj_in t) (history config t r) now (h.slots t);
   kept = h.kept;
-  running = h.running;
 }
+
+pub some_taken : (count : ℕ) (octets : List ℕ) → count ≤ length octets → count ≢ 0 → 0 < length (take count octets)
+some_taken count octets within some = omega (arith, length-take count octets, within, some)
 
 -- octets one after another
 pub Hears-more : (slot : ℕ) (a b : List ℕ) (old mid new : SpeakerState) → Hears slot a old mid → Hears slot b mid new → Hears slot (a ++ b) old new
@@ -253,6 +322,14 @@ HasCome-more slot octets rest taken next first now new h split more = record {
 pub HasCome-end : (slot : ℕ) (octets rest : List ℕ) (first now new : SpeakerState) → HasCome slot octets rest first now → Hears slot rest now new → Hears slot octets first new
 HasCome-end slot octets rest first now new h last = subst (λ x. Hears slot x first new) h.whole (Hears-more slot h.done rest first now new h.heard last)
 
+-- memory is refused behind octets that have come
+pub HasCome-until : (slot : ℕ) (octets rest : List ℕ) (first now new : SpeakerState) → HasCome slot octets rest first now → HearsUntil slot rest now new → HearsUntil slot octets first new
+HasCome-until slot octets rest first now new h until config r done peer configured holds =
+    let mid = h.heard config r done peer configured holds in
+    let still : peer_at now.conf slot ≡ Some peer = ap (λ c. peer_at c slot) (mid.conf ∙ sym holds.conf) ∙ configured in
+    let last = until config r (done ++ h.done) peer still mid in
+    (last.0, last.1, last.2, ap (λ x. done ++ x) (sym h.whole) ∙ sym (append_assoc done h.done rest) ∙ last.3, last.4, last.5)
+
 pub Hears-none : (slot : ℕ) (rest : List ℕ) (s : SpeakerState) → rest ≡ [] → Hears slot rest s s
 Hears-none slot rest s none config r done peer configured holds =
     subst (λ x. Holds config (turn (Bytes_call slot x) [] ∷ r) s) (sym (append-nil done) ∙ ap (λ x. done ++ x) (sym none)) holds
@@ -265,3 +342,24 @@ some_left n is = elim (cases_eq n 0) [
 
 pub none_left : (octets : List ℕ) → true ≡ (length octets == 0) → octets ≡ []
 none_left octets is = nil_from_length octets (eqb-true (length octets) 0 (sym is))
+
+-- a call that has taken its event, up to its end
+pub record IsReady (config : Config) (r : Run) (wanted : Call) (starved : ℕ) (s : SpeakerState) : Type 0 where
+  pub call : Call
+  pub asked_is : asked call ≡ wanted
+  pub starved_is : starved_by call ≡ starved
+  pub fair : IsFair config r call
+  pub holds : Holds config (turn call [] ∷ r) s
+
+-- octets to one of which memory was refused
+pub ready_starved : (config : Config) (r : Run) (slot starved : ℕ) (octets : List ℕ) (peer : ConfiguredPeer) (old new : SpeakerState) → starved ≡ 2 ^ slot → HearsUntil slot octets old new
+    → peer_at old.conf slot ≡ Some peer → Holds config r old → IsReady config r (Bytes_call slot octets) starved new
+ready_starved config r slot starved octets peer old new is until configured holds =
+    let found = until config r [] peer configured (holds_nothing config r slot old holds) in
+    record {
+      call = Starved_call slot found.0 found.1 found.2;
+      asked_is = ap (λ x. Bytes_call slot x) (sym found.3);
+      starved_is = sym is;
+      fair = found.4;
+      holds = found.5;
+    }

@@ -4,17 +4,19 @@ use Rattle.bgp_attr.specs.PathAttributes.{PathAttributes}
 use Rattle.bgp_conf.specs.Configuration.{Configuration}
 use Rattle.bgp_fsm.specs.StateTests.{is_established}
 use Rattle.bgp_fsm.specs.declared.state.State.TheVariants.{Established}
+use Rattle.bgp_msg.specs.UpdateMeaning.{UpdateBody}
 use Rattle.decision.specs.BookContents.{AreApart, offer_at}
 use Rattle.decision.specs.declared.candidate.Candidate.{Candidate}
 use Rattle.net_prefix.specs.declared.prefix.Prefix.{Prefix}
 use Rattle.rib_in.specs.LatestRoutes.{is_route, route_at}
-use Rattle.speaker.specs.AdjRibIn.{is_among}
+use Rattle.speaker.specs.AdjRibIn.{is_among, word_of}
 use Rattle.speaker.specs.Candidates.{IsMade}
+use Rattle.speaker.specs.Moves.{KeepsOthers}
 use Rattle.speaker.specs.Offers.{IsSound, KeepsHeard, Offers}
 use Rattle.speaker.specs.RoutingState.{RoutingState}
 use Rattle.speaker.specs.declared.receiving.Sender.{Sender}
 use Rattle.speaker.proofs.KeptOffers.{kept_come, kept_gone}
-use Rattle.speaker.proofs.RouteChanges.{IsSet, is_route-parts}
+use Rattle.speaker.proofs.RouteChanges.{IsSet, is_route-parts, set_others}
 use Rattle.speaker.proofs.SoundOffers.{apart_with, made_own, sound_gone, sound_some}
 
 -- The candidates that an UPDATE leaves.
@@ -77,3 +79,26 @@ on_kept (Ok done) conf sender attrs found withdrawn announced old mid new made r
     kept_come conf sender.slot sender.identifier attrs found mid.adj_in new.adj_in (offer_at mid.book) (offer_at new.book) (λ s p. s == sender.slot && is_among p announced)
     (λ s p come. eqb-true s sender.slot (both_true (s == sender.slot) _ come)) made routes offers session (ap is_established established) same sessions there
     (kept_gone conf sessions old.adj_in mid.adj_in (offer_at old.book) (offer_at mid.book) (λ s p. s == sender.slot && is_among p withdrawn) routes_gone offers_gone kept)
+
+-- one that announces nothing, too
+pub kept_withdrawn : (conf : Configuration) (sender : Sender) (withdrawn : List Prefix) (old mid : RoutingState)
+    → IsSet sender.slot withdrawn None (route_at old.adj_in) (route_at mid.adj_in) → IsSet sender.slot withdrawn None (offer_at old.book) (offer_at mid.book) → KeepsHeard conf sender Established old mid
+kept_withdrawn conf sender withdrawn old mid routes_gone offers_gone session established same sessions there kept =
+    kept_gone conf sessions old.adj_in mid.adj_in (offer_at old.book) (offer_at mid.book) (λ s p. s == sender.slot && is_among p withdrawn) routes_gone offers_gone kept
+
+-- the last word on each prefix
+word_set : (b a w : Bool) (attrs : PathAttributes) (before : Option PathAttributes) → cond (b && a) (Some attrs) (cond (b && w) None before) ≡ cond b (cond a (Some attrs) (cond w None before)) before
+word_set true true w attrs before = refl
+word_set true false w attrs before = refl
+word_set false a w attrs before = refl
+
+pub on_words : {T F : Type 0} (result : Result T F) (slot : ℕ) (update : UpdateBody) (old mid new : ℕ → Prefix → Option PathAttributes) → IsSet slot update.withdrawn None old mid
+    → OnOk result (IsSet slot update.announced (Some update.attrs) mid new) → OnOk result ((s : ℕ) (p : Prefix) → new s p ≡ cond (s == slot) (word_of update p (old s p)) (old s p))
+on_words (Err why) slot update old mid new gone come = tt
+on_words (Ok done) slot update old mid new gone come =
+    λ s p. come s p ∙ ap (λ r. cond (s == slot && is_among p update.announced) (Some update.attrs) r) (gone s p) ∙ word_set (s == slot) (is_among p update.announced) (is_among p update.withdrawn) update.attrs (old s p)
+
+-- withdrawals are of one slot
+pub others_withdrawn : (slot : ℕ) (withdrawn : List Prefix) (old mid : RoutingState) → IsSet slot withdrawn None (route_at old.adj_in) (route_at mid.adj_in)
+    → IsSet slot withdrawn None (offer_at old.book) (offer_at mid.book) → KeepsOthers slot old mid
+others_withdrawn slot withdrawn old mid routes offers = record { routes = set_others slot withdrawn None _ _ routes; offers = set_others slot withdrawn None _ _ offers }

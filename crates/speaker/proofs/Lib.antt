@@ -1,5 +1,6 @@
 pub mod CandidateLists
 pub mod Results
+pub mod Standing
 pub mod Places
 pub mod Serving
 pub mod RouteChanges

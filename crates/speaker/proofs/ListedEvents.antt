@@ -7,9 +7,8 @@ use Rattle.rib_in.specs.LatestRoutes.{route_at}
 use Rattle.speaker.specs.Agreement.{Agrees}
 use Rattle.speaker.specs.FirstRefusal.{refusal_by, refusal_in, refusal_of, Grows, LacksMemory}
 use Rattle.speaker.specs.Linked.{Linked}
-use Rattle.speaker.specs.Played.{Follows, GoesOn, HasRun, HasStopped, IsPlayed}
-use Rattle.speaker.specs.Queueing.{Queue}
-use Rattle.speaker.specs.Runs.{Run, turn, call_of, configuration_of, report_of}
+use Rattle.speaker.specs.Played.{Follows, GoesOn, IsPlayed}
+use Rattle.speaker.specs.Runs.{Run, Turn, asked, call_of, configuration_of, report_of}
 use Rattle.speaker.specs.SpeakerState.{SpeakerState, IsAsBefore, started, tables_of}
 use Rattle.speaker.specs.declared.config.Config.{Config}
 use Rattle.speaker.specs.declared.event.Event.{Event}
@@ -40,7 +39,6 @@ agrees_new config own = record {
       routed = λ slot prefix there. absurd (cc);
       below = λ slot session there. absurd (cc);
     };
-    running = refl;
   };
   loc_rib = record { rising = nothing_rises; best = λ prefix c is. let none = is.made.configured in absurd (cc) };
   settled = λ s peer configured. absurd (cc);
@@ -66,7 +64,6 @@ agrees_same config r old new same a = record {
     peers = rw same.conf a.holds.peers;
     slots = λ t. rw (same.conf, same.links t, same.adj_in) (a.holds.slots t);
     kept = kept_same (tables_of old) (tables_of new) (offer_at old.book) (offer_at new.book) tables (ap (λ b. offer_at b) same.book) a.holds.kept;
-    running = same.stopped ∙ a.holds.running;
   };
   loc_rib = rw same.loc_rib a.loc_rib;
   settled = a.settled;
@@ -81,74 +78,30 @@ agrees_same config r old new same a = record {
     }
 
 pub played_none : (config : Config) (s : SpeakerState) → Agrees config [] s → IsPlayed config [] [] s
-played_none config s agrees = inl (record { r = []; follows = refl; agrees = agrees })
+played_none config s agrees = record { r = []; follows = refl; agrees = agrees }
 
 -- what an accepted event leads to
 abbrev Accepts : Event → Report → SpeakerState → SpeakerState → Type 0
 Accepts event report s new =
-    (config : Config) (r : Run) → Agrees config r s → (queue : Queue) × (report ≡ report_of (turn (call_of event) queue)) × Agrees config (turn (call_of event) queue ∷ r) new
+    (config : Config) (r : Run) → Agrees config r s → (now : Turn) × (asked now.call ≡ call_of event) × (report ≡ report_of now) × Agrees config (now ∷ r) new
 
 -- an accepted event
-played_ok : (config : Config) (events : List Event) (answers : List (Result Report Refusal)) (event : Event) (report : Report) (s new : SpeakerState) → (h : HasRun config events answers s)
-    → refusal_in config h.r event ≡ None → Accepts event report s new → HasRun config (events ++ event ∷ []) (answers ++ Ok report ∷ []) new
+played_ok : (config : Config) (events : List Event) (answers : List (Result Report Refusal)) (event : Event) (report : Report) (s new : SpeakerState) → (h : IsPlayed config events answers s)
+    → refusal_in config h.r event ≡ None → Accepts event report s new → IsPlayed config (events ++ event ∷ []) (answers ++ Ok report ∷ []) new
 played_ok config events answers event report s new h unrefused agrees =
     let more = agrees config h.r h.agrees in
     record {
-      r = turn (call_of event) more.0 ∷ h.r;
-      follows = follows_more config [] events answers h.r _ event (Ok report) h.follows (unrefused, (more.0, refl, more.1));
-      agrees = more.2;
+      r = more.0 ∷ h.r;
+      follows = follows_more config [] events answers h.r _ event (Ok report) h.follows (unrefused, (more.0, more.1, refl, more.2));
+      agrees = more.3;
     }
 
 -- a refused event stands as nothing
-played_err : (config : Config) (events : List Event) (answers : List (Result Report Refusal)) (event : Event) (why : Refusal) (s new : SpeakerState) → (h : HasRun config events answers s)
+played_err : (config : Config) (events : List Event) (answers : List (Result Report Refusal)) (event : Event) (why : Refusal) (s new : SpeakerState) → (h : IsPlayed config events answers s)
     → MatchOption (refusal_in config h.r event) ((why ≡ NoMemory) × Grows (configuration_of config h.r) event) (λ first. why ≡ first)
-    → ((r : Run) → Agrees config r s → Agrees config r new) → HasRun config (events ++ event ∷ []) (answers ++ Err why ∷ []) new
+    → ((r : Run) → Agrees config r s → Agrees config r new) → IsPlayed config (events ++ event ∷ []) (answers ++ Err why ∷ []) new
 played_err config events answers event why s new h first agrees =
     record { r = h.r; follows = follows_more config [] events answers h.r h.r event (Err why) h.follows (refl, first); agrees = agrees h.r h.agrees }
-
-replicate_more : {X : Type 0} (n : ℕ) (x : X) → replicate n x ++ x ∷ [] ≡ replicate (suc n) x
-replicate_more zero x = refl
-replicate_more (suc n) x = ap (λ xs. x ∷ xs) (replicate_more n x)
-
-longer : (event : Event) (behind : List Event) (next : Event) → length (event ∷ (behind ++ next ∷ [])) ≡ suc (length (event ∷ behind))
-longer event behind next = omega (arith, length-append behind (next ∷ []))
-
--- a stopped speaker answers 44
-played_stopped : (config : Config) (events : List Event) (answers : List (Result Report Refusal)) (next : Event) (s new : SpeakerState) → HasStopped config events answers s → new ≡ s
-    → HasStopped config (events ++ next ∷ []) (answers ++ Err NoMemory ∷ []) new
-played_stopped config events answers next s new h same = record {
-  before = h.before;
-  event = h.event;
-  behind = h.behind ++ next ∷ [];
-  answered = h.answered;
-  r = h.r;
-  last = h.last;
-  events_are = ap (λ xs. xs ++ next ∷ []) h.events_are ∙ append_assoc h.before (h.event ∷ h.behind) (next ∷ []);
-  answers_are = ap (λ xs. xs ++ Err NoMemory ∷ []) h.answers_are ∙ append_assoc h.answered (replicate (length (h.event ∷ h.behind)) (Err NoMemory)) (Err NoMemory ∷ [])
-      ∙ ap (λ xs. h.answered ++ xs) (replicate_more (length (h.event ∷ h.behind)) (Err NoMemory) ∙ ap (λ n. replicate n (Err NoMemory)) (sym (longer h.event h.behind next)));
-  follows = h.follows;
-  agrees = h.agrees;
-  unrefused = h.unrefused;
-  stopped = rw same h.stopped;
-}
-
--- want of memory stops the speaker
-played_stops : (config : Config) (events : List Event) (answers : List (Result Report Refusal)) (event : Event) (s new : SpeakerState) → (h : HasRun config events answers s)
-    → refusal_in config h.r event ≡ None → new.stopped ≡ true → HasStopped config (events ++ event ∷ []) (answers ++ Err NoMemory ∷ []) new
-played_stops config events answers event s new h unrefused stopped = record {
-  before = events;
-  event = event;
-  behind = [];
-  answered = answers;
-  r = h.r;
-  last = s;
-  events_are = refl;
-  answers_are = refl;
-  follows = h.follows;
-  agrees = h.agrees;
-  unrefused = unrefused;
-  stopped = stopped;
-}
 
 abbrev err_of : Refusal → Result Report Refusal
 err_of why = Err why
@@ -161,32 +114,21 @@ unrefused : (first : Option Refusal) (event : Event) (report : Report) (s new : 
 unrefused None event report s new m = refl
 unrefused (Some why) event report s new m = absurd (let is = m.0 in cc)
 
--- an answer that want of memory is
-lacking_more : (config : Config) (events : List Event) (answers : List (Result Report Refusal)) (event : Event) (why : Refusal) (s new : SpeakerState) → (h : HasRun config events answers s)
-    → refusal_in config h.r event ≡ None → why ≡ NoMemory → LacksMemory event s new → IsPlayed config (events ++ event ∷ []) (answers ++ Err why ∷ []) new
-lacking_more config events answers event why s new h none is (inl same) =
-    let M : Option Refusal → Type 0 = λ first. MatchOption first ((why ≡ NoMemory) × Grows (configuration_of config h.r) event) (λ x. why ≡ x) in
-    inl (played_err config events answers event why s new h (subst M (sym none) (is, subst (λ conf. Grows conf event) h.agrees.holds.conf same.0)) (λ r a. agrees_same config r s new same.1 a))
-lacking_more config events answers event why s new h none is (inr stopped) = rw is (inr (played_stops config events answers event s new h none stopped))
-
-refused_more : (config : Config) (events : List Event) (answers : List (Result Report Refusal)) (event : Event) (why : Refusal) (s new : SpeakerState) (first : Option Refusal) → (h : HasRun config events answers s)
+refused_more : (config : Config) (events : List Event) (answers : List (Result Report Refusal)) (event : Event) (why : Refusal) (s new : SpeakerState) (first : Option Refusal) → (h : IsPlayed config events answers s)
     → refusal_in config h.r event ≡ first → Refuses first event (Err why) s new → IsPlayed config (events ++ event ∷ []) (answers ++ Err why ∷ []) new
 refused_more config events answers event why s new (Some w) h is m =
     let same : why ≡ w = let answer : err_of why ≡ err_of w = m.0 in cc in
     let M : Option Refusal → Type 0 = λ first. MatchOption first ((why ≡ NoMemory) × Grows (configuration_of config h.r) event) (λ x. why ≡ x) in
-    inl (played_err config events answers event why s new h (subst M (sym is) same) (λ r a. rw m.1 a))
-refused_more config events answers event why s new None h is m = lacking_more config events answers event why s new h is m.0 m.1
+    played_err config events answers event why s new h (subst M (sym is) same) (λ r a. rw m.1 a)
+refused_more config events answers event why s new None h is m =
+    let M : Option Refusal → Type 0 = λ first. MatchOption first ((why ≡ NoMemory) × Grows (configuration_of config h.r) event) (λ x. why ≡ x) in
+    played_err config events answers event why s new h (subst M (sym is) (m.0, subst (λ conf. Grows conf event) h.agrees.holds.conf m.1.0)) (λ r a. agrees_same config r s new m.1.1 a)
 
 -- one more event
 pub played_more : (config : Config) (events : List Event) (answers : List (Result Report Refusal)) (event : Event) (answer : Result Report Refusal) (s new : SpeakerState)
     → IsPlayed config events answers s → IfOk answer (λ report. Accepts event report s new) → Refuses (refusal_of s event) event answer s new
     → IsPlayed config (events ++ event ∷ []) (answers ++ answer ∷ []) new
-played_more config events answers event (Ok report) s new (inl h) agrees refused =
-    inl (played_ok config events answers event report s new h (sym (refusal_same config h.r s event h.agrees) ∙ unrefused (refusal_of s event) event report s new refused) agrees)
-played_more config events answers event (Err why) s new (inl h) agrees refused =
+played_more config events answers event (Ok report) s new h agrees refused =
+    played_ok config events answers event report s new h (sym (refusal_same config h.r s event h.agrees) ∙ unrefused (refusal_of s event) event report s new refused) agrees
+played_more config events answers event (Err why) s new h agrees refused =
     refused_more config events answers event why s new (refusal_of s event) h (sym (refusal_same config h.r s event h.agrees)) refused
-played_more config events answers event answer s new (inr h) agrees refused =
-    let P : Option Refusal → Type 0 = λ first. Refuses first event answer s new in
-    let is : Refuses (Some NoMemory) event answer s new = subst P (ap (λ b. cond b (Some NoMemory) (refusal_by s.moment (tables_of s) event)) h.stopped) refused in
-    let W : Result Report Refusal → Type 0 = λ x. IsPlayed config (events ++ event ∷ []) (answers ++ x ∷ []) new in
-    subst W (sym is.0) (inr (played_stopped config events answers event s new h is.1))

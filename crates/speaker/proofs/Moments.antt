@@ -2,9 +2,10 @@ use Rattle.std.proofs.Common.{◌≡◌, ◌==◌, ℕ, Bool, true, false, List,
 use Rattle.bgp_conf.specs.declared.command.Command.{Command}
 use Rattle.bgp_conf.specs.declared.command.Command.TheVariants.{AddPeer, Enable, Reach}
 use Rattle.bgp_peer.specs.SessionInputs as happens
-use Rattle.bgp_peer.specs.SessionInputs.{Octet, Queued, moment_of, onto}
-use Rattle.speaker.specs.Queueing.{Queue}
-use Rattle.speaker.specs.Runs.{Call, Run, Up_call, Fail_call, Bytes_call, Tick_call, Command_call, Take_call, called, commanded, history, moment_after, moment_called, queued_on}
+use Rattle.bgp_fsm.specs.declared.input.Input.TheVariants.{NoMemory}
+use Rattle.bgp_peer.specs.SessionInputs.{Octet, Signalled, moment_of, onto}
+use Rattle.speaker.specs.Queueing.{Queue, Service, Tells, Starves}
+use Rattle.speaker.specs.Runs.{Call, Run, Up_call, Fail_call, Bytes_call, Starved_call, Tick_call, Command_call, Take_call, called, commanded, history, moment_after, moment_called, queued_on, served_by}
 use Rattle.speaker.specs.declared.config.Config.{Config}
 
 -- All slots are at the moment of the run.
@@ -18,10 +19,14 @@ onto_stays : (octets : List ℕ) (h : List happens.Event) → moment_of (onto oc
 onto_stays [] h = refl
 onto_stays (octet ∷ octets) h = onto_stays octets (Octet octet ∷ h)
 
+served_stays : (service : Service) (h : List happens.Event) → moment_of (served_by service ∷ h) ≡ moment_of h
+served_stays (Tells update) h = refl
+served_stays Starves h = refl
+
 queued_stays : (slot : ℕ) (queue : Queue) (h : List happens.Event) → moment_of (queued_on slot queue h) ≡ moment_of h
 queued_stays slot [] h = refl
 queued_stays slot (now ∷ queue) h =
-    either (slot == now.0) (Queued now.1 ∷ queued_on slot queue h) (queued_on slot queue h) (moment_of h) (queued_stays slot queue h) (queued_stays slot queue h)
+    either (slot == now.0) (served_by now.1 ∷ queued_on slot queue h) (queued_on slot queue h) (moment_of h) (served_stays now.1 (queued_on slot queue h) ∙ queued_stays slot queue h) (queued_stays slot queue h)
 
 commanded_stays : (config : Config) (s : ℕ) (command : Command) (h : List happens.Event) → moment_of (commanded config s command h) ≡ moment_of h
 commanded_stays config s (AddPeer slot peer) h = either (s == slot) _ h (moment_of h) refl refl
@@ -32,6 +37,8 @@ called_moves : (config : Config) (s : ℕ) (call : Call) (h : List happens.Event
 called_moves config s (Up_call slot) h = either (s == slot) _ h (moment_of h) refl refl
 called_moves config s (Fail_call slot) h = either (s == slot) _ h (moment_of h) refl refl
 called_moves config s (Bytes_call slot octets) h = either (s == slot) (onto octets h) h (moment_of h) (onto_stays octets h) refl
+called_moves config s (Starved_call slot before octet behind) h =
+    either (s == slot) (onto behind (Signalled NoMemory ∷ onto before h)) h (moment_of h) (onto_stays behind (Signalled NoMemory ∷ onto before h) ∙ onto_stays before h) refl
 called_moves config s (Tick_call now) h = refl
 called_moves config s (Command_call command) h = commanded_stays config s command h
 called_moves config s (Take_call slot octets) h = either (s == slot) _ h (moment_of h) refl refl

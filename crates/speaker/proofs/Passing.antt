@@ -1,4 +1,4 @@
-use Rattle.std.proofs.Common.{◌≡◌, ◌≢◌, ◌≤◌, ◌<◌, ◌+◌, ◌==◌, ◌^◌, ℕ, Bool, true, false, List, [], ◌∷◌, Option, Some, None, Result, Ok, Err, OnOk, length, cond, MatchOption, refl, sym, ap, ◌∙◌, subst}
+use Rattle.std.proofs.Common.{◌≡◌, ◌≢◌, ◌≤◌, ◌<◌, ◌+◌, ◌==◌, ◌^◌, ℕ, Bool, true, false, List, [], ◌∷◌, Option, Some, None, length, cond, MatchOption, refl, sym, ap, ◌∙◌, subst}
 use Rattle.std.specs.List.Sorted.{IsStrictlySortedBy}
 use Rattle.std.specs.Map.{keys_of}
 use Rattle.std.specs.Option.{option_map}
@@ -7,6 +7,7 @@ use Rattle.bgp_attr.specs.PathAttributes.{PathAttributes, missing_of}
 use Rattle.bgp_attr.specs.declared.attrs.Origin.{Origin}
 use Rattle.bgp_conf.specs.Configuration.{Configuration, peer_at}
 use Rattle.bgp_conf.specs.declared.conf.ConfiguredPeer.{ConfiguredPeer}
+use Rattle.bgp_fsm.specs.declared.input.Input.TheVariants.{NoMemory}
 use Rattle.bgp_fsm.specs.declared.session.Session.{Session}
 use Rattle.bgp_fsm.specs.declared.state.State.TheVariants.{Established}
 use Rattle.bgp_peer.specs.SentMessages.{ring_of}
@@ -21,21 +22,22 @@ use Rattle.net_prefix.specs.declared.prefix.Prefix.{Prefix}
 use Rattle.rib_in.specs.LatestRoutes.{route_at}
 use Rattle.rib_out.specs.Held.{held_at}
 use Rattle.speaker.specs.AdjRibIn.{route}
-use Rattle.speaker.specs.Agreement.{SlotAgrees, tables_after, IsNews, IsOwedIn, IsThrifty, Holds, Passes, QueuesOn, Agrees}
+use Rattle.speaker.specs.Agreement.{SlotAgrees, tables_after, IsFair, IsNews, IsOwedIn, IsShortIn, IsThrifty, Holds, Passes, QueuesAll, QueuesOn, QueuesStarved, Agrees}
 use Rattle.speaker.specs.Export.{IsAccepted, IsExport, export_to, export_peer_of}
 use Rattle.speaker.specs.Held.{held, told_in}
 use Rattle.speaker.specs.Linked.{Linked}
 use Rattle.speaker.specs.LocRib.{HasNoCandidate, IsBest, IsLocRib}
 use Rattle.speaker.specs.Candidates.{IsCandidate}
 use Rattle.speaker.specs.Offers.{AreKept}
-use Rattle.speaker.specs.Queueing.{Queue, IsServed, update_saying, rank_of}
+use Rattle.speaker.specs.Moves.{Moves}
+use Rattle.speaker.specs.Queueing.{Queue, Starves, Tells, IsServed, starved_in, update_saying, rank_of}
 use Rattle.speaker.specs.Runs.{Call, Run, turn, configuration_of, history}
-use Rattle.speaker.specs.Serving.{HasRoom, IsServedAt, IsStill, IsToldAt}
+use Rattle.speaker.specs.Serving.{HasRoom, IsServedAt, IsShortAt, IsStill, IsToldAt}
 use Rattle.speaker.specs.SpeakerState.{SpeakerState, tables_of}
 use Rattle.speaker.specs.Tables.{Tables, best_at, link_at}
 use Rattle.speaker.specs.declared.config.Config.{Config}
 use Rattle.speaker.proofs.Calls.{best_candidate, tables_same, export_is, export_peer_found, export_short, at_slot, off_slot}
-use Rattle.speaker.proofs.Commands.{own_is, peer_of}
+use Rattle.speaker.proofs.Commands.{holds_signalled, own_is, peer_of}
 use Rattle.speaker.proofs.Events.{holds_put, slot_is}
 use Rattle.speaker.proofs.Histories.{route_stays}
 use Rattle.speaker.proofs.KeptOffers.{kept_loc_rib, kept_still_links, kept_told}
@@ -65,7 +67,7 @@ same_route true u h p = route_stays h p
 same_route false u h p = refl
 
 -- so it leaves what the selection reads
-tables_queued : (config : Config) (call : Call) (r : Run) (queue : Queue) (slot : ℕ) (u : List ℕ) → tables_after config (turn call ((slot, u) ∷ queue) ∷ r) ≡ tables_after config (turn call queue ∷ r)
+tables_queued : (config : Config) (call : Call) (r : Run) (queue : Queue) (slot : ℕ) (u : List ℕ) → tables_after config (turn call ((slot, Tells u) ∷ queue) ∷ r) ≡ tables_after config (turn call queue ∷ r)
 tables_queued config call r queue slot u = λ i. record {
   conf = configuration_of config (turn call queue ∷ r);
   sessions = λ s. option_map (λ peer. same_session (s == slot) u (history config s (turn call queue ∷ r)) i) (peer_at (configuration_of config (turn call queue ∷ r)) s);
@@ -132,7 +134,7 @@ pub queues_told : (slot : ℕ) (p : Prefix) (export : Option (List ℕ)) (now ne
     → HasRoom told.before → export_to now slot p ≡ export → Accepts now slot p export → held_at told.before.adj_out p ≢ export → QueuesOn now new
 queues_told slot p export now new told up room exported accepts news config call r queue passes =
     let was : Run = turn call queue ∷ r in
-    let is : Run = turn call ((slot, update_saying p export) ∷ queue) ∷ r in
+    let is : Run = turn call ((slot, Tells (update_saying p export)) ∷ queue) ∷ r in
     let peer = peer_of config (turn call queue ∷ r) slot told.before now passes.holds told.was in
     let before = slot_is config (turn call queue ∷ r) slot peer.0 told.before now passes.holds peer.1 told.was in
     let short : (a : List ℕ) → export ≡ Some a → length a ≤ 4068 = λ a some. export_short now slot p a (exported ∙ some) in
@@ -141,17 +143,18 @@ queues_told slot p export now new told up room exported accepts news config call
     let book : new.book ≡ now.book = ap (λ (s : SpeakerState). s.book) told.rest in
     let loc_rib : new.loc_rib ≡ now.loc_rib = ap (λ (s : SpeakerState). s.loc_rib) told.rest in
     let T : Tables → Type 0 = λ t. IsLocRib t new.loc_rib in (
-      (slot, update_saying p export) ∷ queue,
+      (slot, Tells (update_saying p export)) ∷ queue,
       record {
         holds =
-            holds_put config (turn call queue ∷ r) (turn call ((slot, update_saying p export) ∷ queue) ∷ r) slot told.after now new passes.holds refl refl
+            holds_put config (turn call queue ∷ r) (turn call ((slot, Tells (update_saying p export)) ∷ queue) ∷ r) slot told.after now new passes.holds refl refl
             (λ kept. subst (λ b. AreKept (tables_of new) (offer_at b)) (sym book) (kept_told slot p export now new (offer_at now.book) told kept))
-            (record { config = ap (λ (s : SpeakerState). s.config) told.rest; moment = ap (λ (s : SpeakerState). s.moment) told.rest; conf = ap (λ (s : SpeakerState). s.conf) told.rest; stopped = ap (λ (s : SpeakerState). s.stopped) told.rest })
-            told.puts (λ t other q. ap (λ table. route_at table t q) routes) (λ t other. off_slot config t slot call (update_saying p export) queue r other)
-            peer.0 peer.1 (rw (routes, at_slot config slot call (update_saying p export) queue r) after);
+            (record { config = ap (λ (s : SpeakerState). s.config) told.rest; moment = ap (λ (s : SpeakerState). s.moment) told.rest; conf = ap (λ (s : SpeakerState). s.conf) told.rest })
+            told.puts (λ t other q. ap (λ table. route_at table t q) routes) (λ t other. off_slot config t slot call (Tells (update_saying p export)) queue r other)
+            peer.0 peer.1 (rw (routes, at_slot config slot call (Tells (update_saying p export)) queue r) after);
         loc_rib = subst T (sym (tables_queued config call r queue slot (update_saying p export))) (rw loc_rib passes.loc_rib);
         owed = (is_owed config (turn call queue ∷ r) now slot p export peer.0 told.before passes.holds passes.loc_rib peer.1 before told.told.place exported short accepts news, passes.owed);
       },
+      refl,
     )
 
 -- nothing has changed
@@ -167,12 +170,21 @@ queues_still now new still config call r queue passes =
           peers = passes.holds.peers;
           slots = λ t. subst (λ l. SlotAgrees config (peer_at now.conf t) l (route_at now.adj_in t) (history config t (turn call queue ∷ r))) (sym (still.links t)) (passes.holds.slots t);
           kept = kept_still_links now new (offer_at now.book) still passes.holds.kept;
-          running = passes.holds.running;
         };
         loc_rib = passes.loc_rib;
         owed = passes.owed;
       }),
+      refl,
     )
+
+-- the queueing goes on from the one to the next
+pub QueuesOn-none : (s : SpeakerState) → QueuesOn s s
+QueuesOn-none s config call r queue passes = (queue, passes, refl)
+
+pub QueuesOn-more : (a b c : SpeakerState) → QueuesOn a b → QueuesOn b c → QueuesOn a c
+QueuesOn-more a b c first later config call r queue passes =
+    let mid = first config call r queue passes in
+    let last = later config call r mid.0 mid.1 in (last.0, last.1, last.2 ∙ mid.2)
 
 -- a call that has queued nothing yet
 pub passes_first : (config : Config) (call : Call) (r : Run) (s : SpeakerState) → Holds config (turn call [] ∷ r) s → IsLocRib (tables_of s) s.loc_rib → Passes config call r [] s
@@ -198,9 +210,9 @@ served_slot config r s slot peer (Some l) links is tables conf chosen configured
     subst E (sym holds) (export_of_run config r s slot peer prefix tables conf chosen configured)
 
 -- the end of a call: with room each peer has been served
-pub agrees_served : (config : Config) (call : Call) (r : Run) (queue : Queue) (s : SpeakerState) → Passes config call r queue s → IsThrifty config r
+pub agrees_served : (config : Config) (call : Call) (r : Run) (queue : Queue) (s : SpeakerState) → Passes config call r queue s → IsFair config r call → IsThrifty config r
     → ((slot : ℕ) → slot < 64 → IsServedAt s slot) → Agrees config (turn call queue ∷ r) s
-agrees_served config call r queue s passes thrifty served =
+agrees_served config call r queue s passes fair thrifty served =
     let holds = passes.holds in
     let conf : configuration_of config (turn call queue ∷ r) ≡ s.conf = sym holds.conf in
     let tables : tables_after config (turn call queue ∷ r) ≡ tables_of s = tables_same config (turn call queue ∷ r) s.conf (link_at s.links) s.adj_in conf holds.slots in
@@ -212,15 +224,46 @@ agrees_served config call r queue s passes thrifty served =
           let here : peer_at s.conf slot ≡ Some peer = ap (λ c. peer_at c slot) (sym conf) ∙ configured in
           let A : Option ConfiguredPeer → Type 0 = λ x. SlotAgrees config x (link_at s.links slot) (route_at s.adj_in slot) (history config slot (turn call queue ∷ r)) in
           served_slot config (turn call queue ∷ r) s slot peer _ (link_at s.links) refl tables conf chosen here (λ l linked. served slot (holds.peers.1 slot peer here).within peer l here linked) (subst A here (holds.slots slot)) established room prefix;
-      thrifty = (passes.owed, thrifty);
+      thrifty = (fair, passes.owed, thrifty);
+    }
+
+-- as the run stands, the slot's export has what its peer doesn't hold
+is_short : (config : Config) (r : Run) (s : SpeakerState) (slot : ℕ) → Holds config r s → IsLocRib (tables_after config r) s.loc_rib → IsShortAt s slot → IsShortIn config r slot
+is_short config r s slot holds loc_rib short =
+    let tables : tables_after config r ≡ tables_of s = tables_same config r s.conf (link_at s.links) s.adj_in (sym holds.conf) holds.slots in
+    let chosen : IsLocRib (tables_of s) s.loc_rib = subst (λ t. IsLocRib t s.loc_rib) tables loc_rib in
+    let here = slot_is config r slot short.peer short.linked s holds short.configured short.is in
+    let E : Option (List ℕ) → Type 0 = λ e. IsExport (tables_after config r) (export_peer_of (configuration_of config r) slot short.peer) short.prefix e in
+    record {
+      peer = short.peer;
+      prefix = short.prefix;
+      octets = short.octets;
+      configured = ap (λ c. peer_at c slot) (sym holds.conf) ∙ short.configured;
+      established = ap (λ (x : Session). x.state) (sym here.link.peer.session) ∙ short.up;
+      news = record {
+        is_export = subst E short.exported (export_of_run config r s slot short.peer short.prefix tables (sym holds.conf) chosen short.configured);
+        news = λ same. short.lacks (here.link.held short.prefix ∙ same);
+      };
+    }
+
+-- memory is refused to it: its session is closed, and Loc-RIB has the best of the candidates that are kept then
+pub queues_starved : (slot : ℕ) (old new : SpeakerState) → (short : IsShortAt old slot) → Moves slot short.linked NoMemory old new
+    → ((p : Prefix) → IsBestOf (λ s. offer_at new.book s p) (best_at new.loc_rib p)) → IsStrictlySortedBy prefix_cmp (keys_of new.loc_rib) → QueuesStarved slot old new
+queues_starved slot old new short moves best rising config call r queue passes =
+    let holds : Holds config (turn call ((slot, Starves) ∷ queue) ∷ r) new =
+    holds_signalled config (turn call queue ∷ r) (turn call ((slot, Starves) ∷ queue) ∷ r) slot short.linked NoMemory old new passes.holds short.is refl (λ e. cc) moves refl refl (λ t. refl) in
+    let tables = tables_same config (turn call ((slot, Starves) ∷ queue) ∷ r) new.conf (link_at new.links) new.adj_in (sym holds.conf) holds.slots in
+    record {
+      holds = holds;
+      loc_rib = subst (λ t. IsLocRib t new.loc_rib) (sym tables) (kept_loc_rib (tables_of new) (offer_at new.book) new.loc_rib best rising holds.kept);
+      owed = (is_short config (turn call queue ∷ r) old slot passes.holds passes.loc_rib short, passes.owed);
     }
 
 -- a step's end: Loc-RIB has the best of the candidates that are kept, and then it queued
-pub settled_agrees : {T F : Type 0} (result : Result T F) (old new : SpeakerState) → ((p : Prefix) → IsBestOf (λ s. offer_at old.book s p) (best_at old.loc_rib p)) → IsStrictlySortedBy prefix_cmp (keys_of old.loc_rib)
-    → QueuesOn old new → OnOk result ((slot : ℕ) → slot < 64 → IsServedAt new slot)
-    → OnOk result ((config : Config) (call : Call) (r : Run) → Holds config (turn call [] ∷ r) old → IsThrifty config r → (queue : Queue) × Agrees config (turn call queue ∷ r) new)
-settled_agrees (Err why) old new best rising queues served = tt
-settled_agrees (Ok done) old new best rising queues served = λ config call r holds thrifty.
+pub settled_agrees : (starved : ℕ) (old new : SpeakerState) → ((p : Prefix) → IsBestOf (λ s. offer_at old.book s p) (best_at old.loc_rib p)) → IsStrictlySortedBy prefix_cmp (keys_of old.loc_rib)
+    → QueuesAll starved old new → ((slot : ℕ) → slot < 64 → IsServedAt new slot) → (config : Config) (call : Call) (r : Run) → Holds config (turn call [] ∷ r) old → IsFair config r call → IsThrifty config r
+    → (queue : Queue) × (starved_in queue ≡ starved) × Agrees config (turn call queue ∷ r) new
+settled_agrees starved old new best rising queues served config call r holds fair thrifty =
     let chosen : IsLocRib (tables_of old) old.loc_rib = kept_loc_rib (tables_of old) (offer_at old.book) old.loc_rib best rising holds.kept in
-    let queued = queues config call r [] (passes_first config call r old holds chosen) in
-    (queued.0, agrees_served config call r queued.0 new queued.1 thrifty served)
+    let queued = queues config call r (passes_first config call r old holds chosen) in
+    (queued.0, queued.2, agrees_served config call r queued.0 new queued.1 fair thrifty served)

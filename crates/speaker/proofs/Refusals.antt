@@ -1,6 +1,6 @@
 use Rattle.std.proofs.Common.{◌≡◌, ℕ, Some, None, is_none, cond, sym, ap, ◌∙◌}
 use Rattle.bgp_conf.specs.Configuration.{peer_at}
-use Rattle.bgp_conf.specs.declared.refusal.Refusal.TheVariants.{BadSlot, NoMemory}
+use Rattle.bgp_conf.specs.declared.refusal.Refusal.TheVariants.{BadSlot}
 use Rattle.rib_in.specs.LatestRoutes.{route_at}
 use Rattle.speaker.specs.Agreement.{Agrees, tables_after}
 use Rattle.speaker.specs.FirstRefusal.{refusal_by, refusal_in, refusal_of, take_refusal_in, take_refusal_of}
@@ -18,11 +18,9 @@ use Rattle.speaker.proofs.SlotStates.{both_there}
 pub refusal_same : (config : Config) (r : Run) (s : SpeakerState) (event : Event) → Agrees config r s → refusal_of s event ≡ refusal_in config r event
 refusal_same config r s event a =
     let tables : tables_after config r ≡ tables_of s = tables_same config r s.conf (link_at s.links) s.adj_in (sym a.holds.conf) a.holds.slots in
-    ap (λ b. cond b (Some NoMemory) (refusal_by s.moment (tables_of s) event)) a.holds.running
-    ∙ ap (λ moment. refusal_by moment (tables_of s) event) a.holds.moment ∙ ap (λ t. refusal_by (moment_after r) t event) (sym tables)
+    ap (λ moment. refusal_by moment (tables_of s) event) a.holds.moment ∙ ap (λ t. refusal_by (moment_after r) t event) (sym tables)
 
 -- a take
 pub take_refusal_same : (config : Config) (r : Run) (s : SpeakerState) (slot : ℕ) → Agrees config r s → take_refusal_of s slot ≡ take_refusal_in config r slot
 take_refusal_same config r s slot a =
-    ap (λ b. cond b (Some NoMemory) (cond (is_none (link_at s.links slot)) (Some BadSlot) None)) a.holds.running
-    ∙ ap (λ b. cond b (Some BadSlot) None) (both_there config (peer_at s.conf slot) (link_at s.links slot) (route_at s.adj_in slot) (history config slot r) (a.holds.slots slot) ∙ ap (λ conf. is_none (peer_at conf slot)) a.holds.conf)
+    ap (λ b. cond b (Some BadSlot) None) (both_there config (peer_at s.conf slot) (link_at s.links slot) (route_at s.adj_in slot) (history config slot r) (a.holds.slots slot) ∙ ap (λ conf. is_none (peer_at conf slot)) a.holds.conf)

@@ -1,4 +1,4 @@
-use Rattle.std.proofs.Common.{◌≡◌, Result, Ok, Err, OnOk, false}
+use Rattle.std.proofs.Common.{◌≡◌, Result, Ok, Err, OnErr, OnOk, false, true}
 use Rattle.std.specs.Result.{is_err}
 
 -- What holds of an answer that is none of a failure.
@@ -6,3 +6,11 @@ use Rattle.std.specs.Result.{is_err}
 pub OnOk-got : {T F : Type 0} (r : Result T F) (P : Type 0) → OnOk r P → false ≡ is_err r → P
 OnOk-got (Ok v) P p is = p
 OnOk-got (Err e) P p is = absurd (cc)
+
+pub OnErr-got : {T F : Type 0} (r : Result T F) (P : Type 0) → OnErr r P → true ≡ is_err r → P
+OnErr-got (Ok v) P p is = absurd (cc)
+OnErr-got (Err e) P p is = p
+
+pub OnErr-is : {T F : Type 0} (r : Result T F) (P : Type 0) → P → OnErr r P
+OnErr-is (Ok v) P p = tt
+OnErr-is (Err e) P p = p

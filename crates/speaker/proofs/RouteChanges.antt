@@ -1,7 +1,8 @@
-use Rattle.std.proofs.Common.{◌≡◌, ◌==◌, ◌&&◌, ◌||◌, ℕ, Bool, true, false, List, [], ◌∷◌, ◌++◌, Option, cond, refl, sym, ◌∙◌, append_assoc}
+use Rattle.std.proofs.Common.{◌≡◌, ◌≢◌, ◌==◌, ◌&&◌, ◌||◌, ℕ, Bool, true, false, List, [], ◌∷◌, ◌++◌, Option, cond, refl, sym, ◌∙◌, append_assoc}
 use Rattle.std.specs.Ordering.{nat_cmp, ordering_then, is_eq}
 use Rattle.std.specs.declared.cmp.Ordering.{Ordering}
 use Rattle.std.specs.declared.cmp.Ordering.TheVariants.{Less, Equal, Greater}
+use Rattle.std.proofs.lemmas.Bool.{ne_eqb}
 use Rattle.std.proofs.lemmas.List.{append-nil}
 use Rattle.bgp_conf.proofs.PrefixOrder.{is_eq-nat_cmp}
 use Rattle.net_prefix.specs.PrefixOrder.{prefix_cmp}
@@ -78,3 +79,7 @@ Sets-more slot prefixes seen rest next e what old now new h is set = record {
 
 pub Sets-end : {X : Type 0} (slot : ℕ) (prefixes seen rest : List Prefix) (what : Option X) (old now : Found X) → Sets slot prefixes seen rest what old now → rest ≡ [] → IsSet slot prefixes what old now
 Sets-end slot prefixes seen rest what old now h none = let here = rw none at h.whole in let all : seen ≡ prefixes = sym (append-nil seen) ∙ here in rw (← all) h.set
+
+-- no other slot's is another
+pub set_others : {X : Type 0} (slot : ℕ) (prefixes : List Prefix) (what : Option X) (old new : Found X) → IsSet slot prefixes what old new → (s : ℕ) (p : Prefix) → s ≢ slot → new s p ≡ old s p
+set_others slot prefixes what old new set s p other = set s p ∙ rw (ne_eqb s slot other) refl

@@ -1,7 +1,7 @@
 use Rattle.std.proofs.Common.{◌≡◌, ◌≢◌, ◌<◌, ◌+◌, ◌-◌, ◌^◌, ◌==◌, ℕ, Bool, true, false, List, Option, Some, None, Result, Ok, Err, OnOk, cond, refl, sym, ap, ◌∙◌, subst, inl, inr, arith, length-append}
 use Rattle.std.specs.Option.{IsSome, option_and_then, option_map}
 use Rattle.std.specs.Ordering.{is_gt}
-use Rattle.std.proofs.lemmas.Bool.{cases_lt, eq-eqb, ne_eqb}
+use Rattle.std.proofs.lemmas.Bool.{cases_eq, cases_lt, eq-eqb, ne_eqb}
 use Rattle.bgp_conf.specs.Configuration.{peer_at}
 use Rattle.bgp_conf.specs.declared.conf.ConfiguredPeer.{ConfiguredPeer}
 use Rattle.bgp_fsm.specs.declared.state.State.TheVariants.{Established}
@@ -15,11 +15,11 @@ use Rattle.speaker.specs.Export.{IsAccepted, export_in, export_peer_of, export_t
 use Rattle.speaker.specs.Linked.{Linked}
 use Rattle.speaker.specs.Marks.{IsServedBy, announced_of, withdrawn_of}
 use Rattle.speaker.specs.Queueing.{rank_of, update_saying}
-use Rattle.speaker.specs.Serving.{IsServedAt, IsUpAt, HasRoom, HasRoomAt, IsOfSlot, IsStill, IsToldAt, Serves, IsDoneAt, IsGone, IsHad, IsNext}
+use Rattle.speaker.specs.Serving.{IsServedAt, IsShortAt, IsUpAt, HasRoom, HasRoomAt, IsOfSlot, IsStill, IsToldAt, Serves, Stand, IsDoneAt, IsGone, IsHad, IsNext, is_standing}
 use Rattle.speaker.specs.SpeakerState.{SpeakerState}
 use Rattle.speaker.specs.Tables.{best_at, link_at}
 use Rattle.speaker.proofs.Owing.{announced_news, gone_idle, had_idle, withdrawn_parts}
-use Rattle.speaker.proofs.Passing.{Accepts, queues_told, queues_still}
+use Rattle.speaker.proofs.Passing.{Accepts, QueuesOn-more, QueuesOn-none, queues_told, queues_still}
 use Rattle.speaker.proofs.Places.{reached, above_from_rank, rank_from_above, greater_from_rank, same_from_is_prefix, same_from_rank}
 
 -- One slot served: a walk over prefixes in rising order, in which the peer is told what it is owed.
@@ -47,11 +47,12 @@ Serves-start slot s up = record {
   after = up.0;
   was = up.1;
   is = up.1;
+  stood = up.2;
   up = up.2;
   grows = omega arith;
   gone = λ q none held. held;
   only = record { rest = refl; others = λ t other. refl };
-  queues = λ config call r queue passes. (queue, passes);
+  queues = QueuesOn-none s;
 }
 
 some_same : (a b : Linked) → Some a ≡ Some b → a ≡ b
@@ -80,11 +81,12 @@ Serves-more slot a b c h k =
       after = k.after;
       was = h.was;
       is = k.is;
+      stood = h.stood;
       up = k.up;
       grows = let later = rw same at k.grows in omega (arith, h.grows, later);
       gone = λ q none held. k.gone q (ap (λ e. e q) exports ∙ none) (rw same (h.gone q none held));
       only = IsOfSlot-more slot a b c h.only k.only;
-      queues = λ config call r queue passes. let mid = h.queues config call r queue passes in k.queues config call r mid.0 mid.1;
+      queues = QueuesOn-more a b c h.queues k.queues;
     }
 
 -- the walk has come up to this prefix: this holds of all below it
@@ -156,6 +158,7 @@ Walks-told done there slot first now new after p export h idle next place room e
       after = told.after;
       was = told.was;
       is = is;
+      stood = rw same h.serves.up;
       up = rw told.told.peer (rw same h.serves.up);
       grows = rw told.told.peer (omega (arith, length-append told.before.peer.ring (update_saying p export)));
       gone = λ q none held. told.told.held q ∙ gone_told p q _ export (export_to now slot) (held_at told.before.adj_out q) refl exports none held;
@@ -272,12 +275,41 @@ Serves-still slot first now new h still =
       after = h.after;
       was = h.is;
       is = still.links slot ∙ h.is;
+      stood = h.up;
       up = h.up;
       grows = omega arith;
       gone = λ q none held. held;
       only = record { rest = still.rest; others = λ s other. still.links s };
       queues = queues_still now new still;
     })
+
+-- what memory is refused to is exported, and not held just so
+pub short_still : (slot : ℕ) (first now new : SpeakerState) (p : Prefix) (peer : ExportPeer) (octets : List ℕ) → (h : Serves slot first now) → slot < 64
+    → Some peer ≡ option_map (export_peer_of first.conf slot) (peer_at first.conf slot) → IsSome (announced_of (export_to now slot p) (held_at h.after.adj_out p))
+    → export_in (best_at now.loc_rib) now.adj_in peer p ≡ Some octets → IsStill now new → IsShortAt new slot
+short_still slot first now new p peer octets h within is next some still =
+    let by = served_by slot first now peer h is in
+    let exports : export_to now slot p ≡ Some octets = ap (λ e. e slot p) (export_kept first now h.only.rest) ∙ export_now first now slot peer h.only.rest is p ∙ some in
+    record {
+      peer = by.peer;
+      linked = h.after;
+      prefix = p;
+      octets = octets;
+      within = within;
+      configured = ap (λ (s : SpeakerState). peer_at s.conf slot) still.rest ∙ by.configured;
+      is = still.links slot ∙ h.is;
+      up = h.up;
+      exported = ap (λ e. e slot p) (export_kept now new still.rest) ∙ exports;
+      lacks = announced_news (export_to now slot p) (held_at h.after.adj_out p) octets exports next;
+    }
+
+-- the slot's session stood, and it stands
+pub stand_served : (slot : ℕ) (a b : SpeakerState) → Serves slot a b → Stand a b
+stand_served slot a b h s =
+    elim (cases_eq s slot) [
+      | inl same ↦ rw (same, h.was, h.is, h.stood, h.up) refl
+      | inr other ↦ ap is_standing (h.only.others s other)
+    ]
 
 served_at : (export held : Option (List ℕ)) → (export ≡ None → held ≡ None) → ((octets : List ℕ) → export ≡ Some octets → held ≡ Some octets) → held ≡ export
 served_at None held gone had = gone refl
@@ -307,14 +339,16 @@ unserved s slot down peer l configured is established = absurd (down l is establ
 
 -- the slots below this one have been served
 pub record AreServed (first now : SpeakerState) (n : ℕ) : Type 0 where
+  pub stand : Stand first now
   pub rest : now ≡ record first { links = now.links }
   pub queues : QueuesOn first now
   pub served : (slot : ℕ) → slot < n → IsServedAt now slot
 
 pub AreServed-start : (s : SpeakerState) → AreServed s s 0
 AreServed-start s = record {
+  stand = λ t. refl;
   rest = refl;
-  queues = λ config call r queue passes. (queue, passes);
+  queues = QueuesOn-none s;
   served = λ slot below. absurd (omega (arith, below));
 }
 
@@ -324,16 +358,14 @@ served_still slot n now new only other served peer l configured is =
     let conf : peer_at new.conf slot ≡ peer_at now.conf slot = ap (λ (s : SpeakerState). peer_at s.conf slot) only.rest in
     λ established room q. served peer l (sym conf ∙ configured) (sym (only.others slot other) ∙ is) established room q ∙ sym (ap (λ e. e q) exports)
 
-pub AreServed-queues : (first now new : SpeakerState) (n : ℕ) → AreServed first now n → QueuesOn now new → QueuesOn first new
-AreServed-queues first now new n h queues config call r queue passes = let mid = h.queues config call r queue passes in queues config call r mid.0 mid.1
-
 pub AreServed-rest : (first now new : SpeakerState) (n : ℕ) → AreServed first now n → IsOfSlot n now new → new ≡ record first { links = new.links }
 AreServed-rest first now new n h only = only.rest ∙ ap (λ (s : SpeakerState). record s { links = new.links }) h.rest
 
-pub AreServed-more : (first now new : SpeakerState) (n : ℕ) → AreServed first now n → IsOfSlot n now new → QueuesOn now new → IsServedAt new n → AreServed first new (n + 1)
-AreServed-more first now new n h only queues served = record {
+pub AreServed-more : (first now new : SpeakerState) (n : ℕ) → AreServed first now n → IsOfSlot n now new → Stand now new → QueuesOn now new → IsServedAt new n → AreServed first new (n + 1)
+AreServed-more first now new n h only stand queues served = record {
+  stand = λ s. stand s ∙ h.stand s;
   rest = AreServed-rest first now new n h only;
-  queues = AreServed-queues first now new n h queues;
+  queues = QueuesOn-more first now new h.queues queues;
   served = λ slot below.
       elim (cases_lt slot n) [
         | inl before ↦ served_still slot n now new only (λ is. absurd (omega (arith, is, before))) (h.served slot before)

@@ -5,10 +5,10 @@ use Rattle.bgp_fsm.specs.SessionTable.{session_after, effects_of}
 use Rattle.bgp_fsm.specs.StateTests.{is_established, is_message}
 use Rattle.bgp_fsm.specs.Transports.{transport_of}
 use Rattle.bgp_fsm.specs.declared.input.Input.{Input}
-use Rattle.bgp_fsm.specs.declared.input.Input.TheVariants.{Start, Up, Fail}
+use Rattle.bgp_fsm.specs.declared.input.Input.TheVariants.{Start, Up, Fail, NoMemory}
 use Rattle.bgp_fsm.specs.declared.session.Session.{Session}
 use Rattle.bgp_fsm.specs.declared.state.State.{State}
-use Rattle.bgp_fsm.proofs.TableLaws.{enters_by_message, stays_established, fail_ends, stood_before}
+use Rattle.bgp_fsm.proofs.TableLaws.{enters_by_message, stays_established, fail_ends, no_memory_closes, stood_before}
 use Rattle.bgp_msg.specs.MessageStream.{Item, WholeMessage, FaultyHeader, completed}
 use Rattle.bgp_msg.specs.declared.frame.MessageType.TheVariants.{Open as OpenType, Update as UpdateType, Notification as NotificationType, Keepalive as KeepaliveType}
 use Rattle.bgp_peer.specs.Agreement.{holding}
@@ -74,6 +74,7 @@ kept_silent : (input : Input) (s : Session) (octets : List ℕ) (p : Prefix) →
 kept_silent Start s octets p is silent stands other = silent (stood_before Start s (λ e. cc) stands) (was_silent Start s stands other _ refl)
 kept_silent Up s octets p is silent stands other = told_in-nil p
 kept_silent Fail s octets p is silent stands other = told_in-nil p
+kept_silent NoMemory s octets p is silent stands other = absurd (no_memory_closes s stands)
 kept_silent input s octets p is silent stands other = absurd (cc)
 
 -- an input that is no message

@@ -1,4 +1,4 @@
-use Rattle.std.proofs.Common.{◌≡◌, ◌<◌, ◌==◌, inl, inr, ℕ, Bool, false, List, [], ◌∷◌, ◌++◌, Option, Some, None, length, take, drop, min, cond, refl, sym, ap, ◌∙◌, subst, arith}
+use Rattle.std.proofs.Common.{◌≡◌, ◌<◌, ◌==◌, inl, inr, ℕ, List, [], ◌∷◌, ◌++◌, Option, Some, None, length, take, drop, min, cond, refl, sym, ap, ◌∙◌, subst, arith}
 use Rattle.std.specs.Option.{option_map}
 use Rattle.std.proofs.lemmas.Bool.{cases_eq, eq-eqb, ne_eqb}
 use Rattle.std.proofs.lemmas.List.{length-take}
@@ -7,12 +7,12 @@ use Rattle.bgp_peer.specs.SessionInputs as happens
 use Rattle.bgp_peer.specs.SessionInputs.{Handed}
 use Rattle.bgp_peer.specs.Slot.{handed}
 use Rattle.rib_in.specs.LatestRoutes.{route_at}
-use Rattle.speaker.specs.Agreement.{Holds, Agrees, Passes, QueuesOn, tables_after}
+use Rattle.speaker.specs.Agreement.{Holds, Agrees, Passes, QueuesAll, tables_after}
 use Rattle.speaker.proofs.SlotStates.{SlotIs}
 use Rattle.speaker.specs.Linked.{Linked}
 use Rattle.speaker.specs.LocRib.{IsLocRib}
 use Rattle.speaker.specs.Moves.{Hands}
-use Rattle.speaker.specs.Queueing.{Queue}
+use Rattle.speaker.specs.Queueing.{Queue, starved_in}
 use Rattle.speaker.specs.Runs.{Run, turn, Take_call, history}
 use Rattle.speaker.specs.Serving.{IsServedAt}
 use Rattle.speaker.specs.SpeakerState.{SpeakerState, tables_of}
@@ -68,19 +68,15 @@ passes_handed config r slot l count old mid a linked hands =
     let tables = tables_same config r old.conf (link_at old.links) old.adj_in (sym a.holds.conf) a.holds.slots ∙ tables_handed slot l count old mid linked hands in
     passes_first config (Take_call slot (take count l.peer.ring)) r mid (holds_handed config r slot l count old mid a.holds linked hands) (subst (λ t. IsLocRib t mid.loc_rib) tables before)
 
--- a take, as what it queued so far leaves it
-pub taken_agrees : (config : Config) (r : Run) (slot : ℕ) (l : Linked) (count : ℕ) (buf filled : List ℕ) (old mid new : SpeakerState) → Agrees config r old → link_at old.links slot ≡ Some l
+-- a take with what it did at its end
+pub taken_agrees : (config : Config) (r : Run) (slot : ℕ) (l : Linked) (count starved : ℕ) (buf filled : List ℕ) (old mid new : SpeakerState) → Agrees config r old → link_at old.links slot ≡ Some l
     → count ≡ min (length buf) (length l.peer.ring) → filled ≡ take count l.peer.ring ++ drop count buf → Hands slot l count old mid
-    → QueuesOn mid (record new { stopped = mid.stopped }) → (new.stopped ≡ false → (s : ℕ) → s < 64 → IsServedAt new s)
-    → (queue : Queue) × Passes config (Take_call slot (take count filled)) r queue (record new { stopped = false })
-    × (new.stopped ≡ false → Agrees config (turn (Take_call slot (take count filled)) queue ∷ r) new)
-taken_agrees config r slot l count buf filled old mid new a linked is octets hands queues served =
-    let running : mid.stopped ≡ false = hands.rest.stopped ∙ a.holds.running in
-    let queued = queues config (Take_call slot (take count l.peer.ring)) r [] (passes_handed config r slot l count old mid a linked hands) in
-    let P : Bool → Type 0 = λ b. Passes config (Take_call slot (take count l.peer.ring)) r queued.0 (record new { stopped = b }) in
-    let passes = subst P running queued.1 in
+    → QueuesAll starved mid new → ((s : ℕ) → s < 64 → IsServedAt new s)
+    → (queue : Queue) × (starved_in queue ≡ starved) × Agrees config (turn (Take_call slot (take count filled)) queue ∷ r) new
+taken_agrees config r slot l count starved buf filled old mid new a linked is octets hands queues served =
+    let queued = queues config (Take_call slot (take count l.peer.ring)) r (passes_handed config r slot l count old mid a linked hands) in
     rw (first_octets count l.peer.ring buf filled is octets)
-    (queued.0, passes, λ runs. agrees_served config (Take_call slot (take count l.peer.ring)) r queued.0 new (subst P (running ∙ sym runs) queued.1) a.thrifty (served runs))
+    (queued.0, queued.2, agrees_served config (Take_call slot (take count l.peer.ring)) r queued.0 new queued.1 tt a.thrifty served)
 
 -- there is such a slot
 pub link_there : (found : Option Linked) → (found ≡ None → ⊥) → (l : Linked) × (found ≡ Some l)

@@ -1,7 +1,7 @@
 -- The latest route of a peer to each prefix: Adj-RIB-In (RFC 4271 section 3.2).
-use Rattle.std.specs.Prelude.{ℕ, Bool, List, [], ◌∷◌, Option, Some, None, if◌then◌else◌}
+use Rattle.std.specs.Prelude.{◌≢◌, ◌⊎◌, ℕ, Bool, List, [], ◌∷◌, Option, Some, None, if◌then◌else◌}
 use Rattle.std.specs.List.{list_any}
-use Rattle.std.specs.Option.{option_and_then}
+use Rattle.std.specs.Option.{IsSome, option_and_then}
 use Rattle.std.specs.Ordering.{is_eq}
 use Rattle.bgp_attr.specs.AttributeFaults.{Fault}
 use Rattle.bgp_attr.specs.PathAttributes.{PathAttributes}
@@ -28,6 +28,10 @@ word_of update prefix before =
 abbrev pub word_if : Option UpdateBody → Prefix → Option PathAttributes → Option PathAttributes
 word_if None prefix before = before
 word_if (Some update) prefix before = word_of update prefix before
+
+-- memory is taken for an UPDATE that has an AS_PATH or announces a prefix
+abbrev pub NeedsMemory : UpdateBody → Type 0
+NeedsMemory update = IsSome update.attrs.as_path ⊎ (update.announced ≢ [])
 
 -- an UPDATE without a fault
 abbrev pub sound_update : List ℕ → Option Fault → Option UpdateBody

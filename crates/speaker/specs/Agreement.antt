@@ -1,5 +1,5 @@
 -- When a speaker is as a run leaves it (RFC 4271 sections 3.2, 8 and 9).
-use Rattle.std.specs.Prelude.{◌≡◌, ◌≢◌, ◌==◌, ◌<◌, ◌≤◌, ◌+◌, ◌++◌, ℕ, List, [], ◌∷◌, length, Option, Some, None, is_none, true, false}
+use Rattle.std.specs.Prelude.{◌≡◌, ◌≢◌, ◌==◌, ◌<◌, ◌≤◌, ◌+◌, ◌++◌, ℕ, List, [], ◌∷◌, length, Option, Some, None, is_none, false, true}
 use Rattle.std.specs.Option.{option_map}
 use Rattle.bgp_attr.specs.AttributeFaults.{is_host}
 use Rattle.bgp_attr.specs.PathAttributes.{PathAttributes}
@@ -9,26 +9,27 @@ use Rattle.bgp_conf.specs.declared.conf.ConfiguredPeer.{ConfiguredPeer}
 use Rattle.bgp_fsm.specs.declared.state.State.TheVariants.{Established}
 use Rattle.bgp_fsm.specs.StateTests.{is_established}
 use Rattle.bgp_fsm.specs.Transports.{transport_of}
-use Rattle.bgp_msg.specs.MessageStream.{messages}
-use Rattle.bgp_msg.specs.UpdateMeaning.{update_fault}
+use Rattle.bgp_msg.specs.MessageStream.{WholeMessage, messages}
+use Rattle.bgp_msg.specs.UpdateMeaning.{update_fault, update_in}
+use Rattle.bgp_msg.specs.declared.frame.MessageType.TheVariants.{Update}
 use Rattle.bgp_peer.specs.Agreement.{PeerAgrees, IsUpdateMessage}
 use Rattle.bgp_peer.specs.SentMessages.{ring_of, sent}
 use Rattle.bgp_peer.specs.SessionInputs as slot
-use Rattle.bgp_peer.specs.SessionInputs.{occupant, session}
+use Rattle.bgp_peer.specs.SessionInputs.{item_at, occupant, onto, session}
 use Rattle.decision.specs.BookContents.{offer_at}
 use Rattle.net_prefix.specs.declared.asn.Asn.{Asn}
 use Rattle.net_prefix.specs.declared.prefix.Prefix.{Prefix}
 use Rattle.net_prefix.specs.declared.transport.Transport.TheVariants.{Open as Connected}
 use Rattle.rib_in.specs.LatestRoutes.{route_at}
 use Rattle.rib_out.specs.Held.{held_at}
-use Rattle.speaker.specs.AdjRibIn.{route}
+use Rattle.speaker.specs.AdjRibIn.{NeedsMemory, route}
 use Rattle.speaker.specs.Export.{IsExport, export_peer_of}
 use Rattle.speaker.specs.Held.{held, told_from, told_in}
 use Rattle.speaker.specs.Linked.{Linked}
 use Rattle.speaker.specs.LocRib.{IsLocRib}
 use Rattle.speaker.specs.Offers.{AreKept}
-use Rattle.speaker.specs.Queueing.{Queue, update_saying}
-use Rattle.speaker.specs.Runs.{Call, Run, turn, Bytes_call, configuration_of, history, moment_after, terms_in}
+use Rattle.speaker.specs.Queueing.{Queue, Service, Tells, Starves, starved_in, update_saying}
+use Rattle.speaker.specs.Runs.{Call, Run, turn, Up_call, Fail_call, Bytes_call, Starved_call, Tick_call, Command_call, Take_call, configuration_of, history, moment_after, terms_in}
 use Rattle.speaker.specs.SpeakerState.{SpeakerState, tables_of}
 use Rattle.speaker.specs.Tables.{Tables, link_at}
 use Rattle.speaker.specs.declared.config.Config.{Config}
@@ -88,15 +89,46 @@ pub record IsOwedIn (config : Config) (r : Run) (s : ℕ) (update : List ℕ) : 
   pub some : (prefix : Prefix) × Names update prefix
   pub each : (prefix : Prefix) → Names update prefix → IsNews config r s peer prefix (told_in update prefix)
 
--- each UPDATE that the call queued was owed when it was queued
+-- as the run stands, the slot's session is Established, and the export to it has of some prefix what its peer doesn't hold
+pub record IsShortIn (config : Config) (r : Run) (s : ℕ) : Type 0 where
+  pub peer : ConfiguredPeer
+  pub prefix : Prefix
+  pub octets : List ℕ
+  pub configured : peer_at (configuration_of config r) s ≡ Some peer
+  pub established : (session (history config s r)).state ≡ Established
+  pub news : IsNews config r s peer prefix (Some octets)
+
+-- what is done for a slot was owed to it: an UPDATE that is queued, and what memory is refused to
+abbrev pub IsOwed : Config → Run → ℕ → Service → Type 0
+IsOwed config r s (Tells update) = IsOwedIn config r s update
+IsOwed config r s Starves = IsShortIn config r s
+
+-- all that the call did at its end was owed when it was done
 abbrev pub AreOwed : Config → Call → Run → Queue → Type 0
 AreOwed config call r [] = Unit {0}
-AreOwed config call r (now ∷ queue) = IsOwedIn config (turn call queue ∷ r) now.0 now.1 × AreOwed config call r queue
+AreOwed config call r (now ∷ queue) = IsOwed config (turn call queue ∷ r) now.0 now.1 × AreOwed config call r queue
 
--- nothing was queued but what was owed
+-- the next octet completes a message that memory is taken for: an UPDATE to an Established session
+pub record MayStarve (h : List slot.Event) (octet : ℕ) : Type 0 where
+  pub body : List ℕ
+  pub established : (session h).state ≡ Established
+  pub completes : item_at h octet ≡ Some (WholeMessage Update body)
+  pub needs : NeedsMemory (update_in body)
+
+-- memory is refused to nothing but such a message
+abbrev pub IsFair : Config → Run → Call → Type 0
+IsFair config r (Up_call s) = Unit {0}
+IsFair config r (Fail_call s) = Unit {0}
+IsFair config r (Bytes_call s octets) = Unit {0}
+IsFair config r (Starved_call s before octet behind) = MayStarve (onto before (history config s r)) octet
+IsFair config r (Tick_call now) = Unit {0}
+IsFair config r (Command_call command) = Unit {0}
+IsFair config r (Take_call s octets) = Unit {0}
+
+-- nothing was queued but what was owed, and no session was closed for want of memory but one that takes some
 abbrev pub IsThrifty : Config → Run → Type 0
 IsThrifty config [] = Unit {0}
-IsThrifty config (now ∷ r) = AreOwed config now.call r now.queued × IsThrifty config r
+IsThrifty config (now ∷ r) = IsFair config r now.call × AreOwed config now.call r now.queued × IsThrifty config r
 
 -- a peer that was accepted: it has one of the 64 slots, is in another AS than ours, and sees of us the address of a host
 -- that isn't its own
@@ -119,7 +151,6 @@ pub record Holds (config : Config) (r : Run) (s : SpeakerState) : Type 0 where
   pub slots : (slot : ℕ) → SlotAgrees config (peer_at s.conf slot) (link_at s.links slot) (route_at s.adj_in slot) (history config slot r)
   -- the candidates that are kept are those of all routes
   pub kept : AreKept (tables_of s) (offer_at s.book)
-  pub running : s.stopped ≡ false
 
 -- these octets come on a configured slot, behind those of the same call that came before: all is as the run with them
 -- leaves it, where it was before
@@ -128,16 +159,37 @@ Hears slot octets old new =
     (config : Config) (r : Run) (done : List ℕ) (peer : ConfiguredPeer) → peer_at old.conf slot ≡ Some peer
     → Holds config (turn (Bytes_call slot done) [] ∷ r) old → Holds config (turn (Bytes_call slot (done ++ octets)) [] ∷ r) new
 
--- in the midst of a call all is as the run with what the call has queued so far leaves it: Loc-RIB is the selection, and
--- each UPDATE was owed when it was queued
+-- so they do up to one that completes an UPDATE to which memory is refused: the session of the slot is closed
+abbrev pub HearsUntil : ℕ → List ℕ → SpeakerState → SpeakerState → Type 0
+HearsUntil slot octets old new =
+    (config : Config) (r : Run) (done : List ℕ) (peer : ConfiguredPeer) → peer_at old.conf slot ≡ Some peer
+    → Holds config (turn (Bytes_call slot done) [] ∷ r) old
+    → (before : List ℕ) × (octet : ℕ) × (behind : List ℕ) × (done ++ octets ≡ before ++ octet ∷ behind)
+    × MayStarve (onto before (history config slot r)) octet × Holds config (turn (Starved_call slot before octet behind) [] ∷ r) new
+
+-- in the midst of a call all is as the run with what the call has done so far leaves it: Loc-RIB is the selection, and
+-- what was done was owed
 pub record Passes (config : Config) (call : Call) (r : Run) (queue : Queue) (s : SpeakerState) : Type 0 where
   pub holds : Holds config (turn call queue ∷ r) s
   pub loc_rib : IsLocRib (tables_after config (turn call queue ∷ r)) s.loc_rib
   pub owed : AreOwed config call r queue
 
--- the queueing goes on from the one to the other, whatever the run and the call
+-- the queueing goes on from the one to the other, whatever the run and the call, and memory is refused to no slot
 abbrev pub QueuesOn : SpeakerState → SpeakerState → Type 0
-QueuesOn old new = (config : Config) (call : Call) (r : Run) (queue : Queue) → Passes config call r queue old → (longer : Queue) × Passes config call r longer new
+QueuesOn old new =
+    (config : Config) (call : Call) (r : Run) (queue : Queue) → Passes config call r queue old
+    → (longer : Queue) × Passes config call r longer new × (starved_in longer ≡ starved_in queue)
+
+-- memory is refused to what the slot is owed
+abbrev pub QueuesStarved : ℕ → SpeakerState → SpeakerState → Type 0
+QueuesStarved slot old new =
+    (config : Config) (call : Call) (r : Run) (queue : Queue) → Passes config call r queue old → Passes config call r ((slot, Starves) ∷ queue) new
+
+-- all the queueing of a call, which refuses memory to these slots, a bit each
+abbrev pub QueuesAll : ℕ → SpeakerState → SpeakerState → Type 0
+QueuesAll starved old new =
+    (config : Config) (call : Call) (r : Run) → Passes config call r [] old
+    → (queue : Queue) × Passes config call r queue new × (starved_in queue ≡ starved)
 
 -- the speaker is as the run leaves it
 pub record Agrees (config : Config) (r : Run) (s : SpeakerState) : Type 0 where

@@ -1,9 +1,9 @@
 -- When a call is refused (own choice: the order and the numbers).
-use Rattle.std.specs.Prelude.{◌≡◌, ◌⊎◌, ℕ, nat_le, Bool, true, false, is_none, if◌then◌else◌, Option, Some, None}
+use Rattle.std.specs.Prelude.{ℕ, nat_le, Bool, true, false, is_none, if◌then◌else◌, Option, Some, None}
 use Rattle.net_prefix.specs.declared.transport.Transport.{Transport}
 use Rattle.net_prefix.specs.declared.transport.Transport.TheVariants.{None as NoConnection, Opening, Listening, Open, Closing}
 use Rattle.bgp_conf.specs.declared.refusal.Refusal.{Refusal}
-use Rattle.bgp_conf.specs.declared.refusal.Refusal.TheVariants.{BadSlot, ClockBack, NotExpected, NoMemory}
+use Rattle.bgp_conf.specs.declared.refusal.Refusal.TheVariants.{BadSlot, ClockBack, NotExpected}
 use Rattle.bgp_conf.specs.ConfAfter.{TakesMemory}
 use Rattle.bgp_conf.specs.Configuration.{Configuration, peer_at}
 use Rattle.bgp_conf.specs.FirstRefusal.{first_refusal}
@@ -58,13 +58,13 @@ refusal_by moment t (Command command) = first_refusal t.conf 0 command
 abbrev pub refusal_in : Config → Run → Event → Option Refusal
 refusal_in config r event = refusal_by (moment_after r) (tables_after config r) event
 
--- the first refusal of an event by a speaker: one that want of memory has stopped answers 44 to whatever comes
+-- the first refusal of an event by a speaker
 abbrev pub refusal_of : SpeakerState → Event → Option Refusal
-refusal_of s event = if s.stopped then Some NoMemory else refusal_by s.moment (tables_of s) event
+refusal_of s event = refusal_by s.moment (tables_of s) event
 
 -- the first refusal of a take by a speaker
 abbrev pub take_refusal_of : SpeakerState → ℕ → Option Refusal
-take_refusal_of s slot = if s.stopped then Some NoMemory else (if is_none (link_at s.links slot) then Some BadSlot else None)
+take_refusal_of s slot = if is_none (link_at s.links slot) then Some BadSlot else None
 
 -- the first refusal of a take after a run
 abbrev pub take_refusal_in : Config → Run → ℕ → Option Refusal
@@ -78,6 +78,6 @@ Grows conf (Bytes slot octets) = ⊥
 Grows conf (Tick now) = ⊥
 Grows conf (Command command) = TakesMemory conf command
 
--- memory was refused to an event: to what it takes of its own, and the speaker is as it was, or the speaker has stopped
+-- memory was refused to what an event takes of its own, and the speaker is as it was
 abbrev pub LacksMemory : Event → SpeakerState → SpeakerState → Type 0
-LacksMemory event old new = (Grows old.conf event × IsAsBefore old new) ⊎ (new.stopped ≡ true)
+LacksMemory event old new = Grows old.conf event × IsAsBefore old new

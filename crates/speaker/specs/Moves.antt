@@ -1,22 +1,25 @@
 -- What an input of a session makes of its slot and its routes (RFC 4271 sections 3.2 and 8.2.2).
-use Rattle.std.specs.Prelude.{◌≡◌, ◌||◌, ◌&&◌, ◌==◌, ℕ, Bool, List, [], min, length, Option, Some, None, if◌then◌else◌}
+use Rattle.std.specs.Prelude.{◌≡◌, ◌≢◌, ◌||◌, ◌&&◌, ◌==◌, ℕ, Bool, List, [], min, length, Option, Some, None, if◌then◌else◌}
 use Rattle.bgp_fsm.specs.SessionTable.{effects_of}
 use Rattle.bgp_fsm.specs.declared.input.Input.{Input}
 use Rattle.bgp_fsm.specs.declared.session.Effects.{Effects}
+use Rattle.bgp_fsm.specs.declared.state.State.TheVariants.{Established}
 use Rattle.bgp_peer.specs.Slot.{Slot, pushed, taken_input, handed}
 use Rattle.decision.specs.BookContents.{offer_at}
-use Rattle.bgp_msg.specs.UpdateMeaning.{UpdateBody}
-use Rattle.bgp_msg.specs.MessageStream.{Item}
+use Rattle.bgp_msg.specs.UpdateMeaning.{UpdateBody, update_in}
+use Rattle.bgp_msg.specs.MessageStream.{Item, WholeMessage, meaning}
+use Rattle.bgp_msg.specs.declared.frame.MessageType.TheVariants.{Update}
 use Rattle.bgp_peer.specs.SessionInputs.{Terms, expected_of, kind_of, input_of}
 use Rattle.bgp_fsm.specs.Transports.{transport_of}
 use Rattle.bgp_msg.specs.MessageStream.{needed_of}
 use Rattle.net_prefix.specs.declared.transport.Transport.{Transport}
 use Rattle.net_prefix.specs.declared.transport.Transport.TheVariants.{None as NoConnection, Opening, Listening, Open as Connected, Closing}
 use Rattle.net_prefix.specs.declared.prefix.Prefix.{Prefix}
-use Rattle.speaker.specs.AdjRibIn.{word_if, update_heard}
+use Rattle.speaker.specs.AdjRibIn.{NeedsMemory, word_if, update_heard}
 use Rattle.rib_in.specs.LatestRoutes.{RouteTable, route_at}
 use Rattle.speaker.specs.Linked.{Linked}
 use Rattle.speaker.specs.Offers.{AreKept}
+use Rattle.speaker.specs.RoutingState.{RoutingState}
 use Rattle.speaker.specs.SpeakerState.{SpeakerState, tables_of}
 use Rattle.speaker.specs.Tables.{link_at}
 use Rattle.speaker.specs.declared.receiving.Sender.{Sender}
@@ -52,7 +55,6 @@ pub record KeepsRest (old new : SpeakerState) : Type 0 where
   pub config : new.config ≡ old.config
   pub moment : new.moment ≡ old.moment
   pub conf : new.conf ≡ old.conf
-  pub stopped : new.stopped ≡ old.stopped
 
 -- the input makes this of the slot and its routes, and of nothing else
 pub record Moves (slot : ℕ) (l : Linked) (input : Input) (old new : SpeakerState) : Type 0 where
@@ -81,6 +83,18 @@ taken_on Closing rest octets = 0
 
 abbrev pub taken_of : Slot → List ℕ → ℕ
 taken_of p octets = taken_on (transport_of p.session) p.rest octets
+
+-- the message at the front of the slot's rest is one that memory is taken for: an UPDATE to an Established session
+pub record TakesMemoryAt (l : Linked) : Type 0 where
+  pub body : List ℕ
+  pub established : l.peer.session.state ≡ Established
+  pub is : meaning l.peer.rest ≡ Some (WholeMessage Update body)
+  pub needs : NeedsMemory (update_in body)
+
+-- the routes and the candidates of all other slots stay
+pub record KeepsOthers (slot : ℕ) (old new : RoutingState) : Type 0 where
+  pub routes : (s : ℕ) (prefix : Prefix) → s ≢ slot → route_at new.adj_in s prefix ≡ route_at old.adj_in s prefix
+  pub offers : (s : ℕ) (prefix : Prefix) → s ≢ slot → offer_at new.book s prefix ≡ offer_at old.book s prefix
 
 -- octets are put behind the rest of the slot, as many as this
 pub record Pushes (slot : ℕ) (l : Linked) (octets : List ℕ) (old new : SpeakerState) : Type 0 where

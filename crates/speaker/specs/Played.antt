@@ -1,22 +1,22 @@
 -- What a list of events and the answers to them come to.
-use Rattle.std.specs.Prelude.{◌≡◌, ◌⊎◌, ◌++◌, List, [], ◌∷◌, length, replicate, None, MatchOption, Result, Ok, Err, true}
+use Rattle.std.specs.Prelude.{◌≡◌, List, [], ◌∷◌, None, MatchOption, Result, Ok, Err}
 use Rattle.bgp_conf.specs.declared.refusal.Refusal.{Refusal}
 use Rattle.bgp_conf.specs.declared.refusal.Refusal.TheVariants.{NoMemory}
 use Rattle.speaker.specs.Agreement.{Agrees}
 use Rattle.speaker.specs.FirstRefusal.{Grows, refusal_in}
-use Rattle.speaker.specs.Queueing.{Queue}
-use Rattle.speaker.specs.Runs.{Run, turn, call_of, configuration_of, report_of}
+use Rattle.speaker.specs.Runs.{Run, Turn, asked, call_of, configuration_of, report_of}
 use Rattle.speaker.specs.SpeakerState.{SpeakerState}
 use Rattle.speaker.specs.declared.config.Config.{Config}
 use Rattle.speaker.specs.declared.event.Event.{Event}
 use Rattle.speaker.specs.declared.event.Report.{Report}
 
--- one event leads from a run to the next: an accepted one with what it queued, and its report; a refused one stands as
--- nothing, and the answer is its first refusal, or, to a command that has none and takes memory of its own, want of memory
+-- one event leads from a run to the next: an accepted one with what it did at its end, and its report; a refused one
+-- stands as nothing, and the answer is its first refusal, or, to a command that has none and takes memory of its own, want
+-- of memory
 abbrev pub GoesOn : Config → Run → Event → Result Report Refusal → Run → Type 0
 GoesOn config before event (Ok report) after =
     (refusal_in config before event ≡ None)
-    × ((queued : Queue) × (after ≡ turn (call_of event) queued ∷ before) × (report ≡ report_of (turn (call_of event) queued)))
+    × ((now : Turn) × (asked now.call ≡ call_of event) × (after ≡ now ∷ before) × (report ≡ report_of now))
 GoesOn config before event (Err refusal) after =
     (after ≡ before) × MatchOption (refusal_in config before event) ((refusal ≡ NoMemory) × Grows (configuration_of config before) event) (λ first. refusal ≡ first)
 
@@ -28,28 +28,8 @@ Follows config before (event ∷ events) (answer ∷ answers) after =
 Follows config before [] (answer ∷ answers) after = ⊥
 Follows config before (event ∷ events) [] after = ⊥
 
--- the answers to these events lead to a run that the speaker agrees with
-pub record HasRun (config : Config) (events : List Event) (answers : List (Result Report Refusal)) (s : SpeakerState) : Type 0 where
+-- a list of events without takes was played: the answers lead to a run that the speaker agrees with
+pub record IsPlayed (config : Config) (events : List Event) (answers : List (Result Report Refusal)) (s : SpeakerState) : Type 0 where
   pub r : Run
   pub follows : Follows config [] events answers r
   pub agrees : Agrees config r s
-
--- they did so up to an event that nothing refuses and at which want of memory stopped the speaker; this event and all
--- behind it were answered 44
-pub record HasStopped (config : Config) (events : List Event) (answers : List (Result Report Refusal)) (s : SpeakerState) : Type 0 where
-  pub before : List Event
-  pub event : Event
-  pub behind : List Event
-  pub answered : List (Result Report Refusal)
-  pub r : Run
-  pub last : SpeakerState
-  pub events_are : events ≡ before ++ event ∷ behind
-  pub answers_are : answers ≡ answered ++ replicate (length (event ∷ behind)) (Err NoMemory)
-  pub follows : Follows config [] before answered r
-  pub agrees : Agrees config r last
-  pub unrefused : refusal_in config r event ≡ None
-  pub stopped : s.stopped ≡ true
-
--- a list of events without takes was played
-abbrev pub IsPlayed : Config → List Event → List (Result Report Refusal) → SpeakerState → Type 0
-IsPlayed config events answers s = HasRun config events answers s ⊎ HasStopped config events answers s

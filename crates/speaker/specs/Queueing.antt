@@ -1,5 +1,5 @@
 -- What is queued to a peer so that it holds its export (RFC 4271 sections 4.3 and 9.2).
-use Rattle.std.specs.Prelude.{◌≡◌, ◌≤◌, ◌<◌, ◌+◌, ◌*◌, ◌^◌, ℕ, List, [], ◌∷◌, length, Option, Some, None, if◌then◌else◌}
+use Rattle.std.specs.Prelude.{◌≡◌, ◌≤◌, ◌<◌, ◌+◌, ◌*◌, ◌^◌, bit_or, ℕ, List, [], ◌∷◌, length, Option, Some, None, if◌then◌else◌}
 use Rattle.bgp_fsm.specs.declared.state.State.TheVariants.{Established}
 use Rattle.bgp_msg.specs.MessageSpelling.{update_of, wire_form}
 use Rattle.bgp_peer.specs.Slot.{queued}
@@ -23,9 +23,24 @@ pub record IsTold (prefix : Prefix) (export : Option (List ℕ)) (old new : Link
   pub peer : new.peer ≡ queued old.peer (update_saying prefix export)
   pub held : (q : Prefix) → held_at new.adj_out q ≡ (if is_prefix prefix q then export else held_at old.adj_out q)
 
--- what a call queues: each UPDATE with its slot, the newest first
+-- what is done for a slot that is owed something: an UPDATE is queued, or memory is refused to it
+pub data Service : Type 0 where
+  Tells : (update : List ℕ) → Service
+  Starves : Service
+
+-- what a call does at its end: each with its slot, the newest first
 abbrev pub Queue : Type 0
-Queue = List (ℕ × List ℕ)
+Queue = List (ℕ × Service)
+
+-- a set of slots, a bit each, with one more where memory was refused to it
+abbrev pub with_starved : ℕ → Service → ℕ → ℕ
+with_starved slot (Tells update) slots = slots
+with_starved slot Starves slots = bit_or (2 ^ slot) slots
+
+-- the slots to which memory was refused at the end of a call, a bit each
+abbrev pub starved_in : Queue → ℕ
+starved_in [] = 0
+starved_in (now ∷ queue) = with_starved now.0 now.1 (starved_in queue)
 
 -- where 8,192 octets are free, an Established peer holds its export
 abbrev pub IsServed : (Prefix → Option (List ℕ)) → Linked → Type 0

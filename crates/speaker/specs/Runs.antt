@@ -1,29 +1,51 @@
 -- The calls of a speaker, and what they are to each slot. A run has the newest call first.
-use Rattle.std.specs.Prelude.{ℕ, ◌==◌, List, [], ◌∷◌, false, if◌then◌else◌}
+use Rattle.std.specs.Prelude.{ℕ, ◌==◌, ◌^◌, bit_or, List, [], ◌∷◌, ◌++◌, false, if◌then◌else◌}
 use Rattle.bgp_conf.specs.Configuration.{Configuration}
 use Rattle.bgp_conf.specs.ConfAfter.{conf_after, configured_of}
 use Rattle.bgp_conf.specs.declared.command.Command.{Command}
 use Rattle.bgp_conf.specs.declared.command.Command.TheVariants.{AddPeer, Enable, Reach}
 use Rattle.bgp_conf.specs.declared.conf.ConfiguredPeer.{ConfiguredPeer}
-use Rattle.bgp_fsm.specs.declared.input.Input.TheVariants.{Start, Up, Fail}
+use Rattle.bgp_fsm.specs.declared.input.Input.TheVariants.{Start, Up, Fail, NoMemory}
 use Rattle.bgp_peer.specs.SessionInputs as slot
 use Rattle.bgp_peer.specs.SessionInputs.{Terms, Configured, Signalled, Queued, Handed, Ticked, onto}
-use Rattle.speaker.specs.Queueing.{Queue}
+use Rattle.speaker.specs.Queueing.{Queue, Service, Tells, Starves, starved_in}
 use Rattle.speaker.specs.declared.config.Config.{Config}
 use Rattle.speaker.specs.declared.event.Event.{Event}
 use Rattle.speaker.specs.declared.event.Event.TheVariants.{Up as CameUp, Fail as HasFailed, Bytes, Tick, Command as Commanded}
 use Rattle.speaker.specs.declared.event.Report.{Report}
 
--- a call with its arguments; of a take, the octets that it handed out
+-- a call with its arguments; of a take, the octets that it handed out; of octets, where memory was refused to the UPDATE
+-- that one of them completes, which one
 pub data Call : Type 0 where
   Up_call : (slot : ℕ) → Call
   Fail_call : (slot : ℕ) → Call
   Bytes_call : (slot : ℕ) → (octets : List ℕ) → Call
+  Starved_call : (slot : ℕ) → (before : List ℕ) → (octet : ℕ) → (behind : List ℕ) → Call
   Tick_call : (now : ℕ) → Call
   Command_call : (command : Command) → Call
   Take_call : (slot : ℕ) → (octets : List ℕ) → Call
 
--- a call, and the UPDATEs that it queued
+-- a call as it was asked for, whether or not memory was refused to it
+abbrev pub asked : Call → Call
+asked (Up_call slot) = Up_call slot
+asked (Fail_call slot) = Fail_call slot
+asked (Bytes_call slot octets) = Bytes_call slot octets
+asked (Starved_call slot before octet behind) = Bytes_call slot (before ++ octet ∷ behind)
+asked (Tick_call now) = Tick_call now
+asked (Command_call command) = Command_call command
+asked (Take_call slot octets) = Take_call slot octets
+
+-- the slot to whose UPDATE memory was refused, as a set of slots, a bit each
+abbrev pub starved_by : Call → ℕ
+starved_by (Up_call slot) = 0
+starved_by (Fail_call slot) = 0
+starved_by (Bytes_call slot octets) = 0
+starved_by (Starved_call slot before octet behind) = 2 ^ slot
+starved_by (Tick_call now) = 0
+starved_by (Command_call command) = 0
+starved_by (Take_call slot octets) = 0
+
+-- a call, and what it did at its end for slots that were owed something
 pub record Turn : Type 0 where
   pub call : Call
   pub queued : Queue
@@ -31,9 +53,9 @@ pub record Turn : Type 0 where
 abbrev pub turn : Call → Queue → Turn
 turn call queued = record { call = call; queued = queued }
 
--- what a call reports: as yet it opens no connection, and closes no session for want of memory
+-- what a call reports: the slots to which memory was refused. As yet it opens no connection
 abbrev pub report_of : Turn → Report
-report_of now = record { opened = 0; starved = 0; cache_opened = false; cache_starved = false }
+report_of now = record { opened = 0; starved = bit_or (starved_by now.call) (starved_in now.queued); cache_opened = false; cache_starved = false }
 
 -- the accepted calls, the newest first
 abbrev pub Run : Type 0
@@ -52,6 +74,7 @@ abbrev pub conf_called : Call → Configuration → Configuration
 conf_called (Up_call slot) conf = conf
 conf_called (Fail_call slot) conf = conf
 conf_called (Bytes_call slot octets) conf = conf
+conf_called (Starved_call slot before octet behind) conf = conf
 conf_called (Tick_call now) conf = conf
 conf_called (Command_call command) conf = conf_after conf command
 conf_called (Take_call slot octets) conf = conf
@@ -66,6 +89,7 @@ abbrev pub moment_called : Call → ℕ → ℕ
 moment_called (Up_call slot) before = before
 moment_called (Fail_call slot) before = before
 moment_called (Bytes_call slot octets) before = before
+moment_called (Starved_call slot front octet behind) before = before
 moment_called (Tick_call now) before = now
 moment_called (Command_call command) before = before
 moment_called (Take_call slot octets) before = before
@@ -89,19 +113,25 @@ commanded config s (AddPeer slot peer) h = if s == slot then Configured (terms_i
 commanded config s (Enable slot) h = if s == slot then Signalled Start ∷ h else h
 commanded config s (Reach prefix cost) h = h
 
--- what a call is to a slot
+-- what a call is to a slot; want of memory stands in the place of the UPDATE to which memory was refused
 abbrev pub called : Config → ℕ → Call → List slot.Event → List slot.Event
 called config s (Up_call slot) h = if s == slot then Signalled Up ∷ h else h
 called config s (Fail_call slot) h = if s == slot then Signalled Fail ∷ h else h
 called config s (Bytes_call slot octets) h = if s == slot then onto octets h else h
+called config s (Starved_call slot before octet behind) h = if s == slot then onto behind (Signalled NoMemory ∷ onto before h) else h
 called config s (Tick_call now) h = Ticked now ∷ h
 called config s (Command_call command) h = commanded config s command h
 called config s (Take_call slot octets) h = if s == slot then Handed octets ∷ h else h
 
--- the UPDATEs that are queued for a slot
+-- what is done for a slot is this to it
+abbrev pub served_by : Service → slot.Event
+served_by (Tells update) = Queued update
+served_by Starves = Signalled NoMemory
+
+-- what is done for a slot at the end of a call
 abbrev pub queued_on : ℕ → Queue → List slot.Event → List slot.Event
 queued_on s [] h = h
-queued_on s (now ∷ queue) h = if s == now.0 then Queued now.1 ∷ queued_on s queue h else queued_on s queue h
+queued_on s (now ∷ queue) h = if s == now.0 then served_by now.1 ∷ queued_on s queue h else queued_on s queue h
 
 -- what happened to a slot in a run
 abbrev pub history : Config → ℕ → Run → List slot.Event

@@ -1,9 +1,10 @@
 -- How one slot is served: its peer is told, in rising order, what it is owed (RFC 4271 section 9.2).
-use Rattle.std.specs.Prelude.{◌≡◌, ◌≢◌, ◌≤◌, ◌+◌, ℕ, List, length, Option, Some, None, MatchOption, false}
+use Rattle.std.specs.Prelude.{◌≡◌, ◌≢◌, ◌≤◌, ◌<◌, ◌+◌, ℕ, Bool, List, length, Option, Some, None, MatchOption, false}
 use Rattle.std.specs.Option.{IsSome}
 use Rattle.std.specs.Ordering.{is_gt}
 use Rattle.bgp_conf.specs.Configuration.{peer_at}
 use Rattle.bgp_conf.specs.declared.conf.ConfiguredPeer.{ConfiguredPeer}
+use Rattle.bgp_fsm.specs.StateTests.{is_established}
 use Rattle.bgp_fsm.specs.declared.state.State.TheVariants.{Established}
 use Rattle.net_prefix.specs.PrefixOrder.{prefix_cmp, IsAbove}
 use Rattle.net_prefix.specs.declared.prefix.Prefix.{Prefix}
@@ -33,6 +34,28 @@ HasRoom l = length l.peer.ring + room_for_update ≤ ring_octets
 abbrev pub HasRoomAt : SpeakerState → ℕ → Type 0
 HasRoomAt s slot = (l : Linked) → link_at s.links slot ≡ Some l → HasRoom l
 
+-- the slot's session is Established, and of some prefix its peer doesn't hold what is exported to it
+pub record IsShortAt (s : SpeakerState) (slot : ℕ) : Type 0 where
+  pub peer : ConfiguredPeer
+  pub linked : Linked
+  pub prefix : Prefix
+  pub octets : List ℕ
+  pub within : slot < 64
+  pub configured : peer_at s.conf slot ≡ Some peer
+  pub is : link_at s.links slot ≡ Some linked
+  pub up : linked.peer.session.state ≡ Established
+  pub exported : export_to s slot prefix ≡ Some octets
+  pub lacks : held_at linked.adj_out prefix ≢ Some octets
+
+-- whether a slot is there with an Established session
+abbrev pub is_standing : Option Linked → Bool
+is_standing None = false
+is_standing (Some l) = is_established l.peer.session.state
+
+-- the sessions that were Established are, and no others
+abbrev pub Stand : SpeakerState → SpeakerState → Type 0
+Stand old new = (s : ℕ) → is_standing (link_at new.links s) ≡ is_standing (link_at old.links s)
+
 -- only this slot differs
 pub record IsOfSlot (slot : ℕ) (old new : SpeakerState) : Type 0 where
   pub rest : new ≡ record old { links = new.links }
@@ -58,6 +81,7 @@ pub record Serves (slot : ℕ) (old new : SpeakerState) : Type 0 where
   pub after : Linked
   pub was : link_at old.links slot ≡ Some before
   pub is : link_at new.links slot ≡ Some after
+  pub stood : before.peer.session.state ≡ Established
   pub up : after.peer.session.state ≡ Established
   pub grows : length before.peer.ring ≤ length after.peer.ring
   pub gone : (q : Prefix) → export_to old slot q ≡ None → held_at before.adj_out q ≡ None → held_at after.adj_out q ≡ None

@@ -1,5 +1,5 @@
 -- A speaker, as others see it.
-use Rattle.std.specs.Prelude.{◌≡◌, ◌==◌, ◌||◌, ℕ, List, Bool, false, []}
+use Rattle.std.specs.Prelude.{◌≡◌, ◌==◌, ◌||◌, ℕ, List, Bool, []}
 use Rattle.bgp_conf.specs.Configuration.{Configuration}
 use Rattle.decision.specs.BookContents.{BookState}
 use Rattle.decision.specs.declared.candidate.Candidate.{Candidate}
@@ -10,7 +10,7 @@ use Rattle.speaker.specs.Linked.{Linked}
 use Rattle.speaker.specs.Tables.{Tables, tables, link_at}
 
 -- what others see of a speaker: its settings, the moment, the configured tables, its slots, Adj-RIB-In, the candidates
--- that are kept, Loc-RIB, and whether want of memory has stopped it
+-- that are kept, and Loc-RIB
 pub record SpeakerState : Type 0 where
   pub config : Config
   pub moment : ℕ
@@ -19,7 +19,6 @@ pub record SpeakerState : Type 0 where
   pub adj_in : RouteTable
   pub book : BookState
   pub loc_rib : List (Prefix × Candidate)
-  pub stopped : Bool
 
 -- what the selection reads
 abbrev pub tables_of : SpeakerState → Tables
@@ -35,7 +34,6 @@ started config = record {
   adj_in = [];
   book = [];
   loc_rib = [];
-  stopped = false;
 }
 
 -- an AS or an identifier of 0, or a cache session, of which there is none yet
@@ -51,4 +49,3 @@ pub record IsAsBefore (old new : SpeakerState) : Type 0 where
   pub adj_in : new.adj_in ≡ old.adj_in
   pub book : new.book ≡ old.book
   pub loc_rib : new.loc_rib ≡ old.loc_rib
-  pub stopped : new.stopped ≡ old.stopped

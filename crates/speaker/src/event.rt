@@ -1,4 +1,5 @@
 //! What is handed in to a step, and what it reports.
+ghost use Rattle.std.specs.Prelude.{◌≡◌, ◌<◌, ◌^◌, false};
 
 use bgp_conf::Command;
 
@@ -38,4 +39,22 @@ impl Report {
         cache_opened: false,
         cache_starved: false,
     };
+
+    // That of a call that closed these slots for want of memory.
+    pub(crate) fn of_starved(slots: u64) -> Report
+        ensures { result ≡ record { opened = 0; starved = slots; cache_opened = false; cache_starved = false } }
+    {
+        Report {
+            starved: slots,
+            ..Report::NOTHING
+        }
+    }
+}
+
+/// The set of one slot, a bit each.
+pub(crate) fn only(slot: u8) -> u64
+    requires { slot < 64 }
+    ensures { result ≡ 2 ^ slot }
+{
+    1 << slot
 }

@@ -1,5 +1,5 @@
 //! What the peers are owed: the UPDATEs that make what each was sent its export of Loc-RIB.
-ghost use Rattle.std.specs.Prelude.{◌≡◌, ◌≢◌, ◌≤◌, ◌<◌, ◌+◌, ◌^◌, ◌↔◌, ℕ, false, Some, None, OnOk, OnErr, IsTrue, length};
+ghost use Rattle.std.specs.Prelude.{◌≡◌, ◌≢◌, ◌≤◌, ◌<◌, ◌+◌, ◌^◌, ◌==◌, ◌↔◌, ℕ, false, Some, None, OnOk, OnErr, IfSome, IfNone, IsTrue, length, if◌then◌else◌};
 ghost use Rattle.std.specs.Bool.{OnTrue};
 ghost use Rattle.std.specs.Option.{IsSome, option_map};
 ghost use Rattle.bgp_conf.specs.Configuration.{peer_at};
@@ -7,19 +7,20 @@ ghost use Rattle.bgp_fsm.specs.declared.state.State.TheVariants.{Established};
 ghost use Rattle.decision.specs.BookContents.{rows_of};
 ghost use Rattle.export_rules.specs.Export.{Tells, most_attributes};
 ghost use Rattle.rib_out.specs.Held.{held_at};
-ghost use Rattle.speaker.specs.Agreement.{QueuesOn};
+ghost use Rattle.speaker.specs.Agreement.{QueuesAll, QueuesOn, QueuesStarved};
 ghost use Rattle.speaker.specs.Export.{IsAccepted, export_in, export_peer_of, export_to};
 ghost use Rattle.speaker.specs.Linked.{Linked};
 ghost use Rattle.speaker.specs.Marks.{IsServedBy, announced_of, withdrawn_of};
 ghost use Rattle.speaker.specs.Queueing.{IsTold, rank_of};
-ghost use Rattle.speaker.specs.Serving.{IsServedAt, IsUpAt, HasRoom, HasRoomAt, IsOfSlot, IsStill, IsToldAt, Serves, IsDoneAt, IsGone, IsHad, IsNext};
+ghost use Rattle.speaker.specs.Serving.{IsServedAt, IsShortAt, IsUpAt, HasRoom, HasRoomAt, IsOfSlot, IsStill, IsToldAt, Serves, Stand, IsDoneAt, IsGone, IsHad, IsNext, is_standing};
 ghost use Rattle.speaker.specs.Tables.{best_at, link_at};
 
+use crate::event::only;
 use crate::link::Link;
 use crate::step::Speaker;
 use arrayvec::ArrayVec;
 use bgp_conf::{Conf, PEER_SLOTS};
-use bgp_fsm::State;
+use bgp_fsm::{Input, State};
 use bgp_msg::{MAX_MESSAGE, write_announcement, write_withdrawal};
 use bgp_peer::ROOM_FOR_UPDATE;
 use decision::Book;
@@ -69,16 +70,45 @@ pub fn export<A: Allocator + Clone, B: Book<A>>(
 }
 
 impl<A: Allocator + Clone, B: Book<A>> Speaker<A, B> {
-    /// For each Established slot in rising order, queues the UPDATEs that it is owed, while its ring has room.
-    pub(crate) fn queue_updates(&mut self) -> Result<(), AllocError>
-        ensures rest { self.new ≡ record self.old { links = self.new.links } }
+    /// Queues to each Established peer the UPDATEs that it is owed, while its ring has room. Where memory is refused to
+    /// what a peer is owed, its session is closed; all peers are then served again, since its routes have gone. Answers
+    /// the slots of such peers, a bit each.
+    pub(crate) fn queue_updates(&mut self) -> u64
+        ensures queues { QueuesAll result self.old self.new }
+        ensures served { (slot : ℕ) → slot < 64 → IsServedAt self.new slot }
+    {
+        let mut starved = 0;
+        while let Some(slot) = self.pass() {
+            self.starve(slot);
+            starved = only(slot) | starved;
+        }
+        starved
+    }
+
+    // For each Established slot in rising order, queues the UPDATEs that it is owed. Answers the first to which memory
+    // is refused.
+    fn pass(&mut self) -> Option<u8>
+        ensures stand { Stand self.old self.new }
         ensures queues { QueuesOn self.old self.new }
-        ensures served { OnOk result ((slot : ℕ) → slot < 64 → IsServedAt self.new slot) }
+        ensures served { IfNone result ((slot : ℕ) → slot < 64 → IsServedAt self.new slot) }
+        ensures short { IfSome result (λ slot. IsShortAt self.new slot) }
     {
         for slot in 0..PEER_SLOTS {
-            self.serve_slot(slot)?;
+            if self.serve_slot(slot).is_err() {
+                return Some(slot);
+            }
         }
-        Ok(())
+        None
+    }
+
+    // Memory is refused to what the slot's peer is owed: its session is closed, and its routes go.
+    fn starve(&mut self, slot: u8)
+        requires { IsShortAt self.old slot }
+        ensures queues { QueuesStarved slot self.old self.new }
+        ensures stand { (s : ℕ) → is_standing (link_at self.new.links s) ≡ (if s == slot then false else is_standing (link_at self.old.links s)) }
+    {
+        let _ = self.input(slot, Input::NoMemory);
+        self.routing.ribs.is_chosen();
     }
 
     // Queues what a slot's peer is owed, withdrawals before announcements and each in rising order, while its
@@ -86,8 +116,10 @@ impl<A: Allocator + Clone, B: Book<A>> Speaker<A, B> {
     fn serve_slot(&mut self, slot: u8) -> Result<(), AllocError>
         requires { slot < 64 }
         ensures only { IsOfSlot slot self.old self.new }
+        ensures stand { Stand self.old self.new }
         ensures queues { QueuesOn self.old self.new }
         ensures served { OnOk result (IsServedAt self.new slot) }
+        ensures short { OnErr result (IsShortAt self.new slot) }
     {
         let Some(peer) = export_peer(&self.conf, slot) else {
             return Ok(());
@@ -134,6 +166,7 @@ impl<A: Allocator + Clone, B: Book<A>> Speaker<A, B> {
         requires up { IsUpAt self.old slot }
         ensures serves { Serves slot self.old self.new }
         ensures done { OnOk result (IsDoneAt (IsHad (export_to self.old slot)) self.new slot) }
+        ensures short { OnErr result (IsShortAt self.new slot) }
     {
         let mut after = None;
         while let Some(prefix) = self.announcement_after(slot, after) {

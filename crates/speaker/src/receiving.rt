@@ -1,18 +1,19 @@
 //! A whole message of a slot's connection: what it is to the session, and the routes that an UPDATE brings.
-ghost use Rattle.std.specs.Prelude.{◌≡◌, ◌==◌, ◌&&◌, ◌⊎◌, ℕ, Some, None, OnOk, IfOk, IfSome, if◌then◌else◌};
+ghost use Rattle.std.specs.Prelude.{◌≡◌, ◌≢◌, ◌==◌, ◌&&◌, ◌⊎◌, ℕ, [], Some, None, OnOk, OnErr, IfOk, IfSome, if◌then◌else◌};
 ghost use Rattle.std.specs.Option.{option_map, option_and_then};
 ghost use Rattle.bgp_fsm.specs.declared.state.State.TheVariants.{Established};
 ghost use Rattle.bgp_msg.specs.MessageFaults.{open_fault};
 ghost use Rattle.bgp_msg.specs.MessageStream.{WholeMessage, meaning};
-ghost use Rattle.bgp_msg.specs.UpdateMeaning.{update_fault};
+ghost use Rattle.bgp_msg.specs.UpdateMeaning.{update_fault, update_in};
+ghost use Rattle.bgp_msg.specs.declared.frame.MessageType.TheVariants.{Update as UpdateMessage};
 ghost use Rattle.bgp_peer.specs.SessionInputs.{Terms, expected_of, input_of, open_input, update_input};
 ghost use Rattle.bgp_msg.specs.MessageSpelling.{front_prefixes};
 ghost use Rattle.decision.specs.BookContents.{AreApart, offer_at};
 ghost use Rattle.net_prefix.specs.declared.prefix.Prefix.{Prefix as ThePrefix};
 ghost use Rattle.rib_in.specs.LatestRoutes.{route_at};
-ghost use Rattle.speaker.specs.AdjRibIn.{is_among, word_of, sound_update, update_heard};
+ghost use Rattle.speaker.specs.AdjRibIn.{NeedsMemory, is_among, word_of, sound_update, update_heard};
 ghost use Rattle.speaker.specs.Marks.{AreMarked};
-ghost use Rattle.speaker.specs.Moves.{AreOf, IsHeard};
+ghost use Rattle.speaker.specs.Moves.{AreOf, IsHeard, KeepsOthers, TakesMemoryAt};
 ghost use Rattle.speaker.specs.Offers.{IsSound, KeepsHeard};
 
 use crate::choosing::candidate;
@@ -55,6 +56,8 @@ pub fn take_front<A: Allocator + Clone, B: Book<A>>(
     ensures routes { OnOk result ((terms : Terms) → AreOf terms sender
         → IsHeard sender.slot (option_and_then (update_heard link.now.peer.session.state terms) (meaning link.now.peer.rest)) routing.old.adj_in routing.new.adj_in) }
     ensures kept { OnOk result (KeepsHeard conf.now sender link.now.peer.session.state routing.old routing.new) }
+    ensures others { OnErr result (KeepsOthers sender.slot routing.old routing.new) }
+    ensures memory { OnErr result (TakesMemoryAt link.now) }
 {
     match link.peer.front() {
         Step::Need => Ok(None),
@@ -86,6 +89,8 @@ fn judge<A: Allocator + Clone, B: Book<A>>(
     ensures routes { OnOk result ((terms : Terms) → AreOf terms sender
         → IsHeard sender.slot (update_heard state terms (WholeMessage frame.entry.kind frame.entry.body.now)) routing.old.adj_in routing.new.adj_in) }
     ensures kept { OnOk result (KeepsHeard conf.now sender state routing.old routing.new) }
+    ensures others { OnErr result (KeepsOthers sender.slot routing.old routing.new) }
+    ensures memory { OnErr result ((state ≡ Established) × (frame.entry.kind ≡ UpdateMessage) × NeedsMemory (update_in frame.entry.body.now)) }
 {
     match (frame.kind, state) {
         (MessageType::Open, State::OpenSent) => Ok(judge_open(frame.body, sender.expected)),
@@ -123,8 +128,10 @@ fn judge_update<A: Allocator + Clone, B: Book<A>>(
     ensures input { IfOk result (λ found. found ≡ update_input (update_fault sender.kind body.now)) }
     ensures routes { OnOk result (IsHeard sender.slot (sound_update body.now (update_fault sender.kind body.now)) routing.old.adj_in routing.new.adj_in) }
     ensures kept { OnOk result (KeepsHeard conf.now sender Established routing.old routing.new) }
+    ensures others { OnErr result (KeepsOthers sender.slot routing.old routing.new) }
+    ensures memory { OnErr result (NeedsMemory (update_in body.now)) }
 {
-    match read_update(alloc.clone()?, body, sender.kind) {
+    match read_update(alloc, body, sender.kind) {
         Ok(update) => {
             take_update(alloc, conf, links, routing, sender, update)?;
             Ok(Input::Update)
@@ -135,7 +142,7 @@ fn judge_update<A: Allocator + Clone, B: Book<A>>(
 }
 
 // Takes the routes of an UPDATE, with the candidate that they make: withdrawals first, then announcements, so that a
-// prefix that is both is announced (RFC 4271 section 4.3).
+// prefix that is both is announced (RFC 4271 section 4.3). Memory is taken where a prefix is announced.
 fn take_update<A: Allocator + Clone, B: Book<A>>(
     alloc: &A,
     conf: &Conf<A>,
@@ -150,9 +157,15 @@ fn take_update<A: Allocator + Clone, B: Book<A>>(
     ensures marked { AreMarked conf.now links.now.entries routing.new }
     ensures routes { OnOk result ((s : ℕ) (prefix : ThePrefix) → route_at routing.new.adj_in s prefix ≡ (if s == sender.slot then word_of update.entry prefix (route_at routing.old.adj_in s prefix) else route_at routing.old.adj_in s prefix)) }
     ensures kept { OnOk result (KeepsHeard conf.now sender Established routing.old routing.new) }
+    ensures others { OnErr result (KeepsOthers sender.slot routing.old routing.new) }
+    ensures memory { OnErr result (update.entry.announced ≢ []) }
 {
     withdraw_each(conf, links, routing, sender.slot, update.withdrawn());
     let announced = update.announced();
+    let mut first = announced;
+    if first.next().is_none() {
+        return Ok(());
+    }
     let attrs = Rc::new(alloc.clone()?, update.into_attrs())?;
     let candidate = candidate(conf, sender.slot, sender.identifier, &attrs);
     announce_each(
@@ -199,6 +212,7 @@ fn announce_each<A: Allocator + Clone, B: Book<A>>(
     ensures marked { AreMarked conf.now links.now.entries routing.new }
     ensures routes { OnOk result ((s : ℕ) (prefix : ThePrefix) → route_at routing.new.adj_in s prefix ≡ (if s == slot && is_among prefix (front_prefixes prefixes.entry.octets.now).0 then Some attrs.now.value else route_at routing.old.adj_in s prefix)) }
     ensures offers { OnOk result ((s : ℕ) (prefix : ThePrefix) → offer_at routing.new.book s prefix ≡ (if s == slot && is_among prefix (front_prefixes prefixes.entry.octets.now).0 then candidate else offer_at routing.old.book s prefix)) }
+    ensures others { OnErr result (KeepsOthers slot routing.old routing.new) }
     ensures some { (s : ℕ) (prefix : ThePrefix) → ((s ≡ slot) × (offer_at routing.new.book s prefix ≡ candidate)) ⊎ (offer_at routing.new.book s prefix ≡ offer_at routing.old.book s prefix) }
 {
     for prefix in prefixes {

@@ -1,16 +1,17 @@
 //! What happens to one slot: its operator enables it, its connection stands or fails, octets come.
-ghost use Rattle.std.specs.Prelude.{◌≡◌, ◌≢◌, ◌≤◌, ◌<◌, ◌++◌, ℕ, List, [], ◌∷◌, length, take, OnOk, IfOk, ◌&&◌, ◌==◌, None, Some, if◌then◌else◌};
+ghost use Rattle.std.specs.Prelude.{◌≡◌, ◌≢◌, ◌≤◌, ◌<◌, ◌++◌, ℕ, List, [], ◌∷◌, length, take, OnOk, OnErr, IfOk, ◌&&◌, ◌==◌, None, Some, if◌then◌else◌};
 ghost use Rattle.bgp_conf.specs.Configuration.{peer_at};
 ghost use Rattle.bgp_conf.specs.declared.conf.ConfiguredPeer.{ConfiguredPeer as ThePeer};
 ghost use Rattle.bgp_fsm.specs.SessionTable.{effects_of};
+ghost use Rattle.bgp_fsm.specs.declared.input.Input.TheVariants.{NoMemory};
 ghost use Rattle.net_prefix.specs.declared.prefix.Prefix.{Prefix as ThePrefix};
 ghost use Rattle.decision.specs.BookContents.{offer_at};
 ghost use Rattle.rib_in.specs.LatestRoutes.{route_at};
 ghost use Rattle.bgp_msg.specs.MessageStream.{meaning};
 ghost use Rattle.speaker.specs.Marks.{AreMarked, IsFollowed};
-ghost use Rattle.speaker.specs.Moves.{Moves, Pushes, TakesItem, taken_of};
+ghost use Rattle.speaker.specs.Moves.{Moves, Pushes, TakesMemoryAt, TakesItem, taken_of};
 ghost use Rattle.speaker.specs.Runs.{terms_in, Run, turn, Bytes_call};
-ghost use Rattle.speaker.specs.Agreement.{Hears};
+ghost use Rattle.speaker.specs.Agreement.{Hears, HearsUntil};
 ghost use Rattle.speaker.specs.declared.config.Config.{Config as TheConfig};
 ghost use Rattle.speaker.specs.Tables.{link_at};
 ghost use Rattle.speaker.specs.Linked.{Linked};
@@ -39,9 +40,12 @@ impl<A: Allocator + Clone, B: Book<A>> Speaker<A, B> {
         effects
     }
 
-    // Takes octets that come, message by message. What comes after the session has closed is dropped.
+    // Takes octets that come, message by message. What comes after the session has closed is dropped. Where memory is
+    // refused to a message, it is dropped, and the session is closed.
     pub(crate) fn hear(&mut self, slot: u8, octets: &[u8]) -> Result<(), AllocError>
-        ensures { OnOk result (Hears slot octets.now self.old self.new) }
+        ensures heard { OnOk result (Hears slot octets.now self.old self.new) }
+        ensures starved { OnErr result (HearsUntil slot octets.now self.old self.new) }
+        ensures within { OnErr result (slot < 64) }
     {
         let mut rest = octets;
         while !rest.is_empty() {
@@ -60,6 +64,8 @@ impl<A: Allocator + Clone, B: Book<A>> Speaker<A, B> {
         ensures within { IfOk result (λ taken. taken ≤ length octets.now) }
         ensures heard { IfOk result (λ taken. taken ≢ 0 → Hears slot (take taken octets.now) self.old self.new) }
         ensures shut { IfOk result (λ taken. taken ≡ 0 → 0 < length octets.now → Hears slot octets.now self.old self.new) }
+        ensures starved { OnErr result (HearsUntil slot octets.now self.old self.new) }
+        ensures slot { OnErr result (slot < 64) }
     {
         let taken = self.push(slot, octets);
         if taken == 0 {
@@ -81,10 +87,13 @@ impl<A: Allocator + Clone, B: Book<A>> Speaker<A, B> {
         link.push(octets)
     }
 
-    // Takes the message at the front of the slot's rest, if it is whole or its header is faulty.
+    // Takes the message at the front of the slot's rest, if it is whole or its header is faulty. Where memory is refused
+    // to it, the session is closed.
     fn take_message(&mut self, slot: u8) -> Result<(), AllocError>
-        ensures { OnOk result ((l : Linked) (peer : ThePeer) → link_at self.old.links slot ≡ Some l → peer_at self.old.conf slot ≡ Some peer
+        ensures taken { OnOk result ((l : Linked) (peer : ThePeer) → link_at self.old.links slot ≡ Some l → peer_at self.old.conf slot ≡ Some peer
             → TakesItem slot (terms_in self.old.config peer) l (meaning l.peer.rest) self.old self.new) }
+        ensures starved { OnErr result ((l : Linked) → link_at self.old.links slot ≡ Some l → TakesMemoryAt l × Moves slot l NoMemory self.old self.new) }
+        ensures within { OnErr result (slot < 64) }
     {
         let Some(peer) = self.conf.peer(slot) else {
             return Ok(());
@@ -103,14 +112,20 @@ impl<A: Allocator + Clone, B: Book<A>> Speaker<A, B> {
             expected,
             identifier: link.peer.identifier(),
         };
-        let heard = take_front(
+        let heard = match take_front(
             &self.alloc,
             &self.conf,
             &self.links,
             &mut self.routing,
             sender,
             link,
-        )?;
+        ) {
+            Ok(heard) => heard,
+            Err(refused) => {
+                let _ = self.input(slot, Input::NoMemory);
+                return Err(refused);
+            }
+        };
         if let Some(input) = heard {
             let _ = self.input(slot, input);
         }

@@ -1,20 +1,19 @@
 //! The speaker and its calls.
-ghost use Rattle.std.specs.Prelude.{◌≡◌, ◌≢◌, ◌<◌, ◌⊎◌, ◌↔◌, ◌++◌, ℕ, [], ◌∷◌, true, false, length, min, take, drop, MatchOption, MatchResult, IfErr, IsOk, OnOk, IfOk, None, Some};
+ghost use Rattle.std.specs.Prelude.{◌≡◌, ◌≢◌, ◌<◌, ◌⊎◌, ◌↔◌, ◌++◌, ℕ, [], ◌∷◌, true, length, min, take, drop, MatchOption, MatchResult, IfErr, IsOk, IfOk, None, Some};
 ghost use Rattle.bgp_conf.specs.Configuration.{AddressesDiffer, peer_at};
 ghost use Rattle.bgp_conf.specs.declared.conf.ConfiguredPeer.{ConfiguredPeer as ThePeer};
 ghost use Rattle.std.specs.Option.{option_map};
 ghost use Rattle.bgp_fsm.specs.Transports.{transport_of};
 ghost use Rattle.speaker.specs.Moves.{Hands};
-ghost use Rattle.speaker.specs.Runs.{Call, Run, turn, call_of, report_of, Take_call};
-ghost use Rattle.speaker.specs.Agreement.{Agrees, Holds, IsThrifty, Passes, QueuesOn};
+ghost use Rattle.speaker.specs.Runs.{Call, Run, Turn, turn, asked, call_of, report_of, Take_call};
+ghost use Rattle.speaker.specs.Agreement.{Agrees, Holds, IsFair, IsThrifty};
 ghost use Rattle.speaker.specs.declared.config.Config.{Config as TheConfig};
 ghost use Rattle.speaker.specs.Tables.{link_at, session_at};
 ghost use Rattle.speaker.specs.Linked.{Linked};
-ghost use Rattle.speaker.specs.Queueing.{Queue};
-ghost use Rattle.speaker.specs.Serving.{IsServedAt};
+ghost use Rattle.speaker.specs.Queueing.{Queue, starved_in};
 
 use crate::config::Config;
-use crate::event::{Event, Report};
+use crate::event::{Event, Report, only};
 use crate::link::Link;
 use crate::routing::Routing;
 use bgp_conf::{Command, Conf, Refusal};
@@ -35,8 +34,6 @@ pub struct Speaker<A: Allocator + Clone = Global, B: Book<A> = PlainBook<A>> {
     pub(crate) routing: Routing<A, B>,
     // The moment of the last tick.
     moment: u64,
-    // Whether memory was refused to a call other than a command: nothing is answered from then on.
-    stopped: bool,
 }
 
 impl<A: Allocator + Clone, B: Book<A>> Model for Speaker<A, B> {
@@ -55,7 +52,6 @@ impl<A: Allocator + Clone, B: Book<A>> Model for Speaker<A, B> {
       adj_in = s.routing.adj_in;
       book = s.routing.book;
       loc_rib = rows_of s.routing.book;
-      stopped = s.stopped;
     } };
 
     ghost invariant = { λ s. IsSound s.conf (offer_at s.routing.book) × AreMarked s.conf s.links.entries s.routing };
@@ -96,25 +92,21 @@ impl<A: Allocator + Clone, B: Book<A>> Speaker<A, B> {
             links,
             routing,
             moment: 0,
-            stopped: false,
         })
     }
 
-    /// One event. A refusal leaves the speaker as it was, but where memory is refused to anything else than the
-    /// growth of a command itself: then this call and each later one answer 44.
+    /// One event. A refusal leaves the speaker as it was. Where memory is refused to what a session needs, that
+    /// session is closed, its routes go, and the report names its slot.
     pub fn step(&mut self, event: Event<'_>) -> Result<Report, Refusal>
         // The first refusal is the answer, and the speaker stays as it was; where there is none, only want of memory is.
         ensures refused { MatchOption (refusal_of self.old event.entry)
             (IfErr result (λ why. (why ≡ Refusal.NoMemory) × LacksMemory event.entry self.old self.new))
             (λ why. (result ≡ Err why) × (self.new ≡ self.old)) }
-        // For every run that the speaker agrees with, it agrees with that run followed by this event and what it queued,
-        // and this turn is what it reports.
+        // For every run that the speaker agrees with, it agrees with that run followed by this event and what it did at its
+        // end, with each want of memory, and this turn is what it reports.
         ensures agrees { IfOk result (λ report. (config : TheConfig) (r : Run) → Agrees config r self.old
-            → (queue : Queue) × (report ≡ report_of (turn (call_of event.entry) queue)) × Agrees config (turn (call_of event.entry) queue ∷ r) self.new) }
+            → (now : Turn) × (asked now.call ≡ call_of event.entry) × (report ≡ report_of now) × Agrees config (now ∷ r) self.new) }
     {
-        if self.stopped {
-            return Err(Refusal::NoMemory);
-        }
         self.check(&event)?;
         self.take_event(event)
     }
@@ -124,8 +116,9 @@ impl<A: Allocator + Clone, B: Book<A>> Speaker<A, B> {
         requires { refusal_by self.old.moment (tables_of self.old) event ≡ None }
         ensures memory { IfErr result (λ why. (why ≡ Refusal.NoMemory) × LacksMemory event.entry self.old self.new) }
         ensures agrees { IfOk result (λ report. (config : TheConfig) (r : Run) → Agrees config r self.old
-            → (queue : Queue) × (report ≡ report_of (turn (call_of event.entry) queue)) × Agrees config (turn (call_of event.entry) queue ∷ r) self.new) }
+            → (now : Turn) × (asked now.call ≡ call_of event.entry) × (report ≡ report_of now) × Agrees config (now ∷ r) self.new) }
     {
+        let mut starved = 0;
         match event {
             Event::Command(command) => {
                 if self.obey(&command).is_err() {
@@ -140,15 +133,12 @@ impl<A: Allocator + Clone, B: Book<A>> Speaker<A, B> {
             }
             Event::Bytes(slot, octets) => {
                 if self.hear(slot, octets).is_err() {
-                    return self.stop();
+                    starved = only(slot);
                 }
             }
             Event::Tick(now) => self.tick(now),
         }
-        match self.settle() {
-            Ok(()) => Ok(Report::NOTHING),
-            Err(_) => self.stop(),
-        }
+        Ok(Report::of_starved(starved | self.settle()))
     }
 
     // A moment comes. As yet no session has a timer that it could end.
@@ -158,39 +148,25 @@ impl<A: Allocator + Clone, B: Book<A>> Speaker<A, B> {
         self.moment = now;
     }
 
-    // Want of memory stops the speaker.
-    fn stop(&mut self) -> Result<Report, Refusal>
-        ensures answer { result ≡ Err Refusal.NoMemory }
-        ensures stopped { self.new.stopped ≡ true }
-    {
-        self.stopped = true;
-        Err(Refusal::NoMemory)
-    }
-
     /// Hands out the first octets of a slot's ring, as many as there are and fit, and queues again. Refused by 40
-    /// where the slot isn't configured. Where memory is refused to the queueing, the octets are handed out all
-    /// the same, and each later call answers 44.
+    /// where the slot isn't configured. Where memory is refused to what a session is owed, that session is closed,
+    /// and the report names its slot.
     pub fn take(&mut self, slot: u8, buf: &mut [u8]) -> Result<(usize, Report), Refusal>
         // The first refusal is the answer, and all stays as it was; where there is none, octets are handed out.
         ensures refused { MatchOption (take_refusal_of self.old slot) (IsOk result) (λ why. (result ≡ Err why) × (self.new ≡ self.old) × (buf.new ≡ buf.old)) }
         // The ring's first octets are handed out, as many as are there and fit.
         ensures handed { IfOk result (λ taken. (l : Linked) → link_at self.old.links slot ≡ Some l
             → (taken.0 ≡ min (length buf.old) (length l.peer.ring)) × (buf.new ≡ take taken.0 l.peer.ring ++ drop taken.0 buf.old)) }
-        // For every run that the speaker agrees with, it agrees with that run followed by this call and what it queued, and
-        // this turn is what it reports. Where want of memory stopped the queueing, all is as what was queued so far leaves it.
+        // For every run that the speaker agrees with, it agrees with that run followed by this call and what it did at its
+        // end, with each want of memory, and this turn is what it reports.
         ensures agrees { IfOk result (λ taken. (config : TheConfig) (r : Run) → Agrees config r self.old
             → (queue : Queue) × (taken.1 ≡ report_of (turn (Take_call slot (take taken.0 buf.new)) queue))
-            × Passes config (Take_call slot (take taken.0 buf.new)) r queue (record self.new { stopped = false })
-            × (self.new.stopped ≡ false → Agrees config (turn (Take_call slot (take taken.0 buf.new)) queue ∷ r) self.new)) }
+            × Agrees config (turn (Take_call slot (take taken.0 buf.new)) queue ∷ r) self.new) }
     {
-        if self.stopped {
-            return Err(Refusal::NoMemory);
-        }
         let Some(taken) = self.hand_out(slot, buf) else {
             return Err(Refusal::BadSlot);
         };
-        self.queue_or_stop();
-        Ok((taken, Report::NOTHING))
+        Ok((taken, Report::of_starved(self.queue_updates())))
     }
 
     // Hands out the first octets of the ring of a configured slot, and answers how many.
@@ -240,24 +216,12 @@ impl<A: Allocator + Clone, B: Book<A>> Speaker<A, B> {
         }
     }
 
-    // The end of each step: the peers are queued what they are owed.
-    fn settle(&mut self) -> Result<(), AllocError>
-        ensures { OnOk result ((config : TheConfig) (call : Call) (r : Run) → Holds config (turn call [] ∷ r) self.old → IsThrifty config r
-            → (queue : Queue) × Agrees config (turn call queue ∷ r) self.new) }
+    // The end of each step: the peers are queued what they are owed. Answers the slots to which memory is refused.
+    fn settle(&mut self) -> u64
+        ensures { (config : TheConfig) (call : Call) (r : Run) → Holds config (turn call [] ∷ r) self.old → IsFair config r call → IsThrifty config r
+            → (queue : Queue) × (starved_in queue ≡ result) × Agrees config (turn call queue ∷ r) self.new }
     {
         self.routing.ribs.is_chosen();
         self.queue_updates()
-    }
-
-    // Queues the UPDATEs that are owed; want of memory stops the speaker.
-    fn queue_or_stop(&mut self)
-        ensures rest { self.new ≡ record self.old { links = self.new.links; stopped = self.new.stopped } }
-        ensures queues { QueuesOn self.old (record self.new { stopped = self.old.stopped }) }
-        ensures served { self.new.stopped ≡ false → (slot : ℕ) → slot < 64 → IsServedAt self.new slot }
-    {
-        match self.queue_updates() {
-            Ok(()) => {}
-            Err(_) => self.stopped = true,
-        }
     }
 }

@@ -1,4 +1,5 @@
-use Rattle.speaker.proofs.HeardOffers.{apart_heard, on_kept, sound_heard}
+use Rattle.speaker.proofs.HeardOffers.{apart_heard, kept_withdrawn, on_kept, on_words, others_withdrawn, sound_heard}
+use Rattle.speaker.proofs.Results.{OnErr-is}
 use Rattle.speaker.proofs.receiving.take_update.Goals as goal
 
 pub announce_each-requires-clause-apart : goal.announce_each-requires-clause-apart
@@ -14,3 +15,15 @@ returns-clause-kept g c =
     let made = rw c.deref.ensures at c.candidate-candidate.ensures in
     on_kept c.announce_each.result c.args.conf.now c.args.sender _ c.candidate-candidate.result _ _ c.args.routing.now c.withdraw_each.new.routing c.announce_each.new.routing made
     c.withdraw_each.ensures.routes c.withdraw_each.ensures.offers c.announce_each.ensures.routes c.announce_each.ensures.offers
+
+pub returns-then-is_none-clause-kept : goal.returns-then-is_none-clause-kept
+returns-then-is_none-clause-kept g c = kept_withdrawn c.args.conf.now c.args.sender _ c.args.routing.now c.withdraw_each.new.routing c.withdraw_each.ensures.routes c.withdraw_each.ensures.offers
+
+pub returns-in_err-clone-clause-others : goal.returns-in_err-clone-clause-others
+returns-in_err-clone-clause-others g c = OnErr-is _ _ (others_withdrawn c.args.sender.slot _ c.args.routing.now c.withdraw_each.new.routing c.withdraw_each.ensures.routes c.withdraw_each.ensures.offers)
+
+pub returns-clause-routes : goal.returns-clause-routes
+returns-clause-routes g c =
+    let gone = rw c.withdrawn.ensures at c.withdraw_each.ensures.routes in
+    let come = rw (c.announced-announced.ensures, c.in_ok-attrs.ensures.ok, c.into_attrs.ensures) at c.announce_each.ensures.routes in
+    on_words c.announce_each.result c.args.sender.slot c.args.update _ _ _ gone come

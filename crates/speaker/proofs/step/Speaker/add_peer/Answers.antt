@@ -44,8 +44,8 @@ returns-in-Ok-clause-ok g c = λ config r holds.
     let here = rw (← c.self.view_is) at holds in
     let put = put_inserted c.args.slot c.in_ok-link.link _ _ _ c.in_ok-before.ensures.updates.0 (c.in_ok-link.ensures ∙ added_same c.self.inside.config config c.args.conf.now here.config_is) in
     elim c.match-before.branch [
-      | in-Some-1 w ↦ rw (w.self-is, c.requires.adds) (holds_added config r c.args.slot c.args.conf.now _ _ here may conf peers put refl refl refl refl refl)
-      | in-None-1 w ↦ rw (w.self-is, c.requires.adds) (holds_added config r c.args.slot c.args.conf.now _ _ here may conf peers put refl refl refl refl refl)
+      | in-Some-1 w ↦ rw (w.self-is, c.requires.adds) (holds_added config r c.args.slot c.args.conf.now _ _ here may conf peers put refl refl refl refl)
+      | in-None-1 w ↦ rw (w.self-is, c.requires.adds) (holds_added config r c.args.slot c.args.conf.now _ _ here may conf peers put refl refl refl refl)
     ]
 
 pub returns-in-Err-clause-err : goal.returns-in-Err-clause-err
@@ -58,5 +58,4 @@ returns-in-Err-clause-err g c =
       adj_in = refl;
       book = refl;
       loc_rib = refl;
-      stopped = refl;
     })

@@ -7,12 +7,21 @@ use Rattle.speaker.specs.RoutingState.{RoutingState}
 use Rattle.speaker.specs.Serving.{HasRoomAt, IsHad}
 use Rattle.speaker.specs.Tables.{best_at}
 use Rattle.speaker.specs.declared.step.Speaker.TheInside.{Inside}
-use Rattle.speaker.proofs.Serving.{export_kept, had_by, left-smaller, served_by, Serves-still, Walks-announced, Walks-end, Walks-had}
+use Rattle.speaker.proofs.Results.{OnErr-is}
+use Rattle.speaker.proofs.Serving.{export_kept, had_by, left-smaller, served_by, Serves-still, short_still, Walks-announced, Walks-end, Walks-had}
 use Rattle.speaker.proofs.step.Speaker.announce_all.Goals as goal
 use Rattle.speaker.proofs.step.Speaker.announce_all.Goals.{then-export+in_ok-announce_at, else-export}
 
 pub returns-in_err-announce_at-clause-serves : goal.returns-in_err-announce_at-clause-serves
 returns-in_err-announce_at-clause-serves g c = Serves-still _ _ c.loop-prefix.self _ c.loop-prefix.invariant.serves c.in_err-announce_at.ensures.err
+
+pub returns-in_err-announce_at-clause-short : goal.returns-in_err-announce_at-clause-short
+returns-in_err-announce_at-clause-short g c =
+    let h = c.loop-prefix.invariant in
+    let next = c.in-Some.ensures h.serves.after (served_by _ _ _ _ h.serves c.requires.peer) in
+    let tells = subst (λ (t : RoutingState). export_in (best_at (rows_of t.book)) t.adj_in c.args.peer.now c.in-Some.prefix ≡ Some c.export.new.octets.items) (ap (λ (x : Inside g.row.A.Denot g.row.B.Denot). x.routing) c.self-inside.view_is) c.if-export.ensures.tells in
+    let some : export_in (best_at c.loop-prefix.self.loc_rib) c.loop-prefix.self.adj_in c.args.peer.now c.in-Some.prefix ≡ Some c.export.new.octets.items = rw (← c.self.view_is) tells in
+    OnErr-is _ _ (short_still c.args.slot c.args.self.now c.loop-prefix.self _ c.in-Some.prefix c.args.peer.now c.export.new.octets.items h.serves c.requires.slot c.requires.peer next.0 some c.in_err-announce_at.ensures.err)
 
 pub loop-prefix-smaller : goal.loop-prefix-smaller
 loop-prefix-smaller g c =

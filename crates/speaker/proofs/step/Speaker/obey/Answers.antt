@@ -15,4 +15,4 @@ returns-in_ok-apply-in-Reach-clause-ok g c = λ config r holds.
     let conf = rw c.in-Reach.is at c.in_ok-apply-in-Reach.ensures.ok in
     let peers = rw c.in-Reach.is at c.in_ok-apply-in-Reach.ensures.peers in
     let here = rw (← c.self.view_is) at holds in
-    rw c.in-Reach.is (holds_reach config r c.in-Reach.field-0 c.in-Reach.field-1 _ _ here conf peers refl refl refl c.choose_again.ensures.routes refl c.choose_again.ensures.made)
+    rw c.in-Reach.is (holds_reach config r c.in-Reach.field-0 c.in-Reach.field-1 _ _ here conf peers refl refl refl c.choose_again.ensures.routes c.choose_again.ensures.made)

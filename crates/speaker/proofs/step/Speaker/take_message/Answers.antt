@@ -1,40 +1,55 @@
-use Rattle.std.proofs.Common.{◌≡◌, ◌∙◌, refl, sym, ap}
+use Rattle.std.proofs.Common.{◌≡◌, ◌∙◌, refl, sym, ap, subst}
 use Rattle.std.specs.Option.{option_map}
+use Rattle.speaker.specs.Moves.{TakesMemoryAt}
 use Rattle.speaker.specs.Runs.{terms_in}
 use Rattle.speaker.specs.Tables.{session_at}
-use Rattle.speaker.proofs.Messages.{takes, takes_none, some_same}
+use Rattle.speaker.proofs.Messages.{starves, takes, takes_none, some_same}
 use Rattle.speaker.proofs.step.Speaker.take_message.Goals as goal
 
-pub returns-in-Some-heard : goal.returns-in-Some-heard
-returns-in-Some-heard g c = λ l peer linked configured.
+pub returns-in-Some-heard-clause-taken : goal.returns-in-Some-heard-clause-taken
+returns-in-Some-heard-clause-taken g c = λ l peer linked configured.
     let linked_here = rw (← c.self.view_is) at linked in
     let configured_here = rw (← c.self.view_is) at configured in
     let link_same : c.in-Some-get.link.now ≡ l = some_same _ _ _ c.in-Some-get.ensures.value linked_here in
     let peer_same : c.in-Some.peer ≡ peer = some_same _ _ _ c.in-Some.ensures configured_here in
     let told : c.in-Some-get.link.now.peer.session.identifier ≡ c.identifier.result = rw (← c.link.view_is) (sym c.identifier.ensures) in
-    let kept = c.in_ok-heard.ensures.kept c.in-Some-get.link.now.peer.session refl told (session_at c.self.inside.links.entries) (ap (option_map (λ l. l.peer.session)) (sym c.in-Some-get.ensures.value)) in
+    let kept = c.in-Ok.ensures.kept c.in-Some-get.link.now.peer.session refl told (session_at c.self.inside.links.entries) (ap (option_map (λ l. l.peer.session)) (sym c.in-Some-get.ensures.value)) in
     rw (← link_same, ← peer_same, ← c.self.view_is)
     (takes c.args.slot (terms_in c.self.inside.config c.in-Some.peer) c.in-Some-get.link.now _ c.in-Some-heard.input _ _ _
-    (sym c.in-Some-heard.is ∙ c.in_ok-heard.ensures.input (terms_in c.self.inside.config c.in-Some.peer) (record { expected_is = refl; kind_is = c.between.ensures }))
-    (c.in_ok-heard.ensures.routes (terms_in c.self.inside.config c.in-Some.peer) (record { expected_is = refl; kind_is = c.between.ensures }))
+    (sym c.in-Some-heard.is ∙ c.in-Ok.ensures.input (terms_in c.self.inside.config c.in-Some.peer) (record { expected_is = refl; kind_is = c.between.ensures }))
+    (c.in-Ok.ensures.routes (terms_in c.self.inside.config c.in-Some.peer) (record { expected_is = refl; kind_is = c.between.ensures }))
     kept
-    (record { config = refl; moment = refl; conf = refl; stopped = refl })
+    (record { config = refl; moment = refl; conf = refl })
     (λ s. refl)
     (sym c.in-Some-get.ensures.value)
-    (c.input.ensures.moves _ (sym c.in-Some-get.ensures.value)))
+    (c.input-in-Some-heard.ensures.moves _ (sym c.in-Some-get.ensures.value)))
 
-pub returns-in_default-heard : goal.returns-in_default-heard
-returns-in_default-heard g c = λ l peer linked configured.
+pub returns-in_default-heard-clause-taken : goal.returns-in_default-heard-clause-taken
+returns-in_default-heard-clause-taken g c = λ l peer linked configured.
     let linked_here = rw (← c.self.view_is) at linked in
     let configured_here = rw (← c.self.view_is) at configured in
     let link_same : c.in-Some-get.link.now ≡ l = some_same _ _ _ c.in-Some-get.ensures.value linked_here in
     let peer_same : c.in-Some.peer ≡ peer = some_same _ _ _ c.in-Some.ensures configured_here in
     let told : c.in-Some-get.link.now.peer.session.identifier ≡ c.identifier.result = rw (← c.link.view_is) (sym c.identifier.ensures) in
-    let kept = c.in_ok-heard.ensures.kept c.in-Some-get.link.now.peer.session refl told (session_at c.self.inside.links.entries) (ap (option_map (λ l. l.peer.session)) (sym c.in-Some-get.ensures.value)) in
+    let kept = c.in-Ok.ensures.kept c.in-Some-get.link.now.peer.session refl told (session_at c.self.inside.links.entries) (ap (option_map (λ l. l.peer.session)) (sym c.in-Some-get.ensures.value)) in
     rw (← link_same, ← peer_same, ← c.self.view_is)
     (takes_none c.args.slot (terms_in c.self.inside.config c.in-Some.peer) c.in-Some-get.link.now _ _ _
-    (sym c.in_default-heard.is ∙ c.in_ok-heard.ensures.input (terms_in c.self.inside.config c.in-Some.peer) (record { expected_is = refl; kind_is = c.between.ensures }))
-    (c.in_ok-heard.ensures.routes (terms_in c.self.inside.config c.in-Some.peer) (record { expected_is = refl; kind_is = c.between.ensures }))
+    (sym c.in_default-heard.is ∙ c.in-Ok.ensures.input (terms_in c.self.inside.config c.in-Some.peer) (record { expected_is = refl; kind_is = c.between.ensures }))
+    (c.in-Ok.ensures.routes (terms_in c.self.inside.config c.in-Some.peer) (record { expected_is = refl; kind_is = c.between.ensures }))
     kept
-    (record { config = refl; moment = refl; conf = refl; stopped = refl })
+    (record { config = refl; moment = refl; conf = refl })
     (λ s. refl))
+
+pub returns-in-Err-clause-starved : goal.returns-in-Err-clause-starved
+returns-in-Err-clause-starved g c = λ l linked.
+    let linked_here = rw (← c.self.view_is) at linked in
+    let same : c.in-Some-get.link.now ≡ l = some_same _ _ _ c.in-Some-get.ensures.value linked_here in
+    let takes : TakesMemoryAt l = subst TakesMemoryAt same c.in-Err.ensures.memory in (
+      takes,
+      rw (← c.self.view_is)
+          (starves c.args.slot l _ _ _ takes.established (λ s. refl) (λ s p other. c.in-Err.ensures.others.routes s p other) (λ s p other. c.in-Err.ensures.others.offers s p other)
+          (record { config = refl; moment = refl; conf = refl }) (c.input.ensures.moves l linked_here)),
+    )
+
+pub returns-in-Err-clause-within : goal.returns-in-Err-clause-within
+returns-in-Err-clause-within g c = c.self.invariant.1.there.within c.args.slot c.in-Some-get.link.now (sym c.in-Some-get.ensures.value)

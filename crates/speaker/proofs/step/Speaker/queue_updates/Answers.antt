@@ -1,0 +1,20 @@
+use Rattle.std.proofs.Common.{refl}
+use Rattle.speaker.specs.Serving.{is_standing}
+use Rattle.speaker.specs.Tables.{link_at}
+use Rattle.speaker.proofs.Standing.{QueuesAll-none, QueuesAll-on, QueuesAll-starved, count_less, count_same, fewer, short_stands}
+use Rattle.speaker.proofs.step.Speaker.queue_updates.Goals as goal
+
+pub loop-slot-init : goal.loop-slot-init
+loop-slot-init g c = QueuesAll-none _
+
+pub loop-slot-smaller : goal.loop-slot-smaller
+loop-slot-smaller g c =
+    let same = count_same (λ s. is_standing (link_at c.loop-slot.self.links s)) (λ s. is_standing (link_at c.pass.new.self.links s)) c.pass.ensures.stand 64 in
+    let less = count_less (λ s. is_standing (link_at c.pass.new.self.links s)) (λ s. is_standing (link_at c.starve.new.self.links s)) c.in-Some.slot (short_stands c.pass.new.self c.in-Some.slot c.in-Some.ensures.short) c.starve.ensures.stand 64 c.in-Some.ensures.short.within in
+    fewer _ _ _ same less
+
+pub loop-slot-preserved : goal.loop-slot-preserved
+loop-slot-preserved g c = QueuesAll-starved _ _ _ _ _ _ _ c.only-starved.ensures refl (QueuesAll-on _ _ _ _ c.loop-slot.invariant c.pass.ensures.queues) c.starve.ensures.queues
+
+pub returns-clause-queues : goal.returns-clause-queues
+returns-clause-queues g c = QueuesAll-on _ _ _ _ c.loop-slot.invariant c.pass.ensures.queues
