@@ -210,7 +210,7 @@ starves_heard config r done slot peer l octets behind old mid new h configured l
     let at : history config slot (turn (Starved_call slot (done ++ cut.0) cut.1 behind) [] ∷ r) ≡ onto behind (Signalled NoMemory ∷ onto (done ++ cut.0) (history config slot r)) = rw (eq-eqb slot slot refl) refl in
     let change : (p : Prefix) → route_at new.adj_in slot p ≡ cond (effects_of NoMemory l.peer.session).left None (route_at old.adj_in slot p) =
     λ p. moves.routes slot p ∙ rw (eq-eqb slot slot refl) (left_on (effects_of NoMemory l.peer.session).left (route_at mid.adj_in slot p))
-        ∙ ap (λ table. cond (effects_of NoMemory l.peer.session).left None (route_at table slot p)) pushes.routes in
+    ∙ ap (λ table. cond (effects_of NoMemory l.peer.session).left None (route_at table slot p)) pushes.routes in
     let after : SlotIs config peer (moved (with_peer l (pushed l.peer octets)) NoMemory) (route_at new.adj_in slot) (onto behind (Signalled NoMemory ∷ heard.before)) =
     slot_starved config peer (with_peer l (pushed l.peer octets)) (route_at old.adj_in slot) (route_at new.adj_in slot) heard.before heard.part behind heard.holds change in
     let H : List happens.Event → Type 0 = λ x. SlotIs config peer (moved (with_peer l (pushed l.peer octets)) NoMemory) (route_at new.adj_in slot) x in
@@ -230,7 +230,7 @@ starves_heard config r done slot peer l octets behind old mid new h configured l
           (λ before. moves_keep slot (with_peer l (pushed l.peer octets)) NoMemory mid new (put_here slot (with_peer l (pushed l.peer octets)) old mid pushes.links) moves (pushes_keep slot l octets old mid linked pushes before))
           (rest_kept old mid new pushes.rest moves.rest)
           (λ s. moves.links s ∙ ap (λ other. cond (s == slot) (Some (moved (with_peer l (pushed l.peer octets)) NoMemory)) other) (pushes.links s)
-              ∙ cond_again (s == slot) (Some (moved (with_peer l (pushed l.peer octets)) NoMemory)) (Some (with_peer l (pushed l.peer octets))) (link_at old.links s))
+          ∙ cond_again (s == slot) (Some (moved (with_peer l (pushed l.peer octets)) NoMemory)) (Some (with_peer l (pushed l.peer octets))) (link_at old.links s))
           (λ t other p. moves.routes t p ∙ rw (ne_eqb t slot other) (left_off (effects_of NoMemory l.peer.session).left (route_at mid.adj_in t p)) ∙ ap (λ table. route_at table t p) pushes.routes)
           (λ t other. rw (ne_eqb t slot other) refl)
           peer configured (subst H (sym at) (subst (λ x. H (onto behind (Signalled NoMemory ∷ x))) (sym same.1) after)),

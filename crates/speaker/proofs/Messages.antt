@@ -72,5 +72,6 @@ starves slot l old mid new up links routes offers rest moves = record {
   where
     left : (effects_of NoMemory l.peer.session).left ≡ true
     left = rw up refl
+
     gone : {X : Type 0} (b : Bool) → b ≡ true → (s : ℕ) (x y : Option X) → (s ≢ slot → x ≡ y) → cond (b && s == slot) None x ≡ cond (b && s == slot) None y
     gone b is s x y same = elim (cases_eq s slot) [ inl here ↦ rw (is, here, eq-eqb slot slot refl) refl | inr other ↦ rw (same other) refl ]

@@ -37,17 +37,17 @@ returns-clause-heard g c = λ taken config r done peer configured holds.
 pub returns-in_err-take_message-clause-starved : goal.returns-in_err-take_message-clause-starved
 returns-in_err-take_message-clause-starved g c =
     let all : HearsUntil c.args.slot c.args.octets.now c.args.self.now c.take_message.new.self = λ config r done peer configured holds.
-        let found = slot_of config (turn (Bytes_call c.args.slot done) [] ∷ r) c.args.slot peer c.args.self.now holds configured in
-        let pushes = c.push-taken.ensures.pushes found.0 found.1 in
-        let open_ = taken_open found.0 c.args.octets.now c.push-taken.result (c.push-taken.ensures.count found.0 found.1) c.if-taken-eq0.false in
-        let few = taken_wanted found.0 c.args.octets.now c.push-taken.result (c.push-taken.ensures.count found.0 found.1) in
-        let some = some_taken c.push-taken.result c.args.octets.now c.push-taken.ensures.within c.if-taken-eq0.false in
-        let octets = take c.push-taken.result c.args.octets.now in
-        let starved = c.in_err-take_message.ensures.starved (with_peer found.0 (pushed found.0.peer (take c.push-taken.result c.args.octets.now)))
-        (put_here c.args.slot (with_peer found.0 (pushed found.0.peer (take c.push-taken.result c.args.octets.now))) c.args.self.now c.push-taken.new.self pushes.links) in
-        let until = starves_heard config r done c.args.slot peer found.0 (take c.push-taken.result c.args.octets.now) (drop c.push-taken.result c.args.octets.now) c.args.self.now c.push-taken.new.self c.take_message.new.self
-        holds configured found.1 open_ some few pushes starved.0 starved.1 in
-        (until.0, until.1, until.2, ap (λ x. done ++ x) (sym (take-append-drop c.push-taken.result c.args.octets.now)) ∙ until.3, until.4, until.5) in
+    let found = slot_of config (turn (Bytes_call c.args.slot done) [] ∷ r) c.args.slot peer c.args.self.now holds configured in
+    let pushes = c.push-taken.ensures.pushes found.0 found.1 in
+    let open_ = taken_open found.0 c.args.octets.now c.push-taken.result (c.push-taken.ensures.count found.0 found.1) c.if-taken-eq0.false in
+    let few = taken_wanted found.0 c.args.octets.now c.push-taken.result (c.push-taken.ensures.count found.0 found.1) in
+    let some = some_taken c.push-taken.result c.args.octets.now c.push-taken.ensures.within c.if-taken-eq0.false in
+    let octets = take c.push-taken.result c.args.octets.now in
+    let starved = c.in_err-take_message.ensures.starved (with_peer found.0 (pushed found.0.peer (take c.push-taken.result c.args.octets.now)))
+    (put_here c.args.slot (with_peer found.0 (pushed found.0.peer (take c.push-taken.result c.args.octets.now))) c.args.self.now c.push-taken.new.self pushes.links) in
+    let until = starves_heard config r done c.args.slot peer found.0 (take c.push-taken.result c.args.octets.now) (drop c.push-taken.result c.args.octets.now) c.args.self.now c.push-taken.new.self c.take_message.new.self
+    holds configured found.1 open_ some few pushes starved.0 starved.1 in
+    (until.0, until.1, until.2, ap (λ x. done ++ x) (sym (take-append-drop c.push-taken.result c.args.octets.now)) ∙ until.3, until.4, until.5) in
     OnErr-is _ _ all
 
 pub returns-in_err-take_message-clause-slot : goal.returns-in_err-take_message-clause-slot
