@@ -23,8 +23,8 @@ pub fn run<A: Allocator + Clone>(
     config: Config,
     events: &[Event<'_>],
 ) -> Result<Trace<A>, Refusal>
-    // The answers lead to a run that the speaker agrees with, as far as want of memory has not stopped it; each event that
-    // is refused is answered by its first refusal after the run so far.
+    // The answers lead to a run that the speaker agrees with; each event that is refused is answered by its first refusal
+    // after the run so far.
     ensures played { IfOk result (λ trace. IsPlayed config events.now trace.answers.items trace.speaker) }
     // 33 is the answer exactly where the settings are out of range.
     ensures range { (result ≡ Err Refusal.Range) ↔ (is_out_of_range config ≡ true) }
