@@ -1,6 +1,6 @@
 //! The calls of the first path: two passive peers, a route of the first, and the loss of its connection.
 use net_prefix::{Asn, Prefix};
-use speaker::{Command, Config, Event, Mode, PeerConf};
+use speaker::{Command, Config, Event, Mode, PeerConf, Report};
 
 /// AS 65000, 192.0.2.1.
 pub const CONFIG: Config = Config {
@@ -79,6 +79,18 @@ const WITHDRAWN: [u8; 27] = [
     0x00, 0x1B, 0x02, 0x00, 0x04, 0x18, 0x0A, 0x00, 0x01, 0x00, 0x00,
 ];
 
+/// The report of a call that closed the first peer's session for want of memory.
+pub const FIRST_CLOSED: Report = Report {
+    starved: 1,
+    ..Report::NOTHING
+};
+
+/// The report of a call that closed the second peer's.
+pub const SECOND_CLOSED: Report = Report {
+    starved: 2,
+    ..Report::NOTHING
+};
+
 /// A call of a speaker.
 #[derive(Clone, Copy)]
 pub enum Call<'a> {
@@ -96,6 +108,29 @@ pub const REACHABLE: &str = "192.0.2.0/24";
 
 /// What the UPDATE announces.
 pub const ANNOUNCED_PREFIX: &str = "10.0.1.0/24";
+
+/// What the first peer's octets and its operator's commands are behind a closing: its connection comes again.
+pub fn first_again() -> [Call<'static>; 6] {
+    [
+        Call::Step(Event::Fail(0)),
+        Call::Step(Event::Command(Command::Enable(0))),
+        Call::Step(Event::Up(0)),
+        Call::Step(Event::Bytes(0, &FIRST_OPEN)),
+        Call::Step(Event::Bytes(0, &KEEPALIVE)),
+        Call::Step(Event::Bytes(0, &UPDATE)),
+    ]
+}
+
+/// The same of the second peer.
+pub fn second_again() -> [Call<'static>; 5] {
+    [
+        Call::Step(Event::Fail(1)),
+        Call::Step(Event::Command(Command::Enable(1))),
+        Call::Step(Event::Up(1)),
+        Call::Step(Event::Bytes(1, &SECOND_OPEN)),
+        Call::Step(Event::Bytes(1, &KEEPALIVE)),
+    ]
+}
 
 /// The calls, in order.
 pub fn calls(reachable: Prefix) -> [Call<'static>; 15] {

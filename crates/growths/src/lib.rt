@@ -2,11 +2,11 @@
 //!
 //! A route comes from one peer, is chosen and told to the other, and is taken back when the first peer's connection
 //! fails. `stepping` plays these calls on a speaker, and once the nth request for memory is refused finds what
-//! `Speaker::step` and `Speaker::take` promise: an event answers 44; after a command that is refused the speaker is as
-//! before and goes on; after any other, and after a command whose choosing or queueing found no memory, each later
-//! call answers 44 and changes nothing. `running` plays the events by `run`, once with memory for all of them. `serving` plays loads, a
-//! client and its queries on a cache: a refused load or client changes nothing, a refused response closes its client
-//! alone, and the same call is answered when it is made again.
+//! `Speaker::step` and `Speaker::take` promise: there is no speaker; or a command is refused, leaves the speaker as it
+//! was and is taken when it comes again; or one session is closed, the report names it, its routes have gone, the other
+//! is as it was, and all goes on when its peer comes again. `running` plays the events by `run`, once with memory for
+//! all of them. `serving` plays loads, a client and its queries on a cache: a refused load or client changes nothing, a
+//! refused response closes its client alone, and the same call is answered when it is made again.
 #![tactic(auto)]
 
 #[cfg(test)]

@@ -1,5 +1,7 @@
 //! The events of the first path by `run`, where the nth request for memory is refused.
-use crate::first_path::{ANNOUNCED_PREFIX, CONFIG, Call, REACHABLE, UP_TO_ROUTE, calls};
+use crate::first_path::{
+    ANNOUNCED_PREFIX, CONFIG, Call, FIRST_CLOSED, REACHABLE, SECOND_CLOSED, UP_TO_ROUTE, calls,
+};
 use net_prefix::Prefix;
 use refusing::Refusing;
 use speaker::{BestRoute, Command, Event, Refusal, Report, State, Transport, run};
@@ -14,10 +16,12 @@ enum Ending {
     Whole,
     // There is no trace.
     NoTrace,
-    // A command was refused, and the speaker went on.
-    WentOn,
-    // A call stopped the speaker.
-    Stopped,
+    // A command was refused.
+    Refused,
+    // The first peer's session was closed.
+    ClosedFirst,
+    // The second peer's session was closed.
+    ClosedSecond,
 }
 
 fn events_of<'a>(alloc: Global, calls: &[Call<'a>]) -> Result<Vec<Event<'a>>, AllocError> {
@@ -38,19 +42,13 @@ fn slot_of(event: Event<'_>) -> Option<u8> {
     }
 }
 
-// The answers behind the first refused one: the speaker has stopped, or goes on without what was commanded.
-fn behind(
+// The answers behind a refused command: the speaker goes on without what was commanded.
+fn goes_on_without(
     rt: &impl Abort,
     refused: Event<'_>,
     events: &[Event<'_>],
     answers: &[Result<Report, Refusal>],
-) -> Ending {
-    if answers
-        .iter()
-        .all(|answer| *answer == Err(Refusal::NoMemory))
-    {
-        return Ending::Stopped;
-    }
+) {
     assert!(rt; matches!(refused, Event::Command(_)));
     for (event, answer) in events.iter().zip(answers) {
         let lacks_slot = slot_of(*event).is_some() && slot_of(*event) == slot_of(refused);
@@ -61,21 +59,48 @@ fn behind(
         };
         assert_eq!(rt; *answer, wanted);
     }
-    Ending::WentOn
+}
+
+// The answers behind a closing: nothing more is closed, and what comes to the closed slot is let pass.
+fn goes_on(rt: &impl Abort, answers: &[Result<Report, Refusal>]) {
+    for answer in answers {
+        assert_eq!(rt; *answer, Ok(Report::NOTHING));
+    }
+}
+
+// The first of the events has met a refused growth; these are the answers from there on.
+fn behind(rt: &impl Abort, events: &[Event<'_>], answers: &[Result<Report, Refusal>]) -> Ending {
+    let (Some((event, later)), Some((answer, rest))) = (events.split_first(), answers.split_first())
+    else {
+        return Ending::Whole;
+    };
+    match *answer {
+        Err(why) => {
+            assert_eq!(rt; why, Refusal::NoMemory);
+            goes_on_without(rt, *event, later, rest);
+            Ending::Refused
+        }
+        Ok(FIRST_CLOSED) => {
+            goes_on(rt, rest);
+            Ending::ClosedFirst
+        }
+        Ok(report) => {
+            assert_eq!(rt; report, SECOND_CLOSED);
+            goes_on(rt, rest);
+            Ending::ClosedSecond
+        }
+    }
 }
 
 fn judge(rt: &impl Abort, events: &[Event<'_>], answers: &[Result<Report, Refusal>]) -> Ending {
     assert_eq!(rt; answers.len(), events.len());
-    let mut later = events.iter();
-    let mut rest = answers;
-    while let (Some(event), Some((answer, behind_it))) = (later.next(), rest.split_first()) {
-        if *answer != Ok(Report::NOTHING) {
-            assert_eq!(rt; *answer, Err(Refusal::NoMemory));
-            return behind(rt, *event, later.as_slice(), behind_it);
-        }
-        rest = behind_it;
+    let met = answers
+        .iter()
+        .position(|answer| *answer != Ok(Report::NOTHING));
+    match met {
+        Some(place) => behind(rt, &events[place..], &answers[place..]),
+        None => Ending::Whole,
     }
-    Ending::Whole
 }
 
 fn play<A: Allocator + Clone>(rt: &impl Abort, heap: A, events: &[Event<'_>]) -> Ending {
@@ -104,10 +129,15 @@ fn endings(rt: &impl Abort, alloc: Global, events: &[Event<'_>]) -> Result<Vec<E
 }
 
 #[test]
-fn a_run_answers_44_or_has_it_among_its_answers(rt: HostRuntime) -> Result<(), Fail> {
+fn a_run_goes_on_behind_a_refused_growth(rt: HostRuntime) -> Result<(), Fail> {
     let events = events_of(rt.alloc(), &calls(Prefix::parse(REACHABLE)?))?;
     let endings = endings(&rt, rt.alloc(), events.as_slice())?;
-    for ending in [Ending::NoTrace, Ending::WentOn, Ending::Stopped] {
+    for ending in [
+        Ending::NoTrace,
+        Ending::Refused,
+        Ending::ClosedFirst,
+        Ending::ClosedSecond,
+    ] {
         assert!(rt; endings.contains(&ending), "{ending:?}");
     }
     Ok(())

@@ -1,14 +1,14 @@
 //! The calls of the first path on a speaker, where the nth request for memory is refused.
-use crate::first_path::{CONFIG, Call, REACHABLE, UP_TO_ROUTE, calls};
-use net_prefix::Prefix;
+use crate::first_path::{
+    ANNOUNCED_PREFIX, CONFIG, Call, FIRST_CLOSED, REACHABLE, SECOND_CLOSED, UP_TO_ROUTE, calls,
+    first_again, second_again,
+};
+use net_prefix::{Prefix, Transport};
 use refusing::Refusing;
-use speaker::{BestRoute, Event, Refusal, Report, Speaker, State};
+use speaker::{BestRoute, Refusal, Report, Speaker, State};
 use std::alloc::{AllocError, Global};
 use std::process::Abort;
 use std::test::Fail;
-
-// An event of a slot that there is not.
-const NO_SLOT: Call<'static> = Call::Step(Event::Up(64));
 
 // A speaker over a heap that refuses a growth.
 type OverRefusing<'heap> = Speaker<&'heap Refusing<Global>>;
@@ -18,6 +18,8 @@ type OverRefusing<'heap> = Speaker<&'heap Refusing<Global>>;
 enum Answer {
     AsWithMemory,
     NoMemory,
+    ClosedFirst,
+    ClosedSecond,
     Other,
 }
 
@@ -28,40 +30,47 @@ enum Ending {
     Whole,
     // There is no speaker.
     NotBegun,
-    // A command was refused, and the speaker went on.
-    WentOn,
-    // A command was obeyed, and what followed from it stopped the speaker.
-    StoppedByCommand,
-    // Another call stopped the speaker.
-    Stopped,
+    // A command was refused.
+    Refused,
+    // The first peer's session was closed.
+    ClosedFirst,
+    // The second peer's session was closed.
+    ClosedSecond,
+}
+
+fn told(report: Report) -> Answer {
+    match report {
+        Report::NOTHING => Answer::AsWithMemory,
+        FIRST_CLOSED => Answer::ClosedFirst,
+        SECOND_CLOSED => Answer::ClosedSecond,
+        _ => Answer::Other,
+    }
 }
 
 fn answer_to(speaker: &mut OverRefusing<'_>, call: Call<'_>) -> Answer {
     match call {
         Call::Step(event) => match speaker.step(event) {
-            Ok(Report::NOTHING) => Answer::AsWithMemory,
+            Ok(report) => told(report),
             Err(Refusal::NoMemory) => Answer::NoMemory,
-            _ => Answer::Other,
+            Err(_) => Answer::Other,
         },
         Call::Take(octets) => {
             let mut buf = [0u8; 200];
             match speaker.take(1, &mut buf) {
-                Ok((taken, Report::NOTHING)) if buf.get(..taken) == Some(octets) => {
-                    Answer::AsWithMemory
-                }
-                Err(Refusal::NoMemory) => Answer::NoMemory,
+                Ok((taken, report)) if buf.get(..taken) == Some(octets) => told(report),
                 _ => Answer::Other,
             }
         }
     }
 }
 
-// What a speaker shows: its two sessions, the first prefix that the first peer has announced, Loc-RIB, and the first
-// prefix that the second peer holds.
+// What a speaker shows: its two sessions with their connections, the first prefix that each peer has announced,
+// Loc-RIB, and the first prefix that the second peer holds.
 #[derive(Debug, Drop, PartialEq, Eq)]
 struct Shown {
     sessions: [Option<State>; 2],
-    announced: Option<Prefix>,
+    transports: [Transport; 2],
+    announced: [Option<Prefix>; 2],
     routes: Vec<BestRoute>,
     held: Option<Prefix>,
 }
@@ -69,73 +78,86 @@ struct Shown {
 fn look_at(alloc: Global, speaker: &OverRefusing<'_>) -> Result<Shown, AllocError> {
     Ok(Shown {
         sessions: [speaker.session(0), speaker.session(1)],
-        announced: speaker.adj_in(0).next().map(|(prefix, _)| prefix),
+        transports: [speaker.transport(0), speaker.transport(1)],
+        announced: [
+            speaker.adj_in(0).next().map(|(prefix, _)| prefix),
+            speaker.adj_in(1).next().map(|(prefix, _)| prefix),
+        ],
         routes: speaker.loc_rib().collect(alloc)?,
         held: speaker.held(1).next().map(|(prefix, _)| prefix),
     })
 }
 
-// Whether a stopped speaker answers 44 to the call, and to an event of a slot that there is not, and shows what it
-// showed before.
-fn is_still(
-    alloc: Global,
-    speaker: &mut OverRefusing<'_>,
-    call: Call<'_>,
-    before: &Shown,
-) -> Result<bool, AllocError> {
-    let answer = answer_to(speaker, call);
-    let answer_to_no_slot = answer_to(speaker, NO_SLOT);
-    let after = look_at(alloc, speaker)?;
-    Ok(answer == Answer::NoMemory && answer_to_no_slot == answer && after == *before)
+// All is as with memory.
+fn goes_on(rt: &impl Abort, speaker: &mut OverRefusing<'_>, calls: &[Call<'_>]) {
+    for call in calls {
+        assert_eq!(rt; answer_to(speaker, *call), Answer::AsWithMemory);
+    }
 }
 
-// Want of memory has stopped the speaker: whatever is called answers 44 and changes nothing.
-fn stays_stopped(
-    rt: &impl Abort,
-    alloc: Global,
-    mut speaker: OverRefusing<'_>,
-    calls: &[Call<'_>],
-) -> Result<(), Fail> {
-    let before = look_at(alloc, &speaker)?;
-    for call in calls {
-        assert!(rt; is_still(alloc, &mut speaker, *call, &before)?);
-    }
+// The first peer's session was closed, and no other: its routes have gone.
+fn lacks_first(rt: &impl Abort, before: &Shown, after: &Shown) {
+    assert_eq!(rt; after.sessions, [Some(State::Idle), before.sessions[1]]);
+    assert_eq!(rt;
+        after.transports,
+        [Transport::Closing, before.transports[1]]
+    );
+    assert_eq!(rt; after.announced, [None, None]);
+    assert!(rt; after.routes.is_empty());
+    assert_eq!(rt; after.held, None);
+}
+
+// The second peer's session was closed, and no other: the first peer's route is there, and is held by nobody.
+fn lacks_second(rt: &impl Abort, before: &Shown, after: &Shown) -> Result<(), Fail> {
+    let prefix = Prefix::parse(ANNOUNCED_PREFIX)?;
+    let best = BestRoute {
+        prefix,
+        slot: 0,
+        degree: 100,
+    };
+    assert_eq!(rt; after.sessions, [before.sessions[0], Some(State::Idle)]);
+    assert_eq!(rt;
+        after.transports,
+        [before.transports[0], Transport::Closing]
+    );
+    assert_eq!(rt; after.announced, [Some(prefix), None]);
+    assert_eq!(rt; after.routes.as_slice(), [best].as_slice());
+    assert_eq!(rt; after.held, None);
     Ok(())
 }
 
-// The first of the calls has answered 44; this is what the speaker showed before it.
-fn refused(
+// The first of the calls has met a refused growth, and answered so; this is what the speaker showed before it.
+fn behind(
     rt: &impl Abort,
     alloc: Global,
     mut speaker: OverRefusing<'_>,
     calls: &[Call<'_>],
+    answer: Answer,
     before: &Shown,
 ) -> Result<Ending, Fail> {
-    let Some((call, later)) = calls.split_first() else {
+    let after = look_at(alloc, &speaker)?;
+    let Some((_, later)) = calls.split_first() else {
         return Ok(Ending::Whole);
     };
-    let after = look_at(alloc, &speaker)?;
-    let is_command = matches!(call, Call::Step(Event::Command(_)));
-    if answer_to(&mut speaker, *call) == Answer::NoMemory {
-        stays_stopped(rt, alloc, speaker, calls)?;
-        return Ok(if is_command {
-            Ending::StoppedByCommand
-        } else {
-            Ending::Stopped
-        });
-    }
-    assert!(rt; is_command && after == *before);
-    for call in later {
-        assert_eq!(rt; answer_to(&mut speaker, *call), Answer::AsWithMemory);
-    }
-    Ok(Ending::WentOn)
-}
-
-// What a call answers to which a growth is refused: octets are handed out all the same.
-fn when_refused(call: Call<'_>) -> Answer {
-    match call {
-        Call::Step(_) => Answer::NoMemory,
-        Call::Take(_) => Answer::AsWithMemory,
+    match answer {
+        Answer::NoMemory => {
+            assert_eq!(rt; after, *before);
+            goes_on(rt, &mut speaker, calls);
+            Ok(Ending::Refused)
+        }
+        Answer::ClosedFirst => {
+            lacks_first(rt, before, &after);
+            goes_on(rt, &mut speaker, &first_again());
+            goes_on(rt, &mut speaker, later);
+            Ok(Ending::ClosedFirst)
+        }
+        Answer::ClosedSecond => {
+            lacks_second(rt, before, &after)?;
+            goes_on(rt, &mut speaker, &second_again());
+            goes_on(rt, &mut speaker, later);
+            Ok(Ending::ClosedSecond)
+        }
+        Answer::AsWithMemory | Answer::Other => panic!(rt; "a refused growth was answered so"),
     }
 }
 
@@ -157,8 +179,7 @@ fn play(
         let before = look_at(alloc, &speaker)?;
         let answer = answer_to(&mut speaker, *call);
         if heap.has_refused() {
-            assert_eq!(rt; answer, when_refused(*call));
-            return refused(rt, alloc, speaker, &calls[place..], &before);
+            return behind(rt, alloc, speaker, &calls[place..], answer, &before);
         }
         assert_eq!(rt; answer, Answer::AsWithMemory);
     }
@@ -180,21 +201,27 @@ fn endings(rt: &impl Abort, alloc: Global, calls: &[Call<'_>]) -> Result<Vec<End
     panic!(rt; "the calls make no end of requests");
 }
 
+fn has_all(rt: &impl Abort, endings: &[Ending]) {
+    assert!(rt; endings.contains(&Ending::Refused));
+    assert!(rt; endings.contains(&Ending::ClosedFirst));
+    assert!(rt; endings.contains(&Ending::ClosedSecond));
+}
+
 #[test]
-fn each_refused_growth_is_answered_by_44(rt: HostRuntime) -> Result<(), Fail> {
+fn each_refused_growth_refuses_a_command_or_closes_one_session(
+    rt: HostRuntime,
+) -> Result<(), Fail> {
     let endings = endings(&rt, rt.alloc(), &calls(Prefix::parse(REACHABLE)?))?;
-    assert!(rt; endings.contains(&Ending::WentOn));
-    assert!(rt; endings.contains(&Ending::Stopped));
+    has_all(&rt, endings.as_slice());
     Ok(())
 }
 
-// The next hop becomes reachable when the route is there already.
+// The next hop becomes reachable when the route is there already, so that the command lets the route be told.
 #[test]
-fn a_command_is_obeyed_and_the_choice_that_follows_is_refused(rt: HostRuntime) -> Result<(), Fail> {
+fn an_obeyed_command_closes_the_session_that_it_lets_be_told(rt: HostRuntime) -> Result<(), Fail> {
     let mut calls = calls(Prefix::parse(REACHABLE)?);
     calls[..UP_TO_ROUTE].rotate_left(1);
     let endings = endings(&rt, rt.alloc(), &calls)?;
-    assert!(rt; endings.contains(&Ending::WentOn));
-    assert!(rt; endings.contains(&Ending::StoppedByCommand));
+    has_all(&rt, endings.as_slice());
     Ok(())
 }
