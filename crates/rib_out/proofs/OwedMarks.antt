@@ -1,7 +1,7 @@
 -- What waits of a prefix, by its marks.
-use Rattle.std.proofs.Common.{◌≡◌, ◌↔◌, ℕ, zero, suc, ◌^◌, ◌<◌, ◌==◌, ◌&&◌, ◌||◌, Bool, true, false, cond, not, IsTrue, None, Some, is_some, bit_and, refl, sym, ap, ◌∙◌, arith}
-use Rattle.std.proofs.lemmas.Bool.{eq-eqb, eqb-true}
-use Rattle.std.proofs.lemmas.Nat.Bits.{bit_at_and, bit_at-lt, bit_at-zero, same_from_bits}
+use Rattle.std.proofs.Common.{◌≡◌, ◌↔◌, ℕ, zero, suc, ◌^◌, ◌<◌, ◌==◌, ◌&&◌, ◌||◌, Bool, true, false, cond, not, IsTrue, None, Some, is_some, bit_and, refl, sym, ap, ◌∙◌, inl, inr, arith}
+use Rattle.std.proofs.lemmas.Bool.{cases_lt, eq-eqb, eqb-true}
+use Rattle.std.proofs.lemmas.Nat.Bits.{bit_at_above, bit_at_and, bit_at-lt, bit_at-zero, same_from_bits}
 use Rattle.prefix_trie.proofs.MarkBits.{meets_bit}
 use Rattle.std.specs.Int.{bit_at}
 use Rattle.rib_out.specs.Slots.{has_slot, share_slot}
@@ -55,9 +55,12 @@ no_bit zero small h = refl
 no_bit (suc zero) small h = absurd cc
 no_bit (suc (suc x)) small h = absurd (omega arith)
 
--- a set without slots is 0
-no_slots : (slots : ℕ) → ((s : ℕ) → has_slot slots s ≡ false) → slots ≡ 0
-no_slots slots none = same_from_bits slots 0 (λ s. no_bit (bit_at slots s) (bit_at-lt slots s) (none s) ∙ sym (bit_at-zero s))
+-- a set without any of the 64 slots is 0
+no_slots : (slots : ℕ) → slots < 2 ^ 64 → ((s : ℕ) → s < 64 → has_slot slots s ≡ false) → slots ≡ 0
+no_slots slots fits none = same_from_bits slots 0 (λ s. elim (cases_lt s 64) [
+  | inl low ↦ no_bit (bit_at slots s) (bit_at-lt slots s) (none s low) ∙ sym (bit_at-zero s)
+  | inr high ↦ bit_at_above slots 64 s fits high ∙ sym (bit_at-zero s)
+])
 
 no_slot : (slots s : ℕ) → slots ≡ 0 → has_slot slots s ≡ false
 no_slot slots s is = ap (λ n. has_slot n s) is ∙ ap (λ n. n == 1) (bit_at-zero s)
@@ -69,23 +72,20 @@ neither_case false false h = (refl, refl)
 
 -- nothing waits for any slot just where no mark is set
 module _ (waits : Waits) where
+  pub idle_marks : waits.marks.withdrawals ≡ 0 → IsTrue (waits.marks.announcements == 0) → (s : ℕ) → owed_by waits s ≡ None
+  idle_marks is h s = rw (no_slot waits.marks.withdrawals s is, no_slot waits.marks.announcements s (eqb-true waits.marks.announcements 0 h)) refl
+
   abbrev OwesNone : Type 0
-  OwesNone = (s : ℕ) → owed_by waits s ≡ None
+  OwesNone = (s : ℕ) → s < 64 → owed_by waits s ≡ None
 
-  neither : OwesNone → (s : ℕ) → (has_slot waits.marks.withdrawals s ≡ false) × (has_slot waits.marks.announcements s ≡ false)
-  neither none s = neither_case (has_slot waits.marks.withdrawals s) (has_slot waits.marks.announcements s) (none s)
+  neither : OwesNone → (s : ℕ) → s < 64 → (has_slot waits.marks.withdrawals s ≡ false) × (has_slot waits.marks.announcements s ≡ false)
+  neither none s few = neither_case (has_slot waits.marks.withdrawals s) (has_slot waits.marks.announcements s) (none s few)
 
-  pub idle_marks : waits.marks.withdrawals ≡ 0 → IsTrue (waits.marks.announcements == 0) ↔ OwesNone
-  idle_marks is = (
-    λ h s. rw (no_slot waits.marks.withdrawals s is, no_slot waits.marks.announcements s (eqb-true waits.marks.announcements 0 h)) refl,
-    λ none. eq-eqb waits.marks.announcements 0 (no_slots waits.marks.announcements (λ s. (neither none s).1)),
-  )
+  pub no_withdrawals : waits.marks.withdrawals < 2 ^ 64 → OwesNone → waits.marks.withdrawals ≡ 0
+  no_withdrawals fits none = no_slots waits.marks.withdrawals fits (λ s few. (neither none s few).0)
 
-  pub needed_marks : (waits.marks.withdrawals ≡ 0 → ⊥) → IsTrue (waits.marks.withdrawals == 0) ↔ OwesNone
-  needed_marks some = (
-    λ h. absurd (some (eqb-true waits.marks.withdrawals 0 h)),
-    λ none. absurd (some (no_slots waits.marks.withdrawals (λ s. (neither none s).0))),
-  )
+  pub no_announcements : waits.marks.announcements < 2 ^ 64 → OwesNone → IsTrue (waits.marks.announcements == 0)
+  no_announcements fits none = eq-eqb waits.marks.announcements 0 (no_slots waits.marks.announcements fits (λ s few. (neither none s few).1))
 
 module _ (old other : ℕ) (slot : ℕ) where
   -- one slot is in neither of two sets, which share none

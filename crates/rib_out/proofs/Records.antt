@@ -1,5 +1,5 @@
 -- What waits of a prefix behind a change of the records.
-use Rattle.std.proofs.Common.{◌≡◌, ◌↔◌, ℕ, ◌+◌, ◌==◌, ◌&&◌, Bool, true, false, cond, IsTrue, List, Option, None, Some, is_some, refl, sym, ap, subst, ◌∙◌, arith}
+use Rattle.std.proofs.Common.{◌≡◌, ℕ, ◌+◌, ◌==◌, ◌&&◌, Bool, true, false, cond, List, Option, None, Some, is_some, refl, sym, ap, subst, ◌∙◌, arith}
 use Rattle.std.proofs.lemmas.Bool.Decides.{nat_tests}
 use Rattle.std.proofs.lemmas.Map.Entries.{sum_by-insert_entry}
 use Rattle.std.specs.List.{sum_by}
@@ -114,9 +114,8 @@ module _ (old : List (Prefix × Waits)) (p : Prefix) (waits : Waits) where
   is_known-added false new is q = ap (λ (es : List (Prefix × Waits)). is_known es q) is
 
 -- ---- a record of which nothing waits
-pub idle_by : (es : List (Prefix × Waits)) (p : Prefix) (w : Waits) (b : Bool) → found es p ≡ Some w → IsTrue b ↔ ((s : ℕ) → owed_by w s ≡ None)
-    → IsTrue b ↔ (is_known es p ≡ true) × ((s : ℕ) → owed_at es s p ≡ None)
-idle_by es p w b there tells = (
-  λ is. (ap is_some there, λ s. ap (option_and_then (λ x. owed_by x s)) there ∙ tells.0 is s),
-  λ idle. tells.1 (λ s. sym (ap (option_and_then (λ x. owed_by x s)) there) ∙ idle.1 s),
-)
+pub idle_by : (es : List (Prefix × Waits)) (p : Prefix) (w : Waits) → found es p ≡ Some w → (s : ℕ) → owed_by w s ≡ None → owed_at es s p ≡ None
+idle_by es p w there s none = ap (option_and_then (λ x. owed_by x s)) there ∙ none
+
+pub owed_by_it : (es : List (Prefix × Waits)) (p : Prefix) (w : Waits) → found es p ≡ Some w → (s : ℕ) → owed_at es s p ≡ None → owed_by w s ≡ None
+owed_by_it es p w there s none = sym (ap (option_and_then (λ x. owed_by x s)) there) ∙ none

@@ -1,5 +1,5 @@
 //! What waits of each known prefix for each peer's slot.
-ghost use Rattle.std.specs.Prelude.{◌≡◌, ◌≢◌, ◌↔◌, ◌+◌, ◌<◌, ◌==◌, ◌&&◌, ℕ, [], None, Some, IfSome, IfNone, IfErr, IsSome, IsTrue, MatchBool, is_ok, true, false, if◌then◌else◌};
+ghost use Rattle.std.specs.Prelude.{◌≡◌, ◌≢◌, ◌+◌, ◌<◌, ◌==◌, ◌&&◌, ℕ, [], None, Some, IfSome, IfNone, IfErr, IsSome, IsTrue, MatchBool, is_ok, true, false, if◌then◌else◌};
 ghost use Rattle.std.specs.Ordering.{is_gt};
 ghost use Rattle.net_prefix.specs.declared.prefix.Prefix.{Prefix};
 ghost use Rattle.net_prefix.specs.PrefixOrder.{prefix_cmp, IsAbove};
@@ -56,7 +56,7 @@ impl<A: Allocator> Waiting<A> {
     pub fn release(&mut self, prefix: Prefix)
         ensures owed { (s : ℕ) (p : Prefix) → owed_at self.new s p ≡ owed_at self.old s p }
         ensures known { (p : Prefix) → is_prefix prefix p ≡ false → is_known self.new p ≡ is_known self.old p }
-        ensures idle { ((s : ℕ) → owed_at self.old s prefix ≡ None) → is_known self.new prefix ≡ false }
+        ensures idle { ((s : ℕ) → s < 64 → owed_at self.old s prefix ≡ None) → is_known self.new prefix ≡ false }
         ensures waits { (s : ℕ) → IsSome (owed_at self.old s prefix) → is_known self.new prefix ≡ true }
     {
         if self.is_idle(prefix) {
@@ -66,7 +66,8 @@ impl<A: Allocator> Waiting<A> {
 
     // Whether the prefix is known, and nothing of it waits for any slot.
     fn is_idle(&self, prefix: Prefix) -> bool
-        ensures { IsTrue result ↔ (is_known self.now prefix ≡ true) × ((s : ℕ) → owed_at self.now s prefix ≡ None) }
+        ensures idle { IsTrue result → (s : ℕ) → owed_at self.now s prefix ≡ None }
+        ensures few { is_known self.now prefix ≡ true → ((s : ℕ) → s < 64 → owed_at self.now s prefix ≡ None) → IsTrue result }
     {
         match self.records.get(&prefix) {
             Some(waits) => waits.is_idle(),

@@ -40,7 +40,8 @@ impl Waits {
 
     /// Whether nothing waits for any slot.
     pub(crate) fn is_idle(&self) -> bool
-        ensures { IsTrue result ↔ ((s : ℕ) → owed_by self.now s ≡ None) }
+        ensures idle { IsTrue result → (s : ℕ) → owed_by self.now s ≡ None }
+        ensures few { ((s : ℕ) → s < 64 → owed_by self.now s ≡ None) → IsTrue result }
     {
         self.marks.withdrawals == 0 && self.marks.announcements == 0
     }

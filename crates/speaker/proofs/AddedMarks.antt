@@ -46,6 +46,7 @@ marked_added conf conf2 links links2 t slot peer m marked may own peers put down
     ];
     known = marked.there.known;
   };
+  released = marked.released;
   marks = λ s p within. marked.marks s p within ∙ same s p;
 }
   where
@@ -68,6 +69,7 @@ marked_added conf conf2 links links2 t slot peer m marked may own peers put down
 pub marked_links : (conf : Configuration) (links links2 : List (ℕ × Linked)) (t : RoutingState) → AreMarked conf links t → ((s : ℕ) → link_at links2 s ≡ link_at links s) → AreMarked conf links2 t
 marked_links conf links links2 t marked same = record {
   there = record { within = λ s l there. marked.there.within s l (sym (same s) ∙ there); known = marked.there.known };
+  released = marked.released;
   marks = λ s p within. marked.marks s p within ∙ sym (ap (mark_of conf t.adj_in t.book s p (peer_at conf s)) (same s));
 }
 
@@ -75,6 +77,7 @@ marked_links conf links links2 t marked same = record {
 pub marked_reached : (conf conf2 : Configuration) (links : List (ℕ × Linked)) (t : RoutingState) → AreMarked conf links t → conf2.own ≡ conf.own → ((s : ℕ) → peer_at conf2 s ≡ peer_at conf s) → AreMarked conf2 links t
 marked_reached conf conf2 links t marked own peers = record {
   there = marked.there;
+  released = marked.released;
   marks = λ s p within.
       marked.marks s p within
       ∙ sym (ap (λ found. mark_of conf2 t.adj_in t.book s p found (link_at links s)) (peers s) ∙ mark_own conf conf2 t.adj_in t.book s p (peer_at conf s) (link_at links s) own);

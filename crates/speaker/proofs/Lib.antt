@@ -29,5 +29,6 @@ pub mod OneBest
 pub mod Moments
 pub mod WaitingRuns
 pub mod Marking
+pub mod Clearing
 pub mod Owing
 pub mod AddedMarks

@@ -28,7 +28,7 @@ use Rattle.rib_out.specs.declared.waits.Waits.{Waits}
 use Rattle.rib_out.proofs.Prefixes.{is_prefix-refl}
 use Rattle.speaker.specs.Export.{export_in, export_peer_of}
 use Rattle.speaker.specs.Linked.{Linked}
-use Rattle.speaker.specs.Marks.{AreKnown, AreMarked, AreMarkedBut, IsFollowed, IsUnmarked, mark_at, mark_of, owed_for}
+use Rattle.speaker.specs.Marks.{AreKnown, AreMarked, AreMarkedBut, IsFollowed, IsReleased, IsUnmarked, mark_at, mark_of, owed_for}
 use Rattle.speaker.specs.Moves.{moved}
 use Rattle.speaker.specs.Queueing.{IsTold, rank_of}
 use Rattle.speaker.specs.RoutingState.{RoutingState}
@@ -74,7 +74,7 @@ pub none_if : {X : Type 0} (o : Option X) → (IsSome o → ⊥) → o ≡ None
 none_if None not = refl
 none_if (Some x) not = absurd (not refl)
 
-no_none : {X P : Type 0} (o : Option X) → o ≡ None → IsSome o → P
+pub no_none : {X P : Type 0} (o : Option X) → o ≡ None → IsSome o → P
 no_none o none there = absurd (let never = subst (λ x. IsSome x) none there in cc)
 
 -- the routes of other prefixes stay
@@ -82,26 +82,51 @@ pub routes_off : (slot : ℕ) (prefix : Prefix) (what : Option PathAttributes) (
     → (s : ℕ) (p : Prefix) → is_prefix prefix p ≡ false → route_at new s p ≡ route_at old s p
 routes_off slot prefix what old new routes s p other = routes s p ∙ ap (λ b. cond b what (route_at old s p)) (off_prefix slot s prefix p other)
 
+-- a prefix that is known just as it was, with the same routes, and of which the same waits
+released_alike : (t u : RoutingState) (p : Prefix) → IsReleased t p → ((s : ℕ) → route_at u.adj_in s p ≡ route_at t.adj_in s p) → ((s : ℕ) → s < 64 → owed_at u.waiting s p ≡ owed_at t.waiting s p)
+    → is_known u.waiting p ≡ is_known t.waiting p → IsReleased u p
+released_alike t u p released routes owed known = record { unknown = λ unrouted idle. known ∙ released.unknown (λ s. sym (routes s) ∙ unrouted s) (λ s few. sym (owed s few) ∙ idle s few) }
+
+routes_of_rest : (t u : RoutingState) (p : Prefix) → u ≡ record t { waiting = u.waiting } → (s : ℕ) → route_at u.adj_in s p ≡ route_at t.adj_in s p
+routes_of_rest t u p rest s = ap (λ (x : RoutingState). route_at x.adj_in s p) rest
+
+-- one prefix was released, and the others are as they were
+pub all_released : (prefix : Prefix) (t u : RoutingState) → u ≡ record t { waiting = u.waiting } → ((s : ℕ) (p : Prefix) → s < 64 → is_prefix prefix p ≡ false → owed_at u.waiting s p ≡ owed_at t.waiting s p)
+    → ((p : Prefix) → is_prefix prefix p ≡ false → is_known u.waiting p ≡ is_known t.waiting p) → IsReleased u prefix → ((p : Prefix) → is_prefix prefix p ≡ false → IsReleased t p)
+    → (p : Prefix) → IsReleased u p
+all_released prefix t u rest owed known here others p = by_prefix (is_prefix prefix p) refl
+  where
+    by_prefix : (b : Bool) → is_prefix prefix p ≡ b → IsReleased u p
+    by_prefix true is = subst (λ q. IsReleased u q) (same_from_is_prefix prefix p is) here
+    by_prefix false is = released_alike t u p (others p is) (routes_of_rest t u p rest) (λ s few. owed s p few is) (known p is)
+
 -- the tables change at one prefix
 pub marked_but : (conf : Configuration) (links : List (ℕ × Linked)) (prefix : Prefix) (t u : RoutingState) → AreMarked conf links t → ((s : ℕ) (p : Prefix) → owed_at u.waiting s p ≡ owed_at t.waiting s p)
     → ((p : Prefix) → is_prefix prefix p ≡ false → best_at (rows_of u.book) p ≡ best_at (rows_of t.book) p) → ((s : ℕ) (p : Prefix) → is_prefix prefix p ≡ false → route_at u.adj_in s p ≡ route_at t.adj_in s p)
-    → ((s : ℕ) (p : Prefix) → IsSome (route_at u.adj_in s p) → is_known u.waiting p ≡ true) → AreMarkedBut prefix conf links u
-marked_but conf links prefix t u marked owed best routes known = record {
+    → ((s : ℕ) (p : Prefix) → IsSome (route_at u.adj_in s p) → is_known u.waiting p ≡ true) → ((p : Prefix) → is_prefix prefix p ≡ false → is_known u.waiting p ≡ is_known t.waiting p) → AreMarkedBut prefix conf links u
+marked_but conf links prefix t u marked owed best routes known same = record {
   there = record { within = marked.there.within; known = known };
+  released = λ p other. released_alike t u p (marked.released p) (λ s. routes s p other) (λ s few. owed s p) (same p other);
   marks = λ slot p within other. owed slot p ∙ marked.marks slot p within ∙ sym (mark_alike conf links t u slot p (best p other) (λ s. routes s p other));
   none = λ slot within unlinked. owed slot prefix ∙ marked.marks slot prefix within ∙ mark_unlinked conf links t slot prefix unlinked;
 }
 
--- what waits stays, and each prefix with a route is still known
+-- each prefix with a route is still known
+known_of_rest : (links : List (ℕ × Linked)) (t u : RoutingState) → AreKnown links t → u ≡ record t { waiting = u.waiting } → ((s : ℕ) (p : Prefix) → IsSome (route_at t.adj_in s p) → is_known u.waiting p ≡ is_known t.waiting p)
+    → AreKnown links u
+known_of_rest links t u there rest known = record {
+  within = there.within;
+  known = λ s p some.
+      let was : IsSome (route_at t.adj_in s p) = subst (λ (x : RoutingState). IsSome (route_at x.adj_in s p)) rest some in
+      known s p was ∙ there.known s p was;
+}
+
+-- what waits stays, and each prefix is known just as it was
 pub marked_same : (conf : Configuration) (links : List (ℕ × Linked)) (t u : RoutingState) → AreMarked conf links t → u ≡ record t { waiting = u.waiting } → ((s : ℕ) (p : Prefix) → owed_at u.waiting s p ≡ owed_at t.waiting s p)
-    → ((s : ℕ) (p : Prefix) → IsSome (route_at t.adj_in s p) → is_known u.waiting p ≡ is_known t.waiting p) → AreMarked conf links u
+    → ((p : Prefix) → is_known u.waiting p ≡ is_known t.waiting p) → AreMarked conf links u
 marked_same conf links t u marked rest owed known = record {
-  there = record {
-    within = marked.there.within;
-    known = λ s p there.
-        let was : IsSome (route_at t.adj_in s p) = subst (λ (x : RoutingState). IsSome (route_at x.adj_in s p)) rest there in
-        known s p was ∙ marked.there.known s p was;
-  };
+  there = known_of_rest links t u marked.there rest (λ s p there. known p);
+  released = λ p. released_alike t u p (marked.released p) (routes_of_rest t u p rest) (λ s few. owed s p) (known p);
   marks = λ slot p within. owed slot p ∙ marked.marks slot p within ∙ ap (λ (x : RoutingState). mark_at conf links x slot p) (sym rest);
 }
 
@@ -136,28 +161,24 @@ mark_on conf links t slot prefix = rw (eq-eqb slot slot refl, is_prefix-refl pre
 marks_of_rest : (conf : Configuration) (links : List (ℕ × Linked)) (t u : RoutingState) (slot : ℕ) (p : Prefix) → u ≡ record t { waiting = u.waiting } → mark_at conf links u slot p ≡ mark_at conf links t slot p
 marks_of_rest conf links t u slot p rest = ap (λ (x : RoutingState). mark_at conf links x slot p) rest
 
-known_of_rest : (links : List (ℕ × Linked)) (t u : RoutingState) → AreKnown links t → u ≡ record t { waiting = u.waiting } → ((p : Prefix) → is_known u.waiting p ≡ is_known t.waiting p) → AreKnown links u
-known_of_rest links t u there rest known = record {
-  within = there.within;
-  known = λ s p some. known p ∙ there.known s p (subst (λ (x : RoutingState). IsSome (route_at x.adj_in s p)) rest some);
-}
-
 -- the next slot
 pub MarkedBelow-more : (prefix : Prefix) (conf : Configuration) (links : List (ℕ × Linked)) (first t u : RoutingState) (n : ℕ) → MarkedBelow prefix conf links first n t → u ≡ record t { waiting = u.waiting }
     → IsMark n prefix conf links t u → ((p : Prefix) → is_known u.waiting p ≡ is_known t.waiting p) → MarkedBelow prefix conf links first (n + 1) u
 MarkedBelow-more prefix conf links first t u n h rest marks known = record {
   rest = rest ∙ ap (λ (x : RoutingState). record x { waiting = u.waiting }) h.rest;
   but = record {
-    there = known_of_rest links t u h.but.there rest known;
-    marks = λ slot p within other.
-        marks slot p within (λ none. h.but.marks slot p within other ∙ mark_unlinked conf links t slot p none)
-        ∙ mark_off_prefix conf links t n slot prefix p other ∙ h.but.marks slot p within other ∙ sym (marks_of_rest conf links t u slot p rest);
+    there = known_of_rest links t u h.but.there rest (λ s p there. known p);
+    released = λ p other. released_alike t u p (h.but.released p other) (routes_of_rest t u p rest) (λ s few. stays s p few other) (known p);
+    marks = λ slot p within other. stays slot p within other ∙ h.but.marks slot p within other ∙ sym (marks_of_rest conf links t u slot p rest);
     none = λ slot within unlinked. marks slot prefix within (λ none. h.but.none slot within unlinked) ∙ none_here slot within unlinked (slot == n) (is_prefix prefix prefix);
   };
   known = known prefix ∙ h.known;
   below = λ slot under within. marks slot prefix within (λ none. h.but.none slot within none) ∙ below_here slot under within ∙ sym (marks_of_rest conf links t u slot prefix rest);
 }
   where
+    stays : (slot : ℕ) (p : Prefix) → slot < 64 → is_prefix prefix p ≡ false → owed_at u.waiting slot p ≡ owed_at t.waiting slot p
+    stays slot p within other = marks slot p within (λ none. h.but.marks slot p within other ∙ mark_unlinked conf links t slot p none) ∙ mark_off_prefix conf links t n slot prefix p other
+
     none_here : (slot : ℕ) → slot < 64 → link_at links slot ≡ None → (a b : Bool) → cond (a && b) (mark_at conf links t slot prefix) (owed_at t.waiting slot prefix) ≡ None
     none_here slot within unlinked true true = mark_unlinked conf links t slot prefix unlinked
     none_here slot within unlinked true false = h.but.none slot within unlinked
@@ -169,10 +190,14 @@ MarkedBelow-more prefix conf links first t u n h rest marks known = record {
       | inr other ↦ mark_off_slot conf links t n slot prefix prefix other ∙ h.below slot (omega (arith, under, other)) within
     ]
 
-pub MarkedBelow-all : (prefix : Prefix) (conf : Configuration) (links : List (ℕ × Linked)) (first t : RoutingState) (n : ℕ) → n ≡ 64 → MarkedBelow prefix conf links first n t → AreMarked conf links t
-MarkedBelow-all prefix conf links first t n all h = record {
-  there = h.but.there;
-  marks = λ slot p within. marks_here slot p within (is_prefix prefix p) refl;
+-- all slots have been looked at, and the prefix was released
+pub MarkedBelow-all : (prefix : Prefix) (conf : Configuration) (links : List (ℕ × Linked)) (first t u : RoutingState) (n : ℕ) → n ≡ 64 → MarkedBelow prefix conf links first n t → u ≡ record t { waiting = u.waiting }
+    → ((s : ℕ) (p : Prefix) → owed_at u.waiting s p ≡ owed_at t.waiting s p) → ((s : ℕ) (p : Prefix) → IsSome (route_at t.adj_in s p) → is_known u.waiting p ≡ is_known t.waiting p)
+    → ((p : Prefix) → is_prefix prefix p ≡ false → is_known u.waiting p ≡ is_known t.waiting p) → IsReleased u prefix → AreMarked conf links u
+MarkedBelow-all prefix conf links first t u n all h rest owed known others released = record {
+  there = known_of_rest links t u h.but.there rest known;
+  released = all_released prefix t u rest (λ s p few other. owed s p) others released h.but.released;
+  marks = λ slot p within. owed slot p ∙ marks_here slot p within (is_prefix prefix p) refl ∙ sym (marks_of_rest conf links t u slot p rest);
 }
   where
     marks_here : (slot : ℕ) (p : Prefix) → slot < 64 → (b : Bool) → is_prefix prefix p ≡ b → owed_at t.waiting slot p ≡ mark_at conf links t slot p
@@ -255,11 +280,16 @@ known_come links prefix t u there known routes s p some = known p ∙ by_prefix 
     by_prefix true is = refl
     by_prefix false is = there.known s p (subst (λ o. IsSome o) (routes s p is) some)
 
+-- and the others are known just as they were
+pub known_else : (prefix : Prefix) (old new : List (Prefix × Waits)) → ((p : Prefix) → is_known new p ≡ cond (is_prefix prefix p) true (is_known old p)) → (p : Prefix) → is_prefix prefix p ≡ false → is_known new p ≡ is_known old p
+known_else prefix old new known p other = known p ∙ ap (λ b. cond b true (is_known old p)) other
+
 -- the slots but one, up to a prefix
 pub record EnteredUpTo (conf : Configuration) (links : List (ℕ × Linked)) (slot : ℕ) (first : RoutingState) (after : Option Prefix) (t : RoutingState) : Type 0 where
   pub place : IsPlace after
   pub rest : t ≡ record first { waiting = t.waiting }
   pub there : AreKnown links t
+  pub released : (p : Prefix) → IsReleased t p
   pub others : (s : ℕ) (p : Prefix) → s < 64 → s ≢ slot → owed_at t.waiting s p ≡ mark_at conf links t s p
   pub below : (q : Prefix) → rank_of q < reached after → owed_at t.waiting slot q ≡ mark_at conf links t slot q
   pub above : (q : Prefix) → reached after ≤ rank_of q → owed_at t.waiting slot q ≡ None
@@ -269,6 +299,7 @@ EnteredUpTo-none conf links slot t h = record {
   place = tt;
   rest = refl;
   there = h.there;
+  released = h.released;
   others = h.others;
   below = λ q under. absurd (omega (arith, under));
   above = λ q over. h.none q;
@@ -292,11 +323,12 @@ fresh_none conf links t slot q fresh none = fresh_none_of conf t slot q (peer_at
 -- the next prefix of Loc-RIB
 pub EnteredUpTo-more : (conf : Configuration) (links : List (ℕ × Linked)) (slot : ℕ) (first t u : RoutingState) (after : Option Prefix) (p : Prefix) → slot < 64 → ((l : Linked) → link_at links slot ≡ Some l → l.adj_out ≡ [])
     → EnteredUpTo conf links slot first after t → IsAbove after p → ((q : Prefix) → IsAbove after q → IsSome (best_at (rows_of t.book) q) → is_gt (prefix_cmp p q) ≡ false) → rank_of p < 2 ^ 38
-    → u ≡ record t { waiting = u.waiting } → IsMark slot p conf links t u → ((q : Prefix) → is_known u.waiting q ≡ is_known t.waiting q) → EnteredUpTo conf links slot first (Some p) u
-EnteredUpTo-more conf links slot first t u after p within fresh h above least place rest marks known = record {
+    → ((s : ℕ) × IsSome (route_at t.adj_in s p)) → u ≡ record t { waiting = u.waiting } → IsMark slot p conf links t u → ((q : Prefix) → is_known u.waiting q ≡ is_known t.waiting q) → EnteredUpTo conf links slot first (Some p) u
+EnteredUpTo-more conf links slot first t u after p within fresh h above least place routed rest marks known = record {
   place = place;
   rest = rest ∙ ap (λ (x : RoutingState). record x { waiting = u.waiting }) h.rest;
-  there = known_of_rest links t u h.there rest known;
+  there = known_of_rest links t u h.there rest (λ s q there. known q);
+  released = all_released p t u rest stays (λ q other. known q) released_here (λ q other. h.released q);
   others = λ s q few other.
       marks s q few (λ none. h.others s q few other ∙ mark_unlinked conf links t s q none) ∙ mark_off_slot conf links t slot s p q other ∙ h.others s q few other ∙ sym (marks_of_rest conf links t u s q rest);
   below = λ q under. here q under ∙ sym (marks_of_rest conf links t u slot q rest);
@@ -328,6 +360,19 @@ EnteredUpTo-more conf links slot first t u after p within fresh h above least pl
       | inr over ↦ h.above q over
     ]
 
+    idle_at : (s : ℕ) (q : Prefix) → s < 64 → link_at links s ≡ None → owed_at t.waiting s q ≡ None
+    idle_at s q few none = elim (cases_eq s slot) [
+      | inl same ↦ subst (λ x. owed_at t.waiting x q ≡ None) (sym same) (idle q (subst (λ x. link_at links x ≡ None) same none))
+      | inr other ↦ h.others s q few other ∙ mark_unlinked conf links t s q none
+    ]
+
+    stays : (s : ℕ) (q : Prefix) → s < 64 → is_prefix p q ≡ false → owed_at u.waiting s q ≡ owed_at t.waiting s q
+    stays s q few other = marks s q few (idle_at s q few) ∙ mark_off_prefix conf links t slot s p q other
+
+    -- the prefix has a route
+    released_here : IsReleased u p
+    released_here = record { unknown = λ unrouted idle. no_none (route_at t.adj_in routed.0 p) (sym (routes_of_rest t u p rest routed.0) ∙ unrouted routed.0) routed.1 }
+
     here : (q : Prefix) → rank_of q < reached (Some p) → owed_at u.waiting slot q ≡ mark_at conf links t slot q
     here q under = elim (cases_lt (rank_of q) (rank_of p)) [
       | inl before ↦
@@ -343,6 +388,7 @@ pub EnteredUpTo-all : (conf : Configuration) (links : List (ℕ × Linked)) (slo
     → EnteredUpTo conf links slot first after t → ((q : Prefix) → IsAbove after q → best_at (rows_of t.book) q ≡ None) → AreMarked conf links t
 EnteredUpTo-all conf links slot first t after fresh h none = record {
   there = h.there;
+  released = h.released;
   marks = λ s p within. elim (cases_eq s slot) [
     | inl same ↦ subst (λ x. owed_at t.waiting x p ≡ mark_at conf links t x p) (sym same) (here p)
     | inr other ↦ h.others s p within other
@@ -418,6 +464,7 @@ pub marked_put : (conf : Configuration) (t : RoutingState) (slot : ℕ) (l m : L
     → AreMarked conf new t
 marked_put conf t slot l m old new marked linked session adj_out put = record {
   there = record { within = within_put slot l m old new linked put marked.there.within; known = marked.there.known };
+  released = marked.released;
   marks = λ s p within. marked.marks s p within ∙ sym (same s p);
 }
   where
@@ -437,6 +484,7 @@ pub followed : (conf : Configuration) (t : RoutingState) (slot : ℕ) (l : Linke
 followed conf t slot l input old new marked linked put = record {
   within = marked.there.within slot l linked;
   there = record { within = within_put slot l (moved l input) old new linked put marked.there.within; known = marked.there.known };
+  released = marked.released;
   others = λ s p within other. marked.marks s p within ∙ sym (mark_off conf t slot (moved l input) old new put s p other);
   same = λ stays still p.
       marked.marks slot p (marked.there.within slot l linked)
@@ -466,14 +514,15 @@ followed conf t slot l input old new marked linked put = record {
 pub marked_told : (conf : Configuration) (t u : RoutingState) (slot : ℕ) (prefix : Prefix) (export : Option (List ℕ)) (l m : Linked) (old new : List (ℕ × Linked)) → AreMarked conf old t → link_at old slot ≡ Some l
     → IsTold prefix export l m → IsNow slot m old new → ((peer : ConfiguredPeer) → peer_at conf slot ≡ Some peer → export_in (best_at (rows_of t.book)) t.adj_in (export_peer_of conf slot peer) prefix ≡ export)
     → u ≡ record t { waiting = u.waiting } → ((s : ℕ) (p : Prefix) → owed_at u.waiting s p ≡ cond (s == slot && is_prefix prefix p) None (owed_at t.waiting s p))
-    → ((s : ℕ) (p : Prefix) → IsSome (route_at t.adj_in s p) → is_known u.waiting p ≡ is_known t.waiting p) → AreMarked conf new u
-marked_told conf t u slot prefix export l m old new marked linked told put exported rest owed known = record {
+    → ((s : ℕ) (p : Prefix) → IsSome (route_at t.adj_in s p) → is_known u.waiting p ≡ is_known t.waiting p) → (((p : Prefix) → IsReleased t p) → (p : Prefix) → IsReleased u p) → AreMarked conf new u
+marked_told conf t u slot prefix export l m old new marked linked told put exported rest owed known released = record {
   there = record {
     within = within_put slot l m old new linked put marked.there.within;
     known = λ s p there.
         let was : IsSome (route_at t.adj_in s p) = subst (λ (x : RoutingState). IsSome (route_at x.adj_in s p)) rest there in
         known s p was ∙ marked.there.known s p was;
   };
+  released = released marked.released;
   marks = λ s p within. owed s p ∙ here s p within ∙ ap (λ (x : RoutingState). mark_at conf new x s p) (sym rest);
 }
   where

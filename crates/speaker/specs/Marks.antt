@@ -54,20 +54,27 @@ pub record AreKnown (links : List (ℕ × Linked)) (t : RoutingState) : Type 0 w
   pub within : (slot : ℕ) (l : Linked) → link_at links slot ≡ Some l → slot < 64
   pub known : (slot : ℕ) (prefix : Prefix) → IsSome (route_at t.adj_in slot prefix) → is_known t.waiting prefix ≡ true
 
--- of each prefix there waits for each slot just what its peer is owed
+-- the prefix isn't known, where it has no route and nothing of it waits for any slot
+pub record IsReleased (t : RoutingState) (prefix : Prefix) : Type 0 where
+  pub unknown : ((slot : ℕ) → route_at t.adj_in slot prefix ≡ None) → ((slot : ℕ) → slot < 64 → owed_at t.waiting slot prefix ≡ None) → is_known t.waiting prefix ≡ false
+
+-- of each prefix there waits for each slot just what its peer is owed, and no prefix is known that needn't be
 pub record AreMarked (conf : Configuration) (links : List (ℕ × Linked)) (t : RoutingState) : Type 0 where
   pub there : AreKnown links t
+  pub released : (prefix : Prefix) → IsReleased t prefix
   pub marks : (slot : ℕ) (prefix : Prefix) → slot < 64 → owed_at t.waiting slot prefix ≡ mark_at conf links t slot prefix
 
 -- so it is of all prefixes but this one, of which nothing waits where there is no slot
 pub record AreMarkedBut (prefix : Prefix) (conf : Configuration) (links : List (ℕ × Linked)) (t : RoutingState) : Type 0 where
   pub there : AreKnown links t
+  pub released : (p : Prefix) → is_prefix prefix p ≡ false → IsReleased t p
   pub marks : (slot : ℕ) (p : Prefix) → slot < 64 → is_prefix prefix p ≡ false → owed_at t.waiting slot p ≡ mark_at conf links t slot p
   pub none : (slot : ℕ) → slot < 64 → link_at links slot ≡ None → owed_at t.waiting slot prefix ≡ None
 
 -- so it is of all slots but this one, for which nothing waits
 pub record IsUnmarked (conf : Configuration) (links : List (ℕ × Linked)) (slot : ℕ) (t : RoutingState) : Type 0 where
   pub there : AreKnown links t
+  pub released : (prefix : Prefix) → IsReleased t prefix
   pub others : (s : ℕ) (p : Prefix) → s < 64 → s ≢ slot → owed_at t.waiting s p ≡ mark_at conf links t s p
   pub none : (p : Prefix) → owed_at t.waiting slot p ≡ None
 
@@ -76,6 +83,7 @@ pub record IsUnmarked (conf : Configuration) (links : List (ℕ × Linked)) (slo
 pub record IsFollowed (conf : Configuration) (links : List (ℕ × Linked)) (slot : ℕ) (effects : Effects) (t : RoutingState) : Type 0 where
   pub within : slot < 64
   pub there : AreKnown links t
+  pub released : (prefix : Prefix) → IsReleased t prefix
   pub others : (s : ℕ) (p : Prefix) → s < 64 → s ≢ slot → owed_at t.waiting s p ≡ mark_at conf links t s p
   pub same : effects.left ≡ false → effects.entered ≡ false → (p : Prefix) → owed_at t.waiting slot p ≡ mark_at conf links t slot p
   pub left : effects.left ≡ true → (l : Linked) → link_at links slot ≡ Some l → is_established l.peer.session.state ≡ false

@@ -9,7 +9,7 @@ ghost use Rattle.net_prefix.specs.declared.prefix.Prefix.{Prefix as ThePrefix};
 ghost use Rattle.rib_in.specs.LatestRoutes.{is_route, route_at};
 ghost use Rattle.rib_out.specs.Waiting.{is_known, owed_at};
 ghost use Rattle.speaker.specs.Linked.{Linked};
-ghost use Rattle.speaker.specs.Marks.{AreMarked, AreMarkedBut, IsUnmarked, mark_at, mark_of};
+ghost use Rattle.speaker.specs.Marks.{AreMarked, AreMarkedBut, IsReleased, IsUnmarked, mark_at, mark_of};
 ghost use Rattle.speaker.specs.RoutingState.{started};
 ghost use Rattle.speaker.specs.Tables.{link_at};
 
@@ -78,7 +78,6 @@ impl<A: Allocator + Clone, B: Book<A>> Routing<A, B> {
         self.waiting.add(prefix)?;
         let announced = self.ribs.announce(slot, prefix, attrs, candidate);
         self.refresh(conf, links, prefix);
-        self.release(prefix);
         announced
     }
 
@@ -94,7 +93,6 @@ impl<A: Allocator + Clone, B: Book<A>> Routing<A, B> {
         }
         self.ribs.withdraw(slot, prefix);
         self.refresh(conf, links, prefix);
-        self.release(prefix);
     }
 
     /// The slot's session has ended: none of its routes is kept.
@@ -132,10 +130,30 @@ impl<A: Allocator + Clone, B: Book<A>> Routing<A, B> {
     pub fn clear(&mut self, slot: u8)
         requires { slot < 64 }
         ensures owed { (s : ℕ) (p : ThePrefix) → owed_at self.new.waiting s p ≡ (if s == slot then None else owed_at self.old.waiting s p) }
-        ensures known { (p : ThePrefix) → is_known self.new.waiting p ≡ is_known self.old.waiting p }
+        ensures known { (s : ℕ) (p : ThePrefix) → IsSome (route_at self.old.adj_in s p) → is_known self.new.waiting p ≡ is_known self.old.waiting p }
+        ensures released { ((p : ThePrefix) → IsReleased self.old p) → (p : ThePrefix) → IsReleased self.new p }
         ensures rest { self.new ≡ record self.old { waiting = self.new.waiting } }
     {
-        self.waiting.clear(slot);
+        self.clear_each(slot, Owed::Withdrawal);
+        self.clear_each(slot, Owed::Announcement);
+    }
+
+    // Where this waits for the slot of a prefix, nothing does any more.
+    fn clear_each(&mut self, slot: u8, owed: Owed)
+        requires { slot < 64 }
+        ensures none { (p : ThePrefix) → owed_at self.old.waiting slot p ≡ Some owed → owed_at self.new.waiting slot p ≡ None }
+        ensures others { (s : ℕ) (p : ThePrefix) → (s ≡ slot → owed_at self.old.waiting s p ≢ Some owed) → owed_at self.new.waiting s p ≡ owed_at self.old.waiting s p }
+        ensures known { (s : ℕ) (p : ThePrefix) → IsSome (route_at self.old.adj_in s p) → is_known self.new.waiting p ≡ is_known self.old.waiting p }
+        ensures released { ((p : ThePrefix) → IsReleased self.old p) → (p : ThePrefix) → IsReleased self.new p }
+        ensures rest { self.new ≡ record self.old { waiting = self.new.waiting } }
+    {
+        let mut after = None;
+        while let Some(prefix) = self.next(slot, owed, after) {
+            self.told(slot, prefix);
+            // Places rise, so the walk ends.
+            let _place = place(prefix);
+            after = Some(prefix);
+        }
     }
 
     /// The slot's session has entered Established: its peer waits for all that is exported to it.
@@ -162,6 +180,7 @@ impl<A: Allocator + Clone, B: Book<A>> Routing<A, B> {
         requires known { is_known self.old.waiting prefix ≡ true }
         ensures owed { (s : ℕ) (p : ThePrefix) → owed_at self.new.waiting s p ≡ (if s == slot && is_prefix prefix p then None else owed_at self.old.waiting s p) }
         ensures known { (s : ℕ) (p : ThePrefix) → IsSome (route_at self.old.adj_in s p) → is_known self.new.waiting p ≡ is_known self.old.waiting p }
+        ensures released { ((p : ThePrefix) → IsReleased self.old p) → (p : ThePrefix) → IsReleased self.new p }
         ensures rest { self.new ≡ record self.old { waiting = self.new.waiting } }
     {
         self.waiting.set(slot, prefix, None);
@@ -179,7 +198,8 @@ impl<A: Allocator + Clone, B: Book<A>> Routing<A, B> {
         self.waiting.next(slot, owed, after)
     }
 
-    // What the prefix's new routes and best one make wait for each peer.
+    // What the prefix's new routes and best one make wait for each peer. Without routes, and where nothing waits, it
+    // isn't known any more.
     fn refresh(&mut self, conf: &Conf<A>, links: &Links<A>, prefix: Prefix)
         requires known { is_known self.old.waiting prefix ≡ true }
         requires marked { AreMarkedBut prefix conf.now links.now.entries self.old }
@@ -190,6 +210,7 @@ impl<A: Allocator + Clone, B: Book<A>> Routing<A, B> {
         for slot in 0..PEER_SLOTS {
             self.mark(conf, links, slot, prefix, &mut octets);
         }
+        self.release(prefix);
     }
 
     // What of the prefix waits for the slot's peer, where there is one.
@@ -217,6 +238,8 @@ impl<A: Allocator + Clone, B: Book<A>> Routing<A, B> {
 
     // A prefix without routes of which nothing waits isn't known any more.
     fn release(&mut self, prefix: Prefix)
+        ensures released { IsReleased self.new prefix }
+        ensures others { (p : ThePrefix) → is_prefix prefix p ≡ false → is_known self.new.waiting p ≡ is_known self.old.waiting p }
         ensures owed { (s : ℕ) (p : ThePrefix) → owed_at self.new.waiting s p ≡ owed_at self.old.waiting s p }
         ensures known { (s : ℕ) (p : ThePrefix) → IsSome (route_at self.old.adj_in s p) → is_known self.new.waiting p ≡ is_known self.old.waiting p }
         ensures rest { self.new ≡ record self.old { waiting = self.new.waiting } }

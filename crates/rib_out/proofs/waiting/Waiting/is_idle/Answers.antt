@@ -1,6 +1,11 @@
 use Rattle.std.proofs.Common.{sym}
-use Rattle.rib_out.proofs.Records.{idle_by}
+use Rattle.rib_out.proofs.Records.{idle_by, owed_by_it}
 use Rattle.rib_out.proofs.waiting.Waiting.is_idle.Goals as goal
 
-pub returns-in-Some : goal.returns-in-Some
-returns-in-Some g c = rw (← c.self.view_is) (idle_by c.self.inside.records c.args.prefix c.in-Some.waits.now c.is_idle.result (sym c.in-Some.ensures) c.is_idle.ensures)
+pub returns-in-Some-clause-idle : goal.returns-in-Some-clause-idle
+returns-in-Some-clause-idle g c =
+    rw (← c.self.view_is) (λ is s. idle_by c.self.inside.records c.args.prefix c.in-Some.waits.now (sym c.in-Some.ensures) s (c.is_idle.ensures.idle is s))
+
+pub returns-in-Some-clause-few : goal.returns-in-Some-clause-few
+returns-in-Some-clause-few g c =
+    rw (← c.self.view_is) (λ known none. c.is_idle.ensures.few (λ s few. owed_by_it c.self.inside.records c.args.prefix c.in-Some.waits.now (sym c.in-Some.ensures) s (none s few)))

@@ -20,7 +20,8 @@ loop-prefix-preserved g c =
     let below = rw c.place-place.ensures.place at c.place-place.ensures.below in
     let least =
     subst (λ (t : RoutingState). (q : Prefix) → IsAbove c.loop-prefix.after q → IsSome (best_at (rows_of t.book) q) → is_gt (prefix_cmp c.in-Some.prefix q) ≡ false) c.self.view_is c.in-Some.ensures.least in
-    EnteredUpTo-more _ _ c.args.slot _ _ _ _ c.in-Some.prefix c.requires.slot c.requires.fresh c.loop-prefix.invariant c.in-Some.ensures.above least below c.mark.ensures.rest c.mark.ensures.owed c.mark.ensures.known
+    let routed = subst (λ (t : RoutingState). (s : ℕ) × IsSome (route_at t.adj_in s c.in-Some.prefix)) c.self.view_is c.in-Some.ensures.routed in
+    EnteredUpTo-more _ _ c.args.slot _ _ _ _ c.in-Some.prefix c.requires.slot c.requires.fresh c.loop-prefix.invariant c.in-Some.ensures.above least below routed c.mark.ensures.rest c.mark.ensures.owed c.mark.ensures.known
 
 pub returns-clause-marked : goal.returns-clause-marked
 returns-clause-marked g c =

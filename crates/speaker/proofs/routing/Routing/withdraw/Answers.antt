@@ -16,4 +16,4 @@ refresh-requires-clause-marked g c =
     let new : RoutingState = record { adj_in = c.withdraw.new.self.adj_in; book = c.withdraw.new.self.book; waiting = c.self.inside.waiting } in
     marked_but c.args.conf.now c.args.links.now.entries c.args.prefix old new marked (λ s p. refl) c.withdraw.ensures.others
     (routes_off c.args.slot c.args.prefix None old.adj_in new.adj_in c.withdraw.ensures.routes)
-    (known_gone c.args.slot c.args.prefix c.args.links.now.entries old new marked.there refl c.withdraw.ensures.routes)
+    (known_gone c.args.slot c.args.prefix c.args.links.now.entries old new marked.there refl c.withdraw.ensures.routes) (λ p other. refl)

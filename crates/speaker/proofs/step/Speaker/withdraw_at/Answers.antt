@@ -31,5 +31,5 @@ invariant_of-self-2 g c =
     let put : IsNow c.args.slot c.withdraw.new.link c.self.inside.links.entries (c.get_mut.follows.lender c.withdraw.new.link).entries = search rules in (
       subst (λ b. IsSound c.self.inside.conf (offer_at b)) (sym (ap (λ (t : RoutingState). t.book) c.told.ensures.rest)) c.self.invariant.0,
       marked_told c.self.inside.conf c.self.inside.routing c.told.new.self c.args.slot c.args.prefix None c.in-Some.link.now c.withdraw.new.link c.self.inside.links.entries _ c.self.invariant.1
-          (sym c.in-Some.ensures.value) c.withdraw.ensures put (exported_to state c.args.slot c.args.prefix None refl gone) c.told.ensures.rest c.told.ensures.owed c.told.ensures.known,
+          (sym c.in-Some.ensures.value) c.withdraw.ensures put (exported_to state c.args.slot c.args.prefix None refl gone) c.told.ensures.rest c.told.ensures.owed c.told.ensures.known c.told.ensures.released,
     )
