@@ -1,5 +1,5 @@
 -- The best candidate of a prefix's places.
-use Rattle.std.proofs.Common.{◌≡◌, ℕ, Bool, true, false, cond, inl, inr, nat_eq, List, [], ◌∷◌, All, Contains, Option, Some, None, is_some, option_and_then, option_map, not, MatchOption, slice_index_or, refl, sym, ◌∙◌, ap, subst, arith}
+use Rattle.std.proofs.Common.{◌≡◌, ℕ, Bool, true, false, cond, inl, inr, nat_eq, List, [], ◌∷◌, All, Contains, Option, Some, None, is_some, option_and_then, option_map, not, MatchOption, slice_index_or, length, refl, sym, ◌∙◌, ap, subst, arith}
 use Rattle.std.specs.List.{AllByRecursion, IsDistinct, cons_option}
 use Rattle.std.specs.Map.{lookup, keys_of}
 use Rattle.std.proofs.lemmas.List.Kept.{AllPairs-cons}
@@ -7,7 +7,7 @@ use Rattle.decision.specs.BookContents.{AreApart, IsBestOf, Kept, candidate_of, 
 use Rattle.decision.specs.KeptPlaces.{ArePlaces, IsBestAt, IsKept, candidates_of, without_slot}
 use Rattle.decision.specs.Selection.{AreDistinct, DifferInRank, IsSelected}
 use Rattle.decision.specs.declared.candidate.Candidate.{Candidate}
-use Rattle.decision.proofs.Laws.{at_among, contains_among, among_one}
+use Rattle.decision.proofs.Laws.{at_among, contains_among, among_one, selected_member}
 use Rattle.decision.proofs.One.{Among, among_selection}
 use Rattle.decision.proofs.PlaceLists.{same_slot, slot_itself, other_slot, turned, placed_of_some, candidate_without, same_best}
 
@@ -166,9 +166,20 @@ none_or false o h = refl
 pub best_moved : (cs ds : List Candidate) → cs ≡ ds → (o r : Option Candidate) → o ≡ r → MatchOption o (cs ≡ []) (λ c. IsSelected cs c) → MatchOption r (ds ≡ []) (λ c. IsSelected ds c)
 best_moved cs ds same o r e is = subst (λ xs. MatchOption r (xs ≡ []) (λ c. IsSelected xs c)) same (subst (λ x. MatchOption x (cs ≡ []) (λ c. IsSelected cs c)) e is)
 
--- the best stays where the slot that goes has no candidate
+-- the slot of the best has what it had, where the slot that goes has no candidate
+pub best_left : (slot : ℕ) (ps : List (ℕ × Option Candidate)) → candidate_of ps slot ≡ None → (best : Option ℕ) → option_and_then (candidate_of (without_slot slot ps)) best ≡ option_and_then (candidate_of ps) best
+best_left slot ps none best =
+    same_best (without_slot slot ps) ps (λ t. candidate_without slot t ps ∙ none_or (nat_eq t slot) (candidate_of ps t) (λ e. ap (candidate_of ps) (same_slot t slot e) ∙ none)) best
+
+-- so the best stays
 pub best_stays : (slot : ℕ) (ps : List (ℕ × Option Candidate)) → ArePlaces ps → candidate_of ps slot ≡ None → (best : Option ℕ) → IsBestAt ps (option_and_then (candidate_of ps) best)
     → IsBestAt (without_slot slot ps) (option_and_then (candidate_of (without_slot slot ps)) best)
-best_stays slot ps are none best is =
-    let same : (t : ℕ) → candidate_of (without_slot slot ps) t ≡ candidate_of ps t = λ t. candidate_without slot t ps ∙ none_or (nat_eq t slot) (candidate_of ps t) (λ e. ap (candidate_of ps) (same_slot t slot e) ∙ none) in
-    best_moved (candidates_of ps) (candidates_of (without_slot slot ps)) (sym (candidates_without slot ps are.distinct none)) _ _ (sym (same_best (without_slot slot ps) ps same best)) is
+best_stays slot ps are none best is = best_moved (candidates_of ps) (candidates_of (without_slot slot ps)) (sym (candidates_without slot ps are.distinct none)) _ _ (sym (best_left slot ps none best)) is
+
+no_best : (cs : List Candidate) (best : Option Candidate) → cs ≡ [] → MatchOption best (cs ≡ []) (λ c. IsSelected cs c) → best ≡ None
+no_best cs None none is = refl
+no_best cs (Some c) none is = let at : Contains cs c = selected_member cs (Some c) is in let few = ap length none in absurd (omega (arith, at.1, few))
+
+-- no place has no best
+pub best_nowhere : (kept : Kept) → IsKept kept → kept.places ≡ [] → kept.best ≡ None
+best_nowhere kept is none = no_best (candidates_of kept.places) kept.best (ap candidates_of none) is.1

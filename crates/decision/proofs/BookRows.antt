@@ -1,5 +1,5 @@
 -- The rows of a plain book, and what a call makes of its places.
-use Rattle.std.proofs.Common.{Result, Ok, Err, OnOk, OnErr, is_ok, not, length, filter, slice_get, ◌≡◌, ℕ, ◌≤◌, Bool, true, false, cond, ◌&&◌, inl, inr, nat_eq, List, [], ◌∷◌, ◌++◌, All, Option, Some, None, is_some, option_map, option_and_then, unwrap_or, IfSome, IsSome, refl, sym, ◌∙◌, ap, subst, arith}
+use Rattle.std.proofs.Common.{Result, Ok, Err, OnOk, OnErr, is_ok, not, length, filter, slice_get, ◌≡◌, ◌≢◌, ℕ, ◌≤◌, Bool, true, false, cond, ◌&&◌, inl, inr, nat_eq, List, [], ◌∷◌, ◌++◌, All, Option, Some, None, is_some, option_map, option_and_then, unwrap_or, IfSome, IsSome, refl, sym, ◌∙◌, ap, subst, arith}
 use Rattle.std.proofs.lemmas.Bool.{cases_order}
 use Rattle.std.proofs.lemmas.List.{append-nil}
 use Rattle.std.proofs.lemmas.List.Elements.{filter_agree, filter_map-append}
@@ -13,14 +13,14 @@ use Rattle.std.specs.Map.{lookup, keys_of, values_of, set_value, remove_entry}
 use Rattle.std.specs.Ordering.{is_eq, is_lt, match_ordering}
 use Rattle.std.specs.declared.cmp.Ordering.{Ordering}
 use Rattle.std.specs.declared.cmp.Ordering.TheVariants.{Less, Equal, Greater}
-use Rattle.decision.specs.BookContents.{AreApart, IsBestOf, best_at, changed, first_after, is_prefix, Kept, candidate_of, is_placed, kept_at, places_at, places_in, rows_of}
-use Rattle.decision.specs.KeptPlaces.{ArePlaces, IsBook, IsKept, Puts, alone, candidates_of, with_changes, without_slot}
+use Rattle.decision.specs.BookContents.{AreApart, HasNoEmptyPrefix, IsBestOf, best_at, changed, first_after, is_prefix, Kept, candidate_of, is_placed, kept_at, places_at, places_in, rows_of}
+use Rattle.decision.specs.KeptPlaces.{ArePlaces, IsBook, IsKept, IsNeeded, Puts, alone, candidates_of, with_changes, without_slot}
 use Rattle.decision.specs.declared.book.Change.{Change}
 use Rattle.decision.specs.declared.candidate.Candidate.{Candidate}
 use Rattle.decision.proofs.BestPlaces.{best_kept, best_moved}
-use Rattle.decision.proofs.PlaceLists.{added_case, by_cases, candidate_changed, candidate_pushed, candidate_without, place_alone, placed_changed, placed_pushed, placed_without, places_pushed, same_slot, unchanged}
+use Rattle.decision.proofs.PlaceLists.{added_case, by_cases, candidate_changed, candidate_pushed, candidate_without, idle_places, place_alone, placed_changed, placed_pushed, placed_without, places_pushed, same_slot, slot_itself, unchanged}
 use Rattle.net_prefix.proofs.Prefixes.{same_prefix}
-use Rattle.net_prefix.proofs.Ranks.{rank, cmp_below, cmp_above}
+use Rattle.net_prefix.proofs.Ranks.{rank, cmp_below, cmp_above, cmp_same}
 use Rattle.net_prefix.specs.PrefixOrder.{prefix_cmp}
 use Rattle.net_prefix.specs.declared.prefix.Prefix.{Prefix}
 
@@ -79,15 +79,15 @@ unfolding IsStrictlySortedBy
 rows_rise [] sorted = tt
 rows_rise (e ∷ es) sorted = rising_more e e.1.best (rows_of es) (below_rows (λ q. prefix_cmp e.0 q ≡ Less) es sorted.0) (rows_rise es sorted.1)
 
-best_of_kept : (o : Option Kept) → IfSome o IsKept → IsBestOf (candidate_of (unwrap_or (option_map (λ kept. kept.places) o) [])) (option_and_then (λ kept. kept.best) o)
+best_of_kept : (o : Option Kept) → IfSome o IsNeeded → IsBestOf (candidate_of (unwrap_or (option_map (λ kept. kept.places) o) [])) (option_and_then (λ kept. kept.best) o)
 best_of_kept None is = λ s. refl
-best_of_kept (Some kept) is = best_kept kept is
+best_of_kept (Some kept) is = best_kept kept is.0
 
 -- each row is the best of its prefix's candidates
 pub best_book : (book : List (Prefix × Kept)) → IsBook book → (p : Prefix) → IsBestOf (λ s. candidate_of (places_at book p) s) (best_at (rows_of book) p)
 best_book book is p =
     subst (IsBestOf (candidate_of (places_at book p))) (sym (best_rows book is.0 p))
-    (best_of_kept (kept_at book p) (IfSome-lookup_from_All IsKept (is_at (prefix_cmp p)) book is.1))
+    (best_of_kept (kept_at book p) (IfSome-lookup_from_All IsNeeded (is_at (prefix_cmp p)) book is.1))
 
 no_places : ArePlaces []
 unfolding IsDistinct
@@ -98,12 +98,24 @@ no_places = record {
   apart = λ s t c d ne is also. absurd cc;
 }
 
-places_of_kept : (o : Option Kept) → IfSome o IsKept → ArePlaces (unwrap_or (option_map (λ kept. kept.places) o) [])
+places_of_kept : (o : Option Kept) → IfSome o IsNeeded → ArePlaces (unwrap_or (option_map (λ kept. kept.places) o) [])
 places_of_kept None is = no_places
-places_of_kept (Some kept) is = is.0
+places_of_kept (Some kept) is = is.0.0
 
 pub book_places : (book : List (Prefix × Kept)) → IsBook book → (p : Prefix) → ArePlaces (places_at book p)
-book_places book is p = places_of_kept (kept_at book p) (IfSome-lookup_from_All IsKept (is_at (prefix_cmp p)) book is.1)
+book_places book is p = places_of_kept (kept_at book p) (IfSome-lookup_from_All IsNeeded (is_at (prefix_cmp p)) book is.1)
+
+place_there : (ps : List (ℕ × Option Candidate)) → ps ≢ [] → (s : ℕ) × (is_placed ps s ≡ true)
+place_there [] some = absurd (some refl)
+place_there (p ∷ ps) some = (p.0, ap (λ b. is_some (cond b (Some p.1) (lookup (nat_eq p.0) ps))) (slot_itself p.0))
+
+place_in_kept : (o : Option Kept) → IfSome o IsNeeded → IsSome o → (s : ℕ) × (is_placed (places_in o) s ≡ true)
+place_in_kept None is there = absurd (cc)
+place_in_kept (Some kept) is there = place_there kept.places is.1
+
+-- some slot has a place at each prefix that is kept
+pub book_needed : (book : List (Prefix × Kept)) → IsBook book → HasNoEmptyPrefix book
+book_needed book is = λ p there. place_in_kept (kept_at book p) (IfSome-lookup_from_All IsNeeded (is_at (prefix_cmp p)) book is.1) there
 
 pub book_own : (book : List (Prefix × Kept)) → IsBook book → (s : ℕ) (p : Prefix) → IfSome (candidate_of (places_at book p) s) (λ c. c.slot ≡ s)
 book_own book is s p = by_cases (λ c. c.slot ≡ s) (candidate_of (places_at book p) s) (λ c e. (book_places book is p).own s c e)
@@ -164,6 +176,13 @@ pub others_stay : (p : Prefix) (old new : List (Prefix × Kept)) (w : Option Kep
 others_stay p old new w sorted also puts q fails =
     best_rows new also q ∙ ap (option_and_then (λ kept. kept.best)) (other_case p q old new w fails puts) ∙ sym (best_rows old sorted q)
 
+-- and the best of the prefix does where it is what it was
+pub best_put : (p : Prefix) (old new : List (Prefix × Kept)) (k : Kept) (w : Option Kept) → IsStrictlySortedBy prefix_cmp (keys_of old) → IsStrictlySortedBy prefix_cmp (keys_of new) → kept_at old p ≡ Some k → Puts old new p w
+    → option_and_then (λ kept. kept.best) w ≡ k.best → best_at (rows_of new) p ≡ best_at (rows_of old) p
+best_put p old new k w sorted also found puts same =
+    let here : kept_at new p ≡ w = puts p ∙ ap (λ o. cond (is_eq o) w (kept_at old p)) (cmp_same p) in
+    best_rows new also p ∙ ap (option_and_then (λ kept. kept.best)) here ∙ same ∙ sym (ap (option_and_then (λ (kept : Kept). kept.best)) found) ∙ sym (best_rows old sorted p)
+
 read_case : {X : Type 0} (read : List (ℕ × Option Candidate) → X) (f : X → X) (p q : Prefix) (ps : List (ℕ × Option Candidate)) (old : List (Prefix × Kept)) (b : Bool) → is_prefix p q ≡ b
     → read ps ≡ f (read (places_at old p)) → read (cond b ps (places_at old q)) ≡ cond b (f (read (places_at old q))) (read (places_at old q))
 read_case read f p q ps old true at here = here ∙ ap (λ x. f (read (places_at old x))) (prefix_exact p q at)
@@ -177,25 +196,38 @@ reads_put read f p old new w puts here q =
 
 -- ---- a book after a call
 
-if_found : (o : Option Kept) (k : Kept) → IfSome o IsKept → o ≡ Some k → IsKept k
+if_found : (o : Option Kept) (k : Kept) → IfSome o IsNeeded → o ≡ Some k → IsNeeded k
 if_found None k is e = cc
-if_found (Some d) k is e = let same : d ≡ k = cc in subst IsKept same is
+if_found (Some d) k is e = let same : d ≡ k = cc in subst IsNeeded same is
 
 pub is_found : (o : Option Kept) (k : Kept) → o ≡ Some k → IsSome o
 is_found None k e = cc
 is_found (Some d) k e = refl
 
-pub book_kept : (book : List (Prefix × Kept)) → IsBook book → (p : Prefix) (k : Kept) → kept_at book p ≡ Some k → IsKept k
-book_kept book is p k found = if_found (kept_at book p) k (IfSome-lookup_from_All IsKept (is_at (prefix_cmp p)) book is.1) found
+pub book_kept : (book : List (Prefix × Kept)) → IsBook book → (p : Prefix) (k : Kept) → kept_at book p ≡ Some k → IsNeeded k
+book_kept book is p k found = if_found (kept_at book p) k (IfSome-lookup_from_All IsNeeded (is_at (prefix_cmp p)) book is.1) found
 
-pub book_written : (old new : List (Prefix × Kept)) (p : Prefix) (w : Kept) → IsBook old → IsKept w → new ≡ set_value (is_at (prefix_cmp p)) old w → IsStrictlySortedBy prefix_cmp (keys_of new) → IsBook new
-book_written old new p w is kept e sorted = (sorted, subst (λ es. All IsKept (values_of es)) (sym e) (All-values-set_value (is_at (prefix_cmp p)) IsKept old w is.1 kept))
+pub book_written : (old new : List (Prefix × Kept)) (p : Prefix) (w : Kept) → IsBook old → IsNeeded w → new ≡ set_value (is_at (prefix_cmp p)) old w → IsStrictlySortedBy prefix_cmp (keys_of new) → IsBook new
+book_written old new p w is kept e sorted = (sorted, subst (λ es. All IsNeeded (values_of es)) (sym e) (All-values-set_value (is_at (prefix_cmp p)) IsNeeded old w is.1 kept))
 
-pub book_inserted : (old new : List (Prefix × Kept)) (p : Prefix) (w : Kept) → IsBook old → IsKept w → new ≡ insert_entry prefix_cmp old p w → IsStrictlySortedBy prefix_cmp (keys_of new) → IsBook new
-book_inserted old new p w is kept e sorted = (sorted, subst (λ es. All IsKept (values_of es)) (sym e) (All-values-insert_entry prefix_cmp p w IsKept old is.1 kept))
+pub book_inserted : (old new : List (Prefix × Kept)) (p : Prefix) (w : Kept) → IsBook old → IsNeeded w → new ≡ insert_entry prefix_cmp old p w → IsStrictlySortedBy prefix_cmp (keys_of new) → IsBook new
+book_inserted old new p w is kept e sorted = (sorted, subst (λ es. All IsNeeded (values_of es)) (sym e) (All-values-insert_entry prefix_cmp p w IsNeeded old is.1 kept))
 
-pub book_removed : (old new : List (Prefix × Kept)) (p : Prefix) → IsBook old → new ≡ remove_entry (is_at (prefix_cmp p)) old → IsStrictlySortedBy prefix_cmp (keys_of new) → IsBook new
-book_removed old new p is e sorted = (sorted, subst (λ es. All IsKept (values_of es)) (sym e) (All-map-remove_entry (is_at (prefix_cmp p)) (λ e. e.1) IsKept old is.1))
+taken_case : (test : Prefix → Bool) (w : Kept) (e : Prefix × Kept) (es : List (Prefix × Kept)) (b : Bool) → test e.0 ≡ b → remove_entry test (set_value test es w) ≡ remove_entry test es
+    → remove_entry test (cond b ((e.0, w) ∷ es) (e ∷ set_value test es w)) ≡ cond b es (e ∷ remove_entry test es)
+taken_case test w e es true at rest = ap (λ b. cond b es ((e.0, w) ∷ remove_entry test es)) at
+taken_case test w e es false at rest = ap (λ b. cond b (set_value test es w) (e ∷ remove_entry test (set_value test es w))) at ∙ ap (λ rs. e ∷ rs) rest
+
+-- an entry that goes may have any value
+removed_written : (test : Prefix → Bool) (w : Kept) (es : List (Prefix × Kept)) → remove_entry test (set_value test es w) ≡ remove_entry test es
+removed_written test w [] = refl
+removed_written test w (e ∷ es) = taken_case test w e es (test e.0) refl (removed_written test w es)
+
+pub book_removed : (old written new : List (Prefix × Kept)) (p : Prefix) (w : Kept) → IsBook old → written ≡ set_value (is_at (prefix_cmp p)) old w → new ≡ remove_entry (is_at (prefix_cmp p)) written
+    → IsStrictlySortedBy prefix_cmp (keys_of new) → IsBook new
+book_removed old written new p w is made e sorted =
+    let same : new ≡ remove_entry (is_at (prefix_cmp p)) old = e ∙ ap (remove_entry (is_at (prefix_cmp p))) made ∙ removed_written (is_at (prefix_cmp p)) w old in
+    (sorted, subst (λ es. All IsNeeded (values_of es)) (sym same) (All-map-remove_entry (is_at (prefix_cmp p)) (λ e. e.1) IsNeeded old is.1))
 
 collapse : {X : Type 0} (b : Bool) (x : X) → cond b x x ≡ x
 collapse true x = refl
@@ -259,11 +291,19 @@ kept_case true false slot k w kept h is best few = (
 kept_case false true slot k w kept h is best few = kept_same k w kept is best
 kept_case false false slot k w kept h is best few = kept_same k w kept is best
 
-pub kept_added : (ok : Bool) (slot : ℕ) (k w : Kept) → IsKept k → Added ok slot k w → w.best ≡ k.best → (length k.places ≤ 65 → length w.places ≤ 65) → IsKept w
-kept_added ok slot k w kept is best few = kept_case ok (is_placed k.places slot) slot k w kept refl is best (few kept.0.few)
+some_added : (b : Bool) (p : ℕ × Option Candidate) (ps : List (ℕ × Option Candidate)) → ps ≢ [] → cond b (ps ++ p ∷ []) ps ≢ []
+some_added b p [] some = absurd (some refl)
+some_added true p (q ∷ ps) some = λ e. cc
+some_added false p (q ∷ ps) some = some
 
-pub kept_alone : (slot : ℕ) → IsKept (alone slot)
-kept_alone slot = (place_alone slot, refl)
+pub needed_added : (ok : Bool) (slot : ℕ) (k w : Kept) → IsNeeded k → Added ok slot k w → w.best ≡ k.best → (length k.places ≤ 65 → length w.places ≤ 65) → IsNeeded w
+needed_added ok slot k w needed is best few = (
+  kept_case ok (is_placed k.places slot) slot k w needed.0 refl is best (few needed.0.0.few),
+  subst (λ ps. ps ≢ []) (sym is) (some_added (ok && not (is_placed k.places slot)) (slot, None) k.places needed.1),
+)
+
+pub needed_alone : (slot : ℕ) → IsNeeded (alone slot)
+needed_alone slot = ((place_alone slot, refl), λ e. cc)
 
 -- a first place, or none
 
@@ -296,6 +336,20 @@ pub no_place_yet : (old : List (Prefix × Kept)) (p : Prefix) (slot : ℕ) → k
 no_place_yet old p slot none h = none_there slot (kept_at old p) none h
 
 -- changes
+
+some_changed : (changes : List Change) (ps : List (ℕ × Option Candidate)) → ps ≢ [] → with_changes changes ps ≢ []
+some_changed changes [] some = some
+some_changed changes (p ∷ ps) some = λ e. cc
+
+pub needed_changed : (changes : List Change) (k w : Kept) → IsNeeded k → IsKept w → w.places ≡ with_changes changes k.places → IsNeeded w
+needed_changed changes k w needed kept is = (kept, subst (λ ps. ps ≢ []) (sym is) (some_changed changes k.places needed.1))
+
+-- changes after which each slot has what it had
+pub change_idle : (p : Prefix) (old : List (Prefix × Kept)) (k : Kept) (changes : List Change) → IsBook old → kept_at old p ≡ Some k
+    → ((s : ℕ) → changed changes s (candidate_of (places_at old p) s) ≡ candidate_of (places_at old p) s) → with_changes changes k.places ≡ k.places
+change_idle p old k changes is found same =
+    let here : (s : ℕ) → changed changes s (candidate_of k.places s) ≡ candidate_of k.places s = subst (λ o. (s : ℕ) → changed changes s (candidate_of (places_in o) s) ≡ candidate_of (places_in o) s) found same in
+    idle_places changes k.places (book_kept old is p k found).0.0.distinct (λ s there. here s)
 
 placed_found : (o : Option Kept) (k : Kept) (changes : List Change) → o ≡ Some k → All (λ c. is_placed (places_in o) c.slot ≡ true) changes → All (λ c. is_placed k.places c.slot ≡ true) changes
 placed_found o k changes found all = subst (λ x. All (λ c. is_placed (places_in x) c.slot ≡ true) changes) found all

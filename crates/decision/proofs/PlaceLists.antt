@@ -133,6 +133,40 @@ candidate_changed changes t ps all =
     ap (option_and_then (λ c. c)) (lookup_mapped (changed changes) t ps)
     ∙ joined changes t (lookup (nat_eq t) ps) (λ fails. unchanged (is_placed ps) t changes None all fails)
 
+differs_from_placed : (k s : ℕ) (q : ℕ × Option Candidate) (ps : List (ℕ × Option Candidate)) (b : Bool) → nat_eq s q.0 ≡ b → nat_eq k q.0 ≡ false → (is_placed ps s ≡ true → nat_eq s k ≡ false)
+    → is_some (cond b (Some q.1) (lookup (nat_eq s) ps)) ≡ true → nat_eq s k ≡ false
+differs_from_placed k s q ps true at other rest there = turned s k ∙ ap (nat_eq k) (same_slot s q.0 at) ∙ other
+differs_from_placed k s q ps false at other rest there = rest there
+
+-- a slot with a place is none of the others
+placed_differs : (k s : ℕ) (ps : List (ℕ × Option Candidate)) → AllByRecursion (λ t. nat_eq k t ≡ false) (keys_of ps) → is_placed ps s ≡ true → nat_eq s k ≡ false
+placed_differs k s [] others there = cc
+placed_differs k s (q ∷ ps) others there = differs_from_placed k s q ps (nat_eq s q.0) refl others.0 (placed_differs k s ps others.1) there
+
+-- where no slot's candidate is another one, the places are as they were
+pub idle_places : (changes : List Change) (ps : List (ℕ × Option Candidate)) → IsDistinct nat_eq (keys_of ps) → ((s : ℕ) → is_placed ps s ≡ true → changed changes s (candidate_of ps s) ≡ candidate_of ps s)
+    → with_changes changes ps ≡ ps
+unfolding IsDistinct
+idle_places changes [] distinct same = refl
+idle_places changes (p ∷ ps) distinct same =
+    let read : Bool → Option Candidate = λ b. option_and_then (λ c. c) (cond b (Some p.1) (lookup (nat_eq p.0) ps)) in
+    let there : is_placed (p ∷ ps) p.0 ≡ true = ap (λ b. is_some (cond b (Some p.1) (lookup (nat_eq p.0) ps))) (slot_itself p.0) in
+    let here : candidate_of (p ∷ ps) p.0 ≡ p.1 = ap read (slot_itself p.0) in
+    let first : changed changes p.0 p.1 ≡ p.1 = ap (changed changes p.0) (sym here) ∙ same p.0 there ∙ here in
+    let rest : with_changes changes ps ≡ ps = idle_places changes ps distinct.1 (λ s placed.
+    let other : nat_eq s p.0 ≡ false = placed_differs p.0 s ps distinct.0 placed in
+    let behind : candidate_of (p ∷ ps) s ≡ candidate_of ps s = ap (λ b. option_and_then (λ c. c) (cond b (Some p.1) (lookup (nat_eq s) ps))) other in
+    let also : is_placed (p ∷ ps) s ≡ true = ap (λ b. is_some (cond b (Some p.1) (lookup (nat_eq s) ps))) other ∙ placed in
+    ap (changed changes s) (sym behind) ∙ same s also ∙ behind) in
+    ap (λ c. (p.0, c) ∷ with_changes changes ps) first ∙ ap (λ qs. p ∷ qs) rest
+
+-- and each place then is
+pub idle_at : (changes : List Change) (ps : List (ℕ × Option Candidate)) (i : ℕ) (d : ℕ × Option Candidate) → i < length ps → with_changes changes ps ≡ ps
+    → changed changes (get_or ps i d).0 (get_or ps i d).1 ≡ (get_or ps i d).1
+idle_at changes [] i d h same = absurd (omega arith)
+idle_at changes (p ∷ ps) zero d h same = ap (λ qs. (get_or qs 0 d).1) same
+idle_at changes (p ∷ ps) (suc k) d h same = idle_at changes ps k d (omega arith) (ap (drop 1) same)
+
 -- ---- a place less
 
 gone_head : (slot t : ℕ) (p : ℕ × Option Candidate) (more rest : Option (Option Candidate)) (a b c : Bool) → nat_eq slot p.0 ≡ a → nat_eq t p.0 ≡ b → nat_eq t slot ≡ c

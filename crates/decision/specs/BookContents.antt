@@ -1,5 +1,5 @@
 -- The candidates of each prefix by slot, and the best of each: Loc-RIB (RFC 4271 sections 3.2 and 9.1).
-use Rattle.std.specs.Prelude.{ℕ, ◌≡◌, ◌≢◌, ◌==◌, ◌↔◌, Bool, true, Option, Some, None, List, fold, find, Contains, MatchOption, if◌then◌else◌, [], nat_eq, is_some, option_map, option_and_then, unwrap_or, filter_map}
+use Rattle.std.specs.Prelude.{ℕ, ◌≡◌, ◌≢◌, ◌==◌, ◌↔◌, Bool, true, Option, Some, None, List, fold, find, Contains, IsSome, MatchOption, if◌then◌else◌, [], nat_eq, is_some, option_map, option_and_then, unwrap_or, filter_map}
 use Rattle.std.specs.BTreeMap.{is_at}
 use Rattle.std.specs.Map.{lookup}
 use Rattle.std.specs.Ordering.{is_eq, is_lt}
@@ -83,3 +83,7 @@ offer_at book slot prefix = candidate_of (places_at book prefix) slot
 -- whether the slot has a place at the prefix
 abbrev pub has_place_at : BookState → ℕ → Prefix → Bool
 has_place_at book slot prefix = is_placed (places_at book prefix) slot
+
+-- no prefix is kept without a place
+abbrev pub HasNoEmptyPrefix : BookState → Type 0
+HasNoEmptyPrefix book = (prefix : Prefix) → IsSome (kept_at book prefix) → (slot : ℕ) × (has_place_at book slot prefix ≡ true)

@@ -1,5 +1,5 @@
 -- How a plain book keeps the places of each prefix.
-use Rattle.std.specs.Prelude.{ℕ, ◌≡◌, ◌≤◌, not, nat_eq, Option, Some, None, List, [], length, map, filter, filter_map, All, MatchOption, ◌∷◌, if◌then◌else◌}
+use Rattle.std.specs.Prelude.{ℕ, ◌≡◌, ◌≢◌, ◌≤◌, not, nat_eq, Option, Some, None, List, [], length, map, filter, filter_map, All, MatchOption, ◌∷◌, if◌then◌else◌}
 use Rattle.std.specs.List.{IsDistinct}
 use Rattle.std.specs.List.Sorted.{IsStrictlySortedBy}
 use Rattle.std.specs.Map.{keys_of, values_of}
@@ -37,9 +37,13 @@ IsBestAt places best = MatchOption best (candidates_of places ≡ []) (λ c. IsS
 abbrev pub IsKept : Kept → Type 0
 IsKept kept = ArePlaces kept.places × IsBestAt kept.places kept.best
 
--- what is kept of the prefixes, which rise
+-- the same, and there is a place
+abbrev pub IsNeeded : Kept → Type 0
+IsNeeded kept = IsKept kept × (kept.places ≢ [])
+
+-- what is kept of the prefixes, which rise, and of which each has a place
 abbrev pub IsBook : List (Prefix × Kept) → Type 0
-IsBook book = IsStrictlySortedBy prefix_cmp (keys_of book) × All IsKept (values_of book)
+IsBook book = IsStrictlySortedBy prefix_cmp (keys_of book) × All IsNeeded (values_of book)
 
 -- a slot without a candidate alone
 abbrev pub alone : ℕ → Kept

@@ -1,5 +1,5 @@
 //! The places of one prefix.
-ghost use Rattle.std.specs.Prelude.{◌≡◌, ◌≤◌, ◌<◌, ◌+◌, ◌-◌, ◌^◌, ◌++◌, ◌∷◌, ◌&&◌, [], ℕ, List, None, true, false, Option, Some, All, IfOk, IfSome, IsTrue, ◌↔◌, is_ok, is_some, length, map, min, filter, filter_map, nat_eq, not, if◌then◌else◌};
+ghost use Rattle.std.specs.Prelude.{◌≡◌, ◌≢◌, ◌≤◌, ◌<◌, ◌+◌, ◌-◌, ◌^◌, ◌++◌, ◌∷◌, ◌&&◌, [], ℕ, List, None, true, false, Option, Some, All, IfOk, IfSome, IsTrue, ◌↔◌, is_ok, is_some, length, map, min, filter, filter_map, nat_eq, not, if◌then◌else◌};
 ghost use Rattle.std.specs.Map.{lookup};
 ghost use Rattle.decision.specs.BookContents.{AreApart, changed, candidate_of, is_placed};
 ghost use Rattle.decision.specs.KeptPlaces.{ArePlaces, IsBestAt, IsKept, candidates_of, with_changes, without_slot};
@@ -71,6 +71,8 @@ impl<A: Allocator> Places<A> {
         ensures places { self.new.places ≡ with_changes changes.now self.old.places }
         ensures kept { IsKept self.new }
         ensures counted { (meter.old.count ≤ meter.new.count) × (meter.new.count ≤ meter.old.count + 1) }
+        ensures never { with_changes changes.now self.old.places ≡ self.old.places → meter.new.count ≡ meter.old.count }
+        ensures chosen { self.new.best ≢ self.old.best → meter.new.count ≡ min (meter.old.count + 1) (2 ^ 64 - 1) }
     {
         if are_idle(changes, &self.places) {
             return;
@@ -86,6 +88,7 @@ impl<A: Allocator> Places<A> {
         ensures kept { IsKept self.new }
         ensures counted { (meter.old.count ≤ meter.new.count) × (meter.new.count ≤ meter.old.count + 1) }
         ensures never { candidate_of self.old.places slot ≡ None → meter.new.count ≡ meter.old.count }
+        ensures chosen { self.new.best ≢ self.old.best → meter.new.count ≡ min (meter.old.count + 1) (2 ^ 64 - 1) }
         ensures empty { IsTrue result ↔ (self.new.places ≡ []) }
     {
         let gone = candidate_at(&self.places, slot);
@@ -102,6 +105,7 @@ impl<A: Allocator> Places<A> {
         ensures places { self.new.places ≡ self.old.places }
         ensures best { IsBestAt self.new.places self.new.best }
         ensures counted { (meter.old.count ≤ meter.new.count) × (meter.new.count ≤ meter.old.count + 1) }
+        ensures chosen { meter.new.count ≡ min (meter.old.count + 1) (2 ^ 64 - 1) }
     {
         is_count(meter.count);
         let candidates = candidates(&self.places);
@@ -199,7 +203,7 @@ fn after(changes: &[Change], slot: u8, candidate: Option<Candidate>) -> Option<C
 
 // Whether the changes leave each candidate as it is.
 fn are_idle(changes: &[Change], places: &[Place]) -> bool
-    ensures { result ≡ true → with_changes changes.now places.now ≡ places.now }
+    ensures { IsTrue result ↔ (with_changes changes.now places.now ≡ places.now) }
 {
     for place in places {
         if !is_same(after(changes, place.0, place.1), place.1) {
@@ -211,7 +215,7 @@ fn are_idle(changes: &[Change], places: &[Place]) -> bool
 
 // Whether both are one candidate, or none.
 fn is_same(first: Option<Candidate>, second: Option<Candidate>) -> bool
-    ensures { result ≡ true → first ≡ second }
+    ensures { IsTrue result ↔ (first ≡ second) }
 {
     first == second
 }

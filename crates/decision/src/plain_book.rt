@@ -1,7 +1,11 @@
 //! A book that chooses again among all candidates of a prefix.
 ghost use Rattle.std.specs.Prelude.{◌≡◌, None, Some, OnErr, OnOk, slice_get};
-ghost use Rattle.decision.specs.KeptPlaces.{IsBook, Puts, alone};
+ghost use Rattle.std.specs.BTreeMap.{is_at};
+ghost use Rattle.std.specs.List.Sorted.{IsStrictlySortedBy};
+ghost use Rattle.std.specs.Map.{keys_of, remove_entry};
+ghost use Rattle.decision.specs.KeptPlaces.{Puts, alone};
 ghost use Rattle.decision.specs.BookContents.{candidate_of, is_placed, kept_at, places_at, rows_of};
+ghost use Rattle.net_prefix.specs.PrefixOrder.{prefix_cmp};
 
 use crate::book::{Book, Change};
 use crate::candidate::Candidate;
@@ -48,14 +52,15 @@ impl<A: Allocator + Clone> PlainBook<A> {
             Err(_) => Err(AllocError),
         }
     }
+}
 
-    // Keeps the prefix no longer.
-    fn remove_prefix(&mut self, prefix: Prefix)
-        ensures gone { Puts self.old self.new prefix None }
-        ensures book { IsBook self.new }
-    {
-        self.prefixes.remove(&prefix);
-    }
+// Keeps the prefix no longer.
+fn forget<A: Allocator>(prefixes: &mut BTreeMap<Prefix, Places<A>, A>, prefix: Prefix)
+    ensures entries { prefixes.new.entries ≡ remove_entry (is_at (prefix_cmp prefix)) prefixes.old.entries }
+    ensures gone { Puts prefixes.old.entries prefixes.new.entries prefix None }
+    ensures rising { IsStrictlySortedBy prefix_cmp (keys_of prefixes.new.entries) }
+{
+    prefixes.remove(&prefix);
 }
 
 // The first row of a range.
@@ -99,7 +104,7 @@ impl<A: Allocator + Clone> Book<A> for PlainBook<A> {
             return;
         };
         if places.leave(meter, slot) {
-            self.remove_prefix(prefix);
+            forget(&mut self.prefixes, prefix);
         }
     }
 

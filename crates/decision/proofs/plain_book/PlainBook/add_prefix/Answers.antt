@@ -1,13 +1,13 @@
 use Rattle.std.proofs.Common.{◌≡◌, Some, None, cond, ap, sym, subst, ◌∙◌}
 use Rattle.decision.specs.BookContents.{is_prefix, kept_at, rows_of}
-use Rattle.decision.specs.KeptPlaces.{IsKept, alone}
-use Rattle.decision.proofs.BookRows.{book_inserted, kept_alone, kept_is, rows_inserted}
+use Rattle.decision.specs.KeptPlaces.{IsNeeded, alone}
+use Rattle.decision.proofs.BookRows.{book_inserted, kept_is, needed_alone, rows_inserted}
 use Rattle.decision.proofs.plain_book.PlainBook.add_prefix.Goals as goal
 
 pub invariant_of-self : goal.invariant_of-self
 invariant_of-self g c =
     let is : c.in_ok-places.places ≡ alone c.args.slot = kept_is c.in_ok-places.places c.args.slot c.in_ok-places.ensures in
-    book_inserted c.self.inside.prefixes.entries _ c.args.prefix c.in_ok-places.places c.self.invariant (subst IsKept (sym is) (kept_alone c.args.slot)) c.in-Ok.ensures.entries c.in-Ok.ensures.ordered
+    book_inserted c.self.inside.prefixes.entries _ c.args.prefix c.in_ok-places.places c.self.invariant (subst IsNeeded (sym is) (needed_alone c.args.slot)) c.in-Ok.ensures.entries c.in-Ok.ensures.ordered
 
 pub returns-in-Ok-clause-ok : goal.returns-in-Ok-clause-ok
 returns-in-Ok-clause-ok g c = λ q.

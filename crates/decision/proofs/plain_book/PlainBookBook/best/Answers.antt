@@ -2,7 +2,7 @@ use Rattle.std.proofs.Common.{option_and_then, ap, sym, ◌∙◌, subst}
 use Rattle.std.specs.Option.{option_copied}
 use Rattle.decision.specs.BookContents.{best_at, Kept, rows_of}
 use Rattle.decision.specs.KeptPlaces.{IsBook}
-use Rattle.decision.proofs.BookRows.{best_book, book_own, book_places, best_rows, rows_rise}
+use Rattle.decision.proofs.BookRows.{best_book, book_needed, book_own, book_places, best_rows, rows_rise}
 use Rattle.decision.proofs.plain_book.PlainBookBook.best.Goals as goal
 
 pub returns-in-Some-clause-best : goal.returns-in-Some-clause-best
@@ -23,6 +23,12 @@ returns-in-Some-clause-apart g c = let is : IsBook c.args.self.now = subst IsBoo
 pub returns-in-Some-clause-rising : goal.returns-in-Some-clause-rising
 returns-in-Some-clause-rising g c = let is : IsBook c.args.self.now = subst IsBook c.self.view_is c.self.invariant in rows_rise _ is.0
 
+pub returns-in-Some-clause-needed : goal.returns-in-Some-clause-needed
+returns-in-Some-clause-needed g c = let is : IsBook c.args.self.now = subst IsBook c.self.view_is c.self.invariant in book_needed _ is
+
+pub returns-in-Some-clause-single : goal.returns-in-Some-clause-single
+returns-in-Some-clause-single g c = let is : IsBook c.args.self.now = subst IsBook c.self.view_is c.self.invariant in λ p. (book_places _ is p).distinct
+
 pub returns-in-None-clause-best : goal.returns-in-None-clause-best
 returns-in-None-clause-best g c =
     let is : IsBook c.self.inside.prefixes.entries = c.self.invariant in
@@ -40,3 +46,9 @@ returns-in-None-clause-apart g c = let is : IsBook c.args.self.now = subst IsBoo
 
 pub returns-in-None-clause-rising : goal.returns-in-None-clause-rising
 returns-in-None-clause-rising g c = let is : IsBook c.args.self.now = subst IsBook c.self.view_is c.self.invariant in rows_rise _ is.0
+
+pub returns-in-None-clause-needed : goal.returns-in-None-clause-needed
+returns-in-None-clause-needed g c = let is : IsBook c.args.self.now = subst IsBook c.self.view_is c.self.invariant in book_needed _ is
+
+pub returns-in-None-clause-single : goal.returns-in-None-clause-single
+returns-in-None-clause-single g c = let is : IsBook c.args.self.now = subst IsBook c.self.view_is c.self.invariant in λ p. (book_places _ is p).distinct

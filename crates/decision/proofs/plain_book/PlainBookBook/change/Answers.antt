@@ -2,7 +2,7 @@ use Rattle.std.proofs.Common.{◌≡◌, All, sym, ap, subst, ◌∙◌, Some, N
 use Rattle.std.specs.Option.{option_copied_mut}
 use Rattle.decision.specs.BookContents.{AreApart, IsBestOf, best_at, changed, is_prefix, candidate_of, is_placed, kept_at, places_at, rows_of}
 use Rattle.decision.specs.KeptPlaces.{Puts}
-use Rattle.decision.proofs.BookRows.{best_book, book_written, change_apart, change_offers, change_places, idle_offers, is_found, others_stay}
+use Rattle.decision.proofs.BookRows.{best_book, best_put, book_kept, book_written, change_apart, change_idle, change_offers, change_places, idle_offers, is_found, needed_changed, others_stay}
 use Rattle.decision.proofs.plain_book.PlainBookBook.change.Goals as goal
 
 pub returns-in_default-clause-offers : goal.returns-in_default-clause-offers
@@ -32,7 +32,8 @@ pub invariant_of-self-2 : goal.invariant_of-self-2
 invariant_of-self-2 g c =
     let found : kept_at c.self.inside.prefixes.entries c.args.prefix ≡ Some c.in-Some.places.now = sym c.get_mut.ensures.value ∙ ap option_copied_mut c.in-Some.is in
     let holds = c.get_mut.follows.holds c.change.new.self in
-    book_written c.self.inside.prefixes.entries _ c.args.prefix c.change.new.self c.self.invariant c.change.ensures.kept holds.0 holds.4
+    let needed = needed_changed c.args.changes.now c.in-Some.places.now c.change.new.self (book_kept c.self.inside.prefixes.entries c.self.invariant c.args.prefix c.in-Some.places.now found) c.change.ensures.kept c.change.ensures.places in
+    book_written c.self.inside.prefixes.entries _ c.args.prefix c.change.new.self c.self.invariant needed holds.0 holds.4
 
 pub returns-clause-offers : goal.returns-clause-offers
 returns-clause-offers g c = λ s q.
@@ -56,7 +57,8 @@ pub returns-clause-best : goal.returns-clause-best
 returns-clause-best g c =
     let found : kept_at c.self.inside.prefixes.entries c.args.prefix ≡ Some c.in-Some.places.now = sym c.get_mut.ensures.value ∙ ap option_copied_mut c.in-Some.is in
     let holds = c.get_mut.follows.holds c.change.new.self in
-    let written = book_written c.self.inside.prefixes.entries _ c.args.prefix c.change.new.self c.self.invariant c.change.ensures.kept holds.0 holds.4 in
+    let needed = needed_changed c.args.changes.now c.in-Some.places.now c.change.new.self (book_kept c.self.inside.prefixes.entries c.self.invariant c.args.prefix c.in-Some.places.now found) c.change.ensures.kept c.change.ensures.places in
+    let written = book_written c.self.inside.prefixes.entries _ c.args.prefix c.change.new.self c.self.invariant needed holds.0 holds.4 in
     best_book _ written c.args.prefix
 
 pub returns-clause-others : goal.returns-clause-others
@@ -64,6 +66,24 @@ returns-clause-others g c = λ q other.
     let found : kept_at c.self.inside.prefixes.entries c.args.prefix ≡ Some c.in-Some.places.now = sym c.get_mut.ensures.value ∙ ap option_copied_mut c.in-Some.is in
     let holds = c.get_mut.follows.holds c.change.new.self in
     let puts : Puts c.self.inside.prefixes.entries _ c.args.prefix (Some c.change.new.self) = (holds.3 (is_found _ _ found)).0 in
-    let written = book_written c.self.inside.prefixes.entries _ c.args.prefix c.change.new.self c.self.invariant c.change.ensures.kept holds.0 holds.4 in
+    let needed = needed_changed c.args.changes.now c.in-Some.places.now c.change.new.self (book_kept c.self.inside.prefixes.entries c.self.invariant c.args.prefix c.in-Some.places.now found) c.change.ensures.kept c.change.ensures.places in
+    let written = book_written c.self.inside.prefixes.entries _ c.args.prefix c.change.new.self c.self.invariant needed holds.0 holds.4 in
     others_stay c.args.prefix c.self.inside.prefixes.entries _ (Some c.change.new.self) c.self.invariant.0 written.0 puts q other
     ∙ ap (λ old. best_at (rows_of old) q) c.self.view_is
+
+pub returns-clause-never : goal.returns-clause-never
+returns-clause-never g c = λ h.
+    let found : kept_at c.self.inside.prefixes.entries c.args.prefix ≡ Some c.in-Some.places.now = sym c.get_mut.ensures.value ∙ ap option_copied_mut c.in-Some.is in
+    let same = rw (← c.self.view_is) at h in
+    c.change.ensures.never (change_idle c.args.prefix c.self.inside.prefixes.entries c.in-Some.places.now c.args.changes.now c.self.invariant found same)
+
+pub returns-clause-chosen : goal.returns-clause-chosen
+returns-clause-chosen g c = λ another.
+    let found : kept_at c.self.inside.prefixes.entries c.args.prefix ≡ Some c.in-Some.places.now = sym c.get_mut.ensures.value ∙ ap option_copied_mut c.in-Some.is in
+    let holds = c.get_mut.follows.holds c.change.new.self in
+    let puts : Puts c.self.inside.prefixes.entries _ c.args.prefix (Some c.change.new.self) = (holds.3 (is_found _ _ found)).0 in
+    let needed = needed_changed c.args.changes.now c.in-Some.places.now c.change.new.self (book_kept c.self.inside.prefixes.entries c.self.invariant c.args.prefix c.in-Some.places.now found) c.change.ensures.kept c.change.ensures.places in
+    let written = book_written c.self.inside.prefixes.entries _ c.args.prefix c.change.new.self c.self.invariant needed holds.0 holds.4 in
+    c.change.ensures.chosen (λ same. another
+    (best_put c.args.prefix c.self.inside.prefixes.entries _ c.in-Some.places.now (Some c.change.new.self) c.self.invariant.0 written.0 found puts same
+    ∙ ap (λ old. best_at (rows_of old) c.args.prefix) c.self.view_is))

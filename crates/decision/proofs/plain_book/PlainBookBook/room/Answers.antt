@@ -4,7 +4,7 @@ use Rattle.std.specs.BTreeMap.{is_at}
 use Rattle.decision.specs.BookContents.{is_prefix, candidate_of, is_placed, kept_at, places_at, places_in, rows_of}
 use Rattle.net_prefix.specs.PrefixOrder.{prefix_cmp}
 use Rattle.decision.specs.KeptPlaces.{Puts, alone}
-use Rattle.decision.proofs.BookRows.{book_kept, book_written, first_offers, first_places, is_found, kept_added, no_place_yet, puts_added, room_offers, room_places, rows_set}
+use Rattle.decision.proofs.BookRows.{book_kept, book_written, first_offers, first_places, is_found, needed_added, no_place_yet, puts_added, room_offers, room_places, rows_set}
 use Rattle.decision.proofs.plain_book.PlainBookBook.room.Goals as goal
 
 pub invariant_of-self : goal.invariant_of-self
@@ -12,7 +12,7 @@ invariant_of-self g c =
     let found : kept_at c.self.inside.prefixes.entries c.args.prefix ≡ Some c.in-Some.places.now = sym c.get_mut.ensures.value ∙ ap option_copied_mut c.in-Some.is in
     let holds = c.get_mut.follows.holds c.add.new.self in
     book_written c.self.inside.prefixes.entries _ c.args.prefix c.add.new.self c.self.invariant
-    (kept_added (is_ok c.add.result) c.args.slot c.in-Some.places.now c.add.new.self (book_kept c.self.inside.prefixes.entries c.self.invariant c.args.prefix c.in-Some.places.now found)
+    (needed_added (is_ok c.add.result) c.args.slot c.in-Some.places.now c.add.new.self (book_kept c.self.inside.prefixes.entries c.self.invariant c.args.prefix c.in-Some.places.now found)
     c.add.ensures.places c.add.ensures.best c.add.ensures.few)
     holds.0 holds.4
 
