@@ -4,11 +4,11 @@ use Rattle.std.specs.Result.{is_err}
 use Rattle.std.proofs.lemmas.Bool.{eqb-true}
 use Rattle.decision.proofs.BookRows.{prefix_exact}
 use Rattle.decision.proofs.PlaceLists.{unchanged}
-use Rattle.decision.specs.BookContents.{AreApart, BookState, changed, has_place_at, is_prefix, offer_at}
+use Rattle.decision.specs.BookContents.{AreApart, BookState, HasNoEmptyPrefix, changed, has_place_at, is_prefix, kept_at, offer_at}
 use Rattle.decision.specs.declared.book.Change.{Change}
 use Rattle.decision.specs.declared.candidate.Candidate.{Candidate}
 use Rattle.net_prefix.specs.declared.prefix.Prefix.{Prefix}
-use Rattle.rib_in.specs.LatestRoutes.{RouteTable, route_at}
+use Rattle.rib_in.specs.LatestRoutes.{HasRoute, RouteTable, route_at}
 use Rattle.loc_rib.specs.RibTables.{AreRoomy}
 
 -- Routes with places for their candidates.
@@ -64,6 +64,10 @@ roomy_left adj_in old made new slot prefix h none offers places left_offers left
     routed_here : (s : ℕ) (p : Prefix) (b : Bool) → (s == slot && is_prefix prefix p) ≡ b → offer_at new s p ≡ cond b None (offer_at made s p) → IsSome (offer_at new s p) → IsSome (route_at adj_in s p)
     routed_here s p true is now there = let never = subst (λ o. IsSome o) now there in absurd (cc)
     routed_here s p false is now there = h.routed s p (subst (λ o. IsSome o) (now ∙ offers s p) there)
+
+-- a prefix that is kept has a route
+pub kept_routed : (adj_in : RouteTable) (book : BookState) → AreRoomy adj_in book → HasNoEmptyPrefix book → (p : Prefix) → IsSome (kept_at book p) → HasRoute adj_in p
+kept_routed adj_in book h needed p there = let place = needed p there in (place.0, is_some-to (route_at adj_in place.0 p) (sym (h.places place.0 p) ∙ place.1))
 
 -- what holds of a failure's answer
 pub on_err : {T F : Type 0} (r : Result T F) (P : Type 0) → OnErr r P → true ≡ is_err r → P

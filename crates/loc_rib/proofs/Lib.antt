@@ -1,3 +1,4 @@
 pub mod BookRooms
+pub mod EndedCounts
 pub mod EndedSlots
 pub mod RowWalks

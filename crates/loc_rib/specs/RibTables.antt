@@ -1,18 +1,28 @@
 -- Adj-RIB-In with the candidates that its routes make (RFC 4271 section 3.2).
-use Rattle.std.specs.Prelude.{◌≡◌, ℕ, []}
+use Rattle.std.specs.Prelude.{◌≡◌, ◌≢◌, ◌≤◌, ◌+◌, ◌-◌, ◌^◌, ℕ, min, []}
 use Rattle.std.specs.Option.{IsSome, is_some}
-use Rattle.decision.specs.BookContents.{BookState, has_place_at, offer_at}
+use Rattle.decision.specs.BookContents.{BookState, best_at, has_place_at, offer_at, rows_of}
 use Rattle.net_prefix.specs.declared.prefix.Prefix.{Prefix}
 use Rattle.rib_in.specs.LatestRoutes.{RouteTable, route_at}
 
--- the latest route of each slot and prefix, and the candidates that they make with the best of each prefix
+-- the latest route of each slot and prefix, the candidates that they make with the best of each prefix, and how often
+-- a best one was chosen since the count began
 pub record RibTables : Type 0 where
   pub adj_in : RouteTable
   pub book : BookState
+  pub chosen : ℕ
 
--- no routes
+-- no routes, and nothing was chosen
 abbrev pub started : RibTables
-started = record { adj_in = []; book = [] }
+started = record { adj_in = []; book = []; chosen = 0 }
+
+-- the count rose by this many at most
+abbrev pub RisesBy : ℕ → RibTables → RibTables → Type 0
+RisesBy most old new = (old.chosen ≤ new.chosen) × (new.chosen ≤ old.chosen + most)
+
+-- a best route of the prefix that is another now was chosen, and the count has it, unless it stands at its greatest
+abbrev pub CountsAnother : Prefix → RibTables → RibTables → Type 0
+CountsAnother prefix old new = best_at (rows_of new.book) prefix ≢ best_at (rows_of old.book) prefix → new.chosen ≡ min (old.chosen + 1) (2 ^ 64 - 1)
 
 -- there is a place for a candidate just where there is a route, and each candidate is one of a route
 pub record AreRoomy (adj_in : RouteTable) (book : BookState) : Type 0 where

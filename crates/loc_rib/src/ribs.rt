@@ -1,16 +1,16 @@
 //! Adj-RIB-In and Loc-RIB (RFC 4271 section 3.2): the peers' latest routes, the candidates that they make, and the best
 //! route of each prefix.
-ghost use Rattle.std.specs.Prelude.{◌≡◌, ◌==◌, ℕ, false, All, IfOk, OnOk, OnErr, None, Some, if◌then◌else◌};
+ghost use Rattle.std.specs.Prelude.{◌≡◌, ◌==◌, ℕ, false, All, IfOk, OnOk, OnErr, None, Some, length, if◌then◌else◌};
 ghost use Rattle.std.specs.List.Sorted.{IsStrictlySortedBy};
 ghost use Rattle.std.specs.Map.{keys_of};
 ghost use Rattle.std.specs.Option.{IfNone, IfSome, IsSome};
 ghost use Rattle.std.specs.Ordering.{is_gt};
-ghost use Rattle.decision.specs.BookContents.{AreApart, IsBestOf, best_at, changed, is_prefix, offer_at, rows_of};
+ghost use Rattle.decision.specs.BookContents.{AreApart, IsBestOf, best_at, changed, is_prefix, kept_at, offer_at, rows_of};
 ghost use Rattle.decision.specs.declared.candidate.Candidate.{Candidate as TheCandidate};
 ghost use Rattle.net_prefix.specs.PrefixOrder.{IsAbove, prefix_cmp};
 ghost use Rattle.net_prefix.specs.declared.prefix.Prefix.{Prefix as ThePrefix};
-ghost use Rattle.rib_in.specs.LatestRoutes.{is_route, route_at};
-ghost use Rattle.loc_rib.specs.RibTables.{started};
+ghost use Rattle.rib_in.specs.LatestRoutes.{HasRoute, is_route, route_at, routes_of};
+ghost use Rattle.loc_rib.specs.RibTables.{CountsAnother, RisesBy, started};
 
 use crate::rows::Rows;
 use bgp_attr::Attrs;
@@ -34,7 +34,7 @@ impl<A: Allocator + Clone, B: Book<A>> Model for Ribs<A, B> {
 
     ghost Value = { RibTables };
 
-    ghost view = { λ r. record { adj_in = r.adj_in; book = B.kept r.book } };
+    ghost view = { λ r. record { adj_in = r.adj_in; book = B.kept r.book; chosen = r.meter.count } };
 
     ghost invariant = { λ r. AreRoomy r.adj_in (B.kept r.book) };
 }
@@ -70,6 +70,11 @@ impl<A: Allocator + Clone, B: Book<A>> Ribs<A, B> {
         ensures others { (p : ThePrefix) → is_prefix prefix p ≡ false → best_at (rows_of self.new.book) p ≡ best_at (rows_of self.old.book) p }
         // A route that replaces another takes no memory.
         ensures absent { OnErr result (route_at self.old.adj_in slot prefix ≡ None) }
+        // A best route is chosen once at most, and never where the candidate stays or memory is refused.
+        ensures chosen { RisesBy 1 self.old self.new }
+        ensures another { OnOk result (CountsAnother prefix self.old self.new) }
+        ensures same { offer_at self.old.book slot prefix ≡ candidate → self.new.chosen ≡ self.old.chosen }
+        ensures refused { OnErr result (self.new.chosen ≡ self.old.chosen) }
     {
         self.book.room(slot, prefix)?;
         if self.adj_in.announce(slot, prefix, attrs).is_err() {
@@ -86,6 +91,13 @@ impl<A: Allocator + Clone, B: Book<A>> Ribs<A, B> {
         ensures routes { (s : ℕ) (p : ThePrefix) → route_at self.new.adj_in s p ≡ (if is_route slot prefix s p then None else route_at self.old.adj_in s p) }
         ensures offers { (s : ℕ) (p : ThePrefix) → offer_at self.new.book s p ≡ (if is_route slot prefix s p then None else offer_at self.old.book s p) }
         ensures others { (p : ThePrefix) → is_prefix prefix p ≡ false → best_at (rows_of self.new.book) p ≡ best_at (rows_of self.old.book) p }
+        // Nothing is kept of a prefix whose last route goes.
+        ensures forgotten { ((s : ℕ) → route_at self.new.adj_in s prefix ≡ None) → kept_at self.new.book prefix ≡ None }
+        // A best route is chosen once at most, and never where there was no route, or one that made no candidate.
+        ensures chosen { RisesBy 1 self.old self.new }
+        ensures another { CountsAnother prefix self.old self.new }
+        ensures unrouted { route_at self.old.adj_in slot prefix ≡ None → self.new.chosen ≡ self.old.chosen }
+        ensures never { offer_at self.old.book slot prefix ≡ None → self.new.chosen ≡ self.old.chosen }
     {
         self.adj_in.withdraw(slot, prefix);
         self.book.leave(&mut self.meter, slot, prefix);
@@ -95,6 +107,8 @@ impl<A: Allocator + Clone, B: Book<A>> Ribs<A, B> {
     pub fn drop_slot(&mut self, slot: u8)
         ensures routes { (s : ℕ) (p : ThePrefix) → route_at self.new.adj_in s p ≡ (if s == slot then None else route_at self.old.adj_in s p) }
         ensures offers { (s : ℕ) (p : ThePrefix) → offer_at self.new.book s p ≡ (if s == slot then None else offer_at self.old.book s p) }
+        // A best route is chosen once at most for each route of the slot.
+        ensures chosen { RisesBy (length (routes_of slot self.old.adj_in)) self.old self.new }
     {
         let mut after = None;
         while let Some(prefix) = self.adj_in.slot_prefix_after(slot, after) {
@@ -103,7 +117,7 @@ impl<A: Allocator + Clone, B: Book<A>> Ribs<A, B> {
         }
     }
 
-    /// Changes candidates of routes to a prefix, and chooses its best one again.
+    /// Changes candidates of routes to a prefix, and chooses its best one again where one of them is another now.
     pub fn change(&mut self, prefix: Prefix, changes: &[Change])
         requires routed { All (λ c. IsSome (route_at self.old.adj_in c.slot prefix)) changes.now }
         requires named { All (λ c. IfSome c.candidate (λ route. route.slot ≡ c.slot)) changes.now }
@@ -111,6 +125,9 @@ impl<A: Allocator + Clone, B: Book<A>> Ribs<A, B> {
         ensures routes { self.new.adj_in ≡ self.old.adj_in }
         ensures offers { (s : ℕ) (p : ThePrefix) → offer_at self.new.book s p ≡ (if is_prefix prefix p then changed changes.now s (offer_at self.old.book s p) else offer_at self.old.book s p) }
         ensures others { (p : ThePrefix) → is_prefix prefix p ≡ false → best_at (rows_of self.new.book) p ≡ best_at (rows_of self.old.book) p }
+        ensures chosen { RisesBy 1 self.old self.new }
+        ensures another { CountsAnother prefix self.old self.new }
+        ensures same { ((s : ℕ) → changed changes.now s (offer_at self.old.book s prefix) ≡ offer_at self.old.book s prefix) → self.new.chosen ≡ self.old.chosen }
     {
         self.book.change(&mut self.meter, prefix, changes);
     }
@@ -130,12 +147,27 @@ impl<A: Allocator + Clone, B: Book<A>> Ribs<A, B> {
         self.book.best(prefix)
     }
 
-    /// Loc-RIB has the best of each prefix's candidates.
+    /// Loc-RIB has the best of each prefix's candidates, and nothing is kept of a prefix without routes.
     pub fn is_chosen(&self)
         ensures best { (p : ThePrefix) → IsBestOf (λ s. offer_at self.now.book s p) (best_at (rows_of self.now.book) p) }
         ensures rising { IsStrictlySortedBy prefix_cmp (keys_of (rows_of self.now.book)) }
+        ensures needed { (p : ThePrefix) → IsSome (kept_at self.now.book p) → HasRoute self.now.adj_in p }
     {
         let _ = self.book.best(Prefix { bits: 0, len: 0 });
+    }
+
+    /// How often a best route was chosen since the count began, up to 2^64 - 1.
+    pub fn chosen(&self) -> u64
+        ensures { result ≡ self.now.chosen }
+    {
+        self.meter.count()
+    }
+
+    /// The count begins again.
+    pub fn start_count(&mut self)
+        ensures { self.new ≡ record self.old { chosen = 0 } }
+    {
+        self.meter = Meter::new();
     }
 
     /// The least prefix above the given one that has a best route, or the least of all.
