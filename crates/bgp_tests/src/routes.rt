@@ -60,16 +60,28 @@ fn follows_its_routes<A: Allocator + Clone, B: Book<A>>(
     assert_eq!(rt; slot_of_best(&ribs, low), Some(2));
     assert_eq!(rt; slot_of_best(&ribs, high), Some(2));
     assert_eq!(rt; count_of_rows(&ribs), 2);
+    assert_eq!(rt; ribs.chosen(), 3);
+
+    // The same route again makes the same candidate.
+    come(&mut ribs, attrs, low, 2, 200)?;
+    assert_eq!(rt; ribs.chosen(), 3);
 
     // The best one is withdrawn.
+    ribs.start_count();
     ribs.withdraw(2, low);
     assert_eq!(rt; slot_of_best(&ribs, low), Some(1));
     assert!(rt; ribs.routes().get(2, low).is_none());
+    assert_eq!(rt; ribs.chosen(), 1);
+
+    // There is no route to withdraw any more.
+    ribs.withdraw(2, low);
+    assert_eq!(rt; ribs.chosen(), 1);
 
     // The other slot's session ends.
     ribs.drop_slot(2);
     assert_eq!(rt; slot_of_best(&ribs, high), None);
     assert_eq!(rt; count_of_rows(&ribs), 1);
+    assert_eq!(rt; ribs.chosen(), 2);
 
     // And so does the one that is left.
     ribs.drop_slot(1);
