@@ -9,7 +9,7 @@ pub const CONFIG: Config = Config {
     cache: false,
 };
 
-const FIRST_PEER: PeerConf<'static> = PeerConf {
+pub const FIRST_PEER: PeerConf<'static> = PeerConf {
     asn: Asn(65001),
     address: 0xC000_020B,
     local: 0xC000_0201,
@@ -19,7 +19,7 @@ const FIRST_PEER: PeerConf<'static> = PeerConf {
     export: "all",
 };
 
-const SECOND_PEER: PeerConf<'static> = PeerConf {
+pub const SECOND_PEER: PeerConf<'static> = PeerConf {
     asn: Asn(65002),
     address: 0xC000_020C,
     local: 0xC000_0201,
@@ -30,21 +30,21 @@ const SECOND_PEER: PeerConf<'static> = PeerConf {
 };
 
 #[rattlefmt::skip]
-const FIRST_OPEN: [u8; 37] = [
+pub const FIRST_OPEN: [u8; 37] = [
     255, 255, 255, 255, 255, 255, 255, 255, 255, 255, 255, 255, 255, 255, 255, 255,
     0x00, 0x25, 0x01, 0x04, 0xFD, 0xE9, 0x00, 0x5A, 0x01, 0x01, 0x01, 0x01,
     0x08, 0x02, 0x06, 0x41, 0x04, 0x00, 0x00, 0xFD, 0xE9,
 ];
 
 #[rattlefmt::skip]
-const SECOND_OPEN: [u8; 37] = [
+pub const SECOND_OPEN: [u8; 37] = [
     255, 255, 255, 255, 255, 255, 255, 255, 255, 255, 255, 255, 255, 255, 255, 255,
     0x00, 0x25, 0x01, 0x04, 0xFD, 0xEA, 0x00, 0x5A, 0x02, 0x02, 0x02, 0x02,
     0x08, 0x02, 0x06, 0x41, 0x04, 0x00, 0x00, 0xFD, 0xEA,
 ];
 
 #[rattlefmt::skip]
-const KEEPALIVE: [u8; 19] = [
+pub const KEEPALIVE: [u8; 19] = [
     255, 255, 255, 255, 255, 255, 255, 255, 255, 255, 255, 255, 255, 255, 255, 255,
     0x00, 0x13, 0x04,
 ];
