@@ -5,7 +5,9 @@
 //! `Speaker::step` and `Speaker::take` promise: there is no speaker; or a command is refused, leaves the speaker as it
 //! was and is taken when it comes again; or one session is closed, the report names it, its routes have gone, the other
 //! is as it was, and all goes on when its peer comes again. `running` plays the events by `run`, once with memory for
-//! all of them. `many_prefixes` has two thousand prefixes told to two peers whose rings fill, and one growth refused. `serving` plays loads, a client and its queries on a cache: a refused load or client changes nothing, a
+//! all of them. `taking` has a growth refused to what follows a take, which hands its octets out all the same and
+//! closes the session. `many_prefixes` has two thousand prefixes told to two peers whose rings fill, and one growth
+//! refused. `serving` plays loads, a client and its queries on a cache: a refused load or client changes nothing, a
 //! refused response closes its client alone, and the same call is answered when it is made again.
 #![tactic(auto)]
 
@@ -19,3 +21,5 @@ mod running;
 mod serving;
 #[cfg(test)]
 mod stepping;
+#[cfg(test)]
+mod taking;
