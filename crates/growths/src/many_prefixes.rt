@@ -47,12 +47,12 @@ fn update(number: u16) -> [u8; 47] {
 }
 
 // A peer is configured and its session comes up.
-fn open<A: Allocator + Clone>(
+fn open<'a, A: Allocator + Clone>(
     rt: &impl Abort,
     speaker: &mut Speaker<A>,
     slot: u8,
-    peer: PeerConf<'_>,
-    open: &[u8],
+    peer: PeerConf<'a>,
+    open: &'a [u8],
 ) {
     for event in [
         Event::Command(Command::AddPeer(slot, peer)),

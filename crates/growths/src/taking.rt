@@ -11,9 +11,6 @@ use std::test::Fail;
 // How many prefixes the first peer announces.
 const PREFIXES: u8 = 32;
 
-// More routes than there are: a bound for the walk over a table.
-const MOST_ROUTES: usize = 100;
-
 // How many of them the second peer is told at once. Its ring holds 56 octets of OPEN and KEEPALIVE and then UPDATEs of
 // 2,092 octets, and takes one more where 8,192 of its 65,536 octets are free.
 const TOLD_AT_ONCE: u8 = 28;
@@ -122,25 +119,22 @@ fn play(
     assert_eq!(rt; answer, Ok((told.len(), wanted)));
     assert!(rt; buf.get(..told.len()) == Some(told));
     assert_eq!(rt; speaker.session(0), Some(State::Established));
-    assert_eq!(rt;
-        speaker.adj_in(0).take(MOST_ROUTES).count(),
-        usize::from(PREFIXES)
-    );
-    assert_eq!(rt;
-        speaker.loc_rib().take(MOST_ROUTES).count(),
-        usize::from(PREFIXES)
-    );
-    if !heap.has_refused() {
-        assert_eq!(rt;
-            speaker.held(1).take(MOST_ROUTES).count(),
-            usize::from(PREFIXES)
-        );
-        return Ok(Ending::Whole);
+    assert_eq!(rt; speaker.adj_in(0).count(), usize::from(PREFIXES));
+    assert_eq!(rt; speaker.loc_rib().count(), usize::from(PREFIXES));
+    Ok(behind(rt, &speaker, heap.has_refused()))
+}
+
+// Where memory was refused, the second peer's session is closed, and it holds nothing; else it holds all.
+fn behind(rt: &impl Abort, speaker: &Speaker<&Refusing<Global>>, refused: bool) -> Ending {
+    assert!(rt; speaker.waiting(1).next().is_none());
+    if !refused {
+        assert_eq!(rt; speaker.session(1), Some(State::Established));
+        return Ending::Whole;
     }
     assert_eq!(rt; speaker.session(1), Some(State::Idle));
     assert_eq!(rt; speaker.transport(1), Transport::Closing);
     assert!(rt; speaker.held(1).next().is_none());
-    Ok(Ending::ClosedAtTake)
+    Ending::ClosedAtTake
 }
 
 // How the call ends, by n, until nothing is refused.
