@@ -14,6 +14,9 @@ const MANY: u16 = 2_000;
 // As many as make more than `FIRST_REFUSED` requests for memory.
 const FEW: u16 = 150;
 
+// More routes than there are: a bound for the walk over a table.
+const MOST_ROUTES: usize = 3_000;
+
 // The first request for memory that is refused.
 const FIRST_REFUSED: u64 = 1_000;
 
@@ -108,8 +111,8 @@ fn has_routes<A: Allocator + Clone>(
     } else {
         usize::from(prefixes)
     };
-    assert_eq!(rt; speaker.loc_rib().count(), wanted);
-    assert_eq!(rt; speaker.adj_in(0).count(), wanted);
+    assert_eq!(rt; speaker.loc_rib().take(MOST_ROUTES).count(), wanted);
+    assert_eq!(rt; speaker.adj_in(0).take(MOST_ROUTES).count(), wanted);
 }
 
 // Plays all with the heap; answers the slot that was closed, a bit each, or 0.

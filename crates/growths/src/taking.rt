@@ -11,6 +11,9 @@ use std::test::Fail;
 // How many prefixes the first peer announces.
 const PREFIXES: u8 = 32;
 
+// More routes than there are: a bound for the walk over a table.
+const MOST_ROUTES: usize = 100;
+
 // How many of them the second peer is told at once. Its ring holds 56 octets of OPEN and KEEPALIVE and then UPDATEs of
 // 2,092 octets, and takes one more where 8,192 of its 65,536 octets are free.
 const TOLD_AT_ONCE: u8 = 28;
@@ -119,8 +122,14 @@ fn play(
     assert_eq!(rt; answer, Ok((told.len(), wanted)));
     assert!(rt; buf.get(..told.len()) == Some(told));
     assert_eq!(rt; speaker.session(0), Some(State::Established));
-    assert_eq!(rt; speaker.adj_in(0).count(), usize::from(PREFIXES));
-    assert_eq!(rt; speaker.loc_rib().count(), usize::from(PREFIXES));
+    assert_eq!(rt;
+        speaker.adj_in(0).take(MOST_ROUTES).count(),
+        usize::from(PREFIXES)
+    );
+    assert_eq!(rt;
+        speaker.loc_rib().take(MOST_ROUTES).count(),
+        usize::from(PREFIXES)
+    );
     Ok(behind(rt, &speaker, heap.has_refused()))
 }
 
