@@ -30,5 +30,6 @@ pub mod Moments
 pub mod WaitingRuns
 pub mod Marking
 pub mod Clearing
+pub mod Counting
 pub mod Owing
 pub mod AddedMarks

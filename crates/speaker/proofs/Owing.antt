@@ -29,7 +29,7 @@ use Rattle.speaker.proofs.Calls.{export_peer_found}
 
 -- the tables of a speaker, with what waits
 abbrev pub routing_of : SpeakerState → List (Prefix × Waits) → RoutingState
-routing_of s waiting = record { adj_in = s.adj_in; book = s.book; waiting = waiting }
+routing_of s waiting = record { adj_in = s.adj_in; book = s.book; chosen = s.chosen; waiting = waiting }
 
 -- what waits for a served peer
 pub owed_is : (s : SpeakerState) (waiting : List (Prefix × Waits)) (slot : ℕ) (l : Linked) (q : Prefix) → AreMarked s.conf s.links (routing_of s waiting) → rows_of s.book ≡ s.loc_rib → slot < 64 → IsServedBy s slot l

@@ -18,3 +18,4 @@ pub mod Played
 pub mod Shown
 pub mod Waiting
 pub mod Marks
+pub mod Choices

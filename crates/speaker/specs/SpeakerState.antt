@@ -10,7 +10,7 @@ use Rattle.speaker.specs.Linked.{Linked}
 use Rattle.speaker.specs.Tables.{Tables, tables, link_at}
 
 -- what others see of a speaker: its settings, the moment, the configured tables, its slots, Adj-RIB-In, the candidates
--- that are kept, and Loc-RIB
+-- that are kept, Loc-RIB, and how often a best route was chosen so far
 pub record SpeakerState : Type 0 where
   pub config : Config
   pub moment : ℕ
@@ -19,6 +19,7 @@ pub record SpeakerState : Type 0 where
   pub adj_in : RouteTable
   pub book : BookState
   pub loc_rib : List (Prefix × Candidate)
+  pub chosen : ℕ
 
 -- what the selection reads
 abbrev pub tables_of : SpeakerState → Tables
@@ -34,6 +35,7 @@ started config = record {
   adj_in = [];
   book = [];
   loc_rib = [];
+  chosen = 0;
 }
 
 -- an AS or an identifier of 0, or a cache session, of which there is none yet
@@ -49,3 +51,4 @@ pub record IsAsBefore (old new : SpeakerState) : Type 0 where
   pub adj_in : new.adj_in ≡ old.adj_in
   pub book : new.book ≡ old.book
   pub loc_rib : new.loc_rib ≡ old.loc_rib
+  pub chosen : new.chosen ≡ old.chosen

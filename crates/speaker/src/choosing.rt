@@ -1,8 +1,11 @@
 //! The candidates that routes make (RFC 4271 section 9.1).
-ghost use Rattle.std.specs.Prelude.{◌≡◌, ◌<◌, MatchOption};
+ghost use Rattle.std.specs.Prelude.{◌≡◌, ◌<◌, ◌≤◌, ◌+◌, List, length, MatchOption};
 ghost use Rattle.decision.specs.BookContents.{offer_at};
 ghost use Rattle.speaker.specs.Tables.{tables};
+ghost use Rattle.net_prefix.specs.declared.prefix.Prefix.{Prefix as ThePrefix};
+ghost use Rattle.rib_in.specs.LatestRoutes.{HasRoute};
 ghost use Rattle.speaker.specs.Candidates.{IsMade};
+ghost use Rattle.speaker.specs.Choices.{AreDifferent};
 ghost use Rattle.speaker.specs.Marks.{AreMarked};
 ghost use Rattle.speaker.specs.Offers.{AreMadeAgain, AreRemade, IsRemade, IsSound, LacksRoute};
 
@@ -64,6 +67,7 @@ pub fn choose_again<A: Allocator + Clone, B: Book<A>>(
     ensures marked { AreMarked conf.now links.now.entries routing.new }
     ensures routes { routing.new.adj_in ≡ routing.old.adj_in }
     ensures made { AreMadeAgain (tables conf.now links.now.entries routing.old.adj_in) (offer_at routing.old.book) (offer_at routing.new.book) }
+    ensures chosen { (known : List ThePrefix) × AreDifferent (HasRoute routing.old.adj_in) known × (routing.new.chosen ≤ routing.old.chosen + length known) }
 {
     let mut after = None;
     while let Some(prefix) = routing.ribs.routes().prefix_after(after) {

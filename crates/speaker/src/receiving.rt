@@ -1,6 +1,6 @@
 //! A whole message of a slot's connection: what it is to the session, and the routes that an UPDATE brings.
-ghost use Rattle.std.specs.Prelude.{◌≡◌, ◌≢◌, ◌==◌, ◌&&◌, ◌⊎◌, ℕ, [], Some, None, OnOk, OnErr, IfOk, IfSome, if◌then◌else◌};
-ghost use Rattle.std.specs.Option.{option_map, option_and_then};
+ghost use Rattle.std.specs.Prelude.{◌≡◌, ◌≢◌, ◌≤◌, ◌+◌, ◌==◌, ◌&&◌, ◌⊎◌, ℕ, List, [], length, true, Some, None, OnOk, OnErr, IfOk, IfSome, if◌then◌else◌};
+ghost use Rattle.std.specs.Option.{IsSome, option_map, option_and_then};
 ghost use Rattle.bgp_fsm.specs.declared.state.State.TheVariants.{Established};
 ghost use Rattle.bgp_msg.specs.MessageFaults.{open_fault};
 ghost use Rattle.bgp_msg.specs.MessageStream.{WholeMessage, meaning};
@@ -12,6 +12,7 @@ ghost use Rattle.decision.specs.BookContents.{AreApart, offer_at};
 ghost use Rattle.net_prefix.specs.declared.prefix.Prefix.{Prefix as ThePrefix};
 ghost use Rattle.rib_in.specs.LatestRoutes.{route_at};
 ghost use Rattle.speaker.specs.AdjRibIn.{NeedsMemory, is_among, word_of, sound_update, update_heard};
+ghost use Rattle.speaker.specs.Choices.{IsPart, named_if, named_in};
 ghost use Rattle.speaker.specs.Marks.{AreMarked};
 ghost use Rattle.speaker.specs.Moves.{AreOf, IsHeard, KeepsOthers, TakesMemoryAt};
 ghost use Rattle.speaker.specs.Offers.{IsSound, KeepsHeard};
@@ -58,6 +59,9 @@ pub fn take_front<A: Allocator + Clone, B: Book<A>>(
     ensures kept { OnOk result (KeepsHeard conf.now sender link.now.peer.session.state routing.old routing.new) }
     ensures others { OnErr result (KeepsOthers sender.slot routing.old routing.new) }
     ensures memory { OnErr result (TakesMemoryAt link.now) }
+    ensures chosen { OnOk result ((terms : Terms) → AreOf terms sender
+        → routing.new.chosen ≤ routing.old.chosen + named_if (option_and_then (update_heard link.now.peer.session.state terms) (meaning link.now.peer.rest))) }
+    ensures part { OnErr result ((body : List ℕ) → meaning link.now.peer.rest ≡ Some (WholeMessage UpdateMessage body) → IsPart sender.slot (update_in body) routing.old routing.new) }
 {
     match link.peer.front() {
         Step::Need => Ok(None),
@@ -91,6 +95,9 @@ fn judge<A: Allocator + Clone, B: Book<A>>(
     ensures kept { OnOk result (KeepsHeard conf.now sender state routing.old routing.new) }
     ensures others { OnErr result (KeepsOthers sender.slot routing.old routing.new) }
     ensures memory { OnErr result ((state ≡ Established) × (frame.entry.kind ≡ UpdateMessage) × NeedsMemory (update_in frame.entry.body.now)) }
+    ensures chosen { OnOk result ((terms : Terms) → AreOf terms sender
+        → routing.new.chosen ≤ routing.old.chosen + named_if (update_heard state terms (WholeMessage frame.entry.kind frame.entry.body.now))) }
+    ensures part { OnErr result (IsPart sender.slot (update_in frame.entry.body.now) routing.old routing.new) }
 {
     match (frame.kind, state) {
         (MessageType::Open, State::OpenSent) => Ok(judge_open(frame.body, sender.expected)),
@@ -130,6 +137,8 @@ fn judge_update<A: Allocator + Clone, B: Book<A>>(
     ensures kept { OnOk result (KeepsHeard conf.now sender Established routing.old routing.new) }
     ensures others { OnErr result (KeepsOthers sender.slot routing.old routing.new) }
     ensures memory { OnErr result (NeedsMemory (update_in body.now)) }
+    ensures chosen { OnOk result (routing.new.chosen ≤ routing.old.chosen + named_if (sound_update body.now (update_fault sender.kind body.now))) }
+    ensures part { OnErr result (IsPart sender.slot (update_in body.now) routing.old routing.new) }
 {
     match read_update(alloc, body, sender.kind) {
         Ok(update) => {
@@ -159,6 +168,8 @@ fn take_update<A: Allocator + Clone, B: Book<A>>(
     ensures kept { OnOk result (KeepsHeard conf.now sender Established routing.old routing.new) }
     ensures others { OnErr result (KeepsOthers sender.slot routing.old routing.new) }
     ensures memory { OnErr result (update.entry.announced ≢ []) }
+    ensures chosen { routing.new.chosen ≤ routing.old.chosen + named_in update.entry }
+    ensures part { OnErr result (IsPart sender.slot update.entry routing.old routing.new) }
 {
     withdraw_each(conf, links, routing, sender.slot, update.withdrawn());
     let announced = update.announced();
@@ -190,6 +201,7 @@ fn withdraw_each<A: Allocator + Clone, B: Book<A>>(
     ensures marked { AreMarked conf.now links.now.entries routing.new }
     ensures routes { (s : ℕ) (prefix : ThePrefix) → route_at routing.new.adj_in s prefix ≡ (if s == slot && is_among prefix (front_prefixes prefixes.entry.octets.now).0 then None else route_at routing.old.adj_in s prefix) }
     ensures offers { (s : ℕ) (prefix : ThePrefix) → offer_at routing.new.book s prefix ≡ (if s == slot && is_among prefix (front_prefixes prefixes.entry.octets.now).0 then None else offer_at routing.old.book s prefix) }
+    ensures chosen { routing.new.chosen ≤ routing.old.chosen + length (front_prefixes prefixes.entry.octets.now).0 }
 {
     for prefix in prefixes {
         routing.withdraw(conf, links, slot, prefix);
@@ -213,6 +225,8 @@ fn announce_each<A: Allocator + Clone, B: Book<A>>(
     ensures routes { OnOk result ((s : ℕ) (prefix : ThePrefix) → route_at routing.new.adj_in s prefix ≡ (if s == slot && is_among prefix (front_prefixes prefixes.entry.octets.now).0 then Some attrs.now.value else route_at routing.old.adj_in s prefix)) }
     ensures offers { OnOk result ((s : ℕ) (prefix : ThePrefix) → offer_at routing.new.book s prefix ≡ (if s == slot && is_among prefix (front_prefixes prefixes.entry.octets.now).0 then candidate else offer_at routing.old.book s prefix)) }
     ensures others { OnErr result (KeepsOthers slot routing.old routing.new) }
+    ensures chosen { routing.new.chosen ≤ routing.old.chosen + length (front_prefixes prefixes.entry.octets.now).0 }
+    ensures announced { OnErr result ((p : ThePrefix) → IsSome (route_at routing.new.adj_in slot p) → IsSome (route_at routing.old.adj_in slot p) ⊎ (is_among p (front_prefixes prefixes.entry.octets.now).0 ≡ true)) }
     ensures some { (s : ℕ) (prefix : ThePrefix) → ((s ≡ slot) × (offer_at routing.new.book s prefix ≡ candidate)) ⊎ (offer_at routing.new.book s prefix ≡ offer_at routing.old.book s prefix) }
 {
     for prefix in prefixes {

@@ -1,5 +1,5 @@
 //! The tables that routes go through: the routes that came with Loc-RIB, and what waits of each prefix for each peer.
-ghost use Rattle.std.specs.Prelude.{◌≡◌, ◌==◌, ◌&&◌, ◌<◌, ◌≢◌, ℕ, [], All, IfOk, OnOk, OnErr, IfSome, IfNone, None, Some, true, false, if◌then◌else◌};
+ghost use Rattle.std.specs.Prelude.{◌≡◌, ◌==◌, ◌&&◌, ◌<◌, ◌≤◌, ◌+◌, ◌≢◌, ℕ, [], All, IfOk, OnOk, OnErr, IfSome, IfNone, None, Some, true, false, if◌then◌else◌};
 ghost use Rattle.std.specs.Option.{IsSome};
 ghost use Rattle.std.specs.Ordering.{is_gt};
 ghost use Rattle.bgp_conf.specs.Configuration.{peer_at};
@@ -8,6 +8,7 @@ ghost use Rattle.net_prefix.specs.PrefixOrder.{IsAbove, prefix_cmp};
 ghost use Rattle.net_prefix.specs.declared.prefix.Prefix.{Prefix as ThePrefix};
 ghost use Rattle.rib_in.specs.LatestRoutes.{is_route, route_at};
 ghost use Rattle.rib_out.specs.Waiting.{is_known, owed_at};
+ghost use Rattle.speaker.specs.Choices.{Ends};
 ghost use Rattle.speaker.specs.Linked.{Linked};
 ghost use Rattle.speaker.specs.Marks.{AreMarked, AreMarkedBut, IsReleased, IsUnmarked, mark_at, mark_of};
 ghost use Rattle.speaker.specs.RoutingState.{started};
@@ -43,7 +44,7 @@ impl<A: Allocator + Clone, B: Book<A>> Model for Routing<A, B> {
 
     ghost Value = { RoutingState };
 
-    ghost view = { λ t. record { adj_in = t.ribs.adj_in; book = t.ribs.book; waiting = t.waiting } };
+    ghost view = { λ t. record { adj_in = t.ribs.adj_in; book = t.ribs.book; chosen = t.ribs.chosen; waiting = t.waiting } };
 }
 
 impl<A: Allocator + Clone, B: Book<A>> Routing<A, B> {
@@ -73,6 +74,7 @@ impl<A: Allocator + Clone, B: Book<A>> Routing<A, B> {
         ensures routes { OnOk result ((s : ℕ) (p : ThePrefix) → route_at self.new.adj_in s p ≡ (if is_route slot prefix s p then Some attrs.value else route_at self.old.adj_in s p)) }
         ensures offers { OnOk result ((s : ℕ) (p : ThePrefix) → offer_at self.new.book s p ≡ (if is_route slot prefix s p then candidate else offer_at self.old.book s p)) }
         ensures err { OnErr result (((s : ℕ) (p : ThePrefix) → route_at self.new.adj_in s p ≡ route_at self.old.adj_in s p) × ((s : ℕ) (p : ThePrefix) → offer_at self.new.book s p ≡ offer_at self.old.book s p)) }
+        ensures chosen { self.new.chosen ≤ self.old.chosen + 1 }
         ensures marked { AreMarked conf.now links.now.entries self.new }
     {
         self.waiting.add(prefix)?;
@@ -86,6 +88,7 @@ impl<A: Allocator + Clone, B: Book<A>> Routing<A, B> {
         requires { AreMarked conf.now links.now.entries self.old }
         ensures routes { (s : ℕ) (p : ThePrefix) → route_at self.new.adj_in s p ≡ (if is_route slot prefix s p then None else route_at self.old.adj_in s p) }
         ensures offers { (s : ℕ) (p : ThePrefix) → offer_at self.new.book s p ≡ (if is_route slot prefix s p then None else offer_at self.old.book s p) }
+        ensures chosen { self.new.chosen ≤ self.old.chosen + 1 }
         ensures marked { AreMarked conf.now links.now.entries self.new }
     {
         if self.ribs.routes().get(slot, prefix).is_none() {
@@ -100,6 +103,8 @@ impl<A: Allocator + Clone, B: Book<A>> Routing<A, B> {
         requires { AreMarked conf.now links.now.entries self.old }
         ensures routes { (s : ℕ) (p : ThePrefix) → route_at self.new.adj_in s p ≡ (if s == slot then None else route_at self.old.adj_in s p) }
         ensures offers { (s : ℕ) (p : ThePrefix) → offer_at self.new.book s p ≡ (if s == slot then None else offer_at self.old.book s p) }
+        // A best route is chosen once at most for each prefix to which the slot had a route.
+        ensures chosen { Ends slot self.old.adj_in self.old.chosen self.new.chosen }
         ensures marked { AreMarked conf.now links.now.entries self.new }
     {
         let mut after = None;
@@ -120,6 +125,7 @@ impl<A: Allocator + Clone, B: Book<A>> Routing<A, B> {
         requires marked { AreMarked conf.now links.now.entries self.old }
         ensures routes { self.new.adj_in ≡ self.old.adj_in }
         ensures offers { (s : ℕ) (p : ThePrefix) → offer_at self.new.book s p ≡ (if is_prefix prefix p then changed changes.now s (offer_at self.old.book s p) else offer_at self.old.book s p) }
+        ensures chosen { self.new.chosen ≤ self.old.chosen + 1 }
         ensures marked { AreMarked conf.now links.now.entries self.new }
     {
         self.ribs.change(prefix, changes);

@@ -52,6 +52,7 @@ impl<A: Allocator + Clone, B: Book<A>> Model for Speaker<A, B> {
       adj_in = s.routing.adj_in;
       book = s.routing.book;
       loc_rib = rows_of s.routing.book;
+      chosen = s.routing.chosen;
     } };
 
     ghost invariant = { λ s. IsSound s.conf (offer_at s.routing.book) × AreMarked s.conf s.links.entries s.routing };

@@ -1,9 +1,14 @@
-use Rattle.std.proofs.Common.{◌≡◌, ◌∙◌, ap}
+use Rattle.std.proofs.Common.{◌≡◌, ◌∙◌, ap, refl, subst}
+use Rattle.rib_in.specs.LatestRoutes.{HasRoute}
 use Rattle.speaker.specs.Offers.{AreRemade}
 use Rattle.speaker.specs.RoutingState.{RoutingState}
 use Rattle.speaker.specs.Tables.{tables}
-use Rattle.speaker.proofs.RemadeOffers.{RemadeUpTo-more, sound_remade}
+use Rattle.speaker.proofs.RemadeOffers.{RemadeUpTo-more, RemadeUpTo-none, sound_remade}
+use Rattle.speaker.proofs.Counting.{counts_more, counts_none}
 use Rattle.speaker.proofs.choosing.choose_again.Goals as goal
+
+pub loop-prefix-init : goal.loop-prefix-init
+loop-prefix-init g c = (RemadeUpTo-none _ _, refl, c.requires.sound, c.requires.marked, counts_none _ _)
 
 pub loop-prefix-preserved : goal.loop-prefix-preserved
 loop-prefix-preserved g c =
@@ -14,4 +19,13 @@ loop-prefix-preserved g c =
     let least = rw walked at c.in-Some.ensures.least in
     let remade : AreRemade (tables c.args.conf.now c.args.links.now.entries c.args.routing.now.adj_in) c.in-Some.prefix c.remade-changes.result.items = rw (← read) c.remade-changes.ensures in
     let offers = rw c.as_slice.ensures.value at c.change.ensures.offers in
-    (RemadeUpTo-more _ _ _ _ _ _ _ h.0 c.in-Some.ensures.above least below remade offers, c.change.ensures.routes ∙ h.1, sound_remade _ _ _ _ _ remade h.2 offers, c.change.ensures.marked)
+    let has : HasRoute c.args.routing.now.adj_in c.in-Some.prefix = subst (λ t. HasRoute t c.in-Some.prefix) walked c.in-Some.ensures.has in (
+      RemadeUpTo-more _ _ _ _ _ _ _ h.0 c.in-Some.ensures.above least below remade offers,
+      c.change.ensures.routes ∙ h.1,
+      sound_remade _ _ _ _ _ remade h.2 offers,
+      c.change.ensures.marked,
+      counts_more _ c.loop-prefix.after c.in-Some.prefix _ _ _ h.4 c.in-Some.ensures.above has c.change.ensures.chosen,
+    )
+
+pub returns-clause-chosen : goal.returns-clause-chosen
+returns-clause-chosen g c = let counts = c.loop-prefix.invariant.4 in (counts.prefixes, counts.different, counts.most)

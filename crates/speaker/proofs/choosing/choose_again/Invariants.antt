@@ -3,6 +3,8 @@ use Rattle.decision.specs.BookContents.{offer_at}
 use Rattle.speaker.specs.Marks.{AreMarked}
 use Rattle.speaker.specs.Offers.{IsSound}
 use Rattle.speaker.specs.Tables.{tables}
+use Rattle.rib_in.specs.LatestRoutes.{HasRoute}
+use Rattle.speaker.proofs.Counting.{Counts}
 use Rattle.speaker.proofs.RemadeOffers.{RemadeUpTo}
 use Rattle.speaker.proofs.Serving.{left_above}
 use Rattle.speaker.proofs.choosing.choose_again.Given as goal
@@ -13,6 +15,7 @@ invariant-loop-prefix g l =
     × (l.routing.adj_in ≡ l.fn.routing.adj_in)
     × IsSound l.fn.conf (offer_at l.routing.book)
     × AreMarked l.fn.conf l.fn.links.entries l.routing
+    × Counts (HasRoute l.fn.routing.adj_in) l.after l.fn.routing.chosen l.routing.chosen
 
 abbrev pub decreases-loop-prefix : goal.decreases-loop-prefix
 decreases-loop-prefix g l = left_above l.after

@@ -1,4 +1,4 @@
-use Rattle.std.proofs.Common.{None}
+use Rattle.std.proofs.Common.{◌≤◌, ◌+◌, None, length}
 use Rattle.bgp_msg.specs.MessageSpelling.{front_prefixes}
 use Rattle.decision.specs.BookContents.{offer_at}
 use Rattle.rib_in.specs.LatestRoutes.{route_at}
@@ -11,3 +11,4 @@ invariant-loop-prefix g l =
     Sets l.slot (front_prefixes l.fn.prefixes.octets.now).0 l.yielded (front_prefixes l.prefix-iterator.octets.now).0 None (route_at l.initial.routing.adj_in) (route_at l.routing.adj_in)
     × Sets l.slot (front_prefixes l.fn.prefixes.octets.now).0 l.yielded (front_prefixes l.prefix-iterator.octets.now).0 None (offer_at l.initial.routing.book) (offer_at l.routing.book)
     × AreMarked l.fn.conf l.fn.links.entries l.routing
+    × (l.routing.chosen ≤ l.initial.routing.chosen + length l.yielded)

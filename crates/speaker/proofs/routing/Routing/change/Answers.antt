@@ -8,7 +8,7 @@ use Rattle.speaker.proofs.routing.Routing.change.Goals as goal
 pub refresh-requires-clause-marked : goal.refresh-requires-clause-marked
 refresh-requires-clause-marked g c =
     let marked = rw (← c.self.view_is) at c.requires.marked in
-    let old : RoutingState = record { adj_in = c.self.inside.ribs.adj_in; book = c.self.inside.ribs.book; waiting = c.self.inside.waiting } in
-    let new : RoutingState = record { adj_in = c.change.new.self.adj_in; book = c.change.new.self.book; waiting = c.self.inside.waiting } in
+    let old : RoutingState = record { adj_in = c.self.inside.ribs.adj_in; book = c.self.inside.ribs.book; chosen = c.self.inside.ribs.chosen; waiting = c.self.inside.waiting } in
+    let new : RoutingState = record { adj_in = c.change.new.self.adj_in; book = c.change.new.self.book; chosen = c.change.new.self.chosen; waiting = c.self.inside.waiting } in
     marked_but c.args.conf.now c.args.links.now.entries c.args.prefix old new marked (λ s p. refl) c.change.ensures.others (λ s p other. ap (λ t. route_at t s p) c.change.ensures.routes)
     (λ s p some. marked.there.known s p (subst (λ t. IsSome (route_at t s p)) c.change.ensures.routes some)) (λ p other. refl)

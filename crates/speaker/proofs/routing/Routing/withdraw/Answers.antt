@@ -12,8 +12,8 @@ refresh-requires-clause-known g c =
 pub refresh-requires-clause-marked : goal.refresh-requires-clause-marked
 refresh-requires-clause-marked g c =
     let marked = rw (← c.self.view_is) at c.requires in
-    let old : RoutingState = record { adj_in = c.self.inside.ribs.adj_in; book = c.self.inside.ribs.book; waiting = c.self.inside.waiting } in
-    let new : RoutingState = record { adj_in = c.withdraw.new.self.adj_in; book = c.withdraw.new.self.book; waiting = c.self.inside.waiting } in
+    let old : RoutingState = record { adj_in = c.self.inside.ribs.adj_in; book = c.self.inside.ribs.book; chosen = c.self.inside.ribs.chosen; waiting = c.self.inside.waiting } in
+    let new : RoutingState = record { adj_in = c.withdraw.new.self.adj_in; book = c.withdraw.new.self.book; chosen = c.withdraw.new.self.chosen; waiting = c.self.inside.waiting } in
     marked_but c.args.conf.now c.args.links.now.entries c.args.prefix old new marked (λ s p. refl) c.withdraw.ensures.others
     (routes_off c.args.slot c.args.prefix None old.adj_in new.adj_in c.withdraw.ensures.routes)
     (known_gone c.args.slot c.args.prefix c.args.links.now.entries old new marked.there refl c.withdraw.ensures.routes) (λ p other. refl)

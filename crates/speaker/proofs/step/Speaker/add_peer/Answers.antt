@@ -58,4 +58,5 @@ returns-in-Err-clause-err g c =
       adj_in = refl;
       book = refl;
       loc_rib = refl;
+      chosen = refl;
     })

@@ -1,0 +1,113 @@
+use Rattle.std.proofs.Common.{◌≡◌, ◌≤◌, ◌+◌, ◌==◌, ◌&&◌, ◌||◌, ◌⊎◌, ℕ, Bool, true, false, List, [], ◌∷◌, ◌++◌, length, Option, Some, None, cond, refl, ap, ◌∙◌, subst, inl, inr, arith, length-append}
+use Rattle.std.specs.Option.{IsSome}
+use Rattle.std.specs.Ordering.{is_eq}
+use Rattle.bgp_attr.specs.PathAttributes.{PathAttributes}
+use Rattle.net_prefix.specs.PrefixOrder.{IsAbove, prefix_cmp}
+use Rattle.net_prefix.specs.declared.prefix.Prefix.{Prefix}
+use Rattle.net_prefix.proofs.PayloadSets.{prefix_cmp_total}
+use Rattle.rib_in.specs.LatestRoutes.{RouteTable, is_route, route_at}
+use Rattle.speaker.specs.AdjRibIn.{is_among}
+use Rattle.speaker.specs.Choices.{AreDifferent, Ends}
+use Rattle.speaker.specs.RoutingState.{RoutingState}
+use Rattle.speaker.proofs.RouteChanges.{Sets}
+
+-- How often a best route is chosen, while prefixes are walked.
+
+-- ---- rising prefixes
+-- prefixes of each of which this holds, none above the last one; a best route was chosen once at most for each
+pub record Counts (holds : Prefix → Type 0) (last : Option Prefix) (before now : ℕ) : Type 0 where
+  pub prefixes : List Prefix
+  pub different : AreDifferent holds prefixes
+  pub passed : (q : Prefix) → IsAbove last q → is_among q prefixes ≡ false
+  pub most : now ≤ before + length prefixes
+
+pub counts_none : (holds : Prefix → Type 0) (count : ℕ) → Counts holds None count count
+counts_none holds count = record { prefixes = []; different = tt; passed = λ q above. refl; most = omega arith }
+
+-- what is above a prefix is above those below it
+further : (last : Option Prefix) (p q : Prefix) → IsAbove last p → IsAbove (Some p) q → IsAbove last q
+further None p q at above = tt
+further (Some l) p q at above = prefix_cmp_total.trans l p q at above
+
+other_first : (b c : Bool) → b ≡ false → c ≡ false → (b || c) ≡ false
+other_first true c here there = here
+other_first false c here there = there
+
+-- the next prefix
+pub counts_more : (holds : Prefix → Type 0) (last : Option Prefix) (p : Prefix) (before now new : ℕ) → Counts holds last before now → IsAbove last p → holds p → new ≤ now + 1 → Counts holds (Some p) before new
+counts_more holds last p before now new h above here once =
+    let most = h.most in
+    record {
+      prefixes = p ∷ h.prefixes;
+      different = (h.passed p above, here, h.different);
+      passed = λ q after. other_first (is_eq (prefix_cmp p q)) (is_among q h.prefixes) (ap is_eq after) (h.passed q (further last p q above after));
+      most = omega (arith, most, once);
+    }
+
+-- what holds of each of them in other words, does so of different ones
+pub different_as : (holds says : Prefix → Type 0) (prefixes : List Prefix) → ((p : Prefix) → holds p → says p) → AreDifferent holds prefixes → AreDifferent says prefixes
+different_as holds says [] each h = tt
+different_as holds says (p ∷ prefixes) each h = (h.0, each p h.1, different_as holds says prefixes each h.2)
+
+-- ---- a session that has ended
+-- a route of the slot that is there now was there before
+abbrev pub WereThere : ℕ → RouteTable → RouteTable → Type 0
+WereThere slot old now = (p : Prefix) → IsSome (route_at now slot p) → IsSome (route_at old slot p)
+
+there_case : {X : Type 0} (b : Bool) (o : Option X) → IsSome (cond b None o) → IsSome o
+there_case true o there = absurd (cc)
+there_case false o there = there
+
+pub there_more : (slot : ℕ) (p : Prefix) (old now new : RouteTable) → WereThere slot old now → ((s : ℕ) (q : Prefix) → route_at new s q ≡ cond (is_route slot p s q) None (route_at now s q)) → WereThere slot old new
+there_more slot p old now new were out q there = were q (there_case (is_route slot p slot q) (route_at now slot q) (subst (λ o. IsSome o) (out slot q) there))
+
+-- where it leaves Established, a best route is chosen once at most for each of its routes
+pub ends_all : (slot : ℕ) (t u : RoutingState) (after : ℕ) → u ≡ record t { waiting = u.waiting } → Ends slot u.adj_in u.chosen after → Ends slot t.adj_in t.chosen after
+ends_all slot t u after rest all =
+    let few = all.2 in
+    let count = ap (λ (r : RoutingState). r.chosen) rest in (
+      all.0,
+      subst (λ table. AreDifferent (λ p. IsSome (route_at table slot p)) all.0) (ap (λ (r : RoutingState). r.adj_in) rest) all.1,
+      omega (arith, few, count),
+    )
+
+-- ---- the prefixes of an UPDATE
+-- another prefix of those to come is one of all
+pub one_more : (prefixes seen rest next : List Prefix) (e : Prefix) → seen ++ rest ≡ prefixes → rest ≡ e ∷ next → length seen + 1 ≤ length prefixes
+one_more prefixes seen rest next e whole is =
+    let all = ap length whole in
+    let first = ap length is in
+    omega (arith, all, first, length-append seen rest)
+
+-- so are those seen so far
+pub not_more : (prefixes seen rest : List Prefix) → seen ++ rest ≡ prefixes → length seen ≤ length prefixes
+not_more prefixes seen rest whole =
+    let all = ap length whole in
+    omega (arith, all, length-append seen rest)
+
+pub seen_more : (seen : List Prefix) (e : Prefix) → length (seen ++ e ∷ []) ≡ length seen + 1
+seen_more seen e = omega (arith, length-append seen (e ∷ []))
+
+either_still : (b c d : Bool) → (c ≡ true → d ≡ true) → (b || c) ≡ true → (b || d) ≡ true
+either_still true c d still here = refl
+either_still false c d still there = still there
+
+among_all : (p : Prefix) (seen rest : List Prefix) → is_among p seen ≡ true → is_among p (seen ++ rest) ≡ true
+among_all p [] rest h = absurd (cc)
+among_all p (d ∷ seen) rest h = either_still (is_eq (prefix_cmp d p)) (is_among p seen) (is_among p (seen ++ rest)) (among_all p seen rest) h
+
+-- a route of the slot was there before, or the UPDATE announces it
+abbrev pub AreAnnounced : ℕ → List Prefix → RouteTable → RouteTable → Type 0
+AreAnnounced slot prefixes old new = (p : Prefix) → IsSome (route_at new slot p) → IsSome (route_at old slot p) ⊎ (is_among p prefixes ≡ true)
+
+announced_case : {X : Type 0} (a b : Bool) (what o : Option X) (Q : Type 0) → (b ≡ true → Q) → IsSome (cond (a && b) what o) → IsSome o ⊎ Q
+announced_case true true what o Q named there = inr (named refl)
+announced_case true false what o Q named there = inl there
+announced_case false b what o Q named there = inl there
+
+pub announced_some : (slot : ℕ) (prefixes seen rest : List Prefix) (what : Option PathAttributes) (old now new : RouteTable) → Sets slot prefixes seen rest what (route_at old) (route_at now)
+    → ((s : ℕ) (p : Prefix) → route_at new s p ≡ route_at now s p) → AreAnnounced slot prefixes old new
+announced_some slot prefixes seen rest what old now new h same p there =
+    let here = subst (λ o. IsSome o) (same slot p ∙ h.set slot p) there in
+    announced_case (slot == slot) (is_among p seen) what (route_at old slot p) (is_among p prefixes ≡ true)
+    (λ among. subst (λ all. is_among p all ≡ true) h.whole (among_all p seen rest among)) here
