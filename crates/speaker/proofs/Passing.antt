@@ -240,6 +240,7 @@ is_short config r s slot holds loc_rib short =
       octets = short.octets;
       configured = ap (λ c. peer_at c slot) (sym holds.conf) ∙ short.configured;
       established = ap (λ (x : Session). x.state) (sym here.link.peer.session) ∙ short.up;
+      room = subst (λ ring. length ring + 8192 ≤ 65536) (sym (ring-is (history config slot r) short.linked.peer here.link.peer)) short.room;
       news = record {
         is_export = subst E short.exported (export_of_run config r s slot short.peer short.prefix tables (sym holds.conf) chosen short.configured);
         news = λ same. short.lacks (here.link.held short.prefix ∙ same);

@@ -284,10 +284,10 @@ Serves-still slot first now new h still =
     })
 
 -- what memory is refused to is exported, and not held just so
-pub short_still : (slot : ℕ) (first now new : SpeakerState) (p : Prefix) (peer : ExportPeer) (octets : List ℕ) → (h : Serves slot first now) → slot < 64
+pub short_still : (slot : ℕ) (first now new : SpeakerState) (p : Prefix) (peer : ExportPeer) (octets : List ℕ) → (h : Serves slot first now) → slot < 64 → HasRoomAt now slot
     → Some peer ≡ option_map (export_peer_of first.conf slot) (peer_at first.conf slot) → IsSome (announced_of (export_to now slot p) (held_at h.after.adj_out p))
     → export_in (best_at now.loc_rib) now.adj_in peer p ≡ Some octets → IsStill now new → IsShortAt new slot
-short_still slot first now new p peer octets h within is next some still =
+short_still slot first now new p peer octets h within room is next some still =
     let by = served_by slot first now peer h is in
     let exports : export_to now slot p ≡ Some octets = ap (λ e. e slot p) (export_kept first now h.only.rest) ∙ export_now first now slot peer h.only.rest is p ∙ some in
     record {
@@ -299,6 +299,7 @@ short_still slot first now new p peer octets h within is next some still =
       configured = ap (λ (s : SpeakerState). peer_at s.conf slot) still.rest ∙ by.configured;
       is = still.links slot ∙ h.is;
       up = h.up;
+      room = room h.after h.is;
       exported = ap (λ e. e slot p) (export_kept now new still.rest) ∙ exports;
       lacks = announced_news (export_to now slot p) (held_at h.after.adj_out p) octets exports next;
     }

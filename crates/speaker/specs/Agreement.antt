@@ -89,13 +89,15 @@ pub record IsOwedIn (config : Config) (r : Run) (s : ℕ) (update : List ℕ) : 
   pub some : (prefix : Prefix) × Names update prefix
   pub each : (prefix : Prefix) → Names update prefix → IsNews config r s peer prefix (told_in update prefix)
 
--- as the run stands, the slot's session is Established, and the export to it has of some prefix what its peer doesn't hold
+-- as the run stands, the slot's session is Established, 8,192 octets of its ring are free, and the export to it has of some
+-- prefix what its peer doesn't hold
 pub record IsShortIn (config : Config) (r : Run) (s : ℕ) : Type 0 where
   pub peer : ConfiguredPeer
   pub prefix : Prefix
   pub octets : List ℕ
   pub configured : peer_at (configuration_of config r) s ≡ Some peer
   pub established : (session (history config s r)).state ≡ Established
+  pub room : length (ring_of (history config s r)) + room_for_update ≤ ring_octets
   pub news : IsNews config r s peer prefix (Some octets)
 
 -- what is done for a slot was owed to it: an UPDATE that is queued, and what memory is refused to

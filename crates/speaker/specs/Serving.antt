@@ -34,7 +34,7 @@ HasRoom l = length l.peer.ring + room_for_update ≤ ring_octets
 abbrev pub HasRoomAt : SpeakerState → ℕ → Type 0
 HasRoomAt s slot = (l : Linked) → link_at s.links slot ≡ Some l → HasRoom l
 
--- the slot's session is Established, and of some prefix its peer doesn't hold what is exported to it
+-- the slot's session is Established, its ring has room, and of some prefix its peer doesn't hold what is exported to it
 pub record IsShortAt (s : SpeakerState) (slot : ℕ) : Type 0 where
   pub peer : ConfiguredPeer
   pub linked : Linked
@@ -44,6 +44,7 @@ pub record IsShortAt (s : SpeakerState) (slot : ℕ) : Type 0 where
   pub configured : peer_at s.conf slot ≡ Some peer
   pub is : link_at s.links slot ≡ Some linked
   pub up : linked.peer.session.state ≡ Established
+  pub room : HasRoom linked
   pub exported : export_to s slot prefix ≡ Some octets
   pub lacks : held_at linked.adj_out prefix ≢ Some octets
 
