@@ -168,6 +168,7 @@ fn one_refused_growth_of_two_thousand_prefixes_closes_one_session(
     rt: HostRuntime,
 ) -> Result<(), Fail> {
     let nth = request_that_closes(&rt, rt.alloc(), 2)?;
+    assert!(rt; nth > 0);
     let heap = Refusing::new(rt.alloc(), nth);
     assert_eq!(rt; play(&rt, rt.alloc(), &heap, MANY)?, 2);
     Ok(())
