@@ -2,8 +2,8 @@
 //!
 //! A route comes from one peer, is chosen and told to the other, and is taken back when the first peer's connection
 //! fails. `stepping` plays these calls on a speaker, and once the nth request for memory is refused finds what
-//! `Speaker::step` and `Speaker::take` promise: there is no speaker; or a command is refused, leaves the speaker as it
-//! was and is taken when it comes again; or one session is closed, the report names it, its routes have gone, the other
+//! `Speaker::step` and `Speaker::take` promise: a command is refused, leaves the speaker as it was and is taken when it
+//! comes again; or one session is closed, the report names it, its routes have gone, the other
 //! is as it was, and all goes on when its peer comes again. `running` plays the events by `run`, once with memory for
 //! all of them. `taking` has a growth refused to what follows a take, which hands its octets out all the same and
 //! closes the session. `many_prefixes` has two thousand prefixes told to two peers whose rings fill, and one growth

@@ -1,11 +1,11 @@
-use Rattle.std.proofs.Common.{◌≡◌, ◌<◌, ◌++◌, inl, inr, ℕ, zero, suc, true, length, replicate, cond, IfOk, IfErr, arith, append_assoc, length-append, List, [], ◌∷◌, Option, Some, None, Result, Ok, Err, refl, sym, ap, ◌∙◌, subst}
+use Rattle.std.proofs.Common.{◌≡◌, ◌<◌, ◌++◌, IfOk, IfErr, List, [], ◌∷◌, Option, Some, None, Result, Ok, Err, refl, sym, ap, ◌∙◌, subst}
 use Rattle.std.specs.Option.{MatchOption, option_map}
 use Rattle.bgp_conf.specs.declared.refusal.Refusal.{Refusal}
 use Rattle.bgp_conf.specs.declared.refusal.Refusal.TheVariants.{NoMemory}
 use Rattle.decision.specs.BookContents.{offer_at}
 use Rattle.rib_in.specs.LatestRoutes.{route_at}
 use Rattle.speaker.specs.Agreement.{Agrees}
-use Rattle.speaker.specs.FirstRefusal.{refusal_by, refusal_in, refusal_of, Grows, LacksMemory}
+use Rattle.speaker.specs.FirstRefusal.{refusal_in, refusal_of, Grows, LacksMemory}
 use Rattle.speaker.specs.Linked.{Linked}
 use Rattle.speaker.specs.Played.{Follows, GoesOn, IsPlayed}
 use Rattle.speaker.specs.Runs.{Run, Turn, asked, call_of, configuration_of, report_of}
@@ -92,7 +92,7 @@ played_ok config events answers event report s new h unrefused agrees =
     let more = agrees config h.r h.agrees in
     record {
       r = more.0 ∷ h.r;
-      follows = follows_more config [] events answers h.r _ event (Ok report) h.follows (unrefused, (more.0, more.1, refl, more.2));
+      follows = follows_more config [] events answers h.r _ event (Ok report) h.follows (unrefused, (more.0, more.1, refl, more.2, more.3.settled));
       agrees = more.3;
     }
 

@@ -1,4 +1,4 @@
-use Rattle.std.proofs.Common.{◌≡◌, ◌≢◌, ◌≤◌, ◌<◌, ◌+◌, ◌==◌, ℕ, zero, suc, Bool, true, false, cond, refl, sym, ap, ◌∙◌, inl, inr, arith, [], ◌∷◌, ◌^◌, Option, Some}
+use Rattle.std.proofs.Common.{◌≡◌, ◌≢◌, ◌≤◌, ◌<◌, ◌+◌, ◌==◌, ℕ, zero, suc, Bool, true, false, cond, refl, ap, ◌∙◌, inl, inr, arith, [], ◌∷◌, ◌^◌, Option, Some}
 use Rattle.std.proofs.lemmas.Bool.{cases_eq, eq-eqb, ne_eqb}
 use Rattle.speaker.specs.Agreement.{QueuesAll, QueuesOn, QueuesStarved}
 use Rattle.std.specs.Int.Bits.{bit_or}

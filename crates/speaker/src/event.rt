@@ -40,7 +40,7 @@ impl Report {
         cache_starved: false,
     };
 
-    // That of a call that closed these slots for want of memory.
+    // The report of a call that closed these slots, a bit each, for want of memory, and opened nothing.
     pub(crate) fn of_starved(slots: u64) -> Report
         ensures { result ≡ record { opened = 0; starved = slots; cache_opened = false; cache_starved = false } }
     {

@@ -1,12 +1,10 @@
-use Rattle.std.proofs.Common.{◌≡◌, ◌==◌, Bool, true, false, Option, Some, cond, refl, ap, ◌∙◌, subst}
+use Rattle.std.proofs.Common.{ap, subst}
 use Rattle.std.specs.List.Sorted.{IsStrictlySortedBy}
 use Rattle.std.specs.Map.{keys_of}
 use Rattle.decision.specs.BookContents.{IsBestOf, best_at, offer_at, rows_of}
 use Rattle.net_prefix.specs.PrefixOrder.{prefix_cmp}
 use Rattle.net_prefix.specs.declared.prefix.Prefix.{Prefix}
-use Rattle.speaker.specs.Linked.{Linked}
 use Rattle.speaker.specs.RoutingState.{RoutingState}
-use Rattle.speaker.specs.Serving.{is_standing}
 use Rattle.speaker.specs.declared.step.Speaker.TheInside.{Inside}
 use Rattle.speaker.proofs.Passing.{queues_starved}
 use Rattle.speaker.proofs.Standing.{starved_falls}
