@@ -13,7 +13,7 @@ use Rattle.bgp_msg.specs.MessageStream.{Item, Wants, WholeMessage, meaning, need
 use Rattle.bgp_msg.specs.declared.frame.MessageType.TheVariants.{Update}
 use Rattle.bgp_peer.specs.Agreement.{holding}
 use Rattle.bgp_peer.specs.SessionInputs as happens
-use Rattle.bgp_peer.specs.SessionInputs.{Handed, Octet, Signalled, Ticked, onto, session, input_of, stream}
+use Rattle.bgp_peer.specs.SessionInputs.{Handed, Octet, Signalled, Ticked, onto, session, input_of, stream, kind_of, terms_from}
 use Rattle.bgp_peer.specs.Slot.{Slot, pushed}
 use Rattle.bgp_peer.proofs.Agreeing.{agrees-tick, item_of_rest, onto-append}
 use Rattle.bgp_peer.proofs.Receiving.{HasHeard, wants-agreed}
@@ -21,7 +21,7 @@ use Rattle.net_prefix.specs.declared.prefix.Prefix.{Prefix}
 use Rattle.net_prefix.specs.declared.transport.Transport.{Transport}
 use Rattle.net_prefix.specs.declared.transport.Transport.TheVariants.{None as NoConnection, Opening, Listening, Open as Connected, Closing}
 use Rattle.rib_in.specs.LatestRoutes.{route_at}
-use Rattle.speaker.specs.AdjRibIn.{update_heard, word_if}
+use Rattle.speaker.specs.AdjRibIn.{NeedsMemory, update_heard, word_if}
 use Rattle.speaker.specs.Agreement.{Hears, HearsUntil, IsFair, MayStarve, SlotAgrees, Holds}
 use Rattle.speaker.proofs.SlotStates.{SlotIs, slot_agrees, slot_from, linked_from}
 use Rattle.speaker.specs.Linked.{Linked}
@@ -195,7 +195,7 @@ slot_starved config peer l old new h part behind here change =
 -- octets come to an open connection, and memory is refused to the UPDATE that the last of them completes
 pub starves_heard : (config : Config) (r : Run) (done : List ℕ) (slot : ℕ) (peer : ConfiguredPeer) (l : Linked) (octets behind : List ℕ) (old mid new : SpeakerState)
     → Holds config (turn (Bytes_call slot done) [] ∷ r) old → peer_at old.conf slot ≡ Some peer → link_at old.links slot ≡ Some l → transport_of l.peer.session ≡ Connected
-    → 0 < length octets → length octets ≤ needed_of l.peer.rest → Pushes slot l octets old mid → TakesMemoryAt (with_peer l (pushed l.peer octets)) → Moves slot (with_peer l (pushed l.peer octets)) NoMemory mid new
+    → 0 < length octets → length octets ≤ needed_of l.peer.rest → Pushes slot l octets old mid → TakesMemoryAt (kind_of (terms_in config peer)) (with_peer l (pushed l.peer octets)) → Moves slot (with_peer l (pushed l.peer octets)) NoMemory mid new
     → (before : List ℕ) × (octet : ℕ) × (after : List ℕ) × (done ++ (octets ++ behind) ≡ before ++ octet ∷ after)
     × MayStarve (onto before (history config slot r)) octet × Holds config (turn (Starved_call slot before octet after) [] ∷ r) new
 starves_heard config r done slot peer l octets behind old mid new h configured linked connected some few pushes takes moves =
@@ -219,7 +219,7 @@ starves_heard config r done slot peer l octets behind old mid new h configured l
       body = takes.body;
       established = ap (λ (x : Session). x.state) (sym heard.holds.link.peer.session) ∙ takes.established;
       completes = item_of_rest heard.before (holding heard.part l.peer) heard.octet (Some (WholeMessage Update takes.body)) connected heard.whole heard.holds.link.peer;
-      needs = takes.needs;
+      needs = subst (λ t. NeedsMemory (kind_of t) takes.body) (sym (ap terms_from heard.holds.terms)) takes.needs;
     } in (
       done ++ cut.0,
       cut.1,

@@ -14,6 +14,7 @@ pub mod SlotStates
 pub mod SlotEvents
 pub mod SlotOctets
 pub mod QueuedUpdates
+pub mod NeededMemory
 pub mod Calls
 pub mod Passing
 pub mod Messages

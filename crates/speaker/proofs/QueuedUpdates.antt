@@ -43,7 +43,7 @@ use Rattle.speaker.proofs.SentPrefixes.{told_in-append}
 
 -- What an UPDATE that is queued tells of prefixes, read back.
 
-no_prefixes : (front_prefixes []).0 ≡ []
+pub no_prefixes : (front_prefixes []).0 ≡ []
 no_prefixes = (prefixes_in-parts [] [] (wire_form-read [] (λ k d h. absurd (omega arith)))).0
 
 pub one_prefix : (p : Prefix) → p.bits < 2 ^ 32 → (front_prefixes (wire_form (p ∷ []))).0 ≡ p ∷ []

@@ -1,14 +1,16 @@
 -- The latest route of a peer to each prefix: Adj-RIB-In (RFC 4271 section 3.2).
-use Rattle.std.specs.Prelude.{◌≢◌, ◌⊎◌, ℕ, Bool, List, [], ◌∷◌, Option, Some, None, if◌then◌else◌}
+use Rattle.std.specs.Prelude.{◌≡◌, ℕ, Bool, List, [], ◌∷◌, Option, Some, None, if◌then◌else◌}
 use Rattle.std.specs.List.{list_any}
 use Rattle.std.specs.Option.{IsSome, option_and_then}
 use Rattle.std.specs.Ordering.{is_eq}
 use Rattle.bgp_attr.specs.AttributeFaults.{Fault}
 use Rattle.bgp_attr.specs.PathAttributes.{PathAttributes}
+use Rattle.bgp_attr.specs.declared.peer.PeerKind.{PeerKind}
 use Rattle.bgp_fsm.specs.declared.state.State.{State}
 use Rattle.bgp_fsm.specs.StateTests.{is_established}
 use Rattle.bgp_msg.specs.MessageStream.{Item, WholeMessage, FaultyHeader}
-use Rattle.bgp_msg.specs.UpdateMeaning.{UpdateBody, update_fault, update_in}
+use Rattle.bgp_msg.specs.MessageSpelling.{update_parts}
+use Rattle.bgp_msg.specs.UpdateMeaning.{UpdateBody, fault_before_memory, update_fault, update_in}
 use Rattle.bgp_msg.specs.declared.frame.MessageType.TheVariants.{Open, Update, Notification, Keepalive}
 use Rattle.bgp_peer.specs.SessionInputs.{Event, Terms, Configured, Signalled, Octet, Queued, Handed, Ticked, kind_of, terms_of, item_at, session}
 use Rattle.net_prefix.specs.PrefixOrder.{prefix_cmp}
@@ -29,9 +31,9 @@ abbrev pub word_if : Option UpdateBody → Prefix → Option PathAttributes → 
 word_if None prefix before = before
 word_if (Some update) prefix before = word_of update prefix before
 
--- memory is taken for an UPDATE that has an AS_PATH or announces a prefix
-abbrev pub NeedsMemory : UpdateBody → Type 0
-NeedsMemory update = IsSome update.attrs.as_path ⊎ (update.announced ≢ [])
+-- memory is taken for an UPDATE that has an AS_PATH, and no fault in its lengths, withdrawn prefixes and attributes
+abbrev pub NeedsMemory : PeerKind → List ℕ → Type 0
+NeedsMemory kind body = (fault_before_memory kind (update_parts body) ≡ None) × IsSome (update_in body).attrs.as_path
 
 -- an UPDATE without a fault
 abbrev pub sound_update : List ℕ → Option Fault → Option UpdateBody

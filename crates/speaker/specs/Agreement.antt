@@ -10,7 +10,7 @@ use Rattle.bgp_fsm.specs.declared.state.State.TheVariants.{Established}
 use Rattle.bgp_fsm.specs.StateTests.{is_established}
 use Rattle.bgp_fsm.specs.Transports.{transport_of}
 use Rattle.bgp_msg.specs.MessageStream.{WholeMessage, messages}
-use Rattle.bgp_msg.specs.UpdateMeaning.{update_fault, update_in}
+use Rattle.bgp_msg.specs.UpdateMeaning.{update_fault}
 use Rattle.bgp_msg.specs.declared.frame.MessageType.TheVariants.{Update}
 use Rattle.bgp_peer.specs.Agreement.{PeerAgrees, IsUpdateMessage}
 use Rattle.bgp_peer.specs.SentMessages.{ring_of, sent}
@@ -115,7 +115,7 @@ pub record MayStarve (h : List slot.Event) (octet : ℕ) : Type 0 where
   pub body : List ℕ
   pub established : (session h).state ≡ Established
   pub completes : item_at h octet ≡ Some (WholeMessage Update body)
-  pub needs : NeedsMemory (update_in body)
+  pub needs : NeedsMemory (slot.kind_of (slot.terms_of h)) body
 
 -- memory is refused to nothing but such a message
 abbrev pub IsFair : Config → Run → Call → Type 0

@@ -1,12 +1,13 @@
 -- What an input of a session makes of its slot and its routes (RFC 4271 sections 3.2 and 8.2.2).
 use Rattle.std.specs.Prelude.{◌≡◌, ◌≢◌, ◌||◌, ◌&&◌, ◌==◌, ℕ, Bool, List, [], min, length, Option, Some, None, if◌then◌else◌}
+use Rattle.bgp_attr.specs.declared.peer.PeerKind.{PeerKind}
 use Rattle.bgp_fsm.specs.SessionTable.{effects_of}
 use Rattle.bgp_fsm.specs.declared.input.Input.{Input}
 use Rattle.bgp_fsm.specs.declared.session.Effects.{Effects}
 use Rattle.bgp_fsm.specs.declared.state.State.TheVariants.{Established}
 use Rattle.bgp_peer.specs.Slot.{Slot, pushed, taken_input, handed}
 use Rattle.decision.specs.BookContents.{offer_at}
-use Rattle.bgp_msg.specs.UpdateMeaning.{UpdateBody, update_in}
+use Rattle.bgp_msg.specs.UpdateMeaning.{UpdateBody}
 use Rattle.bgp_msg.specs.MessageStream.{Item, WholeMessage, meaning}
 use Rattle.bgp_msg.specs.declared.frame.MessageType.TheVariants.{Update}
 use Rattle.bgp_peer.specs.SessionInputs.{Terms, expected_of, kind_of, input_of}
@@ -84,12 +85,13 @@ taken_on Closing rest octets = 0
 abbrev pub taken_of : Slot → List ℕ → ℕ
 taken_of p octets = taken_on (transport_of p.session) p.rest octets
 
--- the message at the front of the slot's rest is one that memory is taken for: an UPDATE to an Established session
-pub record TakesMemoryAt (l : Linked) : Type 0 where
+-- the message at the front of the slot's rest is one that memory is taken for: an UPDATE of such a peer to an Established
+-- session
+pub record TakesMemoryAt (kind : PeerKind) (l : Linked) : Type 0 where
   pub body : List ℕ
   pub established : l.peer.session.state ≡ Established
   pub is : meaning l.peer.rest ≡ Some (WholeMessage Update body)
-  pub needs : NeedsMemory (update_in body)
+  pub needs : NeedsMemory kind body
 
 -- the routes and the candidates of all other slots stay
 pub record KeepsOthers (slot : ℕ) (old new : RoutingState) : Type 0 where

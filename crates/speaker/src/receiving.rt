@@ -58,7 +58,7 @@ pub fn take_front<A: Allocator + Clone, B: Book<A>>(
         → IsHeard sender.slot (option_and_then (update_heard link.now.peer.session.state terms) (meaning link.now.peer.rest)) routing.old.adj_in routing.new.adj_in) }
     ensures kept { OnOk result (KeepsHeard conf.now sender link.now.peer.session.state routing.old routing.new) }
     ensures others { OnErr result (KeepsOthers sender.slot routing.old routing.new) }
-    ensures memory { OnErr result (TakesMemoryAt link.now) }
+    ensures memory { OnErr result (TakesMemoryAt sender.kind link.now) }
     ensures chosen { OnOk result ((terms : Terms) → AreOf terms sender
         → routing.new.chosen ≤ routing.old.chosen + named_if (option_and_then (update_heard link.now.peer.session.state terms) (meaning link.now.peer.rest))) }
     ensures part { OnErr result ((body : List ℕ) → meaning link.now.peer.rest ≡ Some (WholeMessage UpdateMessage body) → IsPart sender.slot (update_in body) routing.old routing.new) }
@@ -94,7 +94,7 @@ fn judge<A: Allocator + Clone, B: Book<A>>(
         → IsHeard sender.slot (update_heard state terms (WholeMessage frame.entry.kind frame.entry.body.now)) routing.old.adj_in routing.new.adj_in) }
     ensures kept { OnOk result (KeepsHeard conf.now sender state routing.old routing.new) }
     ensures others { OnErr result (KeepsOthers sender.slot routing.old routing.new) }
-    ensures memory { OnErr result ((state ≡ Established) × (frame.entry.kind ≡ UpdateMessage) × NeedsMemory (update_in frame.entry.body.now)) }
+    ensures memory { OnErr result ((state ≡ Established) × (frame.entry.kind ≡ UpdateMessage) × NeedsMemory sender.kind frame.entry.body.now) }
     ensures chosen { OnOk result ((terms : Terms) → AreOf terms sender
         → routing.new.chosen ≤ routing.old.chosen + named_if (update_heard state terms (WholeMessage frame.entry.kind frame.entry.body.now))) }
     ensures part { OnErr result (IsPart sender.slot (update_in frame.entry.body.now) routing.old routing.new) }
@@ -120,6 +120,7 @@ fn judge_open(body: &[u8], expected: Expected) -> Input
     }
 }
 
+#[tactic(auto, using(crate::proofs::NeededMemory::needs))]
 fn judge_update<A: Allocator + Clone, B: Book<A>>(
     alloc: &A,
     conf: &Conf<A>,
@@ -136,7 +137,7 @@ fn judge_update<A: Allocator + Clone, B: Book<A>>(
     ensures routes { OnOk result (IsHeard sender.slot (sound_update body.now (update_fault sender.kind body.now)) routing.old.adj_in routing.new.adj_in) }
     ensures kept { OnOk result (KeepsHeard conf.now sender Established routing.old routing.new) }
     ensures others { OnErr result (KeepsOthers sender.slot routing.old routing.new) }
-    ensures memory { OnErr result (NeedsMemory (update_in body.now)) }
+    ensures memory { OnErr result (NeedsMemory sender.kind body.now) }
     ensures chosen { OnOk result (routing.new.chosen ≤ routing.old.chosen + named_if (sound_update body.now (update_fault sender.kind body.now))) }
     ensures part { OnErr result (IsPart sender.slot (update_in body.now) routing.old routing.new) }
 {

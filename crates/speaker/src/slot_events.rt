@@ -11,6 +11,7 @@ ghost use Rattle.bgp_msg.specs.MessageStream.{meaning};
 ghost use Rattle.speaker.specs.Choices.{Ends};
 ghost use Rattle.speaker.specs.Marks.{AreMarked, IsFollowed};
 ghost use Rattle.speaker.specs.Moves.{Moves, Pushes, TakesMemoryAt, TakesItem, taken_of};
+ghost use Rattle.bgp_peer.specs.SessionInputs.{kind_of};
 ghost use Rattle.speaker.specs.Runs.{terms_in, Run, turn, Bytes_call};
 ghost use Rattle.speaker.specs.Agreement.{Hears, HearsUntil};
 ghost use Rattle.speaker.specs.declared.config.Config.{Config as TheConfig};
@@ -93,7 +94,8 @@ impl<A: Allocator + Clone, B: Book<A>> Speaker<A, B> {
     fn take_message(&mut self, slot: u8) -> Result<(), AllocError>
         ensures taken { OnOk result ((l : Linked) (peer : ThePeer) → link_at self.old.links slot ≡ Some l → peer_at self.old.conf slot ≡ Some peer
             → TakesItem slot (terms_in self.old.config peer) l (meaning l.peer.rest) self.old self.new) }
-        ensures starved { OnErr result ((l : Linked) → link_at self.old.links slot ≡ Some l → TakesMemoryAt l × Moves slot l NoMemory self.old self.new) }
+        ensures starved { OnErr result ((l : Linked) (peer : ThePeer) → link_at self.old.links slot ≡ Some l → peer_at self.old.conf slot ≡ Some peer
+            → TakesMemoryAt (kind_of (terms_in self.old.config peer)) l × Moves slot l NoMemory self.old self.new) }
         ensures within { OnErr result (slot < 64) }
     {
         let Some(peer) = self.conf.peer(slot) else {

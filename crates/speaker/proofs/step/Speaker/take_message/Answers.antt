@@ -1,5 +1,6 @@
 use Rattle.std.proofs.Common.{◌≡◌, ◌∙◌, refl, sym, ap, subst}
 use Rattle.std.specs.Option.{option_map}
+use Rattle.bgp_peer.specs.SessionInputs.{kind_of}
 use Rattle.speaker.specs.Moves.{TakesMemoryAt}
 use Rattle.speaker.specs.Runs.{terms_in}
 use Rattle.speaker.specs.Tables.{session_at}
@@ -41,11 +42,14 @@ returns-in_default-heard-clause-taken g c = λ l peer linked configured.
     (λ s. refl))
 
 pub returns-in-Err-clause-starved : goal.returns-in-Err-clause-starved
-returns-in-Err-clause-starved g c = λ l linked.
+returns-in-Err-clause-starved g c = λ l peer linked configured.
     let linked_here = rw (← c.self.view_is) at linked in
     let same : c.in-Some-get.link.now ≡ l = some_same _ _ _ c.in-Some-get.ensures.value linked_here in
-    let takes : TakesMemoryAt l = subst TakesMemoryAt same c.in-Err.ensures.memory in (
-      takes,
+    let configured_here = rw (← c.self.view_is) at configured in
+    let peer_same : c.in-Some.peer ≡ peer = some_same _ _ _ c.in-Some.ensures configured_here in
+    let kind : c.between.result ≡ kind_of (terms_in c.self.inside.config c.in-Some.peer) = c.between.ensures in
+    let takes : TakesMemoryAt (kind_of (terms_in c.self.inside.config c.in-Some.peer)) l = subst (λ k. TakesMemoryAt k l) kind (subst (λ x. TakesMemoryAt c.between.result x) same c.in-Err.ensures.memory) in (
+      rw (← peer_same, ← c.self.view_is) takes,
       rw (← c.self.view_is)
           (starves c.args.slot l _ _ _ takes.established (λ s. refl) (λ s p other. c.in-Err.ensures.others.routes s p other) (λ s p other. c.in-Err.ensures.others.offers s p other)
           (record { config = refl; moment = refl; conf = refl }) (c.input.ensures.moves l linked_here)),
