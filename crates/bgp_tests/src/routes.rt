@@ -67,21 +67,20 @@ fn follows_its_routes<A: Allocator + Clone, B: Book<A>>(
     assert_eq!(rt; ribs.chosen(), 3);
 
     // The best one is withdrawn.
-    ribs.start_count();
     ribs.withdraw(2, low);
     assert_eq!(rt; slot_of_best(&ribs, low), Some(1));
     assert!(rt; ribs.routes().get(2, low).is_none());
-    assert_eq!(rt; ribs.chosen(), 1);
+    assert_eq!(rt; ribs.chosen(), 4);
 
     // There is no route to withdraw any more.
     ribs.withdraw(2, low);
-    assert_eq!(rt; ribs.chosen(), 1);
+    assert_eq!(rt; ribs.chosen(), 4);
 
     // The other slot's session ends.
     ribs.drop_slot(2);
     assert_eq!(rt; slot_of_best(&ribs, high), None);
     assert_eq!(rt; count_of_rows(&ribs), 1);
-    assert_eq!(rt; ribs.chosen(), 2);
+    assert_eq!(rt; ribs.chosen(), 5);
 
     // And so does the one that is left.
     ribs.drop_slot(1);

@@ -156,18 +156,11 @@ impl<A: Allocator + Clone, B: Book<A>> Ribs<A, B> {
         let _ = self.book.best(Prefix { bits: 0, len: 0 });
     }
 
-    /// How often a best route was chosen since the count began, up to 2^64 - 1.
+    /// How often a best route was chosen so far, up to 2^64 - 1.
     pub fn chosen(&self) -> u64
         ensures { result ≡ self.now.chosen }
     {
         self.meter.count()
-    }
-
-    /// The count begins again.
-    pub fn start_count(&mut self)
-        ensures { self.new ≡ record self.old { chosen = 0 } }
-    {
-        self.meter = Meter::new();
     }
 
     /// The least prefix above the given one that has a best route, or the least of all.

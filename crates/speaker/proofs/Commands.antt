@@ -1,7 +1,7 @@
-use Rattle.std.proofs.Common.{◌≡◌, ◌≢◌, ◌==◌, ◌&&◌, ◌||◌, ℕ, Bool, true, false, List, [], ◌∷◌, Option, Some, None, Result, Ok, Err, OnErr, is_none, nat_le, cond, refl, sym, ap, ◌∙◌, subst}
+use Rattle.std.proofs.Common.{◌≡◌, ◌≢◌, ◌≤◌, ◌<◌, ◌+◌, ◌==◌, ◌&&◌, ◌||◌, ℕ, Bool, true, false, List, [], ◌∷◌, length, Option, Some, None, Result, Ok, Err, OnErr, is_none, nat_le, cond, refl, sym, ap, ◌∙◌, subst, arith}
 use Rattle.std.proofs.lemmas.Bool.{eq-eqb, ne_eqb, eqb-true}
 use Rattle.std.specs.BTreeMap.{is_at}
-use Rattle.std.specs.Option.{option_map}
+use Rattle.std.specs.Option.{IsSome, option_map}
 use Rattle.std.specs.Ordering.{nat_cmp}
 use Rattle.bgp_conf.proofs.PrefixOrder.{is_eq-nat_cmp}
 use Rattle.bgp_attr.specs.PathAttributes.{PathAttributes}
@@ -30,10 +30,12 @@ use Rattle.net_prefix.specs.declared.asn.Asn.{Asn}
 use Rattle.net_prefix.specs.declared.prefix.Prefix.{Prefix}
 use Rattle.net_prefix.specs.declared.transport.Transport.{Transport}
 use Rattle.net_prefix.specs.declared.transport.Transport.TheVariants.{Open as Connected}
-use Rattle.rib_in.specs.LatestRoutes.{route_at}
+use Rattle.rib_in.specs.LatestRoutes.{HasRoute, route_at}
+use Rattle.speaker.specs.AdjRibIn.{route}
 use Rattle.speaker.specs.Agreement.{SlotAgrees, IsTaken, Holds}
 use Rattle.speaker.proofs.Histories.{no_route}
 use Rattle.speaker.proofs.SlotStates.{SlotIs, slot_agrees, configured_from}
+use Rattle.speaker.specs.Choices.{AreDifferent, Chooses, choices_by, choices_in}
 use Rattle.speaker.specs.FirstRefusal.{refused_at, awaits_up}
 use Rattle.speaker.specs.Linked.{Linked}
 use Rattle.speaker.specs.Offers.{AreMadeAgain, IsSound, Offers}
@@ -42,7 +44,9 @@ use Rattle.speaker.specs.Runs.{Call, Run, turn, Up_call, Fail_call, Bytes_call, 
 use Rattle.speaker.specs.SpeakerState.{SpeakerState}
 use Rattle.speaker.specs.Tables.{link_at, tables}
 use Rattle.speaker.specs.declared.config.Config.{Config}
+use Rattle.speaker.proofs.AllowedChoices.{most_known, signal_few}
 use Rattle.speaker.proofs.Calls.{slots_changed}
+use Rattle.speaker.proofs.Counting.{different_as}
 use Rattle.speaker.proofs.Events.{holds_put, slot_is, slot_of}
 use Rattle.speaker.proofs.KeptOffers.{kept_added, kept_again, moves_keep}
 use Rattle.speaker.proofs.SlotOctets.{slot_signalled}
@@ -82,17 +86,21 @@ pub holds_signalled : (config : Config) (r1 r2 : Run) (slot : ℕ) (l : Linked) 
     → Holds config r1 old → link_at old.links slot ≡ Some l → is_message input ≡ false → (input ≡ Up → transport_of l.peer.session ≢ Connected) → Moves slot l input old new
     → configuration_of config r2 ≡ configuration_of config r1 → moment_after r2 ≡ moment_after r1
     → ((t : ℕ) → history config t r2 ≡ cond (t == slot) (Signalled input ∷ history config t r1) (history config t r1))
+    → Chooses slot (effects_of input l.peer.session).left old new → (most : ℕ) → old.chosen ≤ old.chosen_before + most → most + choices_by (history config slot r1) (Signalled input) ≤ choices_in config r2
     → Holds config r2 new
-holds_signalled config r1 r2 slot l input old new h linked is shut moves conf moment histories =
+holds_signalled config r1 r2 slot l input old new h linked is shut moves conf moment histories chooses most so_far allowed =
     let peer = peer_of config r1 slot l old h linked in
     let here = slot_is config r1 slot peer.0 l old h peer.1 linked in
     let at : history config slot r2 ≡ Signalled input ∷ history config slot r1 = histories slot ∙ rw (eq-eqb slot slot refl) refl in
     let other : input ≡ Up → is_established (session (history config slot r1)).state ≡ false =
     λ up. not_yet (session (history config slot r1)) _ refl (λ k. shut up (ap transport_of here.link.peer.session ∙ k)) in
     let H : List happens.Event → Type 0 = λ x. SlotIs config peer.0 (moved l input) (route_at new.adj_in slot) x in
+    let few = signal_few slot (history config slot r1) input l.peer.session old new here.link.peer.session here.routes_are chooses in
+    let kept_before = moves.rest.chosen_before in
     holds_put config r1 r2 slot (moved l input) old new h conf moment (moves_keep slot l input old new linked moves) moves.rest moves.links
     (λ t away p. moves.routes t p ∙ left_there slot t (effects_of input l.peer.session).left (route_at old.adj_in t p) away)
     (λ t away. histories t ∙ rw (ne_eqb t slot away) refl)
+    (omega (arith, few, so_far, allowed, kept_before))
     peer.0 peer.1
     (subst H (sym at) (slot_signalled config peer.0 l (route_at old.adj_in slot) (route_at new.adj_in slot) (history config slot r1) input is other here
     (λ p. moves.routes slot p ∙ left_here slot (effects_of input l.peer.session).left (route_at old.adj_in slot p))))
@@ -107,17 +115,26 @@ some_from_not true None r h = absurd (cc)
 some_from_not false None r h = absurd (cc)
 
 pub holds_enable : (config : Config) (r : Run) (slot : ℕ) (old new : SpeakerState) → Holds config r old → first_refusal old.conf 0 (Enable slot) ≡ None
-    → ((l : Linked) → link_at old.links slot ≡ Some l → Moves slot l Start old new) → Holds config (turn (Command_call (Enable slot)) [] ∷ r) new
-holds_enable config r slot old new h may moves =
+    → ((l : Linked) → link_at old.links slot ≡ Some l → Moves slot l Start old new) → ((l : Linked) → link_at old.links slot ≡ Some l → Chooses slot (effects_of Start l.peer.session).left old new)
+    → old.chosen ≤ old.chosen_before → Holds config (turn (Command_call (Enable slot)) [] ∷ r) new
+holds_enable config r slot old new h may moves chooses so_far =
     let peer = some_from_not (nat_le 64 slot) (peer_at old.conf slot) Refusal.BadSlot may in
     let found = slot_of config r slot peer.0 old h peer.1 in
-    holds_signalled config r (turn (Command_call (Enable slot)) [] ∷ r) slot found.0 Start old new h found.1 refl (λ e. cc) (moves found.0 found.1) refl refl (λ t. refl)
+    holds_signalled config r (turn (Command_call (Enable slot)) [] ∷ r) slot found.0 Start old new h found.1 refl (λ e. cc) (moves found.0 found.1) refl refl (λ t. refl) (chooses found.0 found.1) 0 (omega (arith, so_far)) (omega arith)
+
+-- a slot with a route is one of the 64
+slot_of_route : (config : Config) (r : Run) (s : SpeakerState) → Holds config r s → (p : Prefix) → HasRoute s.adj_in p → (t : ℕ) × (t < 64) × IsSome (route (history config t r) p)
+slot_of_route config r s h p there =
+    let routed = h.kept.routed there.0 p there.1 in
+    (there.0, h.kept.below there.0 routed.0 routed.1, subst (λ o. IsSome o) ((h.slots there.0).routes_are p) there.1)
 
 -- an entry of `reach`
 pub holds_reach : (config : Config) (r : Run) (prefix : Prefix) (cost : ℕ) (old new : SpeakerState) → Holds config r old → new.conf ≡ conf_after old.conf (Reach prefix cost)
     → ((s : ℕ) → peer_at new.conf s ≡ peer_after old.conf (Reach prefix cost) s) → new.config ≡ old.config → new.moment ≡ old.moment → new.links ≡ old.links → new.adj_in ≡ old.adj_in
-    → AreMadeAgain (tables new.conf old.links old.adj_in) (offer_at old.book) (offer_at new.book) → Holds config (turn (Command_call (Reach prefix cost)) [] ∷ r) new
-holds_reach config r prefix cost old new h conf peers config_same moment links adj_in again = record {
+    → AreMadeAgain (tables new.conf old.links old.adj_in) (offer_at old.book) (offer_at new.book)
+    → (known : List Prefix) → AreDifferent (HasRoute old.adj_in) known → new.chosen ≤ old.chosen + length known → new.chosen_before ≡ old.chosen
+    → Holds config (turn (Command_call (Reach prefix cost)) [] ∷ r) new
+holds_reach config r prefix cost old new h conf peers config_same moment links adj_in again known routed count counted = record {
   config_is = config_same ∙ h.config_is;
   moment = moment ∙ h.moment;
   conf = conf ∙ ap (λ c. conf_after c (Reach prefix cost)) h.conf;
@@ -125,6 +142,7 @@ holds_reach config r prefix cost old new h conf peers config_same moment links a
   slots = λ t. let P : Option ConfiguredPeer → Type 0 = λ x. SlotAgrees config x (link_at old.links t) (route_at old.adj_in t) (history config t r) in
       rw (links, adj_in) (subst P (sym (peers t)) (h.slots t));
   kept = kept_again old new links adj_in again h.kept;
+  chosen = omega (arith, count, counted, most_known config r known (different_as (HasRoute old.adj_in) (λ p. (s : ℕ) × (s < 64) × IsSome (route (history config s r) p)) known (λ p there. slot_of_route config r old h p there) routed));
 }
 
 -- with a new peer each is one that was accepted
@@ -173,8 +191,8 @@ is_taken config r slot peer s h may = record {
 pub holds_added : (config : Config) (r : Run) (slot : ℕ) (peer : PeerConf) (old new : SpeakerState) → Holds config r old → first_refusal old.conf 0 (AddPeer slot peer) ≡ None
     → new.conf ≡ conf_after old.conf (AddPeer slot peer) → ((s : ℕ) → peer_at new.conf s ≡ peer_after old.conf (AddPeer slot peer) s)
     → IsPut slot (record { peer = configured (terms_in config (configured_of peer)).own peer.mode; adj_out = [] }) old new
-    → new.config ≡ old.config → new.moment ≡ old.moment → new.adj_in ≡ old.adj_in → new.book ≡ old.book → Holds config (turn (Command_call (AddPeer slot peer)) [] ∷ r) new
-holds_added config r slot peer old new h may conf peers put config_same moment adj_in book =
+    → new.config ≡ old.config → new.moment ≡ old.moment → new.adj_in ≡ old.adj_in → new.book ≡ old.book → new.chosen ≤ new.chosen_before → Holds config (turn (Command_call (AddPeer slot peer)) [] ∷ r) new
+holds_added config r slot peer old new h may conf peers put config_same moment adj_in book few =
     let free : peer_at old.conf slot ≡ None = peer_at-from_accepted old.conf 0 slot peer may in
     let before = h.slots slot in
     let vacant : is_established (session (history config slot r)).state ≡ false = before.vacant (sym before.configured ∙ ap (option_map (terms_in config)) free) in
@@ -203,6 +221,7 @@ holds_added config r slot peer old new h may conf peers put config_same moment a
           (λ p. before.routes_are p ∙ no_route (history config slot r) p vacant)
           (ap (λ (c : Configuration). c.own) conf) (ap (λ (c : Configuration). c.reach) conf) (λ t other. peers t ∙ rw (ne_eqb t slot other) refl)
           adj_in (ap (λ b. offer_at b) book) h.kept;
+      chosen = omega (arith, few);
     }
 
 -- its slot had no candidates, since no peer was there

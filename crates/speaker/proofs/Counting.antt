@@ -92,7 +92,7 @@ either_still : (b c d : Bool) → (c ≡ true → d ≡ true) → (b || c) ≡ t
 either_still true c d still here = refl
 either_still false c d still there = still there
 
-among_all : (p : Prefix) (seen rest : List Prefix) → is_among p seen ≡ true → is_among p (seen ++ rest) ≡ true
+pub among_all : (p : Prefix) (seen rest : List Prefix) → is_among p seen ≡ true → is_among p (seen ++ rest) ≡ true
 among_all p [] rest h = absurd (cc)
 among_all p (d ∷ seen) rest h = either_still (is_eq (prefix_cmp d p)) (is_among p seen) (is_among p (seen ++ rest)) (among_all p seen rest) h
 

@@ -1,6 +1,7 @@
-use Rattle.std.proofs.Common.{◌≡◌, ◌≢◌, ◌≤◌, ◌<◌, ◌==◌, ◌&&◌, ◌^◌, inl, inr, ℕ, Bool, true, false, List, [], ◌∷◌, ◌++◌, Option, Some, None, length, take, min, cond, refl, sym, ap, ◌∙◌, subst, arith, append-nil, append_assoc}
+use Rattle.std.proofs.Common.{◌≡◌, ◌≢◌, ◌≤◌, ◌<◌, ◌+◌, ◌==◌, ◌&&◌, ◌⊎◌, ◌^◌, inl, inr, ℕ, Bool, true, false, List, [], ◌∷◌, ◌++◌, Option, Some, None, length, take, min, cond, refl, sym, ap, ◌∙◌, subst, arith, append-nil, append_assoc}
 use Rattle.std.proofs.lemmas.Bool.{cases_eq, eq-eqb, ne_eqb, eqb-true, lt-ltb, le-ltb}
 use Rattle.std.proofs.lemmas.List.{length-take, nil_from_length}
+use Rattle.std.specs.Option.{IsSome, option_and_then}
 use Rattle.bgp_attr.specs.PathAttributes.{PathAttributes}
 use Rattle.bgp_conf.specs.Configuration.{peer_at}
 use Rattle.bgp_conf.specs.declared.conf.ConfiguredPeer.{ConfiguredPeer}
@@ -10,27 +11,34 @@ use Rattle.bgp_fsm.specs.declared.input.Input.TheVariants.{NoMemory}
 use Rattle.bgp_fsm.specs.declared.session.Session.{Session}
 use Rattle.bgp_fsm.specs.Transports.{transport_of}
 use Rattle.bgp_msg.specs.MessageStream.{Item, Wants, WholeMessage, meaning, needed_of}
+use Rattle.bgp_msg.specs.UpdateMeaning.{update_in}
 use Rattle.bgp_msg.specs.declared.frame.MessageType.TheVariants.{Update}
 use Rattle.bgp_peer.specs.Agreement.{holding}
 use Rattle.bgp_peer.specs.SessionInputs as happens
-use Rattle.bgp_peer.specs.SessionInputs.{Handed, Octet, Signalled, Ticked, onto, session, input_of, stream, kind_of, terms_from}
+use Rattle.bgp_peer.specs.SessionInputs.{Handed, Octet, Signalled, Terms, Ticked, onto, session, input_of, item_at, stream, kind_of, terms_from, terms_of}
 use Rattle.bgp_peer.specs.Slot.{Slot, pushed}
 use Rattle.bgp_peer.proofs.Agreeing.{agrees-tick, item_of_rest, onto-append}
-use Rattle.bgp_peer.proofs.Receiving.{HasHeard, wants-agreed}
+use Rattle.bgp_peer.proofs.Receiving.{HasHeard, Hears as HeardItem, wants-agreed}
 use Rattle.net_prefix.specs.declared.prefix.Prefix.{Prefix}
 use Rattle.net_prefix.specs.declared.transport.Transport.{Transport}
 use Rattle.net_prefix.specs.declared.transport.Transport.TheVariants.{None as NoConnection, Opening, Listening, Open as Connected, Closing}
 use Rattle.rib_in.specs.LatestRoutes.{route_at}
-use Rattle.speaker.specs.AdjRibIn.{NeedsMemory, update_heard, word_if}
-use Rattle.speaker.specs.Agreement.{Hears, HearsUntil, IsFair, MayStarve, SlotAgrees, Holds}
+use Rattle.speaker.specs.AdjRibIn.{NeedsMemory, is_among, route, update_heard, word_if}
+use Rattle.speaker.specs.Agreement.{Agrees, Hears, HearsUntil, IsFair, IsThrifty, MayStarve, SlotAgrees, Holds}
 use Rattle.speaker.proofs.SlotStates.{SlotIs, slot_agrees, slot_from, linked_from}
+use Rattle.speaker.specs.Choices.{AreDifferent, ChoosesRefused, choices_by, choices_in, choices_on, choices_refused, named_if, named_in, update_at}
 use Rattle.speaker.specs.Linked.{Linked}
 use Rattle.speaker.specs.Moves.{KeepsKept, KeepsRest, IsPut, Moves, Pushes, TakesItem, TakesMemoryAt, moved, taken_on, taken_of}
-use Rattle.speaker.specs.Runs.{Call, Run, turn, asked, starved_by, Bytes_call, Starved_call, Tick_call, configuration_of, history, moment_after, terms_in}
+use Rattle.speaker.specs.Queueing.{Queue, starved_in}
+use Rattle.speaker.specs.declared.event.Report.{Report}
+use Rattle.std.specs.Int.Bits.{bit_or}
+use Rattle.speaker.specs.Runs.{Call, Run, Turn, report_of, turn, asked, starved_by, Bytes_call, Starved_call, Tick_call, configuration_of, history, moment_after, terms_in}
 use Rattle.speaker.specs.SpeakerState.{SpeakerState}
 use Rattle.speaker.specs.Tables.{link_at}
 use Rattle.speaker.specs.declared.config.Config.{Config}
+use Rattle.speaker.proofs.AllowedChoices.{choices_append, choices_last, item_few, most_refused}
 use Rattle.speaker.proofs.Calls.{slots_changed}
+use Rattle.speaker.proofs.Counting.{different_as}
 use Rattle.speaker.proofs.Histories.{route_stays}
 use Rattle.speaker.proofs.KeptOffers.{moves_keep, pushes_keep}
 use Rattle.speaker.proofs.Messages.{rest_kept}
@@ -42,9 +50,9 @@ use Rattle.speaker.proofs.SlotOctets.{slot_pushed, slot_signalled, slot_taken, s
 -- one slot of the speaker changes
 pub holds_put : (config : Config) (r1 r2 : Run) (slot : ℕ) (l : Linked) (old new : SpeakerState) → Holds config r1 old → configuration_of config r2 ≡ configuration_of config r1 → moment_after r2 ≡ moment_after r1
     → KeepsKept old new → KeepsRest old new → IsPut slot l old new → ((t : ℕ) → t ≢ slot → (p : Prefix) → route_at new.adj_in t p ≡ route_at old.adj_in t p)
-    → ((t : ℕ) → t ≢ slot → history config t r2 ≡ history config t r1)
+    → ((t : ℕ) → t ≢ slot → history config t r2 ≡ history config t r1) → new.chosen ≤ new.chosen_before + choices_in config r2
     → (peer : ConfiguredPeer) → peer_at old.conf slot ≡ Some peer → SlotIs config peer l (route_at new.adj_in slot) (history config slot r2) → Holds config r2 new
-holds_put config r1 r2 slot l old new h conf moment kept keeps put routes histories peer configured here = record {
+holds_put config r1 r2 slot l old new h conf moment kept keeps put routes histories few peer configured here = record {
   config_is = keeps.config ∙ h.config_is;
   moment = keeps.moment ∙ h.moment ∙ sym moment;
   conf = keeps.conf ∙ h.conf ∙ sym conf;
@@ -56,10 +64,26 @@ holds_put config r1 r2 slot l old new h conf moment kept keeps put routes histor
       routes histories
       (rw (keeps.conf, put slot, eq-eqb slot slot refl, configured) (slot_agrees config peer l (route_at new.adj_in slot) (history config slot r2) here));
   kept = kept h.kept;
+  chosen = few;
 }
   where
     off : (t : ℕ) → t ≢ slot → cond (t == slot) (Some l) (link_at old.links t) ≡ link_at old.links t
     off t other = rw (ne_eqb t slot other) refl
+
+-- a call begins: what was chosen so far was chosen in the calls before
+abbrev pub begun : SpeakerState → SpeakerState
+begun s = record s { chosen_before = s.chosen }
+
+pub holds_begun : (config : Config) (r : Run) (s : SpeakerState) → Holds config r s → Holds config r (begun s)
+holds_begun config r s h = record {
+  config_is = h.config_is;
+  moment = h.moment;
+  conf = h.conf;
+  peers = h.peers;
+  slots = h.slots;
+  kept = h.kept;
+  chosen = omega arith;
+}
 
 -- a configured slot is there
 pub slot_of : (config : Config) (r : Run) (slot : ℕ) (peer : ConfiguredPeer) (s : SpeakerState) → Holds config r s → peer_at s.conf slot ≡ Some peer
@@ -121,56 +145,39 @@ takes_found : (config : Config) (r1 r2 : Run) (slot : ℕ) (peer : ConfiguredPee
     → Holds config r1 old → configuration_of config r2 ≡ configuration_of config r1 → moment_after r2 ≡ moment_after r1 → ((t : ℕ) → t ≢ slot → history config t r2 ≡ history config t r1) → peer_at old.conf slot ≡ Some peer
     → KeepsKept old mid → KeepsRest old mid → IsPut slot l old mid → mid.adj_in ≡ old.adj_in
     → transport_of l.peer.session ≡ Connected → HasHeard (λ x rest. WithRest config peer l (route_at old.adj_in slot) x rest) (history config slot r2) l.peer.rest
-    → TakesItem slot (terms_in config peer) l found mid new → Holds config r2 new
-takes_found config r1 r2 slot peer l None old mid new is h conf moment histories configured kept keeps put routes connected heard takes =
+    → TakesItem slot (terms_in config peer) l found mid new → new.chosen ≤ new.chosen_before + choices_in config r2 → Holds config r2 new
+takes_found config r1 r2 slot peer l None old mid new is h conf moment histories configured kept keeps put routes connected heard takes few =
     let same : (t : ℕ) (p : Prefix) → route_at new.adj_in t p ≡ route_at old.adj_in t p = λ t p. takes.1 t p ∙ ap (λ table. route_at table t p) routes in
-    holds_put config r1 r2 slot l old new h conf moment (λ before. takes.2 (kept before)) (rest_kept old mid new keeps takes.3) (λ s. takes.0 s ∙ put s) (λ t other p. same t p) histories
+    holds_put config r1 r2 slot l old new h conf moment (λ before. takes.2 (kept before)) (rest_kept old mid new keeps takes.3) (λ s. takes.0 s ∙ put s) (λ t other p. same t p) histories few
     peer configured (same_routes config peer l (route_at old.adj_in slot) (route_at new.adj_in slot) (history config slot r2) (heard.0 is) (same slot))
-takes_found config r1 r2 slot peer l (Some item) old mid new is h conf moment histories configured kept keeps put routes connected heard takes =
+takes_found config r1 r2 slot peer l (Some item) old mid new is h conf moment histories configured kept keeps put routes connected heard takes few =
     holds_put config r1 r2 slot (moved l (input_of l.peer.session.state (terms_in config peer) item)) old new h conf moment (λ before. takes.2 (kept before)) (rest_kept old mid new keeps takes.3)
     (λ s. takes.0 s ∙ ap (λ other. cond (s == slot) (Some (moved l (input_of l.peer.session.state (terms_in config peer) item))) other) (put s)
     ∙ cond_again (s == slot) (Some (moved l (input_of l.peer.session.state (terms_in config peer) item))) (Some l) (link_at old.links s))
     (λ t other p. takes.1 t p ∙ rw (ne_eqb t slot other) (left_off (effects_of (input_of l.peer.session.state (terms_in config peer) item) l.peer.session).left (route_at mid.adj_in t p)) ∙ ap (λ table. route_at table t p) routes)
-    histories
+    histories few
     peer configured
     ((slot_taken config peer l (route_at old.adj_in slot) (route_at new.adj_in slot) (history config slot r2) item connected (heard.1 item is)
     (λ p. takes.1 slot p
     ∙ rw (eq-eqb slot slot refl) (left_on (effects_of (input_of l.peer.session.state (terms_in config peer) item) l.peer.session).left (word_if (update_heard l.peer.session.state (terms_in config peer) item) p (route_at mid.adj_in slot p)))
     ∙ ap (λ table. cond (effects_of (input_of l.peer.session.state (terms_in config peer) item) l.peer.session).left None (word_if (update_heard l.peer.session.state (terms_in config peer) item) p (route_at table slot p))) routes)))
 
--- octets come to an open connection, and what they complete is taken
-pub holds_heard : (config : Config) (r : Run) (done : List ℕ) (slot : ℕ) (peer : ConfiguredPeer) (l : Linked) (octets : List ℕ) (old mid new : SpeakerState)
-    → Holds config (turn (Bytes_call slot done) [] ∷ r) old → peer_at old.conf slot ≡ Some peer → link_at old.links slot ≡ Some l → transport_of l.peer.session ≡ Connected
-    → length octets ≤ needed_of l.peer.rest → Pushes slot l octets old mid → TakesItem slot (terms_in config peer) (with_peer l (pushed l.peer octets)) (meaning (l.peer.rest ++ octets)) mid new
-    → Holds config (turn (Bytes_call slot (done ++ octets)) [] ∷ r) new
-holds_heard config r done slot peer l octets old mid new h configured linked connected few pushes takes =
-    let here = slot_is config (turn (Bytes_call slot done) [] ∷ r) slot peer l old h configured linked in
-    let on : onto octets (history config slot (turn (Bytes_call slot done) [] ∷ r)) ≡ history config slot (turn (Bytes_call slot (done ++ octets)) [] ∷ r) =
-    ap (λ x. onto octets x) (bytes_at config slot done r) ∙ sym (onto-append done octets (history config slot r)) ∙ sym (bytes_at config slot (done ++ octets) r) in
-    let H : List happens.Event → Type 0 = λ x. HasHeard (λ y rest. WithRest config peer l (route_at old.adj_in slot) y rest) x (l.peer.rest ++ octets) in
-    let heard = subst H on (slot_pushed config peer l (route_at old.adj_in slot) (history config slot (turn (Bytes_call slot done) [] ∷ r)) octets connected few here) in
-    takes_found config (turn (Bytes_call slot done) [] ∷ r) (turn (Bytes_call slot (done ++ octets)) [] ∷ r) slot peer (with_peer l (pushed l.peer octets)) _ old mid new refl h refl refl
-    (λ t other. bytes_off config slot (done ++ octets) r t other ∙ sym (bytes_off config slot done r t other)) configured (pushes_keep slot l octets old mid linked pushes) pushes.rest pushes.links pushes.routes connected heard takes
+-- the rest of what others see stays
+item_rest : (slot : ℕ) (terms : Terms) (l : Linked) (found : Option Item) (old new : SpeakerState) → TakesItem slot terms l found old new → KeepsRest old new
+item_rest slot terms l None old new takes = takes.3
+item_rest slot terms l (Some item) old new takes = takes.3
 
--- octets come to a connection that is closed or closing
-pub holds_shut : (config : Config) (r : Run) (done : List ℕ) (slot : ℕ) (peer : ConfiguredPeer) (l : Linked) (octets : List ℕ) (old new : SpeakerState)
-    → Holds config (turn (Bytes_call slot done) [] ∷ r) old → peer_at old.conf slot ≡ Some peer → link_at old.links slot ≡ Some l → transport_of l.peer.session ≢ Connected
-    → Pushes slot l [] old new → Holds config (turn (Bytes_call slot (done ++ octets)) [] ∷ r) new
-holds_shut config r done slot peer l octets old new h configured linked shut pushes =
-    let here = slot_is config (turn (Bytes_call slot done) [] ∷ r) slot peer l old h configured linked in
-    let on : onto octets (history config slot (turn (Bytes_call slot done) [] ∷ r)) ≡ history config slot (turn (Bytes_call slot (done ++ octets)) [] ∷ r) =
-    ap (λ x. onto octets x) (bytes_at config slot done r) ∙ sym (onto-append done octets (history config slot r)) ∙ sym (bytes_at config slot (done ++ octets) r) in
-    let H : List happens.Event → Type 0 = λ x. SlotIs config peer l (route_at old.adj_in slot) x in
-    let after = subst H on (slot_shut config peer l (route_at old.adj_in slot) (history config slot (turn (Bytes_call slot done) [] ∷ r)) octets shut here) in
-    let R : List ℕ → Type 0 = λ x. SlotIs config peer (with_peer l (record { session = l.peer.session; rest = x; ring = l.peer.ring })) (route_at old.adj_in slot) (history config slot (turn (Bytes_call slot (done ++ octets)) [] ∷ r)) in
-    let same = subst R (sym (append-nil l.peer.rest)) after in
-    holds_put config (turn (Bytes_call slot done) [] ∷ r) (turn (Bytes_call slot (done ++ octets)) [] ∷ r) slot (with_peer l (pushed l.peer [])) old new h refl refl (pushes_keep slot l [] old new linked pushes) pushes.rest pushes.links
-    (λ t other p. ap (λ table. route_at table t p) pushes.routes)
-    (λ t other. bytes_off config slot (done ++ octets) r t other ∙ sym (bytes_off config slot done r t other))
-    peer configured (same_routes config peer (with_peer l (pushed l.peer [])) (route_at old.adj_in slot) (route_at new.adj_in slot) (history config slot (turn (Bytes_call slot (done ++ octets)) [] ∷ r)) same (λ p. ap (λ table. route_at table slot p) pushes.routes))
-
-pub put_here : (slot : ℕ) (l : Linked) (old new : SpeakerState) → IsPut slot l old new → link_at new.links slot ≡ Some l
-put_here slot l old new put = rw (put slot, eq-eqb slot slot refl) refl
+-- how often a best route was chosen for the item, by how often it may be
+item_count : (slot : ℕ) (terms : Terms) (l : Linked) (found : Option Item) (old new : SpeakerState) (most : ℕ) → TakesItem slot terms l found old new
+    → ((item : Item) (ended : List Prefix) → found ≡ Some item → AreDifferent (λ p. IsSome (word_if (update_heard l.peer.session.state terms item) p (route_at old.adj_in slot p))) ended
+    → ((effects_of (input_of l.peer.session.state terms item) l.peer.session).left ≡ false → ended ≡ []) → named_if (update_heard l.peer.session.state terms item) + length ended ≤ most)
+    → new.chosen ≤ old.chosen + most
+item_count slot terms l None old new most takes few = let same = takes.4 in omega (arith, same)
+item_count slot terms l (Some item) old new most takes few =
+    let all = takes.4 in
+    let count = all.chosen in
+    let allowed = few item all.ended refl all.routed all.none in
+    omega (arith, count, allowed)
 
 -- of some octets the last, and those before it
 last_of : (octet : ℕ) (octets : List ℕ) → (front : List ℕ) × (last : ℕ) × (octet ∷ octets ≡ front ++ last ∷ [])
@@ -184,6 +191,87 @@ front_of (octet ∷ octets) some = last_of octet octets
 same_history : (a b : ℕ) (h k : List happens.Event) → List.◌∷◌ (Octet a) h ≡ Octet b ∷ k → (a ≡ b) × (h ≡ k)
 same_history a b h k is = (cc, cc)
 
+-- as often as it may be for an item, by the history up to the octet that completes it
+item_allowed : (config : Config) (peer : ConfiguredPeer) (l : Linked) (octets : List ℕ) (slot : ℕ) (old mid : SpeakerState) (h before : List happens.Event) (octet : ℕ) (item : Item) (ended : List Prefix)
+    → transport_of l.peer.session ≡ Connected → mid.adj_in ≡ old.adj_in → HeardItem (λ x rest. WithRest config peer l (route_at old.adj_in slot) x rest) h (l.peer.rest ++ octets) item → h ≡ Octet octet ∷ before
+    → AreDifferent (λ p. IsSome (word_if (update_heard l.peer.session.state (terms_in config peer) item) p (route_at mid.adj_in slot p))) ended
+    → ((effects_of (input_of l.peer.session.state (terms_in config peer) item) l.peer.session).left ≡ false → ended ≡ [])
+    → named_if (update_heard l.peer.session.state (terms_in config peer) item) + length ended ≤ choices_by before (Octet octet)
+item_allowed config peer l octets slot old mid h before octet item ended connected routes s split routed none =
+    let terms : terms_of s.before ≡ terms_in config peer = ap terms_from s.holds.terms in
+    let here : item_at s.before s.octet ≡ Some item = item_of_rest s.before (holding s.part l.peer) s.octet (Some item) connected s.whole s.holds.link.peer in
+    let B : Session → Terms → Type 0 = λ x t.
+    AreDifferent (λ p. IsSome (word_if (update_heard x.state t item) p (route s.before p))) ended
+    → ((effects_of (input_of x.state t item) x).left ≡ false → ended ≡ []) → named_if (update_heard x.state t item) + length ended ≤ choices_by s.before (Octet s.octet) in
+    let all : B l.peer.session (terms_in config peer) = subst (λ x. B x (terms_in config peer)) (sym s.holds.link.peer.session) (subst (λ t. B (session s.before) t) terms (λ different stays. item_few s.before s.octet item ended here different stays)) in
+    let few = all (different_as (λ p. IsSome (word_if (update_heard l.peer.session.state (terms_in config peer) item) p (route_at mid.adj_in slot p)))
+    (λ p. IsSome (word_if (update_heard l.peer.session.state (terms_in config peer) item) p (route s.before p))) ended
+    (λ p there. subst (λ o. IsSome (word_if (update_heard l.peer.session.state (terms_in config peer) item) p o)) (ap (λ table. route_at table slot p) routes ∙ s.holds.routes_are p) there) routed) none in
+    let same = same_history octet s.octet before s.before (sym split ∙ s.history_is) in
+    let N : List happens.Event → ℕ → Type 0 = λ x o. named_if (update_heard l.peer.session.state (terms_in config peer) item) + length ended ≤ choices_by x (Octet o) in
+    subst (λ o. N before o) (sym same.0) (subst (λ x. N x s.octet) (sym same.1) few)
+
+-- how often a best route was chosen for octets and the item that they complete
+heard_count : (config : Config) (r : Run) (done : List ℕ) (slot : ℕ) (peer : ConfiguredPeer) (l : Linked) (octets : List ℕ) (old mid new : SpeakerState)
+    → Holds config (turn (Bytes_call slot done) [] ∷ r) old → 0 < length octets → transport_of l.peer.session ≡ Connected → Pushes slot l octets old mid
+    → HasHeard (λ x rest. WithRest config peer l (route_at old.adj_in slot) x rest) (history config slot (turn (Bytes_call slot (done ++ octets)) [] ∷ r)) (l.peer.rest ++ octets)
+    → TakesItem slot (terms_in config peer) (with_peer l (pushed l.peer octets)) (meaning (l.peer.rest ++ octets)) mid new
+    → new.chosen ≤ new.chosen_before + choices_in config (turn (Bytes_call slot (done ++ octets)) [] ∷ r)
+heard_count config r done slot peer l octets old mid new h some connected pushes heard takes =
+    let cut = front_of octets some in
+    let split : onto (done ++ octets) (history config slot r) ≡ Octet cut.1 ∷ onto (done ++ cut.0) (history config slot r) =
+    ap (λ xs. onto xs (history config slot r)) (ap (λ xs. done ++ xs) cut.2 ∙ sym (append_assoc done cut.0 (cut.1 ∷ []))) ∙ onto-append (done ++ cut.0) (cut.1 ∷ []) (history config slot r) in
+    let whole : choices_on (done ++ octets) (history config slot r) ≡ choices_on done (history config slot r) + choices_on cut.0 (onto done (history config slot r)) + choices_by (onto (done ++ cut.0) (history config slot r)) (Octet cut.1) =
+    ap (λ xs. choices_on xs (history config slot r)) (ap (λ xs. done ++ xs) cut.2 ∙ sym (append_assoc done cut.0 (cut.1 ∷ [])))
+    ∙ choices_last (done ++ cut.0) cut.1 (history config slot r) ∙ ap (λ n. n + choices_by (onto (done ++ cut.0) (history config slot r)) (Octet cut.1)) (choices_append done cut.0 (history config slot r)) in
+    let few = item_count slot (terms_in config peer) (with_peer l (pushed l.peer octets)) (meaning (l.peer.rest ++ octets)) mid new (choices_by (onto (done ++ cut.0) (history config slot r)) (Octet cut.1)) takes
+    (λ item ended is routed none. item_allowed config peer l octets slot old mid (history config slot (turn (Bytes_call slot (done ++ octets)) [] ∷ r)) (onto (done ++ cut.0) (history config slot r)) cut.1 item ended connected pushes.routes (heard.1 item is)
+    (bytes_at config slot (done ++ octets) r ∙ split) routed none) in
+    let before : old.chosen ≤ old.chosen_before + (choices_on done (history config slot r) + 0) = h.chosen in
+    let still = pushes.chosen in
+    let still_before = pushes.rest.chosen_before in
+    let kept_before = (item_rest slot (terms_in config peer) (with_peer l (pushed l.peer octets)) (meaning (l.peer.rest ++ octets)) mid new takes).chosen_before in
+    omega (arith, whole, few, before, still, still_before, kept_before)
+
+-- octets come to an open connection, and what they complete is taken
+pub holds_heard : (config : Config) (r : Run) (done : List ℕ) (slot : ℕ) (peer : ConfiguredPeer) (l : Linked) (octets : List ℕ) (old mid new : SpeakerState)
+    → Holds config (turn (Bytes_call slot done) [] ∷ r) old → peer_at old.conf slot ≡ Some peer → link_at old.links slot ≡ Some l → transport_of l.peer.session ≡ Connected
+    → 0 < length octets → length octets ≤ needed_of l.peer.rest → Pushes slot l octets old mid → TakesItem slot (terms_in config peer) (with_peer l (pushed l.peer octets)) (meaning (l.peer.rest ++ octets)) mid new
+    → Holds config (turn (Bytes_call slot (done ++ octets)) [] ∷ r) new
+holds_heard config r done slot peer l octets old mid new h configured linked connected some few pushes takes =
+    let here = slot_is config (turn (Bytes_call slot done) [] ∷ r) slot peer l old h configured linked in
+    let on : onto octets (history config slot (turn (Bytes_call slot done) [] ∷ r)) ≡ history config slot (turn (Bytes_call slot (done ++ octets)) [] ∷ r) =
+    ap (λ x. onto octets x) (bytes_at config slot done r) ∙ sym (onto-append done octets (history config slot r)) ∙ sym (bytes_at config slot (done ++ octets) r) in
+    let H : List happens.Event → Type 0 = λ x. HasHeard (λ y rest. WithRest config peer l (route_at old.adj_in slot) y rest) x (l.peer.rest ++ octets) in
+    let heard = subst H on (slot_pushed config peer l (route_at old.adj_in slot) (history config slot (turn (Bytes_call slot done) [] ∷ r)) octets connected few here) in
+    takes_found config (turn (Bytes_call slot done) [] ∷ r) (turn (Bytes_call slot (done ++ octets)) [] ∷ r) slot peer (with_peer l (pushed l.peer octets)) _ old mid new refl h refl refl
+    (λ t other. bytes_off config slot (done ++ octets) r t other ∙ sym (bytes_off config slot done r t other)) configured (pushes_keep slot l octets old mid linked pushes) pushes.rest pushes.links pushes.routes connected heard takes
+    (heard_count config r done slot peer l octets old mid new h some connected pushes heard takes)
+
+-- octets come to a connection that is closed or closing
+pub holds_shut : (config : Config) (r : Run) (done : List ℕ) (slot : ℕ) (peer : ConfiguredPeer) (l : Linked) (octets : List ℕ) (old new : SpeakerState)
+    → Holds config (turn (Bytes_call slot done) [] ∷ r) old → peer_at old.conf slot ≡ Some peer → link_at old.links slot ≡ Some l → transport_of l.peer.session ≢ Connected
+    → Pushes slot l [] old new → Holds config (turn (Bytes_call slot (done ++ octets)) [] ∷ r) new
+holds_shut config r done slot peer l octets old new h configured linked shut pushes =
+    let here = slot_is config (turn (Bytes_call slot done) [] ∷ r) slot peer l old h configured linked in
+    let on : onto octets (history config slot (turn (Bytes_call slot done) [] ∷ r)) ≡ history config slot (turn (Bytes_call slot (done ++ octets)) [] ∷ r) =
+    ap (λ x. onto octets x) (bytes_at config slot done r) ∙ sym (onto-append done octets (history config slot r)) ∙ sym (bytes_at config slot (done ++ octets) r) in
+    let H : List happens.Event → Type 0 = λ x. SlotIs config peer l (route_at old.adj_in slot) x in
+    let after = subst H on (slot_shut config peer l (route_at old.adj_in slot) (history config slot (turn (Bytes_call slot done) [] ∷ r)) octets shut here) in
+    let R : List ℕ → Type 0 = λ x. SlotIs config peer (with_peer l (record { session = l.peer.session; rest = x; ring = l.peer.ring })) (route_at old.adj_in slot) (history config slot (turn (Bytes_call slot (done ++ octets)) [] ∷ r)) in
+    let same = subst R (sym (append-nil l.peer.rest)) after in
+    let before : old.chosen ≤ old.chosen_before + (choices_on done (history config slot r) + 0) = h.chosen in
+    let still = pushes.chosen in
+    let here_still = pushes.rest.chosen_before in
+    holds_put config (turn (Bytes_call slot done) [] ∷ r) (turn (Bytes_call slot (done ++ octets)) [] ∷ r) slot (with_peer l (pushed l.peer [])) old new h refl refl (pushes_keep slot l [] old new linked pushes) pushes.rest pushes.links
+    (λ t other p. ap (λ table. route_at table t p) pushes.routes)
+    (λ t other. bytes_off config slot (done ++ octets) r t other ∙ sym (bytes_off config slot done r t other))
+    (omega (arith, before, here_still, still, choices_append done octets (history config slot r)))
+    peer configured (same_routes config peer (with_peer l (pushed l.peer [])) (route_at old.adj_in slot) (route_at new.adj_in slot) (history config slot (turn (Bytes_call slot (done ++ octets)) [] ∷ r)) same (λ p. ap (λ table. route_at table slot p) pushes.routes))
+
+pub put_here : (slot : ℕ) (l : Linked) (old new : SpeakerState) → IsPut slot l old new → link_at new.links slot ≡ Some l
+put_here slot l old new put = rw (put slot, eq-eqb slot slot refl) refl
+
 -- the slot whose UPDATE memory is refused to, with the octets behind it
 slot_starved : (config : Config) (peer : ConfiguredPeer) (l : Linked) (old new : Prefix → Option PathAttributes) (h : List happens.Event) (part behind : List ℕ)
     → SlotIs config peer (with_peer l (holding part l.peer)) old h
@@ -195,10 +283,11 @@ slot_starved config peer l old new h part behind here change =
 -- octets come to an open connection, and memory is refused to the UPDATE that the last of them completes
 pub starves_heard : (config : Config) (r : Run) (done : List ℕ) (slot : ℕ) (peer : ConfiguredPeer) (l : Linked) (octets behind : List ℕ) (old mid new : SpeakerState)
     → Holds config (turn (Bytes_call slot done) [] ∷ r) old → peer_at old.conf slot ≡ Some peer → link_at old.links slot ≡ Some l → transport_of l.peer.session ≡ Connected
-    → 0 < length octets → length octets ≤ needed_of l.peer.rest → Pushes slot l octets old mid → TakesMemoryAt (kind_of (terms_in config peer)) (with_peer l (pushed l.peer octets)) → Moves slot (with_peer l (pushed l.peer octets)) NoMemory mid new
+    → 0 < length octets → length octets ≤ needed_of l.peer.rest → Pushes slot l octets old mid → (takes : TakesMemoryAt (kind_of (terms_in config peer)) (with_peer l (pushed l.peer octets))) → Moves slot (with_peer l (pushed l.peer octets)) NoMemory mid new
+    → ChoosesRefused slot (update_in takes.body) mid new
     → (before : List ℕ) × (octet : ℕ) × (after : List ℕ) × (done ++ (octets ++ behind) ≡ before ++ octet ∷ after)
     × MayStarve (onto before (history config slot r)) octet × Holds config (turn (Starved_call slot before octet after) [] ∷ r) new
-starves_heard config r done slot peer l octets behind old mid new h configured linked connected some few pushes takes moves =
+starves_heard config r done slot peer l octets behind old mid new h configured linked connected some few pushes takes moves chooses =
     let was : Run = turn (Bytes_call slot done) [] ∷ r in
     let first : SlotIs config peer l (route_at old.adj_in slot) (history config slot was) = slot_is config was slot peer l old h configured linked in
     let heard = (slot_pushed config peer l (route_at old.adj_in slot) (history config slot was) octets connected few first).1 (WholeMessage Update takes.body) takes.is in
@@ -220,7 +309,22 @@ starves_heard config r done slot peer l octets behind old mid new h configured l
       established = ap (λ (x : Session). x.state) (sym heard.holds.link.peer.session) ∙ takes.established;
       completes = item_of_rest heard.before (holding heard.part l.peer) heard.octet (Some (WholeMessage Update takes.body)) connected heard.whole heard.holds.link.peer;
       needs = subst (λ t. NeedsMemory (kind_of t) takes.body) (sym (ap terms_from heard.holds.terms)) takes.needs;
-    } in (
+    } in
+    let ended : AreDifferent (λ p. IsSome (route heard.before p) ⊎ (is_among p (update_in takes.body).announced ≡ true)) chooses.ended =
+    different_as (λ p. IsSome (route_at mid.adj_in slot p) ⊎ (is_among p (update_in takes.body).announced ≡ true)) (λ p. IsSome (route heard.before p) ⊎ (is_among p (update_in takes.body).announced ≡ true)) chooses.ended
+    (λ p which. elim which [
+      | inl there ↦ inl (subst (λ o. IsSome o) (ap (λ table. route_at table slot p) pushes.routes ∙ heard.holds.routes_are p) there)
+      | inr named ↦ inr named
+    ]) chooses.routed in
+    let N : List happens.Event → ℕ → Type 0 = λ x octet. named_in (update_in takes.body) + length chooses.ended ≤ choices_refused (option_and_then update_at (item_at x octet)) x in
+    let allowed : N heard.before heard.octet =
+    subst (λ found. named_in (update_in takes.body) + length chooses.ended ≤ choices_refused (option_and_then update_at found) heard.before) (sym may.completes) (most_refused heard.before (update_in takes.body) chooses.ended ended) in
+    let there : N (onto (done ++ cut.0) (history config slot r)) cut.1 = subst (λ octet. N (onto (done ++ cut.0) (history config slot r)) octet) (sym same.0) (subst (λ x. N x heard.octet) (sym same.1) allowed) in
+    let so_far : old.chosen ≤ old.chosen_before + (choices_on done (history config slot r) + 0) = h.chosen in
+    let most = chooses.chosen in
+    let still = pushes.chosen in
+    let still_before = pushes.rest.chosen_before in
+    let kept_before = moves.rest.chosen_before in (
       done ++ cut.0,
       cut.1,
       behind,
@@ -233,6 +337,7 @@ starves_heard config r done slot peer l octets behind old mid new h configured l
           ∙ cond_again (s == slot) (Some (moved (with_peer l (pushed l.peer octets)) NoMemory)) (Some (with_peer l (pushed l.peer octets))) (link_at old.links s))
           (λ t other p. moves.routes t p ∙ rw (ne_eqb t slot other) (left_off (effects_of NoMemory l.peer.session).left (route_at mid.adj_in t p)) ∙ ap (λ table. route_at table t p) pushes.routes)
           (λ t other. rw (ne_eqb t slot other) refl)
+          (omega (arith, so_far, choices_append done cut.0 (history config slot r), most, there, still, still_before, kept_before))
           peer configured (subst H (sym at) (subst (λ x. H (onto behind (Signalled NoMemory ∷ x))) (sym same.1) after)),
     )
 
@@ -256,14 +361,15 @@ bytes_none : (config : Config) (slot : ℕ) (r : Run) (t : ℕ) (b : Bool) → (
 bytes_none config slot r t true is = refl
 bytes_none config slot r t false is = refl
 
-pub holds_nothing : (config : Config) (r : Run) (slot : ℕ) (s : SpeakerState) → Holds config r s → Holds config (turn (Bytes_call slot []) [] ∷ r) s
-holds_nothing config r slot s h = record {
+pub holds_nothing : (config : Config) (r : Run) (slot : ℕ) (s : SpeakerState) → Holds config r s → s.chosen ≤ s.chosen_before → Holds config (turn (Bytes_call slot []) [] ∷ r) s
+holds_nothing config r slot s h few = record {
   config_is = h.config_is;
   moment = h.moment;
   conf = h.conf;
   peers = h.peers;
   slots = λ t. let P : List happens.Event → Type 0 = λ x. SlotAgrees config (peer_at s.conf t) (link_at s.links t) (route_at s.adj_in t) x in subst P (sym (bytes_none config slot r t _ refl)) (h.slots t);
   kept = h.kept;
+  chosen = omega (arith, few);
 }
 
 -- a moment, which comes to each slot
@@ -277,14 +383,15 @@ slot_ticked config found linked routes h now a = record {
   routes_are = λ p. a.routes_are p ∙ sym (route_stays h p);
 }
 
-pub holds_ticked : (config : Config) (r : Run) (now : ℕ) (s : SpeakerState) → Holds config r s → Holds config (turn (Tick_call now) [] ∷ r) (record s { moment = now })
-holds_ticked config r now s h = record {
+pub holds_ticked : (config : Config) (r : Run) (now : ℕ) (s : SpeakerState) → Holds config r s → s.chosen ≤ s.chosen_before → Holds config (turn (Tick_call now) [] ∷ r) (record s { moment = now })
+holds_ticked config r now s h few = record {
   config_is = h.config_is;
   moment = refl;
   conf = h.conf;
   peers = h.peers;
   slots = λ t. slot_ticked config (peer_at s.conf t) (link_at s.links t) (route_at s.adj_in t) (history config t r) now (h.slots t);
   kept = h.kept;
+  chosen = omega (arith, few);
 }
 
 pub some_taken : (count : ℕ) (octets : List ℕ) → count ≤ length octets → count ≢ 0 → 0 < length (take count octets)
@@ -302,20 +409,23 @@ pub record HasCome (slot : ℕ) (octets rest : List ℕ) (first now : SpeakerSta
   pub done : List ℕ
   pub whole : done ++ rest ≡ octets
   pub heard : Hears slot done first now
+  pub counted : now.chosen_before ≡ first.chosen_before
 
 pub HasCome-start : (slot : ℕ) (octets : List ℕ) (first : SpeakerState) → HasCome slot octets octets first first
 HasCome-start slot octets first = record {
   done = [];
   whole = refl;
   heard = λ config r done peer configured holds. subst (λ x. Holds config (turn (Bytes_call slot x) [] ∷ r) first) (sym (append-nil done)) holds;
+  counted = refl;
 }
 
-pub HasCome-more : (slot : ℕ) (octets rest taken next : List ℕ) (first now new : SpeakerState) → HasCome slot octets rest first now → taken ++ next ≡ rest → Hears slot taken now new
+pub HasCome-more : (slot : ℕ) (octets rest taken next : List ℕ) (first now new : SpeakerState) → HasCome slot octets rest first now → taken ++ next ≡ rest → Hears slot taken now new → new.chosen_before ≡ now.chosen_before
     → HasCome slot octets next first new
-HasCome-more slot octets rest taken next first now new h split more = record {
+HasCome-more slot octets rest taken next first now new h split more same = record {
   done = h.done ++ taken;
   whole = append_assoc h.done taken next ∙ ap (λ x. h.done ++ x) split ∙ h.whole;
   heard = Hears-more slot h.done taken first now new h.heard more;
+  counted = same ∙ h.counted;
 }
 
 -- all octets have come, or the rest is dropped
@@ -353,9 +463,9 @@ pub record IsReady (config : Config) (r : Run) (wanted : Call) (starved : ℕ) (
 
 -- octets to one of which memory was refused
 pub ready_starved : (config : Config) (r : Run) (slot starved : ℕ) (octets : List ℕ) (peer : ConfiguredPeer) (old new : SpeakerState) → starved ≡ 2 ^ slot → HearsUntil slot octets old new
-    → peer_at old.conf slot ≡ Some peer → Holds config r old → IsReady config r (Bytes_call slot octets) starved new
-ready_starved config r slot starved octets peer old new is until configured holds =
-    let found = until config r [] peer configured (holds_nothing config r slot old holds) in
+    → peer_at old.conf slot ≡ Some peer → Holds config r old → old.chosen ≤ old.chosen_before → IsReady config r (Bytes_call slot octets) starved new
+ready_starved config r slot starved octets peer old new is until configured holds few =
+    let found = until config r [] peer configured (holds_nothing config r slot old holds few) in
     record {
       call = Starved_call slot found.0 found.1 found.2;
       asked_is = ap (λ x. Bytes_call slot x) (sym found.3);
@@ -363,3 +473,12 @@ ready_starved config r slot starved octets peer old new is until configured hold
       fair = found.4;
       holds = found.5;
     }
+
+-- a step with what it did at its end
+pub steps : (config : Config) (r : Run) (wanted : Call) (starved : ℕ) (mid new : SpeakerState) (more : ℕ) (report : Report) → IsReady config r wanted starved mid → IsThrifty config r
+    → ((config : Config) (call : Call) (r : Run) → Holds config (turn call [] ∷ r) mid → IsFair config r call → IsThrifty config r → (queue : Queue) × (starved_in queue ≡ more) × Agrees config (turn call queue ∷ r) new)
+    → report ≡ record { opened = 0; starved = bit_or starved more; cache_opened = false; cache_starved = false }
+    → (now : Turn) × (asked now.call ≡ wanted) × (report ≡ report_of now) × Agrees config (now ∷ r) new
+steps config r wanted starved mid new more report ready thrifty settles is =
+    let end = settles config ready.call r ready.holds ready.fair thrifty in
+    (turn ready.call end.0, ready.asked_is, rw (ready.starved_is, end.1) is, end.2)

@@ -32,5 +32,6 @@ pub mod WaitingRuns
 pub mod Marking
 pub mod Clearing
 pub mod Counting
+pub mod AllowedChoices
 pub mod Owing
 pub mod AddedMarks

@@ -1,4 +1,4 @@
-use Rattle.std.proofs.Common.{◌≡◌, ◌<◌, ◌++◌, IfOk, IfErr, List, [], ◌∷◌, Option, Some, None, Result, Ok, Err, refl, sym, ap, ◌∙◌, subst}
+use Rattle.std.proofs.Common.{◌≡◌, ◌<◌, ◌++◌, IfOk, IfErr, List, [], ◌∷◌, Option, Some, None, Result, Ok, Err, refl, sym, ap, ◌∙◌, subst, arith}
 use Rattle.std.specs.Option.{MatchOption, option_map}
 use Rattle.bgp_conf.specs.declared.refusal.Refusal.{Refusal}
 use Rattle.bgp_conf.specs.declared.refusal.Refusal.TheVariants.{NoMemory}
@@ -39,6 +39,7 @@ agrees_new config own = record {
       routed = λ slot prefix there. absurd (cc);
       below = λ slot session there. absurd (cc);
     };
+    chosen = omega arith;
   };
   loc_rib = record { rising = nothing_rises; best = λ prefix c is. let none = is.made.configured in absurd (cc) };
   settled = λ s peer configured. absurd (cc);
@@ -64,6 +65,7 @@ agrees_same config r old new same a = record {
     peers = rw same.conf a.holds.peers;
     slots = λ t. rw (same.conf, same.links t, same.adj_in) (a.holds.slots t);
     kept = kept_same (tables_of old) (tables_of new) (offer_at old.book) (offer_at new.book) tables (ap (λ b. offer_at b) same.book) a.holds.kept;
+    chosen = rw (same.chosen, same.chosen_before) a.holds.chosen;
   };
   loc_rib = rw same.loc_rib a.loc_rib;
   settled = a.settled;

@@ -1,4 +1,4 @@
-use Rattle.std.proofs.Common.{◌≡◌, ◌≢◌, ◌≤◌, ◌<◌, ◌+◌, ◌==◌, ◌^◌, ℕ, Bool, true, false, List, [], ◌∷◌, Option, Some, None, length, cond, MatchOption, refl, sym, ap, ◌∙◌, subst}
+use Rattle.std.proofs.Common.{◌≡◌, ◌≢◌, ◌≤◌, ◌<◌, ◌+◌, ◌==◌, ◌^◌, ℕ, Bool, true, false, List, [], ◌∷◌, Option, Some, None, length, cond, MatchOption, refl, sym, ap, ◌∙◌, subst, arith}
 use Rattle.std.specs.List.Sorted.{IsStrictlySortedBy}
 use Rattle.std.specs.Map.{keys_of}
 use Rattle.std.specs.Option.{option_map}
@@ -7,6 +7,7 @@ use Rattle.bgp_attr.specs.PathAttributes.{PathAttributes, missing_of}
 use Rattle.bgp_attr.specs.declared.attrs.Origin.{Origin}
 use Rattle.bgp_conf.specs.Configuration.{Configuration, peer_at}
 use Rattle.bgp_conf.specs.declared.conf.ConfiguredPeer.{ConfiguredPeer}
+use Rattle.bgp_fsm.specs.SessionTable.{effects_of}
 use Rattle.bgp_fsm.specs.declared.input.Input.TheVariants.{NoMemory}
 use Rattle.bgp_fsm.specs.declared.session.Session.{Session}
 use Rattle.bgp_fsm.specs.declared.state.State.TheVariants.{Established}
@@ -23,6 +24,7 @@ use Rattle.rib_in.specs.LatestRoutes.{route_at}
 use Rattle.rib_out.specs.Held.{held_at}
 use Rattle.speaker.specs.AdjRibIn.{route}
 use Rattle.speaker.specs.Agreement.{SlotAgrees, tables_after, IsFair, IsNews, IsOwedIn, IsShortIn, IsThrifty, Holds, Passes, QueuesAll, QueuesOn, QueuesStarved, Agrees}
+use Rattle.speaker.specs.Choices.{Chooses, choices_in}
 use Rattle.speaker.specs.Export.{IsAccepted, IsExport, export_to, export_peer_of}
 use Rattle.speaker.specs.Held.{held, told_in}
 use Rattle.speaker.specs.Linked.{Linked}
@@ -129,6 +131,14 @@ is_owed config r s slot p export peer l holds loc_rib configured here place expo
       each = λ q names. subst P (named_is p export q place short names) this;
     }
 
+-- for an UPDATE that is queued no best route is chosen
+told_few : (config : Config) (call : Call) (r : Run) (queue : Queue) (slot : ℕ) (u : List ℕ) (now new : SpeakerState) → new ≡ record now { links = new.links } → now.chosen ≤ now.chosen_before + choices_in config (turn call queue ∷ r)
+    → new.chosen ≤ new.chosen_before + choices_in config (turn call ((slot, Tells u) ∷ queue) ∷ r)
+told_few config call r queue slot u now new rest few =
+    let same = ap (λ (s : SpeakerState). s.chosen) rest in
+    let same_before = ap (λ (s : SpeakerState). s.chosen_before) rest in
+    omega (arith, same, same_before, few)
+
 -- a peer is told what it is owed
 pub queues_told : (slot : ℕ) (p : Prefix) (export : Option (List ℕ)) (now new : SpeakerState) → (told : IsToldAt slot p export now new) → told.before.peer.session.state ≡ Established
     → HasRoom told.before → export_to now slot p ≡ export → Accepts now slot p export → held_at told.before.adj_out p ≢ export → QueuesOn now new
@@ -148,8 +158,9 @@ queues_told slot p export now new told up room exported accepts news config call
         holds =
             holds_put config (turn call queue ∷ r) (turn call ((slot, Tells (update_saying p export)) ∷ queue) ∷ r) slot told.after now new passes.holds refl refl
             (λ kept. subst (λ b. AreKept (tables_of new) (offer_at b)) (sym book) (kept_told slot p export now new (offer_at now.book) told kept))
-            (record { config = ap (λ (s : SpeakerState). s.config) told.rest; moment = ap (λ (s : SpeakerState). s.moment) told.rest; conf = ap (λ (s : SpeakerState). s.conf) told.rest })
+            (record { config = ap (λ (s : SpeakerState). s.config) told.rest; moment = ap (λ (s : SpeakerState). s.moment) told.rest; conf = ap (λ (s : SpeakerState). s.conf) told.rest; chosen_before = ap (λ (s : SpeakerState). s.chosen_before) told.rest })
             told.puts (λ t other q. ap (λ table. route_at table t q) routes) (λ t other. off_slot config t slot call (Tells (update_saying p export)) queue r other)
+            (told_few config call r queue slot (update_saying p export) now new told.rest passes.holds.chosen)
             peer.0 peer.1 (rw (routes, at_slot config slot call (Tells (update_saying p export)) queue r) after);
         loc_rib = subst T (sym (tables_queued config call r queue slot (update_saying p export))) (rw loc_rib passes.loc_rib);
         owed = (is_owed config (turn call queue ∷ r) now slot p export peer.0 told.before passes.holds passes.loc_rib peer.1 before told.told.place exported short accepts news, passes.owed);
@@ -170,6 +181,7 @@ queues_still now new still config call r queue passes =
           peers = passes.holds.peers;
           slots = λ t. subst (λ l. SlotAgrees config (peer_at now.conf t) l (route_at now.adj_in t) (history config t (turn call queue ∷ r))) (sym (still.links t)) (passes.holds.slots t);
           kept = kept_still_links now new (offer_at now.book) still passes.holds.kept;
+          chosen = passes.holds.chosen;
         };
         loc_rib = passes.loc_rib;
         owed = passes.owed;
@@ -248,11 +260,11 @@ is_short config r s slot holds loc_rib short =
     }
 
 -- memory is refused to it: its session is closed, and Loc-RIB has the best of the candidates that are kept then
-pub queues_starved : (slot : ℕ) (old new : SpeakerState) → (short : IsShortAt old slot) → Moves slot short.linked NoMemory old new
+pub queues_starved : (slot : ℕ) (old new : SpeakerState) → (short : IsShortAt old slot) → Moves slot short.linked NoMemory old new → Chooses slot (effects_of NoMemory short.linked.peer.session).left old new
     → ((p : Prefix) → IsBestOf (λ s. offer_at new.book s p) (best_at new.loc_rib p)) → IsStrictlySortedBy prefix_cmp (keys_of new.loc_rib) → QueuesStarved slot old new
-queues_starved slot old new short moves best rising config call r queue passes =
+queues_starved slot old new short moves chooses best rising config call r queue passes =
     let holds : Holds config (turn call ((slot, Starves) ∷ queue) ∷ r) new =
-    holds_signalled config (turn call queue ∷ r) (turn call ((slot, Starves) ∷ queue) ∷ r) slot short.linked NoMemory old new passes.holds short.is refl (λ e. cc) moves refl refl (λ t. refl) in
+    holds_signalled config (turn call queue ∷ r) (turn call ((slot, Starves) ∷ queue) ∷ r) slot short.linked NoMemory old new passes.holds short.is refl (λ e. cc) moves refl refl (λ t. refl) chooses (choices_in config (turn call queue ∷ r)) passes.holds.chosen (omega arith) in
     let tables = tables_same config (turn call ((slot, Starves) ∷ queue) ∷ r) new.conf (link_at new.links) new.adj_in (sym holds.conf) holds.slots in
     record {
       holds = holds;

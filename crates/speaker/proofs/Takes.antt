@@ -1,4 +1,4 @@
-use Rattle.std.proofs.Common.{◌≡◌, ◌<◌, ◌==◌, inl, inr, ℕ, List, [], ◌∷◌, ◌++◌, Option, Some, None, length, take, drop, min, cond, refl, sym, ap, ◌∙◌, subst, arith}
+use Rattle.std.proofs.Common.{◌≡◌, ◌≤◌, ◌<◌, ◌==◌, inl, inr, ℕ, List, [], ◌∷◌, ◌++◌, Option, Some, None, length, take, drop, min, cond, refl, sym, ap, ◌∙◌, subst, arith}
 use Rattle.std.specs.Option.{option_map}
 use Rattle.std.proofs.lemmas.Bool.{cases_eq, eq-eqb, ne_eqb}
 use Rattle.std.proofs.lemmas.List.{length-take}
@@ -20,7 +20,7 @@ use Rattle.speaker.specs.Tables.{link_at}
 use Rattle.speaker.specs.declared.config.Config.{Config}
 use Rattle.speaker.proofs.Calls.{tables_same}
 use Rattle.speaker.proofs.Commands.{peer_of}
-use Rattle.speaker.proofs.Events.{holds_put, slot_is}
+use Rattle.speaker.proofs.Events.{begun, holds_begun, holds_put, slot_is}
 use Rattle.speaker.proofs.KeptOffers.{hands_keep}
 use Rattle.speaker.proofs.Passing.{passes_first, agrees_served}
 use Rattle.speaker.proofs.SlotEvents.{with_peer}
@@ -28,15 +28,18 @@ use Rattle.speaker.proofs.SlotOctets.{slot_handed}
 
 -- Octets that are handed out.
 
-holds_handed : (config : Config) (r : Run) (slot : ℕ) (l : Linked) (count : ℕ) (old new : SpeakerState) → Holds config r old → link_at old.links slot ≡ Some l → Hands slot l count old new
+holds_handed : (config : Config) (r : Run) (slot : ℕ) (l : Linked) (count : ℕ) (old new : SpeakerState) → Holds config r old → link_at old.links slot ≡ Some l → Hands slot l count old new → old.chosen ≤ old.chosen_before
     → Holds config (turn (Take_call slot (take count l.peer.ring)) [] ∷ r) new
-holds_handed config r slot l count old new h linked hands =
+holds_handed config r slot l count old new h linked hands so_far =
     let peer = peer_of config r slot l old h linked in
     let here = slot_handed config peer.0 l (route_at old.adj_in slot) (history config slot r) count (slot_is config r slot peer.0 l old h peer.1 linked) in
     let on : history config slot (turn (Take_call slot (take count l.peer.ring)) [] ∷ r) ≡ Handed (take count l.peer.ring) ∷ history config slot r = rw (eq-eqb slot slot refl) refl in
     let H : List happens.Event → Type 0 = λ x. SlotIs config peer.0 (with_peer l (handed l.peer count)) (route_at new.adj_in slot) x in
+    let same = hands.chosen in
+    let same_before = hands.rest.chosen_before in
     holds_put config r (turn (Take_call slot (take count l.peer.ring)) [] ∷ r) slot (with_peer l (handed l.peer count)) old new h refl refl (hands_keep slot l count old new linked hands) hands.rest hands.links
     (λ t other p. ap (λ table. route_at table t p) hands.routes) (λ t other. rw (ne_eqb t slot other) refl)
+    (omega (arith, so_far, same, same_before))
     peer.0 peer.1 (subst H (sym on) (rw hands.routes here))
 
 handed_session : (slot t : ℕ) (l : Linked) (count : ℕ) (f : ℕ → Option Linked) → f slot ≡ Some l
@@ -61,20 +64,34 @@ first_octets count ring buf new is octets =
     ap (λ x. take count x) octets ∙ ap (λ n. take n (take count ring ++ drop count buf)) (sym whole) ∙ take-append_seam (take count ring) (drop count buf)
 
 -- a take that has handed octets out and queued nothing yet
-passes_handed : (config : Config) (r : Run) (slot : ℕ) (l : Linked) (count : ℕ) (old mid : SpeakerState) → Agrees config r old → link_at old.links slot ≡ Some l → Hands slot l count old mid
+passes_handed : (config : Config) (r : Run) (slot : ℕ) (l : Linked) (count : ℕ) (old mid : SpeakerState) → Agrees config r old → link_at old.links slot ≡ Some l → Hands slot l count old mid → old.chosen ≤ old.chosen_before
     → Passes config (Take_call slot (take count l.peer.ring)) r [] mid
-passes_handed config r slot l count old mid a linked hands =
+passes_handed config r slot l count old mid a linked hands so_far =
     let before : IsLocRib (tables_after config r) mid.loc_rib = rw hands.loc_rib a.loc_rib in
     let tables = tables_same config r old.conf (link_at old.links) old.adj_in (sym a.holds.conf) a.holds.slots ∙ tables_handed slot l count old mid linked hands in
-    passes_first config (Take_call slot (take count l.peer.ring)) r mid (holds_handed config r slot l count old mid a.holds linked hands) (subst (λ t. IsLocRib t mid.loc_rib) tables before)
+    passes_first config (Take_call slot (take count l.peer.ring)) r mid (holds_handed config r slot l count old mid a.holds linked hands so_far) (subst (λ t. IsLocRib t mid.loc_rib) tables before)
+
+-- the count of the take begins
+agrees_begun : (config : Config) (r : Run) (s : SpeakerState) → Agrees config r s → Agrees config r (begun s)
+agrees_begun config r s a = record { holds = holds_begun config r s a.holds; loc_rib = a.loc_rib; settled = a.settled; thrifty = a.thrifty }
+
+hands_begun : (slot : ℕ) (l : Linked) (count : ℕ) (old mid : SpeakerState) → Hands slot l count old mid → Hands slot l count (begun old) (begun mid)
+hands_begun slot l count old mid hands = record {
+  links = hands.links;
+  routes = hands.routes;
+  book = hands.book;
+  loc_rib = hands.loc_rib;
+  chosen = hands.chosen;
+  rest = record { config = hands.rest.config; moment = hands.rest.moment; conf = hands.rest.conf; chosen_before = hands.chosen };
+}
 
 -- a take with what it did at its end
 pub taken_agrees : (config : Config) (r : Run) (slot : ℕ) (l : Linked) (count starved : ℕ) (buf filled : List ℕ) (old mid new : SpeakerState) → Agrees config r old → link_at old.links slot ≡ Some l
     → count ≡ min (length buf) (length l.peer.ring) → filled ≡ take count l.peer.ring ++ drop count buf → Hands slot l count old mid
-    → QueuesAll starved mid new → ((s : ℕ) → s < 64 → IsServedAt new s)
+    → QueuesAll starved (begun mid) new → ((s : ℕ) → s < 64 → IsServedAt new s)
     → (queue : Queue) × (starved_in queue ≡ starved) × Agrees config (turn (Take_call slot (take count filled)) queue ∷ r) new
 taken_agrees config r slot l count starved buf filled old mid new a linked is octets hands queues served =
-    let queued = queues config (Take_call slot (take count l.peer.ring)) r (passes_handed config r slot l count old mid a linked hands) in
+    let queued = queues config (Take_call slot (take count l.peer.ring)) r (passes_handed config r slot l count (begun old) (begun mid) (agrees_begun config r old a) linked (hands_begun slot l count old mid hands) (omega arith)) in
     rw (first_octets count l.peer.ring buf filled is octets)
     (queued.0, queued.2, agrees_served config (Take_call slot (take count l.peer.ring)) r queued.0 new queued.1 tt a.thrifty served)
 

@@ -23,6 +23,7 @@ use Rattle.net_prefix.specs.declared.transport.Transport.TheVariants.{Open as Co
 use Rattle.rib_in.specs.LatestRoutes.{route_at}
 use Rattle.rib_out.specs.Held.{held_at}
 use Rattle.speaker.specs.AdjRibIn.{NeedsMemory, route}
+use Rattle.speaker.specs.Choices.{choices_in}
 use Rattle.speaker.specs.Export.{IsExport, export_peer_of}
 use Rattle.speaker.specs.Held.{held, told_from, told_in}
 use Rattle.speaker.specs.Linked.{Linked}
@@ -153,6 +154,8 @@ pub record Holds (config : Config) (r : Run) (s : SpeakerState) : Type 0 where
   pub slots : (slot : ℕ) → SlotAgrees config (peer_at s.conf slot) (link_at s.links slot) (route_at s.adj_in slot) (history config slot r)
   -- the candidates that are kept are those of all routes
   pub kept : AreKept (tables_of s) (offer_at s.book)
+  -- a best route was chosen in the last call at most as often as what it did allows
+  pub chosen : s.chosen ≤ s.chosen_before + choices_in config r
 
 -- these octets come on a configured slot, behind those of the same call that came before: all is as the run with them
 -- leaves it, where it was before

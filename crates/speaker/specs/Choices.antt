@@ -1,11 +1,23 @@
--- How often a best route is chosen, by what comes and goes (own, for RFC 4271 section 9.1).
-use Rattle.std.specs.Prelude.{◌≡◌, ◌≤◌, ◌+◌, ◌⊎◌, ℕ, List, [], ◌∷◌, length, Option, Some, None, true, false}
-use Rattle.std.specs.Option.{IsSome}
-use Rattle.bgp_msg.specs.UpdateMeaning.{UpdateBody}
+-- How often a best route may be chosen, by what comes and goes (own, for RFC 4271 section 9.1).
+use Rattle.std.specs.Prelude.{◌≡◌, ◌≤◌, ◌+◌, ◌⊎◌, ◌&&◌, ◌||◌, ℕ, zero, suc, Bool, not, List, [], ◌∷◌, ◌++◌, length, Option, Some, None, is_some, true, false, if◌then◌else◌}
+use Rattle.std.specs.Option.{IsSome, option_and_then}
+use Rattle.bgp_conf.specs.declared.command.Command.{Command}
+use Rattle.bgp_conf.specs.declared.command.Command.TheVariants.{AddPeer, Enable, Reach}
+use Rattle.bgp_fsm.specs.StateTests.{is_established}
+use Rattle.bgp_fsm.specs.declared.input.Input.TheVariants.{Start, Up, Fail, NoMemory}
+use Rattle.bgp_msg.specs.MessageStream.{Item, WholeMessage, FaultyHeader}
+use Rattle.bgp_msg.specs.UpdateMeaning.{UpdateBody, update_in}
+use Rattle.bgp_msg.specs.declared.frame.MessageType.TheVariants.{Open, Update, Notification, Keepalive}
+use Rattle.bgp_peer.specs.SessionInputs as slot
+use Rattle.bgp_peer.specs.SessionInputs.{Octet, Signalled, item_at, onto, session}
 use Rattle.net_prefix.specs.declared.prefix.Prefix.{Prefix}
 use Rattle.rib_in.specs.LatestRoutes.{RouteTable, route_at}
-use Rattle.speaker.specs.AdjRibIn.{is_among}
+use Rattle.speaker.specs.AdjRibIn.{brought, is_among, route, word_if}
+use Rattle.speaker.specs.Queueing.{Queue, Service, Tells, Starves}
 use Rattle.speaker.specs.RoutingState.{RoutingState}
+use Rattle.speaker.specs.Runs.{Call, Run, turn, Up_call, Fail_call, Bytes_call, Starved_call, Tick_call, Command_call, Take_call, history}
+use Rattle.speaker.specs.SpeakerState.{SpeakerState}
+use Rattle.speaker.specs.declared.config.Config.{Config}
 
 -- how many prefixes an UPDATE names, each as often as it does
 abbrev pub named_in : UpdateBody → ℕ
@@ -15,6 +27,93 @@ named_in update = length update.withdrawn + length update.announced
 abbrev pub named_if : Option UpdateBody → ℕ
 named_if None = 0
 named_if (Some update) = named_in update
+
+-- of how many of these prefixes this is so, each counted once
+abbrev pub how_many : (Prefix → Bool) → List Prefix → ℕ
+how_many holds [] = 0
+how_many holds (p ∷ prefixes) = if holds p && not (is_among p prefixes) then suc (how_many holds prefixes) else how_many holds prefixes
+
+-- what an UPDATE announces, where there is one
+abbrev pub announced_if : Option UpdateBody → List Prefix
+announced_if None = []
+announced_if (Some update) = update.announced
+
+-- the prefixes that the slot's peer has announced, each as often as it did
+abbrev pub announced_in : List slot.Event → List Prefix
+announced_in [] = []
+announced_in (e ∷ h) = announced_if (brought h e) ++ announced_in h
+
+-- to how many prefixes the slot has a route
+abbrev pub routes_held : List slot.Event → ℕ
+routes_held h = how_many (λ p. is_some (route h p)) (announced_in h)
+
+-- for what happens to a slot: once for each prefix that its UPDATE names, and, where the session isn't Established behind
+-- it, once for each prefix to which there was a route (there is none where it wasn't Established before)
+abbrev pub choices_by : List slot.Event → slot.Event → ℕ
+choices_by h e = named_if (brought h e) + (if is_established (session (e ∷ h)).state then 0 else routes_held h)
+
+-- for octets, one after another
+abbrev pub choices_on : List ℕ → List slot.Event → ℕ
+choices_on [] h = 0
+choices_on (octet ∷ octets) h = choices_by h (Octet octet) + choices_on octets (Octet octet ∷ h)
+
+-- the UPDATE that an item of the stream is
+abbrev pub update_at : Item → Option UpdateBody
+update_at (FaultyHeader fault) = None
+update_at (WholeMessage Open body) = None
+update_at (WholeMessage Update body) = Some (update_in body)
+update_at (WholeMessage Notification body) = None
+update_at (WholeMessage Keepalive body) = None
+
+-- for an UPDATE to which memory is refused: once for each prefix that it names, and once for each prefix to which there
+-- was a route or that it announces, since it may have been taken in part
+abbrev pub choices_refused : Option UpdateBody → List slot.Event → ℕ
+choices_refused None h = 0
+choices_refused (Some update) h =
+    named_in update + how_many (λ p. is_some (route h p) || is_among p update.announced) (update.announced ++ announced_in h)
+
+-- whether one of the first slots, so many of them, has a route to the prefix
+abbrev pub is_routed : Config → Run → ℕ → Prefix → Bool
+is_routed config r zero p = false
+is_routed config r (suc s) p = is_some (route (history config s r) p) || is_routed config r s p
+
+-- the prefixes that the peers of these slots have announced
+abbrev pub announced_to : Config → Run → ℕ → List Prefix
+announced_to config r zero = []
+announced_to config r (suc s) = announced_in (history config s r) ++ announced_to config r s
+
+-- for a command: a session that it ends, and for an entry of `reach` once for each prefix to which some slot has a route
+abbrev pub choices_commanded : Config → Run → Command → ℕ
+choices_commanded config r (AddPeer s peer) = 0
+choices_commanded config r (Enable s) = choices_by (history config s r) (Signalled Start)
+choices_commanded config r (Reach prefix cost) = how_many (is_routed config r 64) (announced_to config r 64)
+
+-- for a call, up to its end; none for a moment, and none for octets that are handed out
+abbrev pub choices_called : Config → Run → Call → ℕ
+choices_called config r (Up_call s) = choices_by (history config s r) (Signalled Up)
+choices_called config r (Fail_call s) = choices_by (history config s r) (Signalled Fail)
+choices_called config r (Bytes_call s octets) = choices_on octets (history config s r)
+choices_called config r (Starved_call s before octet behind) =
+    choices_on before (history config s r)
+    + choices_refused (option_and_then update_at (item_at (onto before (history config s r)) octet)) (onto before (history config s r))
+choices_called config r (Tick_call now) = 0
+choices_called config r (Command_call command) = choices_commanded config r command
+choices_called config r (Take_call s octets) = 0
+
+-- for what is done for a slot: none for an UPDATE that is queued
+abbrev pub choices_served : List slot.Event → Service → ℕ
+choices_served h (Tells update) = 0
+choices_served h Starves = choices_by h (Signalled NoMemory)
+
+-- for what a call does at its end
+abbrev pub choices_queued : Config → Call → Run → Queue → ℕ
+choices_queued config call r [] = 0
+choices_queued config call r (now ∷ queue) = choices_served (history config now.0 (turn call queue ∷ r)) now.1 + choices_queued config call r queue
+
+-- for the last call of a run, with all that it did
+abbrev pub choices_in : Config → Run → ℕ
+choices_in config [] = 0
+choices_in config (now ∷ r) = choices_called config r now.call + choices_queued config now.call r now.queued
 
 -- prefixes of each of which this holds, none of them twice
 abbrev pub AreDifferent : (Prefix → Type 0) → List Prefix → Type 0
@@ -30,3 +129,21 @@ pub record IsPart (slot : ℕ) (update : UpdateBody) (old new : RoutingState) : 
 -- a slot leaves Established: a best route is chosen once at most for each prefix to which it had a route
 abbrev pub Ends : ℕ → RouteTable → ℕ → ℕ → Type 0
 Ends slot adj_in before after = (ended : List Prefix) × AreDifferent (λ p. IsSome (route_at adj_in slot p)) ended × (after ≤ before + length ended)
+
+-- an input that leaves Established, or doesn't: none is chosen where it doesn't
+pub record Chooses (slot : ℕ) (left : Bool) (old new : SpeakerState) : Type 0 where
+  pub ends : left ≡ true → Ends slot old.adj_in old.chosen new.chosen
+  pub stays : left ≡ false → new.chosen ≡ old.chosen
+
+-- a message that is taken: once for each prefix that its UPDATE names, and for the routes of a session that it ends
+pub record ChoosesHeard (slot : ℕ) (update : Option UpdateBody) (left : Bool) (old new : SpeakerState) : Type 0 where
+  pub ended : List Prefix
+  pub routed : AreDifferent (λ p. IsSome (word_if update p (route_at old.adj_in slot p))) ended
+  pub none : left ≡ false → ended ≡ []
+  pub chosen : new.chosen ≤ old.chosen + named_if update + length ended
+
+-- an UPDATE to which memory is refused: the same, for each route that was there or that it announces
+pub record ChoosesRefused (slot : ℕ) (update : UpdateBody) (old new : SpeakerState) : Type 0 where
+  pub ended : List Prefix
+  pub routed : AreDifferent (λ p. IsSome (route_at old.adj_in slot p) ⊎ (is_among p update.announced ≡ true)) ended
+  pub chosen : new.chosen ≤ old.chosen + named_in update + length ended

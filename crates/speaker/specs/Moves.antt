@@ -1,5 +1,5 @@
 -- What an input of a session makes of its slot and its routes (RFC 4271 sections 3.2 and 8.2.2).
-use Rattle.std.specs.Prelude.{◌≡◌, ◌≢◌, ◌||◌, ◌&&◌, ◌==◌, ℕ, Bool, List, [], min, length, Option, Some, None, if◌then◌else◌}
+use Rattle.std.specs.Prelude.{◌≡◌, ◌≢◌, ◌≤◌, ◌||◌, ◌&&◌, ◌==◌, ℕ, Bool, List, [], min, length, Option, Some, None, if◌then◌else◌}
 use Rattle.bgp_attr.specs.declared.peer.PeerKind.{PeerKind}
 use Rattle.bgp_fsm.specs.SessionTable.{effects_of}
 use Rattle.bgp_fsm.specs.declared.input.Input.{Input}
@@ -18,6 +18,7 @@ use Rattle.net_prefix.specs.declared.transport.Transport.TheVariants.{None as No
 use Rattle.net_prefix.specs.declared.prefix.Prefix.{Prefix}
 use Rattle.speaker.specs.AdjRibIn.{NeedsMemory, word_if, update_heard}
 use Rattle.rib_in.specs.LatestRoutes.{RouteTable, route_at}
+use Rattle.speaker.specs.Choices.{ChoosesHeard}
 use Rattle.speaker.specs.Linked.{Linked}
 use Rattle.speaker.specs.Offers.{AreKept}
 use Rattle.speaker.specs.RoutingState.{RoutingState}
@@ -51,11 +52,12 @@ AreDropped left slot old new =
 abbrev pub KeepsKept : SpeakerState → SpeakerState → Type 0
 KeepsKept old new = AreKept (tables_of old) (offer_at old.book) → AreKept (tables_of new) (offer_at new.book)
 
--- the settings, the moment and the configuration stay
+-- the settings, the moment, the configuration and the count of the calls before stay
 pub record KeepsRest (old new : SpeakerState) : Type 0 where
   pub config : new.config ≡ old.config
   pub moment : new.moment ≡ old.moment
   pub conf : new.conf ≡ old.conf
+  pub chosen_before : new.chosen_before ≡ old.chosen_before
 
 -- the input makes this of the slot and its routes, and of nothing else
 pub record Moves (slot : ℕ) (l : Linked) (input : Input) (old new : SpeakerState) : Type 0 where
@@ -103,12 +105,14 @@ pub record Pushes (slot : ℕ) (l : Linked) (octets : List ℕ) (old new : Speak
   pub links : IsPut slot (record { peer = pushed l.peer octets; adj_out = l.adj_out }) old new
   pub routes : new.adj_in ≡ old.adj_in
   pub book : new.book ≡ old.book
+  pub chosen : new.chosen ≡ old.chosen
   pub rest : KeepsRest old new
 
 -- where the rest is this item, it is taken: what it is to the session makes this of the slot, its UPDATE of the routes
 abbrev pub TakesItem : ℕ → Terms → Linked → Option Item → SpeakerState → SpeakerState → Type 0
 TakesItem slot terms l None old new =
     ((s : ℕ) → link_at new.links s ≡ link_at old.links s) × ((s : ℕ) (prefix : Prefix) → route_at new.adj_in s prefix ≡ route_at old.adj_in s prefix) × KeepsKept old new × KeepsRest old new
+    × (new.chosen ≤ old.chosen)
 TakesItem slot terms l (Some item) old new =
     IsPut slot (moved l (input_of l.peer.session.state terms item)) old new
     × ((s : ℕ) (prefix : Prefix) → route_at new.adj_in s prefix
@@ -116,6 +120,7 @@ TakesItem slot terms l (Some item) old new =
     else (if s == slot then word_if (update_heard l.peer.session.state terms item) prefix (route_at old.adj_in s prefix) else route_at old.adj_in s prefix)))
     × KeepsKept old new
     × KeepsRest old new
+    × ChoosesHeard slot (update_heard l.peer.session.state terms item) (effects_of (input_of l.peer.session.state terms item) l.peer.session).left old new
 
 -- so many of the first octets of the slot's ring are handed out
 pub record Hands (slot : ℕ) (l : Linked) (count : ℕ) (old new : SpeakerState) : Type 0 where
@@ -123,4 +128,5 @@ pub record Hands (slot : ℕ) (l : Linked) (count : ℕ) (old new : SpeakerState
   pub routes : new.adj_in ≡ old.adj_in
   pub book : new.book ≡ old.book
   pub loc_rib : new.loc_rib ≡ old.loc_rib
+  pub chosen : new.chosen ≡ old.chosen
   pub rest : KeepsRest old new

@@ -10,7 +10,7 @@ use Rattle.speaker.specs.Linked.{Linked}
 use Rattle.speaker.specs.Tables.{Tables, tables, link_at}
 
 -- what others see of a speaker: its settings, the moment, the configured tables, its slots, Adj-RIB-In, the candidates
--- that are kept, Loc-RIB, and how often a best route was chosen so far
+-- that are kept, Loc-RIB, how often a best route was chosen so far, and how often before the last call that wasn't refused
 pub record SpeakerState : Type 0 where
   pub config : Config
   pub moment : ℕ
@@ -20,6 +20,7 @@ pub record SpeakerState : Type 0 where
   pub book : BookState
   pub loc_rib : List (Prefix × Candidate)
   pub chosen : ℕ
+  pub chosen_before : ℕ
 
 -- what the selection reads
 abbrev pub tables_of : SpeakerState → Tables
@@ -36,6 +37,7 @@ started config = record {
   book = [];
   loc_rib = [];
   chosen = 0;
+  chosen_before = 0;
 }
 
 -- an AS or an identifier of 0, or a cache session, of which there is none yet
@@ -52,3 +54,4 @@ pub record IsAsBefore (old new : SpeakerState) : Type 0 where
   pub book : new.book ≡ old.book
   pub loc_rib : new.loc_rib ≡ old.loc_rib
   pub chosen : new.chosen ≡ old.chosen
+  pub chosen_before : new.chosen_before ≡ old.chosen_before

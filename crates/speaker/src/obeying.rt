@@ -29,15 +29,18 @@ impl<A: Allocator + Clone, B: Book<A>> Speaker<A, B> {
         ensures err { OnErr result (IsAsBefore self.old self.new) }
         ensures memory { OnErr result (TakesMemory self.old.conf command.now) }
         ensures ok { OnOk result ((config : TheConfig) (r : Run) → Holds config r self.old → Holds config (turn (Command_call command.now) [] ∷ r) self.new) }
+        ensures counted { OnOk result (self.new.chosen_before ≡ self.old.chosen) }
     {
         match *command {
             Command::AddPeer(slot, conf) => self.add_peer(command, slot, &conf),
             Command::Enable(slot) => {
+                self.begin_count();
                 let _ = self.input(slot, Input::Start);
                 Ok(())
             }
             Command::Reach(_, _) => {
                 self.conf.apply(command)?;
+                self.chosen_before = self.routing.chosen();
                 choose_again(&self.conf, &self.links, &mut self.routing);
                 Ok(())
             }
@@ -54,6 +57,7 @@ impl<A: Allocator + Clone, B: Book<A>> Speaker<A, B> {
         requires adds { command.now ≡ AddsPeer slot conf.now }
         ensures err { OnErr result (IsAsBefore self.old self.new) }
         ensures ok { OnOk result ((config : TheConfig) (r : Run) → Holds config r self.old → Holds config (turn (Command_call command.now) [] ∷ r) self.new) }
+        ensures counted { OnOk result (self.new.chosen_before ≡ self.old.chosen) }
     {
         let own = Open {
             asn: self.config.asn,
@@ -63,7 +67,10 @@ impl<A: Allocator + Clone, B: Book<A>> Speaker<A, B> {
         let link = Link::new(self.alloc.clone()?, own, conf.mode)?;
         let before = self.links.insert(slot, link)?;
         match self.conf.apply(command) {
-            Ok(()) => Ok(()),
+            Ok(()) => {
+                self.begin_count();
+                Ok(())
+            }
             Err(refused) => {
                 put_back(&mut self.links, slot, before);
                 Err(refused)

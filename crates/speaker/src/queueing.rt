@@ -76,6 +76,7 @@ impl<A: Allocator + Clone, B: Book<A>> Speaker<A, B> {
     pub(crate) fn queue_updates(&mut self) -> u64
         ensures queues { QueuesAll result self.old self.new }
         ensures served { (slot : ℕ) → slot < 64 → IsServedAt self.new slot }
+        ensures counted { self.new.chosen_before ≡ self.old.chosen_before }
     {
         let mut starved = 0;
         while let Some(slot) = self.pass() {
@@ -92,6 +93,7 @@ impl<A: Allocator + Clone, B: Book<A>> Speaker<A, B> {
         ensures queues { QueuesOn self.old self.new }
         ensures served { IfNone result ((slot : ℕ) → slot < 64 → IsServedAt self.new slot) }
         ensures short { IfSome result (λ slot. IsShortAt self.new slot) }
+        ensures counted { self.new.chosen_before ≡ self.old.chosen_before }
     {
         for slot in 0..PEER_SLOTS {
             if self.serve_slot(slot).is_err() {
@@ -106,6 +108,7 @@ impl<A: Allocator + Clone, B: Book<A>> Speaker<A, B> {
         requires { IsShortAt self.old slot }
         ensures queues { QueuesStarved slot self.old self.new }
         ensures stand { (s : ℕ) → is_standing (link_at self.new.links s) ≡ (if s == slot then false else is_standing (link_at self.old.links s)) }
+        ensures counted { self.new.chosen_before ≡ self.old.chosen_before }
     {
         let _ = self.input(slot, Input::NoMemory);
         self.routing.ribs.is_chosen();

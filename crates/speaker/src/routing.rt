@@ -204,6 +204,13 @@ impl<A: Allocator + Clone, B: Book<A>> Routing<A, B> {
         self.waiting.next(slot, owed, after)
     }
 
+    /// How often a best route was chosen so far, up to 2^64 - 1.
+    pub fn chosen(&self) -> u64
+        ensures { result ≡ self.now.chosen }
+    {
+        self.ribs.chosen()
+    }
+
     // What the prefix's new routes and best one make wait for each peer. Without routes, and where nothing waits, it
     // isn't known any more.
     fn refresh(&mut self, conf: &Conf<A>, links: &Links<A>, prefix: Prefix)

@@ -8,7 +8,8 @@ ghost use Rattle.net_prefix.specs.declared.prefix.Prefix.{Prefix as ThePrefix};
 ghost use Rattle.decision.specs.BookContents.{offer_at};
 ghost use Rattle.rib_in.specs.LatestRoutes.{route_at};
 ghost use Rattle.bgp_msg.specs.MessageStream.{meaning};
-ghost use Rattle.speaker.specs.Choices.{Ends};
+ghost use Rattle.bgp_msg.specs.UpdateMeaning.{update_in};
+ghost use Rattle.speaker.specs.Choices.{Chooses, ChoosesRefused, Ends};
 ghost use Rattle.speaker.specs.Marks.{AreMarked, IsFollowed};
 ghost use Rattle.speaker.specs.Moves.{Moves, Pushes, TakesMemoryAt, TakesItem, taken_of};
 ghost use Rattle.bgp_peer.specs.SessionInputs.{kind_of};
@@ -33,6 +34,8 @@ impl<A: Allocator + Clone, B: Book<A>> Speaker<A, B> {
     pub(crate) fn input(&mut self, slot: u8, input: Input) -> Effects
         ensures effects { (l : Linked) → link_at self.old.links slot ≡ Some l → result ≡ effects_of input l.peer.session }
         ensures moves { (l : Linked) → link_at self.old.links slot ≡ Some l → Moves slot l input self.old self.new }
+        ensures chosen { (l : Linked) → link_at self.old.links slot ≡ Some l → Chooses slot (effects_of input l.peer.session).left self.old self.new }
+        ensures counted { self.new.chosen_before ≡ self.old.chosen_before }
     {
         let Some(link) = self.links.get_mut(&slot) else {
             return Effects::NONE;
@@ -48,6 +51,7 @@ impl<A: Allocator + Clone, B: Book<A>> Speaker<A, B> {
         ensures heard { OnOk result (Hears slot octets.now self.old self.new) }
         ensures starved { OnErr result (HearsUntil slot octets.now self.old self.new) }
         ensures within { OnErr result (slot < 64) }
+        ensures counted { self.new.chosen_before ≡ self.old.chosen_before }
     {
         let mut rest = octets;
         while !rest.is_empty() {
@@ -68,6 +72,7 @@ impl<A: Allocator + Clone, B: Book<A>> Speaker<A, B> {
         ensures shut { IfOk result (λ taken. taken ≡ 0 → 0 < length octets.now → Hears slot octets.now self.old self.new) }
         ensures starved { OnErr result (HearsUntil slot octets.now self.old self.new) }
         ensures slot { OnErr result (slot < 64) }
+        ensures counted { self.new.chosen_before ≡ self.old.chosen_before }
     {
         let taken = self.push(slot, octets);
         if taken == 0 {
@@ -82,6 +87,7 @@ impl<A: Allocator + Clone, B: Book<A>> Speaker<A, B> {
         ensures within { result ≤ length octets.now }
         ensures count { (l : Linked) → link_at self.old.links slot ≡ Some l → result ≡ taken_of l.peer octets.now }
         ensures pushes { (l : Linked) → link_at self.old.links slot ≡ Some l → Pushes slot l (take result octets.now) self.old self.new }
+        ensures counted { self.new.chosen_before ≡ self.old.chosen_before }
     {
         let Some(link) = self.links.get_mut(&slot) else {
             return 0;
@@ -95,7 +101,8 @@ impl<A: Allocator + Clone, B: Book<A>> Speaker<A, B> {
         ensures taken { OnOk result ((l : Linked) (peer : ThePeer) → link_at self.old.links slot ≡ Some l → peer_at self.old.conf slot ≡ Some peer
             → TakesItem slot (terms_in self.old.config peer) l (meaning l.peer.rest) self.old self.new) }
         ensures starved { OnErr result ((l : Linked) (peer : ThePeer) → link_at self.old.links slot ≡ Some l → peer_at self.old.conf slot ≡ Some peer
-            → TakesMemoryAt (kind_of (terms_in self.old.config peer)) l × Moves slot l NoMemory self.old self.new) }
+            → (takes : TakesMemoryAt (kind_of (terms_in self.old.config peer)) l) × Moves slot l NoMemory self.old self.new × ChoosesRefused slot (update_in takes.body) self.old self.new) }
+        ensures counted { self.new.chosen_before ≡ self.old.chosen_before }
         ensures within { OnErr result (slot < 64) }
     {
         let Some(peer) = self.conf.peer(slot) else {

@@ -34,6 +34,8 @@ pub struct Speaker<A: Allocator + Clone = Global, B: Book<A> = PlainBook<A>> {
     pub(crate) routing: Routing<A, B>,
     // The moment of the last tick.
     moment: u64,
+    // How often a best route was chosen before the last call that wasn't refused.
+    pub(crate) chosen_before: u64,
 }
 
 impl<A: Allocator + Clone, B: Book<A>> Model for Speaker<A, B> {
@@ -53,6 +55,7 @@ impl<A: Allocator + Clone, B: Book<A>> Model for Speaker<A, B> {
       book = s.routing.book;
       loc_rib = rows_of s.routing.book;
       chosen = s.routing.chosen;
+      chosen_before = s.chosen_before;
     } };
 
     ghost invariant = { λ s. IsSound s.conf (offer_at s.routing.book) × AreMarked s.conf s.links.entries s.routing };
@@ -93,6 +96,7 @@ impl<A: Allocator + Clone, B: Book<A>> Speaker<A, B> {
             links,
             routing,
             moment: 0,
+            chosen_before: 0,
         })
     }
 
@@ -107,6 +111,8 @@ impl<A: Allocator + Clone, B: Book<A>> Speaker<A, B> {
         // end, with each want of memory, and this turn is what it reports.
         ensures agrees { IfOk result (λ report. (config : TheConfig) (r : Run) → Agrees config r self.old
             → (now : Turn) × (asked now.call ≡ call_of event.entry) × (report ≡ report_of now) × Agrees config (now ∷ r) self.new) }
+        // The count of the calls before has all choices up to this one.
+        ensures counted { IfOk result (λ _. self.new.chosen_before ≡ self.old.chosen) }
     {
         self.check(&event)?;
         self.take_event(event)
@@ -118,6 +124,7 @@ impl<A: Allocator + Clone, B: Book<A>> Speaker<A, B> {
         ensures memory { IfErr result (λ why. (why ≡ Refusal.NoMemory) × LacksMemory event.entry self.old self.new) }
         ensures agrees { IfOk result (λ report. (config : TheConfig) (r : Run) → Agrees config r self.old
             → (now : Turn) × (asked now.call ≡ call_of event.entry) × (report ≡ report_of now) × Agrees config (now ∷ r) self.new) }
+        ensures counted { IfOk result (λ _. self.new.chosen_before ≡ self.old.chosen) }
     {
         let mut starved = 0;
         match event {
@@ -127,19 +134,32 @@ impl<A: Allocator + Clone, B: Book<A>> Speaker<A, B> {
                 }
             }
             Event::Up(slot) => {
+                self.begin_count();
                 let _ = self.input(slot, Input::Up);
             }
             Event::Fail(slot) => {
+                self.begin_count();
                 let _ = self.input(slot, Input::Fail);
             }
             Event::Bytes(slot, octets) => {
+                self.begin_count();
                 if self.hear(slot, octets).is_err() {
                     starved = only(slot);
                 }
             }
-            Event::Tick(now) => self.tick(now),
+            Event::Tick(now) => {
+                self.begin_count();
+                self.tick(now);
+            }
         }
         Ok(Report::of_starved(starved | self.settle()))
+    }
+
+    // A call that isn't refused begins: what is chosen from now on is chosen in it.
+    pub(crate) fn begin_count(&mut self)
+        ensures { self.new ≡ record self.old { chosen_before = self.old.chosen } }
+    {
+        self.chosen_before = self.routing.chosen();
     }
 
     // A moment comes. As yet no session has a timer that it could end.
@@ -163,10 +183,13 @@ impl<A: Allocator + Clone, B: Book<A>> Speaker<A, B> {
         ensures agrees { IfOk result (λ taken. (config : TheConfig) (r : Run) → Agrees config r self.old
             → (queue : Queue) × (taken.1 ≡ report_of (turn (Take_call slot (take taken.0 buf.new)) queue))
             × Agrees config (turn (Take_call slot (take taken.0 buf.new)) queue ∷ r) self.new) }
+        // The count of the calls before has all choices up to this one.
+        ensures counted { IfOk result (λ _. self.new.chosen_before ≡ self.old.chosen) }
     {
         let Some(taken) = self.hand_out(slot, buf) else {
             return Err(Refusal::BadSlot);
         };
+        self.begin_count();
         Ok((taken, Report::of_starved(self.queue_updates())))
     }
 
@@ -219,8 +242,9 @@ impl<A: Allocator + Clone, B: Book<A>> Speaker<A, B> {
 
     // The end of each step: the peers are queued what they are owed. Answers the slots to which memory is refused.
     fn settle(&mut self) -> u64
-        ensures { (config : TheConfig) (call : Call) (r : Run) → Holds config (turn call [] ∷ r) self.old → IsFair config r call → IsThrifty config r
+        ensures agrees { (config : TheConfig) (call : Call) (r : Run) → Holds config (turn call [] ∷ r) self.old → IsFair config r call → IsThrifty config r
             → (queue : Queue) × (starved_in queue ≡ result) × Agrees config (turn call queue ∷ r) self.new }
+        ensures counted { self.new.chosen_before ≡ self.old.chosen_before }
     {
         self.routing.ribs.is_chosen();
         self.queue_updates()

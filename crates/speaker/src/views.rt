@@ -1,5 +1,5 @@
 //! The views of a speaker: its sessions and tables, as operators see them.
-ghost use Rattle.std.specs.Prelude.{◌≡◌, ◌≤◌, ◌<◌, ◌+◌, ◌↔◌, [], Contains, length, map, unwrap_or};
+ghost use Rattle.std.specs.Prelude.{◌≡◌, ◌≤◌, ◌<◌, ◌+◌, ◌-◌, ◌↔◌, [], Contains, length, map, unwrap_or};
 ghost use Rattle.std.specs.Option.{option_map};
 ghost use Rattle.std.specs.Iterator.{YieldsFirst, YieldsFirstBy, item_count};
 ghost use Rattle.std.specs.List.Sorted.{IsStrictlySortedBy};
@@ -11,6 +11,7 @@ ghost use Rattle.rib_out.specs.Held.{held_at, is_prefix};
 ghost use Rattle.speaker.specs.AdjRibIn.{route};
 ghost use Rattle.decision.specs.declared.candidate.Candidate.{Candidate as TheCandidate};
 ghost use Rattle.speaker.specs.Agreement.{Agrees, tables_after};
+ghost use Rattle.speaker.specs.Choices.{choices_in};
 ghost use Rattle.speaker.specs.LocRib.{IsBest};
 ghost use Rattle.speaker.specs.Held.{held};
 ghost use Rattle.speaker.specs.Runs.{Run, history};
@@ -178,6 +179,21 @@ impl<A: Allocator + Clone, B: Book<A>> Speaker<A, B> {
         LocRib {
             rows: self.routing.ribs.rows(),
         }
+    }
+
+    /// How often a best route was chosen in the last call that wasn't refused, up to 2^64 - 1.
+    pub fn chosen(&self) -> u64
+        ensures kept { result ≡ self.now.chosen - self.now.chosen_before }
+        // As often at most as what that call did allows.
+        ensures agrees { (config : Config) (r : Run) → Agrees config r self.now → result ≤ choices_in config r }
+    {
+        self.chosen_now()
+    }
+
+    fn chosen_now(&self) -> u64
+        ensures { result ≡ self.now.chosen - self.now.chosen_before }
+    {
+        self.routing.chosen().saturating_sub(self.chosen_before)
     }
 
     /// The payloads in force in rising order. There are none, since there is no cache session yet.

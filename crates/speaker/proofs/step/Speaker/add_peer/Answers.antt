@@ -1,4 +1,4 @@
-use Rattle.std.proofs.Common.{◌≡◌, ◌∙◌, false, refl, ap}
+use Rattle.std.proofs.Common.{◌≡◌, ◌∙◌, false, refl, ap, arith}
 use Rattle.bgp_conf.specs.Configuration.{Configuration}
 use Rattle.bgp_fsm.specs.StateTests.{is_established}
 use Rattle.speaker.specs.Linked.{Linked}
@@ -6,20 +6,9 @@ use Rattle.speaker.proofs.AddedMarks.{marked_added, marked_links}
 use Rattle.speaker.proofs.Commands.{holds_added, put_inserted, put_back, added_same, sound_added}
 use Rattle.speaker.proofs.Marking.{IsNow}
 use Rattle.speaker.proofs.step.Speaker.add_peer.Goals as goal
-use Rattle.speaker.proofs.step.Speaker.add_peer.Goals.{in-Some-1, in-None-1}
 
 pub invariant_of-self-in-Ok : goal.invariant_of-self-in-Ok
 invariant_of-self-in-Ok g c =
-    let accepted = rw (← c.self.view_is) at c.requires.accepted in
-    let may = rw c.requires.adds at accepted in
-    let put : IsNow c.args.slot c.in_ok-link.link c.self.inside.links.entries c.insert.new.self.entries = put_inserted c.args.slot c.in_ok-link.link c.in_ok-link.link _ _ c.in_ok-before.ensures.updates.0 refl in
-    let down : is_established c.in_ok-link.link.peer.session.state ≡ false = ap (λ (l : Linked). is_established l.peer.session.state) c.in_ok-link.ensures in
-    let own : c.apply.new.self.own ≡ c.self.inside.conf.own = ap (λ (x : Configuration). x.own) (rw c.requires.adds at c.in-Ok.ensures.ok) in
-    let added = marked_added c.self.inside.conf c.apply.new.self c.self.inside.links.entries _ c.self.inside.routing c.args.slot c.args.conf.now c.in_ok-link.link c.self.invariant.1 may own (rw c.requires.adds at c.in-Ok.ensures.peers) put down in
-    (sound_added _ _ _ c.args.slot c.args.conf.now c.self.invariant.0 (c.in-Ok.ensures.addresses 0 accepted c.self.invariant.0.addresses) may (rw c.requires.adds at c.in-Ok.ensures.peers), added)
-
-pub invariant_of-self-in-Ok-2 : goal.invariant_of-self-in-Ok-2
-invariant_of-self-in-Ok-2 g c =
     let accepted = rw (← c.self.view_is) at c.requires.accepted in
     let may = rw c.requires.adds at accepted in
     let put : IsNow c.args.slot c.in_ok-link.link c.self.inside.links.entries c.insert.new.self.entries = put_inserted c.args.slot c.in_ok-link.link c.in_ok-link.link _ _ c.in_ok-before.ensures.updates.0 refl in
@@ -43,10 +32,7 @@ returns-in-Ok-clause-ok g c = λ config r holds.
     let peers = rw c.requires.adds at c.in-Ok.ensures.peers in
     let here = rw (← c.self.view_is) at holds in
     let put = put_inserted c.args.slot c.in_ok-link.link _ _ _ c.in_ok-before.ensures.updates.0 (c.in_ok-link.ensures ∙ added_same c.self.inside.config config c.args.conf.now here.config_is) in
-    elim c.match-before.branch [
-      | in-Some-1 w ↦ rw (w.self-is, c.requires.adds) (holds_added config r c.args.slot c.args.conf.now _ _ here may conf peers put refl refl refl refl)
-      | in-None-1 w ↦ rw (w.self-is, c.requires.adds) (holds_added config r c.args.slot c.args.conf.now _ _ here may conf peers put refl refl refl refl)
-    ]
+    rw (c.begin_count.ensures, c.requires.adds) (holds_added config r c.args.slot c.args.conf.now _ _ here may conf peers put refl refl refl refl (omega arith))
 
 pub returns-in-Err-clause-err : goal.returns-in-Err-clause-err
 returns-in-Err-clause-err g c =
@@ -59,4 +45,5 @@ returns-in-Err-clause-err g c =
       book = refl;
       loc_rib = refl;
       chosen = refl;
+      chosen_before = refl;
     })

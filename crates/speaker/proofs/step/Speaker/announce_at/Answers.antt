@@ -19,6 +19,7 @@ invariant_of-self-2 g c =
       book = c.self.inside.routing.book;
       loc_rib = rows_of c.self.inside.routing.book;
       chosen = c.self.inside.routing.chosen;
+      chosen_before = c.self.inside.chosen_before;
     } in
     let put : IsNow c.args.slot c.announce.new.link c.self.inside.links.entries (c.get_mut.follows.lender c.announce.new.link).entries = search rules in (
       subst (λ b. IsSound c.self.inside.conf (offer_at b)) (sym (ap (λ (t : RoutingState). t.book) c.told.ensures.rest)) c.self.invariant.0,

@@ -1,3 +1,4 @@
+use Rattle.std.proofs.Common.{◌∙◌}
 use Rattle.std.proofs.lemmas.List.{take-append-drop}
 use Rattle.speaker.proofs.Events.{HasCome-start, HasCome-more, HasCome-end, HasCome-until, Hears-none, none_left, some_left}
 use Rattle.speaker.proofs.Results.{OnErr-is}
@@ -8,7 +9,7 @@ loop-rest-init g c = HasCome-start _ _ _
 
 pub loop-rest-preserved : goal.loop-rest-preserved
 loop-rest-preserved g c =
-    rw c.split_at.ensures.back (HasCome-more _ _ _ _ _ _ _ _ c.loop-rest.invariant (take-append-drop c.in_ok-taken.taken c.loop-rest.rest.now) (c.in_ok-taken.ensures.heard c.if-taken-eq0.false))
+    rw c.split_at.ensures.back (HasCome-more _ _ _ _ _ _ _ _ c.loop-rest.invariant (take-append-drop c.in_ok-taken.taken c.loop-rest.rest.now) (c.in_ok-taken.ensures.heard c.if-taken-eq0.false) c.in_ok-taken.ensures.counted)
 
 pub returns-then-taken-eq0-clause-heard : goal.returns-then-taken-eq0-clause-heard
 returns-then-taken-eq0-clause-heard g c =
@@ -19,3 +20,12 @@ returns-clause-heard g c = HasCome-end _ _ _ c.args.self.now c.loop-rest.self _ 
 
 pub returns-in_err-taken-clause-starved : goal.returns-in_err-taken-clause-starved
 returns-in_err-taken-clause-starved g c = OnErr-is _ _ (HasCome-until _ _ _ c.args.self.now c.loop-rest.self c.hear_front.new.self c.loop-rest.invariant c.in_err-taken.ensures.starved)
+
+pub returns-then-taken-eq0-clause-counted : goal.returns-then-taken-eq0-clause-counted
+returns-then-taken-eq0-clause-counted g c = c.in_ok-taken.ensures.counted ∙ c.loop-rest.invariant.counted
+
+pub returns-clause-counted : goal.returns-clause-counted
+returns-clause-counted g c = c.loop-rest.invariant.counted
+
+pub returns-in_err-taken-clause-counted : goal.returns-in_err-taken-clause-counted
+returns-in_err-taken-clause-counted g c = c.in_err-taken.ensures.counted ∙ c.loop-rest.invariant.counted

@@ -2,9 +2,11 @@ use Rattle.std.proofs.Common.{◌∙◌, [], ◌∷◌, ◌++◌, take, drop, ap
 use Rattle.std.proofs.lemmas.List.{take-append-drop}
 use Rattle.bgp_conf.specs.Configuration.{peer_at}
 use Rattle.bgp_msg.specs.MessageStream.{meaning}
+use Rattle.bgp_msg.specs.UpdateMeaning.{update_in}
 use Rattle.bgp_peer.specs.Slot.{pushed}
 use Rattle.speaker.specs.Agreement.{HearsUntil}
 use Rattle.bgp_peer.specs.SessionInputs.{kind_of}
+use Rattle.speaker.specs.Choices.{ChoosesRefused}
 use Rattle.speaker.specs.Moves.{TakesItem, TakesMemoryAt}
 use Rattle.speaker.proofs.SlotEvents.{with_peer}
 use Rattle.speaker.specs.Runs.{terms_in, turn, Bytes_call}
@@ -26,6 +28,7 @@ returns-clause-heard g c = λ taken config r done peer configured holds.
     let pushes = c.push-taken.ensures.pushes found.0 found.1 in
     let open_ = taken_open found.0 c.args.octets.now c.push-taken.result (c.push-taken.ensures.count found.0 found.1) c.if-taken-eq0.false in
     let few = taken_wanted found.0 c.args.octets.now c.push-taken.result (c.push-taken.ensures.count found.0 found.1) in
+    let some = some_taken c.push-taken.result c.args.octets.now c.push-taken.ensures.within c.if-taken-eq0.false in
     let octets = take c.push-taken.result c.args.octets.now in
     let l = with_peer found.0 (pushed found.0.peer (take c.push-taken.result c.args.octets.now)) in
     let takes = c.in_ok-take_message.ensures.taken (with_peer found.0 (pushed found.0.peer (take c.push-taken.result c.args.octets.now))) peer
@@ -33,7 +36,7 @@ returns-clause-heard g c = λ taken config r done peer configured holds.
     (ap (λ x. peer_at x c.args.slot) pushes.rest.conf ∙ configured) in
     let T : Config → Type 0 = λ x. TakesItem c.args.slot (terms_in x peer) (with_peer found.0 (pushed found.0.peer (take c.push-taken.result c.args.octets.now))) (meaning (found.0.peer.rest ++ take c.push-taken.result c.args.octets.now)) c.push-taken.new.self c.take_message.new.self in
     let here = subst T (pushes.rest.config ∙ holds.config_is) takes in
-    holds_heard config r done c.args.slot peer found.0 (take c.push-taken.result c.args.octets.now) c.args.self.now c.push-taken.new.self c.take_message.new.self holds configured found.1 open_ few pushes here
+    holds_heard config r done c.args.slot peer found.0 (take c.push-taken.result c.args.octets.now) c.args.self.now c.push-taken.new.self c.take_message.new.self holds configured found.1 open_ some few pushes here
 
 pub returns-in_err-take_message-clause-starved : goal.returns-in_err-take_message-clause-starved
 returns-in_err-take_message-clause-starved g c =
@@ -47,10 +50,10 @@ returns-in_err-take_message-clause-starved g c =
     let starved = c.in_err-take_message.ensures.starved (with_peer found.0 (pushed found.0.peer (take c.push-taken.result c.args.octets.now))) peer
     (put_here c.args.slot (with_peer found.0 (pushed found.0.peer (take c.push-taken.result c.args.octets.now))) c.args.self.now c.push-taken.new.self pushes.links)
     (ap (λ x. peer_at x c.args.slot) pushes.rest.conf ∙ configured) in
-    let K : Config → Type 0 = λ x. TakesMemoryAt (kind_of (terms_in x peer)) (with_peer found.0 (pushed found.0.peer (take c.push-taken.result c.args.octets.now))) in
-    let needs = subst K (pushes.rest.config ∙ holds.config_is) starved.0 in
+    let K : Config → Type 0 = λ x. (takes : TakesMemoryAt (kind_of (terms_in x peer)) (with_peer found.0 (pushed found.0.peer (take c.push-taken.result c.args.octets.now)))) × ChoosesRefused c.args.slot (update_in takes.body) c.push-taken.new.self c.take_message.new.self in
+    let needs = subst K (pushes.rest.config ∙ holds.config_is) (starved.0, starved.2) in
     let until = starves_heard config r done c.args.slot peer found.0 (take c.push-taken.result c.args.octets.now) (drop c.push-taken.result c.args.octets.now) c.args.self.now c.push-taken.new.self c.take_message.new.self
-    holds configured found.1 open_ some few pushes needs starved.1 in
+    holds configured found.1 open_ some few pushes needs.0 starved.1 needs.1 in
     (until.0, until.1, until.2, ap (λ x. done ++ x) (sym (take-append-drop c.push-taken.result c.args.octets.now)) ∙ until.3, until.4, until.5) in
     OnErr-is _ _ all
 

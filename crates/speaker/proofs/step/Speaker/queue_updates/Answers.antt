@@ -1,11 +1,11 @@
-use Rattle.std.proofs.Common.{refl}
+use Rattle.std.proofs.Common.{◌∙◌, refl}
 use Rattle.speaker.specs.Serving.{is_standing}
 use Rattle.speaker.specs.Tables.{link_at}
 use Rattle.speaker.proofs.Standing.{QueuesAll-none, QueuesAll-on, QueuesAll-starved, count_less, count_same, fewer, short_stands}
 use Rattle.speaker.proofs.step.Speaker.queue_updates.Goals as goal
 
 pub loop-slot-init : goal.loop-slot-init
-loop-slot-init g c = QueuesAll-none _
+loop-slot-init g c = (QueuesAll-none _, refl)
 
 pub loop-slot-smaller : goal.loop-slot-smaller
 loop-slot-smaller g c =
@@ -14,7 +14,13 @@ loop-slot-smaller g c =
     fewer _ _ _ same less
 
 pub loop-slot-preserved : goal.loop-slot-preserved
-loop-slot-preserved g c = QueuesAll-starved _ _ _ _ _ _ _ c.only-starved.ensures refl (QueuesAll-on _ _ _ _ c.loop-slot.invariant c.pass.ensures.queues) c.starve.ensures.queues
+loop-slot-preserved g c = (
+  QueuesAll-starved _ _ _ _ _ _ _ c.only-starved.ensures refl (QueuesAll-on _ _ _ _ c.loop-slot.invariant.0 c.pass.ensures.queues) c.starve.ensures.queues,
+  c.starve.ensures.counted ∙ c.pass.ensures.counted ∙ c.loop-slot.invariant.1,
+)
 
 pub returns-clause-queues : goal.returns-clause-queues
-returns-clause-queues g c = QueuesAll-on _ _ _ _ c.loop-slot.invariant c.pass.ensures.queues
+returns-clause-queues g c = QueuesAll-on _ _ _ _ c.loop-slot.invariant.0 c.pass.ensures.queues
+
+pub returns-clause-counted : goal.returns-clause-counted
+returns-clause-counted g c = c.pass.ensures.counted ∙ c.loop-slot.invariant.1

@@ -9,8 +9,8 @@ use Rattle.speaker.specs.declared.step.Speaker.TheInside.{Inside}
 use Rattle.speaker.proofs.Passing.{settled_agrees}
 use Rattle.speaker.proofs.step.Speaker.settle.Goals as goal
 
-pub returns : goal.returns
-returns g c =
+pub returns-clause-agrees : goal.returns-clause-agrees
+returns-clause-agrees g c =
     let best = subst (λ (t : RoutingState). (p : Prefix) → IsBestOf (λ s. offer_at t.book s p) (best_at (rows_of t.book) p)) (ap (λ (x : Inside g.row.A.Denot g.row.B.Denot). x.routing) c.self-inside.view_is) c.is_chosen.ensures.best in
     let rising = subst (λ (t : RoutingState). IsStrictlySortedBy prefix_cmp (keys_of (rows_of t.book))) (ap (λ (x : Inside g.row.A.Denot g.row.B.Denot). x.routing) c.self-inside.view_is) c.is_chosen.ensures.rising in
     settled_agrees c.queue_updates.result c.args.self.now c.queue_updates.new.self (rw (← c.self.view_is) best) (rw (← c.self.view_is) rising) c.queue_updates.ensures.queues c.queue_updates.ensures.served

@@ -14,7 +14,7 @@ pub returns-clause-queues : goal.returns-clause-queues
 returns-clause-queues g c =
     let best = subst (λ (t : RoutingState). (p : Prefix) → IsBestOf (λ s. offer_at t.book s p) (best_at (rows_of t.book) p)) (ap (λ (x : Inside g.row.A.Denot g.row.B.Denot). x.routing) c.self-inside.view_is) c.is_chosen.ensures.best in
     let rising = subst (λ (t : RoutingState). IsStrictlySortedBy prefix_cmp (keys_of (rows_of t.book))) (ap (λ (x : Inside g.row.A.Denot g.row.B.Denot). x.routing) c.self-inside.view_is) c.is_chosen.ensures.rising in
-    queues_starved c.args.slot c.args.self.now c.input.new.self c.requires (c.input.ensures.moves c.requires.linked c.requires.is) (rw (← c.self.view_is) best) (rw (← c.self.view_is) rising)
+    queues_starved c.args.slot c.args.self.now c.input.new.self c.requires (c.input.ensures.moves c.requires.linked c.requires.is) (c.input.ensures.chosen c.requires.linked c.requires.is) (rw (← c.self.view_is) best) (rw (← c.self.view_is) rising)
 
 pub returns-clause-stand : goal.returns-clause-stand
 returns-clause-stand g c = starved_falls c.args.slot c.args.self.now c.input.new.self c.requires (c.input.ensures.moves c.requires.linked c.requires.is)

@@ -1,10 +1,15 @@
 use Rattle.std.proofs.Common.{◌≡◌, ◌∙◌, refl, sym, ap, subst}
 use Rattle.std.specs.Option.{option_map}
+use Rattle.bgp_fsm.specs.SessionTable.{effects_of}
+use Rattle.bgp_fsm.specs.declared.input.Input.TheVariants.{NoMemory}
+use Rattle.bgp_msg.specs.MessageStream.{meaning}
+use Rattle.bgp_msg.specs.UpdateMeaning.{update_in}
 use Rattle.bgp_peer.specs.SessionInputs.{kind_of}
+use Rattle.speaker.specs.Linked.{Linked}
 use Rattle.speaker.specs.Moves.{TakesMemoryAt}
 use Rattle.speaker.specs.Runs.{terms_in}
 use Rattle.speaker.specs.Tables.{session_at}
-use Rattle.speaker.proofs.Messages.{starves, takes, takes_none, some_same}
+use Rattle.speaker.proofs.Messages.{refused_chosen, starves, takes, takes_none, some_same}
 use Rattle.speaker.proofs.step.Speaker.take_message.Goals as goal
 
 pub returns-in-Some-heard-clause-taken : goal.returns-in-Some-heard-clause-taken
@@ -19,11 +24,13 @@ returns-in-Some-heard-clause-taken g c = λ l peer linked configured.
     (takes c.args.slot (terms_in c.self.inside.config c.in-Some.peer) c.in-Some-get.link.now _ c.in-Some-heard.input _ _ _
     (sym c.in-Some-heard.is ∙ c.in-Ok.ensures.input (terms_in c.self.inside.config c.in-Some.peer) (record { expected_is = refl; kind_is = c.between.ensures }))
     (c.in-Ok.ensures.routes (terms_in c.self.inside.config c.in-Some.peer) (record { expected_is = refl; kind_is = c.between.ensures }))
+    (c.in-Ok.ensures.chosen (terms_in c.self.inside.config c.in-Some.peer) (record { expected_is = refl; kind_is = c.between.ensures }))
     kept
-    (record { config = refl; moment = refl; conf = refl })
+    (record { config = refl; moment = refl; conf = refl; chosen_before = refl })
     (λ s. refl)
     (sym c.in-Some-get.ensures.value)
-    (c.input-in-Some-heard.ensures.moves _ (sym c.in-Some-get.ensures.value)))
+    (c.input-in-Some-heard.ensures.moves _ (sym c.in-Some-get.ensures.value))
+    (c.input-in-Some-heard.ensures.chosen _ (sym c.in-Some-get.ensures.value)))
 
 pub returns-in_default-heard-clause-taken : goal.returns-in_default-heard-clause-taken
 returns-in_default-heard-clause-taken g c = λ l peer linked configured.
@@ -37,8 +44,9 @@ returns-in_default-heard-clause-taken g c = λ l peer linked configured.
     (takes_none c.args.slot (terms_in c.self.inside.config c.in-Some.peer) c.in-Some-get.link.now _ _ _
     (sym c.in_default-heard.is ∙ c.in-Ok.ensures.input (terms_in c.self.inside.config c.in-Some.peer) (record { expected_is = refl; kind_is = c.between.ensures }))
     (c.in-Ok.ensures.routes (terms_in c.self.inside.config c.in-Some.peer) (record { expected_is = refl; kind_is = c.between.ensures }))
+    (c.in-Ok.ensures.chosen (terms_in c.self.inside.config c.in-Some.peer) (record { expected_is = refl; kind_is = c.between.ensures }))
     kept
-    (record { config = refl; moment = refl; conf = refl })
+    (record { config = refl; moment = refl; conf = refl; chosen_before = refl })
     (λ s. refl))
 
 pub returns-in-Err-clause-starved : goal.returns-in-Err-clause-starved
@@ -48,11 +56,13 @@ returns-in-Err-clause-starved g c = λ l peer linked configured.
     let configured_here = rw (← c.self.view_is) at configured in
     let peer_same : c.in-Some.peer ≡ peer = some_same _ _ _ c.in-Some.ensures configured_here in
     let kind : c.between.result ≡ kind_of (terms_in c.self.inside.config c.in-Some.peer) = c.between.ensures in
-    let takes : TakesMemoryAt (kind_of (terms_in c.self.inside.config c.in-Some.peer)) l = subst (λ k. TakesMemoryAt k l) kind (subst (λ x. TakesMemoryAt c.between.result x) same c.in-Err.ensures.memory) in (
-      rw (← peer_same, ← c.self.view_is) takes,
-      rw (← c.self.view_is)
-          (starves c.args.slot l _ _ _ takes.established (λ s. refl) (λ s p other. c.in-Err.ensures.others.routes s p other) (λ s p other. c.in-Err.ensures.others.offers s p other)
-          (record { config = refl; moment = refl; conf = refl }) (c.input.ensures.moves l linked_here)),
+    let takes : TakesMemoryAt (kind_of (terms_in c.self.inside.config c.in-Some.peer)) l = subst (λ k. TakesMemoryAt k l) kind (subst (λ x. TakesMemoryAt c.between.result x) same c.in-Err.ensures.memory) in
+    let part = c.in-Err.ensures.part takes.body (ap (λ (x : Linked). meaning x.peer.rest) same ∙ takes.is) in
+    rw (← peer_same, ← c.self.view_is) (
+      takes,
+      starves c.args.slot l _ _ _ takes.established (λ s. refl) (λ s p other. c.in-Err.ensures.others.routes s p other) (λ s p other. c.in-Err.ensures.others.offers s p other)
+          (record { config = refl; moment = refl; conf = refl; chosen_before = refl }) (c.input.ensures.moves l linked_here),
+      refused_chosen c.args.slot (update_in takes.body) (effects_of NoMemory l.peer.session).left _ _ _ (rw takes.established refl) part.routes part.chosen (c.input.ensures.chosen l linked_here),
     )
 
 pub returns-in-Err-clause-within : goal.returns-in-Err-clause-within

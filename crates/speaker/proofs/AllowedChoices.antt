@@ -1,0 +1,275 @@
+use Rattle.std.proofs.Common.{◌≡◌, ◌≤◌, ◌<◌, ◌+◌, ◌==◌, ◌&&◌, ◌||◌, ◌⊎◌, ℕ, zero, suc, Bool, true, false, not, List, [], ◌∷◌, ◌++◌, length, Option, Some, None, is_some, cond, refl, sym, ap, ◌∙◌, subst, inl, inr, arith}
+use Rattle.std.specs.Option.{IsSome, option_and_then}
+use Rattle.std.specs.Ordering.{is_eq}
+use Rattle.std.proofs.lemmas.Bool.{cases_eq}
+use Rattle.std.proofs.lemmas.Grind.{common_steps}
+use Rattle.bgp_attr.specs.PathAttributes.{PathAttributes}
+use Rattle.bgp_attr.specs.AttributeFaults.{Fault}
+use Rattle.bgp_fsm.proofs.TableLaws.{left_is}
+use Rattle.bgp_fsm.specs.SessionTable.{effects_of, session_after}
+use Rattle.bgp_fsm.specs.StateTests.{is_established}
+use Rattle.bgp_fsm.specs.declared.input.Input.{Input}
+use Rattle.bgp_fsm.specs.declared.input.Input.TheVariants.{Update as UpdateInput}
+use Rattle.bgp_fsm.specs.declared.session.Session.{Session}
+use Rattle.bgp_fsm.specs.declared.state.State.{State}
+use Rattle.bgp_msg.specs.MessageStream.{Item, WholeMessage, FaultyHeader}
+use Rattle.bgp_msg.specs.UpdateMeaning.{UpdateBody, update_fault}
+use Rattle.bgp_msg.specs.declared.frame.MessageType.TheVariants.{Open, Update, Notification, Keepalive}
+use Rattle.bgp_peer.proofs.Agreeing.{item_octet}
+use Rattle.bgp_peer.specs.SessionInputs.{Event, Terms, Octet, Signalled, input_of, item_at, kind_of, onto, session, terms_of, update_input}
+use Rattle.net_prefix.specs.PrefixOrder.{prefix_cmp}
+use Rattle.net_prefix.specs.declared.prefix.Prefix.{Prefix}
+use Rattle.rib_in.specs.LatestRoutes.{RouteTable, route_at}
+use Rattle.rib_out.proofs.Prefixes.{is_prefix-refl}
+use Rattle.speaker.specs.AdjRibIn.{brought, is_among, route, sound_update, update_heard, word_if, word_of}
+use Rattle.speaker.specs.Choices.{AreDifferent, Chooses, announced_if, announced_in, announced_to, choices_by, choices_on, choices_refused, how_many, is_routed, named_if, named_in, routes_held}
+use Rattle.speaker.specs.Runs.{Run, history}
+use Rattle.speaker.specs.SpeakerState.{SpeakerState}
+use Rattle.speaker.specs.declared.config.Config.{Config}
+use Rattle.speaker.proofs.Counting.{among_all, different_as}
+use Rattle.speaker.proofs.Places.{same_from_is_prefix}
+
+-- How often a best route may be chosen, by a history: different prefixes with a route are as many at most as are counted.
+
+-- ---- different prefixes are no more than those among which they are
+neither : (a b : Bool) → (a || b) ≡ false → (a ≡ false) × (b ≡ false)
+neither true b h = absurd (cc)
+neither false b h = (refl, h)
+
+nor_so : (a b : Bool) → a ≡ false → b ≡ false → (a || b) ≡ false
+nor_so true b here there = here
+nor_so false b here there = there
+
+other_way : (p q : Prefix) → is_eq (prefix_cmp p q) ≡ false → is_eq (prefix_cmp q p) ≡ false
+other_way p q other = by_test (is_eq (prefix_cmp q p)) refl
+  where
+    by_test : (b : Bool) → is_eq (prefix_cmp q p) ≡ b → b ≡ false
+    by_test false is = refl
+    by_test true is = let refuted = sym (subst (λ x. is_eq (prefix_cmp x q) ≡ true) (same_from_is_prefix q p is) (is_prefix-refl q)) ∙ other in absurd (cc)
+
+different_but : (says : Prefix → Type 0) (q : Prefix) (ps : List Prefix) → is_among q ps ≡ false → AreDifferent says ps → AreDifferent (λ p. says p × (is_eq (prefix_cmp q p) ≡ false)) ps
+different_but says q [] out h = tt
+different_but says q (p ∷ ps) out h =
+    let parts = neither (is_eq (prefix_cmp p q)) (is_among q ps) out in
+    (h.0, (h.1, other_way p q parts.0), different_but says q ps parts.1 h.2)
+
+-- of different prefixes all but one
+record Without (says : Prefix → Type 0) (q : Prefix) (ps : List Prefix) : Type 0 where
+  rest : List Prefix
+  different : AreDifferent (λ p. says p × (is_eq (prefix_cmp q p) ≡ false)) rest
+  says_it : says q
+  count : length ps ≡ length rest + 1
+  out : (x : Prefix) → is_among x ps ≡ false → is_among x rest ≡ false
+
+without_case : (says : Prefix → Type 0) (q p : Prefix) (ps : List Prefix) → AreDifferent says (p ∷ ps) → (is_among q ps ≡ true → Without says q ps) → (b : Bool) → is_eq (prefix_cmp p q) ≡ b
+    → (b || is_among q ps) ≡ true → Without says q (p ∷ ps)
+without_case says q p ps h later true same there =
+    let this : p ≡ q = same_from_is_prefix p q same in
+    record {
+      rest = ps;
+      different = different_but says q ps (subst (λ x. is_among x ps ≡ false) this h.0) h.2;
+      says_it = subst says this h.1;
+      count = omega arith;
+      out = λ x none. (neither (is_eq (prefix_cmp p x)) (is_among x ps) none).1;
+    }
+without_case says q p ps h later false other there =
+    let w = later there in
+    let count = w.count in
+    record {
+      rest = p ∷ w.rest;
+      different = (w.out p h.0, (h.1, other_way p q other), w.different);
+      says_it = w.says_it;
+      count = omega (arith, count);
+      out = λ x none. let parts = neither (is_eq (prefix_cmp p x)) (is_among x ps) none in nor_so (is_eq (prefix_cmp p x)) (is_among x w.rest) parts.0 (w.out x parts.1);
+    }
+
+without : (says : Prefix → Type 0) (q : Prefix) (ps : List Prefix) → AreDifferent says ps → is_among q ps ≡ true → Without says q ps
+without says q [] h there = absurd (cc)
+without says q (p ∷ ps) h there = without_case says q p ps h (λ later. without says q ps h.2 later) (is_eq (prefix_cmp p q)) refl there
+
+-- it is so of this one, and it is among these
+abbrev pub IsOne : (Prefix → Bool) → List Prefix → Prefix → Type 0
+IsOne holds all p = (holds p ≡ true) × (is_among p all ≡ true)
+
+among_later : (q p : Prefix) (all : List Prefix) → is_eq (prefix_cmp q p) ≡ false → is_among p (q ∷ all) ≡ true → is_among p all ≡ true
+among_later q p all other there = rw other at there
+
+among_again : (q p : Prefix) (all : List Prefix) → is_among q all ≡ true → is_among p (q ∷ all) ≡ true → is_among p all ≡ true
+among_again q p all again there = by_test (is_eq (prefix_cmp q p)) refl there
+  where
+    by_test : (b : Bool) → is_eq (prefix_cmp q p) ≡ b → (b || is_among p all) ≡ true → is_among p all ≡ true
+    by_test true same is = subst (λ x. is_among x all ≡ true) (same_from_is_prefix q p same) again
+    by_test false other is = is
+
+one_more : (a : Bool) (n m : ℕ) → n ≤ m → n ≤ cond a (suc m) m
+one_more true n m few = omega (arith, few)
+one_more false n m few = few
+
+most_case : (holds : Prefix → Bool) (q : Prefix) (all ps : List Prefix) → AreDifferent (IsOne holds (q ∷ all)) ps → ((rest : List Prefix) → AreDifferent (IsOne holds all) rest → length rest ≤ how_many holds all)
+    → (again there : Bool) → is_among q all ≡ again → is_among q ps ≡ there → length ps ≤ how_many holds (q ∷ all)
+most_case holds q all ps h later true there again is =
+    one_more (holds q && not (is_among q all)) _ _ (later ps (different_as (IsOne holds (q ∷ all)) (IsOne holds all) ps (λ p one. (one.0, among_again q p all again one.1)) h))
+most_case holds q all ps h later false true once is =
+    let w = without (IsOne holds (q ∷ all)) q ps h is in
+    let few = later w.rest (different_as (λ p. IsOne holds (q ∷ all) p × (is_eq (prefix_cmp q p) ≡ false)) (IsOne holds all) w.rest (λ p one. (one.0.0, among_later q p all one.1 one.0.1)) w.different) in
+    let count = w.count in
+    rw (w.says_it.0, once) (omega (arith, few, count))
+most_case holds q all ps h later false false once is =
+    one_more (holds q && not (is_among q all)) _ _
+    (later ps (different_as (λ p. IsOne holds (q ∷ all) p × (is_eq (prefix_cmp q p) ≡ false)) (IsOne holds all) ps (λ p one. (one.0.0, among_later q p all one.1 one.0.1)) (different_but (IsOne holds (q ∷ all)) q ps is h)))
+
+pub most_of : (holds : Prefix → Bool) (all ps : List Prefix) → AreDifferent (IsOne holds all) ps → length ps ≤ how_many holds all
+most_of holds [] [] h = omega arith
+most_of holds [] (p ∷ ps) h = let never = h.1.1 in absurd (cc)
+most_of holds (q ∷ all) ps h = most_case holds q all ps h (λ rest. most_of holds all rest) (is_among q all) (is_among q ps) refl refl
+
+-- ---- a prefix with a route was announced
+pub among_behind : (p : Prefix) (xs ys : List Prefix) → is_among p ys ≡ true → is_among p (xs ++ ys) ≡ true
+among_behind p [] ys there = there
+among_behind p (x ∷ xs) ys there = or_later (is_eq (prefix_cmp x p)) (is_among p (xs ++ ys)) (among_behind p xs ys there)
+  where
+    or_later : (a b : Bool) → b ≡ true → (a || b) ≡ true
+    or_later true b is = refl
+    or_later false b is = is
+
+word_some : (a w : Bool) (attrs : PathAttributes) (before : Option PathAttributes) → IsSome (cond a (Some attrs) (cond w None before)) → (a ≡ true) ⊎ IsSome before
+word_some true w attrs before there = inl refl
+word_some false true attrs before there = absurd (cc)
+word_some false false attrs before there = inr there
+
+heard_some : (update : Option UpdateBody) (p : Prefix) (before : Option PathAttributes) → IsSome (word_if update p before) → (is_among p (announced_if update) ≡ true) ⊎ IsSome before
+heard_some None p before there = inr there
+heard_some (Some update) p before there = word_some (is_among p update.announced) (is_among p update.withdrawn) update.attrs before there
+
+some_if : (b : Bool) (o : Option PathAttributes) → IsSome (cond b o None) → IsSome o
+some_if true o there = there
+some_if false o there = absurd (cc)
+
+pub routed_announced : (h : List Event) (p : Prefix) → IsSome (route h p) → is_among p (announced_in h) ≡ true
+routed_announced [] p there = absurd (cc)
+routed_announced (e ∷ h) p there =
+    elim (heard_some (brought h e) p (route h p) (some_if (is_established (session (e ∷ h)).state) (word_if (brought h e) p (route h p)) there)) [
+      | inl now ↦ among_all p (announced_if (brought h e)) (announced_in h) now
+      | inr before ↦ among_behind p (announced_if (brought h e)) (announced_in h) (routed_announced h p before)
+    ]
+
+pub most_routes : (h : List Event) (ps : List Prefix) → AreDifferent (λ p. IsSome (route h p)) ps → length ps ≤ routes_held h
+most_routes h ps different = most_of (λ p. is_some (route h p)) (announced_in h) ps (different_as (λ p. IsSome (route h p)) (IsOne (λ p. is_some (route h p)) (announced_in h)) ps (λ p there. (there, routed_announced h p there)) different)
+
+or_first : (a b : Bool) → a ≡ true → (a || b) ≡ true
+or_first true b is = refl
+or_first false b is = absurd (cc)
+
+or_second : (a b : Bool) → b ≡ true → (a || b) ≡ true
+or_second true b is = refl
+or_second false b is = is
+
+-- an UPDATE to which memory is refused
+pub most_refused : (h : List Event) (update : UpdateBody) (ps : List Prefix) → AreDifferent (λ p. IsSome (route h p) ⊎ (is_among p update.announced ≡ true)) ps
+    → named_in update + length ps ≤ choices_refused (Some update) h
+most_refused h update ps different =
+    let holds : Prefix → Bool = λ p. is_some (route h p) || is_among p update.announced in
+    let one : (p : Prefix) → IsSome (route h p) ⊎ (is_among p update.announced ≡ true) → IsOne holds (update.announced ++ announced_in h) p =
+    λ p which. elim which [
+      | inl there ↦ (or_first (is_some (route h p)) (is_among p update.announced) there, among_behind p update.announced (announced_in h) (routed_announced h p there))
+      | inr named ↦ (or_second (is_some (route h p)) (is_among p update.announced) named, among_all p update.announced (announced_in h) named)
+    ] in
+    let few = most_of holds (update.announced ++ announced_in h) ps (different_as (λ p. IsSome (route h p) ⊎ (is_among p update.announced ≡ true)) (IsOne holds (update.announced ++ announced_in h)) ps one different) in
+    omega (arith, few)
+
+-- ---- all slots
+slot_routed : (config : Config) (r : Run) (p : Prefix) (n s : ℕ) → s < n → IsSome (route (history config s r) p) → IsOne (is_routed config r n) (announced_to config r n) p
+slot_routed config r p zero s low there = absurd (omega (arith, low))
+slot_routed config r p (suc n) s low there =
+    elim (cases_eq s n) [
+      | inl same ↦
+          let here = subst (λ t. IsSome (route (history config t r) p)) same there in
+          (or_first (is_some (route (history config n r) p)) (is_routed config r n p) here, among_all p (announced_in (history config n r)) (announced_to config r n) (routed_announced (history config n r) p here))
+      | inr other ↦
+          let later = slot_routed config r p n s (omega (arith, low, other)) there in
+          (or_second (is_some (route (history config n r) p)) (is_routed config r n p) later.0, among_behind p (announced_in (history config n r)) (announced_to config r n) later.1)
+    ]
+
+pub most_known : (config : Config) (r : Run) (ps : List Prefix) → AreDifferent (λ p. (s : ℕ) × (s < 64) × IsSome (route (history config s r) p)) ps → length ps ≤ how_many (is_routed config r 64) (announced_to config r 64)
+most_known config r ps different =
+    most_of (is_routed config r 64) (announced_to config r 64) ps
+    (different_as (λ p. (s : ℕ) × (s < 64) × IsSome (route (history config s r) p)) (IsOne (is_routed config r 64) (announced_to config r 64)) ps (λ p there. slot_routed config r p 64 there.0 there.1 there.2) different)
+
+-- ---- what happens to a slot
+ended_few : (h : List Event) (e : Event) → is_established (session (e ∷ h)).state ≡ false → named_if (brought h e) + routes_held h ≤ choices_by h e
+ended_few h e is = rw is (omega arith)
+
+none_left : (was is : Bool) → true ≡ (was && not is) → is ≡ false
+none_left true true h = absurd (cc)
+none_left true false h = refl
+none_left false is h = absurd (cc)
+
+-- an input that no octet brings
+pub signal_few : (slot : ℕ) (h : List Event) (input : Input) (s : Session) (old new : SpeakerState) → s ≡ session h → ((p : Prefix) → route_at old.adj_in slot p ≡ route h p)
+    → Chooses slot (effects_of input s).left old new → new.chosen ≤ old.chosen + choices_by h (Signalled input)
+signal_few slot h input s old new is routes chooses = by_test (effects_of input s).left refl
+  where
+    by_test : (left : Bool) → (effects_of input s).left ≡ left → new.chosen ≤ old.chosen + choices_by h (Signalled input)
+    by_test false stays = let same = chooses.stays stays in omega (arith, same)
+    by_test true left =
+        let all = chooses.ends left in
+        let few = most_routes h all.0 (different_as (λ p. IsSome (route_at old.adj_in slot p)) (λ p. IsSome (route h p)) all.0 (λ p there. subst (λ o. IsSome o) (routes p) there) all.1) in
+        let most = all.2 in
+        let ended = none_left (is_established s.state) (is_established (session_after input s).state) (sym left ∙ left_is input s) in
+        let over = ended_few h (Signalled input) (subst (λ (x : Session). is_established (session_after input x).state ≡ false) is ended) in
+        omega (arith, few, most, over)
+
+stays_up : (s : Session) → is_established s.state ≡ true → (effects_of UpdateInput s).left ≡ false
+stays_up s is = grind (arith, common_steps)
+
+sound_stays : (body : List ℕ) (fault : Option Fault) (update : UpdateBody) (s : Session) → is_established s.state ≡ true → sound_update body fault ≡ Some update → (effects_of (update_input fault) s).left ≡ false
+sound_stays body None update s is some = stays_up s is
+sound_stays body (Some fault) update s is some = absurd (cc)
+
+heard_case : (b : Bool) (body : List ℕ) (fault : Option Fault) (update : UpdateBody) (s : Session) → is_established s.state ≡ b → cond b (sound_update body fault) None ≡ Some update
+    → (effects_of (cond b (update_input fault) UpdateInput) s).left ≡ false
+heard_case true body fault update s is some = sound_stays body fault update s is some
+heard_case false body fault update s is some = absurd (cc)
+
+-- a session whose UPDATE is heard stays
+heard_stays : (s : Session) (terms : Terms) (item : Item) (update : UpdateBody) → update_heard s.state terms item ≡ Some update → (effects_of (input_of s.state terms item) s).left ≡ false
+heard_stays s terms (FaultyHeader fault) update some = absurd (cc)
+heard_stays s terms (WholeMessage Open body) update some = absurd (cc)
+heard_stays s terms (WholeMessage Update body) update some = heard_case (is_established s.state) body (update_fault (kind_of terms) body) update s refl some
+heard_stays s terms (WholeMessage Notification body) update some = absurd (cc)
+heard_stays s terms (WholeMessage Keepalive body) update some = absurd (cc)
+
+not_so : {X : Type 0} (b : Bool) → b ≡ true → b ≡ false → X
+not_so b on off = absurd (cc)
+
+-- a message that an octet completes
+pub item_few : (h : List Event) (octet : ℕ) (item : Item) (ended : List Prefix) → item_at h octet ≡ Some item
+    → AreDifferent (λ p. IsSome (word_if (update_heard (session h).state (terms_of h) item) p (route h p))) ended
+    → ((effects_of (input_of (session h).state (terms_of h) item) (session h)).left ≡ false → ended ≡ [])
+    → named_if (update_heard (session h).state (terms_of h) item) + length ended ≤ choices_by h (Octet octet)
+item_few h octet item ended some different none = by_test (effects_of (input_of (session h).state (terms_of h) item) (session h)).left refl
+  where
+    same : brought h (Octet octet) ≡ update_heard (session h).state (terms_of h) item
+    same = ap (λ found. option_and_then (update_heard (session h).state (terms_of h)) found) some
+
+    by_update : (found : Option UpdateBody) → update_heard (session h).state (terms_of h) item ≡ found → (effects_of (input_of (session h).state (terms_of h) item) (session h)).left ≡ true → length ended ≤ routes_held h
+    by_update None is left = most_routes h ended (subst (λ (u : Option UpdateBody). AreDifferent (λ p. IsSome (word_if u p (route h p))) ended) is different)
+    by_update (Some update) is left = not_so (effects_of (input_of (session h).state (terms_of h) item) (session h)).left left (heard_stays (session h) (terms_of h) item update is)
+
+    by_test : (left : Bool) → (effects_of (input_of (session h).state (terms_of h) item) (session h)).left ≡ left → named_if (update_heard (session h).state (terms_of h) item) + length ended ≤ choices_by h (Octet octet)
+    by_test false stays = let no = ap length (none stays) in let named = ap named_if same in omega (arith, no, named)
+    by_test true left =
+        let over = none_left (is_established (session h).state) (is_established (session_after (input_of (session h).state (terms_of h) item) (session h)).state)
+        (sym left ∙ left_is (input_of (session h).state (terms_of h) item) (session h)) in
+        let few = by_update (update_heard (session h).state (terms_of h) item) refl left in
+        let all = ended_few h (Octet octet) (ap (λ (s : Session). is_established s.state) (item_octet h octet item some).0 ∙ over) in
+        let named = ap named_if same in
+        omega (arith, few, all, named)
+
+-- ---- octets, one after another
+pub choices_append : (a b : List ℕ) (h : List Event) → choices_on (a ++ b) h ≡ choices_on a h + choices_on b (onto a h)
+choices_append [] b h = omega arith
+choices_append (octet ∷ a) b h = let later = choices_append a b (Octet octet ∷ h) in omega (arith, later)
+
+pub choices_last : (a : List ℕ) (octet : ℕ) (h : List Event) → choices_on (a ++ octet ∷ []) h ≡ choices_on a h + choices_by (onto a h) (Octet octet)
+choices_last a octet h = let all = choices_append a (octet ∷ []) h in omega (arith, all)
