@@ -32,7 +32,7 @@ use Rattle.speaker.specs.LocRib.{HasNoCandidate, IsBest, IsLocRib}
 use Rattle.speaker.specs.Candidates.{IsCandidate}
 use Rattle.speaker.specs.Offers.{AreKept}
 use Rattle.speaker.specs.Moves.{Moves}
-use Rattle.speaker.specs.Queueing.{Queue, Starves, Tells, IsServed, starved_in, update_saying, rank_of}
+use Rattle.speaker.specs.Queueing.{ComesFirst, Queue, Starves, Tells, IsServed, starved_in, update_saying, rank_of}
 use Rattle.speaker.specs.Runs.{Call, Run, turn, configuration_of, history}
 use Rattle.speaker.specs.Serving.{HasRoom, IsServedAt, IsShortAt, IsStill, IsToldAt}
 use Rattle.speaker.specs.SpeakerState.{SpeakerState, tables_of}
@@ -42,6 +42,7 @@ use Rattle.speaker.proofs.Calls.{best_candidate, tables_same, export_is, export_
 use Rattle.speaker.proofs.Commands.{holds_signalled, own_is, peer_of}
 use Rattle.speaker.proofs.Events.{holds_put, slot_is}
 use Rattle.speaker.proofs.Histories.{route_stays}
+use Rattle.speaker.proofs.OneBest.{same_export}
 use Rattle.speaker.proofs.KeptOffers.{kept_loc_rib, kept_still_links, kept_told}
 use Rattle.speaker.proofs.QueuedUpdates.{IsGood, saying_faultless, slot_queued, saying_is_update, saying_names, saying_says, named_is}
 use Rattle.speaker.proofs.SlotStates.{SlotIs, linked_from}
@@ -109,8 +110,9 @@ is_good config r s slot p export peer holds chosen configured accepts a some =
 -- an UPDATE that says of a prefix what the export has and the peer doesn't hold is owed
 is_owed : (config : Config) (r : Run) (s : SpeakerState) (slot : ℕ) (p : Prefix) (export : Option (List ℕ)) (peer : ConfiguredPeer) (l : Linked) → Holds config r s
     → IsLocRib (tables_after config r) s.loc_rib → peer_at s.conf slot ≡ Some peer → SlotIs config peer l (route_at s.adj_in slot) (history config slot r) → rank_of p < 2 ^ 38
-    → export_to s slot p ≡ export → ((a : List ℕ) → export ≡ Some a → length a ≤ 4068) → Accepts s slot p export → held_at l.adj_out p ≢ export → IsOwedIn config r slot (update_saying p export)
-is_owed config r s slot p export peer l holds loc_rib configured here place exported short accepts news =
+    → export_to s slot p ≡ export → ((a : List ℕ) → export ≡ Some a → length a ≤ 4068) → Accepts s slot p export → held_at l.adj_out p ≢ export
+    → ((q : Prefix) → held_at l.adj_out q ≢ export_to s slot q → ComesFirst p export q (export_to s slot q)) → IsOwedIn config r slot (update_saying p export)
+is_owed config r s slot p export peer l holds loc_rib configured here place exported short accepts news order =
     let tables : tables_after config r ≡ tables_of s = tables_same config r s.conf (link_at s.links) s.adj_in (sym holds.conf) holds.slots in
     let chosen : IsLocRib (tables_of s) s.loc_rib = subst (λ t. IsLocRib t s.loc_rib) tables loc_rib in
     let E : Option (List ℕ) → Type 0 = λ e. IsExport (tables_after config r) (export_peer_of (configuration_of config r) slot peer) p e in
@@ -129,6 +131,10 @@ is_owed config r s slot p export peer l holds loc_rib configured here place expo
       alone = (p, (export, refl));
       some = (p, saying_names p export place short);
       each = λ q names. subst P (named_is p export q place short names) this;
+      first = λ q e other.
+          let same : e ≡ export_to s slot q = same_export (tables_after config r) (export_peer_of (configuration_of config r) slot peer) q e (export_to s slot q) other.is_export
+          (export_of_run config r s slot peer q tables (sym holds.conf) chosen configured) in
+          subst (λ x. ComesFirst p export q x) (sym same) (order q (λ held_same. other.news (sym (here.link.held q) ∙ held_same ∙ sym same)));
     }
 
 -- for an UPDATE that is queued no best route is chosen
@@ -141,8 +147,9 @@ told_few config call r queue slot u now new rest few =
 
 -- a peer is told what it is owed
 pub queues_told : (slot : ℕ) (p : Prefix) (export : Option (List ℕ)) (now new : SpeakerState) → (told : IsToldAt slot p export now new) → told.before.peer.session.state ≡ Established
-    → HasRoom told.before → export_to now slot p ≡ export → Accepts now slot p export → held_at told.before.adj_out p ≢ export → QueuesOn now new
-queues_told slot p export now new told up room exported accepts news config call r queue passes =
+    → HasRoom told.before → export_to now slot p ≡ export → Accepts now slot p export → held_at told.before.adj_out p ≢ export
+    → ((q : Prefix) → held_at told.before.adj_out q ≢ export_to now slot q → ComesFirst p export q (export_to now slot q)) → QueuesOn now new
+queues_told slot p export now new told up room exported accepts news order config call r queue passes =
     let was : Run = turn call queue ∷ r in
     let is : Run = turn call ((slot, Tells (update_saying p export)) ∷ queue) ∷ r in
     let peer = peer_of config (turn call queue ∷ r) slot told.before now passes.holds told.was in
@@ -163,7 +170,7 @@ queues_told slot p export now new told up room exported accepts news config call
             (told_few config call r queue slot (update_saying p export) now new told.rest passes.holds.chosen)
             peer.0 peer.1 (rw (routes, at_slot config slot call (Tells (update_saying p export)) queue r) after);
         loc_rib = subst T (sym (tables_queued config call r queue slot (update_saying p export))) (rw loc_rib passes.loc_rib);
-        owed = (is_owed config (turn call queue ∷ r) now slot p export peer.0 told.before passes.holds passes.loc_rib peer.1 before told.told.place exported short accepts news, passes.owed);
+        owed = (is_owed config (turn call queue ∷ r) now slot p export peer.0 told.before passes.holds passes.loc_rib peer.1 before told.told.place exported short accepts news order, passes.owed);
       },
       refl,
     )

@@ -1,4 +1,4 @@
-use Rattle.std.proofs.Common.{◌≡◌, ◌≢◌, ◌<◌, ◌+◌, ◌-◌, ◌^◌, ◌==◌, ℕ, Bool, true, false, List, Option, Some, None, Result, Ok, Err, OnOk, cond, refl, sym, ap, ◌∙◌, subst, inl, inr, arith, length-append}
+use Rattle.std.proofs.Common.{◌≡◌, ◌≢◌, ◌≤◌, ◌<◌, ◌+◌, ◌-◌, ◌^◌, ◌==◌, ℕ, Bool, true, false, List, Option, Some, None, Result, Ok, Err, OnOk, cond, refl, sym, ap, ◌∙◌, subst, inl, inr, arith, length-append}
 use Rattle.std.specs.Option.{IsSome, option_and_then, option_map}
 use Rattle.std.specs.Ordering.{is_gt}
 use Rattle.std.proofs.lemmas.Bool.{cases_eq, cases_lt, eq-eqb, ne_eqb}
@@ -14,7 +14,7 @@ use Rattle.speaker.specs.Agreement.{QueuesOn}
 use Rattle.speaker.specs.Export.{IsAccepted, export_in, export_peer_of, export_to}
 use Rattle.speaker.specs.Linked.{Linked}
 use Rattle.speaker.specs.Marks.{IsServedBy, announced_of, withdrawn_of}
-use Rattle.speaker.specs.Queueing.{rank_of, update_saying}
+use Rattle.speaker.specs.Queueing.{ComesFirst, rank_of, update_saying}
 use Rattle.speaker.specs.Serving.{IsServedAt, IsShortAt, IsUpAt, HasRoom, HasRoomAt, IsOfSlot, IsStill, IsToldAt, Serves, Stand, IsDoneAt, IsGone, IsHad, IsNext, is_standing}
 use Rattle.speaker.specs.SpeakerState.{SpeakerState}
 use Rattle.speaker.specs.Tables.{best_at, link_at}
@@ -143,13 +143,32 @@ done_told : (done : Prefix → Option (List ℕ) → Type 0) (p q : Prefix) (b :
 done_told done p q true export held is here other = subst (λ x. done x export) (same_from_is_prefix p q is) here
 done_told done p q false export held is here other = other is
 
+-- where all below a prefix are done, what is told of it comes first
+first_gone : (e : Option (List ℕ)) (p q : Prefix) (held : Option (List ℕ)) → held ≢ e → (rank_of q < rank_of p → e ≡ None → held ≡ None) → ComesFirst p None q e
+first_gone None p q held news below =
+    elim (cases_lt (rank_of q) (rank_of p)) [
+      | inl low ↦ absurd (news (below low refl))
+      | inr high ↦ high
+    ]
+first_gone (Some others) p q held news below = tt
+
+first_had : (e : Option (List ℕ)) (octets : List ℕ) (p q : Prefix) (held : Option (List ℕ)) → held ≢ e → (e ≡ None → held ≡ None)
+    → (rank_of q < rank_of p → (others : List ℕ) → e ≡ Some others → held ≡ Some others) → ComesFirst p (Some octets) q e
+first_had None octets p q held news gone below = news (gone refl)
+first_had (Some others) octets p q held news gone below =
+    elim (cases_lt (rank_of q) (rank_of p)) [
+      | inl low ↦ absurd (news (below low others refl))
+      | inr high ↦ high
+    ]
+
 -- the peer is told what it is owed of the next prefix
 pub Walks-told : {X : Type 0} (done : Prefix → Option (List ℕ) → Type 0) (there : Prefix → Option X) (slot : ℕ) (first now new : SpeakerState) (after : Option Prefix) (p : Prefix) (export : Option (List ℕ))
     → (h : Walks done slot first after now) → ((q : Prefix) → there q ≡ None → done q (held_at h.serves.after.adj_out q)) → IsNext there after (Some p)
     → rank_of p < 2 ^ 38 → HasRoomAt now slot → export_to first slot p ≡ export → held_at h.serves.after.adj_out p ≢ export → done p export → Accepts now slot p export → IsToldAt slot p export now new
+    → ((q : Prefix) → held_at h.serves.after.adj_out q ≢ export_to now slot q → ComesFirst p export q (export_to now slot q))
     → Walks done slot first (Some p) new
 unfolding Serves-more
-Walks-told done there slot first now new after p export h idle next place room exported news here accepts told =
+Walks-told done there slot first now new after p export h idle next place room exported news here accepts told order =
     let same : told.before ≡ h.serves.after = the_slot slot now told.before h.serves.after told.was h.serves.is in
     let is : link_at new.links slot ≡ Some told.after = told.puts slot ∙ rw (eq-eqb slot slot refl) refl in
     let exports : export_to now slot p ≡ export = ap (λ e. e slot p) (export_kept first now h.serves.only.rest) ∙ exported in
@@ -163,7 +182,7 @@ Walks-told done there slot first now new after p export h idle next place room e
       grows = rw told.told.peer (omega (arith, length-append told.before.peer.ring (update_saying p export)));
       gone = λ q none held. told.told.held q ∙ gone_told p q _ export (export_to now slot) (held_at told.before.adj_out q) refl exports none held;
       only = record { rest = told.rest; others = slot_only slot now new told.after told.puts };
-      queues = queues_told slot p export now new told (rw same h.serves.up) (room told.before told.was) exports accepts (rw same news);
+      queues = queues_told slot p export now new told (rw same h.serves.up) (room told.before told.was) exports accepts (rw same news) (λ q. rw same (order q));
     } in
     record {
       serves = Serves-more slot first now new h.serves step;
@@ -216,6 +235,10 @@ served_by slot first now peer h is =
     let found = mapped (export_peer_of first.conf slot) (peer_at first.conf slot) peer is in
     record { peer = found.0; configured = ap (λ (s : SpeakerState). peer_at s.conf slot) h.only.rest ∙ found.1; linked = h.is; established = h.up }
 
+pub gone_by : (slot : ℕ) (first now : SpeakerState) (held : Prefix → Option (List ℕ)) → export_to now slot ≡ export_to first slot → (q : Prefix) → withdrawn_of (export_to now slot q) (held q) ≡ None
+    → IsGone (export_to first slot) q (held q)
+gone_by slot first now held exports q idle = subst (λ e. IsGone e q (held q)) exports (gone_idle (export_to now slot) q (held q) idle)
+
 -- what is held and isn't exported is withdrawn
 pub Walks-withdrawn : (slot : ℕ) (first now new : SpeakerState) (after : Option Prefix) (p : Prefix) → (h : Walks (IsGone (export_to first slot)) slot first after now)
     → IsNext (λ q. withdrawn_of (export_to now slot q) (held_at h.serves.after.adj_out q)) after (Some p) → rank_of p < 2 ^ 38 → HasRoomAt now slot → IsToldAt slot p None now new
@@ -224,8 +247,11 @@ Walks-withdrawn slot first now new after p h next place room told =
     let exports : export_to now slot ≡ export_to first slot = ap (λ e. e slot) (export_kept first now h.serves.only.rest) in
     let parts = withdrawn_parts (export_to now slot p) (held_at h.serves.after.adj_out p) next.0 in
     Walks-told (IsGone (export_to first slot)) (λ q. withdrawn_of (export_to now slot q) (held_at h.serves.after.adj_out q)) slot first now new after p None h
-    (λ q idle. subst (λ e. IsGone e q (held_at h.serves.after.adj_out q)) exports (gone_idle (export_to now slot) q (held_at h.serves.after.adj_out q) idle)) next place room
+    (gone_by slot first now (held_at h.serves.after.adj_out) exports) next place room
     (sym (ap (λ e. e p) exports) ∙ parts.0) (λ gone. let some = subst (λ o. IsSome o) gone parts.1 in (cc)) (λ missing. refl) (λ a some. absurd (cc)) told
+    (λ q other. first_gone (export_to now slot q) p q (held_at h.serves.after.adj_out q) other (λ low none.
+    done_before (IsGone (export_to first slot)) (λ x. withdrawn_of (export_to now slot x) (held_at h.serves.after.adj_out x)) (held_at h.serves.after.adj_out) after p
+    (gone_by slot first now (held_at h.serves.after.adj_out) exports) h.below next q low (sym (ap (λ e. e q) exports) ∙ none)))
 
 -- what is exported is good to the slot's peer
 accepts_given : (slot : ℕ) (first now : SpeakerState) (p : Prefix) (peer : ExportPeer) (octets : List ℕ) → now ≡ record first { links = now.links }
@@ -242,21 +268,23 @@ pub had_by : (slot : ℕ) (first now : SpeakerState) (held : Prefix → Option (
     → IsHad (export_to first slot) q (held q)
 had_by slot first now held exports q idle = subst (λ e. IsHad e q (held q)) exports (had_idle (export_to now slot) q (held q) idle)
 
-pub gone_by : (slot : ℕ) (first now : SpeakerState) (held : Prefix → Option (List ℕ)) → export_to now slot ≡ export_to first slot → (q : Prefix) → withdrawn_of (export_to now slot q) (held q) ≡ None
-    → IsGone (export_to first slot) q (held q)
-gone_by slot first now held exports q idle = subst (λ e. IsGone e q (held q)) exports (gone_idle (export_to now slot) q (held q) idle)
-
 -- what is exported and isn't held just so is announced
 pub Walks-announced : (slot : ℕ) (first now new : SpeakerState) (after : Option Prefix) (p : Prefix) (peer : ExportPeer) (octets : List ℕ) → (h : Walks (IsHad (export_to first slot)) slot first after now)
     → Some peer ≡ option_map (export_peer_of first.conf slot) (peer_at first.conf slot) → IsNext (λ q. announced_of (export_to now slot q) (held_at h.serves.after.adj_out q)) after (Some p) → rank_of p < 2 ^ 38 → HasRoomAt now slot
     → export_in (best_at now.loc_rib) now.adj_in peer p ≡ Some octets → IsAccepted now.loc_rib now.adj_in peer p octets → IsToldAt slot p (Some octets) now new
-    → Walks (IsHad (export_to first slot)) slot first (Some p) new
-Walks-announced slot first now new after p peer octets h is next place room some accepted told =
+    → IsDoneAt (IsGone (export_to first slot)) first slot → Walks (IsHad (export_to first slot)) slot first (Some p) new
+Walks-announced slot first now new after p peer octets h is next place room some accepted told gone =
+    let later = room h.serves.after h.serves.is in
+    let earlier : HasRoom h.serves.before = omega (arith, h.serves.grows, later) in
     let exported = export_now first now slot peer h.serves.only.rest is p ∙ some in
     let exports : export_to now slot ≡ export_to first slot = ap (λ e. e slot) (export_kept first now h.serves.only.rest) in
     Walks-told (IsHad (export_to first slot)) (λ q. announced_of (export_to now slot q) (held_at h.serves.after.adj_out q)) slot first now new after p (Some octets) h (had_by slot first now (held_at h.serves.after.adj_out) exports) next place room
     exported (announced_news (export_to now slot p) (held_at h.serves.after.adj_out p) octets (ap (λ e. e p) exports ∙ exported) next.0) (λ others same. sym exported ∙ same)
     (accepts_given slot first now p peer octets h.serves.only.rest is accepted) told
+    (λ q other. first_had (export_to now slot q) octets p q (held_at h.serves.after.adj_out q) other
+    (λ none. let never = sym (ap (λ e. e q) exports) ∙ none in h.serves.gone q never (gone h.serves.before h.serves.was earlier q never))
+    (λ low o have. done_before (IsHad (export_to first slot)) (λ x. announced_of (export_to now slot x) (held_at h.serves.after.adj_out x)) (held_at h.serves.after.adj_out) after p
+    (had_by slot first now (held_at h.serves.after.adj_out) exports) h.below next q low o (sym (ap (λ e. e q) exports) ∙ have)))
 
 -- where nothing is exported there is nothing to be had
 pub Walks-had : (slot : ℕ) (first now : SpeakerState) (after : Option Prefix) (p : Prefix) (peer : ExportPeer) → (h : Walks (IsHad (export_to first slot)) slot first after now)

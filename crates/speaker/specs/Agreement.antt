@@ -29,7 +29,7 @@ use Rattle.speaker.specs.Held.{held, told_from, told_in}
 use Rattle.speaker.specs.Linked.{Linked}
 use Rattle.speaker.specs.LocRib.{IsLocRib}
 use Rattle.speaker.specs.Offers.{AreKept}
-use Rattle.speaker.specs.Queueing.{Queue, Service, Tells, Starves, starved_in, update_saying}
+use Rattle.speaker.specs.Queueing.{ComesFirst, Queue, Service, Tells, Starves, starved_in, update_saying}
 use Rattle.speaker.specs.Runs.{Call, Run, turn, Up_call, Fail_call, Bytes_call, Starved_call, Tick_call, Command_call, Take_call, configuration_of, history, moment_after, terms_in}
 use Rattle.speaker.specs.SpeakerState.{SpeakerState, tables_of}
 use Rattle.speaker.specs.Tables.{Tables, link_at}
@@ -79,7 +79,7 @@ pub record IsNews (config : Config) (r : Run) (s : ℕ) (peer : ConfiguredPeer) 
   pub news : held (history config s r) prefix ≢ export
 
 -- as the run stands, the octets are an UPDATE that says of each prefix which it names what the export to the slot has
--- and its peer doesn't hold; it names one at least, and as yet no other
+-- and its peer doesn't hold; it names one at least, and as yet no other. Of all that the peer is owed it comes first
 pub record IsOwedIn (config : Config) (r : Run) (s : ℕ) (update : List ℕ) : Type 0 where
   pub peer : ConfiguredPeer
   pub configured : peer_at (configuration_of config r) s ≡ Some peer
@@ -89,6 +89,7 @@ pub record IsOwedIn (config : Config) (r : Run) (s : ℕ) (update : List ℕ) : 
   pub alone : (prefix : Prefix) × ((export : Option (List ℕ)) × (update ≡ update_saying prefix export))
   pub some : (prefix : Prefix) × Names update prefix
   pub each : (prefix : Prefix) → Names update prefix → IsNews config r s peer prefix (told_in update prefix)
+  pub first : (prefix : Prefix) (export : Option (List ℕ)) → IsNews config r s peer prefix export → ComesFirst alone.0 alone.1.0 prefix export
 
 -- as the run stands, the slot's session is Established, 8,192 octets of its ring are free, and the export to it has of some
 -- prefix what its peer doesn't hold

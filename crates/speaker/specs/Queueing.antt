@@ -23,6 +23,14 @@ pub record IsTold (prefix : Prefix) (export : Option (List ℕ)) (old new : Link
   pub peer : new.peer ≡ queued old.peer (update_saying prefix export)
   pub held : (q : Prefix) → held_at new.adj_out q ≡ (if is_prefix prefix q then export else held_at old.adj_out q)
 
+-- what is told of the one prefix comes no later than what is told of the other: withdrawals before announcements, and
+-- each kind in the order of the prefixes
+abbrev pub ComesFirst : Prefix → Option (List ℕ) → Prefix → Option (List ℕ) → Type 0
+ComesFirst p None q None = rank_of p ≤ rank_of q
+ComesFirst p None q (Some others) = Unit {0}
+ComesFirst p (Some octets) q None = ⊥
+ComesFirst p (Some octets) q (Some others) = rank_of p ≤ rank_of q
+
 -- what is done for a slot that is owed something: an UPDATE is queued, or memory is refused to it
 pub data Service : Type 0 where
   Tells : (update : List ℕ) → Service

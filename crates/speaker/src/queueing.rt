@@ -167,6 +167,7 @@ impl<A: Allocator + Clone, B: Book<A>> Speaker<A, B> {
         requires slot { slot < 64 }
         requires peer { Some peer.now ≡ option_map (export_peer_of self.old.conf slot) (peer_at self.old.conf slot) }
         requires up { IsUpAt self.old slot }
+        requires gone { IsDoneAt (IsGone (export_to self.old slot)) self.old slot }
         ensures serves { Serves slot self.old self.new }
         ensures done { OnOk result (IsDoneAt (IsHad (export_to self.old slot)) self.new slot) }
         ensures short { OnErr result (IsShortAt self.new slot) }

@@ -43,7 +43,7 @@ loop-prefix-preserved g c =
           let accepted =
           subst (λ (t : RoutingState). IsAccepted (rows_of t.book) t.adj_in c.args.peer.now c.in-Some.prefix c.export.new.octets.items) (ap (λ (x : Inside g.row.A.Denot g.row.B.Denot). x.routing) c.self-inside.view_is) w.if-export.ensures.accepted in
           let some : export_in (best_at c.loop-prefix.self.loc_rib) c.loop-prefix.self.adj_in c.args.peer.now c.in-Some.prefix ≡ Some c.export.new.octets.items = rw (← c.self.view_is) tells in
-          rw w.self-is (Walks-announced _ _ _ _ _ _ _ _ h c.requires.peer next below room some (rw (← c.self.view_is) accepted) w.in_ok-announce_at.ensures.told)
+          rw w.self-is (Walks-announced _ _ _ _ _ _ _ _ h c.requires.peer next below room some (rw (← c.self.view_is) accepted) w.in_ok-announce_at.ensures.told c.requires.gone)
       | else-export w ↦
           let tells = subst (λ (t : RoutingState). export_in (best_at (rows_of t.book)) t.adj_in c.args.peer.now c.in-Some.prefix ≡ None) (ap (λ (x : Inside g.row.A.Denot g.row.B.Denot). x.routing) c.self-inside.view_is) w.if-export.ensures.tells.0 in
           let none : export_in (best_at c.loop-prefix.self.loc_rib) c.loop-prefix.self.adj_in c.args.peer.now c.in-Some.prefix ≡ None = rw (← c.self.view_is) tells in

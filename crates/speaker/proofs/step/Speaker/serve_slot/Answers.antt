@@ -1,5 +1,6 @@
-use Rattle.std.proofs.Common.{◌∙◌}
-use Rattle.speaker.proofs.Serving.{served_on, stand_served}
+use Rattle.std.proofs.Common.{◌∙◌, sym, subst}
+use Rattle.speaker.specs.Serving.{IsDoneAt, IsGone}
+use Rattle.speaker.proofs.Serving.{export_kept, served_on, stand_served}
 use Rattle.speaker.proofs.step.Speaker.serve_slot.Goals as goal
 
 pub returns-clause-served : goal.returns-clause-served
@@ -7,3 +8,7 @@ returns-clause-served g c = served_on c.announce_all.result _ _ c.withdraw_all.n
 
 pub returns-clause-stand : goal.returns-clause-stand
 returns-clause-stand g c = λ s. stand_served _ _ _ c.announce_all.ensures.serves s ∙ stand_served _ _ _ c.withdraw_all.ensures.serves s
+
+pub announce_all-requires-clause-gone : goal.announce_all-requires-clause-gone
+announce_all-requires-clause-gone g c =
+    subst (λ e. IsDoneAt (IsGone (e c.args.slot)) c.withdraw_all.new.self c.args.slot) (sym (export_kept c.args.self.now c.withdraw_all.new.self c.withdraw_all.ensures.serves.only.rest)) c.withdraw_all.ensures.done
