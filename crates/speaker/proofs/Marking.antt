@@ -1,4 +1,4 @@
-use Rattle.std.proofs.Common.{◌≡◌, ◌≢◌, ◌<◌, ◌≤◌, ◌+◌, ◌^◌, ◌==◌, ◌&&◌, ◌||◌, not, ℕ, Bool, true, false, List, [], Option, Some, None, Result, Ok, Err, OnOk, OnErr, cond, refl, sym, ap, ◌∙◌, subst, inl, inr, arith}
+use Rattle.std.proofs.Common.{◌≡◌, ◌≢◌, ◌<◌, ◌≤◌, ◌+◌, ◌^◌, ◌==◌, ◌&&◌, ◌||◌, not, ℕ, Bool, true, false, List, [], ◌∷◌, length, Option, Some, None, Result, Ok, Err, OnOk, OnErr, cond, refl, sym, ap, ◌∙◌, subst, inl, inr, arith}
 use Rattle.std.specs.Borrow.{Bor}
 use Rattle.std.specs.Option.{IsSome, is_some, option_and_then, option_copied}
 use Rattle.std.specs.Ordering.{is_gt}
@@ -130,6 +130,11 @@ marked_same conf links t u marked rest owed known = record {
   marks = λ slot p within. owed slot p ∙ marked.marks slot p within ∙ ap (λ (x : RoutingState). mark_at conf links x slot p) (sym rest);
 }
 
+-- where there are no slots
+pub no_links : (links : List (ℕ × Linked)) (s : ℕ) → (0 < length links → ⊥) → link_at links s ≡ None
+no_links [] s none = refl
+no_links (l ∷ links) s none = absurd (none (omega arith))
+
 -- the slots below this one have been looked at
 pub record MarkedBelow (prefix : Prefix) (conf : Configuration) (links : List (ℕ × Linked)) (first : RoutingState) (n : ℕ) (t : RoutingState) : Type 0 where
   pub rest : t ≡ record first { waiting = t.waiting }
@@ -191,7 +196,7 @@ MarkedBelow-more prefix conf links first t u n h rest marks known = record {
     ]
 
 -- all slots have been looked at, and the prefix was released
-pub MarkedBelow-all : (prefix : Prefix) (conf : Configuration) (links : List (ℕ × Linked)) (first t u : RoutingState) (n : ℕ) → n ≡ 64 → MarkedBelow prefix conf links first n t → u ≡ record t { waiting = u.waiting }
+pub MarkedBelow-all : (prefix : Prefix) (conf : Configuration) (links : List (ℕ × Linked)) (first t u : RoutingState) (n : ℕ) → ((s : ℕ) → n ≤ s → s < 64 → link_at links s ≡ None) → MarkedBelow prefix conf links first n t → u ≡ record t { waiting = u.waiting }
     → ((s : ℕ) (p : Prefix) → owed_at u.waiting s p ≡ owed_at t.waiting s p) → ((s : ℕ) (p : Prefix) → IsSome (route_at t.adj_in s p) → is_known u.waiting p ≡ is_known t.waiting p)
     → ((p : Prefix) → is_prefix prefix p ≡ false → is_known u.waiting p ≡ is_known t.waiting p) → IsReleased u prefix → AreMarked conf links u
 MarkedBelow-all prefix conf links first t u n all h rest owed known others released = record {
@@ -202,7 +207,11 @@ MarkedBelow-all prefix conf links first t u n all h rest owed known others relea
   where
     marks_here : (slot : ℕ) (p : Prefix) → slot < 64 → (b : Bool) → is_prefix prefix p ≡ b → owed_at t.waiting slot p ≡ mark_at conf links t slot p
     marks_here slot p within true is =
-        subst (λ q. owed_at t.waiting slot q ≡ mark_at conf links t slot q) (same_from_is_prefix prefix p is) (h.below slot (omega (arith, within, all)) within)
+        subst (λ q. owed_at t.waiting slot q ≡ mark_at conf links t slot q) (same_from_is_prefix prefix p is)
+        (elim (cases_lt slot n) [
+          | inl low ↦ h.below slot low within
+          | inr high ↦ h.but.none slot within (all slot high within) ∙ sym (mark_unlinked conf links t slot prefix (all slot high within))
+        ])
     marks_here slot p within false is = h.but.marks slot p within is
 
 both_true : (a b : Bool) → (a && b) ≡ true → (a ≡ true) × (b ≡ true)

@@ -17,9 +17,10 @@ ghost use Rattle.speaker.specs.Tables.{best_at, link_at};
 
 use crate::event::only;
 use crate::link::Link;
+use crate::routing::slots_end;
 use crate::step::Speaker;
 use arrayvec::ArrayVec;
-use bgp_conf::{Conf, PEER_SLOTS};
+use bgp_conf::Conf;
 use bgp_fsm::{Input, State};
 use bgp_msg::{MAX_MESSAGE, write_announcement, write_withdrawal};
 use bgp_peer::ROOM_FOR_UPDATE;
@@ -79,7 +80,9 @@ impl<A: Allocator + Clone, B: Book<A>> Speaker<A, B> {
         ensures counted { self.new.chosen_before ≡ self.old.chosen_before }
     {
         let mut starved = 0;
-        while let Some(slot) = self.pass() {
+        let mut octets = Octets::new();
+        let mut message = Octets::new();
+        while let Some(slot) = self.pass(&mut octets, &mut message) {
             self.starve(slot);
             starved = only(slot) | starved;
         }
@@ -88,15 +91,15 @@ impl<A: Allocator + Clone, B: Book<A>> Speaker<A, B> {
 
     // For each Established slot in rising order, queues the UPDATEs that it is owed. Answers the first to which memory
     // is refused.
-    fn pass(&mut self) -> Option<u8>
+    fn pass(&mut self, octets: &mut Octets, message: &mut Octets) -> Option<u8>
         ensures stand { Stand self.old self.new }
         ensures queues { QueuesOn self.old self.new }
         ensures served { IfNone result ((slot : ℕ) → slot < 64 → IsServedAt self.new slot) }
         ensures short { IfSome result (λ slot. IsShortAt self.new slot) }
         ensures counted { self.new.chosen_before ≡ self.old.chosen_before }
     {
-        for slot in 0..PEER_SLOTS {
-            if self.serve_slot(slot).is_err() {
+        for slot in 0..slots_end(&self.links) {
+            if self.serve_slot(slot, octets, message).is_err() {
                 return Some(slot);
             }
         }
@@ -116,7 +119,12 @@ impl<A: Allocator + Clone, B: Book<A>> Speaker<A, B> {
 
     // Queues what a slot's peer is owed, withdrawals before announcements and each in rising order, while its
     // ring has room for an UPDATE.
-    fn serve_slot(&mut self, slot: u8) -> Result<(), AllocError>
+    fn serve_slot(
+        &mut self,
+        slot: u8,
+        octets: &mut Octets,
+        message: &mut Octets,
+    ) -> Result<(), AllocError>
         requires { slot < 64 }
         ensures only { IsOfSlot slot self.old self.new }
         ensures stand { Stand self.old self.new }
@@ -130,10 +138,8 @@ impl<A: Allocator + Clone, B: Book<A>> Speaker<A, B> {
         if !self.is_up(slot) {
             return Ok(());
         }
-        let mut octets = Octets::new();
-        let mut message = Octets::new();
-        self.withdraw_all(slot, &peer, &mut message);
-        self.announce_all(slot, &peer, &mut octets, &mut message)
+        self.withdraw_all(slot, &peer, message);
+        self.announce_all(slot, &peer, octets, message)
     }
 
     // Withdraws what the peer holds and what isn't exported to it any more.

@@ -220,7 +220,7 @@ impl<A: Allocator + Clone, B: Book<A>> Routing<A, B> {
         ensures rest { self.new ≡ record self.old { waiting = self.new.waiting } }
     {
         let mut octets = Octets::new();
-        for slot in 0..PEER_SLOTS {
+        for slot in 0..slots_end(links) {
             self.mark(conf, links, slot, prefix, &mut octets);
         }
         self.release(prefix);
@@ -260,6 +260,17 @@ impl<A: Allocator + Clone, B: Book<A>> Routing<A, B> {
         if !self.ribs.routes().is_routed(prefix) {
             self.waiting.release(prefix);
         }
+    }
+}
+
+/// The number behind that of the last slot; 0 where there is none.
+pub fn slots_end<A: Allocator + Clone>(links: &Links<A>) -> u8
+    ensures none { (s : ℕ) → result ≤ s → s < 64 → link_at links.now.entries s ≡ None }
+    ensures within { result ≤ 64 }
+{
+    match links.last_key_value() {
+        Some((slot, _)) => slot.saturating_add(1).min(PEER_SLOTS),
+        None => 0,
     }
 }
 

@@ -8,4 +8,4 @@ loop-slot-preserved g c = MarkedBelow-more _ _ _ _ _ _ c.loop-slot.slot c.loop-s
 pub returns-clause-marked : goal.returns-clause-marked
 returns-clause-marked g c =
     let released = c.release.ensures in
-    MarkedBelow-all _ _ _ _ _ _ c.loop-slot.slot (omega (arith, c.loop-slot-test.false)) c.loop-slot.invariant released.rest released.owed released.known released.others released.released
+    MarkedBelow-all _ _ _ _ _ _ c.loop-slot.slot (λ s high low. c.slots_end-slot-end.ensures.none s (omega (arith, c.loop-slot-test.false, high)) low) c.loop-slot.invariant released.rest released.owed released.known released.others released.released
