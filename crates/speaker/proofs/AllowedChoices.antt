@@ -165,9 +165,15 @@ or_second true b is = refl
 or_second false b is = is
 
 -- an UPDATE to which memory is refused
-pub most_refused : (h : List Event) (update : UpdateBody) (ps : List Prefix) → AreDifferent (λ p. IsSome (route h p) ⊎ (is_among p update.announced ≡ true)) ps
-    → named_in update + length ps ≤ choices_refused (Some update) h
-most_refused h update ps different =
+pub most_refused : (h : List Event) (update : Option UpdateBody) (ps : List Prefix) → AreDifferent (λ p. IsSome (route h p) ⊎ (is_among p (announced_if update) ≡ true)) ps
+    → named_if update + length ps ≤ choices_refused update h
+most_refused h None ps different =
+    let few = most_routes h ps (different_as (λ p. IsSome (route h p) ⊎ (is_among p [] ≡ true)) (λ p. IsSome (route h p)) ps (λ p which. elim which [
+      | inl there ↦ there
+      | inr named ↦ absurd (cc)
+    ]) different) in
+    omega (arith, few)
+most_refused h (Some update) ps different =
     let holds : Prefix → Bool = λ p. is_some (route h p) || is_among p update.announced in
     let one : (p : Prefix) → IsSome (route h p) ⊎ (is_among p update.announced ≡ true) → IsOne holds (update.announced ++ announced_in h) p =
     λ p which. elim which [

@@ -20,9 +20,10 @@ pub record Counts (holds : Prefix → Type 0) (last : Option Prefix) (before now
   pub different : AreDifferent holds prefixes
   pub passed : (q : Prefix) → IsAbove last q → is_among q prefixes ≡ false
   pub most : now ≤ before + length prefixes
+  pub rises : before ≤ now
 
 pub counts_none : (holds : Prefix → Type 0) (count : ℕ) → Counts holds None count count
-counts_none holds count = record { prefixes = []; different = tt; passed = λ q above. refl; most = omega arith }
+counts_none holds count = record { prefixes = []; different = tt; passed = λ q above. refl; most = omega arith; rises = omega arith }
 
 -- what is above a prefix is above those below it
 further : (last : Option Prefix) (p q : Prefix) → IsAbove last p → IsAbove (Some p) q → IsAbove last q
@@ -34,14 +35,16 @@ other_first true c here there = here
 other_first false c here there = there
 
 -- the next prefix
-pub counts_more : (holds : Prefix → Type 0) (last : Option Prefix) (p : Prefix) (before now new : ℕ) → Counts holds last before now → IsAbove last p → holds p → new ≤ now + 1 → Counts holds (Some p) before new
-counts_more holds last p before now new h above here once =
+pub counts_more : (holds : Prefix → Type 0) (last : Option Prefix) (p : Prefix) (before now new : ℕ) → Counts holds last before now → IsAbove last p → holds p → new ≤ now + 1 → now ≤ new → Counts holds (Some p) before new
+counts_more holds last p before now new h above here once later =
     let most = h.most in
+    let rises = h.rises in
     record {
       prefixes = p ∷ h.prefixes;
       different = (h.passed p above, here, h.different);
       passed = λ q after. other_first (is_eq (prefix_cmp p q)) (is_among q h.prefixes) (ap is_eq after) (h.passed q (further last p q above after));
       most = omega (arith, most, once);
+      rises = omega (arith, rises, later);
     }
 
 -- what holds of each of them in other words, does so of different ones

@@ -11,7 +11,7 @@ use Rattle.bgp_fsm.specs.declared.input.Input.TheVariants.{NoMemory}
 use Rattle.bgp_fsm.specs.declared.session.Session.{Session}
 use Rattle.bgp_fsm.specs.Transports.{transport_of}
 use Rattle.bgp_msg.specs.MessageStream.{Item, Wants, WholeMessage, meaning, needed_of}
-use Rattle.bgp_msg.specs.UpdateMeaning.{update_in}
+use Rattle.bgp_msg.specs.UpdateMeaning.{UpdateBody, update_fault}
 use Rattle.bgp_msg.specs.declared.frame.MessageType.TheVariants.{Update}
 use Rattle.bgp_peer.specs.Agreement.{holding}
 use Rattle.bgp_peer.specs.SessionInputs as happens
@@ -23,10 +23,10 @@ use Rattle.net_prefix.specs.declared.prefix.Prefix.{Prefix}
 use Rattle.net_prefix.specs.declared.transport.Transport.{Transport}
 use Rattle.net_prefix.specs.declared.transport.Transport.TheVariants.{None as NoConnection, Opening, Listening, Open as Connected, Closing}
 use Rattle.rib_in.specs.LatestRoutes.{route_at}
-use Rattle.speaker.specs.AdjRibIn.{NeedsMemory, is_among, route, update_heard, word_if}
+use Rattle.speaker.specs.AdjRibIn.{NeedsMemory, brought, is_among, route, sound_update, update_heard, word_if}
 use Rattle.speaker.specs.Agreement.{Agrees, Hears, HearsUntil, IsFair, IsThrifty, MayStarve, SlotAgrees, Holds}
 use Rattle.speaker.proofs.SlotStates.{SlotIs, slot_agrees, slot_from, linked_from}
-use Rattle.speaker.specs.Choices.{AreDifferent, ChoosesRefused, choices_by, choices_in, choices_on, choices_refused, named_if, named_in, update_at}
+use Rattle.speaker.specs.Choices.{AreDifferent, ChoosesRefused, announced_if, choices_by, choices_in, choices_on, choices_refused, named_if}
 use Rattle.speaker.specs.Linked.{Linked}
 use Rattle.speaker.specs.Moves.{KeepsKept, KeepsRest, IsPut, Moves, Pushes, TakesItem, TakesMemoryAt, moved, taken_on, taken_of}
 use Rattle.speaker.specs.Queueing.{Queue, starved_in}
@@ -284,7 +284,7 @@ slot_starved config peer l old new h part behind here change =
 pub starves_heard : (config : Config) (r : Run) (done : List ℕ) (slot : ℕ) (peer : ConfiguredPeer) (l : Linked) (octets behind : List ℕ) (old mid new : SpeakerState)
     → Holds config (turn (Bytes_call slot done) [] ∷ r) old → peer_at old.conf slot ≡ Some peer → link_at old.links slot ≡ Some l → transport_of l.peer.session ≡ Connected
     → 0 < length octets → length octets ≤ needed_of l.peer.rest → Pushes slot l octets old mid → (takes : TakesMemoryAt (kind_of (terms_in config peer)) (with_peer l (pushed l.peer octets))) → Moves slot (with_peer l (pushed l.peer octets)) NoMemory mid new
-    → ChoosesRefused slot (update_in takes.body) mid new
+    → ChoosesRefused slot (sound_update takes.body (update_fault (kind_of (terms_in config peer)) takes.body)) mid new
     → (before : List ℕ) × (octet : ℕ) × (after : List ℕ) × (done ++ (octets ++ behind) ≡ before ++ octet ∷ after)
     × MayStarve (onto before (history config slot r)) octet × Holds config (turn (Starved_call slot before octet after) [] ∷ r) new
 starves_heard config r done slot peer l octets behind old mid new h configured linked connected some few pushes takes moves chooses =
@@ -310,15 +310,21 @@ starves_heard config r done slot peer l octets behind old mid new h configured l
       completes = item_of_rest heard.before (holding heard.part l.peer) heard.octet (Some (WholeMessage Update takes.body)) connected heard.whole heard.holds.link.peer;
       needs = subst (λ t. NeedsMemory (kind_of t) takes.body) (sym (ap terms_from heard.holds.terms)) takes.needs;
     } in
-    let ended : AreDifferent (λ p. IsSome (route heard.before p) ⊎ (is_among p (update_in takes.body).announced ≡ true)) chooses.ended =
-    different_as (λ p. IsSome (route_at mid.adj_in slot p) ⊎ (is_among p (update_in takes.body).announced ≡ true)) (λ p. IsSome (route heard.before p) ⊎ (is_among p (update_in takes.body).announced ≡ true)) chooses.ended
+    let terms : terms_of heard.before ≡ terms_in config peer = ap terms_from heard.holds.terms in
+    let update : Option UpdateBody = sound_update takes.body (update_fault (kind_of (terms_in config peer)) takes.body) in
+    let is_brought : brought heard.before (Octet heard.octet) ≡ sound_update takes.body (update_fault (kind_of (terms_in config peer)) takes.body) =
+    ap (λ found. option_and_then (update_heard (session heard.before).state (terms_of heard.before)) found) may.completes
+    ∙ ap (λ state. update_heard state (terms_of heard.before) (WholeMessage Update takes.body)) may.established
+    ∙ ap (λ t. sound_update takes.body (update_fault (kind_of t) takes.body)) terms in
+    let ended : AreDifferent (λ p. IsSome (route heard.before p) ⊎ (is_among p (announced_if update) ≡ true)) chooses.ended =
+    different_as (λ p. IsSome (route_at mid.adj_in slot p) ⊎ (is_among p (announced_if update) ≡ true)) (λ p. IsSome (route heard.before p) ⊎ (is_among p (announced_if update) ≡ true)) chooses.ended
     (λ p which. elim which [
       | inl there ↦ inl (subst (λ o. IsSome o) (ap (λ table. route_at table slot p) pushes.routes ∙ heard.holds.routes_are p) there)
       | inr named ↦ inr named
     ]) chooses.routed in
-    let N : List happens.Event → ℕ → Type 0 = λ x octet. named_in (update_in takes.body) + length chooses.ended ≤ choices_refused (option_and_then update_at (item_at x octet)) x in
+    let N : List happens.Event → ℕ → Type 0 = λ x octet. named_if update + length chooses.ended ≤ choices_refused (brought x (Octet octet)) x in
     let allowed : N heard.before heard.octet =
-    subst (λ found. named_in (update_in takes.body) + length chooses.ended ≤ choices_refused (option_and_then update_at found) heard.before) (sym may.completes) (most_refused heard.before (update_in takes.body) chooses.ended ended) in
+    subst (λ found. named_if update + length chooses.ended ≤ choices_refused found heard.before) (sym is_brought) (most_refused heard.before update chooses.ended ended) in
     let there : N (onto (done ++ cut.0) (history config slot r)) cut.1 = subst (λ octet. N (onto (done ++ cut.0) (history config slot r)) octet) (sym same.0) (subst (λ x. N x heard.octet) (sym same.1) allowed) in
     let so_far : old.chosen ≤ old.chosen_before + (choices_on done (history config slot r) + 0) = h.chosen in
     let most = chooses.chosen in
@@ -410,6 +416,7 @@ pub record HasCome (slot : ℕ) (octets rest : List ℕ) (first now : SpeakerSta
   pub whole : done ++ rest ≡ octets
   pub heard : Hears slot done first now
   pub counted : now.chosen_before ≡ first.chosen_before
+  pub rises : first.chosen ≤ now.chosen
 
 pub HasCome-start : (slot : ℕ) (octets : List ℕ) (first : SpeakerState) → HasCome slot octets octets first first
 HasCome-start slot octets first = record {
@@ -417,15 +424,17 @@ HasCome-start slot octets first = record {
   whole = refl;
   heard = λ config r done peer configured holds. subst (λ x. Holds config (turn (Bytes_call slot x) [] ∷ r) first) (sym (append-nil done)) holds;
   counted = refl;
+  rises = omega arith;
 }
 
-pub HasCome-more : (slot : ℕ) (octets rest taken next : List ℕ) (first now new : SpeakerState) → HasCome slot octets rest first now → taken ++ next ≡ rest → Hears slot taken now new → new.chosen_before ≡ now.chosen_before
+pub HasCome-more : (slot : ℕ) (octets rest taken next : List ℕ) (first now new : SpeakerState) → HasCome slot octets rest first now → taken ++ next ≡ rest → Hears slot taken now new → new.chosen_before ≡ now.chosen_before → now.chosen ≤ new.chosen
     → HasCome slot octets next first new
-HasCome-more slot octets rest taken next first now new h split more same = record {
+HasCome-more slot octets rest taken next first now new h split more same later = record {
   done = h.done ++ taken;
   whole = append_assoc h.done taken next ∙ ap (λ x. h.done ++ x) split ∙ h.whole;
   heard = Hears-more slot h.done taken first now new h.heard more;
   counted = same ∙ h.counted;
+  rises = let before = h.rises in omega (arith, before, later);
 }
 
 -- all octets have come, or the rest is dropped

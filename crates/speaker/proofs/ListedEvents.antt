@@ -1,4 +1,4 @@
-use Rattle.std.proofs.Common.{◌≡◌, ◌<◌, ◌++◌, IfOk, IfErr, List, [], ◌∷◌, Option, Some, None, Result, Ok, Err, refl, sym, ap, ◌∙◌, subst, arith}
+use Rattle.std.proofs.Common.{◌≡◌, ◌≤◌, ◌<◌, ◌++◌, IfOk, IfErr, List, [], ◌∷◌, Option, Some, None, Result, Ok, Err, refl, sym, ap, ◌∙◌, subst, arith}
 use Rattle.std.specs.Option.{MatchOption, option_map}
 use Rattle.bgp_conf.specs.declared.refusal.Refusal.{Refusal}
 use Rattle.bgp_conf.specs.declared.refusal.Refusal.TheVariants.{NoMemory}
@@ -7,7 +7,7 @@ use Rattle.rib_in.specs.LatestRoutes.{route_at}
 use Rattle.speaker.specs.Agreement.{Agrees}
 use Rattle.speaker.specs.FirstRefusal.{refusal_in, refusal_of, Grows, LacksMemory}
 use Rattle.speaker.specs.Linked.{Linked}
-use Rattle.speaker.specs.Played.{Follows, GoesOn, IsPlayed}
+use Rattle.speaker.specs.Played.{Follows, GoesOn, IsPlayed, Point, beginning}
 use Rattle.speaker.specs.Runs.{Run, Turn, asked, call_of, configuration_of, report_of}
 use Rattle.speaker.specs.SpeakerState.{SpeakerState, IsAsBefore, started, tables_of}
 use Rattle.speaker.specs.declared.config.Config.{Config}
@@ -47,7 +47,7 @@ agrees_new config own = record {
 }
 
 -- one more event with its answer
-follows_more : (config : Config) (before : Run) (events : List Event) (answers : List (Result Report Refusal)) (mid after : Run) (event : Event) (answer : Result Report Refusal)
+follows_more : (config : Config) (before : Point) (events : List Event) (answers : List (Result Report Refusal)) (mid after : Point) (event : Event) (answer : Result Report Refusal)
     → Follows config before events answers mid → GoesOn config mid event answer after → Follows config before (events ++ event ∷ []) (answers ++ answer ∷ []) after
 follows_more config before [] [] mid after event answer same on = (after, rw (← same) on, refl)
 follows_more config before [] (a ∷ answers) mid after event answer follows on = absurd follows
@@ -79,31 +79,54 @@ agrees_same config r old new same a = record {
       routes = λ s p. route_at (sym same.adj_in i) s p;
     }
 
-pub played_none : (config : Config) (s : SpeakerState) → Agrees config [] s → IsPlayed config [] [] s
-played_none config s agrees = record { r = []; follows = refl; agrees = agrees }
+pub played_none : (config : Config) (s : SpeakerState) → Agrees config [] s → s ≡ started config → IsPlayed config [] [] s
+played_none config s agrees is = record {
+  end = beginning;
+  follows = refl;
+  agrees = agrees;
+  chosen = ap (λ (x : SpeakerState). x.chosen) is;
+  chosen_before = ap (λ (x : SpeakerState). x.chosen_before) is;
+}
 
 -- what an accepted event leads to
 abbrev Accepts : Event → Report → SpeakerState → SpeakerState → Type 0
 Accepts event report s new =
     (config : Config) (r : Run) → Agrees config r s → (now : Turn) × (asked now.call ≡ call_of event) × (report ≡ report_of now) × Agrees config (now ∷ r) new
 
+-- what was chosen for it, and what before
+abbrev Counts : SpeakerState → SpeakerState → Type 0
+Counts s new = (new.chosen_before ≡ s.chosen) × (s.chosen ≤ new.chosen)
+
 -- an accepted event
 played_ok : (config : Config) (events : List Event) (answers : List (Result Report Refusal)) (event : Event) (report : Report) (s new : SpeakerState) → (h : IsPlayed config events answers s)
-    → refusal_in config h.r event ≡ None → Accepts event report s new → IsPlayed config (events ++ event ∷ []) (answers ++ Ok report ∷ []) new
-played_ok config events answers event report s new h unrefused agrees =
-    let more = agrees config h.r h.agrees in
+    → refusal_in config h.end.run event ≡ None → Accepts event report s new → Counts s new → IsPlayed config (events ++ event ∷ []) (answers ++ Ok report ∷ []) new
+played_ok config events answers event report s new h unrefused agrees counts =
+    let more = agrees config h.end.run h.agrees in
+    let so_far = h.chosen in
+    let counted = counts.0 in
+    let rises = counts.1 in
+    let most = more.3.holds.chosen in
+    let next : Point = record { run = more.0 ∷ h.end.run; chosen = new.chosen; chosen_before = new.chosen_before } in
     record {
-      r = more.0 ∷ h.r;
-      follows = follows_more config [] events answers h.r _ event (Ok report) h.follows (unrefused, (more.0, more.1, refl, more.2, more.3.settled));
+      end = next;
+      follows = follows_more config beginning events answers h.end next event (Ok report) h.follows
+          (unrefused, (more.0, more.1, refl, more.2, more.3.settled), record { counted = counted ∙ so_far; rises = omega (arith, so_far, rises); most = omega (arith, so_far, counted, most) });
       agrees = more.3;
+      chosen = refl;
+      chosen_before = refl;
     }
 
 -- a refused event stands as nothing
 played_err : (config : Config) (events : List Event) (answers : List (Result Report Refusal)) (event : Event) (why : Refusal) (s new : SpeakerState) → (h : IsPlayed config events answers s)
-    → MatchOption (refusal_in config h.r event) ((why ≡ NoMemory) × Grows (configuration_of config h.r) event) (λ first. why ≡ first)
-    → ((r : Run) → Agrees config r s → Agrees config r new) → IsPlayed config (events ++ event ∷ []) (answers ++ Err why ∷ []) new
-played_err config events answers event why s new h first agrees =
-    record { r = h.r; follows = follows_more config [] events answers h.r h.r event (Err why) h.follows (refl, first); agrees = agrees h.r h.agrees }
+    → MatchOption (refusal_in config h.end.run event) ((why ≡ NoMemory) × Grows (configuration_of config h.end.run) event) (λ first. why ≡ first)
+    → ((r : Run) → Agrees config r s → Agrees config r new) → new.chosen ≡ s.chosen → new.chosen_before ≡ s.chosen_before → IsPlayed config (events ++ event ∷ []) (answers ++ Err why ∷ []) new
+played_err config events answers event why s new h first agrees same same_before = record {
+  end = h.end;
+  follows = follows_more config beginning events answers h.end h.end event (Err why) h.follows (refl, first);
+  agrees = agrees h.end.run h.agrees;
+  chosen = same ∙ h.chosen;
+  chosen_before = same_before ∙ h.chosen_before;
+}
 
 abbrev err_of : Refusal → Result Report Refusal
 err_of why = Err why
@@ -117,20 +140,21 @@ unrefused None event report s new m = refl
 unrefused (Some why) event report s new m = absurd (let is = m.0 in cc)
 
 refused_more : (config : Config) (events : List Event) (answers : List (Result Report Refusal)) (event : Event) (why : Refusal) (s new : SpeakerState) (first : Option Refusal) → (h : IsPlayed config events answers s)
-    → refusal_in config h.r event ≡ first → Refuses first event (Err why) s new → IsPlayed config (events ++ event ∷ []) (answers ++ Err why ∷ []) new
+    → refusal_in config h.end.run event ≡ first → Refuses first event (Err why) s new → IsPlayed config (events ++ event ∷ []) (answers ++ Err why ∷ []) new
 refused_more config events answers event why s new (Some w) h is m =
     let same : why ≡ w = let answer : err_of why ≡ err_of w = m.0 in cc in
-    let M : Option Refusal → Type 0 = λ first. MatchOption first ((why ≡ NoMemory) × Grows (configuration_of config h.r) event) (λ x. why ≡ x) in
-    played_err config events answers event why s new h (subst M (sym is) same) (λ r a. rw m.1 a)
+    let M : Option Refusal → Type 0 = λ first. MatchOption first ((why ≡ NoMemory) × Grows (configuration_of config h.end.run) event) (λ x. why ≡ x) in
+    played_err config events answers event why s new h (subst M (sym is) same) (λ r a. rw m.1 a) (ap (λ (x : SpeakerState). x.chosen) m.1) (ap (λ (x : SpeakerState). x.chosen_before) m.1)
 refused_more config events answers event why s new None h is m =
-    let M : Option Refusal → Type 0 = λ first. MatchOption first ((why ≡ NoMemory) × Grows (configuration_of config h.r) event) (λ x. why ≡ x) in
-    played_err config events answers event why s new h (subst M (sym is) (m.0, subst (λ conf. Grows conf event) h.agrees.holds.conf m.1.0)) (λ r a. agrees_same config r s new m.1.1 a)
+    let M : Option Refusal → Type 0 = λ first. MatchOption first ((why ≡ NoMemory) × Grows (configuration_of config h.end.run) event) (λ x. why ≡ x) in
+    played_err config events answers event why s new h (subst M (sym is) (m.0, subst (λ conf. Grows conf event) h.agrees.holds.conf m.1.0)) (λ r a. agrees_same config r s new m.1.1 a) m.1.1.chosen m.1.1.chosen_before
 
 -- one more event
 pub played_more : (config : Config) (events : List Event) (answers : List (Result Report Refusal)) (event : Event) (answer : Result Report Refusal) (s new : SpeakerState)
-    → IsPlayed config events answers s → IfOk answer (λ report. Accepts event report s new) → Refuses (refusal_of s event) event answer s new
+    → IsPlayed config events answers s → IfOk answer (λ report. Accepts event report s new) → IfOk answer (λ report. new.chosen_before ≡ s.chosen) → IfOk answer (λ report. s.chosen ≤ new.chosen)
+    → Refuses (refusal_of s event) event answer s new
     → IsPlayed config (events ++ event ∷ []) (answers ++ answer ∷ []) new
-played_more config events answers event (Ok report) s new h agrees refused =
-    played_ok config events answers event report s new h (sym (refusal_same config h.r s event h.agrees) ∙ unrefused (refusal_of s event) event report s new refused) agrees
-played_more config events answers event (Err why) s new h agrees refused =
-    refused_more config events answers event why s new (refusal_of s event) h (sym (refusal_same config h.r s event h.agrees)) refused
+played_more config events answers event (Ok report) s new h agrees counted rises refused =
+    played_ok config events answers event report s new h (sym (refusal_same config h.end.run s event h.agrees) ∙ unrefused (refusal_of s event) event report s new refused) agrees (counted, rises)
+played_more config events answers event (Err why) s new h agrees counted rises refused =
+    refused_more config events answers event why s new (refusal_of s event) h (sym (refusal_same config h.end.run s event h.agrees)) refused

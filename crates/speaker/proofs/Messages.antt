@@ -13,7 +13,7 @@ use Rattle.decision.specs.BookContents.{offer_at}
 use Rattle.net_prefix.specs.declared.prefix.Prefix.{Prefix}
 use Rattle.rib_in.specs.LatestRoutes.{route_at}
 use Rattle.speaker.specs.AdjRibIn.{is_among, update_heard, word_if}
-use Rattle.speaker.specs.Choices.{Chooses, ChoosesHeard, ChoosesRefused, named_if, named_in}
+use Rattle.speaker.specs.Choices.{Chooses, ChoosesHeard, ChoosesRefused, announced_if, named_if}
 use Rattle.speaker.specs.Linked.{Linked}
 use Rattle.speaker.specs.Moves.{KeepsKept, KeepsRest, Moves, IsHeard, TakesItem, moved}
 use Rattle.speaker.specs.SpeakerState.{SpeakerState}
@@ -104,14 +104,14 @@ starves slot l old mid new up links routes offers rest moves = record {
     gone b is s x y same = elim (cases_eq s slot) [ inl here ↦ rw (is, here, eq-eqb slot slot refl) refl | inr other ↦ rw (same other) refl ]
 
 -- how often a best route was chosen for it: for what was taken, and for the routes of its session
-pub refused_chosen : (slot : ℕ) (update : UpdateBody) (left : Bool) (old mid new : SpeakerState) → left ≡ true
-    → ((p : Prefix) → IsSome (route_at mid.adj_in slot p) → IsSome (route_at old.adj_in slot p) ⊎ (is_among p update.announced ≡ true)) → mid.chosen ≤ old.chosen + named_in update
+pub refused_chosen : (slot : ℕ) (update : Option UpdateBody) (left : Bool) (old mid new : SpeakerState) → left ≡ true
+    → ((p : Prefix) → IsSome (route_at mid.adj_in slot p) → IsSome (route_at old.adj_in slot p) ⊎ (is_among p (announced_if update) ≡ true)) → mid.chosen ≤ old.chosen + named_if update
     → Chooses slot left mid new → ChoosesRefused slot update old new
 refused_chosen slot update left old mid new is routes few chooses =
     let all = chooses.ends is in
     let most = all.2 in
     record {
       ended = all.0;
-      routed = different_as (λ p. IsSome (route_at mid.adj_in slot p)) (λ p. IsSome (route_at old.adj_in slot p) ⊎ (is_among p update.announced ≡ true)) all.0 routes all.1;
+      routed = different_as (λ p. IsSome (route_at mid.adj_in slot p)) (λ p. IsSome (route_at old.adj_in slot p) ⊎ (is_among p (announced_if update) ≡ true)) all.0 routes all.1;
       chosen = omega (arith, few, most);
     }

@@ -1,15 +1,13 @@
 -- How often a best route may be chosen, by what comes and goes (own, for RFC 4271 section 9.1).
 use Rattle.std.specs.Prelude.{◌≡◌, ◌≤◌, ◌+◌, ◌⊎◌, ◌&&◌, ◌||◌, ℕ, zero, suc, Bool, not, List, [], ◌∷◌, ◌++◌, length, Option, Some, None, is_some, true, false, if◌then◌else◌}
-use Rattle.std.specs.Option.{IsSome, option_and_then}
+use Rattle.std.specs.Option.{IsSome}
 use Rattle.bgp_conf.specs.declared.command.Command.{Command}
 use Rattle.bgp_conf.specs.declared.command.Command.TheVariants.{AddPeer, Enable, Reach}
 use Rattle.bgp_fsm.specs.StateTests.{is_established}
 use Rattle.bgp_fsm.specs.declared.input.Input.TheVariants.{Start, Up, Fail, NoMemory}
-use Rattle.bgp_msg.specs.MessageStream.{Item, WholeMessage, FaultyHeader}
-use Rattle.bgp_msg.specs.UpdateMeaning.{UpdateBody, update_in}
-use Rattle.bgp_msg.specs.declared.frame.MessageType.TheVariants.{Open, Update, Notification, Keepalive}
+use Rattle.bgp_msg.specs.UpdateMeaning.{UpdateBody}
 use Rattle.bgp_peer.specs.SessionInputs as slot
-use Rattle.bgp_peer.specs.SessionInputs.{Octet, Signalled, item_at, onto, session}
+use Rattle.bgp_peer.specs.SessionInputs.{Octet, Signalled, onto, session}
 use Rattle.net_prefix.specs.declared.prefix.Prefix.{Prefix}
 use Rattle.rib_in.specs.LatestRoutes.{RouteTable, route_at}
 use Rattle.speaker.specs.AdjRibIn.{brought, is_among, route, word_if}
@@ -47,8 +45,8 @@ announced_in (e ∷ h) = announced_if (brought h e) ++ announced_in h
 abbrev pub routes_held : List slot.Event → ℕ
 routes_held h = how_many (λ p. is_some (route h p)) (announced_in h)
 
--- for what happens to a slot: once for each prefix that its UPDATE names, and, where the session isn't Established behind
--- it, once for each prefix to which there was a route (there is none where it wasn't Established before)
+-- for what happens to a slot: as often as its UPDATE names a prefix, and, where the session isn't Established behind it,
+-- once for each prefix to which there was a route (there is none where it wasn't Established before)
 abbrev pub choices_by : List slot.Event → slot.Event → ℕ
 choices_by h e = named_if (brought h e) + (if is_established (session (e ∷ h)).state then 0 else routes_held h)
 
@@ -57,18 +55,11 @@ abbrev pub choices_on : List ℕ → List slot.Event → ℕ
 choices_on [] h = 0
 choices_on (octet ∷ octets) h = choices_by h (Octet octet) + choices_on octets (Octet octet ∷ h)
 
--- the UPDATE that an item of the stream is
-abbrev pub update_at : Item → Option UpdateBody
-update_at (FaultyHeader fault) = None
-update_at (WholeMessage Open body) = None
-update_at (WholeMessage Update body) = Some (update_in body)
-update_at (WholeMessage Notification body) = None
-update_at (WholeMessage Keepalive body) = None
-
--- for an UPDATE to which memory is refused: once for each prefix that it names, and once for each prefix to which there
--- was a route or that it announces, since it may have been taken in part
+-- for want of memory in the place of an UPDATE, which ends the session: once for each prefix to which there was a route.
+-- A faultless UPDATE may have been taken in part: as often as it names a prefix, and once for each prefix to which there
+-- was a route or that it announces
 abbrev pub choices_refused : Option UpdateBody → List slot.Event → ℕ
-choices_refused None h = 0
+choices_refused None h = routes_held h
 choices_refused (Some update) h =
     named_in update + how_many (λ p. is_some (route h p) || is_among p update.announced) (update.announced ++ announced_in h)
 
@@ -82,7 +73,8 @@ abbrev pub announced_to : Config → Run → ℕ → List Prefix
 announced_to config r zero = []
 announced_to config r (suc s) = announced_in (history config s r) ++ announced_to config r s
 
--- for a command: a session that it ends, and for an entry of `reach` once for each prefix to which some slot has a route
+-- for a command: what enabling a peer is to its session (it ends none), and for an entry of `reach` once for each prefix
+-- to which some slot has a route
 abbrev pub choices_commanded : Config → Run → Command → ℕ
 choices_commanded config r (AddPeer s peer) = 0
 choices_commanded config r (Enable s) = choices_by (history config s r) (Signalled Start)
@@ -95,7 +87,7 @@ choices_called config r (Fail_call s) = choices_by (history config s r) (Signall
 choices_called config r (Bytes_call s octets) = choices_on octets (history config s r)
 choices_called config r (Starved_call s before octet behind) =
     choices_on before (history config s r)
-    + choices_refused (option_and_then update_at (item_at (onto before (history config s r)) octet)) (onto before (history config s r))
+    + choices_refused (brought (onto before (history config s r)) (Octet octet)) (onto before (history config s r))
 choices_called config r (Tick_call now) = 0
 choices_called config r (Command_call command) = choices_commanded config r command
 choices_called config r (Take_call s octets) = 0
@@ -121,10 +113,10 @@ AreDifferent holds [] = Unit {0}
 AreDifferent holds (p ∷ prefixes) = (is_among p prefixes ≡ false) × holds p × AreDifferent holds prefixes
 
 -- where an UPDATE was taken in part, the slot has no route but one that it had or that the UPDATE announces; a best route
--- was chosen once at most for each prefix that it names
-pub record IsPart (slot : ℕ) (update : UpdateBody) (old new : RoutingState) : Type 0 where
-  pub routes : (p : Prefix) → IsSome (route_at new.adj_in slot p) → IsSome (route_at old.adj_in slot p) ⊎ (is_among p update.announced ≡ true)
-  pub chosen : new.chosen ≤ old.chosen + named_in update
+-- was chosen at most as often as it names a prefix. One with a fault wasn't taken
+pub record IsPart (slot : ℕ) (update : Option UpdateBody) (old new : RoutingState) : Type 0 where
+  pub routes : (p : Prefix) → IsSome (route_at new.adj_in slot p) → IsSome (route_at old.adj_in slot p) ⊎ (is_among p (announced_if update) ≡ true)
+  pub chosen : new.chosen ≤ old.chosen + named_if update
 
 -- a slot leaves Established: a best route is chosen once at most for each prefix to which it had a route
 abbrev pub Ends : ℕ → RouteTable → ℕ → ℕ → Type 0
@@ -135,7 +127,7 @@ pub record Chooses (slot : ℕ) (left : Bool) (old new : SpeakerState) : Type 0 
   pub ends : left ≡ true → Ends slot old.adj_in old.chosen new.chosen
   pub stays : left ≡ false → new.chosen ≡ old.chosen
 
--- a message that is taken: once for each prefix that its UPDATE names, and for the routes of a session that it ends
+-- a message that is taken: as often as its UPDATE names a prefix, and for the routes of a session that it ends
 pub record ChoosesHeard (slot : ℕ) (update : Option UpdateBody) (left : Bool) (old new : SpeakerState) : Type 0 where
   pub ended : List Prefix
   pub routed : AreDifferent (λ p. IsSome (word_if update p (route_at old.adj_in slot p))) ended
@@ -143,7 +135,7 @@ pub record ChoosesHeard (slot : ℕ) (update : Option UpdateBody) (left : Bool) 
   pub chosen : new.chosen ≤ old.chosen + named_if update + length ended
 
 -- an UPDATE to which memory is refused: the same, for each route that was there or that it announces
-pub record ChoosesRefused (slot : ℕ) (update : UpdateBody) (old new : SpeakerState) : Type 0 where
+pub record ChoosesRefused (slot : ℕ) (update : Option UpdateBody) (old new : SpeakerState) : Type 0 where
   pub ended : List Prefix
-  pub routed : AreDifferent (λ p. IsSome (route_at old.adj_in slot p) ⊎ (is_among p update.announced ≡ true)) ended
-  pub chosen : new.chosen ≤ old.chosen + named_in update + length ended
+  pub routed : AreDifferent (λ p. IsSome (route_at old.adj_in slot p) ⊎ (is_among p (announced_if update) ≡ true)) ended
+  pub chosen : new.chosen ≤ old.chosen + named_if update + length ended

@@ -68,6 +68,7 @@ pub fn choose_again<A: Allocator + Clone, B: Book<A>>(
     ensures routes { routing.new.adj_in ≡ routing.old.adj_in }
     ensures made { AreMadeAgain (tables conf.now links.now.entries routing.old.adj_in) (offer_at routing.old.book) (offer_at routing.new.book) }
     ensures chosen { (known : List ThePrefix) × AreDifferent (HasRoute routing.old.adj_in) known × (routing.new.chosen ≤ routing.old.chosen + length known) }
+    ensures rises { routing.old.chosen ≤ routing.new.chosen }
 {
     let mut after = None;
     while let Some(prefix) = routing.ribs.routes().prefix_after(after) {

@@ -1,5 +1,5 @@
 //! What commands do to the tables.
-ghost use Rattle.std.specs.Prelude.{◌≡◌, ℕ, [], ◌∷◌, OnOk, OnErr, IsSome, None, Some, if◌then◌else◌};
+ghost use Rattle.std.specs.Prelude.{◌≡◌, ◌≤◌, ℕ, [], ◌∷◌, OnOk, OnErr, IsSome, None, Some, if◌then◌else◌};
 ghost use Rattle.std.specs.Ordering.{nat_cmp};
 ghost use Rattle.std.specs.BTreeMap.{is_at};
 ghost use Rattle.bgp_conf.specs.ConfAfter.{TakesMemory};
@@ -30,6 +30,7 @@ impl<A: Allocator + Clone, B: Book<A>> Speaker<A, B> {
         ensures memory { OnErr result (TakesMemory self.old.conf command.now) }
         ensures ok { OnOk result ((config : TheConfig) (r : Run) → Holds config r self.old → Holds config (turn (Command_call command.now) [] ∷ r) self.new) }
         ensures counted { OnOk result (self.new.chosen_before ≡ self.old.chosen) }
+        ensures rises { OnOk result (self.old.chosen ≤ self.new.chosen) }
     {
         match *command {
             Command::AddPeer(slot, conf) => self.add_peer(command, slot, &conf),
@@ -58,6 +59,7 @@ impl<A: Allocator + Clone, B: Book<A>> Speaker<A, B> {
         ensures err { OnErr result (IsAsBefore self.old self.new) }
         ensures ok { OnOk result ((config : TheConfig) (r : Run) → Holds config r self.old → Holds config (turn (Command_call command.now) [] ∷ r) self.new) }
         ensures counted { OnOk result (self.new.chosen_before ≡ self.old.chosen) }
+        ensures rises { OnOk result (self.old.chosen ≤ self.new.chosen) }
     {
         let own = Open {
             asn: self.config.asn,

@@ -78,6 +78,7 @@ impl<A: Allocator + Clone, B: Book<A>> Speaker<A, B> {
         ensures queues { QueuesAll result self.old self.new }
         ensures served { (slot : ℕ) → slot < 64 → IsServedAt self.new slot }
         ensures counted { self.new.chosen_before ≡ self.old.chosen_before }
+        ensures rises { self.old.chosen ≤ self.new.chosen }
     {
         let mut starved = 0;
         let mut octets = Octets::new();
@@ -97,6 +98,7 @@ impl<A: Allocator + Clone, B: Book<A>> Speaker<A, B> {
         ensures served { IfNone result ((slot : ℕ) → slot < 64 → IsServedAt self.new slot) }
         ensures short { IfSome result (λ slot. IsShortAt self.new slot) }
         ensures counted { self.new.chosen_before ≡ self.old.chosen_before }
+        ensures rises { self.old.chosen ≤ self.new.chosen }
     {
         for slot in 0..slots_end(&self.links) {
             if self.serve_slot(slot, octets, message).is_err() {
@@ -112,6 +114,7 @@ impl<A: Allocator + Clone, B: Book<A>> Speaker<A, B> {
         ensures queues { QueuesStarved slot self.old self.new }
         ensures stand { (s : ℕ) → is_standing (link_at self.new.links s) ≡ (if s == slot then false else is_standing (link_at self.old.links s)) }
         ensures counted { self.new.chosen_before ≡ self.old.chosen_before }
+        ensures rises { self.old.chosen ≤ self.new.chosen }
     {
         let _ = self.input(slot, Input::NoMemory);
         self.routing.ribs.is_chosen();

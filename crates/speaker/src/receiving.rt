@@ -4,7 +4,7 @@ ghost use Rattle.std.specs.Option.{IsSome, option_map, option_and_then};
 ghost use Rattle.bgp_fsm.specs.declared.state.State.TheVariants.{Established};
 ghost use Rattle.bgp_msg.specs.MessageFaults.{open_fault};
 ghost use Rattle.bgp_msg.specs.MessageStream.{WholeMessage, meaning};
-ghost use Rattle.bgp_msg.specs.UpdateMeaning.{update_fault, update_in};
+ghost use Rattle.bgp_msg.specs.UpdateMeaning.{update_fault};
 ghost use Rattle.bgp_msg.specs.declared.frame.MessageType.TheVariants.{Update as UpdateMessage};
 ghost use Rattle.bgp_peer.specs.SessionInputs.{Terms, expected_of, input_of, open_input, update_input};
 ghost use Rattle.bgp_msg.specs.MessageSpelling.{front_prefixes};
@@ -61,7 +61,8 @@ pub fn take_front<A: Allocator + Clone, B: Book<A>>(
     ensures memory { OnErr result (TakesMemoryAt sender.kind link.now) }
     ensures chosen { OnOk result ((terms : Terms) → AreOf terms sender
         → routing.new.chosen ≤ routing.old.chosen + named_if (option_and_then (update_heard link.now.peer.session.state terms) (meaning link.now.peer.rest))) }
-    ensures part { OnErr result ((body : List ℕ) → meaning link.now.peer.rest ≡ Some (WholeMessage UpdateMessage body) → IsPart sender.slot (update_in body) routing.old routing.new) }
+    ensures rises { routing.old.chosen ≤ routing.new.chosen }
+    ensures part { OnErr result ((body : List ℕ) → meaning link.now.peer.rest ≡ Some (WholeMessage UpdateMessage body) → IsPart sender.slot (sound_update body (update_fault sender.kind body)) routing.old routing.new) }
 {
     match link.peer.front() {
         Step::Need => Ok(None),
@@ -97,7 +98,8 @@ fn judge<A: Allocator + Clone, B: Book<A>>(
     ensures memory { OnErr result ((state ≡ Established) × (frame.entry.kind ≡ UpdateMessage) × NeedsMemory sender.kind frame.entry.body.now) }
     ensures chosen { OnOk result ((terms : Terms) → AreOf terms sender
         → routing.new.chosen ≤ routing.old.chosen + named_if (update_heard state terms (WholeMessage frame.entry.kind frame.entry.body.now))) }
-    ensures part { OnErr result (IsPart sender.slot (update_in frame.entry.body.now) routing.old routing.new) }
+    ensures rises { routing.old.chosen ≤ routing.new.chosen }
+    ensures part { OnErr result (IsPart sender.slot (sound_update frame.entry.body.now (update_fault sender.kind frame.entry.body.now)) routing.old routing.new) }
 {
     match (frame.kind, state) {
         (MessageType::Open, State::OpenSent) => Ok(judge_open(frame.body, sender.expected)),
@@ -139,7 +141,8 @@ fn judge_update<A: Allocator + Clone, B: Book<A>>(
     ensures others { OnErr result (KeepsOthers sender.slot routing.old routing.new) }
     ensures memory { OnErr result (NeedsMemory sender.kind body.now) }
     ensures chosen { OnOk result (routing.new.chosen ≤ routing.old.chosen + named_if (sound_update body.now (update_fault sender.kind body.now))) }
-    ensures part { OnErr result (IsPart sender.slot (update_in body.now) routing.old routing.new) }
+    ensures rises { routing.old.chosen ≤ routing.new.chosen }
+    ensures part { OnErr result (IsPart sender.slot (sound_update body.now (update_fault sender.kind body.now)) routing.old routing.new) }
 {
     match read_update(alloc, body, sender.kind) {
         Ok(update) => {
@@ -170,7 +173,8 @@ fn take_update<A: Allocator + Clone, B: Book<A>>(
     ensures others { OnErr result (KeepsOthers sender.slot routing.old routing.new) }
     ensures memory { OnErr result (update.entry.announced ≢ []) }
     ensures chosen { routing.new.chosen ≤ routing.old.chosen + named_in update.entry }
-    ensures part { OnErr result (IsPart sender.slot update.entry routing.old routing.new) }
+    ensures rises { routing.old.chosen ≤ routing.new.chosen }
+    ensures part { OnErr result (IsPart sender.slot (Some update.entry) routing.old routing.new) }
 {
     withdraw_each(conf, links, routing, sender.slot, update.withdrawn());
     let announced = update.announced();
@@ -203,6 +207,7 @@ fn withdraw_each<A: Allocator + Clone, B: Book<A>>(
     ensures routes { (s : ℕ) (prefix : ThePrefix) → route_at routing.new.adj_in s prefix ≡ (if s == slot && is_among prefix (front_prefixes prefixes.entry.octets.now).0 then None else route_at routing.old.adj_in s prefix) }
     ensures offers { (s : ℕ) (prefix : ThePrefix) → offer_at routing.new.book s prefix ≡ (if s == slot && is_among prefix (front_prefixes prefixes.entry.octets.now).0 then None else offer_at routing.old.book s prefix) }
     ensures chosen { routing.new.chosen ≤ routing.old.chosen + length (front_prefixes prefixes.entry.octets.now).0 }
+    ensures rises { routing.old.chosen ≤ routing.new.chosen }
 {
     for prefix in prefixes {
         routing.withdraw(conf, links, slot, prefix);
@@ -227,6 +232,7 @@ fn announce_each<A: Allocator + Clone, B: Book<A>>(
     ensures offers { OnOk result ((s : ℕ) (prefix : ThePrefix) → offer_at routing.new.book s prefix ≡ (if s == slot && is_among prefix (front_prefixes prefixes.entry.octets.now).0 then candidate else offer_at routing.old.book s prefix)) }
     ensures others { OnErr result (KeepsOthers slot routing.old routing.new) }
     ensures chosen { routing.new.chosen ≤ routing.old.chosen + length (front_prefixes prefixes.entry.octets.now).0 }
+    ensures rises { routing.old.chosen ≤ routing.new.chosen }
     ensures announced { OnErr result ((p : ThePrefix) → IsSome (route_at routing.new.adj_in slot p) → IsSome (route_at routing.old.adj_in slot p) ⊎ (is_among p (front_prefixes prefixes.entry.octets.now).0 ≡ true)) }
     ensures some { (s : ℕ) (prefix : ThePrefix) → ((s ≡ slot) × (offer_at routing.new.book s prefix ≡ candidate)) ⊎ (offer_at routing.new.book s prefix ≡ offer_at routing.old.book s prefix) }
 {

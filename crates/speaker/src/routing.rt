@@ -75,6 +75,7 @@ impl<A: Allocator + Clone, B: Book<A>> Routing<A, B> {
         ensures offers { OnOk result ((s : ℕ) (p : ThePrefix) → offer_at self.new.book s p ≡ (if is_route slot prefix s p then candidate else offer_at self.old.book s p)) }
         ensures err { OnErr result (((s : ℕ) (p : ThePrefix) → route_at self.new.adj_in s p ≡ route_at self.old.adj_in s p) × ((s : ℕ) (p : ThePrefix) → offer_at self.new.book s p ≡ offer_at self.old.book s p)) }
         ensures chosen { self.new.chosen ≤ self.old.chosen + 1 }
+        ensures rises { self.old.chosen ≤ self.new.chosen }
         ensures marked { AreMarked conf.now links.now.entries self.new }
     {
         self.waiting.add(prefix)?;
@@ -89,6 +90,7 @@ impl<A: Allocator + Clone, B: Book<A>> Routing<A, B> {
         ensures routes { (s : ℕ) (p : ThePrefix) → route_at self.new.adj_in s p ≡ (if is_route slot prefix s p then None else route_at self.old.adj_in s p) }
         ensures offers { (s : ℕ) (p : ThePrefix) → offer_at self.new.book s p ≡ (if is_route slot prefix s p then None else offer_at self.old.book s p) }
         ensures chosen { self.new.chosen ≤ self.old.chosen + 1 }
+        ensures rises { self.old.chosen ≤ self.new.chosen }
         ensures marked { AreMarked conf.now links.now.entries self.new }
     {
         if self.ribs.routes().get(slot, prefix).is_none() {
@@ -105,6 +107,7 @@ impl<A: Allocator + Clone, B: Book<A>> Routing<A, B> {
         ensures offers { (s : ℕ) (p : ThePrefix) → offer_at self.new.book s p ≡ (if s == slot then None else offer_at self.old.book s p) }
         // A best route is chosen once at most for each prefix to which the slot had a route.
         ensures chosen { Ends slot self.old.adj_in self.old.chosen self.new.chosen }
+        ensures rises { self.old.chosen ≤ self.new.chosen }
         ensures marked { AreMarked conf.now links.now.entries self.new }
     {
         let mut after = None;
@@ -126,6 +129,7 @@ impl<A: Allocator + Clone, B: Book<A>> Routing<A, B> {
         ensures routes { self.new.adj_in ≡ self.old.adj_in }
         ensures offers { (s : ℕ) (p : ThePrefix) → offer_at self.new.book s p ≡ (if is_prefix prefix p then changed changes.now s (offer_at self.old.book s p) else offer_at self.old.book s p) }
         ensures chosen { self.new.chosen ≤ self.old.chosen + 1 }
+        ensures rises { self.old.chosen ≤ self.new.chosen }
         ensures marked { AreMarked conf.now links.now.entries self.new }
     {
         self.ribs.change(prefix, changes);

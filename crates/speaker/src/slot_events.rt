@@ -8,7 +8,8 @@ ghost use Rattle.net_prefix.specs.declared.prefix.Prefix.{Prefix as ThePrefix};
 ghost use Rattle.decision.specs.BookContents.{offer_at};
 ghost use Rattle.rib_in.specs.LatestRoutes.{route_at};
 ghost use Rattle.bgp_msg.specs.MessageStream.{meaning};
-ghost use Rattle.bgp_msg.specs.UpdateMeaning.{update_in};
+ghost use Rattle.bgp_msg.specs.UpdateMeaning.{update_fault};
+ghost use Rattle.speaker.specs.AdjRibIn.{sound_update};
 ghost use Rattle.speaker.specs.Choices.{Chooses, ChoosesRefused, Ends};
 ghost use Rattle.speaker.specs.Marks.{AreMarked, IsFollowed};
 ghost use Rattle.speaker.specs.Moves.{Moves, Pushes, TakesMemoryAt, TakesItem, taken_of};
@@ -36,6 +37,7 @@ impl<A: Allocator + Clone, B: Book<A>> Speaker<A, B> {
         ensures moves { (l : Linked) → link_at self.old.links slot ≡ Some l → Moves slot l input self.old self.new }
         ensures chosen { (l : Linked) → link_at self.old.links slot ≡ Some l → Chooses slot (effects_of input l.peer.session).left self.old self.new }
         ensures counted { self.new.chosen_before ≡ self.old.chosen_before }
+        ensures rises { self.old.chosen ≤ self.new.chosen }
     {
         let Some(link) = self.links.get_mut(&slot) else {
             return Effects::NONE;
@@ -52,6 +54,7 @@ impl<A: Allocator + Clone, B: Book<A>> Speaker<A, B> {
         ensures starved { OnErr result (HearsUntil slot octets.now self.old self.new) }
         ensures within { OnErr result (slot < 64) }
         ensures counted { self.new.chosen_before ≡ self.old.chosen_before }
+        ensures rises { self.old.chosen ≤ self.new.chosen }
     {
         let mut rest = octets;
         while !rest.is_empty() {
@@ -73,6 +76,7 @@ impl<A: Allocator + Clone, B: Book<A>> Speaker<A, B> {
         ensures starved { OnErr result (HearsUntil slot octets.now self.old self.new) }
         ensures slot { OnErr result (slot < 64) }
         ensures counted { self.new.chosen_before ≡ self.old.chosen_before }
+        ensures rises { self.old.chosen ≤ self.new.chosen }
     {
         let taken = self.push(slot, octets);
         if taken == 0 {
@@ -88,6 +92,7 @@ impl<A: Allocator + Clone, B: Book<A>> Speaker<A, B> {
         ensures count { (l : Linked) → link_at self.old.links slot ≡ Some l → result ≡ taken_of l.peer octets.now }
         ensures pushes { (l : Linked) → link_at self.old.links slot ≡ Some l → Pushes slot l (take result octets.now) self.old self.new }
         ensures counted { self.new.chosen_before ≡ self.old.chosen_before }
+        ensures rises { self.old.chosen ≤ self.new.chosen }
     {
         let Some(link) = self.links.get_mut(&slot) else {
             return 0;
@@ -101,8 +106,9 @@ impl<A: Allocator + Clone, B: Book<A>> Speaker<A, B> {
         ensures taken { OnOk result ((l : Linked) (peer : ThePeer) → link_at self.old.links slot ≡ Some l → peer_at self.old.conf slot ≡ Some peer
             → TakesItem slot (terms_in self.old.config peer) l (meaning l.peer.rest) self.old self.new) }
         ensures starved { OnErr result ((l : Linked) (peer : ThePeer) → link_at self.old.links slot ≡ Some l → peer_at self.old.conf slot ≡ Some peer
-            → (takes : TakesMemoryAt (kind_of (terms_in self.old.config peer)) l) × Moves slot l NoMemory self.old self.new × ChoosesRefused slot (update_in takes.body) self.old self.new) }
+            → (takes : TakesMemoryAt (kind_of (terms_in self.old.config peer)) l) × Moves slot l NoMemory self.old self.new × ChoosesRefused slot (sound_update takes.body (update_fault (kind_of (terms_in self.old.config peer)) takes.body)) self.old self.new) }
         ensures counted { self.new.chosen_before ≡ self.old.chosen_before }
+        ensures rises { self.old.chosen ≤ self.new.chosen }
         ensures within { OnErr result (slot < 64) }
     {
         let Some(peer) = self.conf.peer(slot) else {
@@ -158,6 +164,7 @@ fn follow<A: Allocator + Clone, B: Book<A>>(
     ensures offers { (s : ℕ) (prefix : ThePrefix) → offer_at routing.new.book s prefix ≡ (if effects.now.left && s == slot then None else offer_at routing.old.book s prefix) }
     ensures chosen { effects.now.left ≡ true → Ends slot routing.old.adj_in routing.old.chosen routing.new.chosen }
     ensures stays { effects.now.left ≡ false → routing.new.chosen ≡ routing.old.chosen }
+    ensures rises { routing.old.chosen ≤ routing.new.chosen }
 {
     if effects.left {
         routing.clear(slot);

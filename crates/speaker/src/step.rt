@@ -1,5 +1,5 @@
 //! The speaker and its calls.
-ghost use Rattle.std.specs.Prelude.{◌≡◌, ◌≢◌, ◌<◌, ◌⊎◌, ◌↔◌, ◌++◌, ℕ, [], ◌∷◌, true, length, min, take, drop, MatchOption, MatchResult, IfErr, IsOk, IfOk, None, Some};
+ghost use Rattle.std.specs.Prelude.{◌≡◌, ◌≢◌, ◌≤◌, ◌<◌, ◌⊎◌, ◌↔◌, ◌++◌, ℕ, [], ◌∷◌, true, length, min, take, drop, MatchOption, MatchResult, IfErr, IsOk, IfOk, None, Some};
 ghost use Rattle.bgp_conf.specs.Configuration.{AddressesDiffer, peer_at};
 ghost use Rattle.bgp_conf.specs.declared.conf.ConfiguredPeer.{ConfiguredPeer as ThePeer};
 ghost use Rattle.std.specs.Option.{option_map};
@@ -111,8 +111,9 @@ impl<A: Allocator + Clone, B: Book<A>> Speaker<A, B> {
         // end, with each want of memory, and this turn is what it reports.
         ensures agrees { IfOk result (λ report. (config : TheConfig) (r : Run) → Agrees config r self.old
             → (now : Turn) × (asked now.call ≡ call_of event.entry) × (report ≡ report_of now) × Agrees config (now ∷ r) self.new) }
-        // The count of the calls before has all choices up to this one.
+        // The count of the calls before has all choices up to this one, and no choice is taken back.
         ensures counted { IfOk result (λ _. self.new.chosen_before ≡ self.old.chosen) }
+        ensures rises { IfOk result (λ _. self.old.chosen ≤ self.new.chosen) }
     {
         self.check(&event)?;
         self.take_event(event)
@@ -125,6 +126,7 @@ impl<A: Allocator + Clone, B: Book<A>> Speaker<A, B> {
         ensures agrees { IfOk result (λ report. (config : TheConfig) (r : Run) → Agrees config r self.old
             → (now : Turn) × (asked now.call ≡ call_of event.entry) × (report ≡ report_of now) × Agrees config (now ∷ r) self.new) }
         ensures counted { IfOk result (λ _. self.new.chosen_before ≡ self.old.chosen) }
+        ensures rises { IfOk result (λ _. self.old.chosen ≤ self.new.chosen) }
     {
         let mut starved = 0;
         match event {
@@ -183,8 +185,9 @@ impl<A: Allocator + Clone, B: Book<A>> Speaker<A, B> {
         ensures agrees { IfOk result (λ taken. (config : TheConfig) (r : Run) → Agrees config r self.old
             → (queue : Queue) × (taken.1 ≡ report_of (turn (Take_call slot (take taken.0 buf.new)) queue))
             × Agrees config (turn (Take_call slot (take taken.0 buf.new)) queue ∷ r) self.new) }
-        // The count of the calls before has all choices up to this one.
+        // The count of the calls before has all choices up to this one, and no choice is taken back.
         ensures counted { IfOk result (λ _. self.new.chosen_before ≡ self.old.chosen) }
+        ensures rises { IfOk result (λ _. self.old.chosen ≤ self.new.chosen) }
     {
         let Some(taken) = self.hand_out(slot, buf) else {
             return Err(Refusal::BadSlot);
@@ -245,6 +248,7 @@ impl<A: Allocator + Clone, B: Book<A>> Speaker<A, B> {
         ensures agrees { (config : TheConfig) (call : Call) (r : Run) → Holds config (turn call [] ∷ r) self.old → IsFair config r call → IsThrifty config r
             → (queue : Queue) × (starved_in queue ≡ result) × Agrees config (turn call queue ∷ r) self.new }
         ensures counted { self.new.chosen_before ≡ self.old.chosen_before }
+        ensures rises { self.old.chosen ≤ self.new.chosen }
     {
         self.routing.ribs.is_chosen();
         self.queue_updates()

@@ -24,8 +24,11 @@ loop-prefix-preserved g c =
       c.change.ensures.routes ∙ h.1,
       sound_remade _ _ _ _ _ remade h.2 offers,
       c.change.ensures.marked,
-      counts_more _ c.loop-prefix.after c.in-Some.prefix _ _ _ h.4 c.in-Some.ensures.above has c.change.ensures.chosen,
+      counts_more _ c.loop-prefix.after c.in-Some.prefix _ _ _ h.4 c.in-Some.ensures.above has c.change.ensures.chosen c.change.ensures.rises,
     )
 
 pub returns-clause-chosen : goal.returns-clause-chosen
 returns-clause-chosen g c = let counts = c.loop-prefix.invariant.4 in (counts.prefixes, counts.different, counts.most)
+
+pub returns-clause-rises : goal.returns-clause-rises
+returns-clause-rises g c = c.loop-prefix.invariant.4.rises

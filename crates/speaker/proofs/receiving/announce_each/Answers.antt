@@ -9,7 +9,7 @@ use Rattle.speaker.proofs.receiving.announce_each.Goals as goal
 pub loop-prefix-init : goal.loop-prefix-init
 loop-prefix-init g c =
     let all = ap (λ p. (front_prefixes p.octets.now).0) c.into_iter-prefix-iterator.ensures.into_iter_gives in
-    (Sets-start _ _ _ _ _ all, Sets-start _ _ _ _ _ all, some_none _ _ _, c.requires.marked, omega arith)
+    (Sets-start _ _ _ _ _ all, Sets-start _ _ _ _ _ all, some_none _ _ _, c.requires.marked, omega arith, omega arith)
 
 pub announce-requires-clause-apart : goal.announce-requires-clause-apart
 announce-requires-clause-apart g c = apart_still _ _ _ _ c.loop-prefix.invariant.2 c.in-Some.prefix (c.requires.apart c.in-Some.prefix)
@@ -19,12 +19,15 @@ loop-prefix-preserved g c =
     let h = c.loop-prefix.invariant in
     let few = h.4 in
     let once = c.in_ok-announce.ensures.chosen in
+    let before = h.5 in
+    let later = c.in_ok-announce.ensures.rises in
     let routes = rw c.in_ok-clone.ensures.cases at c.in_ok-announce.ensures.routes in (
       Sets-more _ _ _ _ _ _ _ _ _ _ h.0 c.in-Some.ensures.steps routes,
       Sets-more _ _ _ _ _ _ _ _ _ _ h.1 c.in-Some.ensures.steps c.in_ok-announce.ensures.offers,
       some_more _ c.in-Some.prefix _ _ _ _ h.2 c.in_ok-announce.ensures.offers,
       c.in_ok-announce.ensures.marked,
       omega (arith, few, once, seen_more c.loop-prefix.yielded c.in-Some.prefix),
+      omega (arith, before, later),
     )
 
 pub returns-in_err-clone-clause-some : goal.returns-in_err-clone-clause-some
@@ -66,3 +69,15 @@ returns-clause-chosen g c =
     let h = c.loop-prefix.invariant in
     let few = h.4 in
     omega (arith, few, not_more _ c.loop-prefix.yielded _ h.0.whole)
+
+pub returns-in_err-clone-clause-rises : goal.returns-in_err-clone-clause-rises
+returns-in_err-clone-clause-rises g c = c.loop-prefix.invariant.5
+
+pub returns-in_err-announce-clause-rises : goal.returns-in_err-announce-clause-rises
+returns-in_err-announce-clause-rises g c =
+    let before = c.loop-prefix.invariant.5 in
+    let later = c.in_err-announce.ensures.rises in
+    omega (arith, before, later)
+
+pub returns-clause-rises : goal.returns-clause-rises
+returns-clause-rises g c = c.loop-prefix.invariant.5

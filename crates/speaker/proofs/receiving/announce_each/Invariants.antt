@@ -14,3 +14,4 @@ invariant-loop-prefix g l =
     × AreSome l.slot l.candidate (offer_at l.initial.routing.book) (offer_at l.routing.book)
     × AreMarked l.fn.conf l.fn.links.entries l.routing
     × (l.routing.chosen ≤ l.initial.routing.chosen + length l.yielded)
+    × (l.initial.routing.chosen ≤ l.routing.chosen)

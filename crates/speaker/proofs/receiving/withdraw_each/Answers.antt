@@ -7,17 +7,20 @@ use Rattle.speaker.proofs.receiving.withdraw_each.Goals as goal
 pub loop-prefix-init : goal.loop-prefix-init
 loop-prefix-init g c =
     let all = ap (λ p. (front_prefixes p.octets.now).0) c.into_iter-prefix-iterator.ensures.into_iter_gives in
-    (Sets-start _ _ _ _ _ all, Sets-start _ _ _ _ _ all, c.requires, omega arith)
+    (Sets-start _ _ _ _ _ all, Sets-start _ _ _ _ _ all, c.requires, omega arith, omega arith)
 
 pub loop-prefix-preserved : goal.loop-prefix-preserved
 loop-prefix-preserved g c =
     let h = c.loop-prefix.invariant in
     let few = h.3 in
+    let before = h.4 in
+    let later = c.withdraw.ensures.rises in
     let once = c.withdraw.ensures.chosen in (
       Sets-more _ _ _ _ _ _ _ _ _ _ h.0 c.in-Some.ensures.steps c.withdraw.ensures.routes,
       Sets-more _ _ _ _ _ _ _ _ _ _ h.1 c.in-Some.ensures.steps c.withdraw.ensures.offers,
       c.withdraw.ensures.marked,
       omega (arith, few, once, seen_more c.loop-prefix.yielded c.in-Some.prefix),
+      omega (arith, before, later),
     )
 
 pub returns-clause-routes : goal.returns-clause-routes
@@ -31,3 +34,6 @@ returns-clause-chosen g c =
     let h = c.loop-prefix.invariant in
     let few = h.3 in
     omega (arith, few, not_more _ c.loop-prefix.yielded _ h.0.whole)
+
+pub returns-clause-rises : goal.returns-clause-rises
+returns-clause-rises g c = c.loop-prefix.invariant.4

@@ -12,3 +12,4 @@ invariant-loop-prefix g l =
     × Sets l.slot (front_prefixes l.fn.prefixes.octets.now).0 l.yielded (front_prefixes l.prefix-iterator.octets.now).0 None (offer_at l.initial.routing.book) (offer_at l.routing.book)
     × AreMarked l.fn.conf l.fn.links.entries l.routing
     × (l.routing.chosen ≤ l.initial.routing.chosen + length l.yielded)
+    × (l.initial.routing.chosen ≤ l.routing.chosen)

@@ -23,8 +23,11 @@ loop-prefix-preserved g c =
       others_more c.args.slot c.in-Some.prefix _ _ _ h.1 c.withdraw.ensures.offers,
       c.withdraw.ensures.marked,
       there_more c.args.slot c.in-Some.prefix _ _ _ h.3 c.withdraw.ensures.routes,
-      counts_more _ c.loop-prefix.after c.in-Some.prefix _ _ _ h.4 c.in-Some.ensures.above (h.3 c.in-Some.prefix has) c.withdraw.ensures.chosen,
+      counts_more _ c.loop-prefix.after c.in-Some.prefix _ _ _ h.4 c.in-Some.ensures.above (h.3 c.in-Some.prefix has) c.withdraw.ensures.chosen c.withdraw.ensures.rises,
     )
 
 pub returns-clause-chosen : goal.returns-clause-chosen
 returns-clause-chosen g c = let counts = c.loop-prefix.invariant.4 in (counts.prefixes, counts.different, counts.most)
+
+pub returns-clause-rises : goal.returns-clause-rises
+returns-clause-rises g c = c.loop-prefix.invariant.4.rises

@@ -1,4 +1,4 @@
-use Rattle.std.proofs.Common.{◌∙◌}
+use Rattle.std.proofs.Common.{◌∙◌, arith}
 use Rattle.std.proofs.lemmas.List.{take-append-drop}
 use Rattle.speaker.proofs.Events.{HasCome-start, HasCome-more, HasCome-end, HasCome-until, Hears-none, none_left, some_left}
 use Rattle.speaker.proofs.Results.{OnErr-is}
@@ -9,7 +9,7 @@ loop-rest-init g c = HasCome-start _ _ _
 
 pub loop-rest-preserved : goal.loop-rest-preserved
 loop-rest-preserved g c =
-    rw c.split_at.ensures.back (HasCome-more _ _ _ _ _ _ _ _ c.loop-rest.invariant (take-append-drop c.in_ok-taken.taken c.loop-rest.rest.now) (c.in_ok-taken.ensures.heard c.if-taken-eq0.false) c.in_ok-taken.ensures.counted)
+    rw c.split_at.ensures.back (HasCome-more _ _ _ _ _ _ _ _ c.loop-rest.invariant (take-append-drop c.in_ok-taken.taken c.loop-rest.rest.now) (c.in_ok-taken.ensures.heard c.if-taken-eq0.false) c.in_ok-taken.ensures.counted c.in_ok-taken.ensures.rises)
 
 pub returns-then-taken-eq0-clause-heard : goal.returns-then-taken-eq0-clause-heard
 returns-then-taken-eq0-clause-heard g c =
@@ -29,3 +29,18 @@ returns-clause-counted g c = c.loop-rest.invariant.counted
 
 pub returns-in_err-taken-clause-counted : goal.returns-in_err-taken-clause-counted
 returns-in_err-taken-clause-counted g c = c.in_err-taken.ensures.counted ∙ c.loop-rest.invariant.counted
+
+pub returns-then-taken-eq0-clause-rises : goal.returns-then-taken-eq0-clause-rises
+returns-then-taken-eq0-clause-rises g c =
+    let before = c.loop-rest.invariant.rises in
+    let later = c.in_ok-taken.ensures.rises in
+    omega (arith, before, later)
+
+pub returns-clause-rises : goal.returns-clause-rises
+returns-clause-rises g c = c.loop-rest.invariant.rises
+
+pub returns-in_err-taken-clause-rises : goal.returns-in_err-taken-clause-rises
+returns-in_err-taken-clause-rises g c =
+    let before = c.loop-rest.invariant.rises in
+    let later = c.in_err-taken.ensures.rises in
+    omega (arith, before, later)

@@ -1,5 +1,5 @@
 use Rattle.std.specs.Int.Bits.{or_zero_l}
-use Rattle.std.proofs.Common.{◌∙◌, ap, subst}
+use Rattle.std.proofs.Common.{◌∙◌, ap, subst, arith}
 use Rattle.speaker.specs.SpeakerState.{SpeakerState}
 use Rattle.speaker.specs.Agreement.{QueuesAll}
 use Rattle.speaker.specs.Queueing.{starved_in}
@@ -20,3 +20,12 @@ returns-clause-counted g c =
     let found = link_there _ (λ none. let out = (c.in-Some.ensures.none none).0 in (cc)) in
     let given = c.in-Some.ensures.some found.0 found.1 in
     c.queue_updates.ensures.counted ∙ ap (λ (s : SpeakerState). s.chosen_before) c.begin_count.ensures ∙ given.2.chosen
+
+pub returns-clause-rises : goal.returns-clause-rises
+returns-clause-rises g c =
+    let found = link_there _ (λ none. let out = (c.in-Some.ensures.none none).0 in (cc)) in
+    let given = c.in-Some.ensures.some found.0 found.1 in
+    let same = given.2.chosen in
+    let begun = ap (λ (s : SpeakerState). s.chosen) c.begin_count.ensures in
+    let later = c.queue_updates.ensures.rises in
+    omega (arith, same, begun, later)
