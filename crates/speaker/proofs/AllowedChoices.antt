@@ -1,4 +1,4 @@
-use Rattle.std.proofs.Common.{◌≡◌, ◌≤◌, ◌<◌, ◌+◌, ◌==◌, ◌&&◌, ◌||◌, ◌⊎◌, ℕ, zero, suc, Bool, true, false, not, List, [], ◌∷◌, ◌++◌, length, Option, Some, None, is_some, cond, refl, sym, ap, ◌∙◌, subst, inl, inr, arith}
+use Rattle.std.proofs.Common.{◌≡◌, ◌≤◌, ◌<◌, ◌+◌, ◌&&◌, ◌||◌, ◌⊎◌, ℕ, zero, suc, Bool, true, false, not, List, [], ◌∷◌, ◌++◌, length, Option, Some, None, is_some, cond, refl, sym, ap, ◌∙◌, subst, inl, inr, arith}
 use Rattle.std.specs.Option.{IsSome, option_and_then}
 use Rattle.std.specs.Ordering.{is_eq}
 use Rattle.std.proofs.lemmas.Bool.{cases_eq}
@@ -11,7 +11,6 @@ use Rattle.bgp_fsm.specs.StateTests.{is_established}
 use Rattle.bgp_fsm.specs.declared.input.Input.{Input}
 use Rattle.bgp_fsm.specs.declared.input.Input.TheVariants.{Update as UpdateInput}
 use Rattle.bgp_fsm.specs.declared.session.Session.{Session}
-use Rattle.bgp_fsm.specs.declared.state.State.{State}
 use Rattle.bgp_msg.specs.MessageStream.{Item, WholeMessage, FaultyHeader}
 use Rattle.bgp_msg.specs.UpdateMeaning.{UpdateBody, update_fault}
 use Rattle.bgp_msg.specs.declared.frame.MessageType.TheVariants.{Open, Update, Notification, Keepalive}
@@ -19,10 +18,10 @@ use Rattle.bgp_peer.proofs.Agreeing.{item_octet}
 use Rattle.bgp_peer.specs.SessionInputs.{Event, Terms, Octet, Signalled, input_of, item_at, kind_of, onto, session, terms_of, update_input}
 use Rattle.net_prefix.specs.PrefixOrder.{prefix_cmp}
 use Rattle.net_prefix.specs.declared.prefix.Prefix.{Prefix}
-use Rattle.rib_in.specs.LatestRoutes.{RouteTable, route_at}
+use Rattle.rib_in.specs.LatestRoutes.{route_at}
 use Rattle.rib_out.proofs.Prefixes.{is_prefix-refl}
-use Rattle.speaker.specs.AdjRibIn.{brought, is_among, route, sound_update, update_heard, word_if, word_of}
-use Rattle.speaker.specs.Choices.{AreDifferent, Chooses, announced_if, announced_in, announced_to, choices_by, choices_on, choices_refused, how_many, is_routed, named_if, named_in, routes_held}
+use Rattle.speaker.specs.AdjRibIn.{brought, is_among, route, sound_update, update_heard, word_if}
+use Rattle.speaker.specs.Choices.{AreDifferent, Chooses, announced_if, announced_in, announced_to, choices_by, choices_on, choices_refused, how_many, is_routed, named_if, routes_held}
 use Rattle.speaker.specs.Runs.{Run, history}
 use Rattle.speaker.specs.SpeakerState.{SpeakerState}
 use Rattle.speaker.specs.declared.config.Config.{Config}

@@ -15,7 +15,7 @@ use Rattle.bgp_msg.specs.UpdateMeaning.{UpdateBody, update_fault}
 use Rattle.bgp_msg.specs.declared.frame.MessageType.TheVariants.{Update}
 use Rattle.bgp_peer.specs.Agreement.{holding}
 use Rattle.bgp_peer.specs.SessionInputs as happens
-use Rattle.bgp_peer.specs.SessionInputs.{Handed, Octet, Signalled, Terms, Ticked, onto, session, input_of, item_at, stream, kind_of, terms_from, terms_of}
+use Rattle.bgp_peer.specs.SessionInputs.{Octet, Signalled, Terms, Ticked, onto, session, input_of, item_at, kind_of, terms_from, terms_of}
 use Rattle.bgp_peer.specs.Slot.{Slot, pushed}
 use Rattle.bgp_peer.proofs.Agreeing.{agrees-tick, item_of_rest, onto-append}
 use Rattle.bgp_peer.proofs.Receiving.{HasHeard, Hears as HeardItem, wants-agreed}

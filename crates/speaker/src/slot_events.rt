@@ -1,5 +1,5 @@
 //! What happens to one slot: its operator enables it, its connection stands or fails, octets come.
-ghost use Rattle.std.specs.Prelude.{◌≡◌, ◌≢◌, ◌≤◌, ◌<◌, ◌++◌, ℕ, List, [], ◌∷◌, length, take, OnOk, OnErr, IfOk, ◌&&◌, ◌==◌, None, Some, if◌then◌else◌, true, false};
+ghost use Rattle.std.specs.Prelude.{◌≡◌, ◌≢◌, ◌≤◌, ◌<◌, ℕ, length, take, OnOk, OnErr, IfOk, ◌&&◌, ◌==◌, None, Some, if◌then◌else◌, true, false};
 ghost use Rattle.bgp_conf.specs.Configuration.{peer_at};
 ghost use Rattle.bgp_conf.specs.declared.conf.ConfiguredPeer.{ConfiguredPeer as ThePeer};
 ghost use Rattle.bgp_fsm.specs.SessionTable.{effects_of};
@@ -14,9 +14,8 @@ ghost use Rattle.speaker.specs.Choices.{Chooses, ChoosesRefused, Ends};
 ghost use Rattle.speaker.specs.Marks.{AreMarked, IsFollowed};
 ghost use Rattle.speaker.specs.Moves.{Moves, Pushes, TakesMemoryAt, TakesItem, taken_of};
 ghost use Rattle.bgp_peer.specs.SessionInputs.{kind_of};
-ghost use Rattle.speaker.specs.Runs.{terms_in, Run, turn, Bytes_call};
+ghost use Rattle.speaker.specs.Runs.{terms_in};
 ghost use Rattle.speaker.specs.Agreement.{Hears, HearsUntil};
-ghost use Rattle.speaker.specs.declared.config.Config.{Config as TheConfig};
 ghost use Rattle.speaker.specs.Tables.{link_at};
 ghost use Rattle.speaker.specs.Linked.{Linked};
 

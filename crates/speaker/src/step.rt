@@ -1,7 +1,5 @@
 //! The speaker and its calls.
-ghost use Rattle.std.specs.Prelude.{◌≡◌, ◌≢◌, ◌≤◌, ◌<◌, ◌⊎◌, ◌↔◌, ◌++◌, ℕ, [], ◌∷◌, true, length, min, take, drop, MatchOption, MatchResult, IfErr, IsOk, IfOk, None, Some};
-ghost use Rattle.bgp_conf.specs.Configuration.{AddressesDiffer, peer_at};
-ghost use Rattle.bgp_conf.specs.declared.conf.ConfiguredPeer.{ConfiguredPeer as ThePeer};
+ghost use Rattle.std.specs.Prelude.{◌≡◌, ◌≤◌, ◌<◌, ◌⊎◌, ◌↔◌, ◌++◌, [], ◌∷◌, true, length, min, take, drop, MatchOption, MatchResult, IfErr, IsOk, IfOk, None, Some};
 ghost use Rattle.std.specs.Option.{option_map};
 ghost use Rattle.bgp_fsm.specs.Transports.{transport_of};
 ghost use Rattle.speaker.specs.Moves.{Hands};
