@@ -21,7 +21,8 @@ use Rattle.net_prefix.specs.declared.prefix.Prefix.{Prefix}
 use Rattle.rib_in.specs.LatestRoutes.{route_at}
 use Rattle.rib_out.proofs.Prefixes.{is_prefix-refl}
 use Rattle.speaker.specs.AdjRibIn.{brought, is_among, route, sound_update, update_heard, word_if}
-use Rattle.speaker.specs.Choices.{AreDifferent, Chooses, announced_if, announced_in, announced_to, choices_by, choices_on, choices_refused, how_many, is_routed, named_if, routes_held}
+use Rattle.speaker.specs.Choices.{announced_if, announced_in, announced_to, choices_by, choices_on, choices_refused, how_many, is_routed, named_if, routes_held}
+use Rattle.speaker.specs.Chosen.{AreDifferent, Chooses}
 use Rattle.speaker.specs.Runs.{Run, history}
 use Rattle.speaker.specs.SpeakerState.{SpeakerState}
 use Rattle.speaker.specs.declared.config.Config.{Config}

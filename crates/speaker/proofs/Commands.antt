@@ -35,7 +35,8 @@ use Rattle.speaker.specs.AdjRibIn.{route}
 use Rattle.speaker.specs.Agreement.{SlotAgrees, IsTaken, Holds}
 use Rattle.speaker.proofs.Histories.{no_route}
 use Rattle.speaker.proofs.SlotStates.{SlotIs, slot_agrees, configured_from}
-use Rattle.speaker.specs.Choices.{AreDifferent, Chooses, choices_by, choices_in}
+use Rattle.speaker.specs.Choices.{choices_by, choices_in}
+use Rattle.speaker.specs.Chosen.{AreDifferent, Chooses}
 use Rattle.speaker.specs.FirstRefusal.{refused_at, awaits_up}
 use Rattle.speaker.specs.Linked.{Linked}
 use Rattle.speaker.specs.Offers.{AreMadeAgain, IsSound, Offers}

@@ -7,7 +7,7 @@ use Rattle.net_prefix.specs.declared.prefix.Prefix.{Prefix}
 use Rattle.net_prefix.proofs.PayloadSets.{prefix_cmp_total}
 use Rattle.rib_in.specs.LatestRoutes.{RouteTable, is_route, route_at}
 use Rattle.speaker.specs.AdjRibIn.{is_among}
-use Rattle.speaker.specs.Choices.{AreDifferent, Ends}
+use Rattle.speaker.specs.Chosen.{AreDifferent, Ends}
 use Rattle.speaker.specs.RoutingState.{RoutingState}
 use Rattle.speaker.proofs.RouteChanges.{Sets}
 

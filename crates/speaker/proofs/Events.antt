@@ -26,7 +26,8 @@ use Rattle.rib_in.specs.LatestRoutes.{route_at}
 use Rattle.speaker.specs.AdjRibIn.{NeedsMemory, brought, is_among, route, sound_update, update_heard, word_if}
 use Rattle.speaker.specs.Agreement.{Agrees, Hears, HearsUntil, IsFair, IsThrifty, MayStarve, SlotAgrees, Holds}
 use Rattle.speaker.proofs.SlotStates.{SlotIs, slot_agrees, slot_from, linked_from}
-use Rattle.speaker.specs.Choices.{AreDifferent, ChoosesRefused, announced_if, choices_by, choices_in, choices_on, choices_refused, named_if}
+use Rattle.speaker.specs.Choices.{announced_if, choices_by, choices_in, choices_on, choices_refused, named_if}
+use Rattle.speaker.specs.Chosen.{AreDifferent, ChoosesRefused}
 use Rattle.speaker.specs.Linked.{Linked}
 use Rattle.speaker.specs.Moves.{KeepsKept, KeepsRest, IsPut, Moves, Pushes, TakesItem, TakesMemoryAt, moved, taken_on, taken_of}
 use Rattle.speaker.specs.Queueing.{Queue, starved_in}

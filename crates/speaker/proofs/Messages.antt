@@ -13,7 +13,8 @@ use Rattle.decision.specs.BookContents.{offer_at}
 use Rattle.net_prefix.specs.declared.prefix.Prefix.{Prefix}
 use Rattle.rib_in.specs.LatestRoutes.{route_at}
 use Rattle.speaker.specs.AdjRibIn.{is_among, update_heard, word_if}
-use Rattle.speaker.specs.Choices.{Chooses, ChoosesHeard, ChoosesRefused, announced_if, named_if}
+use Rattle.speaker.specs.Choices.{announced_if, named_if}
+use Rattle.speaker.specs.Chosen.{Chooses, ChoosesHeard, ChoosesRefused}
 use Rattle.speaker.specs.Linked.{Linked}
 use Rattle.speaker.specs.Moves.{KeepsKept, KeepsRest, Moves, IsHeard, TakesItem, moved}
 use Rattle.speaker.specs.SpeakerState.{SpeakerState}
@@ -81,10 +82,10 @@ heard_none false r = refl
 pub takes_none : (slot : ℕ) (terms : Terms) (l : Linked) (found : Option Item) (old new : SpeakerState)
     → None ≡ option_map (input_of l.peer.session.state terms) found
     → IsHeard slot (option_and_then (update_heard l.peer.session.state terms) found) old.adj_in new.adj_in
-    → new.chosen ≤ old.chosen + named_if (option_and_then (update_heard l.peer.session.state terms) found)
+    → new.chosen ≤ old.chosen + named_if (option_and_then (update_heard l.peer.session.state terms) found) → old.chosen ≤ new.chosen
     → KeepsKept old new → KeepsRest old new → ((s : ℕ) → link_at new.links s ≡ link_at old.links s) → TakesItem slot terms l found old new
-takes_none slot terms l (Some item) old new is routes few kept keeps links = absurd (cc)
-takes_none slot terms l None old new is routes few kept keeps links = (links, λ s prefix. routes s prefix ∙ heard_none (s == slot) (route_at old.adj_in s prefix), kept, keeps, omega (arith, few))
+takes_none slot terms l (Some item) old new is routes few rises kept keeps links = absurd (cc)
+takes_none slot terms l None old new is routes few rises kept keeps links = (links, λ s prefix. routes s prefix ∙ heard_none (s == slot) (route_at old.adj_in s prefix), kept, keeps, omega (arith, few, rises))
 
 -- memory is refused to the UPDATE of an Established session: of its routes nothing is left, whatever was taken of it
 pub starves : (slot : ℕ) (l : Linked) (old mid new : SpeakerState) → l.peer.session.state ≡ Established

@@ -24,7 +24,8 @@ use Rattle.rib_in.specs.LatestRoutes.{route_at}
 use Rattle.rib_out.specs.Held.{held_at}
 use Rattle.speaker.specs.AdjRibIn.{route}
 use Rattle.speaker.specs.Agreement.{SlotAgrees, tables_after, IsFair, IsNews, IsOwedIn, IsShortIn, IsThrifty, Holds, Passes, QueuesAll, QueuesOn, QueuesStarved, Agrees}
-use Rattle.speaker.specs.Choices.{Chooses, choices_in}
+use Rattle.speaker.specs.Choices.{choices_in}
+use Rattle.speaker.specs.Chosen.{Chooses}
 use Rattle.speaker.specs.Export.{IsAccepted, IsExport, export_to, export_peer_of}
 use Rattle.speaker.specs.Held.{held, told_in}
 use Rattle.speaker.specs.Linked.{Linked}

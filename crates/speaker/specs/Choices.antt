@@ -1,6 +1,5 @@
 -- How often a best route may be chosen, by what comes and goes (own, for RFC 4271 section 9.1).
-use Rattle.std.specs.Prelude.{◌≡◌, ◌≤◌, ◌+◌, ◌⊎◌, ◌&&◌, ◌||◌, ℕ, zero, suc, Bool, not, List, [], ◌∷◌, ◌++◌, length, Option, Some, None, is_some, true, false, if◌then◌else◌}
-use Rattle.std.specs.Option.{IsSome}
+use Rattle.std.specs.Prelude.{◌+◌, ◌&&◌, ◌||◌, ℕ, zero, suc, Bool, not, List, [], ◌∷◌, ◌++◌, length, Option, Some, None, is_some, true, false, if◌then◌else◌}
 use Rattle.bgp_conf.specs.declared.command.Command.{Command}
 use Rattle.bgp_conf.specs.declared.command.Command.TheVariants.{AddPeer, Enable, Reach}
 use Rattle.bgp_fsm.specs.StateTests.{is_established}
@@ -9,12 +8,9 @@ use Rattle.bgp_msg.specs.UpdateMeaning.{UpdateBody}
 use Rattle.bgp_peer.specs.SessionInputs as slot
 use Rattle.bgp_peer.specs.SessionInputs.{Octet, Signalled, onto, session}
 use Rattle.net_prefix.specs.declared.prefix.Prefix.{Prefix}
-use Rattle.rib_in.specs.LatestRoutes.{RouteTable, route_at}
-use Rattle.speaker.specs.AdjRibIn.{brought, is_among, route, word_if}
+use Rattle.speaker.specs.AdjRibIn.{brought, is_among, route}
 use Rattle.speaker.specs.Queueing.{Queue, Service, Tells, Starves}
-use Rattle.speaker.specs.RoutingState.{RoutingState}
 use Rattle.speaker.specs.Runs.{Call, Run, turn, Up_call, Fail_call, Bytes_call, Starved_call, Tick_call, Command_call, Take_call, history}
-use Rattle.speaker.specs.SpeakerState.{SpeakerState}
 use Rattle.speaker.specs.declared.config.Config.{Config}
 
 -- how many prefixes an UPDATE names, each as often as it does
@@ -106,36 +102,3 @@ choices_queued config call r (now ∷ queue) = choices_served (history config no
 abbrev pub choices_in : Config → Run → ℕ
 choices_in config [] = 0
 choices_in config (now ∷ r) = choices_called config r now.call + choices_queued config now.call r now.queued
-
--- prefixes of each of which this holds, none of them twice
-abbrev pub AreDifferent : (Prefix → Type 0) → List Prefix → Type 0
-AreDifferent holds [] = Unit {0}
-AreDifferent holds (p ∷ prefixes) = (is_among p prefixes ≡ false) × holds p × AreDifferent holds prefixes
-
--- where an UPDATE was taken in part, the slot has no route but one that it had or that the UPDATE announces; a best route
--- was chosen at most as often as it names a prefix. One with a fault wasn't taken
-pub record IsPart (slot : ℕ) (update : Option UpdateBody) (old new : RoutingState) : Type 0 where
-  pub routes : (p : Prefix) → IsSome (route_at new.adj_in slot p) → IsSome (route_at old.adj_in slot p) ⊎ (is_among p (announced_if update) ≡ true)
-  pub chosen : new.chosen ≤ old.chosen + named_if update
-
--- a slot leaves Established: a best route is chosen once at most for each prefix to which it had a route
-abbrev pub Ends : ℕ → RouteTable → ℕ → ℕ → Type 0
-Ends slot adj_in before after = (ended : List Prefix) × AreDifferent (λ p. IsSome (route_at adj_in slot p)) ended × (after ≤ before + length ended)
-
--- an input that leaves Established, or doesn't: none is chosen where it doesn't
-pub record Chooses (slot : ℕ) (left : Bool) (old new : SpeakerState) : Type 0 where
-  pub ends : left ≡ true → Ends slot old.adj_in old.chosen new.chosen
-  pub stays : left ≡ false → new.chosen ≡ old.chosen
-
--- a message that is taken: as often as its UPDATE names a prefix, and for the routes of a session that it ends
-pub record ChoosesHeard (slot : ℕ) (update : Option UpdateBody) (left : Bool) (old new : SpeakerState) : Type 0 where
-  pub ended : List Prefix
-  pub routed : AreDifferent (λ p. IsSome (word_if update p (route_at old.adj_in slot p))) ended
-  pub none : left ≡ false → ended ≡ []
-  pub chosen : new.chosen ≤ old.chosen + named_if update + length ended
-
--- an UPDATE to which memory is refused: the same, for each route that was there or that it announces
-pub record ChoosesRefused (slot : ℕ) (update : Option UpdateBody) (old new : SpeakerState) : Type 0 where
-  pub ended : List Prefix
-  pub routed : AreDifferent (λ p. IsSome (route_at old.adj_in slot p) ⊎ (is_among p (announced_if update) ≡ true)) ended
-  pub chosen : new.chosen ≤ old.chosen + named_if update + length ended

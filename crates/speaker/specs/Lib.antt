@@ -19,3 +19,4 @@ pub mod Shown
 pub mod Waiting
 pub mod Marks
 pub mod Choices
+pub mod Chosen

@@ -18,7 +18,7 @@ use Rattle.net_prefix.specs.declared.transport.Transport.TheVariants.{None as No
 use Rattle.net_prefix.specs.declared.prefix.Prefix.{Prefix}
 use Rattle.speaker.specs.AdjRibIn.{NeedsMemory, word_if, update_heard}
 use Rattle.rib_in.specs.LatestRoutes.{RouteTable, route_at}
-use Rattle.speaker.specs.Choices.{ChoosesHeard}
+use Rattle.speaker.specs.Chosen.{ChoosesHeard}
 use Rattle.speaker.specs.Linked.{Linked}
 use Rattle.speaker.specs.Offers.{AreKept}
 use Rattle.speaker.specs.RoutingState.{RoutingState}
@@ -112,7 +112,7 @@ pub record Pushes (slot : ℕ) (l : Linked) (octets : List ℕ) (old new : Speak
 abbrev pub TakesItem : ℕ → Terms → Linked → Option Item → SpeakerState → SpeakerState → Type 0
 TakesItem slot terms l None old new =
     ((s : ℕ) → link_at new.links s ≡ link_at old.links s) × ((s : ℕ) (prefix : Prefix) → route_at new.adj_in s prefix ≡ route_at old.adj_in s prefix) × KeepsKept old new × KeepsRest old new
-    × (new.chosen ≤ old.chosen)
+    × (new.chosen ≡ old.chosen)
 TakesItem slot terms l (Some item) old new =
     IsPut slot (moved l (input_of l.peer.session.state terms item)) old new
     × ((s : ℕ) (prefix : Prefix) → route_at new.adj_in s prefix

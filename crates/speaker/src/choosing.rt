@@ -5,7 +5,7 @@ ghost use Rattle.speaker.specs.Tables.{tables};
 ghost use Rattle.net_prefix.specs.declared.prefix.Prefix.{Prefix as ThePrefix};
 ghost use Rattle.rib_in.specs.LatestRoutes.{HasRoute};
 ghost use Rattle.speaker.specs.Candidates.{IsMade};
-ghost use Rattle.speaker.specs.Choices.{AreDifferent};
+ghost use Rattle.speaker.specs.Chosen.{AreDifferent};
 ghost use Rattle.speaker.specs.Marks.{AreMarked};
 ghost use Rattle.speaker.specs.Offers.{AreMadeAgain, AreRemade, IsRemade, IsSound, LacksRoute};
 

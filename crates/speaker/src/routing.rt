@@ -1,5 +1,5 @@
 //! The tables that routes go through: the routes that came with Loc-RIB, and what waits of each prefix for each peer.
-ghost use Rattle.std.specs.Prelude.{◌≡◌, ◌==◌, ◌&&◌, ◌<◌, ◌≤◌, ◌+◌, ◌≢◌, ℕ, [], All, IfOk, OnOk, OnErr, IfSome, IfNone, None, Some, true, false, if◌then◌else◌};
+ghost use Rattle.std.specs.Prelude.{◌≡◌, ◌==◌, ◌&&◌, ◌<◌, ◌≤◌, ◌+◌, ◌-◌, ◌≢◌, ℕ, [], All, IfOk, OnOk, OnErr, IfSome, IfNone, None, Some, true, false, if◌then◌else◌};
 ghost use Rattle.std.specs.Option.{IsSome};
 ghost use Rattle.std.specs.Ordering.{is_gt};
 ghost use Rattle.bgp_conf.specs.Configuration.{peer_at};
@@ -8,7 +8,7 @@ ghost use Rattle.net_prefix.specs.PrefixOrder.{IsAbove, prefix_cmp};
 ghost use Rattle.net_prefix.specs.declared.prefix.Prefix.{Prefix as ThePrefix};
 ghost use Rattle.rib_in.specs.LatestRoutes.{is_route, route_at};
 ghost use Rattle.rib_out.specs.Waiting.{is_known, owed_at};
-ghost use Rattle.speaker.specs.Choices.{Ends};
+ghost use Rattle.speaker.specs.Chosen.{Ends};
 ghost use Rattle.speaker.specs.Linked.{Linked};
 ghost use Rattle.speaker.specs.Marks.{AreMarked, AreMarkedBut, IsReleased, IsUnmarked, mark_at, mark_of};
 ghost use Rattle.speaker.specs.RoutingState.{started};
@@ -270,6 +270,7 @@ impl<A: Allocator + Clone, B: Book<A>> Routing<A, B> {
 /// The number behind that of the last slot; 0 where there is none.
 pub fn slots_end<A: Allocator + Clone>(links: &Links<A>) -> u8
     ensures none { (s : ℕ) → result ≤ s → s < 64 → link_at links.now.entries s ≡ None }
+    ensures last { 0 < result → result < 64 → IsSome (link_at links.now.entries (result - 1)) }
     ensures within { result ≤ 64 }
 {
     match links.last_key_value() {

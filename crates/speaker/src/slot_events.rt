@@ -10,7 +10,7 @@ ghost use Rattle.rib_in.specs.LatestRoutes.{route_at};
 ghost use Rattle.bgp_msg.specs.MessageStream.{meaning};
 ghost use Rattle.bgp_msg.specs.UpdateMeaning.{update_fault};
 ghost use Rattle.speaker.specs.AdjRibIn.{sound_update};
-ghost use Rattle.speaker.specs.Choices.{Chooses, ChoosesRefused, Ends};
+ghost use Rattle.speaker.specs.Chosen.{Chooses, ChoosesRefused, Ends};
 ghost use Rattle.speaker.specs.Marks.{AreMarked, IsFollowed};
 ghost use Rattle.speaker.specs.Moves.{Moves, Pushes, TakesMemoryAt, TakesItem, taken_of};
 ghost use Rattle.bgp_peer.specs.SessionInputs.{kind_of};

@@ -188,12 +188,6 @@ impl<A: Allocator + Clone, B: Book<A>> Speaker<A, B> {
         // As often at most as what that call did allows.
         ensures agrees { (config : Config) (r : Run) → Agrees config r self.now → result ≤ choices_in config r }
     {
-        self.chosen_now()
-    }
-
-    fn chosen_now(&self) -> u64
-        ensures { result ≡ self.now.chosen - self.now.chosen_before }
-    {
         self.routing.chosen().saturating_sub(self.chosen_before)
     }
 

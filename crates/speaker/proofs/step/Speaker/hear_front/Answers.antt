@@ -7,7 +7,7 @@ use Rattle.speaker.specs.AdjRibIn.{sound_update}
 use Rattle.bgp_peer.specs.Slot.{pushed}
 use Rattle.speaker.specs.Agreement.{HearsUntil}
 use Rattle.bgp_peer.specs.SessionInputs.{kind_of}
-use Rattle.speaker.specs.Choices.{ChoosesRefused}
+use Rattle.speaker.specs.Chosen.{ChoosesRefused}
 use Rattle.speaker.specs.Moves.{TakesItem, TakesMemoryAt}
 use Rattle.speaker.proofs.SlotEvents.{with_peer}
 use Rattle.speaker.specs.Runs.{terms_in, turn, Bytes_call}

@@ -5,7 +5,7 @@ use Rattle.bgp_fsm.specs.declared.input.Input.TheVariants.{NoMemory}
 use Rattle.bgp_msg.specs.MessageStream.{meaning}
 use Rattle.bgp_msg.specs.UpdateMeaning.{update_fault}
 use Rattle.speaker.specs.AdjRibIn.{sound_update}
-use Rattle.speaker.specs.Choices.{IsPart}
+use Rattle.speaker.specs.Chosen.{IsPart}
 use Rattle.bgp_peer.specs.SessionInputs.{kind_of}
 use Rattle.speaker.specs.Linked.{Linked}
 use Rattle.speaker.specs.Moves.{TakesMemoryAt}
@@ -47,6 +47,7 @@ returns-in_default-heard-clause-taken g c = λ l peer linked configured.
     (sym c.in_default-heard.is ∙ c.in-Ok.ensures.input (terms_in c.self.inside.config c.in-Some.peer) (record { expected_is = refl; kind_is = c.between.ensures }))
     (c.in-Ok.ensures.routes (terms_in c.self.inside.config c.in-Some.peer) (record { expected_is = refl; kind_is = c.between.ensures }))
     (c.in-Ok.ensures.chosen (terms_in c.self.inside.config c.in-Some.peer) (record { expected_is = refl; kind_is = c.between.ensures }))
+    c.in-Ok.ensures.rises
     kept
     (record { config = refl; moment = refl; conf = refl; chosen_before = refl })
     (λ s. refl))
