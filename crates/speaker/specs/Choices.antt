@@ -1,5 +1,5 @@
 -- How often a best route may be chosen, by what comes and goes (own, for RFC 4271 section 9.1).
-use Rattle.std.specs.Prelude.{◌+◌, ◌&&◌, ◌||◌, ℕ, zero, suc, Bool, not, List, [], ◌∷◌, ◌++◌, length, Option, Some, None, is_some, true, false, if◌then◌else◌}
+use Rattle.std.specs.Prelude.{◌+◌, ◌&&◌, ◌||◌, ℕ, zero, suc, Bool, not, List, [], ◌∷◌, ◌++◌, length, Option, Some, None, is_some, false, if◌then◌else◌}
 use Rattle.bgp_conf.specs.declared.command.Command.{Command}
 use Rattle.bgp_conf.specs.declared.command.Command.TheVariants.{AddPeer, Enable, Reach}
 use Rattle.bgp_fsm.specs.StateTests.{is_established}

@@ -1,5 +1,5 @@
 -- What an input of a session makes of its slot and its routes (RFC 4271 sections 3.2 and 8.2.2).
-use Rattle.std.specs.Prelude.{◌≡◌, ◌≢◌, ◌≤◌, ◌||◌, ◌&&◌, ◌==◌, ℕ, Bool, List, [], min, length, Option, Some, None, if◌then◌else◌}
+use Rattle.std.specs.Prelude.{◌≡◌, ◌≢◌, ◌||◌, ◌&&◌, ◌==◌, ℕ, Bool, List, [], min, length, Option, Some, None, if◌then◌else◌}
 use Rattle.bgp_attr.specs.declared.peer.PeerKind.{PeerKind}
 use Rattle.bgp_fsm.specs.SessionTable.{effects_of}
 use Rattle.bgp_fsm.specs.declared.input.Input.{Input}
