@@ -12,6 +12,15 @@ const ASKED: usize = 512;
 // How often a best route is chosen for each call: for the UPDATE, and where its session ends.
 const CHOSEN: [u64; 15] = [0, 0, 0, 0, 0, 0, 0, 0, 0, 0, 0, 1, 0, 1, 0];
 
+// 10.0.1.0/24 is withdrawn and announced twice, by AS 65001 with ORIGIN INCOMPLETE, next hop 192.0.2.11.
+#[rattlefmt::skip]
+const REPLACED: [u8; 55] = [
+    255, 255, 255, 255, 255, 255, 255, 255, 255, 255, 255, 255, 255, 255, 255, 255,
+    0x00, 0x37, 0x02, 0x00, 0x04, 0x18, 0x0A, 0x00, 0x01, 0x00, 0x14,
+    0x40, 0x01, 0x01, 0x02, 0x40, 0x02, 0x06, 0x02, 0x01, 0x00, 0x00, 0xFD, 0xE9,
+    0x40, 0x03, 0x04, 0xC0, 0x00, 0x02, 0x0B, 0x18, 0x0A, 0x00, 0x01, 0x18, 0x0A, 0x00, 0x01,
+];
+
 fn step(rt: &impl Abort, speaker: &mut Speaker<Global>, event: Event<'_>) {
     assert_eq!(rt; speaker.step(event), Ok(Report::NOTHING));
 }
@@ -43,6 +52,21 @@ fn play(rt: &impl Abort, speaker: &mut Speaker<Global>, calls: &[Call<'_>]) {
 fn a_best_route_is_chosen_once_for_a_route_that_comes_or_goes(rt: HostRuntime) -> Result<(), Fail> {
     let mut speaker = Speaker::new(rt.alloc(), CONFIG)?;
     play(&rt, &mut speaker, &calls(Prefix::parse(REACHABLE)?));
+    Ok(())
+}
+
+#[test]
+fn a_prefix_that_is_withdrawn_and_announced_is_chosen_for_once(
+    rt: HostRuntime,
+) -> Result<(), Fail> {
+    let mut speaker = Speaker::new(rt.alloc(), CONFIG)?;
+    play(
+        &rt,
+        &mut speaker,
+        &calls(Prefix::parse(REACHABLE)?)[..UP_TO_ROUTE],
+    );
+    step(&rt, &mut speaker, Event::Bytes(0, &REPLACED));
+    assert_eq!(rt; speaker.chosen(), 1);
     Ok(())
 }
 

@@ -1,4 +1,4 @@
-use Rattle.std.proofs.Common.{◌≡◌, ◌≤◌, ◌<◌, ◌+◌, ◌&&◌, ◌||◌, ◌⊎◌, ℕ, zero, suc, Bool, true, false, not, List, [], ◌∷◌, ◌++◌, length, Option, Some, None, is_some, cond, refl, sym, ap, ◌∙◌, subst, inl, inr, arith}
+use Rattle.std.proofs.Common.{◌≡◌, ◌≤◌, ◌<◌, ◌+◌, ◌==◌, ◌&&◌, ◌||◌, ◌⊎◌, ℕ, zero, suc, Bool, true, false, not, List, [], ◌∷◌, ◌++◌, length, Option, Some, None, is_some, Result, Ok, Err, OnErr, cond, refl, sym, ap, ◌∙◌, subst, inl, inr, arith, length-append}
 use Rattle.std.specs.Option.{IsSome, option_and_then}
 use Rattle.std.specs.Ordering.{is_eq}
 use Rattle.std.proofs.lemmas.Bool.{cases_eq}
@@ -20,14 +20,16 @@ use Rattle.net_prefix.specs.PrefixOrder.{prefix_cmp}
 use Rattle.net_prefix.specs.declared.prefix.Prefix.{Prefix}
 use Rattle.rib_in.specs.LatestRoutes.{route_at}
 use Rattle.rib_out.proofs.Prefixes.{is_prefix-refl}
-use Rattle.speaker.specs.AdjRibIn.{brought, is_among, route, sound_update, update_heard, word_if}
-use Rattle.speaker.specs.Choices.{announced_if, announced_in, announced_to, choices_by, choices_on, choices_refused, how_many, is_routed, named_if, routes_held}
-use Rattle.speaker.specs.Chosen.{AreDifferent, Chooses}
+use Rattle.speaker.specs.AdjRibIn.{brought, is_among, is_only_withdrawn, route, sound_update, update_heard, word_if}
+use Rattle.speaker.specs.Choices.{announced_if, announced_in, announced_to, choices_by, choices_on, choices_refused, how_many, is_routed, named_if, named_in, routes_held}
+use Rattle.speaker.specs.Chosen.{AreDifferent, Chooses, IsPart, OncePerPrefix}
+use Rattle.speaker.specs.RoutingState.{RoutingState}
 use Rattle.speaker.specs.Runs.{Run, history}
 use Rattle.speaker.specs.SpeakerState.{SpeakerState}
 use Rattle.speaker.specs.declared.config.Config.{Config}
-use Rattle.speaker.proofs.Counting.{among_all, different_as}
+use Rattle.speaker.proofs.Counting.{among_all, different_as, there_case}
 use Rattle.speaker.proofs.Places.{same_from_is_prefix}
+use Rattle.speaker.proofs.RouteChanges.{IsSet}
 
 -- How often a best route may be chosen, by a history: different prefixes with a route are as many at most as are counted.
 
@@ -123,7 +125,6 @@ most_of holds [] [] h = omega arith
 most_of holds [] (p ∷ ps) h = let never = h.1.1 in absurd (cc)
 most_of holds (q ∷ all) ps h = most_case holds q all ps h (λ rest. most_of holds all rest) (is_among q all) (is_among q ps) refl refl
 
--- ---- a prefix with a route was announced
 pub among_behind : (p : Prefix) (xs ys : List Prefix) → is_among p ys ≡ true → is_among p (xs ++ ys) ≡ true
 among_behind p [] ys there = there
 among_behind p (x ∷ xs) ys there = or_later (is_eq (prefix_cmp x p)) (is_among p (xs ++ ys)) (among_behind p xs ys there)
@@ -132,6 +133,66 @@ among_behind p (x ∷ xs) ys there = or_later (is_eq (prefix_cmp x p)) (is_among
     or_later true b is = refl
     or_later false b is = is
 
+-- ---- the prefixes that an UPDATE names
+apart_case : (q p : Prefix) (announced ps : List Prefix) → is_among q announced ≡ false → is_among p announced ≡ true → is_among q ps ≡ false → (b : Bool) → is_eq (prefix_cmp p q) ≡ b → (b || is_among q ps) ≡ false
+apart_case q p announced ps out there later true same = let refuted = sym (subst (λ x. is_among x announced ≡ true) (same_from_is_prefix p q same) there) ∙ out in absurd (cc)
+apart_case q p announced ps out there later false other = later
+
+apart_from : (q : Prefix) (announced ps : List Prefix) → is_among q announced ≡ false → AreDifferent (λ p. is_among p announced ≡ true) ps → is_among q ps ≡ false
+apart_from q announced [] out h = refl
+apart_from q announced (p ∷ ps) out h = apart_case q p announced ps out h.1 (apart_from q announced ps out h.2) (is_eq (prefix_cmp p q)) refl
+
+among_neither : (q : Prefix) (ps qs : List Prefix) → is_among q ps ≡ false → is_among q qs ≡ false → is_among q (ps ++ qs) ≡ false
+among_neither q [] qs here there = there
+among_neither q (p ∷ ps) qs here there = let parts = neither (is_eq (prefix_cmp p q)) (is_among q ps) here in nor_so (is_eq (prefix_cmp p q)) (is_among q (ps ++ qs)) parts.0 (among_neither q ps qs parts.1 there)
+
+both_parts : (a b : Bool) → (a && not b) ≡ true → (a ≡ true) × (b ≡ false)
+both_parts true false h = (refl, refl)
+both_parts true true h = absurd (cc)
+both_parts false b h = absurd (cc)
+
+-- those that are withdrawn alone, and those that are announced, differ
+joined : (withdrawn announced ps qs : List Prefix) → AreDifferent (λ p. is_only_withdrawn withdrawn announced p ≡ true) ps → AreDifferent (λ p. is_among p announced ≡ true) qs
+    → AreDifferent (IsOne (λ p. true) (withdrawn ++ announced)) (ps ++ qs)
+joined withdrawn announced [] qs h k = different_as (λ p. is_among p announced ≡ true) (IsOne (λ p. true) (withdrawn ++ announced)) qs (λ p there. (refl, among_behind p withdrawn announced there)) k
+joined withdrawn announced (p ∷ ps) qs h k =
+    let parts = both_parts (is_among p withdrawn) (is_among p announced) h.1 in
+    (among_neither p ps qs h.0 (apart_from p announced qs parts.1 k), (refl, among_all p withdrawn announced parts.0), joined withdrawn announced ps qs h.2 k)
+
+pub most_named : (update : UpdateBody) (a b c : ℕ) → OncePerPrefix (λ p. is_only_withdrawn update.withdrawn update.announced p ≡ true) a b → OncePerPrefix (λ p. is_among p update.announced ≡ true) b c
+    → c ≤ a + named_in update
+most_named update a b c gone come =
+    let few = most_of (λ p. true) (update.withdrawn ++ update.announced) (gone.0 ++ come.0) (joined update.withdrawn update.announced gone.0 come.0 gone.1 come.1) in
+    let first = gone.2 in
+    let second = come.2 in
+    omega (arith, few, first, second, length-append gone.0 come.0)
+
+-- where only the withdrawn ones are taken
+pub most_withdrawn : (update : UpdateBody) (a b : ℕ) → OncePerPrefix (λ p. is_only_withdrawn update.withdrawn update.announced p ≡ true) a b → b ≤ a + named_in update
+most_withdrawn update a b gone = most_named update a b b gone ([], tt, omega arith)
+
+-- where an UPDATE was taken in part, what the slot has it had, or the UPDATE announces it
+pub part_withdrawn : (slot : ℕ) (update : UpdateBody) (old mid : RoutingState) → IsSet slot (is_only_withdrawn update.withdrawn update.announced) None (route_at old.adj_in) (route_at mid.adj_in)
+    → mid.chosen ≤ old.chosen + named_in update → IsPart slot (Some update) old mid
+part_withdrawn slot update old mid gone few = record {
+  routes = λ p there. inl (there_case (slot == slot && is_only_withdrawn update.withdrawn update.announced p) (route_at old.adj_in slot p) (subst (λ o. IsSome o) (gone slot p) there));
+  chosen = few;
+}
+
+pub part_announced : {T F : Type 0} (result : Result T F) (slot : ℕ) (update : UpdateBody) (old mid new : RoutingState)
+    → IsSet slot (is_only_withdrawn update.withdrawn update.announced) None (route_at old.adj_in) (route_at mid.adj_in)
+    → OnErr result ((p : Prefix) → IsSome (route_at new.adj_in slot p) → IsSome (route_at mid.adj_in slot p) ⊎ (is_among p update.announced ≡ true))
+    → new.chosen ≤ old.chosen + named_in update → OnErr result (IsPart slot (Some update) old new)
+part_announced (Ok done) slot update old mid new gone come few = tt
+part_announced (Err why) slot update old mid new gone come few = record {
+  routes = λ p there. elim (come p there) [
+    | inl before ↦ inl (there_case (slot == slot && is_only_withdrawn update.withdrawn update.announced p) (route_at old.adj_in slot p) (subst (λ o. IsSome o) (gone slot p) before))
+    | inr named ↦ inr named
+  ];
+  chosen = few;
+}
+
+-- ---- a prefix with a route was announced
 word_some : (a w : Bool) (attrs : PathAttributes) (before : Option PathAttributes) → IsSome (cond a (Some attrs) (cond w None before)) → (a ≡ true) ⊎ IsSome before
 word_some true w attrs before there = inl refl
 word_some false true attrs before there = absurd (cc)

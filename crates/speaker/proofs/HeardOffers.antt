@@ -1,4 +1,4 @@
-use Rattle.std.proofs.Common.{◌≡◌, ◌==◌, ◌&&◌, ◌⊎◌, ℕ, Bool, true, false, List, Option, Some, None, Result, Ok, Err, OnOk, cond, refl, sym, ap, ◌∙◌, subst, inl, inr}
+use Rattle.std.proofs.Common.{◌≡◌, ◌==◌, ◌&&◌, ◌⊎◌, ℕ, Bool, true, false, not, [], Option, Some, None, Result, Ok, Err, OnOk, cond, refl, sym, ap, ◌∙◌, subst, inl, inr}
 use Rattle.std.proofs.lemmas.Bool.{eq-eqb, eqb-true}
 use Rattle.bgp_attr.specs.PathAttributes.{PathAttributes}
 use Rattle.bgp_conf.specs.Configuration.{Configuration}
@@ -9,7 +9,7 @@ use Rattle.decision.specs.BookContents.{AreApart, offer_at}
 use Rattle.decision.specs.declared.candidate.Candidate.{Candidate}
 use Rattle.net_prefix.specs.declared.prefix.Prefix.{Prefix}
 use Rattle.rib_in.specs.LatestRoutes.{is_route, route_at}
-use Rattle.speaker.specs.AdjRibIn.{is_among, word_of}
+use Rattle.speaker.specs.AdjRibIn.{is_among, is_only_withdrawn, word_of}
 use Rattle.speaker.specs.Candidates.{IsMade}
 use Rattle.speaker.specs.Moves.{KeepsOthers}
 use Rattle.speaker.specs.Offers.{IsSound, KeepsHeard, Offers}
@@ -54,21 +54,21 @@ apart_still slot found had has some p apart = subst (λ f. AreApart f) (λ i s. 
     same s false at (inr as_was) = sym as_was
 
 -- behind the withdrawals
-pub apart_heard : (conf : Configuration) (slot identifier : ℕ) (attrs : PathAttributes) (found : Option Candidate) (withdrawn : List Prefix) (had mid : Offers) → IsSound conf had
+pub apart_heard : (conf : Configuration) (slot identifier : ℕ) (attrs : PathAttributes) (found : Option Candidate) (withdrawn : Prefix → Bool) (had mid : Offers) → IsSound conf had
     → IsSet slot withdrawn None had mid → IsMade conf slot identifier attrs found → (p : Prefix) → AreApart (λ s. cond (slot == s) found (mid s p))
 apart_heard conf slot identifier attrs found withdrawn had mid sound gone made =
-    apart_with conf slot found mid (sound_gone conf had mid (λ s p. s == slot && is_among p withdrawn) sound gone) (made_own conf slot identifier attrs found made)
+    apart_with conf slot found mid (sound_gone conf had mid (λ s p. s == slot && withdrawn p) sound gone) (made_own conf slot identifier attrs found made)
 
-pub sound_heard : (conf : Configuration) (slot identifier : ℕ) (attrs : PathAttributes) (found : Option Candidate) (withdrawn : List Prefix) (had mid has : Offers) → IsSound conf had
+pub sound_heard : (conf : Configuration) (slot identifier : ℕ) (attrs : PathAttributes) (found : Option Candidate) (withdrawn : Prefix → Bool) (had mid has : Offers) → IsSound conf had
     → IsSet slot withdrawn None had mid → IsMade conf slot identifier attrs found → AreSome slot found mid has → IsSound conf has
 sound_heard conf slot identifier attrs found withdrawn had mid has sound gone made some =
-    sound_some conf slot found mid has (sound_gone conf had mid (λ s p. s == slot && is_among p withdrawn) sound gone) (made_own conf slot identifier attrs found made) some
+    sound_some conf slot found mid has (sound_gone conf had mid (λ s p. s == slot && withdrawn p) sound gone) (made_own conf slot identifier attrs found made) some
 
-pub sound_withdrawn : (conf : Configuration) (slot : ℕ) (withdrawn : List Prefix) (had mid : Offers) → IsSound conf had → IsSet slot withdrawn None had mid → IsSound conf mid
-sound_withdrawn conf slot withdrawn had mid sound gone = sound_gone conf had mid (λ s p. s == slot && is_among p withdrawn) sound gone
+pub sound_withdrawn : (conf : Configuration) (slot : ℕ) (withdrawn : Prefix → Bool) (had mid : Offers) → IsSound conf had → IsSet slot withdrawn None had mid → IsSound conf mid
+sound_withdrawn conf slot withdrawn had mid sound gone = sound_gone conf had mid (λ s p. s == slot && withdrawn p) sound gone
 
 -- an UPDATE that is taken leaves the candidates of all routes
-pub on_kept : {T F : Type 0} (result : Result T F) (conf : Configuration) (sender : Sender) (attrs : PathAttributes) (found : Option Candidate) (withdrawn announced : List Prefix) (old mid new : RoutingState)
+pub on_kept : {T F : Type 0} (result : Result T F) (conf : Configuration) (sender : Sender) (attrs : PathAttributes) (found : Option Candidate) (withdrawn announced : Prefix → Bool) (old mid new : RoutingState)
     → IsMade conf sender.slot sender.identifier attrs found
     → IsSet sender.slot withdrawn None (route_at old.adj_in) (route_at mid.adj_in) → IsSet sender.slot withdrawn None (offer_at old.book) (offer_at mid.book)
     → OnOk result (IsSet sender.slot announced (Some attrs) (route_at mid.adj_in) (route_at new.adj_in)) → OnOk result (IsSet sender.slot announced found (offer_at mid.book) (offer_at new.book))
@@ -76,29 +76,43 @@ pub on_kept : {T F : Type 0} (result : Result T F) (conf : Configuration) (sende
 on_kept (Err why) conf sender attrs found withdrawn announced old mid new made routes_gone offers_gone routes offers = tt
 on_kept (Ok done) conf sender attrs found withdrawn announced old mid new made routes_gone offers_gone routes offers =
     λ session established same sessions there kept.
-    kept_come conf sender.slot sender.identifier attrs found mid.adj_in new.adj_in (offer_at mid.book) (offer_at new.book) (λ s p. s == sender.slot && is_among p announced)
+    kept_come conf sender.slot sender.identifier attrs found mid.adj_in new.adj_in (offer_at mid.book) (offer_at new.book) (λ s p. s == sender.slot && announced p)
     (λ s p come. eqb-true s sender.slot (both_true (s == sender.slot) _ come)) made routes offers session (ap is_established established) same sessions there
-    (kept_gone conf sessions old.adj_in mid.adj_in (offer_at old.book) (offer_at mid.book) (λ s p. s == sender.slot && is_among p withdrawn) routes_gone offers_gone kept)
+    (kept_gone conf sessions old.adj_in mid.adj_in (offer_at old.book) (offer_at mid.book) (λ s p. s == sender.slot && withdrawn p) routes_gone offers_gone kept)
 
 -- one that announces nothing, too
-pub kept_withdrawn : (conf : Configuration) (sender : Sender) (withdrawn : List Prefix) (old mid : RoutingState)
+pub kept_withdrawn : (conf : Configuration) (sender : Sender) (withdrawn : Prefix → Bool) (old mid : RoutingState)
     → IsSet sender.slot withdrawn None (route_at old.adj_in) (route_at mid.adj_in) → IsSet sender.slot withdrawn None (offer_at old.book) (offer_at mid.book) → KeepsHeard conf sender Established old mid
 kept_withdrawn conf sender withdrawn old mid routes_gone offers_gone session established same sessions there kept =
-    kept_gone conf sessions old.adj_in mid.adj_in (offer_at old.book) (offer_at mid.book) (λ s p. s == sender.slot && is_among p withdrawn) routes_gone offers_gone kept
+    kept_gone conf sessions old.adj_in mid.adj_in (offer_at old.book) (offer_at mid.book) (λ s p. s == sender.slot && withdrawn p) routes_gone offers_gone kept
 
 -- the last word on each prefix
-word_set : (b a w : Bool) (attrs : PathAttributes) (before : Option PathAttributes) → cond (b && a) (Some attrs) (cond (b && w) None before) ≡ cond b (cond a (Some attrs) (cond w None before)) before
+word_set : (b a w : Bool) (attrs : PathAttributes) (before : Option PathAttributes) → cond (b && a) (Some attrs) (cond (b && (w && not a)) None before) ≡ cond b (cond a (Some attrs) (cond w None before)) before
 word_set true true w attrs before = refl
-word_set true false w attrs before = refl
+word_set true false true attrs before = refl
+word_set true false false attrs before = refl
 word_set false a w attrs before = refl
 
-pub on_words : {T F : Type 0} (result : Result T F) (slot : ℕ) (update : UpdateBody) (old mid new : ℕ → Prefix → Option PathAttributes) → IsSet slot update.withdrawn None old mid
-    → OnOk result (IsSet slot update.announced (Some update.attrs) mid new) → OnOk result ((s : ℕ) (p : Prefix) → new s p ≡ cond (s == slot) (word_of update p (old s p)) (old s p))
+pub on_words : {T F : Type 0} (result : Result T F) (slot : ℕ) (update : UpdateBody) (old mid new : ℕ → Prefix → Option PathAttributes)
+    → IsSet slot (is_only_withdrawn update.withdrawn update.announced) None old mid → OnOk result (IsSet slot (λ p. is_among p update.announced) (Some update.attrs) mid new)
+    → OnOk result ((s : ℕ) (p : Prefix) → new s p ≡ cond (s == slot) (word_of update p (old s p)) (old s p))
 on_words (Err why) slot update old mid new gone come = tt
 on_words (Ok done) slot update old mid new gone come =
     λ s p. come s p ∙ ap (λ r. cond (s == slot && is_among p update.announced) (Some update.attrs) r) (gone s p) ∙ word_set (s == slot) (is_among p update.announced) (is_among p update.withdrawn) update.attrs (old s p)
 
+-- one that announces nothing
+word_gone : (b w : Bool) (attrs : PathAttributes) (before : Option PathAttributes) → cond (b && (w && true)) None before ≡ cond b (cond w None before) before
+word_gone true true attrs before = refl
+word_gone true false attrs before = refl
+word_gone false w attrs before = refl
+
+pub on_withdrawn : (slot : ℕ) (update : UpdateBody) (old mid : ℕ → Prefix → Option PathAttributes) → update.announced ≡ [] → IsSet slot (is_only_withdrawn update.withdrawn update.announced) None old mid
+    → (s : ℕ) (p : Prefix) → mid s p ≡ cond (s == slot) (word_of update p (old s p)) (old s p)
+on_withdrawn slot update old mid none gone s p =
+    let here = rw none at gone s p in
+    here ∙ rw none (word_gone (s == slot) (is_among p update.withdrawn) update.attrs (old s p))
+
 -- withdrawals are of one slot
-pub others_withdrawn : (slot : ℕ) (withdrawn : List Prefix) (old mid : RoutingState) → IsSet slot withdrawn None (route_at old.adj_in) (route_at mid.adj_in)
+pub others_withdrawn : (slot : ℕ) (withdrawn : Prefix → Bool) (old mid : RoutingState) → IsSet slot withdrawn None (route_at old.adj_in) (route_at mid.adj_in)
     → IsSet slot withdrawn None (offer_at old.book) (offer_at mid.book) → KeepsOthers slot old mid
 others_withdrawn slot withdrawn old mid routes offers = record { routes = set_others slot withdrawn None _ _ routes; offers = set_others slot withdrawn None _ _ offers }

@@ -1,5 +1,5 @@
 -- The latest route of a peer to each prefix: Adj-RIB-In (RFC 4271 section 3.2).
-use Rattle.std.specs.Prelude.{◌≡◌, ℕ, Bool, List, [], ◌∷◌, Option, Some, None, if◌then◌else◌}
+use Rattle.std.specs.Prelude.{◌≡◌, ◌&&◌, ℕ, Bool, not, List, [], ◌∷◌, Option, Some, None, if◌then◌else◌}
 use Rattle.std.specs.List.{list_any}
 use Rattle.std.specs.Option.{IsSome, option_and_then}
 use Rattle.std.specs.Ordering.{is_eq}
@@ -19,6 +19,10 @@ use Rattle.net_prefix.specs.declared.prefix.Prefix.{Prefix}
 -- the prefix is one of these
 abbrev pub is_among : Prefix → List Prefix → Bool
 is_among prefix prefixes = list_any (λ p. is_eq (prefix_cmp p prefix)) prefixes
+
+-- an UPDATE that withdraws and announces these withdraws the prefix, and doesn't announce it as well
+abbrev pub is_only_withdrawn : List Prefix → List Prefix → Prefix → Bool
+is_only_withdrawn withdrawn announced prefix = is_among prefix withdrawn && not (is_among prefix announced)
 
 -- what an UPDATE says of a prefix, or what was said before where it doesn't name it; a prefix both withdrawn and
 -- announced is announced (RFC 4271 section 4.3)

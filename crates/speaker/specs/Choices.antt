@@ -1,5 +1,5 @@
 -- How often a best route may be chosen, by what comes and goes (own, for RFC 4271 section 9.1).
-use Rattle.std.specs.Prelude.{◌+◌, ◌&&◌, ◌||◌, ℕ, zero, suc, Bool, not, List, [], ◌∷◌, ◌++◌, length, Option, Some, None, is_some, false, if◌then◌else◌}
+use Rattle.std.specs.Prelude.{◌+◌, ◌&&◌, ◌||◌, ℕ, zero, suc, Bool, true, not, List, [], ◌∷◌, ◌++◌, Option, Some, None, is_some, false, if◌then◌else◌}
 use Rattle.bgp_conf.specs.declared.command.Command.{Command}
 use Rattle.bgp_conf.specs.declared.command.Command.TheVariants.{AddPeer, Enable, Reach}
 use Rattle.bgp_fsm.specs.StateTests.{is_established}
@@ -13,19 +13,19 @@ use Rattle.speaker.specs.Queueing.{Queue, Service, Tells, Starves}
 use Rattle.speaker.specs.Runs.{Call, Run, turn, Up_call, Fail_call, Bytes_call, Starved_call, Tick_call, Command_call, Take_call, history}
 use Rattle.speaker.specs.declared.config.Config.{Config}
 
--- how many prefixes an UPDATE names, each as often as it does
+-- of how many of these prefixes this is so, each counted once
+abbrev pub how_many : (Prefix → Bool) → List Prefix → ℕ
+how_many holds [] = 0
+how_many holds (p ∷ prefixes) = if holds p && not (is_among p prefixes) then suc (how_many holds prefixes) else how_many holds prefixes
+
+-- how many prefixes an UPDATE names, each counted once
 abbrev pub named_in : UpdateBody → ℕ
-named_in update = length update.withdrawn + length update.announced
+named_in update = how_many (λ p. true) (update.withdrawn ++ update.announced)
 
 -- the same of an UPDATE that may be there
 abbrev pub named_if : Option UpdateBody → ℕ
 named_if None = 0
 named_if (Some update) = named_in update
-
--- of how many of these prefixes this is so, each counted once
-abbrev pub how_many : (Prefix → Bool) → List Prefix → ℕ
-how_many holds [] = 0
-how_many holds (p ∷ prefixes) = if holds p && not (is_among p prefixes) then suc (how_many holds prefixes) else how_many holds prefixes
 
 -- what an UPDATE announces, where there is one
 abbrev pub announced_if : Option UpdateBody → List Prefix
@@ -41,7 +41,7 @@ announced_in (e ∷ h) = announced_if (brought h e) ++ announced_in h
 abbrev pub routes_held : List slot.Event → ℕ
 routes_held h = how_many (λ p. is_some (route h p)) (announced_in h)
 
--- for what happens to a slot: as often as its UPDATE names a prefix, and, where the session isn't Established behind it,
+-- for what happens to a slot: once for each prefix that its UPDATE names, and, where the session isn't Established behind it,
 -- once for each prefix to which there was a route (there is none where it wasn't Established before)
 abbrev pub choices_by : List slot.Event → slot.Event → ℕ
 choices_by h e = named_if (brought h e) + (if is_established (session (e ∷ h)).state then 0 else routes_held h)
@@ -52,8 +52,8 @@ choices_on [] h = 0
 choices_on (octet ∷ octets) h = choices_by h (Octet octet) + choices_on octets (Octet octet ∷ h)
 
 -- for want of memory in the place of an UPDATE, which ends the session: once for each prefix to which there was a route.
--- A faultless UPDATE may have been taken in part: as often as it names a prefix, and once for each prefix to which there
--- was a route or that it announces
+-- A faultless UPDATE may have been taken in part: once for each prefix that it names, and once for each prefix to which
+-- there was a route or that it announces
 abbrev pub choices_refused : Option UpdateBody → List slot.Event → ℕ
 choices_refused None h = routes_held h
 choices_refused (Some update) h =

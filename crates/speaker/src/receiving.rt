@@ -11,9 +11,9 @@ ghost use Rattle.bgp_msg.specs.MessageSpelling.{front_prefixes};
 ghost use Rattle.decision.specs.BookContents.{AreApart, offer_at};
 ghost use Rattle.net_prefix.specs.declared.prefix.Prefix.{Prefix as ThePrefix};
 ghost use Rattle.rib_in.specs.LatestRoutes.{route_at};
-ghost use Rattle.speaker.specs.AdjRibIn.{NeedsMemory, is_among, word_of, sound_update, update_heard};
+ghost use Rattle.speaker.specs.AdjRibIn.{NeedsMemory, is_among, is_only_withdrawn, word_of, sound_update, update_heard};
 ghost use Rattle.speaker.specs.Choices.{named_if, named_in};
-ghost use Rattle.speaker.specs.Chosen.{IsPart};
+ghost use Rattle.speaker.specs.Chosen.{IsPart, OncePerPrefix};
 ghost use Rattle.speaker.specs.Marks.{AreMarked};
 ghost use Rattle.speaker.specs.Moves.{AreOf, IsHeard, KeepsOthers, TakesMemoryAt};
 ghost use Rattle.speaker.specs.Offers.{IsSound, KeepsHeard};
@@ -26,6 +26,7 @@ use bgp_conf::Conf;
 use bgp_fsm::{Input, State};
 use bgp_msg::{Expected, Frame, MessageType, Prefixes, Step, Update, read_open, read_update};
 use decision::{Book, Candidate};
+use net_prefix::Prefix;
 use std::alloc::{AllocError, Allocator};
 use std::rc::Rc;
 
@@ -177,8 +178,15 @@ fn take_update<A: Allocator + Clone, B: Book<A>>(
     ensures rises { routing.old.chosen ≤ routing.new.chosen }
     ensures part { OnErr result (IsPart sender.slot (Some update.entry) routing.old routing.new) }
 {
-    withdraw_each(conf, links, routing, sender.slot, update.withdrawn());
     let announced = update.announced();
+    withdraw_each(
+        conf,
+        links,
+        routing,
+        sender.slot,
+        update.withdrawn(),
+        announced,
+    );
     let mut first = announced;
     if first.next().is_none() {
         return Ok(());
@@ -196,23 +204,39 @@ fn take_update<A: Allocator + Clone, B: Book<A>>(
     )
 }
 
+// Withdraws what is not announced as well, so that a best route is chosen once for each prefix that is named.
 fn withdraw_each<A: Allocator + Clone, B: Book<A>>(
     conf: &Conf<A>,
     links: &Links<A>,
     routing: &mut Routing<A, B>,
     slot: u8,
     prefixes: Prefixes<'_>,
+    announced: Prefixes<'_>,
 )
     requires { AreMarked conf.now links.now.entries routing.old }
     ensures marked { AreMarked conf.now links.now.entries routing.new }
-    ensures routes { (s : ℕ) (prefix : ThePrefix) → route_at routing.new.adj_in s prefix ≡ (if s == slot && is_among prefix (front_prefixes prefixes.entry.octets.now).0 then None else route_at routing.old.adj_in s prefix) }
-    ensures offers { (s : ℕ) (prefix : ThePrefix) → offer_at routing.new.book s prefix ≡ (if s == slot && is_among prefix (front_prefixes prefixes.entry.octets.now).0 then None else offer_at routing.old.book s prefix) }
-    ensures chosen { routing.new.chosen ≤ routing.old.chosen + length (front_prefixes prefixes.entry.octets.now).0 }
+    ensures routes { (s : ℕ) (prefix : ThePrefix) → route_at routing.new.adj_in s prefix ≡ (if s == slot && is_only_withdrawn (front_prefixes prefixes.entry.octets.now).0 (front_prefixes announced.entry.octets.now).0 prefix then None else route_at routing.old.adj_in s prefix) }
+    ensures offers { (s : ℕ) (prefix : ThePrefix) → offer_at routing.new.book s prefix ≡ (if s == slot && is_only_withdrawn (front_prefixes prefixes.entry.octets.now).0 (front_prefixes announced.entry.octets.now).0 prefix then None else offer_at routing.old.book s prefix) }
+    ensures chosen { OncePerPrefix (λ p. is_only_withdrawn (front_prefixes prefixes.entry.octets.now).0 (front_prefixes announced.entry.octets.now).0 p ≡ true) routing.old.chosen routing.new.chosen }
     ensures rises { routing.old.chosen ≤ routing.new.chosen }
 {
     for prefix in prefixes {
-        routing.withdraw(conf, links, slot, prefix);
+        if !is_named(announced, prefix) {
+            routing.withdraw(conf, links, slot, prefix);
+        }
     }
+}
+
+// Whether the prefix is one of these.
+fn is_named(prefixes: Prefixes<'_>, prefix: Prefix) -> bool
+    ensures { result ≡ is_among prefix (front_prefixes prefixes.entry.octets.now).0 }
+{
+    for named in prefixes {
+        if named == prefix {
+            return true;
+        }
+    }
+    false
 }
 
 // Where memory is refused, some of the prefixes have been announced.
@@ -232,7 +256,7 @@ fn announce_each<A: Allocator + Clone, B: Book<A>>(
     ensures routes { OnOk result ((s : ℕ) (prefix : ThePrefix) → route_at routing.new.adj_in s prefix ≡ (if s == slot && is_among prefix (front_prefixes prefixes.entry.octets.now).0 then Some attrs.now.value else route_at routing.old.adj_in s prefix)) }
     ensures offers { OnOk result ((s : ℕ) (prefix : ThePrefix) → offer_at routing.new.book s prefix ≡ (if s == slot && is_among prefix (front_prefixes prefixes.entry.octets.now).0 then candidate else offer_at routing.old.book s prefix)) }
     ensures others { OnErr result (KeepsOthers slot routing.old routing.new) }
-    ensures chosen { routing.new.chosen ≤ routing.old.chosen + length (front_prefixes prefixes.entry.octets.now).0 }
+    ensures chosen { OncePerPrefix (λ p. is_among p (front_prefixes prefixes.entry.octets.now).0 ≡ true) routing.old.chosen routing.new.chosen }
     ensures rises { routing.old.chosen ≤ routing.new.chosen }
     ensures announced { OnErr result ((p : ThePrefix) → IsSome (route_at routing.new.adj_in slot p) → IsSome (route_at routing.old.adj_in slot p) ⊎ (is_among p (front_prefixes prefixes.entry.octets.now).0 ≡ true)) }
     ensures some { (s : ℕ) (prefix : ThePrefix) → ((s ≡ slot) × (offer_at routing.new.book s prefix ≡ candidate)) ⊎ (offer_at routing.new.book s prefix ≡ offer_at routing.old.book s prefix) }

@@ -74,7 +74,10 @@ impl<A: Allocator + Clone, B: Book<A>> Routing<A, B> {
         ensures routes { OnOk result ((s : ℕ) (p : ThePrefix) → route_at self.new.adj_in s p ≡ (if is_route slot prefix s p then Some attrs.value else route_at self.old.adj_in s p)) }
         ensures offers { OnOk result ((s : ℕ) (p : ThePrefix) → offer_at self.new.book s p ≡ (if is_route slot prefix s p then candidate else offer_at self.old.book s p)) }
         ensures err { OnErr result (((s : ℕ) (p : ThePrefix) → route_at self.new.adj_in s p ≡ route_at self.old.adj_in s p) × ((s : ℕ) (p : ThePrefix) → offer_at self.new.book s p ≡ offer_at self.old.book s p)) }
+        // A best route is chosen once at most, and never where the candidate stays or memory is refused.
         ensures chosen { self.new.chosen ≤ self.old.chosen + 1 }
+        ensures same { offer_at self.old.book slot prefix ≡ candidate → self.new.chosen ≡ self.old.chosen }
+        ensures refused { OnErr result (self.new.chosen ≡ self.old.chosen) }
         ensures rises { self.old.chosen ≤ self.new.chosen }
         ensures marked { AreMarked conf.now links.now.entries self.new }
     {
@@ -90,6 +93,7 @@ impl<A: Allocator + Clone, B: Book<A>> Routing<A, B> {
         ensures routes { (s : ℕ) (p : ThePrefix) → route_at self.new.adj_in s p ≡ (if is_route slot prefix s p then None else route_at self.old.adj_in s p) }
         ensures offers { (s : ℕ) (p : ThePrefix) → offer_at self.new.book s p ≡ (if is_route slot prefix s p then None else offer_at self.old.book s p) }
         ensures chosen { self.new.chosen ≤ self.old.chosen + 1 }
+        ensures unrouted { route_at self.old.adj_in slot prefix ≡ None → self.new.chosen ≡ self.old.chosen }
         ensures rises { self.old.chosen ≤ self.new.chosen }
         ensures marked { AreMarked conf.now links.now.entries self.new }
     {

@@ -1,15 +1,16 @@
-use Rattle.std.proofs.Common.{ap, arith, refl}
+use Rattle.std.proofs.Common.{◌≡◌, true, ap, arith, refl}
 use Rattle.bgp_msg.specs.MessageSpelling.{front_prefixes}
-use Rattle.speaker.proofs.Counting.{announced_some, not_more, one_more, seen_more}
+use Rattle.speaker.specs.AdjRibIn.{is_among}
+use Rattle.speaker.proofs.Counting.{announced_some, named_each, named_more, named_none}
 use Rattle.speaker.proofs.HeardOffers.{apart_still, some_more, some_none, some_still}
 use Rattle.speaker.proofs.Results.{OnErr-is}
-use Rattle.speaker.proofs.RouteChanges.{Sets-start, Sets-more, Sets-end}
+use Rattle.speaker.proofs.RouteChanges.{Sets-start, Sets-more, Sets-all, set_here}
 use Rattle.speaker.proofs.receiving.announce_each.Goals as goal
 
 pub loop-prefix-init : goal.loop-prefix-init
 loop-prefix-init g c =
     let all = ap (λ p. (front_prefixes p.octets.now).0) c.into_iter-prefix-iterator.ensures.into_iter_gives in
-    (Sets-start _ _ _ _ _ all, Sets-start _ _ _ _ _ all, some_none _ _ _, c.requires.marked, omega arith, omega arith)
+    (Sets-start _ _ _ _ _ _ all, Sets-start _ _ _ _ _ _ all, some_none _ _ _, c.requires.marked, named_none _ _, omega arith)
 
 pub announce-requires-clause-apart : goal.announce-requires-clause-apart
 announce-requires-clause-apart g c = apart_still _ _ _ _ c.loop-prefix.invariant.2 c.in-Some.prefix (c.requires.apart c.in-Some.prefix)
@@ -17,16 +18,15 @@ announce-requires-clause-apart g c = apart_still _ _ _ _ c.loop-prefix.invariant
 pub loop-prefix-preserved : goal.loop-prefix-preserved
 loop-prefix-preserved g c =
     let h = c.loop-prefix.invariant in
-    let few = h.4 in
-    let once = c.in_ok-announce.ensures.chosen in
+    let again : is_among c.in-Some.prefix c.loop-prefix.yielded ≡ true → c.announce.new.self.chosen ≡ c.loop-prefix.routing.chosen = λ there. c.in_ok-announce.ensures.same (set_here _ _ _ _ _ _ _ _ c.in-Some.prefix h.1 there refl) in
     let before = h.5 in
     let later = c.in_ok-announce.ensures.rises in
     let routes = rw c.in_ok-clone.ensures.cases at c.in_ok-announce.ensures.routes in (
-      Sets-more _ _ _ _ _ _ _ _ _ _ h.0 c.in-Some.ensures.steps routes,
-      Sets-more _ _ _ _ _ _ _ _ _ _ h.1 c.in-Some.ensures.steps c.in_ok-announce.ensures.offers,
+      Sets-more _ _ _ _ _ _ _ _ _ _ _ h.0 c.in-Some.ensures.steps refl routes,
+      Sets-more _ _ _ _ _ _ _ _ _ _ _ h.1 c.in-Some.ensures.steps refl c.in_ok-announce.ensures.offers,
       some_more _ c.in-Some.prefix _ _ _ _ h.2 c.in_ok-announce.ensures.offers,
       c.in_ok-announce.ensures.marked,
-      omega (arith, few, once, seen_more c.loop-prefix.yielded c.in-Some.prefix),
+      named_more _ _ _ _ _ _ h.4 refl c.in_ok-announce.ensures.chosen again,
       omega (arith, before, later),
     )
 
@@ -37,38 +37,28 @@ pub returns-in_err-announce-clause-some : goal.returns-in_err-announce-clause-so
 returns-in_err-announce-clause-some g c = some_still _ _ _ _ _ c.loop-prefix.invariant.2 c.in_err-announce.ensures.err.1
 
 pub returns-clause-routes : goal.returns-clause-routes
-returns-clause-routes g c = Sets-end _ _ _ _ _ _ _ c.loop-prefix.invariant.0 c.in-None.ensures.steps.0
+returns-clause-routes g c = Sets-all _ _ _ _ _ _ _ c.loop-prefix.invariant.0 c.in-None.ensures.steps.0
 
 pub returns-clause-offers : goal.returns-clause-offers
-returns-clause-offers g c = Sets-end _ _ _ _ _ _ _ c.loop-prefix.invariant.1 c.in-None.ensures.steps.0
+returns-clause-offers g c = Sets-all _ _ _ _ _ _ _ c.loop-prefix.invariant.1 c.in-None.ensures.steps.0
 
 pub returns-clause-some : goal.returns-clause-some
 returns-clause-some g c = c.loop-prefix.invariant.2
 
 pub returns-in_err-clone-clause-chosen : goal.returns-in_err-clone-clause-chosen
-returns-in_err-clone-clause-chosen g c =
-    let h = c.loop-prefix.invariant in
-    let few = h.4 in
-    omega (arith, few, not_more _ c.loop-prefix.yielded _ h.0.whole)
+returns-in_err-clone-clause-chosen g c = let h = c.loop-prefix.invariant in named_each _ _ _ _ _ h.0.whole h.4
 
 pub returns-in_err-clone-clause-announced : goal.returns-in_err-clone-clause-announced
 returns-in_err-clone-clause-announced g c = let h = c.loop-prefix.invariant in OnErr-is _ _ (announced_some _ _ _ _ _ _ _ _ h.0 (λ s p. refl))
 
 pub returns-in_err-announce-clause-chosen : goal.returns-in_err-announce-clause-chosen
-returns-in_err-announce-clause-chosen g c =
-    let h = c.loop-prefix.invariant in
-    let few = h.4 in
-    let once = c.in_err-announce.ensures.chosen in
-    omega (arith, few, once, one_more _ c.loop-prefix.yielded _ _ c.in-Some.prefix h.0.whole c.in-Some.ensures.steps)
+returns-in_err-announce-clause-chosen g c = let h = c.loop-prefix.invariant in rw c.in_err-announce.ensures.refused (named_each _ _ _ _ _ h.0.whole h.4)
 
 pub returns-in_err-announce-clause-announced : goal.returns-in_err-announce-clause-announced
 returns-in_err-announce-clause-announced g c = let h = c.loop-prefix.invariant in OnErr-is _ _ (announced_some _ _ _ _ _ _ _ _ h.0 c.in_err-announce.ensures.err.0)
 
 pub returns-clause-chosen : goal.returns-clause-chosen
-returns-clause-chosen g c =
-    let h = c.loop-prefix.invariant in
-    let few = h.4 in
-    omega (arith, few, not_more _ c.loop-prefix.yielded _ h.0.whole)
+returns-clause-chosen g c = let h = c.loop-prefix.invariant in named_each _ _ _ _ _ h.0.whole h.4
 
 pub returns-in_err-clone-clause-rises : goal.returns-in_err-clone-clause-rises
 returns-in_err-clone-clause-rises g c = c.loop-prefix.invariant.5
