@@ -1,14 +1,16 @@
 use Rattle.std.proofs.Common.{◌≡◌, ◌≢◌, ◌≤◌, ◌<◌, ◌+◌, ◌*◌, ◌/◌, ◌%◌, ◌^◌, nat_lt, ◌==◌, ◌||◌, not, get_or, ◌∷◌, ℕ, true, false, List, [], ◌++◌, length, take, drop, Some, None, refl, ap, sym, subst, ◌∙◌, arith, append_assoc, append-nil, length-append}
 use Rattle.std.specs.Option.{option_map, option_and_then}
 use Rattle.std.proofs.lemmas.Bool.{le-ltb, le-leb, eq-eqb, ne_eqb, or_from}
-use Rattle.std.proofs.lemmas.List.{take_at, drop_at}
+use Rattle.std.proofs.lemmas.List.{take_at, drop_at, length-take}
+use Rattle.std.proofs.lemmas.Grind.{common_steps}
 use Rattle.std.specs.Int.{w16, w32, to_be_bytes, from_be_bytes}
 use Rattle.bgp_msg.specs.declared.frame.MessageType.{MessageType}
-use Rattle.bgp_msg.specs.declared.frame.MessageType.TheVariants.{Open, Update, Keepalive}
+use Rattle.bgp_msg.specs.declared.frame.MessageType.TheVariants.{Open, Update, Notification, Keepalive}
 use Rattle.bgp_msg.specs.declared.open_message.Expected.{Expected}
 use Rattle.bgp_msg.specs.MessageSpelling.{Part, is_lawful_length, header_of, message_of, marker, open_of, open_body, update_of, update_body, update_parts, update_parts_behind, counted_at, parts_within, parameters_at, capabilities_at, asn_at, first_asn}
 use Rattle.bgp_msg.specs.MessageFaults.{has_other_parameter, hold_time_at, identifier_at, open_fault}
 use Rattle.bgp_msg.specs.MessageStream.{IsMessage, IsReadFirst}
+use Rattle.bgp_msg.specs.Notifications.{NotificationBody, notification_body, notification_of}
 use Rattle.bgp_msg.proofs.Streams.{message-then}
 use Rattle.bgp_msg.proofs.Spellings.{spelling_is_message}
 
@@ -23,6 +25,23 @@ keepalive_is = append-nil (header_of Keepalive 19)
 
 pub keepalive_first : IsReadFirst (header_of Keepalive 19) Keepalive []
 keepalive_first = subst (λ (x : List ℕ). IsReadFirst x Keepalive []) keepalive_is (written_first Keepalive [] refl (omega arith))
+
+notification_is : (told : NotificationBody) → message_of Notification (notification_body told) ≡ notification_of told
+unfolding message_of notification_body notification_of
+notification_is told =
+    ap (λ (n : ℕ). header_of Notification n ++ told.code ∷ told.subcode ∷ take 4075 told.octets) (omega arith)
+
+notification_fits : (told : NotificationBody) → (21 ≤ 19 + length (notification_body told)) × (19 + length (notification_body told) ≤ 4096)
+unfolding notification_body
+notification_fits told =
+    let short : length (take 4075 told.octets) ≤ 4075 = grind (arith, common_steps, length-take 4075 told.octets) in
+    (omega arith, omega (arith, short))
+
+pub notification_first : (told : NotificationBody) → IsReadFirst (notification_of told) Notification (notification_body told)
+notification_first told =
+    let fits = notification_fits told in
+    subst (λ (x : List ℕ). IsReadFirst x Notification (notification_body told)) (notification_is told)
+    (written_first Notification (notification_body told) (le-leb 21 (19 + length (notification_body told)) fits.0) fits.1)
 
 open_is : (asn hold_time identifier : ℕ) → message_of Open (open_body asn hold_time identifier) ≡ open_of asn hold_time identifier
 unfolding message_of open_of open_body header_of marker

@@ -1,6 +1,7 @@
 pub mod MessageLimits
 pub mod MessageSpelling
 pub mod MessageFaults
+pub mod Notifications
 pub mod MessageStream
 pub mod OpenParts
 pub mod UpdateMeaning

@@ -7,9 +7,6 @@ use Rattle.bgp_msg.specs.declared.fault.HeaderFault.{HeaderFault}
 use Rattle.bgp_msg.specs.declared.fault.HeaderFault.TheVariants.{ConnectionNotSynchronized, BadMessageLength, BadMessageType}
 use Rattle.bgp_msg.specs.declared.fault.OpenFault.{OpenFault}
 use Rattle.bgp_msg.specs.declared.fault.OpenFault.TheVariants.{MalformedParameters, UnsupportedVersion, BadPeerAs, BadIdentifier, UnsupportedParameter, UnacceptableHoldTime, UnsupportedCapability}
-use Rattle.bgp_msg.specs.declared.fault.Fault.{Fault}
-use Rattle.bgp_msg.specs.declared.fault.Fault.TheVariants.{Header, Open, Update}
-use Rattle.bgp_attr.specs.AttributeFaults.{code_of, subcode_of, data_of}
 use Rattle.bgp_msg.specs.MessageSpelling.{kind_at, is_lawful_length, told_length, has_marker, Part, four_octet_as_capability, parameters_at, capabilities_at, asn_at}
 use Rattle.bgp_msg.specs.declared.open_message.Expected.{Expected}
 use Rattle.bgp_msg.specs.MessageLimits.{max_message}
@@ -97,19 +94,3 @@ abbrev pub open_data : OpenFault → List ℕ
 open_data UnsupportedVersion = 0 ∷ 4 ∷ []
 open_data (UnsupportedCapability own) = four_octet_as_capability own.0
 open_data other = []
-
--- the error code, subcode and data of any fault; none where no NOTIFICATION tells it
-abbrev pub fault_code : Fault → Option ℕ
-fault_code (Header fault) = Some 1
-fault_code (Open fault) = Some 2
-fault_code (Update fault) = code_of fault
-
-abbrev pub fault_subcode : Fault → Option ℕ
-fault_subcode (Header fault) = Some (header_subcode fault)
-fault_subcode (Open fault) = Some (open_subcode fault)
-fault_subcode (Update fault) = subcode_of fault
-
-abbrev pub fault_data : Fault → List ℕ
-fault_data (Header fault) = header_data fault
-fault_data (Open fault) = open_data fault
-fault_data (Update fault) = data_of fault

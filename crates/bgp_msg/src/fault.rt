@@ -1,19 +1,13 @@
 //! What is wrong with a message, and what a NOTIFICATION says of it (RFC 4271 section 6).
-ghost use Rattle.std.specs.Prelude.{◌≡◌, ◌≤◌, take};
-ghost use Rattle.bgp_msg.specs.MessageFaults.{header_subcode, header_data, open_subcode, open_data, fault_code, fault_subcode, fault_data};
-ghost use Rattle.bgp_msg.specs.MessageLimits.{max_message};
+ghost use Rattle.std.specs.Prelude.{◌≡◌};
+ghost use Rattle.bgp_msg.specs.MessageFaults.{header_subcode, header_data, open_subcode, open_data};
 
-use crate::frame::MAX_MESSAGE;
 use crate::open_message::four_octet_as;
-use crate::writing::append;
 use arrayvec::ArrayVec;
 use bgp_attr::UpdateFault;
 use byteorder::{BigEndian, ByteOrder};
 use net_prefix::Asn;
 use thiserror::Error;
-
-/// The most octets of the data of a NOTIFICATION: a message without its header, its code and its subcode.
-const MAX_DATA: usize = 4075;
 
 /// What is wrong with a header (RFC 4271 section 6.1).
 #[derive(Clone, Copy, Debug, PartialEq, Eq, Error)]
@@ -136,49 +130,4 @@ impl OpenFault {
         }
         octets
     }
-}
-
-impl Fault<'_> {
-    /// The error code; none where memory or a part of this program is wanting.
-    pub fn code(&self) -> Option<u8>
-        ensures { result ≡ fault_code self.now }
-    {
-        match self {
-            Fault::Header(fault) => Some(fault.code()),
-            Fault::Open(fault) => Some(fault.code()),
-            Fault::Update(fault) => fault.code(),
-        }
-    }
-
-    /// The error subcode; none where there is no code.
-    pub fn subcode(&self) -> Option<u8>
-        ensures { result ≡ fault_subcode self.now }
-    {
-        match self {
-            Fault::Header(fault) => Some(fault.subcode()),
-            Fault::Open(fault) => Some(fault.subcode()),
-            Fault::Update(fault) => fault.subcode(),
-        }
-    }
-
-    /// Writes the data that a NOTIFICATION carries: of a longer attribute than any message holds, as much as one has
-    /// room for.
-    pub fn write_data(&self, out: &mut ArrayVec<u8, MAX_MESSAGE>)
-        ensures { out.new.items ≡ take 4075 (fault_data self.now) }
-    {
-        match self {
-            Fault::Header(fault) => write_front(fault.data().as_slice(), MAX_DATA, out),
-            Fault::Open(fault) => write_front(fault.data().as_slice(), MAX_DATA, out),
-            Fault::Update(fault) => write_front(fault.data(), MAX_DATA, out),
-        }
-    }
-}
-
-// Writes the octets anew, so many of them at most.
-fn write_front(octets: &[u8], most: usize, out: &mut ArrayVec<u8, MAX_MESSAGE>)
-    requires { most ≤ max_message }
-    ensures { out.new.items ≡ take most octets.now }
-{
-    out.clear();
-    append(&octets[..octets.len().min(most)], out);
 }

@@ -9,6 +9,7 @@
 
 mod fault;
 mod frame;
+mod notification;
 mod open_message;
 mod stream;
 mod update;
@@ -16,13 +17,17 @@ mod writing;
 
 pub use fault::{Fault, HeaderFault, OpenFault};
 pub use frame::{Frame, HEADER_OCTETS, MAX_MESSAGE, MessageType, Step, needed, read};
+pub use notification::{Notification, SessionError};
 pub use open_message::{Expected, Open, only_parts, read_open};
 pub use stream::{
-    keepalive_is_read, no_message_begins_another, one_more_octet, one_spelling, only_messages,
-    open_is_read, pieces_are_the_stream, stream_goes_on, update_is_read, written_is_read,
+    keepalive_is_read, no_message_begins_another, notification_is_read, one_more_octet,
+    one_spelling, only_messages, open_is_read, pieces_are_the_stream, stream_goes_on,
+    update_is_read, written_is_read,
 };
 pub use update::{
     Prefixes, Update, only_prefixes, only_update, read_update, written_prefixes_are_read,
     written_update_is_read,
 };
-pub use writing::{write_announcement, write_keepalive, write_open, write_withdrawal};
+pub use writing::{
+    write_announcement, write_keepalive, write_notification, write_open, write_withdrawal,
+};

@@ -2,11 +2,12 @@
 ghost use Rattle.std.specs.Prelude.{◌≡◌, ◌≢◌, ◌<◌, ◌≤◌, ◌+◌, ◌^◌, ◌++◌, ℕ, List, [], ◌∷◌, Some, None, length, All, true};
 ghost use Rattle.std.specs.List.{concat};
 ghost use Rattle.bgp_msg.specs.declared.frame.MessageType.{MessageType};
-ghost use Rattle.bgp_msg.specs.declared.frame.MessageType.TheVariants.{Open, Update, Keepalive};
+ghost use Rattle.bgp_msg.specs.declared.frame.MessageType.TheVariants.{Open, Update, Notification, Keepalive};
 ghost use Rattle.bgp_msg.specs.declared.open_message.Expected.{Expected};
 ghost use Rattle.bgp_msg.specs.MessageSpelling.{message_of, is_lawful_length, header_of, open_of, open_body, asn_at, update_of, update_body, update_parts};
 ghost use Rattle.bgp_msg.specs.MessageFaults.{hold_time_at, identifier_at, open_fault};
 ghost use Rattle.bgp_msg.specs.MessageStream.{Item, IsMessage, Splits, messages, unread, messages_of_pieces, unread_of_pieces, completed, left_over, with_front, IsReadFirst};
+ghost use Rattle.bgp_msg.specs.Notifications.{NotificationBody, notification_body, notification_of};
 ghost use Rattle.bgp_msg.specs.MessageLimits.{max_message};
 
 /// A stream is its messages one after another and then what is unread, and it is so in no other way.
@@ -50,6 +51,11 @@ pub fn written_is_read()
 /// So is a KEEPALIVE.
 pub fn keepalive_is_read()
     ensures { IsReadFirst (header_of Keepalive 19) Keepalive [] }
+{}
+
+/// So is a NOTIFICATION.
+pub fn notification_is_read()
+    ensures { (told : NotificationBody) → IsReadFirst (notification_of told) Notification (notification_body told) }
 {}
 
 /// So is an OPEN. Its body says what was written, and who expects this AS finds no fault in a lawful one.

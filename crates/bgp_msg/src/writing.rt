@@ -2,9 +2,11 @@
 ghost use Rattle.std.specs.Prelude.{◌≡◌, ◌≤◌, ◌<◌, ◌+◌, ◌*◌, ◌^◌, ◌++◌, [], length};
 ghost use Rattle.std.specs.Int.{w16, w32, to_be_bytes};
 ghost use Rattle.bgp_msg.specs.MessageSpelling.{header_of, open_of, two_octet_as_of, wire_form, update_of};
+ghost use Rattle.bgp_msg.specs.Notifications.{notification_of};
 ghost use Rattle.bgp_msg.specs.MessageLimits.{max_message};
 
 use crate::frame::{MAX_MESSAGE, MessageType};
+use crate::notification::{MAX_DATA, Notification, front};
 use crate::open_message::{BGP_VERSION, CAPABILITIES, Open, four_octet_as};
 use arrayvec::ArrayVec;
 use byteorder::{BigEndian, ByteOrder};
@@ -36,6 +38,19 @@ pub fn write_keepalive(out: &mut ArrayVec<u8, MAX_MESSAGE>)
     ensures len { length out.new.items ≡ 19 }
 {
     begin(MessageType::Keepalive, 19, out);
+}
+
+/// Writes a NOTIFICATION: of its data as much as a message has room for.
+#[tactic(auto, unfolding(crate::specs::Notifications::notification_of))]
+pub fn write_notification(notification: &Notification<'_>, out: &mut ArrayVec<u8, MAX_MESSAGE>)
+    ensures octets { out.new.items ≡ notification_of notification.now }
+    ensures least { 21 ≤ length out.new.items }
+    ensures most { length out.new.items ≤ max_message }
+{
+    let shown = front(notification.data(), MAX_DATA);
+    begin(MessageType::Notification, 21 + shown.len() as u16, out);
+    append(&[notification.code(), notification.subcode()], out);
+    append(shown, out);
 }
 
 /// Writes an UPDATE that withdraws these prefixes.

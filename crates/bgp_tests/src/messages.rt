@@ -2,9 +2,9 @@
 use arrayvec::ArrayVec;
 use bgp_attr::{AttributeType, PeerKind, UpdateFault};
 use bgp_msg::{
-    Expected, Fault, Frame, HeaderFault, MessageType, Open, OpenFault, Prefixes, Step, needed,
-    read, read_open, read_update, write_announcement, write_keepalive, write_open,
-    write_withdrawal,
+    Expected, Fault, Frame, HeaderFault, MessageType, Notification, Open, OpenFault, Prefixes,
+    SessionError, Step, needed, read, read_open, read_update, write_announcement, write_keepalive,
+    write_notification, write_open, write_withdrawal,
 };
 use net_prefix::{Asn, Prefix};
 use std::alloc::Global;
@@ -96,13 +96,58 @@ fn headers_are_judged_in_order(rt: HostRuntime) {
     assert!(rt; has_fault(&[0; 19], HeaderFault::ConnectionNotSynchronized));
 }
 
+// Whether the fault is told by a NOTIFICATION of these octets behind the marker, which is read again.
+fn is_answered(fault: &Fault<'_>, octets: &[u8]) -> bool {
+    let mut room = ArrayVec::new();
+    let mut message = ArrayVec::new();
+    write_notification(&Notification::of_fault(fault, &mut room), &mut message);
+    let wanted = marked(octets);
+    message.as_slice() == wanted.as_slice()
+        && is_read_when_whole(message.as_slice(), MessageType::Notification)
+}
+
 #[test]
-fn a_bad_length_is_told(rt: HostRuntime) {
-    let fault = Fault::Header(HeaderFault::BadMessageLength(18));
-    let mut octets = ArrayVec::new();
-    fault.write_data(&mut octets);
-    assert!(rt; octets.as_slice() == [0, 0x12].as_slice());
-    assert!(rt; fault.code() == Some(1) && fault.subcode() == Some(2));
+fn faults_are_told_by_notifications(rt: HostRuntime) {
+    let length = Fault::Header(HeaderFault::BadMessageLength(18));
+    assert!(rt; is_answered(&length, &[0, 0x17, 3, 1, 2, 0, 0x12]));
+    let kind = Fault::Header(HeaderFault::BadMessageType(5));
+    assert!(rt; is_answered(&kind, &[0, 0x16, 3, 1, 3, 5]));
+    let version = Fault::Open(OpenFault::UnsupportedVersion);
+    assert!(rt; is_answered(&version, &[0, 0x17, 3, 2, 1, 0, 4]));
+    let capability = Fault::Open(OpenFault::UnsupportedCapability(Asn(65000)));
+    assert!(rt; is_answered(&capability, &[0, 0x1B, 3, 2, 7, 0x41, 4, 0, 0, 0xFD, 0xE8]));
+    let missing = Fault::Update(UpdateFault::MissingWellKnown(AttributeType::NextHop));
+    assert!(rt; is_answered(&missing, &[0, 0x16, 3, 3, 3, 3]));
+    let origin = Fault::Update(UpdateFault::InvalidOrigin(&[0x40, 1, 1, 3]));
+    assert!(rt; is_answered(&origin, &[0, 0x19, 3, 3, 6, 0x40, 1, 1, 3]));
+}
+
+// What an error that no message holds is told as, behind the marker.
+fn is_told_as(error: SessionError, code: u8, subcode: u8) -> bool {
+    let told = Notification::of_error(error);
+    told.code() == code && told.subcode() == subcode && told.data().is_empty()
+}
+
+#[test]
+fn errors_are_told_by_notifications(rt: HostRuntime) {
+    assert!(rt; is_told_as(SessionError::HoldTimerExpired, 4, 0));
+    assert!(rt; is_told_as(SessionError::UnexpectedMessage, 5, 0));
+    assert!(rt; is_told_as(SessionError::AdministrativeShutdown, 6, 2));
+    assert!(rt; is_told_as(SessionError::PeerDeconfigured, 6, 3));
+    assert!(rt; is_told_as(SessionError::OutOfResources, 6, 8));
+}
+
+// An attribute that is longer than any message.
+const LONG: [u8; 4100] = [7; 4100];
+
+#[test]
+fn data_are_cut_to_fit_a_message(rt: HostRuntime) {
+    let mut room = ArrayVec::new();
+    let mut message = ArrayVec::new();
+    let fault = Fault::Update(UpdateFault::UnrecognizedWellKnown(&LONG));
+    write_notification(&Notification::of_fault(&fault, &mut room), &mut message);
+    assert!(rt; message.len() == 4096);
+    assert!(rt; message.as_slice()[16..21] == [0x10, 0, 3, 3, 2]);
 }
 
 #[test]
