@@ -1,11 +1,12 @@
 -- Laws of the session table, in the words of RFC 4271 section 8.2.2.
-use Rattle.std.specs.Prelude.{◌≡◌, ◌≢◌, ◌↔◌, true, Some}
+use Rattle.std.specs.Prelude.{◌≡◌, ◌≢◌, ◌↔◌, ◌⊎◌, true, Some, None}
 use Rattle.net_prefix.specs.declared.transport.Transport.TheVariants.{Open as Connected, Closing}
 use Rattle.bgp_msg.specs.declared.open_message.Open.{Open as OpenMessage}
+use Rattle.bgp_msg.specs.Notifications.{NotificationBody}
 use Rattle.bgp_fsm.specs.declared.state.State.TheVariants.{Active, OpenSent, OpenConfirm, Established}
 use Rattle.bgp_fsm.specs.declared.input.Input.{Input}
-use Rattle.bgp_fsm.specs.declared.input.Input.TheVariants.{Up, Keepalive}
-use Rattle.bgp_fsm.specs.declared.session.Outgoing.TheVariants.{Open as OwnOpen}
+use Rattle.bgp_fsm.specs.declared.input.Input.TheVariants.{Up, Keepalive, Notification as NotificationInput}
+use Rattle.bgp_fsm.specs.declared.session.Outgoing.TheVariants.{Open as OwnOpen, Notification as Notify}
 use Rattle.bgp_fsm.specs.declared.session.Session.{Session}
 use Rattle.bgp_fsm.specs.SessionTable.{session_after, effects_of}
 use Rattle.bgp_fsm.specs.Transports.{transport_of}
@@ -39,3 +40,19 @@ abbrev pub ClosesWhatIsOpen : Type 0
 ClosesWhatIsOpen =
     (input : Input) (s : Session) → transport_of s ≢ Closing → transport_of (session_after input s) ≡ Closing
     → transport_of s ≡ Connected
+
+-- a session that begins to close a connection that stands says why, unless a NOTIFICATION came
+abbrev pub ClosingIsTold : Type 0
+ClosingIsTold =
+    (input : Input) (s : Session) → transport_of s ≡ Connected → transport_of (session_after input s) ≡ Closing
+    → (input ≡ NotificationInput) ⊎ ((told : NotificationBody) × ((effects_of input s).message ≡ Some (Notify told)))
+
+-- and says it nowhere else: behind a NOTIFICATION the connection is closed
+abbrev pub NotificationsClose : Type 0
+NotificationsClose =
+    (input : Input) (s : Session) (told : NotificationBody) → (effects_of input s).message ≡ Some (Notify told)
+    → (transport_of s ≡ Connected) × (transport_of (session_after input s) ≡ Closing)
+
+-- a NOTIFICATION that came is never answered
+abbrev pub NotificationIsUnanswered : Type 0
+NotificationIsUnanswered = (s : Session) → (effects_of NotificationInput s).message ≡ None

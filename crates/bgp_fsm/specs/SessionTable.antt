@@ -1,17 +1,20 @@
 -- The session table (RFC 4271 section 8.2.2, in this profile): what a row leaves of the session, and what it does.
-use Rattle.std.specs.Prelude.{ℕ, true, false, Some, None, if◌then◌else◌}
+use Rattle.std.specs.Prelude.{ℕ, true, false, Option, Some, None, if◌then◌else◌}
 use Rattle.bgp_attr.specs.declared.peer.Mode.{Mode}
 use Rattle.bgp_attr.specs.declared.peer.Mode.TheVariants.{Passive}
 use Rattle.bgp_attr.specs.declared.peer.Mode.TheVariants.{Active as Opener}
 use Rattle.bgp_msg.specs.declared.open_message.Open.{Open as OpenMessage}
+use Rattle.bgp_msg.specs.declared.notification.SessionError.TheVariants.{UnexpectedMessage, OutOfResources}
+use Rattle.bgp_msg.specs.Notifications.{error_notification}
 use Rattle.bgp_fsm.specs.declared.state.State.{State}
 use Rattle.bgp_fsm.specs.declared.state.State.TheVariants.{Idle, Connect, Active, OpenSent, OpenConfirm, Established}
 use Rattle.bgp_fsm.specs.declared.input.Input.{Input}
-use Rattle.bgp_fsm.specs.declared.input.Input.TheVariants.{Start, Up, Fail, Open, Keepalive, Update, Notification, Fault, NoMemory}
+use Rattle.bgp_fsm.specs.declared.input.Input.TheVariants.{Start, Up, Fail, Open, UnexpectedOpen, Keepalive, Update, Notification, Fault, NoMemory}
 use Rattle.bgp_fsm.specs.declared.session.Outgoing.{Outgoing}
-use Rattle.bgp_fsm.specs.declared.session.Outgoing.TheVariants.{Open as OwnOpen, Keepalive as OwnKeepalive}
+use Rattle.bgp_fsm.specs.declared.session.Outgoing.TheVariants.{Open as OwnOpen, Keepalive as OwnKeepalive, Notification as Notify}
 use Rattle.bgp_fsm.specs.declared.session.Effects.{Effects}
 use Rattle.bgp_fsm.specs.declared.session.Session.{Session}
+use Rattle.bgp_fsm.specs.StateTests.{is_established}
 
 -- a row that does nothing beside its change of the session
 abbrev pub nothing : Effects
@@ -32,6 +35,17 @@ enters = record { message = None; opened = false; entered = true; left = false }
 -- a row that ends Established
 abbrev pub leaves : Effects
 leaves = record { message = None; opened = false; entered = false; left = true }
+
+-- a row that ends Established and queues this message
+abbrev pub leaves_saying : Outgoing → Effects
+leaves_saying message = record { message = Some message; opened = false; entered = false; left = true }
+
+-- the NOTIFICATIONs of a message that the state doesn't expect, and of a want of memory
+abbrev pub unexpected : Outgoing
+unexpected = Notify (error_notification UnexpectedMessage)
+
+abbrev pub starved : Outgoing
+starved = Notify (error_notification OutOfResources)
 
 -- a session with no connection, of a peer that isn't enabled yet
 abbrev pub fresh : OpenMessage → Mode → Session
@@ -77,27 +91,30 @@ row_at Active Up s = connected s.mode s
 row_at OpenSent Start s = (marked s, nothing)
 row_at OpenSent (Open message) s = (confirmed message.identifier s, says OwnKeepalive)
 row_at OpenSent Fail s = (waiting_in Active s, nothing)
-row_at OpenSent Keepalive s = (closed s, nothing)
-row_at OpenSent Update s = (closed s, nothing)
+row_at OpenSent UnexpectedOpen s = (closed s, says unexpected)
+row_at OpenSent Keepalive s = (closed s, says unexpected)
+row_at OpenSent Update s = (closed s, says unexpected)
 row_at OpenSent Notification s = (closed s, nothing)
-row_at OpenSent Fault s = (closed s, nothing)
-row_at OpenSent NoMemory s = (closed s, nothing)
+row_at OpenSent (Fault told) s = (closed s, says (Notify told))
+row_at OpenSent NoMemory s = (closed s, says starved)
 row_at OpenConfirm Start s = (marked s, nothing)
 row_at OpenConfirm Keepalive s = (established s, enters)
 row_at OpenConfirm Fail s = (waiting_in Idle s, nothing)
-row_at OpenConfirm (Open message) s = (closed s, nothing)
-row_at OpenConfirm Update s = (closed s, nothing)
+row_at OpenConfirm (Open message) s = (closed s, says unexpected)
+row_at OpenConfirm UnexpectedOpen s = (closed s, says unexpected)
+row_at OpenConfirm Update s = (closed s, says unexpected)
 row_at OpenConfirm Notification s = (closed s, nothing)
-row_at OpenConfirm Fault s = (closed s, nothing)
-row_at OpenConfirm NoMemory s = (closed s, nothing)
+row_at OpenConfirm (Fault told) s = (closed s, says (Notify told))
+row_at OpenConfirm NoMemory s = (closed s, says starved)
 row_at Established Start s = (marked s, nothing)
 row_at Established Keepalive s = (s, nothing)
 row_at Established Update s = (s, nothing)
 row_at Established Fail s = (waiting_in Idle s, leaves)
-row_at Established (Open message) s = (closed s, leaves)
+row_at Established (Open message) s = (closed s, leaves_saying unexpected)
+row_at Established UnexpectedOpen s = (closed s, leaves_saying unexpected)
 row_at Established Notification s = (closed s, leaves)
-row_at Established Fault s = (closed s, leaves)
-row_at Established NoMemory s = (closed s, leaves)
+row_at Established (Fault told) s = (closed s, leaves_saying (Notify told))
+row_at Established NoMemory s = (closed s, leaves_saying starved)
 -- any other pair of state and input is ignored
 row_at other input s = (s, nothing)
 
@@ -108,3 +125,7 @@ session_after input s = (row_at s.state input s).0
 -- what an input does beside it
 abbrev pub effects_of : Input → Session → Effects
 effects_of input s = (row_at s.state input s).1
+
+-- what a row does that takes the session out of this state, where the peer is told this, if anything
+abbrev pub leaving : State → Option Outgoing → Effects
+leaving state message = record { message = message; opened = false; entered = false; left = is_established state }

@@ -1,9 +1,11 @@
--- What is asked of a state, and of an input.
-use Rattle.std.specs.Prelude.{Bool, true, false}
+-- What is asked of a state, of an input, and of what is queued.
+use Rattle.std.specs.Prelude.{Bool, true, false, Option, Some, None}
 use Rattle.bgp_fsm.specs.declared.state.State.{State}
 use Rattle.bgp_fsm.specs.declared.state.State.TheVariants.{Idle, Connect, Active, OpenSent, OpenConfirm, Established}
 use Rattle.bgp_fsm.specs.declared.input.Input.{Input}
-use Rattle.bgp_fsm.specs.declared.input.Input.TheVariants.{Start, Up, Fail, Open, Keepalive, Update, Notification, Fault, NoMemory}
+use Rattle.bgp_fsm.specs.declared.session.Outgoing.{Outgoing}
+use Rattle.bgp_fsm.specs.declared.session.Outgoing.TheVariants.{Open as OwnOpen, Keepalive as OwnKeepalive, Notification as Notify}
+use Rattle.bgp_fsm.specs.declared.input.Input.TheVariants.{Start, Up, Fail, Open, UnexpectedOpen, Keepalive, Update, Notification, Fault, NoMemory}
 
 -- routes are exchanged
 abbrev pub is_established : State → Bool
@@ -29,8 +31,29 @@ is_message Start = false
 is_message Up = false
 is_message Fail = false
 is_message (Open message) = true
+is_message UnexpectedOpen = true
 is_message Keepalive = true
 is_message Update = true
 is_message Notification = true
-is_message Fault = true
+is_message (Fault told) = true
 is_message NoMemory = false
+
+-- a want of memory
+abbrev pub is_want : Input → Bool
+is_want Start = false
+is_want Up = false
+is_want Fail = false
+is_want (Open message) = false
+is_want UnexpectedOpen = false
+is_want Keepalive = false
+is_want Update = false
+is_want Notification = false
+is_want (Fault told) = false
+is_want NoMemory = true
+
+-- a NOTIFICATION is queued
+abbrev pub is_notification : Option Outgoing → Bool
+is_notification None = false
+is_notification (Some (OwnOpen own)) = false
+is_notification (Some OwnKeepalive) = false
+is_notification (Some (Notify told)) = true

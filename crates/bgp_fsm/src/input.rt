@@ -1,26 +1,29 @@
 //! The inputs that the session table has rows for.
 
-use bgp_msg::Open;
+use bgp_msg::{Notification, Open};
 
-/// An input of a session (the events of RFC 4271 section 8.1 that this profile has).
-#[derive(Clone, Copy, Debug, PartialEq, Eq)]
-pub enum Input {
+/// An input of a session (the events of RFC 4271 section 8.1 that this profile has). A fault borrows the data of its
+/// NOTIFICATION, which may be a whole attribute.
+#[derive(Debug, Drop)]
+pub enum Input<'a> {
     /// The operator enables the peer.
     Start,
     /// The connection stands.
     Up,
     /// The connection, or the attempt, has failed.
     Fail,
-    /// An OPEN without fault has come.
+    /// An OPEN without fault has come to a session that awaits it.
     Open(Open),
+    /// An OPEN has come to a session that doesn't await it; its body isn't read.
+    UnexpectedOpen,
     /// A KEEPALIVE has come.
     Keepalive,
-    /// An UPDATE without fault has come.
+    /// An UPDATE has come: without fault, or to a session that isn't Established, and then its body isn't read.
     Update,
     /// A NOTIFICATION has come.
     Notification,
-    /// A faulty message has come.
-    Fault,
+    /// A faulty message has come, and this tells its fault.
+    Fault(Notification<'a>),
     /// Memory was refused to what the session needs.
     NoMemory,
 }

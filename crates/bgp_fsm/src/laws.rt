@@ -1,5 +1,5 @@
 //! Laws of the session table, in the words of RFC 4271 section 8.2.2. Each is the contract of an empty function.
-ghost use Rattle.bgp_fsm.specs.Laws.{EstablishedBegins, EnteredTells, LeftTells, OpenAnswersUp, ClosesWhatIsOpen};
+ghost use Rattle.bgp_fsm.specs.Laws.{EstablishedBegins, EnteredTells, LeftTells, OpenAnswersUp, ClosesWhatIsOpen, ClosingIsTold, NotificationsClose, NotificationIsUnanswered};
 
 /// Established is entered only from OpenConfirm, by a KEEPALIVE.
 pub fn established_begins()
@@ -24,4 +24,15 @@ pub fn open_answers_up()
 /// Only a session whose connection stands begins to close it.
 pub fn closes_what_is_open()
     ensures { ClosesWhatIsOpen }
+{}
+
+/// Where a connection that stands begins to be closed, its peer is told why by a NOTIFICATION, unless it has sent one.
+pub fn closing_is_told()
+    ensures told { ClosingIsTold }
+    ensures unanswered { NotificationIsUnanswered }
+{}
+
+/// Behind a NOTIFICATION that is queued the connection is closed.
+pub fn notifications_close()
+    ensures { NotificationsClose }
 {}

@@ -2,8 +2,8 @@
 //!
 //! A session is a value, and `Session::input` is one row of the table: the contract is one equation, `row_at` of
 //! `specs/SessionTable.antt`. Above the table stand laws in the words of the RFC. A peer has one connection, so there
-//! is no collision, no delayed open and no damping. Sessions close silently: no NOTIFICATION is sent, and no timer
-//! runs. No call takes memory.
+//! is no collision, no delayed open and no damping. A session that closes tells its peer why by a NOTIFICATION, unless
+//! it got one. No timer runs. No call takes memory.
 #![tactic(auto)]
 
 mod input;
@@ -13,7 +13,8 @@ mod state;
 
 pub use input::Input;
 pub use laws::{
-    closes_what_is_open, entered_tells, established_begins, left_tells, open_answers_up,
+    closes_what_is_open, closing_is_told, entered_tells, established_begins, left_tells,
+    notifications_close, open_answers_up,
 };
 pub use session::{Effects, Outgoing, Session};
 pub use state::State;

@@ -1,28 +1,32 @@
 //! A session, and what one input makes of it.
-ghost use Rattle.std.specs.Prelude.{◌≡◌, if◌then◌else◌};
+ghost use Rattle.std.specs.Prelude.{◌≡◌, if◌then◌else◌, Some, None};
+ghost use Rattle.std.specs.Option.{option_map};
+ghost use Rattle.bgp_msg.specs.Notifications.{error_notification};
+ghost use Rattle.bgp_fsm.specs.StateTests.{is_established};
 ghost use Rattle.bgp_fsm.specs.Transports.{transport_of};
-ghost use Rattle.bgp_fsm.specs.declared.state.State.TheVariants.{Idle};
-ghost use Rattle.bgp_fsm.specs.declared.session.Outgoing.TheVariants.{Keepalive as OwnKeepalive};
-ghost use Rattle.bgp_fsm.specs.SessionTable.{row_at, fresh, marked, waiting_in, begun, connected, confirmed, established, closed, nothing, says, enters, leaves};
+ghost use Rattle.bgp_fsm.specs.declared.session.Outgoing.TheVariants.{Keepalive as OwnKeepalive, Notification as TheNotification};
+ghost use Rattle.bgp_fsm.specs.SessionTable.{row_at, fresh, marked, waiting_in, begun, connected, confirmed, established, closed, nothing, says, enters, leaving};
 
 use crate::input::Input;
 use crate::state::State;
 use bgp_attr::Mode;
-use bgp_msg::Open;
+use bgp_msg::SessionError::{OutOfResources, UnexpectedMessage};
+use bgp_msg::{Notification, Open, SessionError};
 use net_prefix::Transport;
 
 /// A message that a row of the table queues.
-#[derive(Clone, Copy, Debug, PartialEq, Eq)]
-pub enum Outgoing {
+#[derive(Debug, Drop)]
+pub enum Outgoing<'a> {
     Open(Open),
     Keepalive,
+    Notification(Notification<'a>),
 }
 
 /// What a row does beside the change of the session.
-#[derive(Clone, Copy, Debug, PartialEq, Eq)]
-pub struct Effects {
+#[derive(Debug, Drop)]
+pub struct Effects<'a> {
     /// The message to queue, if any.
-    pub message: Option<Outgoing>,
+    pub message: Option<Outgoing<'a>>,
     /// A connection attempt of our own begins.
     pub opened: bool,
     /// Established begins.
@@ -48,9 +52,9 @@ pub struct Session {
     pub mode: Mode,
 }
 
-impl Effects {
+impl Effects<'_> {
     /// Nothing beside the change of the session.
-    pub const NONE: Effects = Effects {
+    pub const NONE: Effects<'static> = Effects {
         message: None,
         opened: false,
         entered: false,
@@ -103,37 +107,51 @@ impl Session {
         self.identifier
     }
 
-    /// One row of the session table.
-    pub fn input(&mut self, input: Input) -> Effects
-        ensures row { (self.new, result) ≡ row_at self.old.state input self.old }
+    fn is_established(&self) -> bool
+        ensures { result ≡ is_established self.now.state }
     {
-        match (self.state, input) {
+        self.state == State::Established
+    }
+
+    /// One row of the session table.
+    pub fn input<'a>(&mut self, input: Input<'a>) -> Effects<'a>
+        ensures row { (self.new, result) ≡ row_at self.old.state input.entry self.old }
+    {
+        match (self.state, &input) {
             (State::Idle, Input::Start) => self.start(),
             (State::Idle, Input::Fail) => self.wait_in(State::Idle),
             (State::Active, Input::Up) => self.connect(),
-            (State::OpenSent, Input::Open(message)) => self.confirm(message),
+            (State::OpenSent, Input::Open(message)) => self.confirm(*message),
             (State::OpenSent, Input::Fail) => self.wait_in(State::Active),
-            (State::OpenSent, Input::Keepalive | Input::Update) => self.close(),
-            (State::OpenSent, Input::Notification | Input::Fault) => self.close(),
-            (State::OpenSent, Input::NoMemory) => self.close(),
+            (State::OpenSent, Input::UnexpectedOpen) => self.refuse(UnexpectedMessage),
+            (State::OpenSent, Input::Keepalive | Input::Update) => self.refuse(UnexpectedMessage),
+            (State::OpenSent, Input::Notification) => self.close(None),
+            (State::OpenSent, Input::Fault(fault)) => self.answer(fault),
+            (State::OpenSent, Input::NoMemory) => self.refuse(OutOfResources),
             (State::OpenConfirm, Input::Keepalive) => self.establish(),
             (State::OpenConfirm, Input::Fail) => self.wait_in(State::Idle),
-            (State::OpenConfirm, Input::Open(_) | Input::Update) => self.close(),
-            (State::OpenConfirm, Input::Notification | Input::Fault) => self.close(),
-            (State::OpenConfirm, Input::NoMemory) => self.close(),
-            (State::Established, Input::Keepalive | Input::Update) => Effects::NONE,
-            (State::Established, Input::Fail) => self.lose_established(),
-            (State::Established, Input::Open(_)) => self.close_established(),
-            (State::Established, Input::Notification | Input::Fault) => self.close_established(),
-            (State::Established, Input::NoMemory) => self.close_established(),
+            (State::OpenConfirm, Input::Open(_) | Input::UnexpectedOpen | Input::Update) => {
+                self.refuse(UnexpectedMessage)
+            }
+            (State::OpenConfirm, Input::Notification) => self.close(None),
+            (State::OpenConfirm, Input::Fault(fault)) => self.answer(fault),
+            (State::OpenConfirm, Input::NoMemory) => self.refuse(OutOfResources),
+            (State::Established, Input::Keepalive | Input::Update) => self.ignore(),
+            (State::Established, Input::Fail) => self.wait_in(State::Idle),
+            (State::Established, Input::Open(_) | Input::UnexpectedOpen) => {
+                self.refuse(UnexpectedMessage)
+            }
+            (State::Established, Input::Notification) => self.close(None),
+            (State::Established, Input::Fault(fault)) => self.answer(fault),
+            (State::Established, Input::NoMemory) => self.refuse(OutOfResources),
             (_, Input::Start) => self.mark(),
             // Any other pair of state and input is ignored.
-            _ => Effects::NONE,
+            _ => self.ignore(),
         }
     }
 
     // An enabled peer without a connection begins; one whose connection is still to be closed is marked alone.
-    fn start(&mut self) -> Effects
+    fn start<'a>(&mut self) -> Effects<'a>
         ensures { (self.new, result) ≡ (if self.old.closing then (marked self.old, nothing) else begun self.old.mode self.old) }
     {
         self.enabled = true;
@@ -156,7 +174,7 @@ impl Session {
         }
     }
 
-    fn mark(&mut self) -> Effects
+    fn mark<'a>(&mut self) -> Effects<'a>
         ensures session { self.new ≡ marked self.old }
         ensures effects { result ≡ nothing }
     {
@@ -164,31 +182,49 @@ impl Session {
         Effects::NONE
     }
 
-    fn wait_in(&mut self, state: State) -> Effects
-        ensures session { self.new ≡ waiting_in state self.old }
-        ensures effects { result ≡ nothing }
+    fn ignore<'a>(&self) -> Effects<'a>
+        ensures { result ≡ nothing }
+    {
+        Effects::NONE
+    }
+
+    // Another state on no connection, or on one that has just come up.
+    fn go(&mut self, state: State)
+        ensures { self.new ≡ waiting_in state self.old }
     {
         self.state = state;
         self.closing = false;
         self.identifier = 0;
-        Effects::NONE
+    }
+
+    // The connection, or the attempt, has failed.
+    fn wait_in<'a>(&mut self, state: State) -> Effects<'a>
+        ensures session { self.new ≡ waiting_in state self.old }
+        ensures effects { result ≡ leaving self.old.state None }
+    {
+        let left = self.is_established();
+        self.go(state);
+        Effects {
+            left,
+            ..Effects::NONE
+        }
     }
 
     // A connection comes, which only a passive peer awaits.
-    fn connect(&mut self) -> Effects
+    fn connect<'a>(&mut self) -> Effects<'a>
         ensures { (self.new, result) ≡ connected self.old.mode self.old }
     {
         if self.mode == Mode::Active {
             return Effects::NONE;
         }
-        let _ = self.wait_in(State::OpenSent);
+        self.go(State::OpenSent);
         Effects {
             message: Some(Outgoing::Open(self.own)),
             ..Effects::NONE
         }
     }
 
-    fn confirm(&mut self, message: Open) -> Effects
+    fn confirm<'a>(&mut self, message: Open) -> Effects<'a>
         ensures session { self.new ≡ confirmed message.identifier self.old }
         ensures effects { result ≡ says OwnKeepalive }
     {
@@ -200,7 +236,7 @@ impl Session {
         }
     }
 
-    fn establish(&mut self) -> Effects
+    fn establish<'a>(&mut self) -> Effects<'a>
         ensures session { self.new ≡ established self.old }
         ensures effects { result ≡ enters }
     {
@@ -211,36 +247,35 @@ impl Session {
         }
     }
 
-    // The session goes to Idle, and its connection has still to be closed.
-    fn close(&mut self) -> Effects
+    // The session goes to Idle, its connection has still to be closed, and the peer is told this, if anything.
+    fn close<'a>(&mut self, told: Option<Notification<'a>>) -> Effects<'a>
         ensures session { self.new ≡ closed self.old }
-        ensures effects { result ≡ nothing }
+        ensures effects { result ≡ leaving self.old.state (option_map TheNotification told.entry) }
     {
+        let left = self.is_established();
         self.state = State::Idle;
         self.closing = true;
         self.identifier = 0;
-        Effects::NONE
-    }
-
-    fn lose_established(&mut self) -> Effects
-        ensures session { self.new ≡ waiting_in Idle self.old }
-        ensures effects { result ≡ leaves }
-    {
-        let _ = self.wait_in(State::Idle);
         Effects {
-            left: true,
+            message: told.map(Outgoing::Notification),
+            left,
             ..Effects::NONE
         }
     }
 
-    fn close_established(&mut self) -> Effects
+    // The same for a faulty message.
+    fn answer<'a>(&mut self, fault: &Notification<'a>) -> Effects<'a>
         ensures session { self.new ≡ closed self.old }
-        ensures effects { result ≡ leaves }
+        ensures effects { result ≡ leaving self.old.state (Some (TheNotification fault.now)) }
     {
-        let _ = self.close();
-        Effects {
-            left: true,
-            ..Effects::NONE
-        }
+        self.close(Some(fault.share()))
+    }
+
+    // The same for an error that no message holds.
+    fn refuse<'a>(&mut self, error: SessionError) -> Effects<'a>
+        ensures session { self.new ≡ closed self.old }
+        ensures effects { result ≡ leaving self.old.state (Some (TheNotification (error_notification error))) }
+    {
+        self.close(Some(Notification::of_error(error)))
     }
 }

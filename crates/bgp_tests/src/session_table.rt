@@ -1,7 +1,8 @@
 //! Sessions along their rows, and each row once.
+use arrayvec::ArrayVec;
 use bgp_attr::Mode;
 use bgp_fsm::{Input, Outgoing, Session, State};
-use bgp_msg::Open;
+use bgp_msg::{Fault, HeaderFault, Notification, Open};
 use net_prefix::{Asn, Transport};
 use std::process::Abort;
 use std::test::Fail;
@@ -18,57 +19,115 @@ const PEER: Open = Open {
     identifier: 0x0101_0101,
 };
 
-// The state before, the input, the state and the transport after, and what is queued; the peer is passive.
-type Row = (State, Input, State, Transport, Option<Outgoing>);
+// What comes to a session; the fault is a message whose header tells 18 octets.
+#[derive(Clone, Copy, Debug)]
+enum Came {
+    Start,
+    Up,
+    Fail,
+    Open,
+    UnexpectedOpen,
+    Keepalive,
+    Update,
+    Notification,
+    Fault,
+    NoMemory,
+}
+
+// What is queued; of a NOTIFICATION its code and subcode.
+#[derive(Clone, Copy, Debug, PartialEq, Eq)]
+enum Said {
+    Nothing,
+    Open,
+    Keepalive,
+    Notification(u8, u8),
+}
+
+// The state before, what comes, the state and the transport after, and what is queued; the peer is passive.
+type Row = (State, Came, State, Transport, Said);
 
 #[rattlefmt::skip]
 const ROWS: [Row; 30] = [
-    (State::Idle,        Input::Start,        State::Active,      Transport::Listening, None),
-    (State::Idle,        Input::Fail,         State::Idle,        Transport::None,      None),
-    (State::Idle,        Input::Up,           State::Idle,        Transport::None,      None),
-    (State::Idle,        Input::NoMemory,     State::Idle,        Transport::None,      None),
-    (State::Connect,     Input::NoMemory,     State::Connect,     Transport::Opening,   None),
-    (State::Active,      Input::Start,        State::Active,      Transport::Listening, None),
-    (State::Active,      Input::Up,           State::OpenSent,    Transport::Open,      Some(Outgoing::Open(OWN))),
-    (State::Active,      Input::NoMemory,     State::Active,      Transport::Listening, None),
-    (State::OpenSent,    Input::Open(PEER),   State::OpenConfirm, Transport::Open,      Some(Outgoing::Keepalive)),
-    (State::OpenSent,    Input::Fail,         State::Active,      Transport::Listening, None),
-    (State::OpenSent,    Input::Keepalive,    State::Idle,        Transport::Closing,   None),
-    (State::OpenSent,    Input::Update,       State::Idle,        Transport::Closing,   None),
-    (State::OpenSent,    Input::Notification, State::Idle,        Transport::Closing,   None),
-    (State::OpenSent,    Input::Fault,        State::Idle,        Transport::Closing,   None),
-    (State::OpenSent,    Input::NoMemory,     State::Idle,        Transport::Closing,   None),
-    (State::OpenConfirm, Input::Keepalive,    State::Established, Transport::Open,      None),
-    (State::OpenConfirm, Input::Fail,         State::Idle,        Transport::None,      None),
-    (State::OpenConfirm, Input::Open(PEER),   State::Idle,        Transport::Closing,   None),
-    (State::OpenConfirm, Input::Update,       State::Idle,        Transport::Closing,   None),
-    (State::OpenConfirm, Input::Notification, State::Idle,        Transport::Closing,   None),
-    (State::OpenConfirm, Input::Fault,        State::Idle,        Transport::Closing,   None),
-    (State::OpenConfirm, Input::NoMemory,     State::Idle,        Transport::Closing,   None),
-    (State::Established, Input::Start,        State::Established, Transport::Open,      None),
-    (State::Established, Input::Keepalive,    State::Established, Transport::Open,      None),
-    (State::Established, Input::Update,       State::Established, Transport::Open,      None),
-    (State::Established, Input::Fail,         State::Idle,        Transport::None,      None),
-    (State::Established, Input::Open(PEER),   State::Idle,        Transport::Closing,   None),
-    (State::Established, Input::Notification, State::Idle,        Transport::Closing,   None),
-    (State::Established, Input::Fault,        State::Idle,        Transport::Closing,   None),
-    (State::Established, Input::NoMemory,     State::Idle,        Transport::Closing,   None),
+    (State::Idle,         Came::Start,          State::Active,       Transport::Listening,   Said::Nothing),
+    (State::Idle,         Came::Fail,           State::Idle,         Transport::None,        Said::Nothing),
+    (State::Idle,         Came::Up,             State::Idle,         Transport::None,        Said::Nothing),
+    (State::Idle,         Came::NoMemory,       State::Idle,         Transport::None,        Said::Nothing),
+    (State::Connect,      Came::NoMemory,       State::Connect,      Transport::Opening,     Said::Nothing),
+    (State::Active,       Came::Start,          State::Active,       Transport::Listening,   Said::Nothing),
+    (State::Active,       Came::Up,             State::OpenSent,     Transport::Open,        Said::Open),
+    (State::Active,       Came::NoMemory,       State::Active,       Transport::Listening,   Said::Nothing),
+    (State::OpenSent,     Came::Open,           State::OpenConfirm,  Transport::Open,        Said::Keepalive),
+    (State::OpenSent,     Came::Fail,           State::Active,       Transport::Listening,   Said::Nothing),
+    (State::OpenSent,     Came::Keepalive,      State::Idle,         Transport::Closing,     Said::Notification(5, 0)),
+    (State::OpenSent,     Came::Update,         State::Idle,         Transport::Closing,     Said::Notification(5, 0)),
+    (State::OpenSent,     Came::Notification,   State::Idle,         Transport::Closing,     Said::Nothing),
+    (State::OpenSent,     Came::Fault,          State::Idle,         Transport::Closing,     Said::Notification(1, 2)),
+    (State::OpenSent,     Came::NoMemory,       State::Idle,         Transport::Closing,     Said::Notification(6, 8)),
+    (State::OpenConfirm,  Came::Keepalive,      State::Established,  Transport::Open,        Said::Nothing),
+    (State::OpenConfirm,  Came::Fail,           State::Idle,         Transport::None,        Said::Nothing),
+    (State::OpenConfirm,  Came::UnexpectedOpen, State::Idle,         Transport::Closing,     Said::Notification(5, 0)),
+    (State::OpenConfirm,  Came::Update,         State::Idle,         Transport::Closing,     Said::Notification(5, 0)),
+    (State::OpenConfirm,  Came::Notification,   State::Idle,         Transport::Closing,     Said::Nothing),
+    (State::OpenConfirm,  Came::Fault,          State::Idle,         Transport::Closing,     Said::Notification(1, 2)),
+    (State::OpenConfirm,  Came::NoMemory,       State::Idle,         Transport::Closing,     Said::Notification(6, 8)),
+    (State::Established,  Came::Start,          State::Established,  Transport::Open,        Said::Nothing),
+    (State::Established,  Came::Keepalive,      State::Established,  Transport::Open,        Said::Nothing),
+    (State::Established,  Came::Update,         State::Established,  Transport::Open,        Said::Nothing),
+    (State::Established,  Came::Fail,           State::Idle,         Transport::None,        Said::Nothing),
+    (State::Established,  Came::UnexpectedOpen, State::Idle,         Transport::Closing,     Said::Notification(5, 0)),
+    (State::Established,  Came::Notification,   State::Idle,         Transport::Closing,     Said::Nothing),
+    (State::Established,  Came::Fault,          State::Idle,         Transport::Closing,     Said::Notification(1, 2)),
+    (State::Established,  Came::NoMemory,       State::Idle,         Transport::Closing,     Said::Notification(6, 8)),
 ];
 
-// What the input makes of a session in this state.
-fn after(state: State, input: Input) -> (State, Transport, Option<Outgoing>) {
+fn input_of(came: Came, room: &mut ArrayVec<u8, 4096>) -> Input<'_> {
+    match came {
+        Came::Start => Input::Start,
+        Came::Up => Input::Up,
+        Came::Fail => Input::Fail,
+        Came::Open => Input::Open(PEER),
+        Came::UnexpectedOpen => Input::UnexpectedOpen,
+        Came::Keepalive => Input::Keepalive,
+        Came::Update => Input::Update,
+        Came::Notification => Input::Notification,
+        Came::Fault => {
+            let fault = Fault::Header(HeaderFault::BadMessageLength(18));
+            Input::Fault(Notification::of_fault(&fault, room))
+        }
+        Came::NoMemory => Input::NoMemory,
+    }
+}
+
+fn shown(message: &Option<Outgoing<'_>>) -> Said {
+    match message {
+        None => Said::Nothing,
+        Some(Outgoing::Open(_)) => Said::Open,
+        Some(Outgoing::Keepalive) => Said::Keepalive,
+        Some(Outgoing::Notification(told)) => Said::Notification(told.code(), told.subcode()),
+    }
+}
+
+// What comes to a session, and what is queued and whether Established begins or ends.
+fn take(session: &mut Session, came: Came) -> (Said, bool, bool) {
+    let mut room = ArrayVec::new();
+    let effects = session.input(input_of(came, &mut room));
+    (shown(&effects.message), effects.entered, effects.left)
+}
+
+// What it makes of a session in this state.
+fn after(state: State, came: Came) -> (State, Transport, Said) {
     let mut session = Session {
         state,
         ..Session::new(OWN, Mode::Passive)
     };
-    let effects = session.input(input);
-    (session.state(), session.transport(), effects.message)
+    let (said, _, _) = take(&mut session, came);
+    (session.state(), session.transport(), said)
 }
 
 fn is_row(rt: &impl Abort, row: &Row) {
-    let (before, input, state, transport, message) = *row;
-    let told = (state, transport, message);
-    assert_eq!(rt; after(before, input), told, "{before} {input:?}");
+    let (before, came, state, transport, said) = *row;
+    let told = (state, transport, said);
+    assert_eq!(rt; after(before, came), told, "{before} {came:?}");
 }
 
 #[test]
@@ -84,12 +143,12 @@ fn a_closed_session_waits_for_the_loss_of_its_connection(rt: HostRuntime) -> Res
         state: State::Established,
         ..Session::new(OWN, Mode::Passive)
     };
-    assert!(rt; session.input(Input::Fault).left);
-    assert_eq!(rt; session.input(Input::Start).message, None);
+    assert!(rt; take(&mut session, Came::Fault).2);
+    assert!(rt; take(&mut session, Came::Start).0 == Said::Nothing);
     assert_eq!(rt; session.transport(), Transport::Closing);
-    let _ = session.input(Input::Fail);
+    let _ = take(&mut session, Came::Fail);
     assert_eq!(rt; session.transport(), Transport::None);
-    let _ = session.input(Input::Start);
+    let _ = take(&mut session, Came::Start);
     assert_eq!(rt; session.transport(), Transport::Listening);
     Ok(())
 }
@@ -100,8 +159,8 @@ fn want_of_memory_ends_established(rt: HostRuntime) -> Result<(), Fail> {
         state: State::Established,
         ..Session::new(OWN, Mode::Passive)
     };
-    assert!(rt; session.input(Input::NoMemory).left);
-    assert!(rt; !session.input(Input::NoMemory).left);
+    assert!(rt; take(&mut session, Came::NoMemory).2);
+    assert!(rt; !take(&mut session, Came::NoMemory).2);
     assert_eq!(rt; session.transport(), Transport::Closing);
     Ok(())
 }
@@ -109,10 +168,10 @@ fn want_of_memory_ends_established(rt: HostRuntime) -> Result<(), Fail> {
 #[test]
 fn the_identifier_is_that_of_the_peers_open(rt: HostRuntime) -> Result<(), Fail> {
     let mut session = Session::new(OWN, Mode::Passive);
-    for input in [Input::Start, Input::Up, Input::Open(PEER)] {
-        let _ = session.input(input);
+    for came in [Came::Start, Came::Up, Came::Open] {
+        let _ = take(&mut session, came);
     }
     assert_eq!(rt; session.identifier(), 0x0101_0101);
-    assert!(rt; session.input(Input::Keepalive).entered);
+    assert!(rt; take(&mut session, Came::Keepalive).1);
     Ok(())
 }
