@@ -146,7 +146,7 @@ left_if_stands :
     (h : List Event) (octet : ℕ) (item : Item) → transport_of (session_after (input_of (session h).state (terms_of h) item) (session h)) ≡ Connected
     → [] ≡ left_over (unread (stream h) ++ octet ∷ []) (Some item)
 left_if_stands h octet (WholeMessage kind body) e = refl
-left_if_stands h octet (FaultyHeader fault) e = absurd (fault_closes (session h) e)
+left_if_stands h octet (FaultyHeader fault) e = absurd (fault_closes _ (session h) e)
 
 -- the item that an octet completes is taken
 pub agrees-input :

@@ -36,7 +36,7 @@ after_octet :
     → Wants (left_over (unread (stream h) ++ octet ∷ []) item)
 after_octet h octet None none stands before = wants-more (unread (stream h)) octet (before stands) none
 after_octet h octet (Some (WholeMessage kind body)) some stands before = wants-nil
-after_octet h octet (Some (FaultyHeader fault)) some stands before = absurd (fault_closes (session h) stands)
+after_octet h octet (Some (FaultyHeader fault)) some stands before = absurd (fault_closes _ (session h) stands)
 
 -- what an input leaves unread of it
 after_signal : (h : List Event) (input : Input) → transport_of (session_after input (session h)) ≡ Connected → (transport_of (session h) ≡ Connected → Wants (unread (stream h)))

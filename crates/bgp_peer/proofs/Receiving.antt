@@ -12,6 +12,7 @@ use Rattle.bgp_msg.proofs.Streams.{meaning-wants, meaning-message, at_header, me
 use Rattle.bgp_msg.proofs.StreamPieces.{read_alone}
 use Rattle.bgp_msg.proofs.ReaderAnswers.{answer_is_message}
 use Rattle.bgp_fsm.specs.declared.input.Input.{Input}
+use Rattle.bgp_fsm.specs.declared.session.Session.{Session}
 use Rattle.bgp_fsm.specs.Transports.{transport_of}
 use Rattle.bgp_peer.specs.Slot.{Slot, taken_input, IsInOrder, IsWholeRest, HoldsOnly, item_of_step}
 use Rattle.bgp_peer.specs.SessionInputs.{Event, Octet, onto, terms_of, input_of}
@@ -127,11 +128,11 @@ whole_answer rest frame used h whole =
 
 -- a reader's answer is the item that the rest is
 pub front-item :
-    (rest ring : List ℕ) (capacity : ℕ) (step : Step) → Tells rest step → IsWholeRest rest step → IsInOrder rest ring capacity → meaning rest ≡ item_of_step step
-front-item rest ring capacity Need h whole o = meaning-wants rest h
-front-item rest ring capacity (Message frame used) h whole o =
+    (s : Session) (rest ring : List ℕ) (capacity : ℕ) (step : Step) → Tells rest step → IsWholeRest rest step → IsInOrder s rest ring capacity → meaning rest ≡ item_of_step step
+front-item s rest ring capacity Need h whole o = meaning-wants rest h
+front-item s rest ring capacity (Message frame used) h whole o =
     meaning-message rest frame.kind frame.body.now (whole_answer rest frame used h whole)
-front-item rest ring capacity (Faulty fault) h whole o = at_header rest fault (o.header_alone fault h.0 h.1) h.1
+front-item s rest ring capacity (Faulty fault) h whole o = at_header rest fault (o.header_alone fault h.0 h.1) h.1
 
 -- and all that it holds
 pub front-only : (rest : List ℕ) (step : Step) → Tells rest step → IsWholeRest rest step → HoldsOnly rest step

@@ -8,6 +8,7 @@ use Rattle.bgp_msg.specs.MessageSpelling.{told_length}
 use Rattle.bgp_msg.specs.MessageFaults.{header_fault}
 use Rattle.bgp_msg.specs.MessageStream.{needed_of}
 use Rattle.bgp_msg.proofs.Streams.{told_length-append, told_length-lawful, header_fault-append, some_is_not_none}
+use Rattle.bgp_fsm.specs.declared.session.Session.{Session}
 use Rattle.bgp_peer.specs.Slot.{IsInOrder}
 
 -- what is wanted, by cases: of a header, behind a header without a fault, behind a faulty one
@@ -64,13 +65,14 @@ header_alone-push rest octets fault (inr (inr none)) alone whole faulty =
     subst (λ (x : List ℕ). (fault : HeaderFault) → 19 ≤ length x → header_fault x ≡ Some fault → length x ≡ 19) (sym (ap (λ x. rest ++ x) none ∙ append-nil rest)) alone fault whole faulty
 
 pub in_order-push :
-    (rest octets ring : List ℕ) (capacity count : ℕ) → count ≡ min (needed_of rest) (length octets) → IsInOrder rest ring capacity
-    → IsInOrder (rest ++ take count octets) ring capacity
-in_order-push rest octets ring capacity count wanted o =
+    (s : Session) (rest octets ring : List ℕ) (capacity count : ℕ) → count ≡ min (needed_of rest) (length octets) → IsInOrder s rest ring capacity
+    → IsInOrder s (rest ++ take count octets) ring capacity
+in_order-push s rest octets ring capacity count wanted o =
     let far : Reaches rest (take count octets) = reaches rest (take count octets) (cases_lt (length rest) 19) o.one_message (wanted-take rest octets count wanted) in
     record {
       capacity_is = o.capacity_is;
       fits = o.fits;
+      can_be_told = o.can_be_told;
       one_message = one_message-push rest (take count octets) far o.one_message;
       header_alone = λ fault. header_alone-push rest (take count octets) fault far o.header_alone;
     }

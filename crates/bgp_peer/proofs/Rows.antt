@@ -9,22 +9,22 @@ use Rattle.bgp_msg.specs.MessageFaults.{open_fault}
 use Rattle.bgp_msg.specs.MessageStream.{Item, WholeMessage, FaultyHeader, unread}
 use Rattle.bgp_msg.specs.UpdateMeaning.{update_fault}
 use Rattle.bgp_msg.proofs.StreamPieces.{unread-nil, read_alone}
-use Rattle.bgp_msg.proofs.WrittenMessages.{keepalive_first, open_first}
+use Rattle.bgp_msg.proofs.WrittenMessages.{keepalive_first, notification_first, open_first}
 use Rattle.bgp_fsm.specs.declared.state.State.{State}
 use Rattle.bgp_fsm.specs.declared.input.Input.{Input}
-use Rattle.bgp_fsm.specs.declared.input.Input.TheVariants.{Start, Up, Fail, Fault, Update}
+use Rattle.bgp_fsm.specs.declared.input.Input.TheVariants.{Start, Up, Fail, UnexpectedOpen, Update}
 use Rattle.bgp_fsm.specs.declared.session.Outgoing.{Outgoing}
-use Rattle.bgp_fsm.specs.declared.session.Outgoing.TheVariants.{Open, Keepalive}
+use Rattle.bgp_fsm.specs.declared.session.Outgoing.TheVariants.{Open, Keepalive, Notification as Notify}
 use Rattle.bgp_fsm.specs.declared.session.Session.{Session}
 use Rattle.bgp_fsm.specs.SessionTable.{row_at, nothing, session_after, effects_of}
 use Rattle.bgp_fsm.specs.StateTests.{is_established, awaits_open, is_message}
 use Rattle.bgp_fsm.specs.Transports.{transport_of}
 use Rattle.bgp_fsm.proofs.TableLaws.{message_ignored}
-use Rattle.bgp_peer.specs.Slot.{Slot, octets_of, said, kept, taken_input}
+use Rattle.bgp_peer.specs.Slot.{Slot, octets_of, is_queued, said, kept, taken_input}
 use Rattle.bgp_peer.specs.SessionInputs.{Terms, expected_of, kind_of, input_of, open_input, update_input}
 
 -- an item of a stream is a message
-open_is_message : (awaited : Bool) (terms : Terms) (body : List ℕ) (fault : Option OpenFault) → is_message (if awaited then open_input terms body fault else Fault) ≡ true
+open_is_message : (awaited : Bool) (terms : Terms) (body : List ℕ) (fault : Option OpenFault) → is_message (if awaited then open_input terms body fault else UnexpectedOpen) ≡ true
 open_is_message true terms body None = refl
 open_is_message true terms body (Some fault) = refl
 open_is_message false terms body fault = refl
@@ -82,13 +82,14 @@ octets_whole : (message : Option Outgoing) → unread (octets_of message) ≡ []
 octets_whole None = unread-nil
 octets_whole (Some (Open own)) = (read_alone _ _ _ (open_first own.asn.0 own.hold_time own.identifier)).1
 octets_whole (Some Keepalive) = (read_alone _ _ _ keepalive_first).1
+octets_whole (Some (Notify told)) = (read_alone _ _ _ (notification_first told)).1
 
 whole_or_none : (room : Bool) (octets : List ℕ) → unread octets ≡ [] → unread (if room then octets else []) ≡ []
 whole_or_none true octets whole = whole
 whole_or_none false octets whole = unread-nil
 
 pub said_whole : (message : Option Outgoing) (ring : List ℕ) → unread (said message ring) ≡ []
-said_whole message ring = whole_or_none (nat_le (length ring + 8192) 65536) (octets_of message) (octets_whole message)
+said_whole message ring = whole_or_none (is_queued message ring) (octets_of message) (octets_whole message)
 
 -- a row without a message says nothing
 either_way : (room : Bool) (octets : List ℕ) → (if room then octets else octets) ≡ octets

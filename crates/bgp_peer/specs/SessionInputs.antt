@@ -12,11 +12,12 @@ use Rattle.bgp_msg.specs.declared.fault.OpenFault.{OpenFault}
 use Rattle.bgp_msg.specs.declared.open_message.Open.{Open as OpenMessage}
 use Rattle.bgp_msg.specs.declared.open_message.Expected.{Expected}
 use Rattle.bgp_msg.specs.MessageFaults.{open_fault, hold_time_at, identifier_at}
+use Rattle.bgp_msg.specs.Notifications.{header_notification, open_notification, update_notification}
 use Rattle.bgp_msg.specs.MessageStream.{Item, WholeMessage, FaultyHeader, completed, unread}
 use Rattle.bgp_msg.specs.UpdateMeaning.{update_fault}
 use Rattle.bgp_fsm.specs.declared.state.State.{State}
 use Rattle.bgp_fsm.specs.declared.input.Input.{Input}
-use Rattle.bgp_fsm.specs.declared.input.Input.TheVariants.{Open, Keepalive, Update, Notification, Fault}
+use Rattle.bgp_fsm.specs.declared.input.Input.TheVariants.{Open, UnexpectedOpen, Keepalive, Update, Notification, Fault}
 use Rattle.bgp_fsm.specs.declared.session.Session.{Session}
 use Rattle.bgp_fsm.specs.SessionTable.{fresh, session_after}
 use Rattle.bgp_fsm.specs.StateTests.{is_established, awaits_open}
@@ -99,17 +100,17 @@ open_told terms body = record { asn = terms.peer_asn; hold_time = hold_time_at b
 -- what the OPEN with this body is to a session that awaits it
 abbrev pub open_input : Terms → List ℕ → Option OpenFault → Input
 open_input terms body None = Open (open_told terms body)
-open_input terms body (Some fault) = Fault
+open_input terms body (Some fault) = Fault (open_notification fault)
 
 -- what an UPDATE is to an Established session
 abbrev pub update_input : Option UpdateFault → Input
 update_input None = Update
-update_input (Some fault) = Fault
+update_input (Some fault) = Fault (update_notification fault)
 
 -- what an item of the stream is to a session in this state: only the body of a message that the state awaits is read
 abbrev pub input_of : State → Terms → Item → Input
-input_of state terms (FaultyHeader fault) = Fault
-input_of state terms (WholeMessage OpenType body) = if awaits_open state then open_input terms body (open_fault body (expected_of terms)) else Fault
+input_of state terms (FaultyHeader fault) = Fault (header_notification fault)
+input_of state terms (WholeMessage OpenType body) = if awaits_open state then open_input terms body (open_fault body (expected_of terms)) else UnexpectedOpen
 input_of state terms (WholeMessage UpdateType body) = if is_established state then update_input (update_fault (kind_of terms) body) else Update
 input_of state terms (WholeMessage KeepaliveType body) = Keepalive
 input_of state terms (WholeMessage NotificationType body) = Notification

@@ -1,5 +1,6 @@
 -- What others see of a slot, and what each thing that happens makes of it.
-use Rattle.std.specs.Prelude.{◌≡◌, ℕ, ◌+◌, ◌≤◌, nat_le, if◌then◌else◌, List, [], ◌++◌, length, drop, Option, Some, None}
+use Rattle.std.specs.Prelude.{◌≡◌, ℕ, ◌+◌, ◌≤◌, ◌||◌, nat_le, if◌then◌else◌, Bool, List, [], ◌++◌, length, drop, Option, Some, None}
+use Rattle.net_prefix.specs.declared.transport.Transport.TheVariants.{Open as Connected}
 use Rattle.bgp_attr.specs.declared.peer.Mode.{Mode}
 use Rattle.bgp_msg.specs.declared.open_message.Open.{Open as OpenMessage}
 use Rattle.bgp_msg.specs.declared.frame.Step.{Step}
@@ -8,13 +9,17 @@ use Rattle.bgp_msg.specs.MessageSpelling.{told_length, open_of, header_of}
 use Rattle.bgp_msg.specs.declared.frame.MessageType.TheVariants.{Keepalive as KeepaliveMessage}
 use Rattle.bgp_msg.specs.declared.fault.HeaderFault.{HeaderFault}
 use Rattle.bgp_msg.specs.MessageFaults.{header_fault}
+use Rattle.bgp_msg.specs.MessageLimits.{max_message}
+use Rattle.bgp_msg.specs.Notifications.{notification_of}
 use Rattle.bgp_msg.specs.MessageStream.{Item, WholeMessage, FaultyHeader, messages, unread, with_front, left_over}
 use Rattle.bgp_fsm.specs.declared.input.Input.{Input}
-use Rattle.bgp_fsm.specs.declared.input.Input.TheVariants.{Start, Up, Fail, Open as OpenInput, Keepalive as KeepaliveInput, Update, Notification, Fault, NoMemory}
+use Rattle.bgp_fsm.specs.declared.input.Input.TheVariants.{Start, Up, Fail, Open as OpenInput, UnexpectedOpen, Keepalive as KeepaliveInput, Update, Notification, Fault, NoMemory}
 use Rattle.bgp_fsm.specs.declared.session.Session.{Session}
 use Rattle.bgp_fsm.specs.declared.session.Outgoing.{Outgoing}
-use Rattle.bgp_fsm.specs.declared.session.Outgoing.TheVariants.{Open, Keepalive}
+use Rattle.bgp_fsm.specs.declared.session.Outgoing.TheVariants.{Open, Keepalive, Notification as Notify}
 use Rattle.bgp_fsm.specs.SessionTable.{fresh, session_after, effects_of}
+use Rattle.bgp_fsm.specs.StateTests.{is_notification}
+use Rattle.bgp_fsm.specs.Transports.{transport_of}
 use Rattle.bgp_peer.specs.PeerLimits.{ring_octets, room_for_update}
 
 -- the session, what has come of the message that is being received, and what is queued and not yet taken
@@ -23,10 +28,15 @@ pub record Slot : Type 0 where
   pub rest : List ℕ
   pub ring : List ℕ
 
+-- while the connection stands, the longest message still fits into the ring
+abbrev pub CanBeTold : Session → List ℕ → Type 0
+CanBeTold s ring = transport_of s ≡ Connected → length ring + max_message ≤ ring_octets
+
 -- the rest doesn't go beyond the message or the faulty header at its front, and the ring holds 65,536 octets
-pub record IsInOrder (rest ring : List ℕ) (capacity : ℕ) : Type 0 where
+pub record IsInOrder (s : Session) (rest ring : List ℕ) (capacity : ℕ) : Type 0 where
   pub capacity_is : capacity ≡ ring_octets
   pub fits : length ring ≤ ring_octets
+  pub can_be_told : CanBeTold s ring
   pub one_message : 19 ≤ length rest → header_fault rest ≡ None → length rest ≤ told_length rest
   pub header_alone : (fault : HeaderFault) → 19 ≤ length rest → header_fault rest ≡ Some fault → length rest ≡ 19
 
@@ -51,10 +61,15 @@ abbrev pub octets_of : Option Outgoing → List ℕ
 octets_of None = []
 octets_of (Some (Open own)) = open_of own.asn.0 own.hold_time own.identifier
 octets_of (Some Keepalive) = header_of KeepaliveMessage 19
+octets_of (Some (Notify told)) = notification_of told
 
--- what a row adds to this ring: its message, where 8,192 octets are free
+-- a NOTIFICATION is queued whatever is free, any other message where 8,192 octets are free
+abbrev pub is_queued : Option Outgoing → List ℕ → Bool
+is_queued message ring = is_notification message || nat_le (length ring + room_for_update) ring_octets
+
+-- what a row adds to this ring: its message, where it is queued
 abbrev pub said : Option Outgoing → List ℕ → List ℕ
-said message ring = if nat_le (length ring + room_for_update) ring_octets then octets_of message else []
+said message ring = if is_queued message ring then octets_of message else []
 
 -- a slot whose peer is configured and not enabled
 abbrev pub configured : OpenMessage → Mode → Slot
@@ -70,10 +85,11 @@ kept Start octets = octets
 kept Up octets = []
 kept Fail octets = []
 kept (OpenInput message) octets = octets
+kept UnexpectedOpen octets = octets
 kept KeepaliveInput octets = octets
 kept Update octets = octets
 kept Notification octets = octets
-kept Fault octets = octets
+kept (Fault told) octets = octets
 kept NoMemory octets = octets
 
 -- what an input leaves of the rest: nothing of a message that it is, or that is being received where memory is refused
@@ -82,10 +98,11 @@ rest_after Start rest = rest
 rest_after Up rest = []
 rest_after Fail rest = []
 rest_after (OpenInput message) rest = []
+rest_after UnexpectedOpen rest = []
 rest_after KeepaliveInput rest = []
 rest_after Update rest = []
 rest_after Notification rest = []
-rest_after Fault rest = []
+rest_after (Fault told) rest = []
 rest_after NoMemory rest = []
 
 -- the session takes this input: what the input ends is dropped, and what its row says is queued

@@ -1,22 +1,24 @@
 //! A slot: its session, the rest and the ring.
-ghost use Rattle.std.specs.Prelude.{◌≡◌, ◌+◌, ◌≤◌, ◌<◌, length, take, drop, min, ◌∷◌, ◌++◌, IfOk, ℕ, List, None, Some, false};
+ghost use Rattle.std.specs.Prelude.{◌≡◌, ◌≢◌, ◌+◌, ◌≤◌, ◌<◌, length, take, drop, min, ◌∷◌, ◌++◌, IfOk, ℕ, List, None, Some, true, false};
 ghost use Rattle.net_prefix.specs.declared.asn.Asn.{Asn};
 ghost use Rattle.net_prefix.specs.declared.transport.Transport.TheVariants.{Open as Connected};
 ghost use Rattle.bgp_fsm.specs.SessionTable.{effects_of};
 ghost use Rattle.bgp_fsm.specs.Transports.{transport_of};
 ghost use Rattle.bgp_fsm.specs.declared.state.State.{State};
-ghost use Rattle.bgp_fsm.specs.StateTests.{is_message};
+ghost use Rattle.bgp_fsm.specs.StateTests.{is_message, is_notification};
 ghost use Rattle.bgp_msg.specs.MessageStream.{Item, Tells, Wants, meaning, needed_of};
 ghost use Rattle.bgp_peer.specs.Agreement.{PeerAgrees, IsHearing, IsUpdateMessage};
 ghost use Rattle.bgp_peer.specs.SessionInputs.{Event, Configured, Signalled, Queued, Handed, terms_of, input_of, onto};
-ghost use Rattle.bgp_peer.specs.Slot.{Slot, configured, pushed, kept, rest_after, taken_input, said, queued, handed, IsWholeRest, HoldsOnly, item_of_step};
+ghost use Rattle.bgp_peer.specs.Slot.{Slot, configured, pushed, kept, rest_after, taken_input, octets_of, said, queued, handed, IsWholeRest, HoldsOnly, item_of_step};
 ghost use Rattle.bgp_peer.specs.PeerLimits.{ring_octets, room_for_update};
 ghost use Rattle.bgp_msg.specs.MessageLimits.{max_message};
 
 use arrayvec::ArrayVec;
 use bgp_attr::Mode;
 use bgp_fsm::{Effects, Input, Outgoing, Session, State};
-use bgp_msg::{MAX_MESSAGE, Open, Step, needed, read, write_keepalive, write_open};
+use bgp_msg::{
+    MAX_MESSAGE, Open, Step, needed, read, write_keepalive, write_notification, write_open,
+};
 use circular_buffer::HeapCircularBuffer;
 use net_prefix::Transport;
 use std::alloc::{AllocError, Allocator, Global};
@@ -26,7 +28,7 @@ use std::marker::Model;
 /// The octets that the ring of a slot holds.
 pub const RING_OCTETS: usize = 65_536;
 
-/// The free octets of the ring without which nothing is queued.
+/// The free octets of the ring without which nothing but a NOTIFICATION is queued.
 pub const ROOM_FOR_UPDATE: usize = 8_192;
 
 /// One slot.
@@ -46,7 +48,7 @@ impl<A: Allocator> Model for Peer<A> {
 
     ghost view = { λ p. record { session = p.session; rest = p.rest.items; ring = p.ring.items } };
 
-    ghost invariant = { λ p. IsInOrder p.rest.items p.ring.items p.ring.capacity };
+    ghost invariant = { λ p. IsInOrder p.session p.rest.items p.ring.items p.ring.capacity };
 }
 
 impl<A: Allocator> Peer<A> {
@@ -84,9 +86,10 @@ impl<A: Allocator> Peer<A> {
         self.session.identifier()
     }
 
-    /// How many octets may still be queued.
+    /// How many octets may still be queued: while the connection stands, a NOTIFICATION among them.
     pub fn free(&self) -> usize
-        ensures { result + length self.now.ring ≡ ring_octets }
+        ensures free { result + length self.now.ring ≡ ring_octets }
+        ensures told { transport_of self.now.session ≡ Connected → max_message ≤ result }
     {
         RING_OCTETS - self.ring.len()
     }
@@ -119,21 +122,21 @@ impl<A: Allocator> Peer<A> {
     /// The session takes an input: the operator enables the peer, the connection stands or fails, memory is refused,
     /// or the message at the front is this one. A message is dropped, also one that is being received where memory is
     /// refused, what was queued or came on another connection too, and what the row says is queued.
-    pub fn input(&mut self, input: Input) -> Effects
-        ensures exact { self.new ≡ taken_input self.old input }
-        ensures effects { result ≡ effects_of input self.old.session }
-        ensures signalled { (h : List Event) → PeerAgrees h self.old → is_message input ≡ false → PeerAgrees (Signalled input ∷ h) self.new }
-        ensures heard { (h : List Event) (item : Item) → IsHearing h item self.old → input ≡ input_of self.old.session.state (terms_of h) item → PeerAgrees h self.new }
+    pub fn input<'a>(&mut self, input: Input<'a>) -> Effects<'a>
+        ensures exact { self.new ≡ taken_input self.old input.entry }
+        ensures effects { result ≡ effects_of input.entry self.old.session }
+        ensures signalled { (h : List Event) → PeerAgrees h self.old → is_message input.entry ≡ false → PeerAgrees (Signalled input.entry ∷ h) self.new }
+        ensures heard { (h : List Event) (item : Item) → IsHearing h item self.old → input.entry ≡ input_of self.old.session.state (terms_of h) item → PeerAgrees h self.new }
     {
-        self.make_way(input);
+        self.make_way(&input);
         let effects = self.session.input(input);
-        self.say(effects.message);
+        self.say(&effects.message);
         effects
     }
 
-    /// Queues a message that fits.
+    /// Queues a message that leaves room for a NOTIFICATION.
     pub fn queue(&mut self, message: &[u8])
-        requires { length self.old.ring + length message.now ≤ ring_octets }
+        requires { length self.old.ring + length message.now + max_message ≤ ring_octets }
         ensures exact { self.new ≡ queued self.old message.now }
         ensures agrees { (h : List Event) → PeerAgrees h self.old → self.old.session.state ≡ State.Established → IsUpdateMessage message.now
             → length self.old.ring + room_for_update ≤ ring_octets → PeerAgrees (Queued message.now ∷ h) self.new }
@@ -152,8 +155,8 @@ impl<A: Allocator> Peer<A> {
     }
 
     // Drops what an input ends.
-    fn make_way(&mut self, input: Input)
-        ensures { self.new ≡ record { session = self.old.session; rest = rest_after input self.old.rest; ring = kept input self.old.ring } }
+    fn make_way(&mut self, input: &Input<'_>)
+        ensures { self.new ≡ record { session = self.old.session; rest = rest_after input.now self.old.rest; ring = kept input.now self.old.ring } }
     {
         match input {
             Input::Start => {}
@@ -165,26 +168,33 @@ impl<A: Allocator> Peer<A> {
         }
     }
 
-    // Queues what a row says, where an UPDATE would find room.
-    fn say(&mut self, message: Option<Outgoing>)
-        ensures { self.new ≡ queued self.old (said message self.old.ring) }
+    // Queues what a row says: a NOTIFICATION whatever is free, anything else where an UPDATE would find room.
+    fn say(&mut self, message: &Option<Outgoing<'_>>)
+        requires fits { is_notification message.now ≡ true → length self.old.ring + max_message ≤ ring_octets }
+        requires closed { is_notification message.now ≡ true → transport_of self.old.session ≢ Connected }
+        ensures { self.new ≡ queued self.old (said message.now self.old.ring) }
     {
-        if self.free() < ROOM_FOR_UPDATE {
+        let Some(message) = message else {
+            return;
+        };
+        if !matches!(message, Outgoing::Notification(_)) && self.free() < ROOM_FOR_UPDATE {
             return;
         }
-        match message {
-            Some(Outgoing::Open(own)) => {
-                let mut octets = ArrayVec::new();
-                write_open(&own, &mut octets);
-                self.ring.fill_from_slice(octets.as_slice());
-            }
-            Some(Outgoing::Keepalive) => {
-                let mut octets = ArrayVec::new();
-                write_keepalive(&mut octets);
-                self.ring.fill_from_slice(octets.as_slice());
-            }
-            None => {}
-        }
+        let mut octets = ArrayVec::new();
+        write_message(message, &mut octets);
+        self.ring.fill_from_slice(octets.as_slice());
+    }
+}
+
+// Writes what a row says.
+fn write_message(message: &Outgoing<'_>, out: &mut ArrayVec<u8, MAX_MESSAGE>)
+    ensures octets { out.new.items ≡ octets_of (Some message.now) }
+    ensures most { length out.new.items ≤ max_message }
+{
+    match message {
+        Outgoing::Open(own) => write_open(own, out),
+        Outgoing::Keepalive => write_keepalive(out),
+        Outgoing::Notification(told) => write_notification(told, out),
     }
 }
 

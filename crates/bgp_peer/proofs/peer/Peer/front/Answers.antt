@@ -14,5 +14,5 @@ returns-clause-only g c = front-only _ _ (returns-clause-tells g c) (returns-cla
 
 pub returns-clause-item : goal.returns-clause-item
 returns-clause-item g c =
-    front-item _ _ _ _ (returns-clause-tells g c) (returns-clause-whole g c)
-    (subst (λ (s : Slot). IsInOrder s.rest c.self.inside.ring.items c.self.inside.ring.capacity) c.self.view_is c.self.invariant)
+    front-item _ _ _ _ _ (returns-clause-tells g c) (returns-clause-whole g c)
+    (subst (λ (s : Slot). IsInOrder s.session s.rest c.self.inside.ring.items c.self.inside.ring.capacity) c.self.view_is c.self.invariant)

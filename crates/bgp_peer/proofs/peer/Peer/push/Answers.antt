@@ -6,7 +6,7 @@ use Rattle.bgp_peer.proofs.Rests.{in_order-push}
 use Rattle.bgp_peer.proofs.peer.Peer.push.Goals as goal
 
 pub invariant_of-self : goal.invariant_of-self
-invariant_of-self g c = rw (c.append.ensures, ← c.as_slice.ensures.value) (in_order-push _ _ _ _ _ c.wanted-count.ensures.count (rw c.as_slice.ensures.value c.self.invariant))
+invariant_of-self g c = rw (c.append.ensures, ← c.as_slice.ensures.value) (in_order-push _ _ _ _ _ _ c.wanted-count.ensures.count (rw c.as_slice.ensures.value c.self.invariant))
 
 pub returns-clause-count : goal.returns-clause-count
 returns-clause-count g c = search rules
