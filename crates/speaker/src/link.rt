@@ -39,9 +39,9 @@ impl<A: Allocator + Clone> Link<A> {
     }
 
     /// The session takes an input, as `Peer::input`.
-    pub fn input(&mut self, input: Input) -> Effects
-        ensures link { self.new ≡ moved self.old input }
-        ensures effects { result ≡ effects_of input self.old.peer.session }
+    pub fn input<'a>(&mut self, input: Input<'a>) -> Effects<'a>
+        ensures link { self.new ≡ moved self.old input.entry }
+        ensures effects { result ≡ effects_of input.entry self.old.peer.session }
     {
         let effects = self.peer.input(input);
         self.follow(&effects);
@@ -70,7 +70,7 @@ impl<A: Allocator + Clone> Link<A> {
     }
 
     // Entering Established begins with nothing sent, and leaving it forgets what was sent.
-    fn follow(&mut self, effects: &Effects)
+    fn follow(&mut self, effects: &Effects<'_>)
         ensures { self.new ≡ record { peer = self.old.peer; adj_out = adj_out_after effects.now self.old.adj_out } }
     {
         if effects.left || effects.entered {

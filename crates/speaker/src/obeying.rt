@@ -36,7 +36,7 @@ impl<A: Allocator + Clone, B: Book<A>> Speaker<A, B> {
             Command::AddPeer(slot, conf) => self.add_peer(command, slot, &conf),
             Command::Enable(slot) => {
                 self.begin_count();
-                let _ = self.input(slot, Input::Start);
+                self.input(slot, Input::Start);
                 Ok(())
             }
             Command::Reach(_, _) => {

@@ -116,7 +116,7 @@ impl<A: Allocator + Clone, B: Book<A>> Speaker<A, B> {
         ensures counted { self.new.chosen_before ≡ self.old.chosen_before }
         ensures rises { self.old.chosen ≤ self.new.chosen }
     {
-        let _ = self.input(slot, Input::NoMemory);
+        self.input(slot, Input::NoMemory);
         self.routing.ribs.is_chosen();
     }
 

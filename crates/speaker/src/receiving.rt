@@ -2,7 +2,9 @@
 ghost use Rattle.std.specs.Prelude.{◌≡◌, ◌≢◌, ◌≤◌, ◌+◌, ◌==◌, ◌&&◌, ◌⊎◌, ℕ, List, [], length, true, Some, None, OnOk, OnErr, IfOk, IfSome, if◌then◌else◌};
 ghost use Rattle.std.specs.Option.{IsSome, option_map, option_and_then};
 ghost use Rattle.bgp_fsm.specs.declared.state.State.TheVariants.{Established};
+ghost use Rattle.bgp_fsm.specs.declared.input.Input.TheVariants.{Fault as FaultInput};
 ghost use Rattle.bgp_msg.specs.MessageFaults.{open_fault};
+ghost use Rattle.bgp_msg.specs.Notifications.{fault_notification};
 ghost use Rattle.bgp_msg.specs.MessageStream.{WholeMessage, meaning};
 ghost use Rattle.bgp_msg.specs.UpdateMeaning.{update_fault};
 ghost use Rattle.bgp_msg.specs.declared.frame.MessageType.TheVariants.{Update as UpdateMessage};
@@ -20,11 +22,15 @@ ghost use Rattle.speaker.specs.Offers.{IsSound, KeepsHeard};
 
 use crate::choosing::candidate;
 use crate::link::Link;
+use crate::queueing::Octets;
 use crate::routing::{Links, Routing};
 use bgp_attr::{Attrs, PeerKind, UpdateFault};
 use bgp_conf::Conf;
 use bgp_fsm::{Input, State};
-use bgp_msg::{Expected, Frame, MessageType, Prefixes, Step, Update, read_open, read_update};
+use bgp_msg::{
+    Expected, Fault, Frame, MessageType, Notification, Prefixes, Step, Update, read_open,
+    read_update,
+};
 use decision::{Book, Candidate};
 use net_prefix::Prefix;
 use std::alloc::{AllocError, Allocator};
@@ -41,15 +47,16 @@ pub struct Sender {
 }
 
 /// What stands at the front of a slot's rest is to the session: nothing yet, or an input. The routes of an
-/// UPDATE of an Established session are taken.
-pub fn take_front<A: Allocator + Clone, B: Book<A>>(
+/// UPDATE of an Established session are taken. What a NOTIFICATION shows of a faulty message is written to `room`.
+pub fn take_front<'r, A: Allocator + Clone, B: Book<A>>(
     alloc: &A,
     conf: &Conf<A>,
     links: &Links<A>,
     routing: &mut Routing<A, B>,
     sender: Sender,
     link: &Link<A>,
-) -> Result<Option<Input>, AllocError>
+    room: &'r mut Octets,
+) -> Result<Option<Input<'r>>, AllocError>
     requires sound { IsSound conf.now (offer_at routing.old.book) }
     requires marked { AreMarked conf.now links.now.entries routing.old }
     ensures sound { IsSound conf.now (offer_at routing.new.book) }
@@ -68,17 +75,17 @@ pub fn take_front<A: Allocator + Clone, B: Book<A>>(
 {
     match link.peer.front() {
         Step::Need => Ok(None),
-        Step::Faulty(_) => Ok(Some(Input::Fault)),
+        Step::Faulty(fault) => Ok(Some(tell(&Fault::Header(fault), room))),
         Step::Message(frame, _) => {
             let state = link.peer.state();
-            let input = judge(alloc, conf, links, routing, sender, state, frame)?;
+            let input = judge(alloc, conf, links, routing, sender, state, frame, room)?;
             Ok(Some(input))
         }
     }
 }
 
 // A message. A type that the state doesn't expect is judged without its body being read.
-fn judge<A: Allocator + Clone, B: Book<A>>(
+fn judge<'r, A: Allocator + Clone, B: Book<A>>(
     alloc: &A,
     conf: &Conf<A>,
     links: &Links<A>,
@@ -86,7 +93,8 @@ fn judge<A: Allocator + Clone, B: Book<A>>(
     sender: Sender,
     state: State,
     frame: Frame<'_>,
-) -> Result<Input, AllocError>
+    room: &'r mut Octets,
+) -> Result<Input<'r>, AllocError>
     requires sound { IsSound conf.now (offer_at routing.old.book) }
     requires marked { AreMarked conf.now links.now.entries routing.old }
     ensures sound { IsSound conf.now (offer_at routing.new.book) }
@@ -104,10 +112,10 @@ fn judge<A: Allocator + Clone, B: Book<A>>(
     ensures part { OnErr result (IsPart sender.slot (sound_update frame.entry.body.now (update_fault sender.kind frame.entry.body.now)) routing.old routing.new) }
 {
     match (frame.kind, state) {
-        (MessageType::Open, State::OpenSent) => Ok(judge_open(frame.body, sender.expected)),
-        (MessageType::Open, _) => Ok(Input::Fault),
+        (MessageType::Open, State::OpenSent) => Ok(judge_open(frame.body, sender.expected, room)),
+        (MessageType::Open, _) => Ok(Input::UnexpectedOpen),
         (MessageType::Update, State::Established) => {
-            judge_update(alloc, conf, links, routing, sender, frame.body)
+            judge_update(alloc, conf, links, routing, sender, frame.body, room)
         }
         (MessageType::Update, _) => Ok(Input::Update),
         (MessageType::Keepalive, _) => Ok(Input::Keepalive),
@@ -115,24 +123,32 @@ fn judge<A: Allocator + Clone, B: Book<A>>(
     }
 }
 
-fn judge_open(body: &[u8], expected: Expected) -> Input
+fn judge_open<'r>(body: &[u8], expected: Expected, room: &'r mut Octets) -> Input<'r>
     ensures { (terms : Terms) → expected ≡ expected_of terms → result ≡ open_input terms body.now (open_fault body.now expected) }
 {
     match read_open(body, expected) {
         Ok(message) => Input::Open(message),
-        Err(_) => Input::Fault,
+        Err(fault) => tell(&Fault::Open(fault), room),
     }
 }
 
+// A fault is told by its NOTIFICATION.
+fn tell<'r>(fault: &Fault<'_>, room: &'r mut Octets) -> Input<'r>
+    ensures { result ≡ FaultInput (fault_notification fault.now) }
+{
+    Input::Fault(Notification::of_fault(fault, room))
+}
+
 #[tactic(auto, using(crate::proofs::NeededMemory::needs))]
-fn judge_update<A: Allocator + Clone, B: Book<A>>(
+fn judge_update<'r, A: Allocator + Clone, B: Book<A>>(
     alloc: &A,
     conf: &Conf<A>,
     links: &Links<A>,
     routing: &mut Routing<A, B>,
     sender: Sender,
     body: &[u8],
-) -> Result<Input, AllocError>
+    room: &'r mut Octets,
+) -> Result<Input<'r>, AllocError>
     requires sound { IsSound conf.now (offer_at routing.old.book) }
     requires marked { AreMarked conf.now links.now.entries routing.old }
     ensures sound { IsSound conf.now (offer_at routing.new.book) }
@@ -152,7 +168,7 @@ fn judge_update<A: Allocator + Clone, B: Book<A>>(
             Ok(Input::Update)
         }
         Err(UpdateFault::NoMemory) => Err(AllocError),
-        Err(_) => Ok(Input::Fault),
+        Err(fault) => Ok(tell(&Fault::Update(fault), room)),
     }
 }
 

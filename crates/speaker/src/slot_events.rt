@@ -19,9 +19,11 @@ ghost use Rattle.speaker.specs.Agreement.{Hears, HearsUntil};
 ghost use Rattle.speaker.specs.Tables.{link_at};
 ghost use Rattle.speaker.specs.Linked.{Linked};
 
+use crate::queueing::Octets;
 use crate::receiving::{Sender, take_front};
 use crate::routing::{Links, Routing};
 use crate::step::Speaker;
+use arrayvec::ArrayVec;
 use bgp_attr::PeerKind;
 use bgp_conf::Conf;
 use bgp_fsm::{Effects, Input};
@@ -31,19 +33,17 @@ use std::alloc::{AllocError, Allocator};
 
 impl<A: Allocator + Clone, B: Book<A>> Speaker<A, B> {
     /// A slot's session takes an input. Where it leaves Established, its routes go.
-    pub(crate) fn input(&mut self, slot: u8, input: Input) -> Effects
-        ensures effects { (l : Linked) → link_at self.old.links slot ≡ Some l → result ≡ effects_of input l.peer.session }
-        ensures moves { (l : Linked) → link_at self.old.links slot ≡ Some l → Moves slot l input self.old self.new }
-        ensures chosen { (l : Linked) → link_at self.old.links slot ≡ Some l → Chooses slot (effects_of input l.peer.session).left self.old self.new }
+    pub(crate) fn input(&mut self, slot: u8, input: Input<'_>)
+        ensures moves { (l : Linked) → link_at self.old.links slot ≡ Some l → Moves slot l input.entry self.old self.new }
+        ensures chosen { (l : Linked) → link_at self.old.links slot ≡ Some l → Chooses slot (effects_of input.entry l.peer.session).left self.old self.new }
         ensures counted { self.new.chosen_before ≡ self.old.chosen_before }
         ensures rises { self.old.chosen ≤ self.new.chosen }
     {
         let Some(link) = self.links.get_mut(&slot) else {
-            return Effects::NONE;
+            return;
         };
         let effects = link.input(input);
         follow(&self.conf, &self.links, &mut self.routing, slot, &effects);
-        effects
     }
 
     // Takes octets that come, message by message. What comes after the session has closed is dropped. Where memory is
@@ -55,9 +55,10 @@ impl<A: Allocator + Clone, B: Book<A>> Speaker<A, B> {
         ensures counted { self.new.chosen_before ≡ self.old.chosen_before }
         ensures rises { self.old.chosen ≤ self.new.chosen }
     {
+        let mut room = ArrayVec::new();
         let mut rest = octets;
         while !rest.is_empty() {
-            let taken = self.hear_front(slot, rest)?;
+            let taken = self.hear_front(slot, rest, &mut room)?;
             if taken == 0 {
                 return Ok(());
             }
@@ -68,7 +69,12 @@ impl<A: Allocator + Clone, B: Book<A>> Speaker<A, B> {
     }
 
     // Takes octets up to the end of the message at the front, and that message; answers how many.
-    fn hear_front(&mut self, slot: u8, octets: &[u8]) -> Result<usize, AllocError>
+    fn hear_front(
+        &mut self,
+        slot: u8,
+        octets: &[u8],
+        room: &mut Octets,
+    ) -> Result<usize, AllocError>
         ensures within { IfOk result (λ taken. taken ≤ length octets.now) }
         ensures heard { IfOk result (λ taken. taken ≢ 0 → Hears slot (take taken octets.now) self.old self.new) }
         ensures shut { IfOk result (λ taken. taken ≡ 0 → 0 < length octets.now → Hears slot octets.now self.old self.new) }
@@ -81,7 +87,7 @@ impl<A: Allocator + Clone, B: Book<A>> Speaker<A, B> {
         if taken == 0 {
             return Ok(0);
         }
-        self.take_message(slot)?;
+        self.take_message(slot, room)?;
         Ok(taken)
     }
 
@@ -100,8 +106,8 @@ impl<A: Allocator + Clone, B: Book<A>> Speaker<A, B> {
     }
 
     // Takes the message at the front of the slot's rest, if it is whole or its header is faulty. Where memory is refused
-    // to it, the session is closed.
-    fn take_message(&mut self, slot: u8) -> Result<(), AllocError>
+    // to it, the session is closed. What a NOTIFICATION shows of a faulty one is written to `room`.
+    fn take_message(&mut self, slot: u8, room: &mut Octets) -> Result<(), AllocError>
         ensures taken { OnOk result ((l : Linked) (peer : ThePeer) → link_at self.old.links slot ≡ Some l → peer_at self.old.conf slot ≡ Some peer
             → TakesItem slot (terms_in self.old.config peer) l (meaning l.peer.rest) self.old self.new) }
         ensures starved { OnErr result ((l : Linked) (peer : ThePeer) → link_at self.old.links slot ≡ Some l → peer_at self.old.conf slot ≡ Some peer
@@ -134,15 +140,16 @@ impl<A: Allocator + Clone, B: Book<A>> Speaker<A, B> {
             &mut self.routing,
             sender,
             link,
+            room,
         ) {
             Ok(heard) => heard,
             Err(refused) => {
-                let _ = self.input(slot, Input::NoMemory);
+                self.input(slot, Input::NoMemory);
                 return Err(refused);
             }
         };
         if let Some(input) = heard {
-            let _ = self.input(slot, input);
+            self.input(slot, input);
         }
         Ok(())
     }
@@ -155,7 +162,7 @@ fn follow<A: Allocator + Clone, B: Book<A>>(
     links: &Links<A>,
     routing: &mut Routing<A, B>,
     slot: u8,
-    effects: &Effects,
+    effects: &Effects<'_>,
 )
     requires { IsFollowed conf.now links.now.entries slot effects.now routing.old }
     ensures marked { AreMarked conf.now links.now.entries routing.new }

@@ -135,11 +135,11 @@ impl<A: Allocator + Clone, B: Book<A>> Speaker<A, B> {
             }
             Event::Up(slot) => {
                 self.begin_count();
-                let _ = self.input(slot, Input::Up);
+                self.input(slot, Input::Up);
             }
             Event::Fail(slot) => {
                 self.begin_count();
-                let _ = self.input(slot, Input::Fail);
+                self.input(slot, Input::Fail);
             }
             Event::Bytes(slot, octets) => {
                 self.begin_count();

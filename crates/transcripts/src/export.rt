@@ -77,3 +77,41 @@ fn a_full_ring_lets_prefixes_wait(rt: HostRuntime) -> Result<(), Fail> {
     show_waiting(&mut transcript, QUEUED + 1)?;
     transcript.play(&rt, alloc)
 }
+
+// The UPDATEs that are queued to slot 1 before its ring is full.
+fn take_queued(transcript: &mut Transcript) -> Result<(), AllocError> {
+    let attributes = "4001010040020A02020000FDE80000FDE9400304C0000201";
+    writeln!(transcript.script, "take 1 {}", 51 * u32::from(QUEUED))?;
+    transcript.told.push_str("out ")?;
+    for index in 0..QUEUED {
+        write!(
+            transcript.told,
+            "{MARKER}00330200000018{attributes}180A{index:04X}"
+        )?;
+    }
+    writeln!(transcript.told)
+}
+
+const TOLD_BEHIND_A_FULL_RING: &str = "
+> bytes 1 M 0012 04
+ok
+> show sessions
+0 Established
+1 Idle
+end
+> show waiting 1
+end
+";
+
+#[test]
+fn a_notification_finds_room_in_a_full_ring(rt: HostRuntime) -> Result<(), Fail> {
+    let alloc = rt.alloc();
+    let mut transcript = Transcript::read(alloc, &[TWO_PEERS, BOTH_COME_UP])?;
+    for index in 0..ANNOUNCED {
+        announce(&mut transcript, index)?;
+    }
+    transcript.add(TOLD_BEHIND_A_FULL_RING)?;
+    take_queued(&mut transcript)?;
+    transcript.add("> take 1 100\nout M 0017 03 0102 0012\n")?;
+    transcript.play(&rt, alloc)
+}

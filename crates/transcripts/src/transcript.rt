@@ -65,17 +65,25 @@ pub struct Transcript {
 impl Transcript {
     /// The transcript whose parts follow each other.
     pub fn read(alloc: Global, parts: &[&str]) -> Result<Transcript, AllocError> {
-        let mut script = String::new(alloc);
-        let mut told = String::new(alloc);
+        let mut transcript = Transcript {
+            script: String::new(alloc),
+            told: String::new(alloc),
+        };
         for part in parts {
-            for line in part.lines() {
-                match line.strip_prefix("> ") {
-                    Some(line) => push_line(&mut script, line)?,
-                    None => push_line(&mut told, line)?,
-                }
+            transcript.add(part)?;
+        }
+        Ok(transcript)
+    }
+
+    /// Goes on by this part.
+    pub fn add(&mut self, part: &str) -> Result<(), AllocError> {
+        for line in part.lines() {
+            match line.strip_prefix("> ") {
+                Some(line) => push_line(&mut self.script, line)?,
+                None => push_line(&mut self.told, line)?,
             }
         }
-        Ok(Transcript { script, told })
+        Ok(())
     }
 
     /// Plays what is handed in, and compares the answers.

@@ -40,7 +40,7 @@ end
 > bytes 0 M 0031 02 0000 0014 40010100 40020602010000FDE9 400304C000020B 21 0A00000000
 ok
 > take 0 99
-out -
+out M 0015 03 030A
 > show sessions
 0 Idle
 1 Established
@@ -84,13 +84,38 @@ fn an_empty_and_a_repeated_update_change_nothing(rt: HostRuntime) -> Result<(), 
     )
 }
 
-// No NEXT_HOP, ORIGIN twice, another first AS, ORIGIN 3, and a MULTI_EXIT_DISC.
-const FAULTY_UPDATES: [&str; 5] = [
-    "> bytes 0 M 0028 02 0000 000D 40010100 40020602010000FDE9 180A0001",
-    "> bytes 0 M 0033 02 0000 0018 40010100 40010100 40020602010000FDE9 400304C000020B 180A0001",
-    "> bytes 0 M 002F 02 0000 0014 40010100 40020602010000FDEA 400304C000020B 180A0001",
-    "> bytes 0 M 002F 02 0000 0014 40010103 40020602010000FDE9 400304C000020B 180A0001",
-    "> bytes 0 M 0036 02 0000 001B 40010100 40020602010000FDE9 400304C000020B 8004040000000A 180A0001",
+// Faulty UPDATEs, and what they are told: no NEXT_HOP, ORIGIN twice, another first AS, ORIGIN 3, a NEXT_HOP of two
+// octets, one with the optional bit, one in 127.0.0.0/8, and withdrawn routes that are longer than the body.
+const FAULTY_UPDATES: [(&str, &str); 8] = [
+    (
+        "> bytes 0 M 0028 02 0000 000D 40010100 40020602010000FDE9 180A0001",
+        "out M 0016 03 0303 03",
+    ),
+    (
+        "> bytes 0 M 0033 02 0000 0018 40010100 40010100 40020602010000FDE9 400304C000020B 180A0001",
+        "out M 0015 03 0301",
+    ),
+    (
+        "> bytes 0 M 002F 02 0000 0014 40010100 40020602010000FDEA 400304C000020B 180A0001",
+        "out M 0015 03 030B",
+    ),
+    (
+        "> bytes 0 M 002F 02 0000 0014 40010103 40020602010000FDE9 400304C000020B 180A0001",
+        "out M 0019 03 0306 40010103",
+    ),
+    (
+        "> bytes 0 M 002D 02 0000 0012 40010100 40020602010000FDE9 400302C000 180A0001",
+        "out M 001A 03 0305 400302C000",
+    ),
+    (
+        "> bytes 0 M 002F 02 0000 0014 40010100 40020602010000FDE9 C00304C000020B 180A0001",
+        "out M 001C 03 0304 C00304C000020B",
+    ),
+    (
+        "> bytes 0 M 002F 02 0000 0014 40010100 40020602010000FDE9 4003047F000001 180A0001",
+        "out M 001C 03 0308 4003047F000001",
+    ),
+    ("> bytes 0 M 0017 02 0001 0000", "out M 0015 03 0301"),
 ];
 
 const CLOSED_WITHOUT_A_ROUTE: &str = "
@@ -101,19 +126,24 @@ ok
 end
 > show rib
 end
-> take 0 100
-out -
 > take 1 100
 out -
+> take 0 100
 ";
 
 #[test]
-fn a_faulty_update_closes_silently(rt: HostRuntime) -> Result<(), Fail> {
-    for update in FAULTY_UPDATES {
+fn a_faulty_update_is_told(rt: HostRuntime) -> Result<(), Fail> {
+    for (update, told) in FAULTY_UPDATES {
         plays(
             &rt,
             rt.alloc(),
-            &[TWO_PEERS, BOTH_COME_UP, update, CLOSED_WITHOUT_A_ROUTE],
+            &[
+                TWO_PEERS,
+                BOTH_COME_UP,
+                update,
+                CLOSED_WITHOUT_A_ROUTE,
+                told,
+            ],
         )?;
     }
     Ok(())
