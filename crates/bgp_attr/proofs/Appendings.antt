@@ -4,7 +4,11 @@ use Rattle.std.specs.Int.{to_be_bytes, w32}
 use Rattle.net_prefix.specs.declared.asn.Asn.{Asn}
 use Rattle.bgp_attr.specs.Appending.{Appends}
 use Rattle.bgp_attr.specs.AsPath.{PathSegment, path_octets, prepended}
-use Rattle.bgp_attr.specs.AttributeSpelling.{asns_spelling, segment_spelling, path_spelling}
+use Rattle.bgp_attr.specs.AttributeSpelling.{asns_spelling, segment_spelling, path_spelling, type_spelling, unknown_in_part, unknown_spelling}
+use Rattle.std.specs.List.{flat_map}
+use Rattle.bgp_attr.specs.PathAttributes.{PathAttributes}
+use Rattle.bgp_attr.specs.UnknownAttributes.{Unknown}
+use Rattle.bgp_attr.specs.declared.attribute_type.AttributeType.{AttributeType}
 use Rattle.bgp_attr.specs.Spread.{run, part_of, joining_of, new_of, spread_path}
 use Rattle.bgp_attr.specs.declared.as_path.SegmentKind.TheVariants.{Sequence}
 use Rattle.bgp_attr.proofs.Spreading.{prepended_spread}
@@ -104,3 +108,20 @@ spread_spelling path segments asn times part full joining same is_part is_full i
     ∙ (ap (λ (n : ℕ). path_spelling (spread_path path asn (new_of path times % 255) n joining)) is_full
     ∙ (ap (λ (n : ℕ). path_spelling (spread_path path asn (new_of path times % 255) (new_of path times / 255) n)) is_joining
     ∙ sym (ap path_spelling (prepended_spread path asn times)))))))
+
+-- one unknown attribute in its part
+pub part_step : (out new whole : List ℕ) (first : Bool) (e : ℕ × List ℕ) (s t : Unknown) → s ≡ e ∷ t → out ++ unknown_spelling first s ≡ whole → new ≡ out ++ unknown_in_part first e → new ++ unknown_spelling first t ≡ whole
+part_step out new whole first e s t is same h =
+    steps out new (unknown_in_part first e) (unknown_spelling first t) h ∙ (sym (ap (λ (u : Unknown). out ++ unknown_spelling first u) is) ∙ same)
+
+pub part_stops : (old out whole : List ℕ) (first : Bool) (e : ℕ × List ℕ) (s t : Unknown) → s ≡ e ∷ t → out ++ unknown_spelling first s ≡ old ++ whole → 4096 < length out + length (unknown_in_part first e)
+    → 4096 < length old + length whole
+part_stops old out whole first e s t is same long =
+    stops old out (unknown_spelling first (e ∷ t)) whole (length (unknown_in_part first e)) (sym (ap (λ (u : Unknown). out ++ unknown_spelling first u) is) ∙ same)
+    (omega (arith, length-append (unknown_in_part first e) (unknown_spelling first t))) long
+
+-- what is still to come has the next type
+pub type_in_rest : (attrs : PathAttributes) (among : List AttributeType) (i : ℕ) (other : AttributeType) → i < length among → length (type_spelling attrs (get_or among i other)) ≤ length (flat_map (type_spelling attrs) (drop i among))
+type_in_rest attrs [] i other h = absurd (omega arith)
+type_in_rest attrs (t ∷ more) zero other h = omega (arith, length-append (type_spelling attrs t) (flat_map (type_spelling attrs) more))
+type_in_rest attrs (t ∷ more) (suc i) other h = type_in_rest attrs more i other (omega arith)

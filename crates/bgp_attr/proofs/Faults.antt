@@ -1,4 +1,4 @@
-use Rattle.std.proofs.Common.{◌≡◌, ◌≤◌, ◌<◌, ◌||◌, Bool, true, false, cond, ℕ, List, [], ◌∷◌, length, get_or, set, replicate, Option, Some, None, IsSome, inl, inr, arith, refl, sym, ap, subst, ◌∙◌}
+use Rattle.std.proofs.Common.{◌≡◌, ◌≤◌, ◌<◌, ◌||◌, ◌⊎◌, Bool, true, false, cond, ℕ, List, [], ◌∷◌, length, get_or, set, replicate, Option, Some, None, IsSome, inl, inr, arith, refl, sym, ap, subst, ◌∙◌}
 use Rattle.std.proofs.lemmas.Bool.{cases_eq, eq-eqb, ne_eqb}
 use Rattle.std.proofs.lemmas.Grind.{get_or-set_at}
 use Rattle.std.proofs.lemmas.List.{get_or-replicate, get_or-set_other, length-replicate}
@@ -8,7 +8,8 @@ use Rattle.std.specs.List.{find}
 use Rattle.std.specs.Prelude.{◌==◌, bit_and, not, MatchOption, ⊤}
 use Rattle.bgp_attr.specs.AttributeFaults.{Fault, Tells, attribute_fault, attribute_tests, attributes_fault, cut_fault, fault_among, first_fault, has_code, or_else, type_tests, value_tests, AttributeFlags, AttributeLength, MalformedAsPath, MalformedAttributeList}
 use Rattle.bgp_attr.specs.AsPath.{PathSegment}
-use Rattle.bgp_attr.specs.AttributeReading.{attributes_in}
+use Rattle.bgp_attr.specs.AttributeReading.{NeedMemory, attributes_in}
+use Rattle.bgp_attr.specs.UnknownAttributes.{unknown_in}
 use Rattle.bgp_attr.specs.AttributeTable.{class_flags_of, class_of, type_of}
 use Rattle.bgp_attr.specs.PathReading.{is_malformed_path, is_no_path, path_at}
 use Rattle.bgp_attr.specs.declared.attribute_type.AttributeType.TheVariants.{AsPath}
@@ -138,6 +139,15 @@ path_in kind None right some = absurd cc
 path_in kind (Some value) right some = some_path kind (path_at value) right
 
 -- octets without fault among which there is an AS_PATH have a path
-pub has_path : (kind : PeerKind) (octets : List ℕ) → attributes_fault kind octets ≡ None → IsSome (value_of 2 (split_of octets).0) → IsSome (attributes_in octets).as_path
+has_path : (kind : PeerKind) (octets : List ℕ) → attributes_fault kind octets ≡ None → IsSome (value_of 2 (split_of octets).0) → IsSome (attributes_in kind octets).as_path
 unfolding attributes_fault attributes_in
 has_path kind octets h some = path_in kind (value_of 2 (split_of octets).0) (path-among kind [] (split_of octets).0 (split_of octets).1 h) some
+
+has_unknown : (kind : PeerKind) (octets : List ℕ) → 0 < length (unknown_in (split_of octets).0) → 0 < length (attributes_in kind octets).unknown
+unfolding attributes_in
+has_unknown kind octets some = some
+
+-- and those with an AS_PATH, or unknown attributes that are kept, need memory
+pub needs_memory : (kind : PeerKind) (octets : List ℕ) → attributes_fault kind octets ≡ None → IsSome (value_of 2 (split_of octets).0) ⊎ (0 < length (unknown_in (split_of octets).0)) → NeedMemory (attributes_in kind octets)
+needs_memory kind octets h (inl some) = inl (has_path kind octets h some)
+needs_memory kind octets h (inr some) = inr (has_unknown kind octets some)

@@ -1,5 +1,6 @@
 pub mod Appendings
 pub mod AttributeSpellings
+pub mod EntryLists
 mod Faults
 mod FirstFaults
 mod Octets
@@ -11,4 +12,6 @@ pub mod SoundValues
 mod SplitSpellings
 mod Splits
 mod Spreading
+mod UnknownLists
+mod UnknownReading
 pub mod WrittenSpellings

@@ -2,7 +2,7 @@ use Rattle.std.proofs.Common.{◌≡◌, ◌≤◌, ◌<◌, Bool, true, false, 
 use Rattle.std.proofs.lemmas.Bool.{eqb-true}
 use Rattle.std.specs.Option.{option_map, option_and_then}
 use Rattle.std.specs.Prelude.{◌==◌}
-use Rattle.bgp_attr.specs.ReceivedAttributes.{Attribute, Split, attribute_at, split_behind, split_of, split_within, length_at, value_at, found_at, is_extended, value_of}
+use Rattle.bgp_attr.specs.ReceivedAttributes.{Attribute, Split, attribute_at, split_behind, split_of, split_within, length_at, value_at, found_at, is_extended, found_of}
 
 -- How octets are split into attributes.
 
@@ -77,12 +77,19 @@ split_of-some octets a rest h =
     ∙ (ap (λ (o : Option (Attribute × List ℕ)). split_behind (split_within (length octets)) octets o) h
     ∙ ap (λ (s : Split). (a ∷ s.0, s.1)) (split_within-enough (length octets) (length rest) rest (omega arith) (omega arith)))
 
--- the value of a code behind an attribute of another code, and of its own code
-pub value_of-other : (code : ℕ) (octets : List ℕ) (a : Attribute) (rest : List ℕ) → attribute_at octets ≡ Some (a, rest) → (a.code ≡ code → ⊥) → value_of code (split_of octets).0 ≡ value_of code (split_of rest).0
-value_of-other code octets a rest h other = ap (λ (s : Split). value_of code s.0) (split_of-some octets a rest h) ∙ grind arith
+-- what holds of the attributes in front holds of one and those behind it
+pub behind_some : {T : Type 0} (f : List Attribute → T) (octets : List ℕ) (a : Attribute) (rest : List ℕ) → attribute_at octets ≡ Some (a, rest) → f (split_of octets).0 ≡ f (a ∷ (split_of rest).0)
+behind_some f octets a rest h = ap (λ (s : Split). f s.0) (split_of-some octets a rest h)
 
-pub value_of-own : (code : ℕ) (octets : List ℕ) (a : Attribute) (rest : List ℕ) → attribute_at octets ≡ Some (a, rest) → a.code ≡ code → value_of code (split_of octets).0 ≡ Some a.value
-value_of-own code octets a rest h own = ap (λ (s : Split). value_of code s.0) (split_of-some octets a rest h) ∙ grind arith
+pub behind_none : {T : Type 0} (f : List Attribute → T) (octets : List ℕ) → attribute_at octets ≡ None → f (split_of octets).0 ≡ f []
+behind_none f octets h = ap (λ (s : Split). f s.0) (split_of-none octets h)
 
-pub value_of-none : (code : ℕ) (octets : List ℕ) → attribute_at octets ≡ None → value_of code (split_of octets).0 ≡ None
-value_of-none code octets h = ap (λ (s : Split). value_of code s.0) (split_of-none octets h)
+-- the attribute of a code behind one of another code, and of its own code
+pub found_of-other : (code : ℕ) (octets : List ℕ) (a : Attribute) (rest : List ℕ) → attribute_at octets ≡ Some (a, rest) → (a.code ≡ code → ⊥) → found_of code (split_of octets).0 ≡ found_of code (split_of rest).0
+found_of-other code octets a rest h other = behind_some (found_of code) octets a rest h ∙ grind arith
+
+pub found_of-own : (code : ℕ) (octets : List ℕ) (a : Attribute) (rest : List ℕ) → attribute_at octets ≡ Some (a, rest) → a.code ≡ code → found_of code (split_of octets).0 ≡ Some a
+found_of-own code octets a rest h own = behind_some (found_of code) octets a rest h ∙ grind arith
+
+pub found_of-none : (code : ℕ) (octets : List ℕ) → attribute_at octets ≡ None → found_of code (split_of octets).0 ≡ None
+found_of-none code octets h = behind_none (found_of code) octets h

@@ -1,12 +1,12 @@
 -- The faults of an UPDATE (RFC 4271 section 6.3), and how a NOTIFICATION tells them (section 4.5).
-use Rattle.std.specs.Prelude.{◌≡◌, ◌<◌, ◌++◌, map, ◌==◌, ◌||◌, ◌/◌, ◌^◌, nat_lt, not, if◌then◌else◌, Bool, true, false, ℕ, List, [], ◌∷◌, length, bit_and, slice_index, is_none, Option, Some, None, IsSome, MatchResult, Result}
+use Rattle.std.specs.Prelude.{◌≡◌, ◌<◌, ◌++◌, map, ◌==◌, ◌||◌, ◌/◌, ◌^◌, nat_lt, not, if◌then◌else◌, Bool, false, ℕ, List, [], ◌∷◌, length, bit_and, slice_index, is_none, Option, Some, None, IsSome, MatchResult, Result}
 use Rattle.std.specs.List.{list_any}
-use Rattle.bgp_attr.specs.AttributeTable.{octet_of, type_of, class_of, class_flags_of, length_of}
+use Rattle.bgp_attr.specs.AttributeTable.{octet_of, type_of, class_of, class_flags_of, is_taken, length_of}
 use Rattle.bgp_attr.specs.PathAttributes.{origin_at}
 use Rattle.bgp_attr.specs.PathReading.{is_malformed_path}
-use Rattle.bgp_attr.specs.ReceivedAttributes.{Attribute, split_of}
+use Rattle.bgp_attr.specs.ReceivedAttributes.{Attribute, is_optional, split_of}
 use Rattle.bgp_attr.specs.declared.attribute_type.AttributeType.{AttributeType}
-use Rattle.bgp_attr.specs.declared.attribute_type.AttributeType.TheVariants.{Origin, AsPath, NextHop}
+use Rattle.bgp_attr.specs.declared.attribute_type.AttributeType.TheVariants.{Origin, AsPath, NextHop, MultiExitDisc, LocalPref, AtomicAggregate, Aggregator}
 use Rattle.bgp_attr.specs.declared.fault.UpdateFault.{UpdateFault}
 use Rattle.bgp_attr.specs.declared.fault.UpdateFault.TheVariants as update
 use Rattle.bgp_attr.specs.declared.peer.PeerKind.{PeerKind}
@@ -22,7 +22,6 @@ pub data Fault : Type 0 where
   InvalidNextHop : (whole : List ℕ) → Fault
   InvalidNetworkField : Fault
   MalformedAsPath : Fault
-  UnsupportedAttribute : (whole : List ℕ) → Fault
 
 -- the fault that an answer tells; want of memory is none
 abbrev pub seen : UpdateFault → Option Fault
@@ -35,7 +34,6 @@ seen (update.InvalidOrigin whole) = Some (InvalidOrigin whole.now)
 seen (update.InvalidNextHop whole) = Some (InvalidNextHop whole.now)
 seen update.InvalidNetworkField = Some InvalidNetworkField
 seen update.MalformedAsPath = Some MalformedAsPath
-seen (update.UnsupportedAttribute whole) = Some (UnsupportedAttribute whole.now)
 seen update.NoMemory = None
 
 -- the answer tells this fault
@@ -68,19 +66,27 @@ is_no_host octet = octet == 0 || octet == 127 || nat_lt 223 octet
 abbrev pub is_host : ℕ → Bool
 is_host address = not (is_no_host (address / 2 ^ 24))
 
--- the tests of a value by its type
+-- the tests of a value by its type: any four octets are a MULTI_EXIT_DISC or a LOCAL_PREF, any eight an AGGREGATOR
 abbrev pub value_tests : PeerKind → AttributeType → Attribute → List (Bool × Fault)
 value_tests kind Origin a = (is_none (origin_at (slice_index a.value 0)), InvalidOrigin a.whole) ∷ []
 value_tests kind AsPath a = (is_malformed_path kind a.value, MalformedAsPath) ∷ []
 value_tests kind NextHop a = (is_no_host (slice_index a.value 0), InvalidNextHop a.whole) ∷ []
+value_tests kind MultiExitDisc a = []
+value_tests kind LocalPref a = []
+value_tests kind AtomicAggregate a = []
+value_tests kind Aggregator a = []
 
--- the tests of an attribute by its type: its class, its length, its value
-abbrev pub type_tests : PeerKind → Option AttributeType → Attribute → List (Bool × Fault)
-type_tests kind None a = (true, UnsupportedAttribute a.whole) ∷ []
-type_tests kind (Some known) a =
+-- the tests of an attribute that is taken, by its type: its class, its length, its value
+abbrev pub known_tests : PeerKind → AttributeType → Attribute → List (Bool × Fault)
+known_tests kind known a =
     (not (bit_and a.flags 192 == class_flags_of (class_of known)), AttributeFlags a.whole)
     ∷ (has_other_length (length_of known) a.value, AttributeLength a.whole)
     ∷ value_tests kind known a
+
+-- the tests of an attribute by its type: only an optional one may be unknown, and nothing is looked at in one that is not taken from such a peer
+abbrev pub type_tests : PeerKind → Option AttributeType → Attribute → List (Bool × Fault)
+type_tests kind None a = (not (is_optional a.flags), UnrecognizedWellKnown a.whole) ∷ []
+type_tests kind (Some known) a = if is_taken kind known then known_tests kind known a else []
 
 -- the tests of an attribute, in the order in which they are made: first whether its code came before
 abbrev pub attribute_tests : PeerKind → Bool → Attribute → List (Bool × Fault)
@@ -140,7 +146,6 @@ subcode_of (update.InvalidOrigin whole) = Some 6
 subcode_of (update.InvalidNextHop whole) = Some 8
 subcode_of update.InvalidNetworkField = Some 10
 subcode_of update.MalformedAsPath = Some 11
-subcode_of (update.UnsupportedAttribute whole) = None
 subcode_of update.NoMemory = None
 
 -- the code
@@ -154,7 +159,6 @@ code_of (update.InvalidOrigin whole) = Some 3
 code_of (update.InvalidNextHop whole) = Some 3
 code_of update.InvalidNetworkField = Some 3
 code_of update.MalformedAsPath = Some 3
-code_of (update.UnsupportedAttribute whole) = None
 code_of update.NoMemory = None
 
 -- the data: the attribute as it came, or the code of the one that is missing
@@ -168,7 +172,6 @@ data_of (update.InvalidOrigin whole) = whole.now
 data_of (update.InvalidNextHop whole) = whole.now
 data_of update.InvalidNetworkField = []
 data_of update.MalformedAsPath = []
-data_of (update.UnsupportedAttribute whole) = []
 data_of update.NoMemory = []
 
 -- the number by which operators know the fault: want of memory alone has one (our own)
@@ -182,5 +185,4 @@ number_of (update.InvalidOrigin whole) = None
 number_of (update.InvalidNextHop whole) = None
 number_of update.InvalidNetworkField = None
 number_of update.MalformedAsPath = None
-number_of (update.UnsupportedAttribute whole) = None
 number_of update.NoMemory = Some 21

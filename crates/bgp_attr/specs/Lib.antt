@@ -9,4 +9,5 @@ pub mod PathAttributes
 pub mod PathReading
 pub mod ReceivedAttributes
 pub mod Spread
+pub mod UnknownAttributes
 pub mod Written

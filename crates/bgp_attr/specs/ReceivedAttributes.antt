@@ -19,6 +19,14 @@ AreOctets octets = (i : ℕ) → slice_index octets i < 256
 abbrev pub is_extended : ℕ → Bool
 is_extended flags = not (bit_and flags 16 == 0)
 
+-- the optional bit is set
+abbrev pub is_optional : ℕ → Bool
+is_optional flags = not (bit_and flags 128 == 0)
+
+-- the partial bit is set
+abbrev pub is_partial : ℕ → Bool
+is_partial flags = not (bit_and flags 32 == 0)
+
 -- a length: two octets where the extended length bit is set, else one
 abbrev pub length_octets : Bool → ℕ → List ℕ
 length_octets true n = to_be_bytes w16 n
@@ -93,6 +101,10 @@ attributes_at octets = (split_of octets).0
 abbrev pub rest_at : List ℕ → List ℕ
 rest_at octets = (split_of octets).1
 
--- the value of the attribute that has this code
+-- the attribute that has this code
+abbrev pub found_of : ℕ → List Attribute → Option Attribute
+found_of code attributes = find (λ a. a.code == code) attributes
+
+-- its value
 abbrev pub value_of : ℕ → List Attribute → Option (List ℕ)
-value_of code attributes = option_map (λ a. a.value) (find (λ a. a.code == code) attributes)
+value_of code attributes = option_map (λ a. a.value) (found_of code attributes)

@@ -1,7 +1,9 @@
 -- What is handed to the writer.
 use Rattle.std.specs.Prelude.{List, Option, Some, None}
+use Rattle.std.specs.Option.{option_copied}
 use Rattle.bgp_attr.specs.AsPath.{PathSegment, prepended}
 use Rattle.bgp_attr.specs.PathAttributes.{PathAttributes}
+use Rattle.bgp_attr.specs.UnknownAttributes.{unknown_or_none}
 use Rattle.bgp_attr.specs.declared.prepending.PrependedPath.{PrependedPath}
 use Rattle.bgp_attr.specs.declared.writing.AttrsToWrite.{AttrsToWrite}
 
@@ -16,4 +18,14 @@ path_of (Some path) = Some (segments_of path)
 
 -- the attributes that are to be written
 abbrev pub attributes_of : {A : Type 0} → AttrsToWrite A → PathAttributes
-attributes_of attrs = record { origin = attrs.origin; as_path = path_of attrs.as_path; next_hop = attrs.next_hop }
+attributes_of attrs =
+    record {
+      origin = attrs.origin;
+      as_path = path_of attrs.as_path;
+      next_hop = attrs.next_hop;
+      multi_exit_disc = attrs.multi_exit_disc;
+      local_pref = attrs.local_pref;
+      atomic_aggregate = attrs.atomic_aggregate;
+      aggregator = attrs.aggregator;
+      unknown = unknown_or_none (option_copied attrs.unknown);
+    }

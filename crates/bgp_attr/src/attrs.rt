@@ -1,12 +1,16 @@
 //! The attributes of an UPDATE.
-ghost use Rattle.std.specs.Prelude.{◌≡◌};
+ghost use Rattle.std.specs.Prelude.{◌≡◌, ◌<◌, ◌^◌, MatchOption, ⊤};
 ghost use Rattle.std.specs.Option.{option_copied};
 ghost use Rattle.bgp_attr.specs.PathAttributes.{PathAttributes, origin_at, origin_octet, missing_of};
+ghost use Rattle.bgp_attr.specs.UnknownAttributes.{ArePassedOn, unknown_or_none};
 ghost use Rattle.bgp_attr.specs.Written.{attributes_of};
 
+use crate::aggregator::Aggregator;
 use crate::as_path::AsPath;
 use crate::attribute_type::AttributeType;
+use crate::peer::PeerKind;
 use crate::prepending::prepend;
+use crate::unknown::UnknownAttributes;
 use crate::writing::AttrsToWrite;
 use net_prefix::Asn;
 use std::alloc::{Allocator, Global};
@@ -45,37 +49,29 @@ impl Origin {
     }
 }
 
-/// The attributes that came, each at most once.
+/// The attributes that came and were taken, each at most once.
 #[derive(Drop)]
 pub struct Attrs<A: Allocator = Global> {
-    origin: Option<Origin>,
-    as_path: Option<AsPath<A>>,
-    next_hop: Option<u32>,
+    pub(crate) origin: Option<Origin>,
+    pub(crate) as_path: Option<AsPath<A>>,
+    pub(crate) next_hop: Option<u32>,
+    pub(crate) multi_exit_disc: Option<u32>,
+    pub(crate) local_pref: Option<u32>,
+    pub(crate) atomic_aggregate: bool,
+    pub(crate) aggregator: Option<Aggregator>,
+    pub(crate) unknown: Option<UnknownAttributes<A>>,
 }
 
 impl<A: Allocator> Model for Attrs<A> {
     ghost use Rattle.bgp_attr.specs.PathAttributes.{PathAttributes};
+    ghost use Rattle.bgp_attr.specs.UnknownAttributes.{unknown_or_none};
 
     ghost Value = { PathAttributes };
 
-    ghost view = { λ a. record { origin = a.origin; as_path = a.as_path; next_hop = a.next_hop } };
+    ghost view = { λ a. record { origin = a.origin; as_path = a.as_path; next_hop = a.next_hop; multi_exit_disc = a.multi_exit_disc; local_pref = a.local_pref; atomic_aggregate = a.atomic_aggregate; aggregator = a.aggregator; unknown = unknown_or_none a.unknown } };
 }
 
 impl<A: Allocator> Attrs<A> {
-    pub(crate) fn new(
-        origin: Option<Origin>,
-        as_path: Option<AsPath<A>>,
-        next_hop: Option<u32>,
-    ) -> Self
-        ensures { result ≡ record { origin = origin; as_path = as_path; next_hop = next_hop } }
-    {
-        Attrs {
-            origin,
-            as_path,
-            next_hop,
-        }
-    }
-
     /// ORIGIN.
     pub fn origin(&self) -> Option<Origin>
         ensures { result ≡ self.now.origin }
@@ -97,9 +93,53 @@ impl<A: Allocator> Attrs<A> {
         self.next_hop
     }
 
-    /// The least code of the attributes that routes need and that did not come (RFC 4271 section 6.3).
-    pub fn missing(&self) -> Option<AttributeType>
-        ensures { result ≡ missing_of self.now }
+    /// MULTI_EXIT_DISC.
+    pub fn multi_exit_disc(&self) -> Option<u32>
+        ensures { result ≡ self.now.multi_exit_disc }
+    {
+        self.multi_exit_disc
+    }
+
+    /// LOCAL_PREF; none of an external peer.
+    pub fn local_pref(&self) -> Option<u32>
+        ensures { result ≡ self.now.local_pref }
+    {
+        self.local_pref
+    }
+
+    /// Whether ATOMIC_AGGREGATE came.
+    pub fn atomic_aggregate(&self) -> bool
+        ensures { result ≡ self.now.atomic_aggregate }
+    {
+        self.atomic_aggregate
+    }
+
+    /// AGGREGATOR.
+    pub fn aggregator(&self) -> Option<Aggregator>
+        ensures value { result ≡ self.now.aggregator }
+        ensures small { MatchOption result ⊤ (λ a. (a.asn.0 < 2 ^ 32) × (a.address < 2 ^ 32)) }
+    {
+        match self.aggregator {
+            Some(aggregator) => Some(aggregator.as_lawful()),
+            None => None,
+        }
+    }
+
+    /// The unknown attributes that are passed on, where there are any.
+    #[tactic(auto, using(crate::proofs::UnknownLists::none_passed_on))]
+    pub fn unknown(&self) -> Option<&UnknownAttributes<A>>
+        ensures value { unknown_or_none (option_copied result) ≡ self.now.unknown }
+        ensures lawful { ArePassedOn self.now.unknown }
+    {
+        match &self.unknown {
+            Some(unknown) => Some(unknown.as_lawful()),
+            None => None,
+        }
+    }
+
+    /// The least code of the attributes that routes from such a peer need and that did not come (RFC 4271 section 6.3).
+    pub fn missing(&self, kind: PeerKind) -> Option<AttributeType>
+        ensures { result ≡ missing_of kind self.now }
     {
         if self.origin.is_none() {
             return Some(AttributeType::Origin);
@@ -109,6 +149,9 @@ impl<A: Allocator> Attrs<A> {
         }
         if self.next_hop.is_none() {
             return Some(AttributeType::NextHop);
+        }
+        if !kind.is_external() && self.local_pref.is_none() {
+            return Some(AttributeType::LocalPref);
         }
         None
     }
@@ -124,6 +167,11 @@ impl<A: Allocator> Attrs<A> {
                 None => None,
             },
             next_hop: self.next_hop,
+            multi_exit_disc: self.multi_exit_disc,
+            local_pref: self.local_pref,
+            atomic_aggregate: self.atomic_aggregate,
+            aggregator: self.aggregator,
+            unknown: self.unknown.as_ref(),
         }
     }
 }

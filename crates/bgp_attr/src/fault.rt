@@ -32,9 +32,6 @@ pub enum UpdateFault<'a> {
     InvalidNetworkField,
     #[error("the AS path is malformed")]
     MalformedAsPath,
-    /// An attribute that this speaker cannot take yet.
-    #[error("the attribute is not supported")]
-    UnsupportedAttribute(&'a [u8]),
     #[error("out of memory")]
     NoMemory,
 }
@@ -54,9 +51,10 @@ impl UpdateFault<'_> {
     pub fn code(&self) -> Option<u8>
         ensures { result ≡ code_of self.now }
     {
-        match self {
-            UpdateFault::UnsupportedAttribute(_) | UpdateFault::NoMemory => None,
-            _ => Some(UPDATE_MESSAGE_ERROR),
+        if matches!(self, UpdateFault::NoMemory) {
+            None
+        } else {
+            Some(UPDATE_MESSAGE_ERROR)
         }
     }
 
@@ -74,7 +72,6 @@ impl UpdateFault<'_> {
             UpdateFault::InvalidNextHop(_) => Some(8),
             UpdateFault::InvalidNetworkField => Some(10),
             UpdateFault::MalformedAsPath => Some(11),
-            UpdateFault::UnsupportedAttribute(_) => None,
             UpdateFault::NoMemory => None,
         }
     }
@@ -103,7 +100,6 @@ impl UpdateFault<'_> {
             UpdateFault::MalformedAttributeList
             | UpdateFault::InvalidNetworkField
             | UpdateFault::MalformedAsPath
-            | UpdateFault::UnsupportedAttribute(_)
             | UpdateFault::NoMemory => &[],
         }
     }

@@ -2,12 +2,24 @@
 ghost use Rattle.std.specs.Prelude.{◌≡◌, ◌<◌, ◌^◌, length, bit_and, IfSome};
 ghost use Rattle.std.specs.Option.{option_map};
 ghost use Rattle.bgp_attr.specs.AttributeReading.{as_came};
-ghost use Rattle.bgp_attr.specs.ReceivedAttributes.{attribute_at, split_of};
+ghost use Rattle.bgp_attr.specs.ReceivedAttributes.{attribute_at, found_of, split_of};
 ghost use Rattle.bgp_attr.specs.ReceivedAttributes as received;
+ghost use Rattle.bgp_attr.specs.UnknownAttributes as unknown;
+ghost use Rattle.bgp_attr.specs.AttributeTable as table;
+
+use crate::attribute_type::AttributeType;
+
+const OPTIONAL: u8 = 0x80;
+
+const PARTIAL: u8 = 0x20;
 
 const EXTENDED_LENGTH: u8 = 0x10;
 
 const CLASS_FLAGS: u8 = 0xC0;
+
+const AS4_PATH: u8 = 17;
+
+const AS4_AGGREGATOR: u8 = 18;
 
 // An attribute whose end is known.
 #[derive(Clone, Copy)]
@@ -26,6 +38,34 @@ impl Attribute<'_> {
     {
         self.flags & CLASS_FLAGS
     }
+
+    // Whether a speaker may not know the attribute.
+    pub(crate) fn is_optional(self) -> bool
+        ensures { result ≡ received.is_optional self.entry.flags }
+    {
+        self.flags & OPTIONAL != 0
+    }
+
+    // Whether some speaker passed the attribute on that didn't know it.
+    pub(crate) fn is_partial(self) -> bool
+        ensures { result ≡ received.is_partial self.entry.flags }
+    {
+        self.flags & PARTIAL != 0
+    }
+
+    // Whether the attribute is one that this speaker doesn't know and passes on.
+    pub(crate) fn is_kept(self) -> bool
+        ensures { result ≡ unknown.is_kept (as_came self.entry) }
+    {
+        is_passed_on(self.code) && self.class_flags() == CLASS_FLAGS
+    }
+}
+
+// Whether this speaker doesn't know the code, and may pass an attribute of it on (RFC 6793 section 4.1).
+fn is_passed_on(code: u8) -> bool
+    ensures { result ≡ table.is_passed_on code }
+{
+    AttributeType::from_octet(code).is_none() && !matches!(code, AS4_PATH | AS4_AGGREGATOR)
 }
 
 // The attribute at the front, and the octets behind it; none where it is cut off.
@@ -69,15 +109,15 @@ fn length_at<'a>(extended: bool, octets: &'a [u8]) -> Option<(u16, &'a [u8])>
     }
 }
 
-// The value of the attribute that has this code.
-pub(crate) fn value_of<'a>(octets: &'a [u8], code: u8) -> Option<&'a [u8]>
-    ensures value { option_map (λ value. value.now) result ≡ received.value_of code (split_of octets.now).0 }
-    ensures short { IfSome result (λ value. length value.now < 2 ^ 16) }
+// The attribute that has this code.
+pub(crate) fn find_attribute<'a>(octets: &'a [u8], code: u8) -> Option<Attribute<'a>>
+    ensures found { option_map (λ found. as_came found) result ≡ found_of code (split_of octets.now).0 }
+    ensures short { IfSome result (λ found. length found.value.now < 2 ^ 16) }
 {
     let mut rest = octets;
     while let Some((attribute, behind)) = split_attribute(rest) {
         if attribute.code == code {
-            return Some(attribute.value);
+            return Some(attribute);
         }
         rest = behind;
     }

@@ -31,8 +31,8 @@ pub fn path_is_spelled()
 /// Octets have no fault exactly where they spell attributes, and are read as the attributes that they spell.
 pub fn attributes_are_spelled()
     ensures faultless { (kind : PeerKind) (octets : List ℕ) (attrs : PathAttributes) → SpellsAttributes kind octets attrs → attributes_fault kind octets ≡ None }
-    ensures read { (kind : PeerKind) (octets : List ℕ) (attrs : PathAttributes) → SpellsAttributes kind octets attrs → attributes_in octets ≡ attrs }
-    ensures spelled { (kind : PeerKind) (octets : List ℕ) → AreOctets octets → attributes_fault kind octets ≡ None → SpellsAttributes kind octets (attributes_in octets) }
+    ensures read { (kind : PeerKind) (octets : List ℕ) (attrs : PathAttributes) → SpellsAttributes kind octets attrs → attributes_in kind octets ≡ attrs }
+    ensures spelled { (kind : PeerKind) (octets : List ℕ) → AreOctets octets → attributes_fault kind octets ≡ None → SpellsAttributes kind octets (attributes_in kind octets) }
 {}
 
 /// The fault of octets is that of the first attribute that has one, from left to right; or, where none has one, that an
@@ -44,7 +44,7 @@ pub fn fault_is_the_first()
 /// What is written is read again as the same attributes.
 pub fn written_is_read()
     ensures faultless { (kind : PeerKind) (attrs : PathAttributes) → CanBeSpelled kind attrs → attributes_fault kind (attributes_spelling attrs) ≡ None }
-    ensures read { (kind : PeerKind) (attrs : PathAttributes) → CanBeSpelled kind attrs → attributes_in (attributes_spelling attrs) ≡ attrs }
+    ensures read { (kind : PeerKind) (attrs : PathAttributes) → CanBeSpelled kind attrs → attributes_in kind (attributes_spelling attrs) ≡ attrs }
 {}
 
 /// A path with an AS in front so many times (RFC 4271 section 5.1.2) names that AS first, as the path of a peer in that

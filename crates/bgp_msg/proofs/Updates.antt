@@ -47,38 +47,38 @@ or_else-none None other none = (refl, none)
 or_else-none (Some fault) other none = absurd cc
 
 all_there :
-    (announced attributes : List ℕ) (attrs : PathAttributes) → attrs ≡ attributes_in attributes
-    → (announced ≡ []) ⊎ (missing_of attrs ≡ None) → (announced ≡ []) ⊎ (missing_of (attributes_in attributes) ≡ None)
-all_there announced attributes attrs is (inl none) = inl none
-all_there announced attributes attrs is (inr none) = inr (ap missing_of (sym is) ∙ none)
+    (kind : PeerKind) (announced attributes : List ℕ) (attrs : PathAttributes) → attrs ≡ attributes_in kind attributes
+    → (announced ≡ []) ⊎ (missing_of kind attrs ≡ None) → (announced ≡ []) ⊎ (missing_of kind (attributes_in kind attributes) ≡ None)
+all_there kind announced attributes attrs is (inl none) = inl none
+all_there kind announced attributes attrs is (inr none) = inr (ap (missing_of kind) (sym is) ∙ none)
 
 same_update : (update other : UpdateBody) → update.withdrawn ≡ other.withdrawn → update.attrs ≡ other.attrs → update.announced ≡ other.announced → update ≡ other
 same_update update other withdrawn attrs announced = λ i. record { withdrawn = withdrawn i; attrs = attrs i; announced = announced i }
 
 -- what attributes are spelled is read, as a law of theirs says
 abbrev AreRead : Type 0
-AreRead = (kind : PeerKind) (octets : List ℕ) (attrs : PathAttributes) → SpellsAttributes kind octets attrs → (attributes_fault kind octets ≡ None) × (attributes_in octets ≡ attrs)
+AreRead = (kind : PeerKind) (octets : List ℕ) (attrs : PathAttributes) → SpellsAttributes kind octets attrs → (attributes_fault kind octets ≡ None) × (attributes_in kind octets ≡ attrs)
 
 abbrev AreSpelled : Type 0
-AreSpelled = (kind : PeerKind) (octets : List ℕ) → AreOctets octets → attributes_fault kind octets ≡ None → SpellsAttributes kind octets (attributes_in octets)
+AreSpelled = (kind : PeerKind) (octets : List ℕ) → AreOctets octets → attributes_fault kind octets ≡ None → SpellsAttributes kind octets (attributes_in kind octets)
 
 said_parts :
     AreRead → (kind : PeerKind) (withdrawn attributes announced : List ℕ) (update : UpdateBody) → AreParts kind withdrawn attributes announced update
-    → (parts_fault kind (withdrawn, attributes, announced) ≡ None) × (said_by (withdrawn, attributes, announced) ≡ update)
+    → (parts_fault kind (withdrawn, attributes, announced) ≡ None) × (said_by kind (withdrawn, attributes, announced) ≡ update)
 said_parts law kind withdrawn attributes announced update h =
     let first = sound_prefixes withdrawn update.withdrawn h.withdrawn_are in
     let last = sound_prefixes announced update.announced h.announced_are in
     let attrs = law kind attributes update.attrs h.attributes_are in
-    let missing : missing_fault announced (missing_of (attributes_in attributes)) ≡ None = nothing_missing announced _ (all_there announced attributes update.attrs (sym attrs.1) h.complete) in
-    (rw (first.0, attrs.0, missing, last.0) refl, same_update (said_by (withdrawn, attributes, announced)) update (sym first.1) attrs.1 (sym last.1))
+    let missing : missing_fault announced (missing_of kind (attributes_in kind attributes)) ≡ None = nothing_missing announced _ (all_there kind announced attributes update.attrs (sym attrs.1) h.complete) in
+    (rw (first.0, attrs.0, missing, last.0) refl, same_update (said_by kind (withdrawn, attributes, announced)) update (sym first.1) attrs.1 (sym last.1))
 
 spelled_parts :
     AreSpelled → (kind : PeerKind) (withdrawn attributes announced : List ℕ) → AreOctets attributes → parts_fault kind (withdrawn, attributes, announced) ≡ None
-    → AreParts kind withdrawn attributes announced (said_by (withdrawn, attributes, announced))
+    → AreParts kind withdrawn attributes announced (said_by kind (withdrawn, attributes, announced))
 spelled_parts law kind withdrawn attributes announced octets none =
     let first = or_else-none (prefixes_fault withdrawn) _ none in
     let second = or_else-none (attributes_fault kind attributes) _ first.1 in
-    let third = or_else-none (missing_fault announced (missing_of (attributes_in attributes))) _ second.1 in
+    let third = or_else-none (missing_fault announced (missing_of kind (attributes_in kind attributes))) _ second.1 in
     let fourth = or_else-none (prefixes_fault announced) _ third.1 in
     record {
       withdrawn_are = prefixes_if_faultless withdrawn first.0;
@@ -87,11 +87,11 @@ spelled_parts law kind withdrawn attributes announced octets none =
       complete = complete_parts announced _ third.0;
     }
 
-pub said_from_spelled : AreRead → (kind : PeerKind) (body : List ℕ) (update : UpdateBody) → IsUpdate kind body update → (update_fault kind body ≡ None) × (update_in body ≡ update)
+pub said_from_spelled : AreRead → (kind : PeerKind) (body : List ℕ) (update : UpdateBody) → IsUpdate kind body update → (update_fault kind body ≡ None) × (update_in kind body ≡ update)
 unfolding update_fault update_in
 said_from_spelled law kind body update h =
     let said = said_parts law kind h.0 h.1 h.2 update h.4 in
-    (ap (fault_of_parts kind) h.3 ∙ said.0, ap update_of_parts h.3 ∙ said.1)
+    (ap (fault_of_parts kind) h.3 ∙ said.0, ap (update_of_parts kind) h.3 ∙ said.1)
 
 -- the parts of octets are octets
 abbrev pair_of : List ℕ → List ℕ → List ℕ × List ℕ
@@ -148,12 +148,12 @@ attributes_octets body found h e = parts_octets (counted_at body) found.0 found.
 
 spelled_by_parts :
     AreSpelled → (kind : PeerKind) (body : List ℕ) (found : Option (List ℕ × List ℕ × List ℕ)) → update_parts body ≡ found
-    → AreOctets body → fault_of_parts kind found ≡ None → IsUpdate kind body (update_of_parts found)
+    → AreOctets body → fault_of_parts kind found ≡ None → IsUpdate kind body (update_of_parts kind found)
 spelled_by_parts law kind body None parts octets none = absurd cc
 spelled_by_parts law kind body (Some found) parts octets none =
     (found.0, found.1, found.2, parts, spelled_parts law kind found.0 found.1 found.2 (attributes_octets body found octets parts) none)
 
-pub spelled_from_said : AreSpelled → (kind : PeerKind) (body : List ℕ) → AreOctets body → update_fault kind body ≡ None → IsUpdate kind body (update_in body)
+pub spelled_from_said : AreSpelled → (kind : PeerKind) (body : List ℕ) → AreOctets body → update_fault kind body ≡ None → IsUpdate kind body (update_in kind body)
 unfolding update_fault update_in
 spelled_from_said law kind body octets none = spelled_by_parts law kind body _ refl octets none
 
@@ -170,15 +170,15 @@ wire_complete announced missing (inr none) = inr none
 pub written_says :
     (kind : PeerKind) (withdrawn announced : List Prefix) (attributes : List ℕ) → All (λ prefix. prefix.bits < 2 ^ 32) withdrawn
     → All (λ prefix. prefix.bits < 2 ^ 32) announced → 23 + length (wire_form withdrawn) + length attributes + length (wire_form announced) ≤ 4096
-    → attributes_fault kind attributes ≡ None → (announced ≡ []) ⊎ (missing_of (attributes_in attributes) ≡ None)
+    → attributes_fault kind attributes ≡ None → (announced ≡ []) ⊎ (missing_of kind (attributes_in kind attributes) ≡ None)
     → (update_fault kind (update_body (wire_form withdrawn) attributes (wire_form announced)) ≡ None)
-    × (update_in (update_body (wire_form withdrawn) attributes (wire_form announced)) ≡ record { withdrawn = withdrawn; attrs = attributes_in attributes; announced = announced })
+    × (update_in kind (update_body (wire_form withdrawn) attributes (wire_form announced)) ≡ record { withdrawn = withdrawn; attrs = attributes_in kind attributes; announced = announced })
 unfolding update_fault update_in
 written_says kind withdrawn announced attributes small_withdrawn small_announced fits none complete =
     let parts = update_has_parts (wire_form withdrawn) attributes (wire_form announced) fits in
     let first = sound_prefixes (wire_form withdrawn) withdrawn (wire_form-are withdrawn small_withdrawn) in
     let last = sound_prefixes (wire_form announced) announced (wire_form-are announced small_announced) in
-    let missing : missing_fault (wire_form announced) (missing_of (attributes_in attributes)) ≡ None = nothing_missing (wire_form announced) _ (wire_complete announced _ complete) in
-    let said : UpdateBody = record { withdrawn = withdrawn; attrs = attributes_in attributes; announced = announced } in
+    let missing : missing_fault (wire_form announced) (missing_of kind (attributes_in kind attributes)) ≡ None = nothing_missing (wire_form announced) _ (wire_complete announced _ complete) in
+    let said : UpdateBody = record { withdrawn = withdrawn; attrs = attributes_in kind attributes; announced = announced } in
     let faultless : parts_fault kind (wire_form withdrawn, attributes, wire_form announced) ≡ None = rw (first.0, none, missing, last.0) refl in
-    (ap (fault_of_parts kind) parts ∙ faultless, ap update_of_parts parts ∙ same_update (said_by (wire_form withdrawn, attributes, wire_form announced)) said (sym first.1) refl (sym last.1))
+    (ap (fault_of_parts kind) parts ∙ faultless, ap (update_of_parts kind) parts ∙ same_update (said_by kind (wire_form withdrawn, attributes, wire_form announced)) said (sym first.1) refl (sym last.1))

@@ -1,7 +1,7 @@
 -- The NOTIFICATION: what it tells of each fault, and how it is spelled (RFC 4271 sections 4.5 and 6, RFC 4486).
 use Rattle.std.specs.Prelude.{ℕ, ◌+◌, List, [], ◌∷◌, ◌++◌, Option, Some, None, length, take}
 use Rattle.bgp_attr.specs.AttributeTable.{octet_of}
-use Rattle.bgp_attr.specs.AttributeFaults.{Fault as UpdateFault, MalformedAttributeList, UnrecognizedWellKnown, MissingWellKnown, AttributeFlags, AttributeLength, InvalidOrigin, InvalidNextHop, InvalidNetworkField, MalformedAsPath, UnsupportedAttribute, seen}
+use Rattle.bgp_attr.specs.AttributeFaults.{Fault as UpdateFault, MalformedAttributeList, UnrecognizedWellKnown, MissingWellKnown, AttributeFlags, AttributeLength, InvalidOrigin, InvalidNextHop, InvalidNetworkField, MalformedAsPath, seen}
 use Rattle.bgp_msg.specs.declared.frame.MessageType.TheVariants.{Notification}
 use Rattle.bgp_msg.specs.declared.fault.HeaderFault.{HeaderFault}
 use Rattle.bgp_msg.specs.declared.fault.OpenFault.{OpenFault}
@@ -50,7 +50,7 @@ abbrev pub open_notification : OpenFault → NotificationBody
 open_notification fault = telling 2 (open_subcode fault) (open_data fault)
 
 -- of a faulty UPDATE: the data are the whole attribute as it came, or the code of the missing one (RFC 4271 section
--- 6.3); an attribute that this speaker can't take is told as want of resources (our own)
+-- 6.3)
 abbrev pub update_notification : UpdateFault → NotificationBody
 update_notification MalformedAttributeList = telling 3 1 []
 update_notification (UnrecognizedWellKnown whole) = telling 3 2 whole
@@ -61,7 +61,6 @@ update_notification (InvalidOrigin whole) = telling 3 6 whole
 update_notification (InvalidNextHop whole) = telling 3 8 whole
 update_notification InvalidNetworkField = telling 3 10 []
 update_notification MalformedAsPath = telling 3 11 []
-update_notification (UnsupportedAttribute whole) = error_notification OutOfResources
 
 -- what is answered where an UPDATE can't be taken: its fault, or want of memory
 abbrev pub refusal_notification : Option UpdateFault → NotificationBody

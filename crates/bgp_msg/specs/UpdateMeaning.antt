@@ -17,12 +17,12 @@ pub record UpdateBody : Type 0 where
   pub attrs : PathAttributes
   pub announced : List Prefix
 
--- what withdrawn routes, path attributes and network layer reachability information say
-abbrev pub said_by : List ℕ × List ℕ × List ℕ → UpdateBody
-said_by parts =
+-- what withdrawn routes, path attributes and network layer reachability information from such a peer say
+abbrev pub said_by : PeerKind → List ℕ × List ℕ × List ℕ → UpdateBody
+said_by kind parts =
     record {
       withdrawn = (front_prefixes parts.0).0;
-      attrs = attributes_in parts.1;
+      attrs = attributes_in kind parts.1;
       announced = (front_prefixes parts.2).0;
     }
 
@@ -46,7 +46,7 @@ parts_fault kind parts =
     first_of
     (prefixes_fault parts.0
     ∷ attributes_fault kind parts.1
-    ∷ missing_fault parts.2 (missing_of (attributes_in parts.1))
+    ∷ missing_fault parts.2 (missing_of kind (attributes_in kind parts.1))
     ∷ prefixes_fault parts.2
     ∷ [])
 
@@ -65,20 +65,20 @@ unfoldable pub update_fault : PeerKind → List ℕ → Option Fault
 update_fault kind body = fault_of_parts kind (update_parts body)
 
 -- what the parts of an UPDATE say
-abbrev pub update_of_parts : Option (List ℕ × List ℕ × List ℕ) → UpdateBody
-update_of_parts None = said_by ([], [], [])
-update_of_parts (Some parts) = said_by parts
+abbrev pub update_of_parts : PeerKind → Option (List ℕ × List ℕ × List ℕ) → UpdateBody
+update_of_parts kind None = said_by kind ([], [], [])
+update_of_parts kind (Some parts) = said_by kind parts
 
--- what the UPDATE with this body says; nothing where its lengths don't fit
-unfoldable pub update_in : List ℕ → UpdateBody
-update_in body = update_of_parts (update_parts body)
+-- what the UPDATE with this body, from a peer of this kind, says; nothing where its lengths don't fit
+unfoldable pub update_in : PeerKind → List ℕ → UpdateBody
+update_in kind body = update_of_parts kind (update_parts body)
 
 -- the parts spell an UPDATE from such a peer: both lists of prefixes, attributes, and none of these missing where a prefix is announced
 pub record AreParts (kind : PeerKind) (withdrawn attributes announced : List ℕ) (update : UpdateBody) : Type 0 where
   pub withdrawn_are : ArePrefixes withdrawn update.withdrawn
   pub attributes_are : SpellsAttributes kind attributes update.attrs
   pub announced_are : ArePrefixes announced update.announced
-  pub complete : (announced ≡ []) ⊎ (missing_of update.attrs ≡ None)
+  pub complete : (announced ≡ []) ⊎ (missing_of kind update.attrs ≡ None)
 
 -- the body spells the UPDATE: each counted part is as long as it is told
 abbrev pub IsUpdate : PeerKind → List ℕ → UpdateBody → Type 0
@@ -96,4 +96,4 @@ pub record CanBeWritten (kind : PeerKind) (withdrawn : List Prefix) (attributes 
   pub announced_are : All (λ prefix. prefix.bits < 2 ^ 32) announced
   pub fits : 23 + length (wire_form withdrawn) + length attributes + length (wire_form announced) ≤ max_message
   pub faultless : attributes_fault kind attributes ≡ None
-  pub complete : (announced ≡ []) ⊎ (missing_of (attributes_in attributes) ≡ None)
+  pub complete : (announced ≡ []) ⊎ (missing_of kind (attributes_in kind attributes) ≡ None)

@@ -6,7 +6,7 @@ ghost use Rattle.bgp_msg.specs.MessageSpelling.{counted_at, update_parts, prefix
 ghost use Rattle.bgp_msg.specs.UpdateMeaning.{CanBeWritten, IsUpdate, UpdateBody, written_body, parts_fault, said_by, fault_before_memory, update_fault, update_in};
 ghost use Rattle.bgp_attr.specs.AttributeFaults.{attributes_fault, seen};
 ghost use Rattle.bgp_attr.specs.ReceivedAttributes.{AreOctets};
-ghost use Rattle.bgp_attr.specs.AttributeReading.{attributes_in};
+ghost use Rattle.bgp_attr.specs.AttributeReading.{NeedMemory, attributes_in};
 ghost use Rattle.bgp_attr.specs.declared.peer.PeerKind.{PeerKind};
 ghost use Rattle.std.specs.Iterator.{YieldsFirst, item_count};
 
@@ -93,8 +93,8 @@ impl Iterator for Prefixes<'_> {
 }
 
 /// The UPDATE of this body, or its first fault (RFC 4271 section 6.3). Own choice: the order of the checks,
-/// which is the order of the lines. Memory is taken for an AS_PATH alone, and the allocator is cloned for nothing else;
-/// what is missing, and the announced prefixes, are looked at behind it.
+/// which is the order of the lines. Memory is taken for an AS_PATH and for unknown attributes that are passed
+/// on, and the allocator is cloned for nothing else; what is missing, and the announced prefixes, are looked at behind it.
 #[tactic(auto, unfolding(crate::specs::UpdateMeaning::update_fault, crate::specs::UpdateMeaning::update_in))]
 pub fn read_update<'a, A: Allocator + Clone>(
     alloc: &A,
@@ -102,9 +102,9 @@ pub fn read_update<'a, A: Allocator + Clone>(
     kind: PeerKind,
 ) -> Result<Update<'a, A>, UpdateFault<'a>>
     ensures faultless { IfOk result (λ update. update_fault kind body.now ≡ None) }
-    ensures value { IfOk result (λ update. update ≡ update_in body.now) }
+    ensures value { IfOk result (λ update. update ≡ update_in kind body.now) }
     ensures fault { IfErr result (λ fault. IsSome (seen fault) → seen fault ≡ update_fault kind body.now) }
-    ensures memory { IfErr result (λ fault. seen fault ≡ None → (fault_before_memory kind (update_parts body.now) ≡ None) × IsSome (update_in body.now).attrs.as_path) }
+    ensures memory { IfErr result (λ fault. seen fault ≡ None → (fault_before_memory kind (update_parts body.now) ≡ None) × NeedMemory (update_in kind body.now).attrs) }
 {
     let Some((withdrawn, attributes, announced)) = split_body(body) else {
         return Err(UpdateFault::MalformedAttributeList);
@@ -121,16 +121,16 @@ fn read_parts<'a, A: Allocator + Clone>(
     kind: PeerKind,
 ) -> Result<Update<'a, A>, UpdateFault<'a>>
     ensures faultless { IfOk result (λ update. parts_fault kind (withdrawn.now, attributes.now, announced.now) ≡ None) }
-    ensures value { IfOk result (λ update. update ≡ said_by (withdrawn.now, attributes.now, announced.now)) }
+    ensures value { IfOk result (λ update. update ≡ said_by kind (withdrawn.now, attributes.now, announced.now)) }
     ensures fault { IfErr result (λ fault. IsSome (seen fault) → seen fault ≡ parts_fault kind (withdrawn.now, attributes.now, announced.now)) }
-    ensures memory { IfErr result (λ fault. seen fault ≡ None → (fault_before_memory kind (Some (withdrawn.now, attributes.now, announced.now)) ≡ None) × IsSome (attributes_in attributes.now).as_path) }
+    ensures memory { IfErr result (λ fault. seen fault ≡ None → (fault_before_memory kind (Some (withdrawn.now, attributes.now, announced.now)) ≡ None) × NeedMemory (attributes_in kind attributes.now)) }
 {
     if !are_prefixes(withdrawn) {
         return Err(UpdateFault::InvalidNetworkField);
     }
     let attrs = read_attrs(alloc, attributes, kind)?;
     if !announced.is_empty() {
-        if let Some(missing) = attrs.missing() {
+        if let Some(missing) = attrs.missing(kind) {
             return Err(UpdateFault::MissingWellKnown(missing));
         }
     }
@@ -146,15 +146,15 @@ fn read_parts<'a, A: Allocator + Clone>(
 
 /// The UPDATE that a body spells is the one that is read, and a body without a fault spells one.
 pub fn only_update()
-    ensures read { (kind : PeerKind) (body : List ℕ) (update : UpdateBody) → IsUpdate kind body update → (update_fault kind body ≡ None) × (update_in body ≡ update) }
-    ensures spelled { (kind : PeerKind) (body : List ℕ) → AreOctets body → update_fault kind body ≡ None → IsUpdate kind body (update_in body) }
+    ensures read { (kind : PeerKind) (body : List ℕ) (update : UpdateBody) → IsUpdate kind body update → (update_fault kind body ≡ None) × (update_in kind body ≡ update) }
+    ensures spelled { (kind : PeerKind) (body : List ℕ) → AreOctets body → update_fault kind body ≡ None → IsUpdate kind body (update_in kind body) }
 {
     attributes_are_spelled();
 }
 
 /// What an UPDATE is written from is what it says, where its attributes have no fault and lack none.
 pub fn written_update_is_read()
-    ensures says { (kind : PeerKind) (withdrawn announced : List Prefix) (attributes : List ℕ) → CanBeWritten kind withdrawn attributes announced → (update_fault kind (written_body withdrawn attributes announced) ≡ None) × (update_in (written_body withdrawn attributes announced) ≡ record { withdrawn = withdrawn; attrs = attributes_in attributes; announced = announced }) }
+    ensures says { (kind : PeerKind) (withdrawn announced : List Prefix) (attributes : List ℕ) → CanBeWritten kind withdrawn attributes announced → (update_fault kind (written_body withdrawn attributes announced) ≡ None) × (update_in kind (written_body withdrawn attributes announced) ≡ record { withdrawn = withdrawn; attrs = attributes_in kind attributes; announced = announced }) }
     ensures withdrawal { (kind : PeerKind) → attributes_fault kind [] ≡ None }
 {}
 

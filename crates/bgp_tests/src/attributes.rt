@@ -2,8 +2,8 @@
 
 use arrayvec::ArrayVec;
 use bgp_attr::{
-    AsPath, AttributeType, Attrs, AttrsToWrite, Class, Origin, PeerKind, SegmentKind, UpdateFault,
-    neighbor_as, origin_as, prepend, read_attrs, write_attrs,
+    Aggregator, AsPath, AttributeType, Attrs, AttrsToWrite, Class, Origin, PeerKind, SegmentKind,
+    UpdateFault, neighbor_as, origin_as, prepend, read_attrs, write_attrs,
 };
 use net_prefix::Asn;
 use std::alloc::Global;
@@ -40,9 +40,39 @@ const PREPENDED: [u8; 13] = [0x40, 2, 10, 2, 2, 0, 0, 0xFD, 0xE8, 0, 0, 0xFD, 0x
 #[rattlefmt::skip]
 const BEHIND_A_FULL_SEGMENT: [u8; 12] = [0x50, 2, 4, 4, 2, 1, 0, 0, 0xFD, 0xE8, 2, 0xFF];
 
-// What is wrong with the octets, and the subcode; none where they cannot be told to the peer.
+// The same with each of the other types, and two that are not known, in a part of the order.
 #[rattlefmt::skip]
-const FAULTS: [(&str, &[u8], Option<u8>); 20] = [
+const ALL: [u8; 64] = [
+    0x40, 1, 1, 0,
+    0x40, 2, 6, 2, 1, 0, 0, 0xFD, 0xE9,
+    0x40, 3, 4, 0xC0, 0, 2, 0x0B,
+    0xC0, 99, 2, 7, 8,
+    0x80, 4, 4, 0, 0, 0, 10,
+    0x40, 6, 0,
+    0xE0, 7, 8, 0, 0, 0xFD, 0xEA, 0xC0, 0, 2, 0x63,
+    0x40, 5, 4, 0, 0, 0, 200,
+    0xC0, 0, 1, 9,
+    0x80, 100, 1, 5,
+    0xC0, 17, 0,
+];
+
+// As they are written when they came from an internal peer.
+#[rattlefmt::skip]
+const ALL_WRITTEN: [u8; 57] = [
+    0xE0, 0, 1, 9,
+    0x40, 1, 1, 0,
+    0x40, 2, 6, 2, 1, 0, 0, 0xFD, 0xE9,
+    0x40, 3, 4, 0xC0, 0, 2, 0x0B,
+    0x80, 4, 4, 0, 0, 0, 10,
+    0x40, 5, 4, 0, 0, 0, 200,
+    0x40, 6, 0,
+    0xE0, 7, 8, 0, 0, 0xFD, 0xEA, 0xC0, 0, 2, 0x63,
+    0xE0, 99, 2, 7, 8,
+];
+
+// What is wrong with the octets, and the subcode.
+#[rattlefmt::skip]
+const FAULTS: [(&str, &[u8], Option<u8>); 33] = [
     ("no length",                &[0x40, 1],                                      Some(1)),
     ("cut off",                  &[0x40, 1, 2, 0],                                Some(1)),
     ("half a length",            &[0x50, 2, 0],                                   Some(1)),
@@ -62,7 +92,20 @@ const FAULTS: [(&str, &[u8], Option<u8>); 20] = [
     ("AS 0",                     &[0x40, 2, 10, 2, 2, 0, 0, 0xFD, 0xE9, 0, 0, 0, 0], Some(11)),
     ("a segment of no AS",       &[0x40, 2, 8, 2, 1, 0, 0, 0xFD, 0xE9, 2, 0],     Some(11)),
     ("a segment of type 3",      &[0x40, 2, 6, 3, 1, 0, 0, 0xFD, 0xE9],           Some(11)),
-    ("not supported",            &[0x80, 4, 4, 0, 0, 0, 0],                       None),
+    ("well-known, not known",    &[0x40, 99, 0],                                  Some(2)),
+    ("AS4_PATH, well-known",     &[0x40, 17, 0],                                  Some(2)),
+    ("unknown twice",            &[0x80, 99, 0, 0x40, 99, 0],                     Some(1)),
+    ("AS4_PATH twice",           &[0xC0, 17, 0, 0xC0, 17, 0],                     Some(1)),
+    ("LOCAL_PREF twice",         &[0x40, 5, 0, 0x80, 5, 9, 0, 0, 0, 0, 0, 0, 0, 0, 0], Some(1)),
+    ("LOCAL_PREF cut off",       &[0x40, 5, 4, 0],                                Some(1)),
+    ("transitive MED",           &[0xC0, 4, 4, 0, 0, 0, 0],                       Some(4)),
+    ("three octets of MED",      &[0x80, 4, 3, 0, 0, 0],                          Some(5)),
+    ("optional mark",            &[0xC0, 6, 0],                                   Some(4)),
+    ("a mark of one octet",      &[0x40, 6, 1, 0],                                Some(5)),
+    ("non-transitive aggregator", &[0x80, 7, 8, 0, 0, 0, 1, 0, 0, 0, 1],          Some(4)),
+    ("six octets of aggregator", &[0xC0, 7, 6, 0, 1, 0, 0, 0, 1],                 Some(5)),
+    ("no octet of aggregator",   &[0xC0, 7, 0],                                   Some(5)),
+    ("flags before length",      &[0x40, 4, 0],                                   Some(4)),
 ];
 
 #[test]
@@ -75,7 +118,7 @@ fn what_came_is_written_again(rt: HostRuntime) -> Result<(), Fail> {
 
 // Whether ORIGIN and NEXT_HOP are those that came, and none is missing.
 fn is_whole(attrs: &Attrs) -> bool {
-    attrs.missing().is_none()
+    attrs.missing(PEER).is_none()
         && attrs.origin() == Some(Origin::Igp)
         && attrs.next_hop() == Some(0xC000_020B)
 }
@@ -83,6 +126,68 @@ fn is_whole(attrs: &Attrs) -> bool {
 fn is_written_as(attrs: &AttrsToWrite<'_>, octets: &[u8]) -> bool {
     let mut out = ArrayVec::new();
     write_attrs(attrs, &mut out) && out.as_slice() == octets
+}
+
+#[test]
+fn each_type_is_read_and_written(rt: HostRuntime) -> Result<(), Fail> {
+    let attrs = read_attrs(&rt.alloc(), &ALL, PeerKind::Internal)?;
+    assert!(rt; has_all(&attrs) && attrs.local_pref() == Some(200));
+    assert!(rt; has_unknown(&attrs));
+    assert!(rt; is_written_as(&attrs.as_received(), &ALL_WRITTEN));
+    Ok(())
+}
+
+// Whether the attributes are those that came, LOCAL_PREF aside.
+fn has_all(attrs: &Attrs) -> bool {
+    let aggregator = Aggregator {
+        asn: Asn(65002),
+        address: 0xC000_0263,
+        is_partial: true,
+    };
+    is_whole(attrs)
+        && attrs.multi_exit_disc() == Some(10)
+        && attrs.atomic_aggregate()
+        && attrs.aggregator() == Some(aggregator)
+}
+
+// Whether codes 0 and 99 alone are kept.
+fn has_unknown(attrs: &Attrs) -> bool {
+    let Some(unknown) = attrs.unknown() else {
+        return false;
+    };
+    unknown.value(0) == Some([9].as_slice())
+        && unknown.value(99) == Some([7, 8].as_slice())
+        && unknown.value(100).is_none()
+        && unknown.value(17).is_none()
+}
+
+#[test]
+fn local_pref_of_an_external_peer_is_dropped(rt: HostRuntime) -> Result<(), Fail> {
+    let attrs = read_attrs(&rt.alloc(), &ALL, PEER)?;
+    assert!(rt; has_all(&attrs) && attrs.local_pref().is_none());
+    let unchecked = read_attrs(&rt.alloc(), &[0xC0, 5, 1, 0], PEER)?;
+    assert!(rt; unchecked.local_pref().is_none());
+    Ok(())
+}
+
+#[test]
+fn an_internal_peer_sends_local_pref(rt: HostRuntime) -> Result<(), Fail> {
+    let attrs = read_attrs(&rt.alloc(), &RECEIVED, PeerKind::Internal)?;
+    assert!(rt; attrs.missing(PeerKind::Internal) == Some(AttributeType::LocalPref));
+    assert!(rt; attrs.missing(PEER).is_none());
+    assert!(rt; AttributeType::LocalPref.is_taken(PeerKind::Internal));
+    assert!(rt; !AttributeType::LocalPref.is_taken(PEER));
+    Ok(())
+}
+
+#[test]
+fn a_long_unknown_attribute_is_passed_on_as_partial(rt: HostRuntime) -> Result<(), Fail> {
+    let mut octets = vec![in rt.alloc(); 0xD0, 0x63, 0x0F, 0xC8]?;
+    octets.resize(4_044, 0xAB)?;
+    let attrs = read_attrs(&rt.alloc(), octets.as_slice(), PEER)?;
+    octets[0] = 0xF0;
+    assert!(rt; is_written_as(&attrs.as_received(), octets.as_slice()));
+    Ok(())
 }
 
 #[test]
@@ -95,14 +200,14 @@ fn several_spellings_are_read_alike(rt: HostRuntime) -> Result<(), Fail> {
 #[test]
 fn a_missing_next_hop_is_told(rt: HostRuntime) -> Result<(), Fail> {
     let attrs = read_attrs(&rt.alloc(), &RECEIVED[..13], PEER)?;
-    assert_eq!(rt; attrs.missing(), Some(AttributeType::NextHop));
+    assert_eq!(rt; attrs.missing(PEER), Some(AttributeType::NextHop));
     Ok(())
 }
 
 #[test]
 fn a_path_is_told_by_its_segments(rt: HostRuntime) -> Result<(), Fail> {
     let attrs = read_attrs(&rt.alloc(), &WITH_A_SET, PEER)?;
-    assert_eq!(rt; attrs.missing(), Some(AttributeType::Origin));
+    assert_eq!(rt; attrs.missing(PEER), Some(AttributeType::Origin));
     assert!(rt; attrs.as_path().is_some_and(is_the_path_with_a_set));
     Ok(())
 }
@@ -166,6 +271,11 @@ fn a_fault_tells_the_whole_attribute(rt: HostRuntime) -> Result<(), Fail> {
         return Err(Fail::new("origin 3"));
     };
     assert!(rt; is_told(&fault, &[0x40, 1, 1, 3]));
+    let Err(unknown) = read_attrs(&rt.alloc(), &[0x50, 99, 0, 1, 7], PEER) else {
+        return Err(Fail::new("an unknown well-known attribute"));
+    };
+    assert!(rt; is_told(&unknown, &[0x50, 99, 0, 1, 7]));
+    assert!(rt; is_told(&UpdateFault::MissingWellKnown(AttributeType::NextHop), &[3]));
     assert!(rt; fault.number().is_none() && UpdateFault::NoMemory.number() == Some(21));
     Ok(())
 }
@@ -213,6 +323,11 @@ fn write_prepended(attrs: &Attrs, out: &mut ArrayVec<u8, 4096>) -> bool {
         origin: None,
         as_path: Some(prepend(path, OWN, 1)),
         next_hop: None,
+        multi_exit_disc: None,
+        local_pref: None,
+        atomic_aggregate: false,
+        aggregator: None,
+        unknown: None,
     };
     write_attrs(&prepended, out)
 }

@@ -1,4 +1,4 @@
-//! UPDATEs where memory is refused: it is wanted for an AS_PATH alone.
+//! UPDATEs where memory is refused: it is wanted for an AS_PATH and for unknown attributes that are kept.
 ghost use Rattle.std.specs.Borrow.{ffalse};
 
 use bgp_attr::{PeerKind, UpdateFault};
@@ -12,13 +12,19 @@ const PEER: PeerKind = PeerKind::External(Asn(65001));
 // It withdraws 10.0.1.0/24.
 const WITHDRAWAL: [u8; 8] = [0, 4, 0x18, 10, 0, 1, 0, 0];
 
-// Bodies without an AS_PATH: a withdrawal, End-of-RIB, and ORIGIN and NEXT_HOP with no prefix.
+// Bodies of which nothing takes memory: a withdrawal, End-of-RIB, ORIGIN and NEXT_HOP with no prefix, AGGREGATOR, and
+// unknown attributes that are dropped.
 #[rattlefmt::skip]
-const WITHOUT_A_PATH: [&[u8]; 3] = [
+const WITHOUT_A_PATH: [&[u8]; 5] = [
     &WITHDRAWAL,
     &[0, 0, 0, 0],
     &[0, 0, 0, 11, 0x40, 1, 1, 0, 0x40, 3, 4, 0xC0, 0, 2, 0x0B],
+    &[0, 0, 0, 11, 0xC0, 7, 8, 0, 0, 0xFD, 0xEA, 0xC0, 0, 2, 0x63],
+    &[0, 0, 0, 7, 0x80, 99, 1, 7, 0xC0, 17, 0],
 ];
+
+// An unknown attribute that is kept.
+const WITH_UNKNOWN: [u8; 8] = [0, 0, 0, 4, 0xC0, 99, 1, 7];
 
 // It announces 10.0.1.0/24: ORIGIN IGP, AS_PATH 65001 {65005, 65006}, NEXT_HOP 192.0.2.11.
 #[rattlefmt::skip]
@@ -84,19 +90,27 @@ fn withdraws(prefix: Option<Prefix>) -> bool {
 fn a_path_wants_memory(rt: HostRuntime) {
     assert!(rt; wants_memory(&Nothing, &ANNOUNCEMENT, PEER));
     assert!(rt; wants_memory(&Nothing, &WITHOUT_NEXT_HOP, PEER));
+    assert!(rt; wants_memory(&Nothing, &WITH_UNKNOWN, PEER));
     assert!(rt; wants_memory(&Nothing, &[0, 0, 0, 3, 0x40, 2, 0], PeerKind::Internal));
 }
 
 #[test]
 fn each_refused_request_is_told(rt: HostRuntime) {
+    assert!(rt; is_told_each_time(&rt, &ANNOUNCEMENT, 3));
+    assert!(rt; is_told_each_time(&rt, &WITH_UNKNOWN, 1));
+}
+
+// Whether each refused request of this body, of which there are more than so many, is told, and without one none is.
+fn is_told_each_time(rt: &HostRuntime, body: &[u8], few: u64) -> bool {
     for nth in 1..1_000u64 {
         let heap = Refusing::new(rt.alloc(), nth);
-        let wanted = wants_memory(&&heap, &ANNOUNCEMENT, PEER);
-        assert_eq!(rt; wanted, heap.has_refused());
+        let wanted = wants_memory(&&heap, body, PEER);
+        if wanted != heap.has_refused() {
+            return false;
+        }
         if !wanted {
-            assert!(rt; nth > 3);
-            return;
+            return nth > few;
         }
     }
-    panic!(rt; "no end");
+    false
 }

@@ -1,63 +1,104 @@
 -- In what goes on to a peer it finds no fault.
-use Rattle.std.proofs.Common.{◌≡◌, ◌≤◌, ◌<◌, ◌^◌, ℕ, Bool, true, false, nat_le, List, ◌++◌, length, length-append, Option, Some, None, MatchOption, arith, refl, ap, subst, if◌then◌else◌}
+use Rattle.std.proofs.Common.{◌≡◌, ◌≤◌, ◌<◌, ◌^◌, ℕ, Bool, true, false, nat_le, List, [], ◌∷◌, ◌++◌, length, length-append, Option, Some, None, MatchOption, arith, refl, ap, subst, ◌∙◌, if◌then◌else◌}
+use Rattle.std.specs.Prelude.{is_none, not, ◌&&◌}
 use Rattle.std.specs.Bool.{⊤}
 use Rattle.std.proofs.lemmas.Bool.{leb-true}
 use Rattle.std.specs.Bool.{OnTrue}
-use Rattle.std.specs.List.{AllByRecursion}
+use Rattle.std.specs.List.{AllByRecursion, flat_map}
+use Rattle.std.specs.Option.{option_map}
+use Rattle.net_prefix.specs.declared.asn.Asn.{Asn}
 use Rattle.bgp_attr.specs.AsPath.{PathSegment, path_octets, prepended}
-use Rattle.bgp_attr.specs.AttributeSpelling.{CanBeSpelled, IsAs, IsHost, IsSegment, attributes_spelling, attribute_spelling, header_spelling, next_hop_spelling, origin_spelling, path_spelling}
+use Rattle.bgp_attr.specs.AttributeSpelling.{CanBeSpelled, IsAs, IsHost, IsSegment, attributes_spelling, header_spelling, optional_spelling, path_spelling, type_spelling, unknown_spelling, value_in}
+use Rattle.bgp_attr.specs.AttributeTable.{is_taken}
 use Rattle.bgp_attr.specs.PathAttributes.{PathAttributes, missing_of}
+use Rattle.bgp_attr.specs.PathReading.{begins_right}
+use Rattle.bgp_attr.specs.UnknownAttributes.{ArePassedOn}
+use Rattle.bgp_attr.specs.declared.attribute_type.AttributeType.{AttributeType}
 use Rattle.bgp_attr.specs.declared.attribute_type.AttributeType.TheVariants as type
 use Rattle.bgp_attr.specs.declared.attrs.Origin.{Origin}
 use Rattle.bgp_attr.specs.declared.peer.PeerKind.TheVariants.{External}
 use Rattle.bgp_attr.proofs.Appendings.{length-path_spelling}
-use Rattle.bgp_attr.proofs.AttributeSpellings.{spelled_faultless, spelled_read}
+use Rattle.bgp_attr.proofs.AttributeSpellings.{all_types, spelled_faultless, spelled_read}
 use Rattle.bgp_attr.proofs.PrependedPaths.{begins_prepended, segments_prepended}
 use Rattle.bgp_attr.proofs.SoundValues.{host_is}
 use Rattle.bgp_attr.proofs.WrittenSpellings.{written_spells}
 use Rattle.export_rules.specs.Export.{AreAccepted, IsSender, Tells, exported_of, fitting}
 use Rattle.export_rules.specs.declared.export.ExportPeer.{ExportPeer}
 
--- attributes that go on, of a route that lacks none
-sent : Origin → List PathSegment → ExportPeer → PathAttributes
-sent origin path peer = record { origin = Some origin; as_path = Some (prepended path peer.own 1); next_hop = Some peer.local }
-
 -- a path is no longer than the attributes that it stands in
-path_short : (origin : Option Origin) (path : List PathSegment) (address : ℕ) (most : ℕ)
-    → length (origin_spelling origin ++ (attribute_spelling type.AsPath (path_spelling path) ++ next_hop_spelling (Some address))) ≤ most → path_octets path ≤ most
-path_short origin path address most short =
+within : (front header path more unknown other : List ℕ) (most : ℕ) → length (front ++ ((other ++ ((header ++ path) ++ more)) ++ unknown)) ≤ most → length path ≤ most
+within front header path more unknown other most short =
     omega (
       arith,
       short,
-      length-path_spelling path,
-      length-append (origin_spelling origin) (attribute_spelling type.AsPath (path_spelling path) ++ next_hop_spelling (Some address)),
-      length-append (attribute_spelling type.AsPath (path_spelling path)) (next_hop_spelling (Some address)),
-      length-append (header_spelling type.AsPath (length (path_spelling path))) (path_spelling path),
+      length-append front ((other ++ ((header ++ path) ++ more)) ++ unknown),
+      length-append (other ++ ((header ++ path) ++ more)) unknown,
+      length-append other ((header ++ path) ++ more),
+      length-append (header ++ path) more,
+      length-append header path,
     )
 
-sent_accepted : (origin : Origin) (path : List PathSegment) (peer : ExportPeer) → IsAs peer.own → IsHost peer.local → AllByRecursion IsSegment path
-    → length (attributes_spelling (sent origin path peer)) ≤ 4068 → AreAccepted peer.own (attributes_spelling (sent origin path peer))
-unfolding sent
-sent_accepted origin path peer own local lawful short =
-    let few = path_short (Some origin) (prepended path peer.own 1) peer.local 4068 short in
-    let can : CanBeSpelled (External peer.own) (sent origin path peer) = record {
-      as_path = (segments_prepended path peer.own 1 own lawful, begins_prepended path peer.own 0, omega (arith, few));
-      next_hop = local;
-    } in
-    let spells = written_spells (External peer.own) (sent origin path peer) can in
+-- the path as it goes on is lawful
+path_lawful : (o : Option (List PathSegment)) (own : Asn) → IsAs own → MatchOption o ⊤ (AllByRecursion IsSegment)
+    → MatchOption (option_map (λ path. prepended path own 1) o) ⊤ (λ path. AllByRecursion IsSegment path × (begins_right (External own) path ≡ true))
+path_lawful None own is lawful = tt
+path_lawful (Some path) own is lawful = (segments_prepended path own 1 is lawful, begins_prepended path own 0)
+
+-- and no longer than a message
+path_short : (attrs : PathAttributes) (o : Option (List PathSegment)) (peer : ExportPeer) → attrs.as_path ≡ o → length (attributes_spelling (exported_of attrs peer)) ≤ 4068
+    → MatchOption (option_map (λ path. prepended path peer.own 1) o) ⊤ (λ path. path_octets path ≤ 65535)
+unfolding exported_of
+path_short attrs None peer is short = tt
+path_short attrs (Some path) peer is short =
+    let sent : PathAttributes = exported_of attrs peer in
+    let own : List PathSegment = prepended path peer.own 1 in
+    let behind : List ℕ = flat_map (type_spelling sent) (type.NextHop ∷ type.MultiExitDisc ∷ type.LocalPref ∷ type.AtomicAggregate ∷ type.Aggregator ∷ []) in
+    let whole : Option (List PathSegment) → List ℕ = λ o.
+    unknown_spelling true attrs.unknown
+    ++ ((type_spelling sent type.Origin ++ (optional_spelling 64 2 (option_map path_spelling (option_map (λ path. prepended path peer.own 1) o)) ++ behind)) ++ unknown_spelling false attrs.unknown) in
+    let P : Option (List PathSegment) → Type 0 = λ o. length (whole o) ≤ 4068 in
+    let few = within (unknown_spelling true attrs.unknown) (header_spelling 64 2 (length (path_spelling own))) (path_spelling own) behind (unknown_spelling false attrs.unknown) (type_spelling sent type.Origin) 4068 (subst P is short) in
+    omega (arith, few, length-path_spelling own)
+
+-- what isn't taken from an external peer doesn't go on
+not_sent : (attrs : PathAttributes) (peer : ExportPeer) (known : AttributeType) → is_taken (External peer.own) known ≡ false → value_in (exported_of attrs peer) known ≡ None
+unfolding exported_of
+not_sent attrs peer known =
+    all_types (λ (t : AttributeType). is_taken (External peer.own) t ≡ false → value_in (exported_of attrs peer) t ≡ None)
+    (λ h. absurd cc) (λ h. absurd cc) (λ h. absurd cc) (λ h. refl) (λ h. refl) (λ h. absurd cc) (λ h. absurd cc) known
+
+can_be_sent : (attrs : PathAttributes) (peer : ExportPeer) → IsAs peer.own → IsHost peer.local → MatchOption attrs.as_path ⊤ (AllByRecursion IsSegment)
+    → MatchOption attrs.aggregator ⊤ (λ a. (a.asn.0 < 2 ^ 32) × (a.address < 2 ^ 32)) → ArePassedOn attrs.unknown
+    → length (attributes_spelling (exported_of attrs peer)) ≤ 4068 → CanBeSpelled (External peer.own) (exported_of attrs peer)
+unfolding exported_of
+can_be_sent attrs peer own local lawful small passed short =
     record {
-      faultless = spelled_faultless (External peer.own) (attributes_spelling (sent origin path peer)) (sent origin path peer) spells;
-      complete = ap missing_of (spelled_read (External peer.own) (attributes_spelling (sent origin path peer)) (sent origin path peer) spells);
+      lawful = record { as_path = path_lawful attrs.as_path peer.own own lawful; next_hop = local; multi_exit_disc = tt; local_pref = tt; aggregator = small };
+      taken = not_sent attrs peer;
+      short = path_short attrs attrs.as_path peer refl short;
+      unknown = passed;
     }
 
-route_accepted : (origin : Option Origin) (as_path : Option (List PathSegment)) (next_hop : Option ℕ) (peer : ExportPeer) → IsAs peer.own → IsHost peer.local
-    → MatchOption as_path ⊤ (AllByRecursion IsSegment) → missing_of (record { origin = origin; as_path = as_path; next_hop = next_hop }) ≡ None
-    → length (attributes_spelling (exported_of (record { origin = origin; as_path = as_path; next_hop = next_hop }) peer)) ≤ 4068
-    → AreAccepted peer.own (attributes_spelling (exported_of (record { origin = origin; as_path = as_path; next_hop = next_hop }) peer))
-unfolding exported_of sent
-route_accepted None as_path next_hop peer own local lawful complete short = absurd cc
-route_accepted (Some origin) None next_hop peer own local lawful complete short = absurd cc
-route_accepted (Some origin) (Some path) next_hop peer own local lawful complete short = sent_accepted origin path peer own local lawful short
+-- what routes need goes on
+complete_if : (origin : Option Origin) (as_path : Option (List PathSegment)) (next_hop local_pref : Option ℕ) (own : Asn) (local : ℕ)
+    → (if is_none origin then Some type.Origin else (if is_none as_path then Some type.AsPath else (if is_none next_hop then Some type.NextHop else (if not true && is_none local_pref then Some type.LocalPref else None)))) ≡ None
+    → (if is_none origin then Some type.Origin else (if is_none (option_map (λ path. prepended path own 1) as_path) then Some type.AsPath else None)) ≡ None
+complete_if None as_path next_hop local_pref own local h = absurd cc
+complete_if (Some origin) None next_hop local_pref own local h = absurd cc
+complete_if (Some origin) (Some path) next_hop local_pref own local h = refl
+
+complete_sent : (attrs : PathAttributes) (peer : ExportPeer) → missing_of (External peer.own) attrs ≡ None → missing_of (External peer.own) (exported_of attrs peer) ≡ None
+unfolding exported_of
+complete_sent attrs peer complete = complete_if attrs.origin attrs.as_path attrs.next_hop attrs.local_pref peer.own peer.local complete
+
+route_accepted : (attrs : PathAttributes) (peer : ExportPeer) → CanBeSpelled (External peer.own) (exported_of attrs peer) → missing_of (External peer.own) attrs ≡ None
+    → AreAccepted peer.own (attributes_spelling (exported_of attrs peer))
+route_accepted attrs peer can complete =
+    let spells = written_spells (External peer.own) (exported_of attrs peer) can in
+    record {
+      faultless = spelled_faultless (External peer.own) (attributes_spelling (exported_of attrs peer)) (exported_of attrs peer) spells;
+      complete = ap (missing_of (External peer.own)) (spelled_read (External peer.own) (attributes_spelling (exported_of attrs peer)) (exported_of attrs peer) spells) ∙ complete_sent attrs peer complete;
+    }
 
 fits_if : (fits : Bool) (octets out : List ℕ) → (if fits then Some octets else None) ≡ Some out → nat_le (length octets) 4068 ≡ fits → (octets ≡ out) × (nat_le (length octets) 4068 ≡ true)
 fits_if true octets out is same = (cc, same)
@@ -65,9 +106,11 @@ fits_if false octets out is same = absurd cc
 
 -- what the writer tells of a route that lacks nothing
 pub told_accepted : (told : Bool) (out : List ℕ) (attrs : PathAttributes) (peer : ExportPeer) → peer.own.0 < 2 ^ 32 → peer.local < 2 ^ 32 → MatchOption attrs.as_path ⊤ (AllByRecursion IsSegment)
-    → Tells told out (fitting (attributes_spelling (exported_of attrs peer))) → OnTrue told (IsSender peer → missing_of attrs ≡ None → AreAccepted peer.own out)
-told_accepted true out attrs peer own local lawful told = λ sender complete.
+    → MatchOption attrs.aggregator ⊤ (λ a. (a.asn.0 < 2 ^ 32) × (a.address < 2 ^ 32)) → ArePassedOn attrs.unknown
+    → Tells told out (fitting (attributes_spelling (exported_of attrs peer))) → OnTrue told (IsSender peer → missing_of (External peer.own) attrs ≡ None → AreAccepted peer.own out)
+told_accepted true out attrs peer own local lawful small passed told = λ sender complete.
     let fits = fits_if (nat_le (length (attributes_spelling (exported_of attrs peer))) 4068) (attributes_spelling (exported_of attrs peer)) out told refl in
     let short : length (attributes_spelling (exported_of attrs peer)) ≤ 4068 = leb-true _ _ fits.1 in
-    subst (AreAccepted peer.own) fits.0 (route_accepted attrs.origin attrs.as_path attrs.next_hop peer (sender.own, own) (host_is peer.local local sender.local) lawful complete short)
-told_accepted false out attrs peer own local lawful told = tt
+    let can = can_be_sent attrs peer (sender.own, own) (host_is peer.local local sender.local) lawful small passed short in
+    subst (AreAccepted peer.own) fits.0 (route_accepted attrs peer can complete)
+told_accepted false out attrs peer own local lawful small passed told = tt

@@ -2,13 +2,11 @@
 use Rattle.std.proofs.Common.{◌≡◌, ℕ, ◌+◌, ◌<◌, nat_lt, nat_le, Bool, true, false, if◌then◌else◌, List, [], ◌∷◌, ◌++◌, length, length-append, Some, None, arith}
 use Rattle.std.specs.Bool.{OnTrue}
 use Rattle.std.specs.Int.{to_be_bytes, w16, w32}
-use Rattle.std.specs.Option.{option_map}
-use Rattle.bgp_attr.specs.AsPath.{prepended}
-use Rattle.bgp_attr.specs.AttributeSpelling.{attributes_spelling, header_spelling, origin_spelling, as_path_spelling}
-use Rattle.bgp_attr.specs.AttributeTable.{octet_of, written_flags_of}
+use Rattle.std.specs.List.{flat_map}
+use Rattle.bgp_attr.specs.AttributeSpelling.{attributes_spelling, header_spelling, type_spelling, unknown_spelling}
+use Rattle.bgp_attr.specs.AttributeTable.{types}
 use Rattle.bgp_attr.specs.PathAttributes.{PathAttributes}
-use Rattle.bgp_attr.specs.declared.attribute_type.AttributeType.{AttributeType}
-use Rattle.bgp_attr.specs.declared.attribute_type.AttributeType.TheVariants.{NextHop}
+use Rattle.bgp_attr.specs.declared.attribute_type.AttributeType.TheVariants.{Origin, AsPath, MultiExitDisc, LocalPref, AtomicAggregate, Aggregator}
 use Rattle.export_rules.specs.Export.{exported_of, fitting, Tells}
 use Rattle.export_rules.specs.declared.export.ExportPeer.{ExportPeer}
 
@@ -16,9 +14,8 @@ either_some : (b : Bool) (m n : ℕ) (ms ns : List ℕ) → 0 < length (if b the
 either_some true m n ms ns = omega arith
 either_some false m n ms ns = omega arith
 
-header_some : (kind : AttributeType) (n : ℕ) → 0 < length (header_spelling kind n)
-header_some kind n =
-    either_some (nat_lt 255 n) (written_flags_of kind + 16) (written_flags_of kind) (octet_of kind ∷ to_be_bytes w16 n) (octet_of kind ∷ n ∷ [])
+header_some : (flags code n : ℕ) → 0 < length (header_spelling flags code n)
+header_some flags code n = either_some (nat_lt 255 n) (flags + 16) flags (code ∷ to_be_bytes w16 n) (code ∷ n ∷ [])
 
 front_some : (xs ys : List ℕ) → 0 < length xs → 0 < length (xs ++ ys)
 front_some xs ys h = omega (arith, length-append xs ys)
@@ -29,10 +26,14 @@ back_some xs ys h = omega (arith, length-append xs ys)
 pub exported_some : (attrs : PathAttributes) (peer : ExportPeer) → 0 < length (attributes_spelling (exported_of attrs peer))
 unfolding exported_of
 exported_some attrs peer =
-    let next_hop : List ℕ = to_be_bytes w32 peer.local in
-    back_some (origin_spelling attrs.origin) _
-    (back_some (as_path_spelling (option_map (λ path. prepended path peer.own 1) attrs.as_path)) _
-    (front_some (header_spelling NextHop (length next_hop)) next_hop (header_some NextHop (length next_hop))))
+    let sent : PathAttributes = exported_of attrs peer in
+    let address : List ℕ = to_be_bytes w32 peer.local in
+    let behind : List ℕ = flat_map (type_spelling sent) (MultiExitDisc ∷ LocalPref ∷ AtomicAggregate ∷ Aggregator ∷ []) in
+    back_some (unknown_spelling true attrs.unknown) (flat_map (type_spelling sent) types ++ unknown_spelling false attrs.unknown)
+    (front_some (flat_map (type_spelling sent) types) (unknown_spelling false attrs.unknown)
+    (back_some (type_spelling sent Origin) _
+    (back_some (type_spelling sent AsPath) _
+    (front_some (header_spelling 64 3 4 ++ address) behind (front_some (header_spelling 64 3 4) address (header_some 64 3 4))))))
 
 same_some : (b : Bool) (octets sent : List ℕ) → (if b then Some octets else None) ≡ Some sent → 0 < length octets → 0 < length sent
 same_some true octets sent e h = let same : octets ≡ sent = cc in rw (← same) h

@@ -1,4 +1,4 @@
--- What an external peer is sent of a route (RFC 4271 sections 5.1.2, 5.1.3 and 9.1.3).
+-- What an external peer is sent of a route (RFC 4271 sections 5.1.2 to 5.1.7 and 9.1.3).
 use Rattle.std.specs.Prelude.{◌≡◌, ◌<◌, ℕ, ◌==◌, nat_le, Bool, true, false, if◌then◌else◌, List, [], length, Option, None, Some}
 use Rattle.std.specs.Option.{option_map}
 use Rattle.bgp_attr.specs.AsPath.{prepended}
@@ -11,10 +11,19 @@ use Rattle.decision.specs.declared.candidate.Candidate.{Candidate}
 use Rattle.export_rules.specs.declared.export.ExportPeer.{ExportPeer}
 use Rattle.net_prefix.specs.declared.asn.Asn.{Asn}
 
--- the attributes as they go on: the own AS stands in front of the path, and the own address is the next hop
+-- the attributes as they go on: the own AS stands in front of the path, and the own address is the next hop; MULTI_EXIT_DISC and LOCAL_PREF do not go on
 unfoldable pub exported_of : PathAttributes → ExportPeer → PathAttributes
 exported_of attrs peer =
-    record { origin = attrs.origin; as_path = option_map (λ path. prepended path peer.own 1) attrs.as_path; next_hop = Some peer.local }
+    record {
+      origin = attrs.origin;
+      as_path = option_map (λ path. prepended path peer.own 1) attrs.as_path;
+      next_hop = Some peer.local;
+      multi_exit_disc = None;
+      local_pref = None;
+      atomic_aggregate = attrs.atomic_aggregate;
+      aggregator = attrs.aggregator;
+      unknown = attrs.unknown;
+    }
 
 -- the octets of attributes that a message of one prefix holds (RFC 4271 section 4.3)
 abbrev pub most_attributes : ℕ
@@ -37,7 +46,7 @@ pub record IsSender (peer : ExportPeer) : Type 0 where
 -- (RFC 4271 section 6.3)
 pub record AreAccepted (own : Asn) (octets : List ℕ) : Type 0 where
   pub faultless : attributes_fault (External own) octets ≡ None
-  pub complete : missing_of (attributes_in octets) ≡ None
+  pub complete : missing_of (External own) (attributes_in (External own) octets) ≡ None
 
 -- true: these are the octets; false: there are none
 abbrev pub Tells : Bool → List ℕ → Option (List ℕ) → Type 0

@@ -4,6 +4,8 @@ ghost use Rattle.std.specs.List.{AllByRecursion};
 ghost use Rattle.std.specs.Bool.{OnFalse, OnTrue};
 ghost use Rattle.bgp_attr.specs.AttributeSpelling.{attributes_spelling, IsSegment};
 ghost use Rattle.bgp_attr.specs.PathAttributes.{missing_of};
+ghost use Rattle.bgp_attr.specs.UnknownAttributes.{ArePassedOn};
+ghost use Rattle.bgp_attr.specs.declared.peer.PeerKind.TheVariants.{External};
 ghost use Rattle.bgp_attr.specs.Written.{attributes_of};
 ghost use Rattle.export_rules.specs.Export.{AreAccepted, IsSender, Tells, export_at, exported_of, fitting};
 ghost use Rattle.arrayvec.specs.ArrayVec.{array_vec_len};
@@ -58,7 +60,7 @@ pub fn export_of<A: Allocator>(
     ensures small { OnTrue result (array_vec_len out.new ≤ MAX_EXPORTED_ATTRIBUTES) }
     ensures nothing { OnFalse result (out.new.items ≡ []) }
     // The peer finds no fault with it.
-    ensures accepted { OnTrue result (IsSender peer.now → missing_of attrs.now ≡ None → AreAccepted peer.now.own out.new.items) }
+    ensures accepted { OnTrue result (IsSender peer.now → missing_of (External peer.now.own) attrs.now ≡ None → AreAccepted peer.now.own out.new.items) }
 {
     if route.slot == peer.slot {
         out.clear();
@@ -83,10 +85,12 @@ fn write_fitting<A: Allocator>(attrs: &AttrsToWrite<'_, A>, out: &mut ArrayVec<u
     true
 }
 
-// The attributes as they go on to an external peer (RFC 4271 sections 5.1.2 and 5.1.3).
+// The attributes as they go on to an external peer (RFC 4271 sections 5.1.2 to 5.1.7).
 fn exported<'a, A: Allocator>(attrs: &'a Attrs<A>, peer: &ExportPeer) -> AttrsToWrite<'a, A>
     ensures value { attributes_of result ≡ exported_of attrs.now peer.now }
     ensures lawful { MatchOption attrs.now.as_path ⊤ (AllByRecursion IsSegment) }
+    ensures small { MatchOption attrs.now.aggregator ⊤ (λ a. (a.asn.0 < 2 ^ 32) × (a.address < 2 ^ 32)) }
+    ensures passed_on { ArePassedOn attrs.now.unknown }
     ensures own { peer.now.own.0 < 2 ^ 32 }
     ensures local { peer.now.local < 2 ^ 32 }
 {
@@ -98,5 +102,10 @@ fn exported<'a, A: Allocator>(attrs: &'a Attrs<A>, peer: &ExportPeer) -> AttrsTo
             None => None,
         },
         next_hop: Some(peer.local_address()),
+        multi_exit_disc: None,
+        local_pref: None,
+        atomic_aggregate: attrs.atomic_aggregate(),
+        aggregator: attrs.aggregator(),
+        unknown: attrs.unknown(),
     }
 }

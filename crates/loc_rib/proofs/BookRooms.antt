@@ -1,14 +1,22 @@
-use Rattle.std.proofs.Common.{◌≡◌, ◌==◌, ◌&&◌, ℕ, Bool, true, false, List, Option, Some, None, Result, Ok, Err, OnErr, All, cond, refl, sym, ap, ◌∙◌, subst}
+use Rattle.std.proofs.Common.{◌≡◌, ◌==◌, ◌&&◌, ℕ, Bool, true, false, List, Option, Some, None, Result, Ok, Err, OnErr, OnOk, All, cond, inl, inr, refl, sym, ap, ◌∙◌, subst}
 use Rattle.std.specs.Option.{IsSome, is_some}
 use Rattle.std.specs.Result.{is_err}
-use Rattle.std.proofs.lemmas.Bool.{eqb-true}
+use Rattle.std.specs.Cmp.{nat_cmp_is}
+use Rattle.std.specs.Ordering.{is_eq, nat_cmp, ordering_then}
+use Rattle.std.specs.declared.cmp.Ordering.{Ordering}
+use Rattle.std.specs.declared.cmp.Ordering.TheVariants.{Less, Equal, Greater}
+use Rattle.std.proofs.lemmas.Bool.{cases_eq, eq-eqb, eqb-true, ne_eqb}
+use Rattle.std.proofs.lemmas.Map.Lookups.{exact_unsigned}
+use Rattle.bgp_attr.proofs.EntryLists.{equal_from}
+use Rattle.bgp_attr.specs.PathAttributes.{PathAttributes}
 use Rattle.decision.proofs.BookRows.{prefix_exact}
 use Rattle.decision.proofs.PlaceLists.{unchanged}
 use Rattle.decision.specs.BookContents.{AreApart, BookState, HasNoEmptyPrefix, changed, has_place_at, is_prefix, kept_at, offer_at}
 use Rattle.decision.specs.declared.book.Change.{Change}
 use Rattle.decision.specs.declared.candidate.Candidate.{Candidate}
 use Rattle.net_prefix.specs.declared.prefix.Prefix.{Prefix}
-use Rattle.rib_in.specs.LatestRoutes.{HasRoute, RouteTable, route_at}
+use Rattle.net_prefix.specs.PrefixOrder.{prefix_cmp}
+use Rattle.rib_in.specs.LatestRoutes.{HasRoute, RouteTable, is_route, route_at}
 use Rattle.loc_rib.specs.RibTables.{AreRoomy}
 
 -- Routes with places for their candidates.
@@ -65,6 +73,93 @@ roomy_left adj_in old made new slot prefix h none offers places left_offers left
     routed_here s p true is now there = let never = subst (λ o. IsSome o) now there in absurd (cc)
     routed_here s p false is now there = h.routed s p (subst (λ o. IsSome o) (now ∙ offers s p) there)
 
+-- and no candidate was in it
+pub offers_left : (adj_in : RouteTable) (old made new : BookState) (slot : ℕ) (prefix : Prefix) → AreRoomy adj_in old → route_at adj_in slot prefix ≡ None
+    → ((s : ℕ) (p : Prefix) → offer_at made s p ≡ offer_at old s p) → ((s : ℕ) (p : Prefix) → offer_at new s p ≡ cond (s == slot && is_prefix prefix p) None (offer_at made s p))
+    → ((s : ℕ) (p : Prefix) → (s == slot && is_prefix prefix p) ≡ true → (s ≡ slot) × (p ≡ prefix)) → (s : ℕ) (p : Prefix) → offer_at new s p ≡ offer_at old s p
+offers_left adj_in old made new slot prefix h none offers left same s p = here (s == slot && is_prefix prefix p) refl (left s p)
+  where
+    nothing : (o : Option Candidate) → (IsSome o → ⊥) → o ≡ None
+    nothing None empty = refl
+    nothing (Some c) empty = absurd (empty refl)
+
+    never : s ≡ slot → p ≡ prefix → IsSome (offer_at old s p) → ⊥
+    never at there some =
+        let routed : IsSome (route_at adj_in s p) = h.routed s p some in
+        let absent : route_at adj_in s p ≡ None = ap (λ x. route_at adj_in x p) at ∙ ap (λ q. route_at adj_in slot q) there ∙ none in
+        let both = subst (λ o. IsSome o) absent routed in
+        cc
+
+    here : (b : Bool) → (s == slot && is_prefix prefix p) ≡ b → offer_at new s p ≡ cond b None (offer_at made s p) → offer_at new s p ≡ offer_at old s p
+    here true is now = let at = same s p is in now ∙ sym (nothing (offer_at old s p) (never at.0 at.1))
+    here false is now = now ∙ offers s p
+
+-- a place that was made for a route has it
+same_slot : (slot s : ℕ) → (slot == s) ≡ (s == slot)
+same_slot slot s =
+    elim (cases_eq s slot) [
+      | inl same ↦ eq-eqb slot s (sym same) ∙ sym (eq-eqb s slot same)
+      | inr other ↦ ne_eqb slot s (λ same. other (sym same)) ∙ sym (ne_eqb s slot other)
+    ]
+
+at_slot : (slot s : ℕ) → is_eq (nat_cmp slot s) ≡ (s == slot)
+at_slot slot s =
+    elim (cases_eq s slot) [
+      | inl same ↦ sym (ap is_eq (nat_cmp_is slot s Equal (sym same))) ∙ sym (eq-eqb s slot same)
+      | inr other ↦ apart (is_eq (nat_cmp slot s)) refl other ∙ sym (ne_eqb s slot other)
+    ]
+  where
+    apart : (b : Bool) → is_eq (nat_cmp slot s) ≡ b → (s ≡ slot → ⊥) → b ≡ false
+    apart true is other = absurd (other (sym (exact_unsigned slot s (equal_from (nat_cmp slot s) is))))
+    apart false is other = refl
+
+both_equal : (r q : Ordering) → is_eq (ordering_then r q) ≡ (is_eq q && is_eq r)
+both_equal Less Less = refl
+both_equal Less Equal = refl
+both_equal Less Greater = refl
+both_equal Equal Less = refl
+both_equal Equal Equal = refl
+both_equal Equal Greater = refl
+both_equal Greater Less = refl
+both_equal Greater Equal = refl
+both_equal Greater Greater = refl
+
+-- the route of a slot and a prefix is where its place is
+at_place : (slot : ℕ) (prefix : Prefix) (s : ℕ) (p : Prefix) → (s == slot && is_prefix prefix p) ≡ is_route slot prefix s p
+at_place slot prefix s p = ap (λ b. b && is_prefix prefix p) (sym (at_slot slot s)) ∙ sym (both_equal (prefix_cmp prefix p) (nat_cmp slot s))
+
+pub roomy_announced : (adj_in routes : RouteTable) (old made new : BookState) (slot : ℕ) (prefix : Prefix) (attrs : PathAttributes) (candidate : Option Candidate) → AreRoomy adj_in old
+    → ((s : ℕ) (p : Prefix) → route_at routes s p ≡ cond (is_route slot prefix s p) (Some attrs) (route_at adj_in s p))
+    → ((s : ℕ) (p : Prefix) → offer_at made s p ≡ offer_at old s p) → ((s : ℕ) (p : Prefix) → has_place_at made s p ≡ cond (s == slot && is_prefix prefix p) true (has_place_at old s p))
+    → ((s : ℕ) (p : Prefix) → offer_at new s p ≡ cond (is_prefix prefix p) (cond (slot == s) candidate (offer_at made s p)) (offer_at made s p))
+    → ((s : ℕ) (p : Prefix) → has_place_at new s p ≡ has_place_at made s p) → AreRoomy routes new
+roomy_announced adj_in routes old made new slot prefix attrs candidate h announced offers places changed kept = record {
+  places = λ s p.
+      kept s p
+      ∙ (places s p
+      ∙ (ap (λ b. cond b true (has_place_at old s p)) (at_place slot prefix s p)
+      ∙ (placed (is_route slot prefix s p) (has_place_at old s p) (route_at adj_in s p) (h.places s p) ∙ sym (ap is_some (announced s p)))));
+  routed = λ s p there.
+      subst (λ o. IsSome o) (sym (announced s p))
+      (routed_here s p (is_route slot prefix s p) refl (subst (λ o. IsSome o) (changed s p) there));
+}
+  where
+    placed : (b place : Bool) (o : Option PathAttributes) → place ≡ is_some o → cond b true place ≡ is_some (cond b (Some attrs) o)
+    placed true place o is = refl
+    placed false place o is = is
+
+    stays : (x y : Bool) (o : Option Candidate) → (y && x) ≡ false → cond x (cond y candidate o) o ≡ o
+    stays true true o is = absurd (cc)
+    stays true false o is = refl
+    stays false y o is = refl
+
+    routed_here : (s : ℕ) (p : Prefix) (b : Bool) → is_route slot prefix s p ≡ b → IsSome (cond (is_prefix prefix p) (cond (slot == s) candidate (offer_at made s p)) (offer_at made s p))
+        → IsSome (cond b (Some attrs) (route_at adj_in s p))
+    routed_here s p true is there = refl
+    routed_here s p false is there =
+        let apart : (slot == s && is_prefix prefix p) ≡ false = ap (λ b. b && is_prefix prefix p) (same_slot slot s) ∙ (at_place slot prefix s p ∙ is) in
+        h.routed s p (subst (λ o. IsSome o) (stays (is_prefix prefix p) (slot == s) (offer_at made s p) apart ∙ offers s p) there)
+
 -- a prefix that is kept has a route
 pub kept_routed : (adj_in : RouteTable) (book : BookState) → AreRoomy adj_in book → HasNoEmptyPrefix book → (p : Prefix) → IsSome (kept_at book p) → HasRoute adj_in p
 kept_routed adj_in book h needed p there = let place = needed p there in (place.0, is_some-to (route_at adj_in place.0 p) (sym (h.places place.0 p) ∙ place.1))
@@ -73,6 +168,11 @@ kept_routed adj_in book h needed p there = let place = needed p there in (place.
 pub on_err : {T F : Type 0} (r : Result T F) (P : Type 0) → OnErr r P → true ≡ is_err r → P
 on_err (Ok v) P p is = absurd (cc)
 on_err (Err e) P p is = p
+
+-- and of a success's
+pub on_ok : {T F : Type 0} (r : Result T F) (P : Type 0) → OnOk r P → false ≡ is_err r → P
+on_ok (Ok v) P p is = p
+on_ok (Err e) P p is = absurd (cc)
 
 -- candidates that are as others are apart as they are
 pub apart_same : (slot : ℕ) (candidate : Option Candidate) (old new : ℕ → Option Candidate) → ((s : ℕ) → new s ≡ old s) → AreApart (λ s. cond (slot == s) candidate (old s)) → AreApart (λ s. cond (slot == s) candidate (new s))

@@ -10,13 +10,13 @@ use Rattle.std.specs.List.{AllByRecursion}
 use Rattle.std.specs.List.Sorted.{IsStrictlySortedBy}
 use Rattle.std.specs.Map.{keys_of, set_value}
 use Rattle.std.specs.Option.{is_some}
-use Rattle.std.specs.Ordering.{nat_cmp, match_ordering}
-use Rattle.std.specs.declared.cmp.Ordering.{Ordering}
-use Rattle.std.specs.declared.cmp.Ordering.TheVariants.{Less, Equal, Greater}
+use Rattle.std.specs.Ordering.{nat_cmp}
+use Rattle.std.specs.declared.cmp.Ordering.TheVariants.{Less, Greater}
 use Rattle.bgp_attr.specs.PathAttributes.{PathAttributes}
 use Rattle.rib_in.specs.LatestRoutes.{RouteList}
 use Rattle.rib_in.specs.PrefixRoutes.{AreRoutes, HasRisingSlots, higher_of, is_next_only, is_only, others_of}
-use Rattle.rib_in.proofs.Ordered.{sorted-insert_entry, sorted-others}
+use Rattle.bgp_attr.proofs.EntryLists.{some-insert_entry, sorted-insert_entry}
+use Rattle.rib_in.proofs.Ordered.{sorted-others}
 
 -- the first slot, if there is one
 abbrev pub first_slot : RouteList → ℕ
@@ -84,18 +84,9 @@ put_before k s a x es b less rising is = record {
   rising = rw is (rw less at (sorted-insert_entry nat_cmp_total k a ((s, x) ∷ es) rising));
 }
 
-some_case : (k : ℕ) (a : PathAttributes) (e : ℕ × PathAttributes) (es : RouteList) (r : Ordering) → 0 < length (match_ordering r ((k, a) ∷ e ∷ es) ((e.0, a) ∷ es) (e ∷ insert_entry nat_cmp es k a))
-some_case k a e es Less = omega arith
-some_case k a e es Equal = omega arith
-some_case k a e es Greater = omega arith
-
-pub some_put : (k : ℕ) (a : PathAttributes) (es : RouteList) → 0 < length (insert_entry nat_cmp es k a)
-some_put k a [] = omega arith
-some_put k a (e ∷ es) = some_case k a e es (nat_cmp k e.0)
-
 pub put_behind : {A : Type 0} (k s : ℕ) (a x : PathAttributes) (es : RouteList) (b : Box RouteList A) → nat_cmp k s ≡ Greater → HasRisingSlots ((s, x) ∷ es) → b.value ≡ insert_entry nat_cmp es k a → AreRoutes s x (Some b)
 put_behind k s a x es b greater rising is = record {
-  any = rw is (some_put k a es);
+  any = rw is (some-insert_entry nat_cmp_total k a es);
   rising = rw is (rw greater at (sorted-insert_entry nat_cmp_total k a ((s, x) ∷ es) rising));
 }
 

@@ -15,8 +15,9 @@ use Rattle.prefix_trie.specs.TrieMap.{found, with_entry, without}
 use Rattle.bgp_attr.specs.PathAttributes.{PathAttributes}
 use Rattle.rib_in.specs.LatestRoutes.{HasNoEmptyList, RouteList, RouteTable, is_route, route_among, route_at, route_in}
 use Rattle.rib_in.specs.PrefixRoutes.{is_only, others_of, with_first}
-use Rattle.rib_in.proofs.Ordered.{equal_from, is_at-sym, lookup-insert_entry, lookup-others}
-use Rattle.rib_in.proofs.RouteLists.{any_length, no_length, some_put}
+use Rattle.bgp_attr.proofs.EntryLists.{equal_from, is_at-sym, lookup-insert_entry, some-insert_entry}
+use Rattle.rib_in.proofs.Ordered.{lookup-others}
+use Rattle.rib_in.proofs.RouteLists.{any_length, no_length}
 
 -- ---- at the prefix and elsewhere
 change_case : (old : RouteTable) (slot s : ℕ) (prefix p : Prefix) (w : Option RouteList) (a : Option PathAttributes) (r : Ordering) → prefix_cmp prefix p ≡ r
@@ -144,7 +145,7 @@ pub put_more : (slot : ℕ) (a : PathAttributes) (first routes : RouteList) (pre
     → (w : RouteList) × (w ≡ with_first routes first) × (new ≡ with_entry old prefix w) → (new ≡ with_entry old prefix (insert_entry nat_cmp routes slot a)) × HasNoEmptyList new
 put_more slot a first routes prefix old new h one u =
     let is : new ≡ with_entry old prefix (insert_entry nat_cmp routes slot a) = u.2 ∙ ap (with_entry old prefix) (u.1 ∙ ap (with_first routes) one) in
-    (is, rw is (no_empty_with prefix (insert_entry nat_cmp routes slot a) old (some_put slot a routes) h))
+    (is, rw is (no_empty_with prefix (insert_entry nat_cmp routes slot a) old (some-insert_entry nat_cmp_total slot a routes) h))
 
 pub left_after : (slot : ℕ) (routes : RouteList) (prefix : Prefix) (old new : RouteTable) → HasNoEmptyList old → is_only slot routes ≡ false
     → (w : RouteList) × (w ≡ others_of slot routes) × (new ≡ with_entry old prefix w) → (new ≡ with_entry old prefix (others_of slot routes)) × HasNoEmptyList new

@@ -5,6 +5,7 @@ use Rattle.std.proofs.lemmas.Bool.{cases_eq}
 use Rattle.std.proofs.lemmas.Grind.{common_steps}
 use Rattle.bgp_attr.specs.PathAttributes.{PathAttributes}
 use Rattle.bgp_attr.specs.AttributeFaults.{Fault}
+use Rattle.bgp_attr.specs.declared.peer.PeerKind.{PeerKind}
 use Rattle.bgp_fsm.proofs.TableLaws.{left_is}
 use Rattle.bgp_fsm.specs.SessionTable.{effects_of, session_after}
 use Rattle.bgp_fsm.specs.StateTests.{is_established}
@@ -289,20 +290,20 @@ signal_few slot h input s old new is routes chooses = by_test (effects_of input 
 stays_up : (s : Session) → is_established s.state ≡ true → (effects_of UpdateInput s).left ≡ false
 stays_up s is = grind (arith, common_steps)
 
-sound_stays : (body : List ℕ) (fault : Option Fault) (update : UpdateBody) (s : Session) → is_established s.state ≡ true → sound_update body fault ≡ Some update → (effects_of (update_input fault) s).left ≡ false
-sound_stays body None update s is some = stays_up s is
-sound_stays body (Some fault) update s is some = absurd (cc)
+sound_stays : (kind : PeerKind) (body : List ℕ) (fault : Option Fault) (update : UpdateBody) (s : Session) → is_established s.state ≡ true → sound_update kind body fault ≡ Some update → (effects_of (update_input fault) s).left ≡ false
+sound_stays kind body None update s is some = stays_up s is
+sound_stays kind body (Some fault) update s is some = absurd (cc)
 
-heard_case : (b : Bool) (body : List ℕ) (fault : Option Fault) (update : UpdateBody) (s : Session) → is_established s.state ≡ b → cond b (sound_update body fault) None ≡ Some update
+heard_case : (kind : PeerKind) (b : Bool) (body : List ℕ) (fault : Option Fault) (update : UpdateBody) (s : Session) → is_established s.state ≡ b → cond b (sound_update kind body fault) None ≡ Some update
     → (effects_of (cond b (update_input fault) UpdateInput) s).left ≡ false
-heard_case true body fault update s is some = sound_stays body fault update s is some
-heard_case false body fault update s is some = absurd (cc)
+heard_case kind true body fault update s is some = sound_stays kind body fault update s is some
+heard_case kind false body fault update s is some = absurd (cc)
 
 -- a session whose UPDATE is heard stays
 heard_stays : (s : Session) (terms : Terms) (item : Item) (update : UpdateBody) → update_heard s.state terms item ≡ Some update → (effects_of (input_of s.state terms item) s).left ≡ false
 heard_stays s terms (FaultyHeader fault) update some = absurd (cc)
 heard_stays s terms (WholeMessage Open body) update some = absurd (cc)
-heard_stays s terms (WholeMessage Update body) update some = heard_case (is_established s.state) body (update_fault (kind_of terms) body) update s refl some
+heard_stays s terms (WholeMessage Update body) update some = heard_case (kind_of terms) (is_established s.state) body (update_fault (kind_of terms) body) update s refl some
 heard_stays s terms (WholeMessage Notification body) update some = absurd (cc)
 heard_stays s terms (WholeMessage Keepalive body) update some = absurd (cc)
 

@@ -4,6 +4,7 @@ use Rattle.std.specs.Option.{option_map, option_and_then, MatchOption}
 use Rattle.std.proofs.lemmas.Bool.{cases_eq, eq-eqb, ne_eqb, leb-true}
 use Rattle.bgp_attr.specs.AttributeSpelling.{attributes_spelling}
 use Rattle.bgp_attr.specs.PathAttributes.{PathAttributes, missing_of}
+use Rattle.bgp_attr.specs.declared.peer.PeerKind.TheVariants.{External}
 use Rattle.bgp_conf.specs.Configuration.{Configuration, peer_at}
 use Rattle.bgp_conf.specs.declared.conf.ConfiguredPeer.{ConfiguredPeer}
 use Rattle.bgp_peer.specs.SessionInputs as happens
@@ -120,7 +121,7 @@ export_peer_found s t p prefix is = ap (λ found. option_and_then (λ x. export_
 
 -- what is written of the best route is good to the peer
 pub on_accepted : (b : Bool) (loc_rib : List (Prefix × Candidate)) (adj_in : RouteTable) (peer : ExportPeer) (p : Prefix) (octets : List ℕ) (c : Candidate) (attrs : PathAttributes)
-    → best_at loc_rib p ≡ Some c → route_at adj_in c.slot p ≡ Some attrs → OnTrue b (IsSender peer → missing_of attrs ≡ None → AreAccepted peer.own octets)
+    → best_at loc_rib p ≡ Some c → route_at adj_in c.slot p ≡ Some attrs → OnTrue b (IsSender peer → missing_of (External peer.own) attrs ≡ None → AreAccepted peer.own octets)
     → OnTrue b (IsAccepted loc_rib adj_in peer p octets)
 on_accepted true loc_rib adj_in peer p octets c attrs best route good = λ sender complete. good sender (complete c attrs best route)
 on_accepted false loc_rib adj_in peer p octets c attrs best route good = tt

@@ -285,7 +285,7 @@ slot_starved config peer l old new h part behind here change =
 pub starves_heard : (config : Config) (r : Run) (done : List ℕ) (slot : ℕ) (peer : ConfiguredPeer) (l : Linked) (octets behind : List ℕ) (old mid new : SpeakerState)
     → Holds config (turn (Bytes_call slot done) [] ∷ r) old → peer_at old.conf slot ≡ Some peer → link_at old.links slot ≡ Some l → transport_of l.peer.session ≡ Connected
     → 0 < length octets → length octets ≤ needed_of l.peer.rest → Pushes slot l octets old mid → (takes : TakesMemoryAt (kind_of (terms_in config peer)) (with_peer l (pushed l.peer octets))) → Moves slot (with_peer l (pushed l.peer octets)) NoMemory mid new
-    → ChoosesRefused slot (sound_update takes.body (update_fault (kind_of (terms_in config peer)) takes.body)) mid new
+    → ChoosesRefused slot (sound_update (kind_of (terms_in config peer)) takes.body (update_fault (kind_of (terms_in config peer)) takes.body)) mid new
     → (before : List ℕ) × (octet : ℕ) × (after : List ℕ) × (done ++ (octets ++ behind) ≡ before ++ octet ∷ after)
     × MayStarve (onto before (history config slot r)) octet × Holds config (turn (Starved_call slot before octet after) [] ∷ r) new
 starves_heard config r done slot peer l octets behind old mid new h configured linked connected some few pushes takes moves chooses =
@@ -312,11 +312,11 @@ starves_heard config r done slot peer l octets behind old mid new h configured l
       needs = subst (λ t. NeedsMemory (kind_of t) takes.body) (sym (ap terms_from heard.holds.terms)) takes.needs;
     } in
     let terms : terms_of heard.before ≡ terms_in config peer = ap terms_from heard.holds.terms in
-    let update : Option UpdateBody = sound_update takes.body (update_fault (kind_of (terms_in config peer)) takes.body) in
-    let is_brought : brought heard.before (Octet heard.octet) ≡ sound_update takes.body (update_fault (kind_of (terms_in config peer)) takes.body) =
+    let update : Option UpdateBody = sound_update (kind_of (terms_in config peer)) takes.body (update_fault (kind_of (terms_in config peer)) takes.body) in
+    let is_brought : brought heard.before (Octet heard.octet) ≡ sound_update (kind_of (terms_in config peer)) takes.body (update_fault (kind_of (terms_in config peer)) takes.body) =
     ap (λ found. option_and_then (update_heard (session heard.before).state (terms_of heard.before)) found) may.completes
     ∙ ap (λ state. update_heard state (terms_of heard.before) (WholeMessage Update takes.body)) may.established
-    ∙ ap (λ t. sound_update takes.body (update_fault (kind_of t) takes.body)) terms in
+    ∙ ap (λ t. sound_update (kind_of t) takes.body (update_fault (kind_of t) takes.body)) terms in
     let ended : AreDifferent (λ p. IsSome (route heard.before p) ⊎ (is_among p (announced_if update) ≡ true)) chooses.ended =
     different_as (λ p. IsSome (route_at mid.adj_in slot p) ⊎ (is_among p (announced_if update) ≡ true)) (λ p. IsSome (route heard.before p) ⊎ (is_among p (announced_if update) ≡ true)) chooses.ended
     (λ p which. elim which [

@@ -5,6 +5,8 @@ use Rattle.std.specs.Option.{option_map}
 use Rattle.bgp_attr.specs.AsPath.{PathSegment}
 use Rattle.bgp_attr.specs.PathAttributes.{PathAttributes, missing_of}
 use Rattle.bgp_attr.specs.declared.attrs.Origin.{Origin}
+use Rattle.bgp_attr.specs.declared.peer.PeerKind.TheVariants.{External}
+use Rattle.net_prefix.specs.declared.asn.Asn.{Asn}
 use Rattle.bgp_conf.specs.Configuration.{Configuration, peer_at}
 use Rattle.bgp_conf.specs.declared.conf.ConfiguredPeer.{ConfiguredPeer}
 use Rattle.bgp_fsm.specs.SessionTable.{effects_of}
@@ -79,23 +81,23 @@ tables_queued config call r queue slot u = λ i. record {
 }
 
 -- a candidate's route lacks nothing
-nothing_missing : (attrs : PathAttributes) (origin : Origin) (path : List PathSegment) (next_hop : ℕ) → attrs.origin ≡ Some origin → attrs.as_path ≡ Some path → attrs.next_hop ≡ Some next_hop
-    → missing_of attrs ≡ None
-nothing_missing attrs origin path next_hop some_origin some_path some_next_hop = rw (some_origin, some_path, some_next_hop) refl
+nothing_missing : (own : Asn) (attrs : PathAttributes) (origin : Origin) (path : List PathSegment) (next_hop : ℕ) → attrs.origin ≡ Some origin → attrs.as_path ≡ Some path → attrs.next_hop ≡ Some next_hop
+    → missing_of (External own) attrs ≡ None
+nothing_missing own attrs origin path next_hop some_origin some_path some_next_hop = rw (some_origin, some_path, some_next_hop) refl
 
 same_attrs : (a b : PathAttributes) → Some a ≡ Some b → a ≡ b
 same_attrs a b is = cc
 
-candidate_complete : (t : Tables) (p : Prefix) (c : Candidate) (attrs : PathAttributes) → IsCandidate t p c → t.routes c.slot p ≡ Some attrs → missing_of attrs ≡ None
-candidate_complete t p c attrs is route_is =
+candidate_complete : (own : Asn) (t : Tables) (p : Prefix) (c : Candidate) (attrs : PathAttributes) → IsCandidate t p c → t.routes c.slot p ≡ Some attrs → missing_of (External own) attrs ≡ None
+candidate_complete own t p c attrs is route_is =
     let same : is.attrs ≡ attrs = same_attrs is.attrs attrs (sym is.route ∙ route_is) in
-    subst (λ a. missing_of a ≡ None) same (nothing_missing is.attrs c.origin is.made.path is.made.next_hop is.made.origin_is is.made.path_is is.made.next_hop_is)
+    subst (λ a. missing_of (External own) a ≡ None) same (nothing_missing own is.attrs c.origin is.made.path is.made.next_hop is.made.origin_is is.made.path_is is.made.next_hop_is)
 
-best_complete : (s : SpeakerState) (p : Prefix) → IsLocRib (tables_of s) s.loc_rib → (c : Candidate) (attrs : PathAttributes) → best_at s.loc_rib p ≡ Some c → route_at s.adj_in c.slot p ≡ Some attrs
-    → missing_of attrs ≡ None
-best_complete s p chosen c attrs best =
+best_complete : (own : Asn) (s : SpeakerState) (p : Prefix) → IsLocRib (tables_of s) s.loc_rib → (c : Candidate) (attrs : PathAttributes) → best_at s.loc_rib p ≡ Some c → route_at s.adj_in c.slot p ≡ Some attrs
+    → missing_of (External own) attrs ≡ None
+best_complete own s p chosen c attrs best =
     let B : Option Candidate → Type 0 = λ found. MatchOption found (HasNoCandidate (tables_of s) p) (λ c. IsBest (tables_of s) p c) in
-    candidate_complete (tables_of s) p c attrs (best_candidate (tables_of s) p c (subst B best (chosen.best p)))
+    candidate_complete own (tables_of s) p c attrs (best_candidate (tables_of s) p c (subst B best (chosen.best p)))
 
 -- the octets that the export to a slot has are good to its peer
 abbrev pub Accepts : SpeakerState → ℕ → Prefix → Option (List ℕ) → Type 0
@@ -106,7 +108,7 @@ is_good : (config : Config) (r : Run) (s : SpeakerState) (slot : ℕ) (p : Prefi
 is_good config r s slot p export peer holds chosen configured accepts a some =
     let own : s.conf.own ≡ config.asn = ap (λ (c : Configuration). c.own) holds.conf ∙ own_is config r in
     subst (λ asn. AreAccepted asn a) own
-    (accepts a some peer configured (record { own = rw own holds.peers.0; local = (holds.peers.1 slot peer configured).local }) (best_complete s p chosen))
+    (accepts a some peer configured (record { own = rw own holds.peers.0; local = (holds.peers.1 slot peer configured).local }) (best_complete s.conf.own s p chosen))
 
 -- an UPDATE that says of a prefix what the export has and the peer doesn't hold is owed
 is_owed : (config : Config) (r : Run) (s : SpeakerState) (slot : ℕ) (p : Prefix) (export : Option (List ℕ)) (peer : ConfiguredPeer) (l : Linked) → Holds config r s

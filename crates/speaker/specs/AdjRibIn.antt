@@ -1,9 +1,10 @@
 -- The latest route of a peer to each prefix: Adj-RIB-In (RFC 4271 section 3.2).
 use Rattle.std.specs.Prelude.{◌≡◌, ◌&&◌, ℕ, Bool, not, List, [], ◌∷◌, Option, Some, None, if◌then◌else◌}
 use Rattle.std.specs.List.{list_any}
-use Rattle.std.specs.Option.{IsSome, option_and_then}
+use Rattle.std.specs.Option.{option_and_then}
 use Rattle.std.specs.Ordering.{is_eq}
 use Rattle.bgp_attr.specs.AttributeFaults.{Fault}
+use Rattle.bgp_attr.specs.AttributeReading.{NeedMemory}
 use Rattle.bgp_attr.specs.PathAttributes.{PathAttributes}
 use Rattle.bgp_attr.specs.declared.peer.PeerKind.{PeerKind}
 use Rattle.bgp_fsm.specs.declared.state.State.{State}
@@ -35,20 +36,21 @@ abbrev pub word_if : Option UpdateBody → Prefix → Option PathAttributes → 
 word_if None prefix before = before
 word_if (Some update) prefix before = word_of update prefix before
 
--- memory is taken for an UPDATE that has an AS_PATH, and no fault in its lengths, withdrawn prefixes and attributes
+-- memory is taken for an UPDATE that has an AS_PATH or unknown attributes that are passed on, and no fault in its
+-- lengths, withdrawn prefixes and attributes
 abbrev pub NeedsMemory : PeerKind → List ℕ → Type 0
-NeedsMemory kind body = (fault_before_memory kind (update_parts body) ≡ None) × IsSome (update_in body).attrs.as_path
+NeedsMemory kind body = (fault_before_memory kind (update_parts body) ≡ None) × NeedMemory (update_in kind body).attrs
 
 -- an UPDATE without a fault
-abbrev pub sound_update : List ℕ → Option Fault → Option UpdateBody
-sound_update body None = Some (update_in body)
-sound_update body (Some fault) = None
+abbrev pub sound_update : PeerKind → List ℕ → Option Fault → Option UpdateBody
+sound_update kind body None = Some (update_in kind body)
+sound_update kind body (Some fault) = None
 
 -- the UPDATE that an item of the stream is to a session in this state: a faultless one, while the session is Established
 abbrev pub update_heard : State → Terms → Item → Option UpdateBody
 update_heard state terms (FaultyHeader fault) = None
 update_heard state terms (WholeMessage Open body) = None
-update_heard state terms (WholeMessage Update body) = if is_established state then sound_update body (update_fault (kind_of terms) body) else None
+update_heard state terms (WholeMessage Update body) = if is_established state then sound_update (kind_of terms) body (update_fault (kind_of terms) body) else None
 update_heard state terms (WholeMessage Notification body) = None
 update_heard state terms (WholeMessage Keepalive body) = None
 

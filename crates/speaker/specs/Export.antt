@@ -2,6 +2,7 @@
 use Rattle.std.specs.Prelude.{◌≡◌, ◌⊎◌, ℕ, List, Option, Some, None}
 use Rattle.std.specs.Option.{option_and_then}
 use Rattle.bgp_attr.specs.PathAttributes.{PathAttributes, missing_of}
+use Rattle.bgp_attr.specs.declared.peer.PeerKind.TheVariants.{External}
 use Rattle.bgp_conf.specs.Configuration.{Configuration, peer_at}
 use Rattle.bgp_conf.specs.declared.conf.ConfiguredPeer.{ConfiguredPeer}
 use Rattle.decision.specs.declared.candidate.Candidate.{Candidate}
@@ -38,5 +39,5 @@ export_to s slot prefix = option_and_then (λ peer. export_in (best_at s.loc_rib
 abbrev pub IsAccepted : List (Prefix × Candidate) → RouteTable → ExportPeer → Prefix → List ℕ → Type 0
 IsAccepted loc_rib adj_in peer prefix octets =
     IsSender peer
-    → ((c : Candidate) (attrs : PathAttributes) → best_at loc_rib prefix ≡ Some c → route_at adj_in c.slot prefix ≡ Some attrs → missing_of attrs ≡ None)
+    → ((c : Candidate) (attrs : PathAttributes) → best_at loc_rib prefix ≡ Some c → route_at adj_in c.slot prefix ≡ Some attrs → missing_of (External peer.own) attrs ≡ None)
     → AreAccepted peer.own octets

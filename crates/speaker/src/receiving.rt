@@ -71,7 +71,7 @@ pub fn take_front<'r, A: Allocator + Clone, B: Book<A>>(
     ensures chosen { OnOk result ((terms : Terms) → AreOf terms sender
         → routing.new.chosen ≤ routing.old.chosen + named_if (option_and_then (update_heard link.now.peer.session.state terms) (meaning link.now.peer.rest))) }
     ensures rises { routing.old.chosen ≤ routing.new.chosen }
-    ensures part { OnErr result ((body : List ℕ) → meaning link.now.peer.rest ≡ Some (WholeMessage UpdateMessage body) → IsPart sender.slot (sound_update body (update_fault sender.kind body)) routing.old routing.new) }
+    ensures part { OnErr result ((body : List ℕ) → meaning link.now.peer.rest ≡ Some (WholeMessage UpdateMessage body) → IsPart sender.slot (sound_update sender.kind body (update_fault sender.kind body)) routing.old routing.new) }
 {
     match link.peer.front() {
         Step::Need => Ok(None),
@@ -109,7 +109,7 @@ fn judge<'r, A: Allocator + Clone, B: Book<A>>(
     ensures chosen { OnOk result ((terms : Terms) → AreOf terms sender
         → routing.new.chosen ≤ routing.old.chosen + named_if (update_heard state terms (WholeMessage frame.entry.kind frame.entry.body.now))) }
     ensures rises { routing.old.chosen ≤ routing.new.chosen }
-    ensures part { OnErr result (IsPart sender.slot (sound_update frame.entry.body.now (update_fault sender.kind frame.entry.body.now)) routing.old routing.new) }
+    ensures part { OnErr result (IsPart sender.slot (sound_update sender.kind frame.entry.body.now (update_fault sender.kind frame.entry.body.now)) routing.old routing.new) }
 {
     match (frame.kind, state) {
         (MessageType::Open, State::OpenSent) => Ok(judge_open(frame.body, sender.expected, room)),
@@ -154,13 +154,13 @@ fn judge_update<'r, A: Allocator + Clone, B: Book<A>>(
     ensures sound { IsSound conf.now (offer_at routing.new.book) }
     ensures marked { AreMarked conf.now links.now.entries routing.new }
     ensures input { IfOk result (λ found. found ≡ update_input (update_fault sender.kind body.now)) }
-    ensures routes { OnOk result (IsHeard sender.slot (sound_update body.now (update_fault sender.kind body.now)) routing.old.adj_in routing.new.adj_in) }
+    ensures routes { OnOk result (IsHeard sender.slot (sound_update sender.kind body.now (update_fault sender.kind body.now)) routing.old.adj_in routing.new.adj_in) }
     ensures kept { OnOk result (KeepsHeard conf.now sender Established routing.old routing.new) }
     ensures others { OnErr result (KeepsOthers sender.slot routing.old routing.new) }
     ensures memory { OnErr result (NeedsMemory sender.kind body.now) }
-    ensures chosen { OnOk result (routing.new.chosen ≤ routing.old.chosen + named_if (sound_update body.now (update_fault sender.kind body.now))) }
+    ensures chosen { OnOk result (routing.new.chosen ≤ routing.old.chosen + named_if (sound_update sender.kind body.now (update_fault sender.kind body.now))) }
     ensures rises { routing.old.chosen ≤ routing.new.chosen }
-    ensures part { OnErr result (IsPart sender.slot (sound_update body.now (update_fault sender.kind body.now)) routing.old routing.new) }
+    ensures part { OnErr result (IsPart sender.slot (sound_update sender.kind body.now (update_fault sender.kind body.now)) routing.old routing.new) }
 {
     match read_update(alloc, body, sender.kind) {
         Ok(update) => {

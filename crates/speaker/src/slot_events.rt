@@ -111,7 +111,7 @@ impl<A: Allocator + Clone, B: Book<A>> Speaker<A, B> {
         ensures taken { OnOk result ((l : Linked) (peer : ThePeer) → link_at self.old.links slot ≡ Some l → peer_at self.old.conf slot ≡ Some peer
             → TakesItem slot (terms_in self.old.config peer) l (meaning l.peer.rest) self.old self.new) }
         ensures starved { OnErr result ((l : Linked) (peer : ThePeer) → link_at self.old.links slot ≡ Some l → peer_at self.old.conf slot ≡ Some peer
-            → (takes : TakesMemoryAt (kind_of (terms_in self.old.config peer)) l) × Moves slot l NoMemory self.old self.new × ChoosesRefused slot (sound_update takes.body (update_fault (kind_of (terms_in self.old.config peer)) takes.body)) self.old self.new) }
+            → (takes : TakesMemoryAt (kind_of (terms_in self.old.config peer)) l) × Moves slot l NoMemory self.old self.new × ChoosesRefused slot (sound_update (kind_of (terms_in self.old.config peer)) takes.body (update_fault (kind_of (terms_in self.old.config peer)) takes.body)) self.old self.new) }
         ensures counted { self.new.chosen_before ≡ self.old.chosen_before }
         ensures rises { self.old.chosen ≤ self.new.chosen }
         ensures within { OnErr result (slot < 64) }

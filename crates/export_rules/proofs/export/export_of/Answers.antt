@@ -13,5 +13,5 @@ returns-clause-some g c =
 
 pub returns-clause-accepted : goal.returns-clause-accepted
 returns-clause-accepted g c =
-    told_accepted c.write_fitting.result c.write_fitting.new.out.items c.args.attrs.now c.args.peer.now c.exported.ensures.own c.exported.ensures.local c.exported.ensures.lawful
+    told_accepted c.write_fitting.result c.write_fitting.new.out.items c.args.attrs.now c.args.peer.now c.exported.ensures.own c.exported.ensures.local c.exported.ensures.lawful c.exported.ensures.small c.exported.ensures.passed_on
     (subst (λ sent. Tells c.write_fitting.result c.write_fitting.new.out.items (fitting (attributes_spelling sent))) c.exported.ensures.value c.write_fitting.ensures.fitting)

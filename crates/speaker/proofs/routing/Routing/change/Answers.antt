@@ -12,3 +12,6 @@ refresh-requires-clause-marked g c =
     let new : RoutingState = record { adj_in = c.change.new.self.adj_in; book = c.change.new.self.book; chosen = c.change.new.self.chosen; waiting = c.self.inside.waiting } in
     marked_but c.args.conf.now c.args.links.now.entries c.args.prefix old new marked (λ s p. refl) c.change.ensures.others (λ s p other. ap (λ t. route_at t s p) c.change.ensures.routes)
     (λ s p some. marked.there.known s p (subst (λ t. IsSome (route_at t s p)) c.change.ensures.routes some)) (λ p other. refl)
+
+pub change-requires-clause-apart : goal.change-requires-clause-apart
+change-requires-clause-apart g c = rw (← c.self.view_is) at c.requires.apart

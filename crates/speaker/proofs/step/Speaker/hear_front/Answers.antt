@@ -51,7 +51,7 @@ returns-in_err-take_message-clause-starved g c =
     let starved = c.in_err-take_message.ensures.starved (with_peer found.0 (pushed found.0.peer (take c.push-taken.result c.args.octets.now))) peer
     (put_here c.args.slot (with_peer found.0 (pushed found.0.peer (take c.push-taken.result c.args.octets.now))) c.args.self.now c.push-taken.new.self pushes.links)
     (ap (λ x. peer_at x c.args.slot) pushes.rest.conf ∙ configured) in
-    let K : Config → Type 0 = λ x. (takes : TakesMemoryAt (kind_of (terms_in x peer)) (with_peer found.0 (pushed found.0.peer (take c.push-taken.result c.args.octets.now)))) × ChoosesRefused c.args.slot (sound_update takes.body (update_fault (kind_of (terms_in x peer)) takes.body)) c.push-taken.new.self c.take_message.new.self in
+    let K : Config → Type 0 = λ x. (takes : TakesMemoryAt (kind_of (terms_in x peer)) (with_peer found.0 (pushed found.0.peer (take c.push-taken.result c.args.octets.now)))) × ChoosesRefused c.args.slot (sound_update (kind_of (terms_in x peer)) takes.body (update_fault (kind_of (terms_in x peer)) takes.body)) c.push-taken.new.self c.take_message.new.self in
     let needs = subst K (pushes.rest.config ∙ holds.config_is) (starved.0, starved.2) in
     let until = starves_heard config r done c.args.slot peer found.0 (take c.push-taken.result c.args.octets.now) (drop c.push-taken.result c.args.octets.now) c.args.self.now c.push-taken.new.self c.take_message.new.self
     holds configured found.1 open_ some few pushes needs.0 starved.1 needs.1 in

@@ -60,12 +60,12 @@ returns-in-Err-clause-starved g c = λ l peer linked configured.
     let peer_same : c.in-Some.peer ≡ peer = some_same _ _ _ c.in-Some.ensures configured_here in
     let kind : c.between.result ≡ kind_of (terms_in c.self.inside.config c.in-Some.peer) = c.between.ensures in
     let takes : TakesMemoryAt (kind_of (terms_in c.self.inside.config c.in-Some.peer)) l = subst (λ k. TakesMemoryAt k l) kind (subst (λ x. TakesMemoryAt c.between.result x) same c.in-Err.ensures.memory) in
-    let part = subst (λ k. IsPart c.args.slot (sound_update takes.body (update_fault k takes.body)) c.self.inside.routing c.take_front.new.routing) kind (c.in-Err.ensures.part takes.body (ap (λ (x : Linked). meaning x.peer.rest) same ∙ takes.is)) in
+    let part = subst (λ k. IsPart c.args.slot (sound_update k takes.body (update_fault k takes.body)) c.self.inside.routing c.take_front.new.routing) kind (c.in-Err.ensures.part takes.body (ap (λ (x : Linked). meaning x.peer.rest) same ∙ takes.is)) in
     rw (← peer_same, ← c.self.view_is) (
       takes,
       starves c.args.slot l _ _ _ takes.established (λ s. refl) (λ s p other. c.in-Err.ensures.others.routes s p other) (λ s p other. c.in-Err.ensures.others.offers s p other)
           (record { config = refl; moment = refl; conf = refl; chosen_before = refl }) (c.input.ensures.moves l linked_here),
-      refused_chosen c.args.slot (sound_update takes.body (update_fault (kind_of (terms_in c.self.inside.config c.in-Some.peer)) takes.body)) (effects_of NoMemory l.peer.session).left _ _ _ (rw takes.established refl) part.routes part.chosen (c.input.ensures.chosen l linked_here),
+      refused_chosen c.args.slot (sound_update (kind_of (terms_in c.self.inside.config c.in-Some.peer)) takes.body (update_fault (kind_of (terms_in c.self.inside.config c.in-Some.peer)) takes.body)) (effects_of NoMemory l.peer.session).left _ _ _ (rw takes.established refl) part.routes part.chosen (c.input.ensures.chosen l linked_here),
     )
 
 pub returns-in-Err-clause-within : goal.returns-in-Err-clause-within
