@@ -71,7 +71,7 @@ has_address-from_accepted conf closing slot peer h = (tests_false conf closing s
 pub external-from_accepted : (conf : Configuration) (closing slot : ℕ) (peer : PeerConf) → first_refusal conf closing (AddPeer slot peer) ≡ None → (peer.asn.0 == conf.own.0) ≡ false
 external-from_accepted conf closing slot peer h =
     let inside = not_missed _ (tests_false conf closing slot peer h).3 in
-    not_held _ (and_right _ _ (and_left _ _ (and_left _ _ (and_left _ _ (and_left _ _ (and_left _ _ (and_left _ _ (and_left _ _ inside))))))))
+    not_held _ (and_right _ _ (and_left _ _ (and_left _ _ (and_left _ _ (and_left _ _ (and_left _ _ (and_left _ _ inside)))))))
 
 -- and sees of us the address of a host
 pub is_host-from_accepted : (conf : Configuration) (closing slot : ℕ) (peer : PeerConf) → first_refusal conf closing (AddPeer slot peer) ≡ None → is_host peer.local ≡ true

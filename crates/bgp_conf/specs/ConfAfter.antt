@@ -6,7 +6,7 @@ use Rattle.net_prefix.specs.declared.prefix.Prefix.{Prefix}
 use Rattle.bgp_conf.specs.declared.conf.ConfiguredPeer.{ConfiguredPeer}
 use Rattle.bgp_conf.specs.declared.command.PeerConf.{PeerConf}
 use Rattle.bgp_conf.specs.declared.command.Command.{Command}
-use Rattle.bgp_conf.specs.declared.command.Command.TheVariants.{AddPeer, Enable, Reach}
+use Rattle.bgp_conf.specs.declared.command.Command.TheVariants.{AddPeer, Enable, Disable, Reach}
 use Rattle.net_prefix.specs.PrefixOrder.{prefix_cmp}
 use Rattle.bgp_conf.specs.Configuration.{Configuration, peer_at, entry_at}
 
@@ -20,6 +20,7 @@ abbrev pub conf_after : Configuration → Command → Configuration
 conf_after configuration (AddPeer slot peer) =
     record configuration { peers = insert_entry nat_cmp configuration.peers slot (configured_of peer) }
 conf_after configuration (Enable slot) = configuration
+conf_after configuration (Disable slot) = configuration
 conf_after configuration (Reach prefix cost) =
     record configuration { reach = insert_entry prefix_cmp configuration.reach prefix cost }
 
@@ -28,12 +29,14 @@ abbrev pub peer_after : Configuration → Command → ℕ → Option ConfiguredP
 peer_after configuration (AddPeer slot peer) other =
     if other == slot then Some (configured_of peer) else peer_at configuration other
 peer_after configuration (Enable slot) other = peer_at configuration other
+peer_after configuration (Disable slot) other = peer_at configuration other
 peer_after configuration (Reach prefix cost) other = peer_at configuration other
 
 -- a prefix's entry after a command: its own Reach sets it, and every other command leaves it
 abbrev pub entry_after : Configuration → Command → Prefix → Option ℕ
 entry_after configuration (AddPeer slot peer) other = entry_at configuration.reach other
 entry_after configuration (Enable slot) other = entry_at configuration.reach other
+entry_after configuration (Disable slot) other = entry_at configuration.reach other
 entry_after configuration (Reach prefix cost) other =
     if other.bits == prefix.bits && other.len == prefix.len then Some cost else entry_at configuration.reach other
 
@@ -41,4 +44,5 @@ entry_after configuration (Reach prefix cost) other =
 abbrev pub TakesMemory : Configuration → Command → Type 0
 TakesMemory configuration (AddPeer slot peer) = peer_at configuration slot ≡ None
 TakesMemory configuration (Enable slot) = ⊥
+TakesMemory configuration (Disable slot) = ⊥
 TakesMemory configuration (Reach prefix cost) = entry_at configuration.reach prefix ≡ None

@@ -5,13 +5,11 @@ use Rattle.std.specs.Map.{values_of}
 use Rattle.std.specs.Str.{bytes_eq}
 use Rattle.net_prefix.specs.declared.asn.Asn.{Asn}
 use Rattle.bgp_attr.specs.AttributeFaults.{is_host}
-use Rattle.bgp_attr.specs.declared.peer.Mode.{Mode}
-use Rattle.bgp_attr.specs.declared.peer.Mode.TheVariants.{Active, Passive}
 use Rattle.bgp_conf.specs.declared.conf.ConfiguredPeer.{ConfiguredPeer}
 use Rattle.bgp_conf.specs.declared.conf.TheConstants.{PEER_SLOTS, MAX_REACH, MAX_NAME}
 use Rattle.bgp_conf.specs.declared.command.PeerConf.{PeerConf}
 use Rattle.bgp_conf.specs.declared.command.Command.{Command}
-use Rattle.bgp_conf.specs.declared.command.Command.TheVariants.{AddPeer, Enable, Reach}
+use Rattle.bgp_conf.specs.declared.command.Command.TheVariants.{AddPeer, Enable, Disable, Reach}
 use Rattle.bgp_conf.specs.declared.refusal.Refusal.{Refusal}
 use Rattle.bgp_conf.specs.declared.refusal.Refusal.TheVariants.{UnknownName, TooMany, Range, BadSlot, SlotTaken, AddressTaken}
 use Rattle.bgp_conf.specs.Configuration.{Configuration, peer_at, entry_at}
@@ -33,18 +31,12 @@ is_policy_name text = not (length text == 0) && nat_le (length text) MAX_NAME &&
 abbrev pub is_known : List ℕ → Bool
 is_known name = bytes_eq name (codes "all")
 
--- the peer connects
-abbrev pub is_passive : Mode → Bool
-is_passive Passive = true
-is_passive Active = false
-
--- an external peer that connects, an address of our own that it can have as next hop, so not its own (RFC 4271 sections
+-- an external peer, an address of our own that it can have as next hop, so not its own (RFC 4271 sections
 -- 5.1.3 and 6.3), a hold time that RFC 4271 section 4.2 allows, and names
 abbrev pub is_in_range : Asn → PeerConf → Bool
 is_in_range own peer =
     not (peer.asn.0 == 0)
     && not (peer.asn.0 == own.0)
-    && is_passive peer.mode
     && is_host peer.local
     && not (peer.local == peer.address)
     && not (peer.hold == 1)
@@ -71,6 +63,8 @@ first_refusal configuration closing (AddPeer slot peer) =
     ∷ (not (is_known peer.import.now) || not (is_known peer.export.now), UnknownName)
     ∷ [])
 first_refusal configuration closing (Enable slot) =
+    first ((nat_le PEER_SLOTS slot || is_none (peer_at configuration slot), BadSlot) ∷ [])
+first_refusal configuration closing (Disable slot) =
     first ((nat_le PEER_SLOTS slot || is_none (peer_at configuration slot), BadSlot) ∷ [])
 first_refusal configuration closing (Reach prefix cost) =
     first ((is_none (entry_at configuration.reach prefix) && nat_le MAX_REACH (length configuration.reach), TooMany) ∷ [])

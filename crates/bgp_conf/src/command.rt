@@ -29,6 +29,8 @@ pub enum Command<'a> {
     AddPeer(u8, PeerConf<'a>),
     /// Starts the session of a slot's peer.
     Enable(u8),
+    /// Ends the session of a slot's peer, and starts none until the peer is enabled.
+    Disable(u8),
     /// Gives the next hops under a prefix their interior cost.
     Reach(Prefix, u32),
 }

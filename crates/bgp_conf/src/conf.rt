@@ -103,7 +103,7 @@ impl<A: Allocator + Clone> Conf<A> {
     {
         match command {
             Command::AddPeer(slot, peer) => self.check_add_peer(*slot, peer, closing),
-            Command::Enable(slot) => self.check_enable(*slot),
+            Command::Enable(slot) | Command::Disable(slot) => self.check_slot(*slot),
             Command::Reach(prefix, _) => self.check_reach(prefix),
         }
     }
@@ -124,7 +124,7 @@ impl<A: Allocator + Clone> Conf<A> {
             Command::AddPeer(slot, peer) => {
                 self.peers.insert(*slot, configured(peer))?;
             }
-            Command::Enable(_) => {}
+            Command::Enable(_) | Command::Disable(_) => {}
             Command::Reach(prefix, cost) => {
                 self.reach.insert(*prefix, *cost)?;
             }
@@ -166,7 +166,7 @@ impl<A: Allocator + Clone> Conf<A> {
         Ok(())
     }
 
-    fn check_enable(&self, slot: u8) -> Result<(), Refusal>
+    fn check_slot(&self, slot: u8) -> Result<(), Refusal>
         ensures { MatchResult result
             (λ _. first_refusal self.now 0 (Command.Enable slot) ≡ None)
             (λ refusal. first_refusal self.now 0 (Command.Enable slot) ≡ Some refusal) }
@@ -200,14 +200,12 @@ impl<A: Allocator + Clone> Conf<A> {
         self.peers.values().any(|peer| peer.address == address)
     }
 
-    // Own choice: an internal peer, a peer that this side connects to, and an address of our own that no peer would
-    // take for a next hop, are out of range.
+    // Own choice: an internal peer, and an address of our own that no peer would take for a next hop, are out of range.
     fn is_in_range(&self, peer: &PeerConf<'_>) -> bool
         ensures { result ≡ is_in_range self.now.own peer.now }
     {
         peer.asn.0 != 0
             && peer.asn.0 != self.own.0
-            && peer.mode == Mode::Passive
             && is_host(peer.local)
             && peer.local != peer.address
             && peer.hold != 1

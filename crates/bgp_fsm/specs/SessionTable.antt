@@ -1,19 +1,22 @@
 -- The session table (RFC 4271 section 8.2.2, in this profile): what a row leaves of the session, and what it does.
-use Rattle.std.specs.Prelude.{ℕ, true, false, Option, Some, None, if◌then◌else◌}
+use Rattle.std.specs.Prelude.{ℕ, min, true, false, Option, Some, None, if◌then◌else◌}
 use Rattle.bgp_attr.specs.declared.peer.Mode.{Mode}
 use Rattle.bgp_attr.specs.declared.peer.Mode.TheVariants.{Passive}
 use Rattle.bgp_attr.specs.declared.peer.Mode.TheVariants.{Active as Opener}
 use Rattle.bgp_msg.specs.declared.open_message.Open.{Open as OpenMessage}
-use Rattle.bgp_msg.specs.declared.notification.SessionError.TheVariants.{UnexpectedMessage, OutOfResources}
+use Rattle.bgp_msg.specs.declared.notification.SessionError.{SessionError}
+use Rattle.bgp_msg.specs.declared.notification.SessionError.TheVariants.{HoldTimerExpired, UnexpectedMessage, AdministrativeShutdown, PeerDeconfigured, OutOfResources}
 use Rattle.bgp_msg.specs.Notifications.{error_notification}
 use Rattle.bgp_fsm.specs.declared.state.State.{State}
 use Rattle.bgp_fsm.specs.declared.state.State.TheVariants.{Idle, Connect, Active, OpenSent, OpenConfirm, Established}
 use Rattle.bgp_fsm.specs.declared.input.Input.{Input}
-use Rattle.bgp_fsm.specs.declared.input.Input.TheVariants.{Start, Up, Fail, Open, UnexpectedOpen, Keepalive, Update, Notification, Fault, NoMemory}
+use Rattle.bgp_fsm.specs.declared.input.Input.TheVariants.{Start, Disable, Remove, Up, Fail, Open, UnexpectedOpen, Keepalive, Update, Notification, Fault, NoMemory, Expires}
 use Rattle.bgp_fsm.specs.declared.session.Outgoing.{Outgoing}
 use Rattle.bgp_fsm.specs.declared.session.Outgoing.TheVariants.{Open as OwnOpen, Keepalive as OwnKeepalive, Notification as Notify}
 use Rattle.bgp_fsm.specs.declared.session.Effects.{Effects}
 use Rattle.bgp_fsm.specs.declared.session.Session.{Session}
+use Rattle.bgp_fsm.specs.declared.timers.Timer.TheVariants.{Hold, ConnectRetry, IdleHold, Keepalive as KeepaliveTimer}
+use Rattle.bgp_fsm.specs.TimerMoments.{falling, hold_again, keepalive_again, only_connect_retry, only_hold, only_idle_hold, open_hold, opened_timers, stopped}
 use Rattle.bgp_fsm.specs.StateTests.{is_established}
 
 -- a row that does nothing beside its change of the session
@@ -40,89 +43,173 @@ leaves = record { message = None; opened = false; entered = false; left = true }
 abbrev pub leaves_saying : Outgoing → Effects
 leaves_saying message = record { message = Some message; opened = false; entered = false; left = true }
 
--- the NOTIFICATIONs of a message that the state doesn't expect, and of a want of memory
-abbrev pub unexpected : Outgoing
-unexpected = Notify (error_notification UnexpectedMessage)
-
-abbrev pub starved : Outgoing
-starved = Notify (error_notification OutOfResources)
+-- the NOTIFICATION of an error that no message holds
+abbrev pub error : SessionError → Outgoing
+error why = Notify (error_notification why)
 
 -- a session with no connection, of a peer that isn't enabled yet
 abbrev pub fresh : OpenMessage → Mode → Session
-fresh own mode = record { state = Idle; enabled = false; closing = false; identifier = 0; own = own; mode = mode }
+fresh own mode = record { state = Idle; enabled = false; closing = false; identifier = 0; hold_time = 0; timers = stopped; own = own; mode = mode }
+
+-- What a row leaves of the session. Where it starts a timer, this is by the moment at which its input comes.
+
+-- this, whatever the moment
+abbrev pub always : Session → ℕ → Session
+always s now = s
 
 -- the peer is enabled, and nothing else changes
 abbrev pub marked : Session → Session
-marked s = record { state = s.state; enabled = true; closing = s.closing; identifier = s.identifier; own = s.own; mode = s.mode }
+marked s = record s { enabled = true }
 
--- another state on the same connection, or on none, before the peer's OPEN
-abbrev pub waiting_in : State → Session → Session
-waiting_in state s = record { state = state; enabled = s.enabled; closing = false; identifier = 0; own = s.own; mode = s.mode }
+-- the peer is enabled, and its session begins after a while, since the last connection is still closing
+abbrev pub resting : Session → ℕ → Session
+resting s now = record s { enabled = true; timers = only_idle_hold now }
 
--- the session goes to Idle, and its connection has still to be closed
-abbrev pub closed : Session → Session
-closed s = record { state = Idle; enabled = s.enabled; closing = true; identifier = 0; own = s.own; mode = s.mode }
+-- the peer is disabled: no timer runs
+abbrev pub disabled : Session → Session
+disabled s = record s { enabled = false; timers = stopped }
 
--- the peer's OPEN is accepted
-abbrev pub confirmed : ℕ → Session → Session
-confirmed identifier s = record { state = OpenConfirm; enabled = s.enabled; closing = s.closing; identifier = identifier; own = s.own; mode = s.mode }
+-- the last connection is closed
+abbrev pub shut : Session → Session
+shut s = record s { closing = false }
+
+-- the peer is enabled, and its connection is opened
+abbrev pub connecting : Session → ℕ → Session
+connecting s now = record s { state = Connect; enabled = true; timers = only_connect_retry now }
+
+-- the peer is enabled, and its connection is awaited
+abbrev pub listening : Session → Session
+listening s = record s { state = Active; enabled = true; timers = stopped }
+
+-- the connection failed before the peer's OPEN came: it is opened again after a while, or awaited
+abbrev pub failed : Mode → Session → ℕ → Session
+failed Opener s now = record s { state = Active; timers = only_connect_retry now }
+failed Passive s now = record s { state = Active; timers = stopped }
+
+-- the attempt ends with the peer's
+abbrev pub given_up : Session → Session
+given_up s = record s { state = Idle; enabled = false; closing = false; timers = stopped }
+
+-- the connection stands, and the peer's OPEN is awaited
+abbrev pub awaiting : Session → ℕ → Session
+awaiting s now = record s { state = OpenSent; timers = only_hold now open_hold }
+
+-- the peer's OPEN is accepted: the hold time is the smaller of both sides'
+abbrev pub confirmed : OpenMessage → Session → ℕ → Session
+confirmed message s now = record s {
+  state = OpenConfirm;
+  identifier = message.identifier;
+  hold_time = min s.own.hold_time message.hold_time;
+  timers = opened_timers (min s.own.hold_time message.hold_time) now;
+}
 
 -- the peer's KEEPALIVE has answered our own OPEN
-abbrev pub established : Session → Session
-established s = record { state = Established; enabled = s.enabled; closing = s.closing; identifier = s.identifier; own = s.own; mode = s.mode }
+abbrev pub established : Session → ℕ → Session
+established s now = record s { state = Established; timers = hold_again s.hold_time now s.timers }
+
+-- a message has come: the hold timer begins again
+abbrev pub heard : Session → ℕ → Session
+heard s now = record s { timers = hold_again s.hold_time now s.timers }
+
+-- a KEEPALIVE goes: its timer begins again
+abbrev pub kept_alive : Session → ℕ → Session
+kept_alive s now = record s { timers = keepalive_again s.hold_time now s.timers }
+
+-- the connection failed behind the peer's OPEN
+abbrev pub fallen : Session → ℕ → Session
+fallen s now = record s { state = Idle; closing = false; identifier = 0; hold_time = 0; timers = falling s.enabled now }
+
+-- the session goes to Idle, and its connection has still to be closed
+abbrev pub closed : Session → ℕ → Session
+closed s now = record s { state = Idle; closing = true; identifier = 0; hold_time = 0; timers = falling s.enabled now }
+
+-- the same, and the peer is disabled
+abbrev pub ended : Session → Session
+ended s = record s { state = Idle; enabled = false; closing = true; identifier = 0; hold_time = 0; timers = stopped }
 
 -- an enabled peer without a connection begins: it opens the connection or listens for it
-abbrev pub begun : Mode → Session → Session × Effects
-begun Opener s = (waiting_in Connect (marked s), begins)
-begun Passive s = (waiting_in Active (marked s), nothing)
+abbrev pub begun : Mode → Session → (ℕ → Session) × Effects
+begun Opener s = (connecting s, begins)
+begun Passive s = (always (listening s), nothing)
 
--- a connection comes, which only a passive peer awaits
-abbrev pub connected : Mode → Session → Session × Effects
-connected Opener s = (s, nothing)
-connected Passive s = (waiting_in OpenSent s, says (OwnOpen s.own))
+-- the same, or after a while where the last connection is still closing
+abbrev pub started : Session → (ℕ → Session) × Effects
+started s = if s.closing then (resting s, nothing) else begun s.mode s
 
--- the table
-abbrev pub row_at : State → Input → Session → Session × Effects
-row_at Idle Start s = if s.closing then (marked s, nothing) else begun s.mode s
-row_at Idle Fail s = (waiting_in Idle s, nothing)
-row_at Connect Start s = (marked s, nothing)
-row_at Active Start s = (marked s, nothing)
-row_at Active Up s = connected s.mode s
-row_at OpenSent Start s = (marked s, nothing)
-row_at OpenSent (Open message) s = (confirmed message.identifier s, says OwnKeepalive)
-row_at OpenSent Fail s = (waiting_in Active s, nothing)
-row_at OpenSent UnexpectedOpen s = (closed s, says unexpected)
-row_at OpenSent Keepalive s = (closed s, says unexpected)
-row_at OpenSent Update s = (closed s, says unexpected)
+-- a connection comes in Active, which only a passive peer awaits
+abbrev pub accepted : Mode → Session → (ℕ → Session) × Effects
+accepted Opener s = (always s, nothing)
+accepted Passive s = (awaiting s, says (OwnOpen s.own))
+
+-- an active peer's connection is opened again
+abbrev pub reopened : Mode → Session → (ℕ → Session) × Effects
+reopened Opener s = (connecting s, begins)
+reopened Passive s = (always s, nothing)
+
+-- the table: what the row leaves of the session, by the moment, and what it does beside it
+abbrev pub row_at : State → Input → Session → (ℕ → Session) × Effects
+row_at Idle Start s = started s
+row_at Idle Disable s = (always (disabled s), nothing)
+row_at Idle Remove s = (always (disabled s), nothing)
+row_at Idle Fail s = (always (shut s), nothing)
+row_at Idle (Expires IdleHold) s = started s
+row_at Connect Start s = (always (marked s), nothing)
+row_at Connect Disable s = (always (given_up s), nothing)
+row_at Connect Remove s = (always (given_up s), nothing)
+row_at Connect Up s = (awaiting s, says (OwnOpen s.own))
+row_at Connect Fail s = (failed Opener s, nothing)
+row_at Connect (Expires ConnectRetry) s = (connecting s, begins)
+row_at Active Start s = (always (marked s), nothing)
+row_at Active Disable s = (always (given_up s), nothing)
+row_at Active Remove s = (always (given_up s), nothing)
+row_at Active Up s = accepted s.mode s
+row_at Active (Expires ConnectRetry) s = reopened s.mode s
+row_at OpenSent Start s = (always (marked s), nothing)
+row_at OpenSent Disable s = (always (ended s), says (error AdministrativeShutdown))
+row_at OpenSent Remove s = (always (ended s), says (error PeerDeconfigured))
+row_at OpenSent Fail s = (failed s.mode s, nothing)
+row_at OpenSent (Open message) s = (confirmed message s, says OwnKeepalive)
+row_at OpenSent UnexpectedOpen s = (closed s, says (error UnexpectedMessage))
+row_at OpenSent Keepalive s = (closed s, says (error UnexpectedMessage))
+row_at OpenSent Update s = (closed s, says (error UnexpectedMessage))
 row_at OpenSent Notification s = (closed s, nothing)
 row_at OpenSent (Fault told) s = (closed s, says (Notify told))
-row_at OpenSent NoMemory s = (closed s, says starved)
-row_at OpenConfirm Start s = (marked s, nothing)
+row_at OpenSent NoMemory s = (closed s, says (error OutOfResources))
+row_at OpenSent (Expires Hold) s = (closed s, says (error HoldTimerExpired))
+row_at OpenConfirm Start s = (always (marked s), nothing)
+row_at OpenConfirm Disable s = (always (ended s), says (error AdministrativeShutdown))
+row_at OpenConfirm Remove s = (always (ended s), says (error PeerDeconfigured))
+row_at OpenConfirm Fail s = (fallen s, nothing)
+row_at OpenConfirm (Open message) s = (closed s, says (error UnexpectedMessage))
+row_at OpenConfirm UnexpectedOpen s = (closed s, says (error UnexpectedMessage))
 row_at OpenConfirm Keepalive s = (established s, enters)
-row_at OpenConfirm Fail s = (waiting_in Idle s, nothing)
-row_at OpenConfirm (Open message) s = (closed s, says unexpected)
-row_at OpenConfirm UnexpectedOpen s = (closed s, says unexpected)
-row_at OpenConfirm Update s = (closed s, says unexpected)
+row_at OpenConfirm Update s = (closed s, says (error UnexpectedMessage))
 row_at OpenConfirm Notification s = (closed s, nothing)
 row_at OpenConfirm (Fault told) s = (closed s, says (Notify told))
-row_at OpenConfirm NoMemory s = (closed s, says starved)
-row_at Established Start s = (marked s, nothing)
-row_at Established Keepalive s = (s, nothing)
-row_at Established Update s = (s, nothing)
-row_at Established Fail s = (waiting_in Idle s, leaves)
-row_at Established (Open message) s = (closed s, leaves_saying unexpected)
-row_at Established UnexpectedOpen s = (closed s, leaves_saying unexpected)
+row_at OpenConfirm NoMemory s = (closed s, says (error OutOfResources))
+row_at OpenConfirm (Expires Hold) s = (closed s, says (error HoldTimerExpired))
+row_at OpenConfirm (Expires KeepaliveTimer) s = (kept_alive s, says OwnKeepalive)
+row_at Established Start s = (always (marked s), nothing)
+row_at Established Disable s = (always (ended s), leaves_saying (error AdministrativeShutdown))
+row_at Established Remove s = (always (ended s), leaves_saying (error PeerDeconfigured))
+row_at Established Fail s = (fallen s, leaves)
+row_at Established (Open message) s = (closed s, leaves_saying (error UnexpectedMessage))
+row_at Established UnexpectedOpen s = (closed s, leaves_saying (error UnexpectedMessage))
+row_at Established Keepalive s = (heard s, nothing)
+row_at Established Update s = (heard s, nothing)
 row_at Established Notification s = (closed s, leaves)
 row_at Established (Fault told) s = (closed s, leaves_saying (Notify told))
-row_at Established NoMemory s = (closed s, leaves_saying starved)
+row_at Established NoMemory s = (closed s, leaves_saying (error OutOfResources))
+row_at Established (Expires Hold) s = (closed s, leaves_saying (error HoldTimerExpired))
+row_at Established (Expires KeepaliveTimer) s = (kept_alive s, says OwnKeepalive)
 -- any other pair of state and input is ignored
-row_at other input s = (s, nothing)
+row_at other input s = (always s, nothing)
 
--- what an input leaves of the session
-abbrev pub session_after : Input → Session → Session
-session_after input s = (row_at s.state input s).0
+-- what an input at this moment leaves of the session
+abbrev pub session_after : ℕ → Input → Session → Session
+session_after now input s = (row_at s.state input s).0 now
 
--- what an input does beside it
+-- what an input does beside it, at any moment
 abbrev pub effects_of : Input → Session → Effects
 effects_of input s = (row_at s.state input s).1
 

@@ -5,7 +5,7 @@ use Rattle.bgp_fsm.specs.declared.state.State.TheVariants.{Idle, Connect, Active
 use Rattle.bgp_fsm.specs.declared.input.Input.{Input}
 use Rattle.bgp_fsm.specs.declared.session.Outgoing.{Outgoing}
 use Rattle.bgp_fsm.specs.declared.session.Outgoing.TheVariants.{Open as OwnOpen, Keepalive as OwnKeepalive, Notification as Notify}
-use Rattle.bgp_fsm.specs.declared.input.Input.TheVariants.{Start, Up, Fail, Open, UnexpectedOpen, Keepalive, Update, Notification, Fault, NoMemory}
+use Rattle.bgp_fsm.specs.declared.input.Input.TheVariants.{Start, Disable, Remove, Up, Fail, Open, UnexpectedOpen, Keepalive, Update, Notification, Fault, NoMemory, Expires}
 
 -- routes are exchanged
 abbrev pub is_established : State → Bool
@@ -25,9 +25,11 @@ awaits_open OpenSent = true
 awaits_open OpenConfirm = false
 awaits_open Established = false
 
--- a message of the peer, and neither the operator nor the connection itself nor want of memory
+-- a message of the peer, and neither the operator nor the connection itself nor want of memory nor a timer
 abbrev pub is_message : Input → Bool
 is_message Start = false
+is_message Disable = false
+is_message Remove = false
 is_message Up = false
 is_message Fail = false
 is_message (Open message) = true
@@ -37,19 +39,7 @@ is_message Update = true
 is_message Notification = true
 is_message (Fault told) = true
 is_message NoMemory = false
-
--- a want of memory
-abbrev pub is_want : Input → Bool
-is_want Start = false
-is_want Up = false
-is_want Fail = false
-is_want (Open message) = false
-is_want UnexpectedOpen = false
-is_want Keepalive = false
-is_want Update = false
-is_want Notification = false
-is_want (Fault told) = false
-is_want NoMemory = true
+is_message (Expires timer) = false
 
 -- a NOTIFICATION is queued
 abbrev pub is_notification : Option Outgoing → Bool

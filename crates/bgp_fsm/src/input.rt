@@ -1,5 +1,6 @@
 //! The inputs that the session table has rows for.
 
+use crate::timers::Timer;
 use bgp_msg::{Notification, Open};
 
 /// An input of a session (the events of RFC 4271 section 8.1 that this profile has). A fault borrows the data of its
@@ -8,6 +9,10 @@ use bgp_msg::{Notification, Open};
 pub enum Input<'a> {
     /// The operator enables the peer.
     Start,
+    /// The operator disables the peer.
+    Disable,
+    /// The operator removes the peer.
+    Remove,
     /// The connection stands.
     Up,
     /// The connection, or the attempt, has failed.
@@ -26,4 +31,6 @@ pub enum Input<'a> {
     Fault(Notification<'a>),
     /// Memory was refused to what the session needs.
     NoMemory,
+    /// A timer has ended.
+    Expires(Timer),
 }

@@ -1,5 +1,9 @@
 //! Laws of the session table, in the words of RFC 4271 section 8.2.2. Each is the contract of an empty function.
-ghost use Rattle.bgp_fsm.specs.Laws.{EstablishedBegins, EnteredTells, LeftTells, OpenAnswersUp, ClosesWhatIsOpen, ClosingIsTold, NotificationsClose, NotificationIsUnanswered};
+ghost use Rattle.bgp_fsm.specs.Laws.{EstablishedBegins, EnteredTells, LeftTells, OpenAnswersUp, ClosesWhatIsOpen, ClosingIsTold, NotificationsClose, NotificationIsUnanswered, OpenedTells, TimersFit, fit};
+ghost use Rattle.std.specs.Prelude.{◌≡◌, true};
+ghost use Rattle.bgp_fsm.specs.SessionTable.{fresh};
+ghost use Rattle.bgp_msg.specs.declared.open_message.Open.{Open};
+ghost use Rattle.bgp_attr.specs.declared.peer.Mode.{Mode};
 
 /// Established is entered only from OpenConfirm, by a KEEPALIVE.
 pub fn established_begins()
@@ -14,6 +18,17 @@ pub fn entered_tells()
 /// `left` tells exactly that Established ends.
 pub fn left_tells()
     ensures { LeftTells }
+{}
+
+/// `opened` tells exactly that a connection attempt begins.
+pub fn opened_tells()
+    ensures { OpenedTells }
+{}
+
+/// Each timer runs only in the states in which its end means something.
+pub fn timers_fit()
+    ensures first { (own : Open) (mode : Mode) → fit (fresh own mode).state (fresh own mode).enabled (fresh own mode).timers ≡ true }
+    ensures stays { TimersFit }
 {}
 
 /// An OPEN is queued only when the connection stands, and it is our own.

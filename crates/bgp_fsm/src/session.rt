@@ -1,17 +1,18 @@
 //! A session, and what one input makes of it.
-ghost use Rattle.std.specs.Prelude.{◌≡◌, if◌then◌else◌, Some, None};
-ghost use Rattle.std.specs.Option.{option_map};
-ghost use Rattle.bgp_msg.specs.Notifications.{error_notification};
-ghost use Rattle.bgp_fsm.specs.StateTests.{is_established};
+ghost use Rattle.std.specs.Prelude.{◌≡◌};
+ghost use Rattle.bgp_fsm.specs.SessionTable.{effects_of, fresh, session_after};
+ghost use Rattle.bgp_fsm.specs.TimerMoments.{has_ended};
 ghost use Rattle.bgp_fsm.specs.Transports.{transport_of};
-ghost use Rattle.bgp_fsm.specs.declared.session.Outgoing.TheVariants.{Keepalive as OwnKeepalive, Notification as TheNotification};
-ghost use Rattle.bgp_fsm.specs.SessionTable.{row_at, fresh, marked, waiting_in, begun, connected, confirmed, established, closed, nothing, says, enters, leaving};
 
 use crate::input::Input;
 use crate::state::State;
+use crate::state::State::{Active, Connect, Established, Idle, OpenConfirm, OpenSent};
+use crate::timers::{Timer, Timers};
 use bgp_attr::Mode;
-use bgp_msg::SessionError::{OutOfResources, UnexpectedMessage};
-use bgp_msg::{Notification, Open, SessionError};
+use bgp_msg::SessionError::{
+    AdministrativeShutdown, HoldTimerExpired, OutOfResources, PeerDeconfigured, UnexpectedMessage,
+};
+use bgp_msg::{Notification, Open};
 use net_prefix::Transport;
 
 /// A message that a row of the table queues.
@@ -46,6 +47,10 @@ pub struct Session {
     pub closing: bool,
     /// The BGP Identifier of the peer's OPEN on this connection, 0 before it.
     pub identifier: u32,
+    /// The hold time that both sides agreed on, in seconds: 0 where none is kept, and before the peer's OPEN.
+    pub hold_time: u16,
+    /// When the timers end.
+    pub timers: Timers,
     /// The OPEN that this side sends.
     pub own: Open,
     /// Which side opens the connection.
@@ -68,10 +73,12 @@ impl Session {
         ensures { result ≡ fresh own mode }
     {
         Session {
-            state: State::Idle,
+            state: Idle,
             enabled: false,
             closing: false,
             identifier: 0,
+            hold_time: 0,
+            timers: Timers::STOPPED,
             own,
             mode,
         }
@@ -89,14 +96,14 @@ impl Session {
         ensures { result ≡ transport_of self.now }
     {
         match self.state {
-            State::Idle if self.closing => Transport::Closing,
-            State::Idle => Transport::None,
-            State::Connect => Transport::Opening,
-            State::Active => match self.mode {
+            Idle if self.closing => Transport::Closing,
+            Idle => Transport::None,
+            Connect => Transport::Opening,
+            Active => match self.mode {
                 Mode::Passive => Transport::Listening,
                 Mode::Active => Transport::None,
             },
-            State::OpenSent | State::OpenConfirm | State::Established => Transport::Open,
+            OpenSent | OpenConfirm | Established => Transport::Open,
         }
     }
 
@@ -107,175 +114,67 @@ impl Session {
         self.identifier
     }
 
-    fn is_established(&self) -> bool
-        ensures { result ≡ is_established self.now.state }
+    /// Whether a timer has ended at this moment, in seconds.
+    pub fn has_ended(&self, timer: Timer, now: u64) -> bool
+        ensures { result ≡ has_ended timer now self.now.timers }
     {
-        self.state == State::Established
+        self.timers.has_ended(timer, now)
     }
 
-    /// One row of the session table.
-    pub fn input<'a>(&mut self, input: Input<'a>) -> Effects<'a>
-        ensures row { (self.new, result) ≡ row_at self.old.state input.entry self.old }
+    /// One row of the session table, at this moment, in seconds.
+    #[rattlefmt::skip]
+    pub fn input<'a>(&mut self, input: Input<'a>, now: u64) -> Effects<'a>
+        ensures session { self.new ≡ session_after now input.entry self.old }
+        ensures effects { result ≡ effects_of input.entry self.old }
     {
         match (self.state, &input) {
-            (State::Idle, Input::Start) => self.start(),
-            (State::Idle, Input::Fail) => self.wait_in(State::Idle),
-            (State::Active, Input::Up) => self.connect(),
-            (State::OpenSent, Input::Open(message)) => self.confirm(*message),
-            (State::OpenSent, Input::Fail) => self.wait_in(State::Active),
-            (State::OpenSent, Input::UnexpectedOpen) => self.refuse(UnexpectedMessage),
-            (State::OpenSent, Input::Keepalive | Input::Update) => self.refuse(UnexpectedMessage),
-            (State::OpenSent, Input::Notification) => self.close(None),
-            (State::OpenSent, Input::Fault(fault)) => self.answer(fault),
-            (State::OpenSent, Input::NoMemory) => self.refuse(OutOfResources),
-            (State::OpenConfirm, Input::Keepalive) => self.establish(),
-            (State::OpenConfirm, Input::Fail) => self.wait_in(State::Idle),
-            (State::OpenConfirm, Input::Open(_) | Input::UnexpectedOpen | Input::Update) => {
-                self.refuse(UnexpectedMessage)
-            }
-            (State::OpenConfirm, Input::Notification) => self.close(None),
-            (State::OpenConfirm, Input::Fault(fault)) => self.answer(fault),
-            (State::OpenConfirm, Input::NoMemory) => self.refuse(OutOfResources),
-            (State::Established, Input::Keepalive | Input::Update) => self.ignore(),
-            (State::Established, Input::Fail) => self.wait_in(State::Idle),
-            (State::Established, Input::Open(_) | Input::UnexpectedOpen) => {
-                self.refuse(UnexpectedMessage)
-            }
-            (State::Established, Input::Notification) => self.close(None),
-            (State::Established, Input::Fault(fault)) => self.answer(fault),
-            (State::Established, Input::NoMemory) => self.refuse(OutOfResources),
-            (_, Input::Start) => self.mark(),
+            (Idle, Input::Start) => self.start(now),
+            (Idle, Input::Disable | Input::Remove) => self.disable(),
+            (Idle, Input::Fail) => self.shut(),
+            (Idle, Input::Expires(Timer::IdleHold)) => self.start(now),
+            (Connect, Input::Start) => self.mark(),
+            (Connect, Input::Disable | Input::Remove) => self.give_up(),
+            (Connect, Input::Up) => self.await_open(now),
+            (Connect, Input::Fail) => self.retry(Mode::Active, now),
+            (Connect, Input::Expires(Timer::ConnectRetry)) => self.connect(now),
+            (Active, Input::Start) => self.mark(),
+            (Active, Input::Disable | Input::Remove) => self.give_up(),
+            (Active, Input::Up) => self.accept(now),
+            (Active, Input::Expires(Timer::ConnectRetry)) => self.reopen(now),
+            (OpenSent, Input::Start) => self.mark(),
+            (OpenSent, Input::Disable) => self.end(AdministrativeShutdown),
+            (OpenSent, Input::Remove) => self.end(PeerDeconfigured),
+            (OpenSent, Input::Fail) => self.retry(self.mode, now),
+            (OpenSent, Input::Open(message)) => self.confirm(*message, now),
+            (OpenSent, Input::UnexpectedOpen | Input::Keepalive | Input::Update) => self.refuse(UnexpectedMessage, now),
+            (OpenSent, Input::Notification) => self.close(None, now),
+            (OpenSent, Input::Fault(fault)) => self.answer(fault, now),
+            (OpenSent, Input::NoMemory) => self.refuse(OutOfResources, now),
+            (OpenSent, Input::Expires(Timer::Hold)) => self.refuse(HoldTimerExpired, now),
+            (OpenConfirm, Input::Start) => self.mark(),
+            (OpenConfirm, Input::Disable) => self.end(AdministrativeShutdown),
+            (OpenConfirm, Input::Remove) => self.end(PeerDeconfigured),
+            (OpenConfirm, Input::Fail) => self.fall(now),
+            (OpenConfirm, Input::Open(_) | Input::UnexpectedOpen | Input::Update) => self.refuse(UnexpectedMessage, now),
+            (OpenConfirm, Input::Keepalive) => self.establish(now),
+            (OpenConfirm, Input::Notification) => self.close(None, now),
+            (OpenConfirm, Input::Fault(fault)) => self.answer(fault, now),
+            (OpenConfirm, Input::NoMemory) => self.refuse(OutOfResources, now),
+            (OpenConfirm, Input::Expires(Timer::Hold)) => self.refuse(HoldTimerExpired, now),
+            (OpenConfirm, Input::Expires(Timer::Keepalive)) => self.keep_alive(now),
+            (Established, Input::Start) => self.mark(),
+            (Established, Input::Disable) => self.end(AdministrativeShutdown),
+            (Established, Input::Remove) => self.end(PeerDeconfigured),
+            (Established, Input::Fail) => self.fall(now),
+            (Established, Input::Open(_) | Input::UnexpectedOpen) => self.refuse(UnexpectedMessage, now),
+            (Established, Input::Keepalive | Input::Update) => self.hear(now),
+            (Established, Input::Notification) => self.close(None, now),
+            (Established, Input::Fault(fault)) => self.answer(fault, now),
+            (Established, Input::NoMemory) => self.refuse(OutOfResources, now),
+            (Established, Input::Expires(Timer::Hold)) => self.refuse(HoldTimerExpired, now),
+            (Established, Input::Expires(Timer::Keepalive)) => self.keep_alive(now),
             // Any other pair of state and input is ignored.
-            _ => self.ignore(),
+            _ => Effects::NONE,
         }
-    }
-
-    // An enabled peer without a connection begins; one whose connection is still to be closed is marked alone.
-    fn start<'a>(&mut self) -> Effects<'a>
-        ensures { (self.new, result) ≡ (if self.old.closing then (marked self.old, nothing) else begun self.old.mode self.old) }
-    {
-        self.enabled = true;
-        if self.closing {
-            return Effects::NONE;
-        }
-        self.identifier = 0;
-        match self.mode {
-            Mode::Active => {
-                self.state = State::Connect;
-                Effects {
-                    opened: true,
-                    ..Effects::NONE
-                }
-            }
-            Mode::Passive => {
-                self.state = State::Active;
-                Effects::NONE
-            }
-        }
-    }
-
-    fn mark<'a>(&mut self) -> Effects<'a>
-        ensures session { self.new ≡ marked self.old }
-        ensures effects { result ≡ nothing }
-    {
-        self.enabled = true;
-        Effects::NONE
-    }
-
-    fn ignore<'a>(&self) -> Effects<'a>
-        ensures { result ≡ nothing }
-    {
-        Effects::NONE
-    }
-
-    // Another state on no connection, or on one that has just come up.
-    fn go(&mut self, state: State)
-        ensures { self.new ≡ waiting_in state self.old }
-    {
-        self.state = state;
-        self.closing = false;
-        self.identifier = 0;
-    }
-
-    // The connection, or the attempt, has failed.
-    fn wait_in<'a>(&mut self, state: State) -> Effects<'a>
-        ensures session { self.new ≡ waiting_in state self.old }
-        ensures effects { result ≡ leaving self.old.state None }
-    {
-        let left = self.is_established();
-        self.go(state);
-        Effects {
-            left,
-            ..Effects::NONE
-        }
-    }
-
-    // A connection comes, which only a passive peer awaits.
-    fn connect<'a>(&mut self) -> Effects<'a>
-        ensures { (self.new, result) ≡ connected self.old.mode self.old }
-    {
-        if self.mode == Mode::Active {
-            return Effects::NONE;
-        }
-        self.go(State::OpenSent);
-        Effects {
-            message: Some(Outgoing::Open(self.own)),
-            ..Effects::NONE
-        }
-    }
-
-    fn confirm<'a>(&mut self, message: Open) -> Effects<'a>
-        ensures session { self.new ≡ confirmed message.identifier self.old }
-        ensures effects { result ≡ says OwnKeepalive }
-    {
-        self.state = State::OpenConfirm;
-        self.identifier = message.identifier;
-        Effects {
-            message: Some(Outgoing::Keepalive),
-            ..Effects::NONE
-        }
-    }
-
-    fn establish<'a>(&mut self) -> Effects<'a>
-        ensures session { self.new ≡ established self.old }
-        ensures effects { result ≡ enters }
-    {
-        self.state = State::Established;
-        Effects {
-            entered: true,
-            ..Effects::NONE
-        }
-    }
-
-    // The session goes to Idle, its connection has still to be closed, and the peer is told this, if anything.
-    fn close<'a>(&mut self, told: Option<Notification<'a>>) -> Effects<'a>
-        ensures session { self.new ≡ closed self.old }
-        ensures effects { result ≡ leaving self.old.state (option_map TheNotification told.entry) }
-    {
-        let left = self.is_established();
-        self.state = State::Idle;
-        self.closing = true;
-        self.identifier = 0;
-        Effects {
-            message: told.map(Outgoing::Notification),
-            left,
-            ..Effects::NONE
-        }
-    }
-
-    // The same for a faulty message.
-    fn answer<'a>(&mut self, fault: &Notification<'a>) -> Effects<'a>
-        ensures session { self.new ≡ closed self.old }
-        ensures effects { result ≡ leaving self.old.state (Some (TheNotification fault.now)) }
-    {
-        self.close(Some(fault.share()))
-    }
-
-    // The same for an error that no message holds.
-    fn refuse<'a>(&mut self, error: SessionError) -> Effects<'a>
-        ensures session { self.new ≡ closed self.old }
-        ensures effects { result ≡ leaving self.old.state (Some (TheNotification (error_notification error))) }
-    {
-        self.close(Some(Notification::of_error(error)))
     }
 }

@@ -12,7 +12,7 @@ use Rattle.bgp_msg.proofs.Streams.{message-then}
 use Rattle.bgp_msg.proofs.StreamPieces.{unread-push, unread-anew, unread-nil, read_alone}
 use Rattle.bgp_fsm.specs.declared.state.State.TheVariants.{Established}
 use Rattle.bgp_fsm.specs.declared.input.Input.{Input}
-use Rattle.bgp_fsm.specs.declared.input.Input.TheVariants.{Start, Up, Fail, NoMemory}
+use Rattle.bgp_fsm.specs.declared.input.Input.TheVariants.{Start, Disable, Remove, Up, Fail, NoMemory, Expires}
 use Rattle.bgp_fsm.specs.declared.session.Session.{Session}
 use Rattle.bgp_fsm.specs.declared.session.Effects.{Effects}
 use Rattle.bgp_fsm.specs.SessionTable.{session_after, effects_of}
@@ -20,7 +20,7 @@ use Rattle.bgp_fsm.specs.StateTests.{is_message}
 use Rattle.bgp_fsm.specs.Transports.{transport_of}
 use Rattle.bgp_fsm.proofs.TableLaws.{fault_closes, no_memory_closes, stood_before}
 use Rattle.bgp_peer.specs.Slot.{Slot, said, kept, rest_after, configured, pushed, taken_input, queued, handed}
-use Rattle.bgp_peer.specs.SessionInputs.{Event, Configured, Signalled, Octet, Queued, Handed, Ticked, terms_of, stream, item_at, input_of, listed, after, session, onto}
+use Rattle.bgp_peer.specs.SessionInputs.{Event, Configured, Signalled, Octet, Queued, Handed, Ticked, terms_of, stream, item_at, input_of, listed, after, moment_of, session, onto}
 use Rattle.bgp_peer.specs.SentMessages.{given, with_said, sent, ring_of}
 use Rattle.bgp_peer.specs.Agreement.{IsUpdateMessage, PeerAgrees, holding}
 use Rattle.bgp_peer.proofs.Rows.{ignored, input_is_message, taken_message, kept_joins, kept_whole, said_joins, says_nothing, said_whole}
@@ -37,19 +37,22 @@ agrees-new h own mode peer_asn = record {
 
 -- an input leaves what is unread of the stream, while the connection stands after it
 signal_rest :
-    (input : Input) (s : Session) (rest octets : List ℕ) → is_message input ≡ false → (transport_of s ≡ Connected → rest ≡ unread octets)
-    → transport_of (session_after input s) ≡ Connected → rest_after input rest ≡ unread (kept input octets)
-signal_rest Start s rest octets is same stands = same (stood_before Start s (λ e. cc) stands)
-signal_rest Up s rest octets is same stands = sym unread-nil
-signal_rest Fail s rest octets is same stands = sym unread-nil
-signal_rest NoMemory s rest octets is same stands = absurd (no_memory_closes s stands)
-signal_rest input s rest octets is same stands = absurd (cc)
+    (now : ℕ) (input : Input) (s : Session) (rest octets : List ℕ) → is_message input ≡ false → (transport_of s ≡ Connected → rest ≡ unread octets)
+    → transport_of (session_after now input s) ≡ Connected → rest_after input rest ≡ unread (kept input octets)
+signal_rest now Start s rest octets is same stands = same (stood_before now Start s (λ e. cc) stands)
+signal_rest now Disable s rest octets is same stands = same (stood_before now Disable s (λ e. cc) stands)
+signal_rest now Remove s rest octets is same stands = same (stood_before now Remove s (λ e. cc) stands)
+signal_rest now Up s rest octets is same stands = sym unread-nil
+signal_rest now Fail s rest octets is same stands = sym unread-nil
+signal_rest now NoMemory s rest octets is same stands = absurd (no_memory_closes now s stands)
+signal_rest now (Expires timer) s rest octets is same stands = same (stood_before now (Expires timer) s (λ e. cc) stands)
+signal_rest now input s rest octets is same stands = absurd (cc)
 
 -- an input that is no message
-pub agrees-signal : (h : List Event) (p : Slot) (input : Input) → is_message input ≡ false → PeerAgrees h p → PeerAgrees (Signalled input ∷ h) (taken_input p input)
+pub agrees-signal : (h : List Event) (p : Slot) (input : Input) → is_message input ≡ false → PeerAgrees h p → PeerAgrees (Signalled input ∷ h) (taken_input (moment_of h) p input)
 agrees-signal h p input is a = record {
-  session = ap (session_after input) a.session;
-  rest = λ stands. signal_rest input (session h) p.rest (stream h) is a.rest stands;
+  session = ap (session_after (moment_of h) input) a.session;
+  rest = λ stands. signal_rest (moment_of h) input (session h) p.rest (stream h) is a.rest stands;
   ring = ap (λ (s : Session). kept input (given h) ++ (kept input p.ring ++ said (effects_of input s).message (kept input p.ring))) a.session
       ∙ said_joins (effects_of input (session h)).message (kept input (given h)) (kept input p.ring) (kept input (sent h)) (kept_joins input (given h) p.ring (sent h) a.ring);
   whole = unread-anew (kept input (sent h)) (said (effects_of input (session h)).message (drop (length (kept input (given h))) (kept input (sent h)))) (kept_whole input (sent h) a.whole)
@@ -67,7 +70,7 @@ stands h p a connected = ap transport_of (sym a.session) ∙ connected
 
 -- what the row of an octet's item says is whole
 said_octet_whole : (h : List Event) (item : Option Item) → unread (sent h) ≡ []
-    → unread (with_said (listed (option_map (input_of (session h).state (terms_of h)) item)) (session h) (given h) (sent h)) ≡ []
+    → unread (with_said (moment_of h) (listed (option_map (input_of (session h).state (terms_of h)) item)) (session h) (given h) (sent h)) ≡ []
 said_octet_whole h None whole = whole
 said_octet_whole h (Some item) whole =
     let message = (effects_of (input_of (session h).state (terms_of h) item) (session h)).message in
@@ -77,17 +80,17 @@ said_octet_whole h (Some item) whole =
 -- an octet that completes no item leaves the session and what was queued
 pub quiet_octet : (h : List Event) (octet : ℕ) → item_at h octet ≡ None → (session (Octet octet ∷ h) ≡ session h) × (sent (Octet octet ∷ h) ≡ sent h)
 quiet_octet h octet none = (
-  ap (λ item. after (listed (option_map (input_of (session h).state (terms_of h)) item)) (session h)) none,
-  ap (λ item. with_said (listed (option_map (input_of (session h).state (terms_of h)) item)) (session h) (given h) (sent h)) none,
+  ap (λ item. after (moment_of h) (listed (option_map (input_of (session h).state (terms_of h)) item)) (session h)) none,
+  ap (λ item. with_said (moment_of h) (listed (option_map (input_of (session h).state (terms_of h)) item)) (session h) (given h) (sent h)) none,
 )
 
 -- one that completes this item is its input
 pub item_octet : (h : List Event) (octet : ℕ) (item : Item) → item_at h octet ≡ Some item
-    → (session (Octet octet ∷ h) ≡ session_after (input_of (session h).state (terms_of h) item) (session h))
+    → (session (Octet octet ∷ h) ≡ session_after (moment_of h) (input_of (session h).state (terms_of h) item) (session h))
     × (sent (Octet octet ∷ h) ≡ sent h ++ said (effects_of (input_of (session h).state (terms_of h) item) (session h)).message (ring_of h))
 item_octet h octet item some = (
-  ap (λ found. after (listed (option_map (input_of (session h).state (terms_of h)) found)) (session h)) some,
-  ap (λ found. with_said (listed (option_map (input_of (session h).state (terms_of h)) found)) (session h) (given h) (sent h)) some,
+  ap (λ found. after (moment_of h) (listed (option_map (input_of (session h).state (terms_of h)) found)) (session h)) some,
+  ap (λ found. with_said (moment_of h) (listed (option_map (input_of (session h).state (terms_of h)) found)) (session h) (given h) (sent h)) some,
 )
 
 -- the item that an octet completes, coming to an open connection
@@ -116,8 +119,8 @@ shut_octet h octet None is shut = quiet_octet h octet is
 shut_octet h octet (Some item) is shut =
     let nothing_done = ignored (session h) (terms_of h) item shut in
     let next = item_octet h octet item is in (
-      next.0 ∙ ap (λ (row : Session × Effects). row.0) nothing_done,
-      next.1 ∙ ap (λ (row : Session × Effects). sent h ++ said row.1.message (ring_of h)) nothing_done ∙ ap (λ octets. sent h ++ octets) (says_nothing (ring_of h)) ∙ append-nil (sent h),
+      next.0 ∙ ap (λ (row : (ℕ → Session) × Effects). row.0 (moment_of h)) nothing_done,
+      next.1 ∙ ap (λ (row : (ℕ → Session) × Effects). sent h ++ said row.1.message (ring_of h)) nothing_done ∙ ap (λ octets. sent h ++ octets) (says_nothing (ring_of h)) ∙ append-nil (sent h),
     )
 
 agrees-ignored : (h : List Event) (p : Slot) (octet : ℕ) → transport_of p.session ≢ Connected → PeerAgrees h p → PeerAgrees (Octet octet ∷ h) p
@@ -143,21 +146,21 @@ onto-append (octet ∷ front) back h = onto-append front back (Octet octet ∷ h
 
 -- nothing is left of a message, and the header fault that leaves something closes the connection
 left_if_stands :
-    (h : List Event) (octet : ℕ) (item : Item) → transport_of (session_after (input_of (session h).state (terms_of h) item) (session h)) ≡ Connected
+    (h : List Event) (octet : ℕ) (item : Item) → transport_of (session_after (moment_of h) (input_of (session h).state (terms_of h) item) (session h)) ≡ Connected
     → [] ≡ left_over (unread (stream h) ++ octet ∷ []) (Some item)
 left_if_stands h octet (WholeMessage kind body) e = refl
-left_if_stands h octet (FaultyHeader fault) e = absurd (fault_closes _ (session h) e)
+left_if_stands h octet (FaultyHeader fault) e = absurd (fault_closes (moment_of h) _ (session h) e)
 
 -- the item that an octet completes is taken
 pub agrees-input :
     (h : List Event) (p : Slot) (part : List ℕ) (octet : ℕ) (item : Item) → transport_of p.session ≡ Connected → completed part octet ≡ Some item
-    → PeerAgrees h (holding part p) → PeerAgrees (Octet octet ∷ h) (taken_input p (input_of p.session.state (terms_of h) item))
+    → PeerAgrees h (holding part p) → PeerAgrees (Octet octet ∷ h) (taken_input (moment_of h) p (input_of p.session.state (terms_of h) item))
 agrees-input h p part octet item connected some a =
     let some_item : item_at h octet ≡ Some item = item_of_rest h (holding part p) octet (Some item) connected some a in
     let next = item_octet h octet item some_item in
     let state = ap (λ (s : Session). s.state) a.session in
-    rw (taken_message p (input_of p.session.state (terms_of h) item) (input_is_message p.session.state (terms_of h) item)) (record {
-      session = ap (λ (s : Session). session_after (input_of s.state (terms_of h) item) s) a.session ∙ sym next.0;
+    rw (taken_message (moment_of h) p (input_of p.session.state (terms_of h) item) (input_is_message p.session.state (terms_of h) item)) (record {
+      session = ap (λ (s : Session). session_after (moment_of h) (input_of s.state (terms_of h) item) s) a.session ∙ sym next.0;
       rest = λ e. left_if_stands h octet item (ap transport_of (sym next.0) ∙ e) ∙ ap (left_over (unread (stream h) ++ octet ∷ [])) (sym some_item) ∙ sym (unread-push (stream h) octet);
       ring = ap (λ (s : Session). given h ++ (p.ring ++ said (effects_of (input_of s.state (terms_of h) item) s).message p.ring)) a.session
           ∙ said_joins (effects_of (input_of (session h).state (terms_of h) item) (session h)).message (given h) p.ring (sent h) a.ring ∙ sym next.1;

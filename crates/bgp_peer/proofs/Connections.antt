@@ -11,7 +11,7 @@ use Rattle.bgp_fsm.specs.SessionTable.{session_after}
 use Rattle.bgp_fsm.specs.Transports.{transport_of}
 use Rattle.bgp_fsm.proofs.TableLaws.{fault_closes, stood_before}
 use Rattle.bgp_peer.specs.Slot.{kept}
-use Rattle.bgp_peer.specs.SessionInputs.{Event, Configured, Signalled, Octet, Queued, Handed, Ticked, terms_of, stream, item_at, input_of, listed, after, session}
+use Rattle.bgp_peer.specs.SessionInputs.{Event, Configured, Signalled, Octet, Queued, Handed, Ticked, terms_of, stream, item_at, input_of, listed, after, moment_of, session}
 
 -- a rest with nothing at its front
 pub wants-nil : Wants []
@@ -31,19 +31,19 @@ wants-more part octet h none = still (part ++ octet ∷ []) (becomes part octet 
 -- what one more octet leaves unread of a stream whose connection still stands
 after_octet :
     (h : List Event) (octet : ℕ) (item : Option Item) → item_at h octet ≡ item
-    → transport_of (after (listed (option_map (input_of (session h).state (terms_of h)) item)) (session h)) ≡ Connected
+    → transport_of (after (moment_of h) (listed (option_map (input_of (session h).state (terms_of h)) item)) (session h)) ≡ Connected
     → (transport_of (session h) ≡ Connected → Wants (unread (stream h)))
     → Wants (left_over (unread (stream h) ++ octet ∷ []) item)
 after_octet h octet None none stands before = wants-more (unread (stream h)) octet (before stands) none
 after_octet h octet (Some (WholeMessage kind body)) some stands before = wants-nil
-after_octet h octet (Some (FaultyHeader fault)) some stands before = absurd (fault_closes _ (session h) stands)
+after_octet h octet (Some (FaultyHeader fault)) some stands before = absurd (fault_closes (moment_of h) _ (session h) stands)
 
 -- what an input leaves unread of it
-after_signal : (h : List Event) (input : Input) → transport_of (session_after input (session h)) ≡ Connected → (transport_of (session h) ≡ Connected → Wants (unread (stream h)))
+after_signal : (h : List Event) (input : Input) → transport_of (session_after (moment_of h) input (session h)) ≡ Connected → (transport_of (session h) ≡ Connected → Wants (unread (stream h)))
     → Wants (unread (kept input (stream h)))
 after_signal h Up stands before = subst Wants (sym unread-nil) wants-nil
 after_signal h Fail stands before = subst Wants (sym unread-nil) wants-nil
-after_signal h input stands before = before (stood_before input (session h) (λ is. cc) stands)
+after_signal h input stands before = before (stood_before (moment_of h) input (session h) (λ is. cc) stands)
 
 -- while the connection stands, nothing whole stands at the front of what is unread
 pub connected_wants : (h : List Event) → transport_of (session h) ≡ Connected → Wants (unread (stream h))

@@ -15,7 +15,7 @@ use Rattle.bgp_fsm.specs.declared.input.Input.{Input}
 use Rattle.bgp_fsm.specs.declared.session.Session.{Session}
 use Rattle.bgp_fsm.specs.Transports.{transport_of}
 use Rattle.bgp_peer.specs.Slot.{Slot, taken_input, IsInOrder, IsWholeRest, HoldsOnly, item_of_step}
-use Rattle.bgp_peer.specs.SessionInputs.{Event, Octet, onto, terms_of, input_of}
+use Rattle.bgp_peer.specs.SessionInputs.{Event, Octet, moment_of, onto, terms_of, input_of}
 use Rattle.bgp_peer.specs.Agreement.{PeerAgrees, IsHearing, holding}
 use Rattle.bgp_peer.proofs.Connections.{connected_wants}
 use Rattle.bgp_peer.proofs.Rests.{needed-short, needed-long, wanted-take}
@@ -113,13 +113,13 @@ hears-push h p item connected k = record {
 -- the item is taken
 pub agrees-hearing :
     (h : List Event) (p : Slot) (item : Item) (input : Input) → IsHearing h item p → input ≡ input_of p.session.state (terms_of h) item
-    → PeerAgrees h (taken_input p input)
+    → PeerAgrees h (taken_input (moment_of h) p input)
 agrees-hearing h p item input hearing is =
-    let taken : PeerAgrees (Octet hearing.octet ∷ hearing.before) (taken_input p (input_of p.session.state (terms_of hearing.before) item)) =
+    let taken : PeerAgrees (Octet hearing.octet ∷ hearing.before) (taken_input (moment_of hearing.before) p (input_of p.session.state (terms_of hearing.before) item)) =
     agrees-input hearing.before p hearing.part hearing.octet item hearing.connected hearing.whole hearing.agrees in
-    let so : PeerAgrees h (taken_input p (input_of p.session.state (terms_of h) item)) =
-    subst (λ (x : List Event). PeerAgrees x (taken_input p (input_of p.session.state (terms_of x) item))) (sym hearing.history_is) taken in
-    subst (λ (x : Input). PeerAgrees h (taken_input p x)) (sym is) so
+    let so : PeerAgrees h (taken_input (moment_of h) p (input_of p.session.state (terms_of h) item)) =
+    subst (λ (x : List Event). PeerAgrees x (taken_input (moment_of x) p (input_of p.session.state (terms_of x) item))) (sym hearing.history_is) taken in
+    subst (λ (x : Input). PeerAgrees h (taken_input (moment_of h) p x)) (sym is) so
 
 -- a message that uses the whole rest is the rest
 whole_answer : (rest : List ℕ) (frame : Frame) (used : ℕ) → Tells rest (Message frame used) → used ≡ length rest → IsMessage rest frame.kind frame.body.now

@@ -12,11 +12,11 @@ use Rattle.bgp_msg.proofs.StreamPieces.{unread-nil, read_alone}
 use Rattle.bgp_msg.proofs.WrittenMessages.{keepalive_first, notification_first, open_first}
 use Rattle.bgp_fsm.specs.declared.state.State.{State}
 use Rattle.bgp_fsm.specs.declared.input.Input.{Input}
-use Rattle.bgp_fsm.specs.declared.input.Input.TheVariants.{Start, Up, Fail, UnexpectedOpen, Update}
+use Rattle.bgp_fsm.specs.declared.input.Input.TheVariants.{Start, Disable, Remove, Up, Fail, UnexpectedOpen, Update, Expires}
 use Rattle.bgp_fsm.specs.declared.session.Outgoing.{Outgoing}
 use Rattle.bgp_fsm.specs.declared.session.Outgoing.TheVariants.{Open, Keepalive, Notification as Notify}
 use Rattle.bgp_fsm.specs.declared.session.Session.{Session}
-use Rattle.bgp_fsm.specs.SessionTable.{row_at, nothing, session_after, effects_of}
+use Rattle.bgp_fsm.specs.SessionTable.{always, row_at, nothing, session_after, effects_of}
 use Rattle.bgp_fsm.specs.StateTests.{is_established, awaits_open, is_message}
 use Rattle.bgp_fsm.specs.Transports.{transport_of}
 use Rattle.bgp_fsm.proofs.TableLaws.{message_ignored}
@@ -44,17 +44,20 @@ input_is_message state terms (WholeMessage KeepaliveType body) = refl
 -- without a connection it is nothing
 pub ignored :
     (s : Session) (terms : Terms) (item : Item) → transport_of s ≢ Connected
-    → row_at s.state (input_of s.state terms item) s ≡ (s, nothing)
+    → row_at s.state (input_of s.state terms item) s ≡ (always s, nothing)
 ignored s terms item shut = message_ignored (input_of s.state terms item) s (input_is_message s.state terms item) shut
 
 -- a message is dropped from the rest, and leaves the connection's octets
 pub taken_message :
-    (p : Slot) (input : Input) → is_message input ≡ true
-    → taken_input p input ≡ record { session = session_after input p.session; rest = []; ring = p.ring ++ said (effects_of input p.session).message p.ring }
-taken_message p Start is = absurd (cc)
-taken_message p Up is = absurd (cc)
-taken_message p Fail is = absurd (cc)
-taken_message p input is = refl
+    (now : ℕ) (p : Slot) (input : Input) → is_message input ≡ true
+    → taken_input now p input ≡ record { session = session_after now input p.session; rest = []; ring = p.ring ++ said (effects_of input p.session).message p.ring }
+taken_message now p Start is = absurd (cc)
+taken_message now p Disable is = absurd (cc)
+taken_message now p Remove is = absurd (cc)
+taken_message now p Up is = absurd (cc)
+taken_message now p Fail is = absurd (cc)
+taken_message now p (Expires timer) is = absurd (cc)
+taken_message now p input is = refl
 
 -- an input leaves what stood behind what was handed out, or nothing of both
 pub kept_joins : (input : Input) (given ring sent : List ℕ) → given ++ ring ≡ sent → kept input given ++ kept input ring ≡ kept input sent

@@ -4,7 +4,7 @@ use Rattle.bgp_fsm.specs.declared.input.Input.{Input}
 use Rattle.bgp_fsm.specs.declared.session.Session.{Session}
 use Rattle.bgp_fsm.specs.SessionTable.{effects_of}
 use Rattle.bgp_peer.specs.Slot.{kept, said}
-use Rattle.bgp_peer.specs.SessionInputs.{Event, Configured, Signalled, Octet, Queued, Handed, Ticked, session, after, inputs_of}
+use Rattle.bgp_peer.specs.SessionInputs.{Event, Configured, Signalled, Octet, Queued, Handed, Ticked, session, after, inputs_of, moment_of}
 use Rattle.bgp_peer.specs.PeerLimits.{ring_octets}
 
 -- what was handed out on the present connection, after a history with the newest first
@@ -17,11 +17,11 @@ given (Queued update ∷ h) = given h
 given (Handed octets ∷ h) = given h ++ octets
 given (Ticked now ∷ h) = given h
 
--- what was queued, with what the rows of these inputs say, of which so much was handed out
-abbrev pub with_said : List Input → Session → List ℕ → List ℕ → List ℕ
-with_said [] s given sent = sent
-with_said (input ∷ inputs) s given sent =
-    with_said inputs s given sent ++ said (effects_of input (after inputs s)).message (drop (length given) (with_said inputs s given sent))
+-- what was queued, with what the rows of these inputs say, which came at this moment; so much of it was handed out
+abbrev pub with_said : ℕ → List Input → Session → List ℕ → List ℕ → List ℕ
+with_said now [] s given sent = sent
+with_said now (input ∷ inputs) s given sent =
+    with_said now inputs s given sent ++ said (effects_of input (after now inputs s)).message (drop (length given) (with_said now inputs s given sent))
 
 -- what an event itself leaves of what was queued, or adds to it
 abbrev pub queued_by : Event → List ℕ → List ℕ
@@ -35,7 +35,7 @@ queued_by (Ticked now) sent = sent
 -- what was queued on the present connection: the UPDATEs, and what the rows of the session table say
 abbrev pub sent : List Event → List ℕ
 sent [] = []
-sent (e ∷ h) = with_said (inputs_of h e) (session h) (given (e ∷ h)) (queued_by e (sent h))
+sent (e ∷ h) = with_said (moment_of (e ∷ h)) (inputs_of h e) (session h) (given (e ∷ h)) (queued_by e (sent h))
 
 -- what is queued and not yet handed out
 abbrev pub ring_of : List Event → List ℕ

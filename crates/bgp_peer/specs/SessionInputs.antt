@@ -17,7 +17,10 @@ use Rattle.bgp_msg.specs.MessageStream.{Item, WholeMessage, FaultyHeader, comple
 use Rattle.bgp_msg.specs.UpdateMeaning.{update_fault}
 use Rattle.bgp_fsm.specs.declared.state.State.{State}
 use Rattle.bgp_fsm.specs.declared.input.Input.{Input}
-use Rattle.bgp_fsm.specs.declared.input.Input.TheVariants.{Open, UnexpectedOpen, Keepalive, Update, Notification, Fault}
+use Rattle.bgp_fsm.specs.declared.input.Input.TheVariants.{Open, UnexpectedOpen, Keepalive, Update, Notification, Fault, Expires}
+use Rattle.bgp_fsm.specs.declared.timers.Timer.{Timer}
+use Rattle.bgp_fsm.specs.declared.timers.Timer.TheVariants.{Hold, ConnectRetry, IdleHold, Keepalive as KeepaliveTimer}
+use Rattle.bgp_fsm.specs.TimerMoments.{has_ended}
 use Rattle.bgp_fsm.specs.declared.session.Session.{Session}
 use Rattle.bgp_fsm.specs.SessionTable.{fresh, session_after}
 use Rattle.bgp_fsm.specs.StateTests.{is_established, awaits_open}
@@ -32,7 +35,7 @@ pub record Terms : Type 0 where
 -- what happens to a slot
 pub data Event : Type 0 where
   Configured : (terms : Terms) → Event  -- a peer is configured, in place of any before
-  Signalled : (input : Input) → Event  -- an input that no octet brings: the operator enables the peer, its connection stands or fails, memory is refused
+  Signalled : (input : Input) → Event  -- an input that no octet brings: of the operator, of the connection, of a timer that has ended, or want of memory
   Octet : (octet : ℕ) → Event  -- an octet comes on the connection
   Queued : (update : List ℕ) → Event  -- an UPDATE is queued
   Handed : (octets : List ℕ) → Event  -- octets are handed out
@@ -129,10 +132,10 @@ inputs_at state h (Queued update) = []
 inputs_at state h (Handed octets) = []
 inputs_at state h (Ticked now) = []
 
--- a session after these inputs: the rows of the session table one after another
-abbrev pub after : List Input → Session → Session
-after [] s = s
-after (input ∷ inputs) s = session_after input (after inputs s)
+-- a session after these inputs, which came at this moment: the rows of the session table one after another
+abbrev pub after : ℕ → List Input → Session → Session
+after now [] s = s
+after now (input ∷ inputs) s = session_after now input (after now inputs s)
 
 -- a configuration begins a session, in place of the one before
 abbrev pub restarted : Event → Session → Session
@@ -146,7 +149,7 @@ restarted (Ticked now) s = s
 -- the session after a history
 abbrev pub session : List Event → Session
 session [] = fresh nobody.own nobody.mode
-session (e ∷ h) = after (inputs_at (session h).state h e) (restarted e (session h))
+session (e ∷ h) = after (moment_of (e ∷ h)) (inputs_at (session h).state h e) (restarted e (session h))
 
 -- what an event is to the session, coming next
 abbrev pub inputs_of : List Event → Event → List Input
@@ -156,3 +159,20 @@ inputs_of h e = inputs_at (session h).state h e
 abbrev pub onto : List ℕ → List Event → List Event
 onto [] h = h
 onto (octet ∷ octets) h = onto octets (Octet octet ∷ h)
+
+-- the end of a timer, where it has ended at this moment
+abbrev pub ending : Timer → ℕ → List Event → List Event
+ending timer now h = if has_ended timer now (session h).timers then Signalled (Expires timer) ∷ h else h
+
+-- the ends of these timers, one after another, each judged by the session as it then stands
+abbrev pub endings : List Timer → ℕ → List Event → List Event
+endings [] now h = h
+endings (timer ∷ timers) now h = endings timers now (ending timer now h)
+
+-- the timers in the order in which a moment ends them
+abbrev pub timers : List Timer
+timers = Hold ∷ ConnectRetry ∷ IdleHold ∷ KeepaliveTimer ∷ []
+
+-- a moment comes, and ends the timers that have ended then
+abbrev pub ticked : ℕ → List Event → List Event
+ticked now h = endings timers now (Ticked now ∷ h)

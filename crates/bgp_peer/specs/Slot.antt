@@ -13,7 +13,7 @@ use Rattle.bgp_msg.specs.MessageLimits.{max_message}
 use Rattle.bgp_msg.specs.Notifications.{notification_of}
 use Rattle.bgp_msg.specs.MessageStream.{Item, WholeMessage, FaultyHeader, messages, unread, with_front, left_over}
 use Rattle.bgp_fsm.specs.declared.input.Input.{Input}
-use Rattle.bgp_fsm.specs.declared.input.Input.TheVariants.{Start, Up, Fail, Open as OpenInput, UnexpectedOpen, Keepalive as KeepaliveInput, Update, Notification, Fault, NoMemory}
+use Rattle.bgp_fsm.specs.declared.input.Input.TheVariants.{Start, Disable, Remove, Up, Fail, Open as OpenInput, UnexpectedOpen, Keepalive as KeepaliveInput, Update, Notification, Fault, NoMemory, Expires}
 use Rattle.bgp_fsm.specs.declared.session.Session.{Session}
 use Rattle.bgp_fsm.specs.declared.session.Outgoing.{Outgoing}
 use Rattle.bgp_fsm.specs.declared.session.Outgoing.TheVariants.{Open, Keepalive, Notification as Notify}
@@ -82,6 +82,8 @@ pushed s octets = record { session = s.session; rest = s.rest ++ octets; ring = 
 -- what an input leaves of octets of the connection: a connection that comes up or fails leaves nothing of the one before
 abbrev pub kept : Input → List ℕ → List ℕ
 kept Start octets = octets
+kept Disable octets = octets
+kept Remove octets = octets
 kept Up octets = []
 kept Fail octets = []
 kept (OpenInput message) octets = octets
@@ -91,10 +93,13 @@ kept Update octets = octets
 kept Notification octets = octets
 kept (Fault told) octets = octets
 kept NoMemory octets = octets
+kept (Expires timer) octets = octets
 
 -- what an input leaves of the rest: nothing of a message that it is, or that is being received where memory is refused
 abbrev pub rest_after : Input → List ℕ → List ℕ
 rest_after Start rest = rest
+rest_after Disable rest = rest
+rest_after Remove rest = rest
 rest_after Up rest = []
 rest_after Fail rest = []
 rest_after (OpenInput message) rest = []
@@ -104,11 +109,12 @@ rest_after Update rest = []
 rest_after Notification rest = []
 rest_after (Fault told) rest = []
 rest_after NoMemory rest = []
+rest_after (Expires timer) rest = rest
 
--- the session takes this input: what the input ends is dropped, and what its row says is queued
-abbrev pub taken_input : Slot → Input → Slot
-taken_input s input = record {
-  session = session_after input s.session;
+-- the session takes this input, at this moment: what the input ends is dropped, and what its row says is queued
+abbrev pub taken_input : ℕ → Slot → Input → Slot
+taken_input now s input = record {
+  session = session_after now input s.session;
   rest = rest_after input s.rest;
   ring = kept input s.ring ++ said (effects_of input s.session).message (kept input s.ring);
 }

@@ -3,19 +3,20 @@ ghost use Rattle.std.specs.Prelude.{◌≡◌, ◌≢◌, ◌+◌, ◌≤◌, �
 ghost use Rattle.net_prefix.specs.declared.asn.Asn.{Asn};
 ghost use Rattle.net_prefix.specs.declared.transport.Transport.TheVariants.{Open as Connected};
 ghost use Rattle.bgp_fsm.specs.SessionTable.{effects_of};
+ghost use Rattle.bgp_fsm.specs.TimerMoments.{has_ended};
 ghost use Rattle.bgp_fsm.specs.Transports.{transport_of};
 ghost use Rattle.bgp_fsm.specs.declared.state.State.{State};
 ghost use Rattle.bgp_fsm.specs.StateTests.{is_message, is_notification};
 ghost use Rattle.bgp_msg.specs.MessageStream.{Item, Tells, Wants, meaning, needed_of};
 ghost use Rattle.bgp_peer.specs.Agreement.{PeerAgrees, IsHearing, IsUpdateMessage};
-ghost use Rattle.bgp_peer.specs.SessionInputs.{Event, Configured, Signalled, Queued, Handed, terms_of, input_of, onto};
+ghost use Rattle.bgp_peer.specs.SessionInputs.{Event, Configured, Signalled, Queued, Handed, terms_of, input_of, moment_of, onto};
 ghost use Rattle.bgp_peer.specs.Slot.{Slot, configured, pushed, kept, rest_after, taken_input, octets_of, said, queued, handed, IsWholeRest, HoldsOnly, item_of_step};
 ghost use Rattle.bgp_peer.specs.PeerLimits.{ring_octets, room_for_update};
 ghost use Rattle.bgp_msg.specs.MessageLimits.{max_message};
 
 use arrayvec::ArrayVec;
 use bgp_attr::Mode;
-use bgp_fsm::{Effects, Input, Outgoing, Session, State};
+use bgp_fsm::{Effects, Input, Outgoing, Session, State, Timer};
 use bgp_msg::{
     MAX_MESSAGE, Open, Step, needed, read, write_keepalive, write_notification, write_open,
 };
@@ -86,6 +87,13 @@ impl<A: Allocator> Peer<A> {
         self.session.identifier()
     }
 
+    /// Whether a timer of the session has ended at this moment, in seconds.
+    pub fn has_ended(&self, timer: Timer, now: u64) -> bool
+        ensures { result ≡ has_ended timer now self.now.session.timers }
+    {
+        self.session.has_ended(timer, now)
+    }
+
     /// How many octets may still be queued: while the connection stands, a NOTIFICATION among them.
     pub fn free(&self) -> usize
         ensures free { result + length self.now.ring ≡ ring_octets }
@@ -119,17 +127,17 @@ impl<A: Allocator> Peer<A> {
         read(self.rest.as_slice())
     }
 
-    /// The session takes an input: the operator enables the peer, the connection stands or fails, memory is refused,
-    /// or the message at the front is this one. A message is dropped, also one that is being received where memory is
-    /// refused, what was queued or came on another connection too, and what the row says is queued.
-    pub fn input<'a>(&mut self, input: Input<'a>) -> Effects<'a>
-        ensures exact { self.new ≡ taken_input self.old input.entry }
+    /// The session takes an input at this moment, in seconds: of the operator, of the connection, of a timer that has
+    /// ended, want of memory, or the message at the front. A message is dropped, also one that is being received where
+    /// memory is refused, what was queued or came on another connection too, and what the row says is queued.
+    pub fn input<'a>(&mut self, input: Input<'a>, now: u64) -> Effects<'a>
+        ensures exact { self.new ≡ taken_input now self.old input.entry }
         ensures effects { result ≡ effects_of input.entry self.old.session }
-        ensures signalled { (h : List Event) → PeerAgrees h self.old → is_message input.entry ≡ false → PeerAgrees (Signalled input.entry ∷ h) self.new }
-        ensures heard { (h : List Event) (item : Item) → IsHearing h item self.old → input.entry ≡ input_of self.old.session.state (terms_of h) item → PeerAgrees h self.new }
+        ensures signalled { (h : List Event) → PeerAgrees h self.old → moment_of h ≡ now → is_message input.entry ≡ false → PeerAgrees (Signalled input.entry ∷ h) self.new }
+        ensures heard { (h : List Event) (item : Item) → IsHearing h item self.old → moment_of h ≡ now → input.entry ≡ input_of self.old.session.state (terms_of h) item → PeerAgrees h self.new }
     {
         self.make_way(&input);
-        let effects = self.session.input(input);
+        let effects = self.session.input(input, now);
         self.say(&effects.message);
         effects
     }
@@ -159,7 +167,7 @@ impl<A: Allocator> Peer<A> {
         ensures { self.new ≡ record { session = self.old.session; rest = rest_after input.now self.old.rest; ring = kept input.now self.old.ring } }
     {
         match input {
-            Input::Start => {}
+            Input::Start | Input::Disable | Input::Remove | Input::Expires(_) => {}
             Input::Up | Input::Fail => {
                 self.rest.clear();
                 self.ring.clear();

@@ -1,7 +1,7 @@
 //! Sessions along their rows, and each row once.
 use arrayvec::ArrayVec;
 use bgp_attr::Mode;
-use bgp_fsm::{Input, Outgoing, Session, State};
+use bgp_fsm::{Input, Outgoing, Session, State, Timer, Timers};
 use bgp_msg::{Fault, HeaderFault, Notification, Open};
 use net_prefix::{Asn, Transport};
 use std::process::Abort;
@@ -23,6 +23,8 @@ const PEER: Open = Open {
 #[derive(Clone, Copy, Debug)]
 enum Came {
     Start,
+    Disable,
+    Remove,
     Up,
     Fail,
     Open,
@@ -32,6 +34,7 @@ enum Came {
     Notification,
     Fault,
     NoMemory,
+    Expires(Timer),
 }
 
 // What is queued; of a NOTIFICATION its code and subcode.
@@ -43,46 +46,75 @@ enum Said {
     Notification(u8, u8),
 }
 
-// The state before, what comes, the state and the transport after, and what is queued; the peer is passive.
+// The state before, what comes, the state and the transport after, and what is queued.
 type Row = (State, Came, State, Transport, Said);
 
+// A passive peer.
 #[rattlefmt::skip]
-const ROWS: [Row; 30] = [
-    (State::Idle,         Came::Start,          State::Active,       Transport::Listening,   Said::Nothing),
-    (State::Idle,         Came::Fail,           State::Idle,         Transport::None,        Said::Nothing),
-    (State::Idle,         Came::Up,             State::Idle,         Transport::None,        Said::Nothing),
-    (State::Idle,         Came::NoMemory,       State::Idle,         Transport::None,        Said::Nothing),
-    (State::Connect,      Came::NoMemory,       State::Connect,      Transport::Opening,     Said::Nothing),
-    (State::Active,       Came::Start,          State::Active,       Transport::Listening,   Said::Nothing),
-    (State::Active,       Came::Up,             State::OpenSent,     Transport::Open,        Said::Open),
-    (State::Active,       Came::NoMemory,       State::Active,       Transport::Listening,   Said::Nothing),
-    (State::OpenSent,     Came::Open,           State::OpenConfirm,  Transport::Open,        Said::Keepalive),
-    (State::OpenSent,     Came::Fail,           State::Active,       Transport::Listening,   Said::Nothing),
-    (State::OpenSent,     Came::Keepalive,      State::Idle,         Transport::Closing,     Said::Notification(5, 0)),
-    (State::OpenSent,     Came::Update,         State::Idle,         Transport::Closing,     Said::Notification(5, 0)),
-    (State::OpenSent,     Came::Notification,   State::Idle,         Transport::Closing,     Said::Nothing),
-    (State::OpenSent,     Came::Fault,          State::Idle,         Transport::Closing,     Said::Notification(1, 2)),
-    (State::OpenSent,     Came::NoMemory,       State::Idle,         Transport::Closing,     Said::Notification(6, 8)),
-    (State::OpenConfirm,  Came::Keepalive,      State::Established,  Transport::Open,        Said::Nothing),
-    (State::OpenConfirm,  Came::Fail,           State::Idle,         Transport::None,        Said::Nothing),
-    (State::OpenConfirm,  Came::UnexpectedOpen, State::Idle,         Transport::Closing,     Said::Notification(5, 0)),
-    (State::OpenConfirm,  Came::Update,         State::Idle,         Transport::Closing,     Said::Notification(5, 0)),
-    (State::OpenConfirm,  Came::Notification,   State::Idle,         Transport::Closing,     Said::Nothing),
-    (State::OpenConfirm,  Came::Fault,          State::Idle,         Transport::Closing,     Said::Notification(1, 2)),
-    (State::OpenConfirm,  Came::NoMemory,       State::Idle,         Transport::Closing,     Said::Notification(6, 8)),
-    (State::Established,  Came::Start,          State::Established,  Transport::Open,        Said::Nothing),
-    (State::Established,  Came::Keepalive,      State::Established,  Transport::Open,        Said::Nothing),
-    (State::Established,  Came::Update,         State::Established,  Transport::Open,        Said::Nothing),
-    (State::Established,  Came::Fail,           State::Idle,         Transport::None,        Said::Nothing),
-    (State::Established,  Came::UnexpectedOpen, State::Idle,         Transport::Closing,     Said::Notification(5, 0)),
-    (State::Established,  Came::Notification,   State::Idle,         Transport::Closing,     Said::Nothing),
-    (State::Established,  Came::Fault,          State::Idle,         Transport::Closing,     Said::Notification(1, 2)),
-    (State::Established,  Came::NoMemory,       State::Idle,         Transport::Closing,     Said::Notification(6, 8)),
+const ROWS: [Row; 42] = [
+    (State::Idle,         Came::Start,                     State::Active,       Transport::Listening,   Said::Nothing),
+    (State::Idle,         Came::Disable,                   State::Idle,         Transport::None,        Said::Nothing),
+    (State::Idle,         Came::Fail,                      State::Idle,         Transport::None,        Said::Nothing),
+    (State::Idle,         Came::Up,                        State::Idle,         Transport::None,        Said::Nothing),
+    (State::Idle,         Came::NoMemory,                  State::Idle,         Transport::None,        Said::Nothing),
+    (State::Idle,         Came::Expires(Timer::IdleHold),  State::Active,       Transport::Listening,   Said::Nothing),
+    (State::Active,       Came::Start,                     State::Active,       Transport::Listening,   Said::Nothing),
+    (State::Active,       Came::Disable,                   State::Idle,         Transport::None,        Said::Nothing),
+    (State::Active,       Came::Up,                        State::OpenSent,     Transport::Open,        Said::Open),
+    (State::Active,       Came::NoMemory,                  State::Active,       Transport::Listening,   Said::Nothing),
+    (State::OpenSent,     Came::Open,                      State::OpenConfirm,  Transport::Open,        Said::Keepalive),
+    (State::OpenSent,     Came::Fail,                      State::Active,       Transport::Listening,   Said::Nothing),
+    (State::OpenSent,     Came::Keepalive,                 State::Idle,         Transport::Closing,     Said::Notification(5, 0)),
+    (State::OpenSent,     Came::Update,                    State::Idle,         Transport::Closing,     Said::Notification(5, 0)),
+    (State::OpenSent,     Came::Notification,              State::Idle,         Transport::Closing,     Said::Nothing),
+    (State::OpenSent,     Came::Fault,                     State::Idle,         Transport::Closing,     Said::Notification(1, 2)),
+    (State::OpenSent,     Came::NoMemory,                  State::Idle,         Transport::Closing,     Said::Notification(6, 8)),
+    (State::OpenSent,     Came::Expires(Timer::Hold),      State::Idle,         Transport::Closing,     Said::Notification(4, 0)),
+    (State::OpenSent,     Came::Disable,                   State::Idle,         Transport::Closing,     Said::Notification(6, 2)),
+    (State::OpenSent,     Came::Remove,                    State::Idle,         Transport::Closing,     Said::Notification(6, 3)),
+    (State::OpenConfirm,  Came::Keepalive,                 State::Established,  Transport::Open,        Said::Nothing),
+    (State::OpenConfirm,  Came::Fail,                      State::Idle,         Transport::None,        Said::Nothing),
+    (State::OpenConfirm,  Came::UnexpectedOpen,            State::Idle,         Transport::Closing,     Said::Notification(5, 0)),
+    (State::OpenConfirm,  Came::Update,                    State::Idle,         Transport::Closing,     Said::Notification(5, 0)),
+    (State::OpenConfirm,  Came::Notification,              State::Idle,         Transport::Closing,     Said::Nothing),
+    (State::OpenConfirm,  Came::Fault,                     State::Idle,         Transport::Closing,     Said::Notification(1, 2)),
+    (State::OpenConfirm,  Came::NoMemory,                  State::Idle,         Transport::Closing,     Said::Notification(6, 8)),
+    (State::OpenConfirm,  Came::Expires(Timer::Hold),      State::Idle,         Transport::Closing,     Said::Notification(4, 0)),
+    (State::OpenConfirm,  Came::Expires(Timer::Keepalive), State::OpenConfirm,  Transport::Open,        Said::Keepalive),
+    (State::OpenConfirm,  Came::Disable,                   State::Idle,         Transport::Closing,     Said::Notification(6, 2)),
+    (State::Established,  Came::Start,                     State::Established,  Transport::Open,        Said::Nothing),
+    (State::Established,  Came::Keepalive,                 State::Established,  Transport::Open,        Said::Nothing),
+    (State::Established,  Came::Update,                    State::Established,  Transport::Open,        Said::Nothing),
+    (State::Established,  Came::Fail,                      State::Idle,         Transport::None,        Said::Nothing),
+    (State::Established,  Came::UnexpectedOpen,            State::Idle,         Transport::Closing,     Said::Notification(5, 0)),
+    (State::Established,  Came::Notification,              State::Idle,         Transport::Closing,     Said::Nothing),
+    (State::Established,  Came::Fault,                     State::Idle,         Transport::Closing,     Said::Notification(1, 2)),
+    (State::Established,  Came::NoMemory,                  State::Idle,         Transport::Closing,     Said::Notification(6, 8)),
+    (State::Established,  Came::Expires(Timer::Hold),      State::Idle,         Transport::Closing,     Said::Notification(4, 0)),
+    (State::Established,  Came::Expires(Timer::Keepalive), State::Established,  Transport::Open,        Said::Keepalive),
+    (State::Established,  Came::Disable,                   State::Idle,         Transport::Closing,     Said::Notification(6, 2)),
+    (State::Established,  Came::Remove,                    State::Idle,         Transport::Closing,     Said::Notification(6, 3)),
+];
+
+// A peer that this side connects to.
+#[rattlefmt::skip]
+const ACTIVE_ROWS: [Row; 9] = [
+    (State::Idle,         Came::Start,                        State::Connect,   Transport::Opening,     Said::Nothing),
+    (State::Idle,         Came::Expires(Timer::IdleHold),     State::Connect,   Transport::Opening,     Said::Nothing),
+    (State::Connect,      Came::Up,                           State::OpenSent,  Transport::Open,        Said::Open),
+    (State::Connect,      Came::Fail,                         State::Active,    Transport::None,        Said::Nothing),
+    (State::Connect,      Came::Disable,                      State::Idle,      Transport::None,        Said::Nothing),
+    (State::Connect,      Came::Expires(Timer::ConnectRetry), State::Connect,   Transport::Opening,     Said::Nothing),
+    (State::Active,       Came::Up,                           State::Active,    Transport::None,        Said::Nothing),
+    (State::Active,       Came::Expires(Timer::ConnectRetry), State::Connect,   Transport::Opening,     Said::Nothing),
+    (State::OpenSent,     Came::Fail,                         State::Active,    Transport::None,        Said::Nothing),
 ];
 
 fn input_of(came: Came, room: &mut ArrayVec<u8, 4096>) -> Input<'_> {
     match came {
         Came::Start => Input::Start,
+        Came::Disable => Input::Disable,
+        Came::Remove => Input::Remove,
         Came::Up => Input::Up,
         Came::Fail => Input::Fail,
         Came::Open => Input::Open(PEER),
@@ -95,6 +127,7 @@ fn input_of(came: Came, room: &mut ArrayVec<u8, 4096>) -> Input<'_> {
             Input::Fault(Notification::of_fault(&fault, room))
         }
         Came::NoMemory => Input::NoMemory,
+        Came::Expires(timer) => Input::Expires(timer),
     }
 }
 
@@ -107,34 +140,106 @@ fn shown(message: &Option<Outgoing<'_>>) -> Said {
     }
 }
 
-// What comes to a session, and what is queued and whether Established begins or ends.
-fn take(session: &mut Session, came: Came) -> (Said, bool, bool) {
+// What comes to a session at a moment, and what is queued and whether Established begins or ends.
+fn take_at(session: &mut Session, came: Came, now: u64) -> (Said, bool, bool) {
     let mut room = ArrayVec::new();
-    let effects = session.input(input_of(came, &mut room));
+    let effects = session.input(input_of(came, &mut room), now);
     (shown(&effects.message), effects.entered, effects.left)
 }
 
+fn take(session: &mut Session, came: Came) -> (Said, bool, bool) {
+    take_at(session, came, 0)
+}
+
 // What it makes of a session in this state.
-fn after(state: State, came: Came) -> (State, Transport, Said) {
+fn after(mode: Mode, state: State, came: Came) -> (State, Transport, Said) {
     let mut session = Session {
         state,
-        ..Session::new(OWN, Mode::Passive)
+        ..Session::new(OWN, mode)
     };
     let (said, _, _) = take(&mut session, came);
     (session.state(), session.transport(), said)
 }
 
-fn is_row(rt: &impl Abort, row: &Row) {
+fn is_row(rt: &impl Abort, mode: Mode, row: &Row) {
     let (before, came, state, transport, said) = *row;
     let told = (state, transport, said);
-    assert_eq!(rt; after(before, came), told, "{before} {came:?}");
+    assert_eq!(rt; after(mode, before, came), told, "{before} {came:?}");
 }
 
 #[test]
 fn each_row_is_as_the_table_says(rt: HostRuntime) {
     for row in &ROWS {
-        is_row(&rt, row);
+        is_row(&rt, Mode::Passive, row);
     }
+}
+
+#[test]
+fn each_row_of_an_active_peer_is_as_the_table_says(rt: HostRuntime) {
+    for row in &ACTIVE_ROWS {
+        is_row(&rt, Mode::Active, row);
+    }
+}
+
+// A session of this mode after these inputs, all at one moment.
+fn session_after(mode: Mode, inputs: &[Came], now: u64) -> Session {
+    let mut session = Session::new(OWN, mode);
+    for came in inputs {
+        let _ = take_at(&mut session, *came, now);
+    }
+    session
+}
+
+const ESTABLISHING: [Came; 4] = [Came::Start, Came::Up, Came::Open, Came::Keepalive];
+
+#[test]
+fn the_hold_timer_is_of_the_smaller_hold_time(rt: HostRuntime) -> Result<(), Fail> {
+    let mut session = session_after(Mode::Passive, &ESTABLISHING, 100);
+    assert_eq!(rt; session.timers.hold, Some(190));
+    assert_eq!(rt; session.timers.keepalive, Some(130));
+    let _ = take_at(&mut session, Came::Update, 150);
+    assert_eq!(rt; session.timers.hold, Some(240));
+    assert_eq!(rt; session.timers.keepalive, Some(130));
+    assert!(rt; !session.has_ended(Timer::Hold, 239));
+    assert!(rt; session.has_ended(Timer::Hold, 240));
+    Ok(())
+}
+
+#[test]
+fn a_hold_time_of_0_runs_no_timer(rt: HostRuntime) -> Result<(), Fail> {
+    let own = Open {
+        hold_time: 0,
+        ..OWN
+    };
+    let mut session = Session::new(own, Mode::Passive);
+    for came in ESTABLISHING {
+        let _ = take(&mut session, came);
+    }
+    assert_eq!(rt; session.state(), State::Established);
+    assert_eq!(rt; session.timers, Timers::STOPPED);
+    Ok(())
+}
+
+#[test]
+fn an_end_behind_the_greatest_moment_never_comes(rt: HostRuntime) -> Result<(), Fail> {
+    let session = session_after(Mode::Active, &[Came::Start], u64::MAX - 119);
+    assert_eq!(rt; session.state(), State::Connect);
+    assert!(rt; !session.has_ended(Timer::ConnectRetry, u64::MAX));
+    let session = session_after(Mode::Active, &[Came::Start], u64::MAX - 120);
+    assert!(rt; session.has_ended(Timer::ConnectRetry, u64::MAX));
+    Ok(())
+}
+
+#[test]
+fn an_enabled_peer_begins_again_after_a_while(rt: HostRuntime) -> Result<(), Fail> {
+    let mut session = session_after(Mode::Passive, &ESTABLISHING, 7);
+    let _ = take_at(&mut session, Came::Fail, 10);
+    assert_eq!(rt; session.timers.idle_hold, Some(40));
+    let _ = take_at(&mut session, Came::Disable, 20);
+    assert_eq!(rt; session.timers, Timers::STOPPED);
+    let _ = take_at(&mut session, Came::Start, 30);
+    assert_eq!(rt; session.state(), State::Active);
+    Ok(())
 }
 
 #[test]

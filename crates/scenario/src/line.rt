@@ -34,6 +34,8 @@ pub enum SpeakerLine<'a> {
     Peer(u8, PeerConf<'a>),
     /// `enable SLOT`
     Enable(u8),
+    /// `disable SLOT`
+    Disable(u8),
     /// `reach PREFIX COST`
     Reach(Prefix, u32),
     /// `up SLOT`
@@ -152,6 +154,7 @@ fn speaker_line<'a>(words: &[&'a str]) -> Option<SpeakerLine<'a>> {
     let line = match words {
         ["peer", slot, words @ ..] => SpeakerLine::Peer(number(slot)?, peer(words)?),
         ["enable", slot] => SpeakerLine::Enable(number(slot)?),
+        ["disable", slot] => SpeakerLine::Disable(number(slot)?),
         ["reach", prefix, cost] => SpeakerLine::Reach(Prefix::parse(prefix).ok()?, number(cost)?),
         ["up", slot] => SpeakerLine::Up(number(slot)?),
         ["fail", slot] => SpeakerLine::Fail(number(slot)?),

@@ -246,6 +246,7 @@ impl Stage {
                 writer,
             )?,
             SpeakerLine::Enable(slot) => command(speaker, Command::Enable(slot), writer)?,
+            SpeakerLine::Disable(slot) => command(speaker, Command::Disable(slot), writer)?,
             SpeakerLine::Reach(prefix, cost) => command(
                 speaker,
                 Command::Reach(prefix, cost),

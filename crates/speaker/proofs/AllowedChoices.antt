@@ -16,7 +16,7 @@ use Rattle.bgp_msg.specs.MessageStream.{Item, WholeMessage, FaultyHeader}
 use Rattle.bgp_msg.specs.UpdateMeaning.{UpdateBody, update_fault}
 use Rattle.bgp_msg.specs.declared.frame.MessageType.TheVariants.{Open, Update, Notification, Keepalive}
 use Rattle.bgp_peer.proofs.Agreeing.{item_octet}
-use Rattle.bgp_peer.specs.SessionInputs.{Event, Terms, Octet, Signalled, input_of, item_at, kind_of, onto, session, terms_of, update_input}
+use Rattle.bgp_peer.specs.SessionInputs.{Event, Terms, Octet, Signalled, input_of, item_at, kind_of, moment_of, onto, session, terms_of, update_input}
 use Rattle.net_prefix.specs.PrefixOrder.{prefix_cmp}
 use Rattle.net_prefix.specs.declared.prefix.Prefix.{Prefix}
 use Rattle.rib_in.specs.LatestRoutes.{route_at}
@@ -283,8 +283,8 @@ signal_few slot h input s old new is routes chooses = by_test (effects_of input 
         let all = chooses.ends left in
         let few = most_routes h all.0 (different_as (λ p. IsSome (route_at old.adj_in slot p)) (λ p. IsSome (route h p)) all.0 (λ p there. subst (λ o. IsSome o) (routes p) there) all.1) in
         let most = all.2 in
-        let ended = none_left (is_established s.state) (is_established (session_after input s).state) (sym left ∙ left_is input s) in
-        let over = ended_few h (Signalled input) (subst (λ (x : Session). is_established (session_after input x).state ≡ false) is ended) in
+        let ended = none_left (is_established s.state) (is_established (session_after (moment_of h) input s).state) (sym left ∙ left_is (moment_of h) input s) in
+        let over = ended_few h (Signalled input) (subst (λ (x : Session). is_established (session_after (moment_of h) input x).state ≡ false) is ended) in
         omega (arith, few, most, over)
 
 stays_up : (s : Session) → is_established s.state ≡ true → (effects_of UpdateInput s).left ≡ false
@@ -327,8 +327,8 @@ item_few h octet item ended some different none = by_test (effects_of (input_of 
     by_test : (left : Bool) → (effects_of (input_of (session h).state (terms_of h) item) (session h)).left ≡ left → named_if (update_heard (session h).state (terms_of h) item) + length ended ≤ choices_by h (Octet octet)
     by_test false stays = let no = ap length (none stays) in let named = ap named_if same in omega (arith, no, named)
     by_test true left =
-        let over = none_left (is_established (session h).state) (is_established (session_after (input_of (session h).state (terms_of h) item) (session h)).state)
-        (sym left ∙ left_is (input_of (session h).state (terms_of h) item) (session h)) in
+        let over = none_left (is_established (session h).state) (is_established (session_after (moment_of h) (input_of (session h).state (terms_of h) item) (session h)).state)
+        (sym left ∙ left_is (moment_of h) (input_of (session h).state (terms_of h) item) (session h)) in
         let few = by_update (update_heard (session h).state (terms_of h) item) refl left in
         let all = ended_few h (Octet octet) (ap (λ (s : Session). is_established s.state) (item_octet h octet item some).0 ∙ over) in
         let named = ap named_if same in

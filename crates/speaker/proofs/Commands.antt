@@ -1,5 +1,6 @@
-use Rattle.std.proofs.Common.{◌≡◌, ◌≢◌, ◌≤◌, ◌<◌, ◌+◌, ◌==◌, ◌&&◌, ◌||◌, ℕ, Bool, true, false, List, [], ◌∷◌, length, Option, Some, None, Result, Ok, Err, OnErr, is_none, nat_le, cond, refl, sym, ap, ◌∙◌, subst, arith}
+use Rattle.std.proofs.Common.{◌≡◌, ◌≢◌, ◌≤◌, ◌<◌, ◌+◌, ◌==◌, ◌&&◌, ◌||◌, ◌^◌, ℕ, Bool, true, false, List, [], ◌∷◌, length, Option, Some, None, Result, Ok, Err, OnErr, is_none, nat_le, cond, refl, sym, ap, ◌∙◌, subst, arith}
 use Rattle.std.proofs.lemmas.Bool.{eq-eqb, ne_eqb, eqb-true}
+use Rattle.std.proofs.lemmas.Bool.Decides.{nat_tests}
 use Rattle.std.specs.BTreeMap.{is_at}
 use Rattle.std.specs.Option.{IsSome, option_map}
 use Rattle.std.specs.Ordering.{nat_cmp}
@@ -9,7 +10,7 @@ use Rattle.bgp_conf.specs.Configuration.{AddressesDiffer, Configuration, peer_at
 use Rattle.bgp_conf.specs.ConfAfter.{TakesMemory, conf_after, peer_after, configured_of}
 use Rattle.bgp_conf.specs.FirstRefusal.{first_refusal}
 use Rattle.bgp_conf.specs.declared.command.Command.{Command}
-use Rattle.bgp_conf.specs.declared.command.Command.TheVariants.{AddPeer, Enable, Reach}
+use Rattle.bgp_conf.specs.declared.command.Command.TheVariants.{AddPeer, Enable, Disable, Reach}
 use Rattle.bgp_conf.specs.declared.command.PeerConf.{PeerConf}
 use Rattle.bgp_conf.specs.declared.conf.ConfiguredPeer.{ConfiguredPeer}
 use Rattle.bgp_conf.specs.declared.refusal.Refusal.{Refusal}
@@ -19,10 +20,10 @@ use Rattle.bgp_fsm.specs.StateTests.{is_established, is_message}
 use Rattle.bgp_fsm.specs.Transports.{transport_of}
 use Rattle.bgp_fsm.proofs.TableLaws.{established_stands}
 use Rattle.bgp_fsm.specs.declared.input.Input.{Input}
-use Rattle.bgp_fsm.specs.declared.input.Input.TheVariants.{Start, Up}
+use Rattle.bgp_fsm.specs.declared.input.Input.TheVariants.{Start, Disable as Disabled, Up}
 use Rattle.bgp_fsm.specs.declared.session.Session.{Session}
 use Rattle.bgp_peer.specs.SessionInputs as happens
-use Rattle.bgp_peer.specs.SessionInputs.{Signalled, session}
+use Rattle.bgp_peer.specs.SessionInputs.{Signalled, moment_of, session}
 use Rattle.bgp_peer.specs.Slot.{configured}
 use Rattle.bgp_peer.proofs.Agreeing.{agrees-new}
 use Rattle.decision.specs.BookContents.{offer_at}
@@ -32,23 +33,24 @@ use Rattle.net_prefix.specs.declared.transport.Transport.{Transport}
 use Rattle.net_prefix.specs.declared.transport.Transport.TheVariants.{Open as Connected}
 use Rattle.rib_in.specs.LatestRoutes.{HasRoute, route_at}
 use Rattle.speaker.specs.AdjRibIn.{route}
-use Rattle.speaker.specs.Agreement.{SlotAgrees, IsTaken, Holds}
+use Rattle.speaker.specs.Agreement.{SlotAgrees, IsTaken, Holds, HoldsBy}
 use Rattle.speaker.proofs.Histories.{no_route}
-use Rattle.speaker.proofs.SlotStates.{SlotIs, slot_agrees, configured_from}
+use Rattle.speaker.proofs.SlotStates.{SlotIs, slot_agrees, configured_from, slot_from}
 use Rattle.speaker.specs.Choices.{choices_by, choices_in}
 use Rattle.speaker.specs.Chosen.{AreDifferent, Chooses}
 use Rattle.speaker.specs.FirstRefusal.{refused_at, awaits_up}
 use Rattle.speaker.specs.Linked.{Linked}
 use Rattle.speaker.specs.Offers.{AreMadeAgain, IsSound, Offers}
 use Rattle.speaker.specs.Moves.{Moves, IsPut, moved}
-use Rattle.speaker.specs.Runs.{Call, Run, turn, Up_call, Fail_call, Bytes_call, Starved_call, Tick_call, Command_call, Take_call, conf_called, configuration_of, history, moment_after, terms_in}
+use Rattle.speaker.specs.Runs.{Call, Run, turn, Up_call, Fail_call, Bytes_call, Starved_call, Tick_call, Command_call, Take_call, conf_called, configuration_of, history, moment_after, opened_commanded, terms_in}
 use Rattle.speaker.specs.SpeakerState.{SpeakerState}
 use Rattle.speaker.specs.Tables.{link_at, tables}
 use Rattle.speaker.specs.declared.config.Config.{Config}
 use Rattle.speaker.proofs.AllowedChoices.{most_known, signal_few}
 use Rattle.speaker.proofs.Calls.{slots_changed}
 use Rattle.speaker.proofs.Counting.{different_as}
-use Rattle.speaker.proofs.Events.{holds_put, slot_is, slot_of}
+use Rattle.speaker.proofs.Events.{put_by, slot_is, slot_of}
+use Rattle.speaker.proofs.Moments.{moment_same}
 use Rattle.speaker.proofs.KeptOffers.{kept_added, kept_again, moves_keep}
 use Rattle.speaker.proofs.SlotOctets.{slot_signalled}
 use Rattle.speaker.proofs.SoundOffers.{sound_conf}
@@ -83,6 +85,30 @@ not_yet s true is shut = absurd (shut (established_stands s is))
 not_yet s false is shut = refl
 
 -- an input that is no message moves a slot; a connection comes up only where none stands
+pub signalled_by : (config : Config) (c1 c2 : Configuration) (now1 now2 : ℕ) (h1 h2 : ℕ → List happens.Event) (m1 m2 : ℕ) (slot : ℕ) (l : Linked) (input : Input) (old new : SpeakerState)
+    → HoldsBy config c1 now1 h1 m1 old → c2 ≡ c1 → now2 ≡ now1 → moment_of (h1 slot) ≡ old.moment
+    → link_at old.links slot ≡ Some l → is_message input ≡ false → (input ≡ Up → transport_of l.peer.session ≢ Connected) → Moves slot l input old new
+    → ((t : ℕ) → h2 t ≡ cond (t == slot) (Signalled input ∷ h1 t) (h1 t))
+    → Chooses slot (effects_of input l.peer.session).left old new → (most : ℕ) → old.chosen ≤ old.chosen_before + most → most + choices_by (h1 slot) (Signalled input) ≤ m2
+    → HoldsBy config c2 now2 h2 m2 new
+signalled_by config c1 c2 now1 now2 h1 h2 m1 m2 slot l input old new h conf moment at_moment linked is shut moves histories chooses most so_far allowed =
+    let peer = configured_from config (peer_at old.conf slot) (link_at old.links slot) l (route_at old.adj_in slot) (h1 slot) linked (h.slots slot) in
+    let here : SlotIs config peer.0 l (route_at old.adj_in slot) (h1 slot) = slot_from config (peer_at old.conf slot) peer.0 (link_at old.links slot) l (route_at old.adj_in slot) (h1 slot) peer.1 linked (h.slots slot) in
+    let at : h2 slot ≡ Signalled input ∷ h1 slot = histories slot ∙ rw (eq-eqb slot slot refl) refl in
+    let other : input ≡ Up → is_established (session (h1 slot)).state ≡ false =
+    λ up. not_yet (session (h1 slot)) _ refl (λ k. shut up (ap transport_of here.link.peer.session ∙ k)) in
+    let H : List happens.Event → Type 0 = λ x. SlotIs config peer.0 (moved old.moment l input) (route_at new.adj_in slot) x in
+    let M : ℕ → Type 0 = λ m. SlotIs config peer.0 (moved m l input) (route_at new.adj_in slot) (Signalled input ∷ h1 slot) in
+    let few = signal_few slot (h1 slot) input l.peer.session old new here.link.peer.session here.routes_are chooses in
+    let kept_before = moves.rest.chosen_before in
+    put_by config c1 c2 now1 now2 h1 h2 m1 m2 slot (moved old.moment l input) old new h conf moment (moves_keep slot l input old new linked moves) moves.rest moves.links
+    (λ t away p. moves.routes t p ∙ left_there slot t (effects_of input l.peer.session).left (route_at old.adj_in t p) away)
+    (λ t away. histories t ∙ rw (ne_eqb t slot away) refl)
+    (omega (arith, few, so_far, allowed, kept_before))
+    peer.0 peer.1
+    (subst H (sym at) (subst M at_moment (slot_signalled config peer.0 l (route_at old.adj_in slot) (route_at new.adj_in slot) (h1 slot) input is other here
+    (λ p. moves.routes slot p ∙ left_here slot (effects_of input l.peer.session).left (route_at old.adj_in slot p)))))
+
 pub holds_signalled : (config : Config) (r1 r2 : Run) (slot : ℕ) (l : Linked) (input : Input) (old new : SpeakerState)
     → Holds config r1 old → link_at old.links slot ≡ Some l → is_message input ≡ false → (input ≡ Up → transport_of l.peer.session ≢ Connected) → Moves slot l input old new
     → configuration_of config r2 ≡ configuration_of config r1 → moment_after r2 ≡ moment_after r1
@@ -90,21 +116,8 @@ pub holds_signalled : (config : Config) (r1 r2 : Run) (slot : ℕ) (l : Linked) 
     → Chooses slot (effects_of input l.peer.session).left old new → (most : ℕ) → old.chosen ≤ old.chosen_before + most → most + choices_by (history config slot r1) (Signalled input) ≤ choices_in config r2
     → Holds config r2 new
 holds_signalled config r1 r2 slot l input old new h linked is shut moves conf moment histories chooses most so_far allowed =
-    let peer = peer_of config r1 slot l old h linked in
-    let here = slot_is config r1 slot peer.0 l old h peer.1 linked in
-    let at : history config slot r2 ≡ Signalled input ∷ history config slot r1 = histories slot ∙ rw (eq-eqb slot slot refl) refl in
-    let other : input ≡ Up → is_established (session (history config slot r1)).state ≡ false =
-    λ up. not_yet (session (history config slot r1)) _ refl (λ k. shut up (ap transport_of here.link.peer.session ∙ k)) in
-    let H : List happens.Event → Type 0 = λ x. SlotIs config peer.0 (moved l input) (route_at new.adj_in slot) x in
-    let few = signal_few slot (history config slot r1) input l.peer.session old new here.link.peer.session here.routes_are chooses in
-    let kept_before = moves.rest.chosen_before in
-    holds_put config r1 r2 slot (moved l input) old new h conf moment (moves_keep slot l input old new linked moves) moves.rest moves.links
-    (λ t away p. moves.routes t p ∙ left_there slot t (effects_of input l.peer.session).left (route_at old.adj_in t p) away)
-    (λ t away. histories t ∙ rw (ne_eqb t slot away) refl)
-    (omega (arith, few, so_far, allowed, kept_before))
-    peer.0 peer.1
-    (subst H (sym at) (slot_signalled config peer.0 l (route_at old.adj_in slot) (route_at new.adj_in slot) (history config slot r1) input is other here
-    (λ p. moves.routes slot p ∙ left_here slot (effects_of input l.peer.session).left (route_at old.adj_in slot p))))
+    signalled_by config (configuration_of config r1) (configuration_of config r2) (moment_after r1) (moment_after r2) (λ t. history config t r1) (λ t. history config t r2) (choices_in config r1) (choices_in config r2)
+    slot l input old new h conf moment (moment_same config r1 slot ∙ sym h.moment) linked is shut moves histories chooses most so_far allowed
 
 -- where a connection may come up, none stands
 pub awaits_none : (t : Transport) → awaits_up t ≡ true → t ≢ Connected
@@ -122,6 +135,29 @@ holds_enable config r slot old new h may moves chooses so_far =
     let peer = some_from_not (nat_le 64 slot) (peer_at old.conf slot) Refusal.BadSlot may in
     let found = slot_of config r slot peer.0 old h peer.1 in
     holds_signalled config r (turn (Command_call (Enable slot)) [] ∷ r) slot found.0 Start old new h found.1 refl (λ e. cc) (moves found.0 found.1) refl refl (λ t. refl) (chooses found.0 found.1) 0 (omega (arith, so_far)) (omega arith)
+
+pub slot_low : (conf : Configuration) (slot : ℕ) → first_refusal conf 0 (Enable slot) ≡ None → slot < 64
+slot_low conf slot may = below (nat_le 64 slot) refl may
+  where
+    below : (b : Bool) → nat_le 64 slot ≡ b → cond (b || is_none (peer_at conf slot)) (Some Refusal.BadSlot) None ≡ None → slot < 64
+    below true over h = absurd (cc)
+    below false under h = grind (arith, nat_tests, under)
+
+-- the slot of an accepted enabling has begun an attempt where its row says so
+pub enable_opens : (config : Config) (r : Run) (slot : ℕ) (opened : ℕ) (old : SpeakerState) → Holds config r old → first_refusal old.conf 0 (Enable slot) ≡ None
+    → ((l : Linked) → link_at old.links slot ≡ Some l → opened ≡ cond (effects_of Start l.peer.session).opened (2 ^ slot) 0) → opened ≡ opened_commanded config r (Enable slot)
+enable_opens config r slot opened old h may is =
+    let peer = some_from_not (nat_le 64 slot) (peer_at old.conf slot) Refusal.BadSlot may in
+    let found = slot_of config r slot peer.0 old h peer.1 in
+    is found.0 found.1 ∙ ap (λ (s : Session). cond (effects_of Start s).opened (2 ^ slot) 0) (slot_is config r slot peer.0 found.0 old h peer.1 found.1).link.peer.session
+
+pub holds_disable : (config : Config) (r : Run) (slot : ℕ) (old new : SpeakerState) → Holds config r old → first_refusal old.conf 0 (Disable slot) ≡ None
+    → ((l : Linked) → link_at old.links slot ≡ Some l → Moves slot l Disabled old new) → ((l : Linked) → link_at old.links slot ≡ Some l → Chooses slot (effects_of Disabled l.peer.session).left old new)
+    → old.chosen ≤ old.chosen_before → Holds config (turn (Command_call (Disable slot)) [] ∷ r) new
+holds_disable config r slot old new h may moves chooses so_far =
+    let peer = some_from_not (nat_le 64 slot) (peer_at old.conf slot) Refusal.BadSlot may in
+    let found = slot_of config r slot peer.0 old h peer.1 in
+    holds_signalled config r (turn (Command_call (Disable slot)) [] ∷ r) slot found.0 Disabled old new h found.1 refl (λ e. cc) (moves found.0 found.1) refl refl (λ t. refl) (chooses found.0 found.1) 0 (omega (arith, so_far)) (omega arith)
 
 -- a slot with a route is one of the 64
 slot_of_route : (config : Config) (r : Run) (s : SpeakerState) → Holds config r s → (p : Prefix) → HasRoute s.adj_in p → (t : ℕ) × (t < 64) × IsSome (route (history config t r) p)
@@ -159,6 +195,7 @@ added_taken own slot t before peer found new old at = by_slot (t == slot) refl a
 own_after : (conf : Configuration) (command : Command) → (conf_after conf command).own ≡ conf.own
 own_after conf (AddPeer slot peer) = refl
 own_after conf (Enable slot) = refl
+own_after conf (Disable slot) = refl
 own_after conf (Reach prefix cost) = refl
 
 own_called : (call : Call) (conf : Configuration) → (conf_called call conf).own ≡ conf.own
@@ -196,7 +233,7 @@ pub holds_added : (config : Config) (r : Run) (slot : ℕ) (peer : PeerConf) (ol
 holds_added config r slot peer old new h may conf peers put config_same moment adj_in book few =
     let free : peer_at old.conf slot ≡ None = peer_at-from_accepted old.conf 0 slot peer may in
     let before = h.slots slot in
-    let vacant : is_established (session (history config slot r)).state ≡ false = before.vacant (sym before.configured ∙ ap (option_map (terms_in config)) free) in
+    let vacant : is_established (session (history config slot r)).state ≡ false = (before.vacant (sym before.configured ∙ ap (option_map (terms_in config)) free)).0 in
     record {
       config_is = config_same ∙ h.config_is;
       moment = moment ∙ h.moment;

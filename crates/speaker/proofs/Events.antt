@@ -3,7 +3,7 @@ use Rattle.std.proofs.lemmas.Bool.{cases_eq, eq-eqb, ne_eqb, eqb-true, lt-ltb, l
 use Rattle.std.proofs.lemmas.List.{length-take, nil_from_length}
 use Rattle.std.specs.Option.{IsSome, option_and_then}
 use Rattle.bgp_attr.specs.PathAttributes.{PathAttributes}
-use Rattle.bgp_conf.specs.Configuration.{peer_at}
+use Rattle.bgp_conf.specs.Configuration.{Configuration, peer_at}
 use Rattle.bgp_conf.specs.declared.conf.ConfiguredPeer.{ConfiguredPeer}
 use Rattle.bgp_fsm.proofs.TableLaws.{no_memory_closes}
 use Rattle.bgp_fsm.specs.SessionTable.{effects_of}
@@ -15,7 +15,7 @@ use Rattle.bgp_msg.specs.UpdateMeaning.{UpdateBody, update_fault}
 use Rattle.bgp_msg.specs.declared.frame.MessageType.TheVariants.{Update}
 use Rattle.bgp_peer.specs.Agreement.{holding}
 use Rattle.bgp_peer.specs.SessionInputs as happens
-use Rattle.bgp_peer.specs.SessionInputs.{Octet, Signalled, Terms, Ticked, onto, session, input_of, item_at, kind_of, terms_from, terms_of}
+use Rattle.bgp_peer.specs.SessionInputs.{Octet, Signalled, Terms, Ticked, onto, session, input_of, item_at, kind_of, moment_of, terms_from, terms_of}
 use Rattle.bgp_peer.specs.Slot.{Slot, pushed}
 use Rattle.bgp_peer.proofs.Agreeing.{agrees-tick, item_of_rest, onto-append}
 use Rattle.bgp_peer.proofs.Receiving.{HasHeard, Hears as HeardItem, wants-agreed}
@@ -24,7 +24,7 @@ use Rattle.net_prefix.specs.declared.transport.Transport.{Transport}
 use Rattle.net_prefix.specs.declared.transport.Transport.TheVariants.{None as NoConnection, Opening, Listening, Open as Connected, Closing}
 use Rattle.rib_in.specs.LatestRoutes.{route_at}
 use Rattle.speaker.specs.AdjRibIn.{NeedsMemory, brought, is_among, route, sound_update, update_heard, word_if}
-use Rattle.speaker.specs.Agreement.{Agrees, Hears, HearsUntil, IsFair, IsThrifty, MayStarve, SlotAgrees, Holds}
+use Rattle.speaker.specs.Agreement.{Agrees, Hears, HearsUntil, HoldsBy, IsFair, IsThrifty, MayStarve, SlotAgrees, Holds}
 use Rattle.speaker.proofs.SlotStates.{SlotIs, slot_agrees, slot_from, linked_from}
 use Rattle.speaker.specs.Choices.{announced_if, choices_by, choices_in, choices_on, choices_refused, named_if}
 use Rattle.speaker.specs.Chosen.{AreDifferent, ChoosesRefused}
@@ -33,7 +33,7 @@ use Rattle.speaker.specs.Moves.{KeepsKept, KeepsRest, IsPut, Moves, Pushes, Take
 use Rattle.speaker.specs.Queueing.{Queue, starved_in}
 use Rattle.speaker.specs.declared.event.Report.{Report}
 use Rattle.std.specs.Int.Bits.{bit_or}
-use Rattle.speaker.specs.Runs.{Call, Run, Turn, report_of, turn, asked, starved_by, Bytes_call, Starved_call, Tick_call, configuration_of, history, moment_after, terms_in}
+use Rattle.speaker.specs.Runs.{Call, Run, Turn, report_of, turn, asked, starved_by, Bytes_call, Starved_call, configuration_of, history, moment_after, opened_by, terms_in}
 use Rattle.speaker.specs.SpeakerState.{SpeakerState}
 use Rattle.speaker.specs.Tables.{link_at}
 use Rattle.speaker.specs.declared.config.Config.{Config}
@@ -43,33 +43,42 @@ use Rattle.speaker.proofs.Counting.{different_as}
 use Rattle.speaker.proofs.Histories.{route_stays}
 use Rattle.speaker.proofs.KeptOffers.{moves_keep, pushes_keep}
 use Rattle.speaker.proofs.Messages.{rest_kept}
+use Rattle.speaker.proofs.Moments.{moment_same, onto_stays}
 use Rattle.speaker.proofs.SlotEvents.{with_peer}
 use Rattle.speaker.proofs.SlotOctets.{slot_pushed, slot_signalled, slot_taken, slot_shut, WithRest}
 
 -- What each event makes of the speaker, as the run with it has it.
 
 -- one slot of the speaker changes
-pub holds_put : (config : Config) (r1 r2 : Run) (slot : ℕ) (l : Linked) (old new : SpeakerState) → Holds config r1 old → configuration_of config r2 ≡ configuration_of config r1 → moment_after r2 ≡ moment_after r1
+pub put_by : (config : Config) (c1 c2 : Configuration) (now1 now2 : ℕ) (h1 h2 : ℕ → List happens.Event) (m1 m2 : ℕ) (slot : ℕ) (l : Linked) (old new : SpeakerState) → HoldsBy config c1 now1 h1 m1 old → c2 ≡ c1 → now2 ≡ now1
     → KeepsKept old new → KeepsRest old new → IsPut slot l old new → ((t : ℕ) → t ≢ slot → (p : Prefix) → route_at new.adj_in t p ≡ route_at old.adj_in t p)
-    → ((t : ℕ) → t ≢ slot → history config t r2 ≡ history config t r1) → new.chosen ≤ new.chosen_before + choices_in config r2
-    → (peer : ConfiguredPeer) → peer_at old.conf slot ≡ Some peer → SlotIs config peer l (route_at new.adj_in slot) (history config slot r2) → Holds config r2 new
-holds_put config r1 r2 slot l old new h conf moment kept keeps put routes histories few peer configured here = record {
+    → ((t : ℕ) → t ≢ slot → h2 t ≡ h1 t) → new.chosen ≤ new.chosen_before + m2
+    → (peer : ConfiguredPeer) → peer_at old.conf slot ≡ Some peer → SlotIs config peer l (route_at new.adj_in slot) (h2 slot) → HoldsBy config c2 now2 h2 m2 new
+put_by config c1 c2 now1 now2 h1 h2 m1 m2 slot l old new h conf moment kept keeps put routes histories few peer configured here = record {
   config_is = keeps.config ∙ h.config_is;
   moment = keeps.moment ∙ h.moment ∙ sym moment;
   conf = keeps.conf ∙ h.conf ∙ sym conf;
   peers = rw keeps.conf h.peers;
   slots =
-      slots_changed config old.conf new.conf (link_at old.links) (link_at new.links) old.adj_in new.adj_in (λ t. history config t r1) (λ t. history config t r2) slot h.slots
+      slots_changed config old.conf new.conf (link_at old.links) (link_at new.links) old.adj_in new.adj_in h1 h2 slot h.slots
       (λ t other. ap (λ c. peer_at c t) keeps.conf)
       (λ t other. put t ∙ off t other)
       routes histories
-      (rw (keeps.conf, put slot, eq-eqb slot slot refl, configured) (slot_agrees config peer l (route_at new.adj_in slot) (history config slot r2) here));
+      (rw (keeps.conf, put slot, eq-eqb slot slot refl, configured) (slot_agrees config peer l (route_at new.adj_in slot) (h2 slot) here));
   kept = kept h.kept;
   chosen = few;
 }
   where
     off : (t : ℕ) → t ≢ slot → cond (t == slot) (Some l) (link_at old.links t) ≡ link_at old.links t
     off t other = rw (ne_eqb t slot other) refl
+
+pub holds_put : (config : Config) (r1 r2 : Run) (slot : ℕ) (l : Linked) (old new : SpeakerState) → Holds config r1 old → configuration_of config r2 ≡ configuration_of config r1 → moment_after r2 ≡ moment_after r1
+    → KeepsKept old new → KeepsRest old new → IsPut slot l old new → ((t : ℕ) → t ≢ slot → (p : Prefix) → route_at new.adj_in t p ≡ route_at old.adj_in t p)
+    → ((t : ℕ) → t ≢ slot → history config t r2 ≡ history config t r1) → new.chosen ≤ new.chosen_before + choices_in config r2
+    → (peer : ConfiguredPeer) → peer_at old.conf slot ≡ Some peer → SlotIs config peer l (route_at new.adj_in slot) (history config slot r2) → Holds config r2 new
+holds_put config r1 r2 slot l old new h conf moment kept keeps put routes histories few peer configured here =
+    put_by config (configuration_of config r1) (configuration_of config r2) (moment_after r1) (moment_after r2) (λ t. history config t r1) (λ t. history config t r2) (choices_in config r1) (choices_in config r2) slot l old new
+    h conf moment kept keeps put routes histories few peer configured here
 
 -- a call begins: what was chosen so far was chosen in the calls before
 abbrev pub begun : SpeakerState → SpeakerState
@@ -152,13 +161,15 @@ takes_found config r1 r2 slot peer l None old mid new is h conf moment histories
     holds_put config r1 r2 slot l old new h conf moment (λ before. takes.2 (kept before)) (rest_kept old mid new keeps takes.3) (λ s. takes.0 s ∙ put s) (λ t other p. same t p) histories few
     peer configured (same_routes config peer l (route_at old.adj_in slot) (route_at new.adj_in slot) (history config slot r2) (heard.0 is) (same slot))
 takes_found config r1 r2 slot peer l (Some item) old mid new is h conf moment histories configured kept keeps put routes connected heard takes few =
-    holds_put config r1 r2 slot (moved l (input_of l.peer.session.state (terms_in config peer) item)) old new h conf moment (λ before. takes.2 (kept before)) (rest_kept old mid new keeps takes.3)
-    (λ s. takes.0 s ∙ ap (λ other. cond (s == slot) (Some (moved l (input_of l.peer.session.state (terms_in config peer) item))) other) (put s)
-    ∙ cond_again (s == slot) (Some (moved l (input_of l.peer.session.state (terms_in config peer) item))) (Some l) (link_at old.links s))
+    let now : moment_of (history config slot r2) ≡ mid.moment = moment_same config r2 slot ∙ moment ∙ sym h.moment ∙ sym keeps.moment in
+    let P : ℕ → Type 0 = λ at. SlotIs config peer (moved at l (input_of l.peer.session.state (terms_in config peer) item)) (route_at new.adj_in slot) (history config slot r2) in
+    holds_put config r1 r2 slot (moved mid.moment l (input_of l.peer.session.state (terms_in config peer) item)) old new h conf moment (λ before. takes.2 (kept before)) (rest_kept old mid new keeps takes.3)
+    (λ s. takes.0 s ∙ ap (λ other. cond (s == slot) (Some (moved mid.moment l (input_of l.peer.session.state (terms_in config peer) item))) other) (put s)
+    ∙ cond_again (s == slot) (Some (moved mid.moment l (input_of l.peer.session.state (terms_in config peer) item))) (Some l) (link_at old.links s))
     (λ t other p. takes.1 t p ∙ rw (ne_eqb t slot other) (left_off (effects_of (input_of l.peer.session.state (terms_in config peer) item) l.peer.session).left (route_at mid.adj_in t p)) ∙ ap (λ table. route_at table t p) routes)
     histories few
     peer configured
-    ((slot_taken config peer l (route_at old.adj_in slot) (route_at new.adj_in slot) (history config slot r2) item connected (heard.1 item is)
+    (subst P now (slot_taken config peer l (route_at old.adj_in slot) (route_at new.adj_in slot) (history config slot r2) item connected (heard.1 item is)
     (λ p. takes.1 slot p
     ∙ rw (eq-eqb slot slot refl) (left_on (effects_of (input_of l.peer.session.state (terms_in config peer) item) l.peer.session).left (word_if (update_heard l.peer.session.state (terms_in config peer) item) p (route_at mid.adj_in slot p)))
     ∙ ap (λ table. cond (effects_of (input_of l.peer.session.state (terms_in config peer) item) l.peer.session).left None (word_if (update_heard l.peer.session.state (terms_in config peer) item) p (route_at table slot p))) routes)))
@@ -276,9 +287,9 @@ put_here slot l old new put = rw (put slot, eq-eqb slot slot refl) refl
 -- the slot whose UPDATE memory is refused to, with the octets behind it
 slot_starved : (config : Config) (peer : ConfiguredPeer) (l : Linked) (old new : Prefix → Option PathAttributes) (h : List happens.Event) (part behind : List ℕ)
     → SlotIs config peer (with_peer l (holding part l.peer)) old h
-    → ((p : Prefix) → new p ≡ cond (effects_of NoMemory l.peer.session).left None (old p)) → SlotIs config peer (moved l NoMemory) new (onto behind (Signalled NoMemory ∷ h))
+    → ((p : Prefix) → new p ≡ cond (effects_of NoMemory l.peer.session).left None (old p)) → SlotIs config peer (moved (moment_of h) l NoMemory) new (onto behind (Signalled NoMemory ∷ h))
 slot_starved config peer l old new h part behind here change =
-    slot_shut config peer (moved l NoMemory) new (Signalled NoMemory ∷ h) behind (no_memory_closes l.peer.session)
+    slot_shut config peer (moved (moment_of h) l NoMemory) new (Signalled NoMemory ∷ h) behind (no_memory_closes (moment_of h) l.peer.session)
     (slot_signalled config peer (with_peer l (holding part l.peer)) old new h NoMemory refl (λ e. cc) here change)
 
 -- octets come to an open connection, and memory is refused to the UPDATE that the last of them completes
@@ -301,9 +312,13 @@ starves_heard config r done slot peer l octets behind old mid new h configured l
     let change : (p : Prefix) → route_at new.adj_in slot p ≡ cond (effects_of NoMemory l.peer.session).left None (route_at old.adj_in slot p) =
     λ p. moves.routes slot p ∙ rw (eq-eqb slot slot refl) (left_on (effects_of NoMemory l.peer.session).left (route_at mid.adj_in slot p))
     ∙ ap (λ table. cond (effects_of NoMemory l.peer.session).left None (route_at table slot p)) pushes.routes in
-    let after : SlotIs config peer (moved (with_peer l (pushed l.peer octets)) NoMemory) (route_at new.adj_in slot) (onto behind (Signalled NoMemory ∷ heard.before)) =
+    let after : SlotIs config peer (moved (moment_of heard.before) (with_peer l (pushed l.peer octets)) NoMemory) (route_at new.adj_in slot) (onto behind (Signalled NoMemory ∷ heard.before)) =
     slot_starved config peer (with_peer l (pushed l.peer octets)) (route_at old.adj_in slot) (route_at new.adj_in slot) heard.before heard.part behind heard.holds change in
-    let H : List happens.Event → Type 0 = λ x. SlotIs config peer (moved (with_peer l (pushed l.peer octets)) NoMemory) (route_at new.adj_in slot) x in
+    let H : List happens.Event → Type 0 = λ x. SlotIs config peer (moved mid.moment (with_peer l (pushed l.peer octets)) NoMemory) (route_at new.adj_in slot) x in
+    let now : moment_of heard.before ≡ mid.moment =
+    sym (ap moment_of heard.history_is) ∙ onto_stays octets (history config slot was) ∙ moment_same config was slot ∙ sym h.moment ∙ sym pushes.rest.moment in
+    let M1 : ℕ → Type 0 = λ m. SlotIs config peer (moved m (with_peer l (pushed l.peer octets)) NoMemory) (route_at new.adj_in slot) (onto behind (Signalled NoMemory ∷ heard.before)) in
+    let then_after = subst M1 now after in
     let M : List happens.Event → ℕ → Type 0 = λ x octet. MayStarve x octet in
     let may : MayStarve heard.before heard.octet = record {
       body = takes.body;
@@ -337,15 +352,15 @@ starves_heard config r done slot peer l octets behind old mid new h configured l
       behind,
       ap (λ xs. done ++ (xs ++ behind)) cut.2 ∙ ap (λ xs. done ++ xs) (append_assoc cut.0 (cut.1 ∷ []) behind) ∙ sym (append_assoc done cut.0 (cut.1 ∷ behind)),
       subst (λ octet. M (onto (done ++ cut.0) (history config slot r)) octet) (sym same.0) (subst (λ x. M x heard.octet) (sym same.1) may),
-      holds_put config was (turn (Starved_call slot (done ++ cut.0) cut.1 behind) [] ∷ r) slot (moved (with_peer l (pushed l.peer octets)) NoMemory) old new h refl refl
+      holds_put config was (turn (Starved_call slot (done ++ cut.0) cut.1 behind) [] ∷ r) slot (moved mid.moment (with_peer l (pushed l.peer octets)) NoMemory) old new h refl refl
           (λ before. moves_keep slot (with_peer l (pushed l.peer octets)) NoMemory mid new (put_here slot (with_peer l (pushed l.peer octets)) old mid pushes.links) moves (pushes_keep slot l octets old mid linked pushes before))
           (rest_kept old mid new pushes.rest moves.rest)
-          (λ s. moves.links s ∙ ap (λ other. cond (s == slot) (Some (moved (with_peer l (pushed l.peer octets)) NoMemory)) other) (pushes.links s)
-          ∙ cond_again (s == slot) (Some (moved (with_peer l (pushed l.peer octets)) NoMemory)) (Some (with_peer l (pushed l.peer octets))) (link_at old.links s))
+          (λ s. moves.links s ∙ ap (λ other. cond (s == slot) (Some (moved mid.moment (with_peer l (pushed l.peer octets)) NoMemory)) other) (pushes.links s)
+          ∙ cond_again (s == slot) (Some (moved mid.moment (with_peer l (pushed l.peer octets)) NoMemory)) (Some (with_peer l (pushed l.peer octets))) (link_at old.links s))
           (λ t other p. moves.routes t p ∙ rw (ne_eqb t slot other) (left_off (effects_of NoMemory l.peer.session).left (route_at mid.adj_in t p)) ∙ ap (λ table. route_at table t p) pushes.routes)
           (λ t other. rw (ne_eqb t slot other) refl)
           (omega (arith, so_far, choices_append done cut.0 (history config slot r), most, there, still, still_before, kept_before))
-          peer configured (subst H (sym at) (subst (λ x. H (onto behind (Signalled NoMemory ∷ x))) (sym same.1) after)),
+          peer configured (subst H (sym at) (subst (λ x. H (onto behind (Signalled NoMemory ∷ x))) (sym same.1) then_after)),
     )
 
 -- a connection that takes nothing isn't open
@@ -390,7 +405,8 @@ slot_ticked config found linked routes h now a = record {
   routes_are = λ p. a.routes_are p ∙ sym (route_stays h p);
 }
 
-pub holds_ticked : (config : Config) (r : Run) (now : ℕ) (s : SpeakerState) → Holds config r s → s.chosen ≤ s.chosen_before → Holds config (turn (Tick_call now) [] ∷ r) (record s { moment = now })
+pub holds_ticked : (config : Config) (r : Run) (now : ℕ) (s : SpeakerState) → Holds config r s → s.chosen ≤ s.chosen_before
+    → HoldsBy config (configuration_of config r) now (λ t. Ticked now ∷ history config t r) 0 (record s { moment = now })
 holds_ticked config r now s h few = record {
   config_is = h.config_is;
   moment = refl;
@@ -464,31 +480,33 @@ pub none_left : (octets : List ℕ) → true ≡ (length octets == 0) → octets
 none_left octets is = nil_from_length octets (eqb-true (length octets) 0 (sym is))
 
 -- a call that has taken its event, up to its end
-pub record IsReady (config : Config) (r : Run) (wanted : Call) (starved : ℕ) (s : SpeakerState) : Type 0 where
+pub record IsReady (config : Config) (r : Run) (wanted : Call) (opened starved : ℕ) (s : SpeakerState) : Type 0 where
   pub call : Call
   pub asked_is : asked call ≡ wanted
+  pub opened_is : opened_by config r call ≡ opened
   pub starved_is : starved_by call ≡ starved
   pub fair : IsFair config r call
   pub holds : Holds config (turn call [] ∷ r) s
 
 -- octets to one of which memory was refused
 pub ready_starved : (config : Config) (r : Run) (slot starved : ℕ) (octets : List ℕ) (peer : ConfiguredPeer) (old new : SpeakerState) → starved ≡ 2 ^ slot → HearsUntil slot octets old new
-    → peer_at old.conf slot ≡ Some peer → Holds config r old → old.chosen ≤ old.chosen_before → IsReady config r (Bytes_call slot octets) starved new
+    → peer_at old.conf slot ≡ Some peer → Holds config r old → old.chosen ≤ old.chosen_before → IsReady config r (Bytes_call slot octets) 0 starved new
 ready_starved config r slot starved octets peer old new is until configured holds few =
     let found = until config r [] peer configured (holds_nothing config r slot old holds few) in
     record {
       call = Starved_call slot found.0 found.1 found.2;
       asked_is = ap (λ x. Bytes_call slot x) (sym found.3);
+      opened_is = refl;
       starved_is = sym is;
       fair = found.4;
       holds = found.5;
     }
 
 -- a step with what it did at its end
-pub steps : (config : Config) (r : Run) (wanted : Call) (starved : ℕ) (mid new : SpeakerState) (more : ℕ) (report : Report) → IsReady config r wanted starved mid → IsThrifty config r
+pub steps : (config : Config) (r : Run) (wanted : Call) (opened starved : ℕ) (mid new : SpeakerState) (more : ℕ) (report : Report) → IsReady config r wanted opened starved mid → IsThrifty config r
     → ((config : Config) (call : Call) (r : Run) → Holds config (turn call [] ∷ r) mid → IsFair config r call → IsThrifty config r → (queue : Queue) × (starved_in queue ≡ more) × Agrees config (turn call queue ∷ r) new)
-    → report ≡ record { opened = 0; starved = bit_or starved more; cache_opened = false; cache_starved = false }
-    → (now : Turn) × (asked now.call ≡ wanted) × (report ≡ report_of now) × Agrees config (now ∷ r) new
-steps config r wanted starved mid new more report ready thrifty settles is =
+    → report ≡ record { opened = opened; starved = bit_or starved more; cache_opened = false; cache_starved = false }
+    → (now : Turn) × (asked now.call ≡ wanted) × (report ≡ report_of config r now) × Agrees config (now ∷ r) new
+steps config r wanted opened starved mid new more report ready thrifty settles is =
     let end = settles config ready.call r ready.holds ready.fair thrifty in
-    (turn ready.call end.0, ready.asked_is, rw (ready.starved_is, end.1) is, end.2)
+    (turn ready.call end.0, ready.asked_is, rw (ready.opened_is, ready.starved_is, end.1) is, end.2)

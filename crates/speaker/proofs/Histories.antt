@@ -35,14 +35,14 @@ routed_by false true r none = refl
 routed_by false false r none = sym (none refl)
 
 -- the routes after an event that is this input and brings this UPDATE
-pub route_moved : (h : List Event) (e : Event) (input : Input) (update : Option UpdateBody) (p : Prefix) → session (e ∷ h) ≡ session_after input (session h) → brought h e ≡ update
+pub route_moved : (now : ℕ) (h : List Event) (e : Event) (input : Input) (update : Option UpdateBody) (p : Prefix) → session (e ∷ h) ≡ session_after now input (session h) → brought h e ≡ update
     → (is_established (session h).state ≡ false → update ≡ None)
     → route (e ∷ h) p ≡ cond (effects_of input (session h)).left None (word_if update p (route h p))
-route_moved h e input update p next is none =
+route_moved now h e input update p next is none =
     ap (λ (s : Session). cond (is_established s.state) (word_if (brought h e) p (route h p)) None) next
-    ∙ ap (λ u. cond (is_established (session_after input (session h)).state) (word_if u p (route h p)) None) is
-    ∙ routed_by (is_established (session h).state) (is_established (session_after input (session h)).state) (word_if update p (route h p)) (λ other. rw (none other, no_route h p other) refl)
-    ∙ ap (λ left. cond left None (word_if update p (route h p))) (sym (left_is input (session h)))
+    ∙ ap (λ u. cond (is_established (session_after now input (session h)).state) (word_if u p (route h p)) None) is
+    ∙ routed_by (is_established (session h).state) (is_established (session_after now input (session h)).state) (word_if update p (route h p)) (λ other. rw (none other, no_route h p other) refl)
+    ∙ ap (λ left. cond left None (word_if update p (route h p))) (sym (left_is now input (session h)))
 
 held_by : (was is : Bool) (table : List (Prefix × List ℕ)) (before sent : List ℕ) (p : Prefix) → held_at table p ≡ cond was (told_in before p) None
     → (was ≡ true → is ≡ true → told_in sent p ≡ told_in before p) → (was ≡ false → is ≡ true → told_in sent p ≡ None)
@@ -53,9 +53,9 @@ held_by false true table before sent p held same new = sym (new refl refl)
 held_by false false table before sent p held same new = held
 
 -- what the peer holds after an input: what it was told stays while Established lasts, and was nothing where it begins
-pub held_moved : (s : Session) (input : Input) (table : List (Prefix × List ℕ)) (before sent : List ℕ) (p : Prefix) → held_at table p ≡ held_in s.state before p
-    → (is_established s.state ≡ true → is_established (session_after input s).state ≡ true → told_in sent p ≡ told_in before p)
-    → (is_established s.state ≡ false → is_established (session_after input s).state ≡ true → told_in sent p ≡ None)
-    → held_at (adj_out_after (effects_of input s) table) p ≡ held_in (session_after input s).state sent p
-held_moved s input table before sent p held same new =
-    rw (left_is input s, entered_is input s) (held_by (is_established s.state) (is_established (session_after input s).state) table before sent p held same new)
+pub held_moved : (now : ℕ) (s : Session) (input : Input) (table : List (Prefix × List ℕ)) (before sent : List ℕ) (p : Prefix) → held_at table p ≡ held_in s.state before p
+    → (is_established s.state ≡ true → is_established (session_after now input s).state ≡ true → told_in sent p ≡ told_in before p)
+    → (is_established s.state ≡ false → is_established (session_after now input s).state ≡ true → told_in sent p ≡ None)
+    → held_at (adj_out_after (effects_of input s) table) p ≡ held_in (session_after now input s).state sent p
+held_moved now s input table before sent p held same new =
+    rw (left_is now input s, entered_is now input s) (held_by (is_established s.state) (is_established (session_after now input s).state) table before sent p held same new)

@@ -103,8 +103,8 @@ some_once : {X : Type 0} {x y : X} → Some x ≡ Some y → x ≡ y
 some_once is = cc
 
 -- Established that isn't left lasts
-lasting : (input : Input) (s : Session) → is_established s.state ≡ true → (effects_of input s).left ≡ false → is_established (session_after input s).state ≡ true
-lasting input s was lasts = grind (arith, common_steps)
+lasting : (now : ℕ) (input : Input) (s : Session) → is_established s.state ≡ true → (effects_of input s).left ≡ false → is_established (session_after now input s).state ≡ true
+lasting now input s was lasts = grind (arith, common_steps)
 
 none_if : {X : Type 0} (o : Option X) → (IsSome o → ⊥) → o ≡ None
 none_if None not = refl
@@ -183,7 +183,7 @@ pub kept_still : (conf : Configuration) (sessions : ℕ → Option Session) (old
 kept_still conf sessions old new had has routes offers kept = kept_gone conf sessions old new had has (λ s p. false) routes offers kept
 
 -- a session takes an input, and its routes go where it leaves Established
-pub kept_moved : (slot : ℕ) (l : Linked) (input : Input) (old new : SpeakerState) (had has : Offers) → link_at old.links slot ≡ Some l → IsPut slot (moved l input) old new → new.conf ≡ old.conf
+pub kept_moved : (slot : ℕ) (l : Linked) (input : Input) (old new : SpeakerState) (had has : Offers) → link_at old.links slot ≡ Some l → IsPut slot (moved old.moment l input) old new → new.conf ≡ old.conf
     → ((s : ℕ) (p : Prefix) → route_at new.adj_in s p ≡ cond ((effects_of input l.peer.session).left && s == slot) None (route_at old.adj_in s p))
     → ((s : ℕ) (p : Prefix) → has s p ≡ cond ((effects_of input l.peer.session).left && s == slot) None (had s p))
     → AreKept (tables_of old) had → AreKept (tables_of new) has
@@ -207,8 +207,8 @@ kept_moved slot l input old new had has linked put conf routes offers kept = rec
     left : Bool
     left = (effects_of input l.peer.session).left
 
-    session_on : session_at new.links slot ≡ Some (session_after input l.peer.session)
-    session_on = session_linked (link_at new.links slot) (moved l input) (put slot ∙ rw (eq-eqb slot slot refl) refl)
+    session_on : session_at new.links slot ≡ Some (session_after old.moment input l.peer.session)
+    session_on = session_linked (link_at new.links slot) (moved old.moment l input) (put slot ∙ rw (eq-eqb slot slot refl) refl)
 
     session_was : session_at old.links slot ≡ Some l.peer.session
     session_was = session_linked (link_at old.links slot) l linked
@@ -245,13 +245,13 @@ kept_moved slot l input old new had has linked put conf routes offers kept = rec
 
     -- where it stays Established, so does its identifier
     stays : (p : Prefix) → (effects_of input l.peer.session).left ≡ false → IsSome (route_at old.adj_in slot p)
-        → (is_established (session_after input l.peer.session).state ≡ true) × ((session_after input l.peer.session).identifier ≡ l.peer.session.identifier)
+        → (is_established (session_after old.moment input l.peer.session).state ≡ true) × ((session_after old.moment input l.peer.session).identifier ≡ l.peer.session.identifier)
     stays p lasts there =
         let before = kept.routed slot p there in
         let same : before.0 ≡ l.peer.session = some_once (sym before.1 ∙ session_was) in
         let was : is_established l.peer.session.state ≡ true = sym (ap (λ (x : Session). is_established x.state) same) ∙ before.2 in
-        let is : is_established (session_after input l.peer.session).state ≡ true = lasting input l.peer.session was lasts in
-        (is, keeps_identifier input l.peer.session was is)
+        let is : is_established (session_after old.moment input l.peer.session).state ≡ true = lasting old.moment input l.peer.session was lasts in
+        (is, keeps_identifier old.moment input l.peer.session was is)
 
     made_here : (p : Prefix) (b : Bool) → (effects_of input l.peer.session).left ≡ b → (found : Option PathAttributes) → route_at old.adj_in slot p ≡ found → IsOffer (tables_of new) slot p (has slot p)
     made_here p true is found was =
@@ -280,7 +280,7 @@ kept_moved slot l input old new had has linked put conf routes offers kept = rec
     routed_here p true is there = no_none (route_at new.adj_in slot p) (route_on p ∙ rw is refl) there
     routed_here p false is there =
         let lasts = stays p is (some_if (route_at old.adj_in slot p) (route_at new.adj_in slot p) (sym (route_on p ∙ rw is refl)) there) in
-        (session_after input l.peer.session, session_on, lasts.0)
+        (session_after old.moment input l.peer.session, session_on, lasts.0)
 
 -- a slot keeps its session
 pub kept_put : (slot : ℕ) (l m : Linked) (old new : SpeakerState) (had has : Offers) → link_at old.links slot ≡ Some l → m.peer.session ≡ l.peer.session → IsPut slot m old new

@@ -21,6 +21,7 @@ pub mod Messages
 pub mod Events
 pub mod Commands
 pub mod Takes
+pub mod TimerEnds
 pub mod Refusals
 pub mod ListedEvents
 pub mod ShownRoutes

@@ -31,7 +31,7 @@ agrees_new config own = record {
       configured = refl;
       there = refl;
       link = λ l there. absurd (cc);
-      vacant = λ none. refl;
+      vacant = λ none. (refl, refl);
       routes_are = λ prefix. refl;
     };
     kept = record {
@@ -91,7 +91,7 @@ played_none config s agrees is = record {
 -- what an accepted event leads to
 abbrev Accepts : Event → Report → SpeakerState → SpeakerState → Type 0
 Accepts event report s new =
-    (config : Config) (r : Run) → Agrees config r s → (now : Turn) × (asked now.call ≡ call_of event) × (report ≡ report_of now) × Agrees config (now ∷ r) new
+    (config : Config) (r : Run) → Agrees config r s → (now : Turn) × (asked now.call ≡ call_of event) × (report ≡ report_of config r now) × Agrees config (now ∷ r) new
 
 -- what was chosen for it, and what before
 abbrev Counts : SpeakerState → SpeakerState → Type 0

@@ -488,35 +488,35 @@ marked_put conf t slot l m old new marked linked session adj_out put = record {
     ]
 
 -- a session has taken an input
-pub followed : (conf : Configuration) (t : RoutingState) (slot : ℕ) (l : Linked) (input : Input) (old new : List (ℕ × Linked)) → AreMarked conf old t → link_at old slot ≡ Some l → IsNow slot (moved l input) old new
+pub followed : (now : ℕ) (conf : Configuration) (t : RoutingState) (slot : ℕ) (l : Linked) (input : Input) (old new : List (ℕ × Linked)) → AreMarked conf old t → link_at old slot ≡ Some l → IsNow slot (moved now l input) old new
     → IsFollowed conf new slot (effects_of input l.peer.session) t
-followed conf t slot l input old new marked linked put = record {
+followed now conf t slot l input old new marked linked put = record {
   within = marked.there.within slot l linked;
-  there = record { within = within_put slot l (moved l input) old new linked put marked.there.within; known = marked.there.known };
+  there = record { within = within_put slot l (moved now l input) old new linked put marked.there.within; known = marked.there.known };
   released = marked.released;
-  others = λ s p within other. marked.marks s p within ∙ sym (mark_off conf t slot (moved l input) old new put s p other);
+  others = λ s p within other. marked.marks s p within ∙ sym (mark_off conf t slot (moved now l input) old new put s p other);
   same = λ stays still p.
       marked.marks slot p (marked.there.within slot l linked)
       ∙ ap (mark_of conf t.adj_in t.book slot p (peer_at conf slot)) linked
-      ∙ sym (mark_put_of conf t.adj_in t.book slot p (peer_at conf slot) l (moved l input) (lasts stays still) (ap (λ a. held_at a p) (held_still stays still)))
-      ∙ ap (mark_of conf t.adj_in t.book slot p (peer_at conf slot)) (sym (now_on slot (moved l input) old new put));
+      ∙ sym (mark_put_of conf t.adj_in t.book slot p (peer_at conf slot) l (moved now l input) (lasts stays still) (ap (λ a. held_at a p) (held_still stays still)))
+      ∙ ap (mark_of conf t.adj_in t.book slot p (peer_at conf slot)) (sym (now_on slot (moved now l input) old new put));
   left = λ left x there. subst (λ (y : Linked). is_established y.peer.session.state ≡ false) (the_link x there) (ended left);
   entered = λ entered x there. subst (λ (y : Linked). y.adj_out ≡ []) (the_link x there) (fresh entered);
 }
   where
-    the_link : (x : Linked) → link_at new slot ≡ Some x → moved l input ≡ x
-    the_link x there = some_once (sym (now_on slot (moved l input) old new put) ∙ there)
+    the_link : (x : Linked) → link_at new slot ≡ Some x → moved now l input ≡ x
+    the_link x there = some_once (sym (now_on slot (moved now l input) old new put) ∙ there)
 
-    lasts : (effects_of input l.peer.session).left ≡ false → (effects_of input l.peer.session).entered ≡ false → is_established (session_after input l.peer.session).state ≡ is_established l.peer.session.state
-    lasts stays still = same_state (is_established l.peer.session.state) (is_established (session_after input l.peer.session).state) (sym (left_is input l.peer.session) ∙ stays) (sym (entered_is input l.peer.session) ∙ still)
+    lasts : (effects_of input l.peer.session).left ≡ false → (effects_of input l.peer.session).entered ≡ false → is_established (session_after now input l.peer.session).state ≡ is_established l.peer.session.state
+    lasts stays still = same_state (is_established l.peer.session.state) (is_established (session_after now input l.peer.session).state) (sym (left_is now input l.peer.session) ∙ stays) (sym (entered_is now input l.peer.session) ∙ still)
 
-    held_still : (effects_of input l.peer.session).left ≡ false → (effects_of input l.peer.session).entered ≡ false → (moved l input).adj_out ≡ l.adj_out
+    held_still : (effects_of input l.peer.session).left ≡ false → (effects_of input l.peer.session).entered ≡ false → (moved now l input).adj_out ≡ l.adj_out
     held_still stays still = rw (stays, still) refl
 
-    ended : (effects_of input l.peer.session).left ≡ true → is_established (session_after input l.peer.session).state ≡ false
-    ended left = off_state (is_established l.peer.session.state) (is_established (session_after input l.peer.session).state) (sym (left_is input l.peer.session) ∙ left)
+    ended : (effects_of input l.peer.session).left ≡ true → is_established (session_after now input l.peer.session).state ≡ false
+    ended left = off_state (is_established l.peer.session.state) (is_established (session_after now input l.peer.session).state) (sym (left_is now input l.peer.session) ∙ left)
 
-    fresh : (effects_of input l.peer.session).entered ≡ true → (moved l input).adj_out ≡ []
+    fresh : (effects_of input l.peer.session).entered ≡ true → (moved now l input).adj_out ≡ []
     fresh entered = fresh_table (effects_of input l.peer.session).left (effects_of input l.peer.session).entered l.adj_out entered
 
 -- the slot's peer was told what is exported to it

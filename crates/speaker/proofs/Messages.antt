@@ -57,7 +57,8 @@ takes_input slot terms l item heard old mid new is routes few kept keeps links l
     let F : Input → Type 0 = λ i. Moves slot l i mid new in
     let here = subst F is moves in
     let C : Input → Type 0 = λ i. Chooses slot (effects_of i l.peer.session).left mid new in (
-      λ s. here.links s ∙ ap (λ other. cond (s == slot) (Some (moved l (input_of l.peer.session.state terms item))) other) (links s),
+      λ s. here.links s ∙ ap (λ other. cond (s == slot) (Some (moved mid.moment l (input_of l.peer.session.state terms item))) other) (links s)
+          ∙ ap (λ now. cond (s == slot) (Some (moved now l (input_of l.peer.session.state terms item))) (link_at old.links s)) keeps.moment,
       λ s prefix. here.routes s prefix ∙ ap (λ r. cond ((effects_of (input_of l.peer.session.state terms item) l.peer.session).left && s == slot) None r) (routes s prefix),
       λ before. moves_keep slot l (input_of l.peer.session.state terms item) mid new linked here (kept before),
       rest_kept old mid new keeps here.rest,
@@ -92,7 +93,8 @@ pub starves : (slot : ℕ) (l : Linked) (old mid new : SpeakerState) → l.peer.
     → ((s : ℕ) → link_at mid.links s ≡ link_at old.links s) → ((s : ℕ) (p : Prefix) → s ≢ slot → route_at mid.adj_in s p ≡ route_at old.adj_in s p)
     → ((s : ℕ) (p : Prefix) → s ≢ slot → offer_at mid.book s p ≡ offer_at old.book s p) → KeepsRest old mid → Moves slot l NoMemory mid new → Moves slot l NoMemory old new
 starves slot l old mid new up links routes offers rest moves = record {
-  links = λ s. moves.links s ∙ ap (λ x. cond (s == slot) (Some (moved l NoMemory)) x) (links s);
+  links = λ s. moves.links s ∙ ap (λ x. cond (s == slot) (Some (moved mid.moment l NoMemory)) x) (links s)
+      ∙ ap (λ now. cond (s == slot) (Some (moved now l NoMemory)) (link_at old.links s)) rest.moment;
   routes = λ s p. moves.routes s p ∙ gone (effects_of NoMemory l.peer.session).left left s (route_at mid.adj_in s p) (route_at old.adj_in s p) (routes s p);
   offers = λ s p. moves.offers s p ∙ gone (effects_of NoMemory l.peer.session).left left s (offer_at mid.book s p) (offer_at old.book s p) (offers s p);
   rest = rest_kept old mid new rest moves.rest;

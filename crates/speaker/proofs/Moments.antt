@@ -1,9 +1,11 @@
 use Rattle.std.proofs.Common.{◌≡◌, ◌==◌, ℕ, Bool, true, false, List, [], ◌∷◌, cond, refl, ap, ◌∙◌}
 use Rattle.bgp_conf.specs.declared.command.Command.{Command}
-use Rattle.bgp_conf.specs.declared.command.Command.TheVariants.{AddPeer, Enable, Reach}
+use Rattle.bgp_conf.specs.declared.command.Command.TheVariants.{AddPeer, Enable, Disable, Reach}
 use Rattle.bgp_peer.specs.SessionInputs as happens
-use Rattle.bgp_fsm.specs.declared.input.Input.TheVariants.{NoMemory}
-use Rattle.bgp_peer.specs.SessionInputs.{Octet, Signalled, moment_of, onto}
+use Rattle.bgp_fsm.specs.declared.input.Input.TheVariants.{NoMemory, Expires}
+use Rattle.bgp_fsm.specs.declared.timers.Timer.{Timer}
+use Rattle.bgp_fsm.specs.TimerMoments.{has_ended}
+use Rattle.bgp_peer.specs.SessionInputs.{Octet, Signalled, Ticked, ending, endings, moment_of, onto, session, timers}
 use Rattle.speaker.specs.Queueing.{Queue, Service, Tells, Starves}
 use Rattle.speaker.specs.Runs.{Call, Run, Up_call, Fail_call, Bytes_call, Starved_call, Tick_call, Command_call, Take_call, called, commanded, history, moment_after, moment_called, queued_on, served_by}
 use Rattle.speaker.specs.declared.config.Config.{Config}
@@ -15,7 +17,7 @@ either : (b : Bool) (one other : List happens.Event) (moment : ℕ) → moment_o
 either true one other moment same also = same
 either false one other moment same also = also
 
-onto_stays : (octets : List ℕ) (h : List happens.Event) → moment_of (onto octets h) ≡ moment_of h
+pub onto_stays : (octets : List ℕ) (h : List happens.Event) → moment_of (onto octets h) ≡ moment_of h
 onto_stays [] h = refl
 onto_stays (octet ∷ octets) h = onto_stays octets (Octet octet ∷ h)
 
@@ -28,9 +30,17 @@ queued_stays slot [] h = refl
 queued_stays slot (now ∷ queue) h =
     either (slot == now.0) (served_by now.1 ∷ queued_on slot queue h) (queued_on slot queue h) (moment_of h) (served_stays now.1 (queued_on slot queue h) ∙ queued_stays slot queue h) (queued_stays slot queue h)
 
+ending_stays : (timer : Timer) (now : ℕ) (h : List happens.Event) → moment_of (ending timer now h) ≡ moment_of h
+ending_stays timer now h = either (has_ended timer now (session h).timers) (Signalled (Expires timer) ∷ h) h (moment_of h) refl refl
+
+pub endings_stay : (timers : List Timer) (now : ℕ) (h : List happens.Event) → moment_of (endings timers now h) ≡ moment_of h
+endings_stay [] now h = refl
+endings_stay (timer ∷ timers) now h = endings_stay timers now (ending timer now h) ∙ ending_stays timer now h
+
 commanded_stays : (config : Config) (s : ℕ) (command : Command) (h : List happens.Event) → moment_of (commanded config s command h) ≡ moment_of h
 commanded_stays config s (AddPeer slot peer) h = either (s == slot) _ h (moment_of h) refl refl
 commanded_stays config s (Enable slot) h = either (s == slot) _ h (moment_of h) refl refl
+commanded_stays config s (Disable slot) h = either (s == slot) _ h (moment_of h) refl refl
 commanded_stays config s (Reach prefix cost) h = refl
 
 called_moves : (config : Config) (s : ℕ) (call : Call) (h : List happens.Event) → moment_of (called config s call h) ≡ moment_called call (moment_of h)
@@ -39,7 +49,7 @@ called_moves config s (Fail_call slot) h = either (s == slot) _ h (moment_of h) 
 called_moves config s (Bytes_call slot octets) h = either (s == slot) (onto octets h) h (moment_of h) (onto_stays octets h) refl
 called_moves config s (Starved_call slot before octet behind) h =
     either (s == slot) (onto behind (Signalled NoMemory ∷ onto before h)) h (moment_of h) (onto_stays behind (Signalled NoMemory ∷ onto before h) ∙ onto_stays before h) refl
-called_moves config s (Tick_call now) h = refl
+called_moves config s (Tick_call now) h = endings_stay timers now (Ticked now ∷ h)
 called_moves config s (Command_call command) h = commanded_stays config s command h
 called_moves config s (Take_call slot octets) h = either (s == slot) _ h (moment_of h) refl refl
 

@@ -33,7 +33,7 @@ use Rattle.speaker.proofs.SlotStates.{none_from}
 
 held_of_slot : (config : Config) (peer : Option ConfiguredPeer) (found : Option Linked) (routes : Prefix → Option PathAttributes) (h : List happens.Event) (prefix : Prefix)
     → SlotAgrees config peer found routes h → held_at (held_by found) prefix ≡ held h prefix
-held_of_slot config peer None routes h prefix a = rw (a.vacant (none_from (occupant h) (sym a.there))) refl
+held_of_slot config peer None routes h prefix a = rw (a.vacant (none_from (occupant h) (sym a.there))).0 refl
 held_of_slot config peer (Some l) routes h prefix a = (a.link l refl).held prefix
 
 pub held_shown : (config : Config) (r : Run) (s : SpeakerState) (slot : ℕ) (prefix : Prefix) → Agrees config r s → held_at (held_by (link_at s.links slot)) prefix ≡ held (history config slot r) prefix

@@ -11,7 +11,7 @@ use Rattle.bgp_fsm.specs.declared.session.Session.{Session}
 use Rattle.bgp_fsm.proofs.TableLaws.{established_stands}
 use Rattle.bgp_msg.specs.MessageStream.{Item, completed, needed_of}
 use Rattle.bgp_peer.specs.Agreement.{holding}
-use Rattle.bgp_peer.specs.SessionInputs.{Event, Terms, Signalled, Octet, Handed, terms_from, terms_of, item_at, input_of, session, onto}
+use Rattle.bgp_peer.specs.SessionInputs.{Event, Terms, Signalled, Octet, Handed, terms_from, terms_of, item_at, input_of, moment_of, session, onto}
 use Rattle.bgp_peer.specs.Slot.{pushed, handed}
 use Rattle.bgp_peer.proofs.Agreeing.{agrees-shut, agrees-take, shut_octet, item_of_rest}
 use Rattle.bgp_peer.proofs.Receiving.{Hears, HasHeard, heard-wanted, wants-agreed}
@@ -32,12 +32,12 @@ use Rattle.speaker.proofs.SlotEvents.{route_octet, route_item, link_signalled, l
 
 pub slot_signalled : (config : Config) (peer : ConfiguredPeer) (l : Linked) (old new : Prefix → Option PathAttributes) (h : List Event) (input : Input)
     → is_message input ≡ false → (input ≡ Up → is_established (session h).state ≡ false) → SlotIs config peer l old h
-    → ((p : Prefix) → new p ≡ cond (effects_of input l.peer.session).left None (old p)) → SlotIs config peer (moved l input) new (Signalled input ∷ h)
+    → ((p : Prefix) → new p ≡ cond (effects_of input l.peer.session).left None (old p)) → SlotIs config peer (moved (moment_of h) l input) new (Signalled input ∷ h)
 slot_signalled config peer l old new h input is other s change = record {
   terms = s.terms;
   link = link_signalled h l input is other s.link;
   routes_are = λ p. change p ∙ ap (λ r. cond (effects_of input l.peer.session).left None r) (s.routes_are p)
-      ∙ ap (λ (x : Session). cond (effects_of input x).left None (route h p)) s.link.peer.session ∙ sym (route_moved h (Signalled input) input None p refl refl (λ none. refl));
+      ∙ ap (λ (x : Session). cond (effects_of input x).left None (route h p)) s.link.peer.session ∙ sym (route_moved (moment_of h) h (Signalled input) input None p refl refl (λ none. refl));
 }
 
 pub slot_handed : (config : Config) (peer : ConfiguredPeer) (l : Linked) (routes : Prefix → Option PathAttributes) (h : List Event) (count : ℕ) → SlotIs config peer l routes h
@@ -75,12 +75,12 @@ pub slot_taken : (config : Config) (peer : ConfiguredPeer) (l : Linked) (old new
     → Hears (λ x rest. WithRest config peer l old x rest) h l.peer.rest item
     → ((p : Prefix) → new p ≡ cond (effects_of (input_of l.peer.session.state (terms_in config peer) item) l.peer.session).left None
     (word_if (update_heard l.peer.session.state (terms_in config peer) item) p (old p)))
-    → SlotIs config peer (moved l (input_of l.peer.session.state (terms_in config peer) item)) new h
+    → SlotIs config peer (moved (moment_of h) l (input_of l.peer.session.state (terms_in config peer) item)) new h
 slot_taken config peer l old new h item connected s change =
     let here : item_at s.before s.octet ≡ Some item = item_of_rest s.before (holding s.part l.peer) s.octet (Some item) connected s.whole s.holds.link.peer in
     let terms : terms_of s.before ≡ terms_in config peer = ap terms_from s.holds.terms in
-    let F : Terms → Type 0 = λ t. LinkAgrees (Octet s.octet ∷ s.before) (moved l (input_of l.peer.session.state t item)) in
-    let linked : LinkAgrees (Octet s.octet ∷ s.before) (moved l (input_of l.peer.session.state (terms_in config peer) item)) =
+    let F : Terms → Type 0 = λ t. LinkAgrees (Octet s.octet ∷ s.before) (moved (moment_of s.before) l (input_of l.peer.session.state t item)) in
+    let linked : LinkAgrees (Octet s.octet ∷ s.before) (moved (moment_of s.before) l (input_of l.peer.session.state (terms_in config peer) item)) =
     subst F terms (link_item s.before l s.part s.octet item connected s.whole s.holds.link) in
     rw s.history_is (record {
       terms = s.holds.terms;
@@ -103,7 +103,7 @@ quiet_route h octet None p is shut = route_octet h octet p is
 quiet_route h octet (Some item) p is shut =
     let nothing_done = ignored (session h) (terms_of h) item shut in
     route_item h octet item p is
-    ∙ ap (λ (row : Session × Effects). cond row.1.left None (word_if (update_heard (session h).state (terms_of h) item) p (route h p))) nothing_done
+    ∙ ap (λ (row : (ℕ → Session) × Effects). cond row.1.left None (word_if (update_heard (session h).state (terms_of h) item) p (route h p))) nothing_done
     ∙ ap (λ update. word_if update p (route h p)) (unheard (session h).state (terms_of h) item (not_established (session h) _ refl shut))
 
 slot_quiet : (config : Config) (peer : ConfiguredPeer) (l : Linked) (routes : Prefix → Option PathAttributes) (h : List Event) (octet : ℕ)

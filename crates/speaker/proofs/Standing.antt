@@ -67,4 +67,4 @@ standing_put false l before is = refl
 pub starved_falls : (slot : ℕ) (old new : SpeakerState) → (short : IsShortAt old slot) → Moves slot short.linked NoMemory old new
     → (s : ℕ) → is_standing (link_at new.links s) ≡ cond (s == slot) false (is_standing (link_at old.links s))
 starved_falls slot old new short moves s =
-    ap is_standing (moves.links s) ∙ standing_put (s == slot) (moved short.linked NoMemory) (link_at old.links s) (rw short.up refl)
+    ap is_standing (moves.links s) ∙ standing_put (s == slot) (moved old.moment short.linked NoMemory) (link_at old.links s) (rw short.up refl)

@@ -1,5 +1,5 @@
 -- When a speaker is as a run leaves it (RFC 4271 sections 3.2, 8 and 9).
-use Rattle.std.specs.Prelude.{◌≡◌, ◌≢◌, ◌==◌, ◌<◌, ◌≤◌, ◌+◌, ◌++◌, ℕ, List, [], ◌∷◌, length, Option, Some, None, is_none, false, true}
+use Rattle.std.specs.Prelude.{◌≡◌, ◌≢◌, ◌==◌, ◌<◌, ◌≤◌, ◌+◌, ◌++◌, ℕ, List, [], ◌∷◌, length, Bool, Option, Some, None, is_none, false, true, if◌then◌else◌}
 use Rattle.std.specs.Option.{option_map}
 use Rattle.bgp_attr.specs.AttributeFaults.{is_host}
 use Rattle.bgp_attr.specs.PathAttributes.{PathAttributes}
@@ -8,14 +8,16 @@ use Rattle.bgp_conf.specs.Configuration.{Configuration, peer_at}
 use Rattle.bgp_conf.specs.declared.conf.ConfiguredPeer.{ConfiguredPeer}
 use Rattle.bgp_fsm.specs.declared.state.State.TheVariants.{Established}
 use Rattle.bgp_fsm.specs.StateTests.{is_established}
+use Rattle.bgp_fsm.specs.TimerMoments.{stopped}
 use Rattle.bgp_fsm.specs.Transports.{transport_of}
+use Rattle.bgp_fsm.specs.declared.timers.Timer.{Timer}
 use Rattle.bgp_msg.specs.MessageStream.{WholeMessage, messages}
 use Rattle.bgp_msg.specs.UpdateMeaning.{update_fault}
 use Rattle.bgp_msg.specs.declared.frame.MessageType.TheVariants.{Update}
 use Rattle.bgp_peer.specs.Agreement.{PeerAgrees, IsUpdateMessage}
 use Rattle.bgp_peer.specs.SentMessages.{ring_of, sent}
 use Rattle.bgp_peer.specs.SessionInputs as slot
-use Rattle.bgp_peer.specs.SessionInputs.{item_at, occupant, onto, session}
+use Rattle.bgp_peer.specs.SessionInputs.{Ticked, endings, item_at, moment_of, occupant, onto, session, ticked}
 use Rattle.decision.specs.BookContents.{offer_at}
 use Rattle.net_prefix.specs.declared.asn.Asn.{Asn}
 use Rattle.net_prefix.specs.declared.prefix.Prefix.{Prefix}
@@ -23,14 +25,14 @@ use Rattle.net_prefix.specs.declared.transport.Transport.TheVariants.{Open as Co
 use Rattle.rib_in.specs.LatestRoutes.{route_at}
 use Rattle.rib_out.specs.Held.{held_at}
 use Rattle.speaker.specs.AdjRibIn.{NeedsMemory, route}
-use Rattle.speaker.specs.Choices.{choices_in}
+use Rattle.speaker.specs.Choices.{choices_endings, choices_in, choices_to}
 use Rattle.speaker.specs.Export.{IsExport, export_peer_of}
 use Rattle.speaker.specs.Held.{held, told_from, told_in}
 use Rattle.speaker.specs.Linked.{Linked}
 use Rattle.speaker.specs.LocRib.{IsLocRib}
 use Rattle.speaker.specs.Offers.{AreKept}
 use Rattle.speaker.specs.Queueing.{ComesFirst, Queue, Service, Tells, Starves, starved_in, update_saying}
-use Rattle.speaker.specs.Runs.{Call, Run, turn, Up_call, Fail_call, Bytes_call, Starved_call, Tick_call, Command_call, Take_call, configuration_of, history, moment_after, terms_in}
+use Rattle.speaker.specs.Runs.{Call, Run, turn, Up_call, Fail_call, Bytes_call, Starved_call, Tick_call, Command_call, Take_call, configuration_of, history, moment_after, opened_to, opens_by, terms_in}
 use Rattle.speaker.specs.SpeakerState.{SpeakerState, tables_of}
 use Rattle.speaker.specs.Tables.{Tables, link_at}
 use Rattle.speaker.specs.declared.config.Config.{Config}
@@ -58,8 +60,8 @@ pub record SlotAgrees (config : Config) (found : Option ConfiguredPeer) (linked 
   -- the slot is there where it isn't vacant
   pub there : is_none linked ≡ is_none (occupant h)
   pub link : (l : Linked) → linked ≡ Some l → LinkAgrees h l
-  -- nothing is exchanged with a vacant one: it has no routes, and none are held
-  pub vacant : occupant h ≡ None → is_established (session h).state ≡ false
+  -- nothing is exchanged with a vacant one, and no timer of it runs
+  pub vacant : occupant h ≡ None → (is_established (session h).state ≡ false) × ((session h).timers ≡ stopped)
   pub routes_are : (prefix : Prefix) → routes prefix ≡ route h prefix
 
 -- where 8,192 octets are free, the peer of each Established slot holds its export
@@ -146,17 +148,36 @@ pub record IsTaken (own : Asn) (slot : ℕ) (peer : ConfiguredPeer) : Type 0 whe
 abbrev pub AreTaken : Asn → Configuration → Type 0
 AreTaken own conf = (0 < own.0) × ((slot : ℕ) (peer : ConfiguredPeer) → peer_at conf slot ≡ Some peer → IsTaken own slot peer)
 
--- the settings, the moment, the configuration and each slot are as the run leaves them
-pub record Holds (config : Config) (r : Run) (s : SpeakerState) : Type 0 where
+-- the settings, the configuration and the moment are these, and each slot is as its history leaves it
+pub record HoldsBy (config : Config) (conf_is : Configuration) (now : ℕ) (histories : ℕ → List slot.Event) (most : ℕ) (s : SpeakerState) : Type 0 where
   pub config_is : s.config ≡ config
-  pub moment : s.moment ≡ moment_after r
-  pub conf : s.conf ≡ configuration_of config r
+  pub moment : s.moment ≡ now
+  pub conf : s.conf ≡ conf_is
   pub peers : AreTaken config.asn s.conf
-  pub slots : (slot : ℕ) → SlotAgrees config (peer_at s.conf slot) (link_at s.links slot) (route_at s.adj_in slot) (history config slot r)
+  pub slots : (slot : ℕ) → SlotAgrees config (peer_at s.conf slot) (link_at s.links slot) (route_at s.adj_in slot) (histories slot)
   -- the candidates that are kept are those of all routes
   pub kept : AreKept (tables_of s) (offer_at s.book)
-  -- a best route was chosen in the last call at most as often as what it did allows
-  pub chosen : s.chosen ≤ s.chosen_before + choices_in config r
+  -- a best route was chosen in the last call so often at most
+  pub chosen : s.chosen ≤ s.chosen_before + most
+
+-- they are as the run leaves them, and a best route was chosen in its last call at most as often as what it did allows
+abbrev pub Holds : Config → Run → SpeakerState → Type 0
+Holds config r s = HoldsBy config (configuration_of config r) (moment_after r) (λ slot. history config slot r) (choices_in config r) s
+
+-- the ends of these timers of a slot, where they have ended, come to it, whatever came before, and this tells whether its
+-- connection attempt begins
+abbrev pub EndsTimers : List Timer → ℕ → Bool → SpeakerState → SpeakerState → Type 0
+EndsTimers timers at opened old new =
+    (config : Config) (conf : Configuration) (histories : ℕ → List slot.Event) (most : ℕ) → moment_of (histories at) ≡ old.moment
+    → HoldsBy config conf old.moment histories most old
+    → HoldsBy config conf old.moment (λ s. if s == at then endings timers old.moment (histories s) else histories s) (most + choices_endings timers old.moment (histories at)) new
+    × (opened ≡ opens_by timers old.moment (histories at))
+
+-- the same for all slots, to each of which the moment has come, and these are those whose connection attempt begins
+abbrev pub EndsAll : ℕ → SpeakerState → SpeakerState → Type 0
+EndsAll opened old new =
+    (config : Config) (conf : Configuration) (histories : ℕ → List slot.Event) → HoldsBy config conf old.moment (λ s. Ticked old.moment ∷ histories s) 0 old
+    → HoldsBy config conf old.moment (λ s. ticked old.moment (histories s)) (choices_to histories old.moment 64) new × (opened ≡ opened_to histories old.moment 64)
 
 -- these octets come on a configured slot, behind those of the same call that came before: all is as the run with them
 -- leaves it, where it was before

@@ -1,12 +1,14 @@
 -- How often a best route may be chosen, by what comes and goes (own, for RFC 4271 section 9.1).
 use Rattle.std.specs.Prelude.{◌+◌, ◌&&◌, ◌||◌, ℕ, zero, suc, Bool, true, not, List, [], ◌∷◌, ◌++◌, Option, Some, None, is_some, false, if◌then◌else◌}
 use Rattle.bgp_conf.specs.declared.command.Command.{Command}
-use Rattle.bgp_conf.specs.declared.command.Command.TheVariants.{AddPeer, Enable, Reach}
+use Rattle.bgp_conf.specs.declared.command.Command.TheVariants.{AddPeer, Enable, Disable, Reach}
 use Rattle.bgp_fsm.specs.StateTests.{is_established}
-use Rattle.bgp_fsm.specs.declared.input.Input.TheVariants.{Start, Up, Fail, NoMemory}
+use Rattle.bgp_fsm.specs.declared.input.Input.TheVariants.{Start, Disable as Disabled, Up, Fail, NoMemory, Expires}
+use Rattle.bgp_fsm.specs.declared.timers.Timer.{Timer}
+use Rattle.bgp_fsm.specs.TimerMoments.{has_ended}
 use Rattle.bgp_msg.specs.UpdateMeaning.{UpdateBody}
 use Rattle.bgp_peer.specs.SessionInputs as slot
-use Rattle.bgp_peer.specs.SessionInputs.{Octet, Signalled, onto, session}
+use Rattle.bgp_peer.specs.SessionInputs.{Octet, Signalled, Ticked, ending, onto, session, timers}
 use Rattle.net_prefix.specs.declared.prefix.Prefix.{Prefix}
 use Rattle.speaker.specs.AdjRibIn.{brought, is_among, route}
 use Rattle.speaker.specs.Queueing.{Queue, Service, Tells, Starves}
@@ -69,14 +71,25 @@ abbrev pub announced_to : Config → Run → ℕ → List Prefix
 announced_to config r zero = []
 announced_to config r (suc s) = announced_in (history config s r) ++ announced_to config r s
 
--- for a command: what enabling a peer is to its session (it ends none), and for an entry of `reach` once for each prefix
--- to which some slot has a route
+-- for the ends of these timers, where they have ended at this moment
+abbrev pub choices_endings : List Timer → ℕ → List slot.Event → ℕ
+choices_endings [] now h = 0
+choices_endings (timer ∷ timers) now h = (if has_ended timer now (session h).timers then choices_by h (Signalled (Expires timer)) else 0) + choices_endings timers now (ending timer now h)
+
+-- for a moment that comes to the first slots, so many of them
+abbrev pub choices_to : (ℕ → List slot.Event) → ℕ → ℕ → ℕ
+choices_to histories now zero = 0
+choices_to histories now (suc s) = choices_endings timers now (Ticked now ∷ histories s) + choices_to histories now s
+
+-- for a command: what enabling a peer (which ends no session) or disabling it is to its session, and for an entry of
+-- `reach` once for each prefix to which some slot has a route
 abbrev pub choices_commanded : Config → Run → Command → ℕ
 choices_commanded config r (AddPeer s peer) = 0
 choices_commanded config r (Enable s) = choices_by (history config s r) (Signalled Start)
+choices_commanded config r (Disable s) = choices_by (history config s r) (Signalled Disabled)
 choices_commanded config r (Reach prefix cost) = how_many (is_routed config r 64) (announced_to config r 64)
 
--- for a call, up to its end; none for a moment, and none for octets that are handed out
+-- for a call, up to its end; none for octets that are handed out
 abbrev pub choices_called : Config → Run → Call → ℕ
 choices_called config r (Up_call s) = choices_by (history config s r) (Signalled Up)
 choices_called config r (Fail_call s) = choices_by (history config s r) (Signalled Fail)
@@ -84,7 +97,7 @@ choices_called config r (Bytes_call s octets) = choices_on octets (history confi
 choices_called config r (Starved_call s before octet behind) =
     choices_on before (history config s r)
     + choices_refused (brought (onto before (history config s r)) (Octet octet)) (onto before (history config s r))
-choices_called config r (Tick_call now) = 0
+choices_called config r (Tick_call now) = choices_to (λ s. history config s r) now 64
 choices_called config r (Command_call command) = choices_commanded config r command
 choices_called config r (Take_call s octets) = 0
 

@@ -30,9 +30,9 @@ use Rattle.speaker.specs.declared.receiving.Sender.{Sender}
 abbrev pub adj_out_after : Effects → List (Prefix × List ℕ) → List (Prefix × List ℕ)
 adj_out_after effects table = if effects.left || effects.entered then [] else table
 
--- the slot after an input
-abbrev pub moved : Linked → Input → Linked
-moved l input = record { peer = taken_input l.peer input; adj_out = adj_out_after (effects_of input l.peer.session) l.adj_out }
+-- the slot after an input, at this moment
+abbrev pub moved : ℕ → Linked → Input → Linked
+moved now l input = record { peer = taken_input now l.peer input; adj_out = adj_out_after (effects_of input l.peer.session) l.adj_out }
 
 -- the slot becomes another, and no other slot changes
 abbrev pub IsPut : ℕ → Linked → SpeakerState → SpeakerState → Type 0
@@ -61,7 +61,7 @@ pub record KeepsRest (old new : SpeakerState) : Type 0 where
 
 -- the input makes this of the slot and its routes, and of nothing else
 pub record Moves (slot : ℕ) (l : Linked) (input : Input) (old new : SpeakerState) : Type 0 where
-  pub links : IsPut slot (moved l input) old new
+  pub links : IsPut slot (moved old.moment l input) old new
   pub routes : IsDropped (effects_of input l.peer.session).left slot old new
   pub offers : AreDropped (effects_of input l.peer.session).left slot old new
   pub rest : KeepsRest old new
@@ -114,7 +114,7 @@ TakesItem slot terms l None old new =
     ((s : ℕ) → link_at new.links s ≡ link_at old.links s) × ((s : ℕ) (prefix : Prefix) → route_at new.adj_in s prefix ≡ route_at old.adj_in s prefix) × KeepsKept old new × KeepsRest old new
     × (new.chosen ≡ old.chosen)
 TakesItem slot terms l (Some item) old new =
-    IsPut slot (moved l (input_of l.peer.session.state terms item)) old new
+    IsPut slot (moved old.moment l (input_of l.peer.session.state terms item)) old new
     × ((s : ℕ) (prefix : Prefix) → route_at new.adj_in s prefix
     ≡ (if (effects_of (input_of l.peer.session.state terms item) l.peer.session).left && s == slot then None
     else (if s == slot then word_if (update_heard l.peer.session.state terms item) prefix (route_at old.adj_in s prefix) else route_at old.adj_in s prefix)))

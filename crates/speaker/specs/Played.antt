@@ -34,7 +34,7 @@ pub record IsCounted (config : Config) (before after : Point) : Type 0 where
 abbrev pub GoesOn : Config → Point → Event → Result Report Refusal → Point → Type 0
 GoesOn config before event (Ok report) after =
     (refusal_in config before.run event ≡ None)
-    × ((now : Turn) × (asked now.call ≡ call_of event) × (after.run ≡ now ∷ before.run) × (report ≡ report_of now) × IsSettled config after.run)
+    × ((now : Turn) × (asked now.call ≡ call_of event) × (after.run ≡ now ∷ before.run) × (report ≡ report_of config before.run now) × IsSettled config after.run)
     × IsCounted config before after
 GoesOn config before event (Err refusal) after =
     (after ≡ before)

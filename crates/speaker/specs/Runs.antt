@@ -1,13 +1,16 @@
 -- The calls of a speaker, and what they are to each slot. A run has the newest call first.
-use Rattle.std.specs.Prelude.{ℕ, ◌==◌, ◌^◌, bit_or, List, [], ◌∷◌, ◌++◌, false, if◌then◌else◌}
+use Rattle.std.specs.Prelude.{ℕ, zero, suc, ◌==◌, ◌^◌, ◌&&◌, ◌||◌, bit_or, Bool, List, [], ◌∷◌, ◌++◌, false, if◌then◌else◌}
 use Rattle.bgp_conf.specs.Configuration.{Configuration}
 use Rattle.bgp_conf.specs.ConfAfter.{conf_after, configured_of}
 use Rattle.bgp_conf.specs.declared.command.Command.{Command}
-use Rattle.bgp_conf.specs.declared.command.Command.TheVariants.{AddPeer, Enable, Reach}
+use Rattle.bgp_conf.specs.declared.command.Command.TheVariants.{AddPeer, Enable, Disable, Reach}
 use Rattle.bgp_conf.specs.declared.conf.ConfiguredPeer.{ConfiguredPeer}
-use Rattle.bgp_fsm.specs.declared.input.Input.TheVariants.{Start, Up, Fail, NoMemory}
+use Rattle.bgp_fsm.specs.declared.input.Input.TheVariants.{Start, Disable as Disabled, Up, Fail, NoMemory, Expires}
+use Rattle.bgp_fsm.specs.declared.timers.Timer.{Timer}
+use Rattle.bgp_fsm.specs.SessionTable.{effects_of}
+use Rattle.bgp_fsm.specs.TimerMoments.{has_ended}
 use Rattle.bgp_peer.specs.SessionInputs as slot
-use Rattle.bgp_peer.specs.SessionInputs.{Terms, Configured, Signalled, Queued, Handed, Ticked, onto}
+use Rattle.bgp_peer.specs.SessionInputs.{Terms, Configured, Signalled, Queued, Handed, Ticked, ending, onto, session, ticked, timers}
 use Rattle.speaker.specs.Queueing.{Queue, Service, Tells, Starves, starved_in}
 use Rattle.speaker.specs.declared.config.Config.{Config}
 use Rattle.speaker.specs.declared.event.Event.{Event}
@@ -52,10 +55,6 @@ pub record Turn : Type 0 where
 
 abbrev pub turn : Call → Queue → Turn
 turn call queued = record { call = call; queued = queued }
-
--- what a call reports: the slots to which memory was refused. As yet it opens no connection
-abbrev pub report_of : Turn → Report
-report_of now = record { opened = 0; starved = bit_or (starved_by now.call) (starved_in now.queued); cache_opened = false; cache_starved = false }
 
 -- the accepted calls, the newest first
 abbrev pub Run : Type 0
@@ -111,6 +110,7 @@ terms_in config peer = record {
 abbrev pub commanded : Config → ℕ → Command → List slot.Event → List slot.Event
 commanded config s (AddPeer slot peer) h = if s == slot then Configured (terms_in config (configured_of peer)) ∷ h else h
 commanded config s (Enable slot) h = if s == slot then Signalled Start ∷ h else h
+commanded config s (Disable slot) h = if s == slot then Signalled Disabled ∷ h else h
 commanded config s (Reach prefix cost) h = h
 
 -- what a call is to a slot; want of memory stands in the place of the UPDATE to which memory was refused
@@ -119,7 +119,7 @@ called config s (Up_call slot) h = if s == slot then Signalled Up ∷ h else h
 called config s (Fail_call slot) h = if s == slot then Signalled Fail ∷ h else h
 called config s (Bytes_call slot octets) h = if s == slot then onto octets h else h
 called config s (Starved_call slot before octet behind) h = if s == slot then onto behind (Signalled NoMemory ∷ onto before h) else h
-called config s (Tick_call now) h = Ticked now ∷ h
+called config s (Tick_call now) h = ticked now h
 called config s (Command_call command) h = commanded config s command h
 called config s (Take_call slot octets) h = if s == slot then Handed octets ∷ h else h
 
@@ -137,3 +137,34 @@ queued_on s (now ∷ queue) h = if s == now.0 then served_by now.1 ∷ queued_on
 abbrev pub history : Config → ℕ → Run → List slot.Event
 history config s [] = []
 history config s (now ∷ r) = queued_on s now.queued (called config s now.call (history config s r))
+
+-- the end of one of these timers, where they have ended at this moment, begins a connection attempt
+abbrev pub opens_by : List Timer → ℕ → List slot.Event → Bool
+opens_by [] now h = false
+opens_by (timer ∷ timers) now h = has_ended timer now (session h).timers && (effects_of (Expires timer) (session h)).opened || opens_by timers now (ending timer now h)
+
+-- of the first slots, so many of them, those whose connection attempt begins at this moment, a bit each
+abbrev pub opened_to : (ℕ → List slot.Event) → ℕ → ℕ → ℕ
+opened_to histories now zero = 0
+opened_to histories now (suc s) = bit_or (if opens_by timers now (Ticked now ∷ histories s) then 2 ^ s else 0) (opened_to histories now s)
+
+-- those whose attempt begins by a command
+abbrev pub opened_commanded : Config → Run → Command → ℕ
+opened_commanded config r (AddPeer slot peer) = 0
+opened_commanded config r (Enable slot) = if (effects_of Start (session (history config slot r))).opened then 2 ^ slot else 0
+opened_commanded config r (Disable slot) = 0
+opened_commanded config r (Reach prefix cost) = 0
+
+-- those whose attempt begins in a call. No other input of a session begins one
+abbrev pub opened_by : Config → Run → Call → ℕ
+opened_by config r (Up_call slot) = 0
+opened_by config r (Fail_call slot) = 0
+opened_by config r (Bytes_call slot octets) = 0
+opened_by config r (Starved_call slot before octet behind) = 0
+opened_by config r (Tick_call now) = opened_to (λ s. history config s r) now 64
+opened_by config r (Command_call command) = opened_commanded config r command
+opened_by config r (Take_call slot octets) = 0
+
+-- what a call after a run reports: the slots whose connection attempt begins, and those to which memory was refused
+abbrev pub report_of : Config → Run → Turn → Report
+report_of config r now = record { opened = opened_by config r now.call; starved = bit_or (starved_by now.call) (starved_in now.queued); cache_opened = false; cache_starved = false }

@@ -40,12 +40,13 @@ impl Report {
         cache_starved: false,
     };
 
-    // The report of a call that closed these slots, a bit each, for want of memory, and opened nothing.
-    pub(crate) fn of_starved(slots: u64) -> Report
-        ensures { result ≡ record { opened = 0; starved = slots; cache_opened = false; cache_starved = false } }
+    // The report of a call that began the connection attempts of some slots, and closed others for want of memory.
+    pub(crate) fn of(opened: u64, starved: u64) -> Report
+        ensures { result ≡ record { opened = opened; starved = starved; cache_opened = false; cache_starved = false } }
     {
         Report {
-            starved: slots,
+            opened,
+            starved,
             ..Report::NOTHING
         }
     }

@@ -2,7 +2,8 @@
 //!
 //! One call of `Speaker::step` judges its event, updates the tables, chooses the routes of Loc-RIB again
 //! (RFC 4271 section 9.1) and queues to each Established peer the UPDATEs that it is owed. `Speaker::take`
-//! hands a peer's octets out. There is no clock and no socket in here: a list of calls is all that happens.
+//! hands a peer's octets out. There is no clock and no socket in here: a list of calls is all that happens, and a timer
+//! ends when a moment is handed in.
 #![tactic(auto)]
 
 mod choosing;
@@ -17,6 +18,7 @@ mod routing;
 mod runs;
 mod slot_events;
 mod step;
+mod ticking;
 mod views;
 mod waiting;
 

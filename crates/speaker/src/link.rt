@@ -39,11 +39,11 @@ impl<A: Allocator + Clone> Link<A> {
     }
 
     /// The session takes an input, as `Peer::input`.
-    pub fn input<'a>(&mut self, input: Input<'a>) -> Effects<'a>
-        ensures link { self.new ≡ moved self.old input.entry }
+    pub fn input<'a>(&mut self, input: Input<'a>, now: u64) -> Effects<'a>
+        ensures link { self.new ≡ moved now self.old input.entry }
         ensures effects { result ≡ effects_of input.entry self.old.peer.session }
     {
-        let effects = self.peer.input(input);
+        let effects = self.peer.input(input, now);
         self.follow(&effects);
         effects
     }

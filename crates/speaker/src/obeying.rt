@@ -1,16 +1,22 @@
 //! What commands do to the tables.
-ghost use Rattle.std.specs.Prelude.{◌≡◌, ◌≤◌, ℕ, [], ◌∷◌, OnOk, OnErr, IsSome, None, Some, if◌then◌else◌};
+ghost use Rattle.std.specs.Prelude.{◌≡◌, ◌≤◌, ℕ, [], ◌∷◌, IfOk, OnOk, OnErr, IsSome, ◌<◌, ◌^◌, None, Some, if◌then◌else◌};
 ghost use Rattle.std.specs.Ordering.{nat_cmp};
 ghost use Rattle.std.specs.BTreeMap.{is_at};
 ghost use Rattle.bgp_conf.specs.ConfAfter.{TakesMemory};
 ghost use Rattle.bgp_conf.specs.FirstRefusal.{first_refusal};
 ghost use Rattle.bgp_conf.specs.declared.command.Command.TheVariants.{AddPeer as AddsPeer};
-ghost use Rattle.speaker.specs.Runs.{Run, turn, Command_call};
+ghost use Rattle.bgp_fsm.specs.SessionTable.{effects_of};
+ghost use Rattle.bgp_fsm.specs.declared.input.Input.TheVariants.{Start};
+ghost use Rattle.speaker.specs.Chosen.{Chooses};
+ghost use Rattle.speaker.specs.Linked.{Linked};
+ghost use Rattle.speaker.specs.Moves.{Moves};
+ghost use Rattle.speaker.specs.Runs.{Run, turn, Command_call, opened_commanded};
 ghost use Rattle.speaker.specs.Agreement.{Holds};
 ghost use Rattle.speaker.specs.declared.config.Config.{Config as TheConfig};
 ghost use Rattle.speaker.specs.Tables.{link_at};
 
 use crate::choosing::choose_again;
+use crate::event::only;
 use crate::link::Link;
 use crate::step::Speaker;
 use bgp_conf::{Command, PeerConf};
@@ -23,12 +29,13 @@ use std::collections::BTreeMap;
 impl<A: Allocator + Clone, B: Book<A>> Speaker<A, B> {
     ghost use Rattle.speaker.specs.SpeakerState.{IsAsBefore};
 
-    // Makes the tables after a command that isn't refused.
-    pub(crate) fn obey(&mut self, command: &Command<'_>) -> Result<(), AllocError>
+    // Makes the tables after a command that isn't refused. Answers the slots whose connection attempt begins, a bit each.
+    pub(crate) fn obey(&mut self, command: &Command<'_>) -> Result<u64, AllocError>
         requires { first_refusal self.old.conf 0 command.now ≡ None }
         ensures err { OnErr result (IsAsBefore self.old self.new) }
         ensures memory { OnErr result (TakesMemory self.old.conf command.now) }
-        ensures ok { OnOk result ((config : TheConfig) (r : Run) → Holds config r self.old → Holds config (turn (Command_call command.now) [] ∷ r) self.new) }
+        ensures ok { IfOk result (λ opened. (config : TheConfig) (r : Run) → Holds config r self.old
+            → Holds config (turn (Command_call command.now) [] ∷ r) self.new × (opened ≡ opened_commanded config r command.now)) }
         ensures counted { OnOk result (self.new.chosen_before ≡ self.old.chosen) }
         ensures rises { OnOk result (self.old.chosen ≤ self.new.chosen) }
     {
@@ -36,16 +43,35 @@ impl<A: Allocator + Clone, B: Book<A>> Speaker<A, B> {
             Command::AddPeer(slot, conf) => self.add_peer(command, slot, &conf),
             Command::Enable(slot) => {
                 self.begin_count();
-                self.input(slot, Input::Start);
-                Ok(())
+                Ok(self.start(slot))
+            }
+            Command::Disable(slot) => {
+                self.begin_count();
+                self.input(slot, Input::Disable);
+                Ok(0)
             }
             Command::Reach(_, _) => {
                 self.conf.apply(command)?;
                 self.chosen_before = self.routing.chosen();
                 choose_again(&self.conf, &self.links, &mut self.routing);
-                Ok(())
+                Ok(0)
             }
         }
+    }
+
+    // A peer is enabled. Answers its slot as a bit, where its connection attempt begins.
+    fn start(&mut self, slot: u8) -> u64
+        requires { slot < 64 }
+        ensures moves { (l : Linked) → link_at self.old.links slot ≡ Some l → Moves slot l Start self.old self.new }
+        ensures chosen { (l : Linked) → link_at self.old.links slot ≡ Some l → Chooses slot (effects_of Start l.peer.session).left self.old self.new }
+        ensures opened { (l : Linked) → link_at self.old.links slot ≡ Some l → result ≡ (if (effects_of Start l.peer.session).opened then 2 ^ slot else 0) }
+        ensures counted { self.new.chosen_before ≡ self.old.chosen_before }
+        ensures rises { self.old.chosen ≤ self.new.chosen }
+    {
+        if self.input(slot, Input::Start) {
+            return only(slot);
+        }
+        0
     }
 
     fn add_peer(
@@ -53,11 +79,12 @@ impl<A: Allocator + Clone, B: Book<A>> Speaker<A, B> {
         command: &Command<'_>,
         slot: u8,
         conf: &PeerConf<'_>,
-    ) -> Result<(), AllocError>
+    ) -> Result<u64, AllocError>
         requires accepted { first_refusal self.old.conf 0 command.now ≡ None }
         requires adds { command.now ≡ AddsPeer slot conf.now }
         ensures err { OnErr result (IsAsBefore self.old self.new) }
-        ensures ok { OnOk result ((config : TheConfig) (r : Run) → Holds config r self.old → Holds config (turn (Command_call command.now) [] ∷ r) self.new) }
+        ensures ok { IfOk result (λ opened. (config : TheConfig) (r : Run) → Holds config r self.old
+            → Holds config (turn (Command_call command.now) [] ∷ r) self.new × (opened ≡ opened_commanded config r command.now)) }
         ensures counted { OnOk result (self.new.chosen_before ≡ self.old.chosen) }
         ensures rises { OnOk result (self.old.chosen ≤ self.new.chosen) }
     {
@@ -71,7 +98,7 @@ impl<A: Allocator + Clone, B: Book<A>> Speaker<A, B> {
         match self.conf.apply(command) {
             Ok(()) => {
                 self.begin_count();
-                Ok(())
+                Ok(0)
             }
             Err(refused) => {
                 put_back(&mut self.links, slot, before);

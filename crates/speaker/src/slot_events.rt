@@ -32,18 +32,21 @@ use decision::Book;
 use std::alloc::{AllocError, Allocator};
 
 impl<A: Allocator + Clone, B: Book<A>> Speaker<A, B> {
-    /// A slot's session takes an input. Where it leaves Established, its routes go.
-    pub(crate) fn input(&mut self, slot: u8, input: Input<'_>)
+    /// A slot's session takes an input. Where it leaves Established, its routes go. Answers whether its connection
+    /// attempt begins.
+    pub(crate) fn input(&mut self, slot: u8, input: Input<'_>) -> bool
         ensures moves { (l : Linked) → link_at self.old.links slot ≡ Some l → Moves slot l input.entry self.old self.new }
         ensures chosen { (l : Linked) → link_at self.old.links slot ≡ Some l → Chooses slot (effects_of input.entry l.peer.session).left self.old self.new }
+        ensures opened { (l : Linked) → link_at self.old.links slot ≡ Some l → result ≡ (effects_of input.entry l.peer.session).opened }
         ensures counted { self.new.chosen_before ≡ self.old.chosen_before }
         ensures rises { self.old.chosen ≤ self.new.chosen }
     {
         let Some(link) = self.links.get_mut(&slot) else {
-            return;
+            return false;
         };
-        let effects = link.input(input);
+        let effects = link.input(input, self.moment);
         follow(&self.conf, &self.links, &mut self.routing, slot, &effects);
+        effects.opened
     }
 
     // Takes octets that come, message by message. What comes after the session has closed is dropped. Where memory is

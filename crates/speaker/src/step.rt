@@ -31,7 +31,7 @@ pub struct Speaker<A: Allocator + Clone = Global, B: Book<A> = PlainBook<A>> {
     pub(crate) links: BTreeMap<u8, Link<A>, A>,
     pub(crate) routing: Routing<A, B>,
     // The moment of the last tick.
-    moment: u64,
+    pub(crate) moment: u64,
     // How often a best route was chosen before the last call that wasn't refused.
     pub(crate) chosen_before: u64,
 }
@@ -108,7 +108,7 @@ impl<A: Allocator + Clone, B: Book<A>> Speaker<A, B> {
         // For every run that the speaker agrees with, it agrees with that run followed by this event and what it did at its
         // end, with each want of memory, and this turn is what it reports.
         ensures agrees { IfOk result (λ report. (config : TheConfig) (r : Run) → Agrees config r self.old
-            → (now : Turn) × (asked now.call ≡ call_of event.entry) × (report ≡ report_of now) × Agrees config (now ∷ r) self.new) }
+            → (now : Turn) × (asked now.call ≡ call_of event.entry) × (report ≡ report_of config r now) × Agrees config (now ∷ r) self.new) }
         // The count of the calls before has all choices up to this one, and no choice is taken back.
         ensures counted { IfOk result (λ _. self.new.chosen_before ≡ self.old.chosen) }
         ensures rises { IfOk result (λ _. self.old.chosen ≤ self.new.chosen) }
@@ -122,17 +122,17 @@ impl<A: Allocator + Clone, B: Book<A>> Speaker<A, B> {
         requires { refusal_by self.old.moment (tables_of self.old) event ≡ None }
         ensures memory { IfErr result (λ why. (why ≡ Refusal.NoMemory) × LacksMemory event.entry self.old self.new) }
         ensures agrees { IfOk result (λ report. (config : TheConfig) (r : Run) → Agrees config r self.old
-            → (now : Turn) × (asked now.call ≡ call_of event.entry) × (report ≡ report_of now) × Agrees config (now ∷ r) self.new) }
+            → (now : Turn) × (asked now.call ≡ call_of event.entry) × (report ≡ report_of config r now) × Agrees config (now ∷ r) self.new) }
         ensures counted { IfOk result (λ _. self.new.chosen_before ≡ self.old.chosen) }
         ensures rises { IfOk result (λ _. self.old.chosen ≤ self.new.chosen) }
     {
+        let mut opened = 0;
         let mut starved = 0;
         match event {
-            Event::Command(command) => {
-                if self.obey(&command).is_err() {
-                    return Err(Refusal::NoMemory);
-                }
-            }
+            Event::Command(command) => match self.obey(&command) {
+                Ok(slots) => opened = slots,
+                Err(_) => return Err(Refusal::NoMemory),
+            },
             Event::Up(slot) => {
                 self.begin_count();
                 self.input(slot, Input::Up);
@@ -149,10 +149,10 @@ impl<A: Allocator + Clone, B: Book<A>> Speaker<A, B> {
             }
             Event::Tick(now) => {
                 self.begin_count();
-                self.tick(now);
+                opened = self.tick(now);
             }
         }
-        Ok(Report::of_starved(starved | self.settle()))
+        Ok(Report::of(opened, starved | self.settle()))
     }
 
     // A call that isn't refused begins: what is chosen from now on is chosen in it.
@@ -160,13 +160,6 @@ impl<A: Allocator + Clone, B: Book<A>> Speaker<A, B> {
         ensures { self.new ≡ record self.old { chosen_before = self.old.chosen } }
     {
         self.chosen_before = self.routing.chosen();
-    }
-
-    // A moment comes. As yet no session has a timer that it could end.
-    fn tick(&mut self, now: u64)
-        ensures { self.new ≡ record self.old { moment = now } }
-    {
-        self.moment = now;
     }
 
     /// Hands out the first octets of a slot's ring, as many as there are and fit, and queues again. Refused by 40
@@ -181,7 +174,7 @@ impl<A: Allocator + Clone, B: Book<A>> Speaker<A, B> {
         // For every run that the speaker agrees with, it agrees with that run followed by this call and what it did at its
         // end, with each want of memory, and this turn is what it reports.
         ensures agrees { IfOk result (λ taken. (config : TheConfig) (r : Run) → Agrees config r self.old
-            → (queue : Queue) × (taken.1 ≡ report_of (turn (Take_call slot (take taken.0 buf.new)) queue))
+            → (queue : Queue) × (taken.1 ≡ report_of config r (turn (Take_call slot (take taken.0 buf.new)) queue))
             × Agrees config (turn (Take_call slot (take taken.0 buf.new)) queue ∷ r) self.new) }
         // The count of the calls before has all choices up to this one, and no choice is taken back.
         ensures counted { IfOk result (λ _. self.new.chosen_before ≡ self.old.chosen) }
@@ -191,7 +184,7 @@ impl<A: Allocator + Clone, B: Book<A>> Speaker<A, B> {
             return Err(Refusal::BadSlot);
         };
         self.begin_count();
-        Ok((taken, Report::of_starved(self.queue_updates())))
+        Ok((taken, Report::of(0, self.queue_updates())))
     }
 
     // Hands out the first octets of the ring of a configured slot, and answers how many.

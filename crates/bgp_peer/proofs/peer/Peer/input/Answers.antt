@@ -7,7 +7,7 @@ pub returns-clause-exact : goal.returns-clause-exact
 returns-clause-exact g c = search rules
 
 pub returns-clause-signalled : goal.returns-clause-signalled
-returns-clause-signalled g c = λ h a is. rw (returns-clause-exact g c) (agrees-signal h _ _ is a)
+returns-clause-signalled g c = λ h a now is. rw (returns-clause-exact g c, ← now) (agrees-signal h _ _ is a)
 
 pub returns-clause-heard : goal.returns-clause-heard
-returns-clause-heard g c = λ h item hearing is. rw (returns-clause-exact g c) (agrees-hearing h _ item _ hearing is)
+returns-clause-heard g c = λ h item hearing now is. rw (returns-clause-exact g c, ← now) (agrees-hearing h _ item _ hearing is)

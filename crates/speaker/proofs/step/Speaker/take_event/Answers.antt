@@ -1,46 +1,43 @@
 use Rattle.std.proofs.Common.{[], ◌∷◌, ◌∙◌, refl, sym, ap, subst, arith}
 use Rattle.bgp_fsm.specs.declared.input.Input.TheVariants.{Up, Fail}
 use Rattle.speaker.specs.Runs.{turn, call_of, Up_call, Fail_call, Bytes_call, Tick_call, Command_call}
-use Rattle.speaker.specs.Agreement.{Holds}
-use Rattle.speaker.specs.SpeakerState.{SpeakerState}
 use Rattle.speaker.specs.FirstRefusal.{awaits_up, may_fail, may_bring_octets}
 use Rattle.speaker.proofs.Commands.{accepted, peer_of, holds_signalled, awaits_none}
-use Rattle.speaker.proofs.Events.{IsReady, begun, holds_begun, holds_nothing, holds_ticked, ready_starved, steps}
+use Rattle.speaker.proofs.Events.{IsReady, begun, holds_begun, holds_nothing, ready_starved, steps}
 use Rattle.speaker.proofs.Results.{OnErr-got, OnOk-got}
 use Rattle.speaker.proofs.step.Speaker.take_event.Goals as goal
-use Rattle.speaker.proofs.step.Speaker.take_event.Goals.{in-Command+else-is_err, in-Up, in-Fail, in-Bytes+then-is_err-2, in-Bytes+else-is_err-2, in-Tick}
+use Rattle.speaker.proofs.step.Speaker.take_event.Goals.{in-Command+in-Ok, in-Up, in-Fail, in-Bytes+then-is_err, in-Bytes+else-is_err, in-Tick}
 
 pub returns-clause-agrees : goal.returns-clause-agrees
 returns-clause-agrees g c = λ config r a.
     let begins = holds_begun config r c.args.self.now a.holds in
-    let ready : IsReady config r (call_of c.args.event) c.match-event.starved c.match-event.self =
+    let ready : IsReady config r (call_of c.args.event) c.match-event.opened c.match-event.starved c.match-event.self =
     elim c.match-event.branch [
-      | in-Command+else-is_err w ↦
-          let obeyed = OnOk-got w.obey.result _ w.obey.ensures.ok w.if-is_err.ensures.value in
-          rw (w.self-is, w.starved-is, w.in-Command.is) (record { call = Command_call _; asked_is = refl; starved_is = refl; fair = tt; holds = obeyed config r a.holds })
+      | in-Command+in-Ok w ↦
+          let obeyed = w.in-Ok.ensures.ok config r a.holds in
+          rw (w.self-is, w.opened-is, w.starved-is, w.in-Command.is) (record { call = Command_call _; asked_is = refl; opened_is = sym obeyed.1; starved_is = refl; fair = tt; holds = obeyed.0 })
       | in-Up w ↦
           let may = rw w.in-Up.is at c.requires in
           let found = accepted _ awaits_up may in
-          rw (w.self-is, w.starved-is, w.in-Up.is) (record { call = Up_call w.in-Up.slot; asked_is = refl; starved_is = refl; fair = tt; holds = holds_signalled config r (turn (Up_call w.in-Up.slot) [] ∷ r) w.in-Up.slot found.0 Up (begun c.args.self.now) w.input.new.self begins found.1 refl (λ e. awaits_none _ found.2) ((rw w.begin_count.ensures at w.input.ensures.moves) found.0 found.1) refl refl (λ t. refl) ((rw w.begin_count.ensures at w.input.ensures.chosen) found.0 found.1) 0 (omega arith) (omega arith) })
+          rw (w.self-is, w.opened-is, w.starved-is, w.in-Up.is) (record { call = Up_call w.in-Up.slot; asked_is = refl; opened_is = refl; starved_is = refl; fair = tt; holds = holds_signalled config r (turn (Up_call w.in-Up.slot) [] ∷ r) w.in-Up.slot found.0 Up (begun c.args.self.now) w.input.new.self begins found.1 refl (λ e. awaits_none _ found.2) ((rw w.begin_count.ensures at w.input.ensures.moves) found.0 found.1) refl refl (λ t. refl) ((rw w.begin_count.ensures at w.input.ensures.chosen) found.0 found.1) 0 (omega arith) (omega arith) })
       | in-Fail w ↦
           let may = rw w.in-Fail.is at c.requires in
           let found = accepted _ may_fail may in
-          rw (w.self-is, w.starved-is, w.in-Fail.is) (record { call = Fail_call w.in-Fail.slot; asked_is = refl; starved_is = refl; fair = tt; holds = holds_signalled config r (turn (Fail_call w.in-Fail.slot) [] ∷ r) w.in-Fail.slot found.0 Fail (begun c.args.self.now) w.input-in-Fail.new.self begins found.1 refl (λ e. cc) ((rw w.begin_count-in-Fail.ensures at w.input-in-Fail.ensures.moves) found.0 found.1) refl refl (λ t. refl) ((rw w.begin_count-in-Fail.ensures at w.input-in-Fail.ensures.chosen) found.0 found.1) 0 (omega arith) (omega arith) })
-      | in-Bytes+then-is_err-2 w ↦
+          rw (w.self-is, w.opened-is, w.starved-is, w.in-Fail.is) (record { call = Fail_call w.in-Fail.slot; asked_is = refl; opened_is = refl; starved_is = refl; fair = tt; holds = holds_signalled config r (turn (Fail_call w.in-Fail.slot) [] ∷ r) w.in-Fail.slot found.0 Fail (begun c.args.self.now) w.input-in-Fail.new.self begins found.1 refl (λ e. cc) ((rw w.begin_count-in-Fail.ensures at w.input-in-Fail.ensures.moves) found.0 found.1) refl refl (λ t. refl) ((rw w.begin_count-in-Fail.ensures at w.input-in-Fail.ensures.chosen) found.0 found.1) 0 (omega arith) (omega arith) })
+      | in-Bytes+then-is_err w ↦
           let may = rw w.in-Bytes.is at c.requires in
           let found = accepted _ may_bring_octets may in
           let peer = peer_of config r w.in-Bytes.slot found.0 c.args.self.now a.holds found.1 in
-          let until = OnErr-got w.hear.result _ w.hear.ensures.starved w.if-is_err-2.ensures.value in
-          rw (w.self-is, w.starved-is, w.in-Bytes.is) (ready_starved config r w.in-Bytes.slot w.only-starved.result _ peer.0 (begun c.args.self.now) w.hear.new.self w.only-starved.ensures (rw w.begin_count-in-Bytes.ensures at until) peer.1 begins (omega arith))
-      | in-Bytes+else-is_err-2 w ↦
+          let until = OnErr-got w.hear.result _ w.hear.ensures.starved w.if-is_err.ensures.value in
+          rw (w.self-is, w.opened-is, w.starved-is, w.in-Bytes.is) (ready_starved config r w.in-Bytes.slot w.only-starved.result _ peer.0 (begun c.args.self.now) w.hear.new.self w.only-starved.ensures (rw w.begin_count-in-Bytes.ensures at until) peer.1 begins (omega arith))
+      | in-Bytes+else-is_err w ↦
           let may = rw w.in-Bytes.is at c.requires in
           let found = accepted _ may_bring_octets may in
           let peer = peer_of config r w.in-Bytes.slot found.0 c.args.self.now a.holds found.1 in
-          let heard = OnOk-got w.hear.result _ w.hear.ensures.heard w.if-is_err-2.ensures.value in
-          rw (w.self-is, w.starved-is, w.in-Bytes.is) (record { call = Bytes_call w.in-Bytes.slot _; asked_is = refl; starved_is = refl; fair = tt; holds = (rw w.begin_count-in-Bytes.ensures at heard) config r [] peer.0 peer.1 (holds_nothing config r w.in-Bytes.slot (begun c.args.self.now) begins (omega arith)) })
+          let heard = OnOk-got w.hear.result _ w.hear.ensures.heard w.if-is_err.ensures.value in
+          rw (w.self-is, w.opened-is, w.starved-is, w.in-Bytes.is) (record { call = Bytes_call w.in-Bytes.slot _; asked_is = refl; opened_is = refl; starved_is = refl; fair = tt; holds = (rw w.begin_count-in-Bytes.ensures at heard) config r [] peer.0 peer.1 (holds_nothing config r w.in-Bytes.slot (begun c.args.self.now) begins (omega arith)) })
       | in-Tick w ↦
-          let ticks : Holds config (turn (Tick_call w.in-Tick.now) [] ∷ r) (record (begun c.args.self.now) { moment = w.in-Tick.now }) = holds_ticked config r w.in-Tick.now (begun c.args.self.now) begins (omega arith) in
-          let is = w.tick.ensures ∙ ap (λ (s : SpeakerState). record s { moment = w.in-Tick.now }) w.begin_count-in-Tick.ensures in
-          rw (w.self-is, w.starved-is, w.in-Tick.is) (record { call = Tick_call w.in-Tick.now; asked_is = refl; starved_is = refl; fair = tt; holds = subst (λ s. Holds config (turn (Tick_call w.in-Tick.now) [] ∷ r) s) (sym is) ticks })
+          let ticks = (rw w.begin_count-in-Tick.ensures at w.tick-opened.ensures.ticks) config r begins (omega arith) in
+          rw (w.self-is, w.opened-is, w.starved-is, w.in-Tick.is) (record { call = Tick_call w.in-Tick.now; asked_is = refl; opened_is = sym ticks.1; starved_is = refl; fair = tt; holds = ticks.0 })
     ] in
-    steps config r _ _ c.match-event.self c.settle.new.self c.settle.result _ ready a.thrifty c.settle.ensures.agrees c.of_starved.ensures
+    steps config r _ _ _ c.match-event.self c.settle.new.self c.settle.result _ ready a.thrifty c.settle.ensures.agrees c.of.ensures

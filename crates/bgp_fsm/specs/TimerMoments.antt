@@ -1,0 +1,76 @@
+-- The timers of a session (RFC 4271 sections 8.1.3 and 10): when each ends, in seconds.
+use Rattle.std.specs.Prelude.{◌+◌, ◌/◌, ◌==◌, ℕ, nat_le, Bool, false, Option, Some, None, if◌then◌else◌}
+use Rattle.bgp_fsm.specs.declared.timers.Timer.{Timer}
+use Rattle.bgp_fsm.specs.declared.timers.Timer.TheVariants.{Hold, ConnectRetry, IdleHold, Keepalive}
+use Rattle.bgp_fsm.specs.declared.timers.Timers.{Timers}
+
+-- how long a session waits for the peer's OPEN (section 8.2.2), for a connection (section 10), and before it begins again
+-- (own)
+abbrev pub open_hold : ℕ
+open_hold = 240
+
+abbrev pub connect_retry_time : ℕ
+connect_retry_time = 120
+
+abbrev pub idle_hold_time : ℕ
+idle_hold_time = 30
+
+-- the last moment that can be handed in
+abbrev pub last_moment : ℕ
+last_moment = 18446744073709551615
+
+-- so many seconds from now; no moment, where it would lie behind the last
+abbrev pub from_now : ℕ → ℕ → Option ℕ
+from_now now seconds = if nat_le (now + seconds) last_moment then Some (now + seconds) else None
+
+-- no timer runs
+abbrev pub stopped : Timers
+stopped = record { hold = None; connect_retry = None; idle_hold = None; keepalive = None }
+
+-- only this timer runs, so many seconds from now
+abbrev pub only_hold : ℕ → ℕ → Timers
+only_hold now seconds = record { hold = from_now now seconds; connect_retry = None; idle_hold = None; keepalive = None }
+
+abbrev pub only_connect_retry : ℕ → Timers
+only_connect_retry now = record { hold = None; connect_retry = from_now now connect_retry_time; idle_hold = None; keepalive = None }
+
+abbrev pub only_idle_hold : ℕ → Timers
+only_idle_hold now = record { hold = None; connect_retry = None; idle_hold = from_now now idle_hold_time; keepalive = None }
+
+-- where an enabled peer's session falls to Idle, it begins again after a while
+abbrev pub falling : Bool → ℕ → Timers
+falling enabled now = if enabled then only_idle_hold now else stopped
+
+-- the hold time and a third of it from now; a hold time of 0 runs no timer (sections 4.2 and 4.4)
+abbrev pub hold_end : ℕ → ℕ → Option ℕ
+hold_end hold now = if hold == 0 then None else from_now now hold
+
+abbrev pub keepalive_end : ℕ → ℕ → Option ℕ
+keepalive_end hold now = if hold == 0 then None else from_now now (hold / 3)
+
+-- both of these timers begin
+abbrev pub opened_timers : ℕ → ℕ → Timers
+opened_timers hold now = record { hold = hold_end hold now; connect_retry = None; idle_hold = None; keepalive = keepalive_end hold now }
+
+-- one of them begins again
+abbrev pub hold_again : ℕ → ℕ → Timers → Timers
+hold_again hold now timers = record { hold = hold_end hold now; connect_retry = timers.connect_retry; idle_hold = timers.idle_hold; keepalive = timers.keepalive }
+
+abbrev pub keepalive_again : ℕ → ℕ → Timers → Timers
+keepalive_again hold now timers = record { hold = timers.hold; connect_retry = timers.connect_retry; idle_hold = timers.idle_hold; keepalive = keepalive_end hold now }
+
+-- when a timer ends
+abbrev pub end_of : Timer → Timers → Option ℕ
+end_of Hold timers = timers.hold
+end_of ConnectRetry timers = timers.connect_retry
+end_of IdleHold timers = timers.idle_hold
+end_of Keepalive timers = timers.keepalive
+
+-- the moment has come
+abbrev pub has_come : Option ℕ → ℕ → Bool
+has_come None now = false
+has_come (Some moment) now = nat_le moment now
+
+-- the timer has ended
+abbrev pub has_ended : Timer → ℕ → Timers → Bool
+has_ended timer now timers = has_come (end_of timer timers) now
