@@ -13,6 +13,12 @@ mod commands;
 #[cfg(test)]
 mod export;
 #[cfg(test)]
+mod faults;
+#[cfg(test)]
+mod header_faults;
+#[cfg(test)]
+mod open_faults;
+#[cfg(test)]
 mod payload_list;
 #[cfg(test)]
 mod selection;
@@ -20,5 +26,7 @@ mod selection;
 mod sessions;
 #[cfg(test)]
 mod transcript;
+#[cfg(test)]
+mod update_faults;
 #[cfg(test)]
 mod updates;

@@ -1,5 +1,6 @@
 //! How sessions come up and end.
 
+use crate::faults::{ESTABLISHED, OPEN_CONFIRM, OPEN_SENT, Row, are_told, is_told};
 use crate::transcript::{BOTH_COME_UP, TWO_PEERS, plays};
 use std::test::Fail;
 
@@ -180,142 +181,52 @@ fn a_faulty_message_is_told_and_closes(rt: HostRuntime) -> Result<(), Fail> {
     )
 }
 
-const OPEN_IS_TAKEN: &str = "
-> up 0
-ok
-> take 0 100
-out M 0025 01 04 FDE8 00B4 C0000201 08 02 06 4104 0000FDE8
-";
+const KEEPALIVE: &str = "M 0013 04";
 
-// What comes in OpenSent, and what it is told: version 3, no capability of code 65, another AS, identifier 0, a hold
-// time of 2, a parameter of another type than 2, one that is cut off, an UPDATE and a KEEPALIVE before their time.
-const FAULTY_BEGINNINGS: [(&str, &str); 9] = [
-    (
-        "> bytes 0 M 0025 01 03 FDE9 005A 01010101 08 02 06 4104 0000FDE9",
-        "out M 0017 03 0201 0004",
-    ),
-    (
-        "> bytes 0 M 001D 01 04 FDE9 005A 01010101 00",
-        "out M 001B 03 0207 41040000FDE8",
-    ),
-    (
-        "> bytes 0 M 0025 01 04 FDE9 005A 01010101 08 02 06 4104 0000FDEA",
-        "out M 0015 03 0202",
-    ),
-    (
-        "> bytes 0 M 0025 01 04 FDE9 005A 00000000 08 02 06 4104 0000FDE9",
-        "out M 0015 03 0203",
-    ),
-    (
-        "> bytes 0 M 0025 01 04 FDE9 0002 01010101 08 02 06 4104 0000FDE9",
-        "out M 0015 03 0206",
-    ),
-    (
-        "> bytes 0 M 0025 01 04 FDE9 005A 01010101 08 01 06 4104 0000FDE9",
-        "out M 0015 03 0204",
-    ),
-    (
-        "> bytes 0 M 0025 01 04 FDE9 005A 01010101 08 02 07 4104 0000FDE9",
-        "out M 0015 03 0200",
-    ),
-    ("> bytes 0 M 0017 02 0000 0000", "out M 0015 03 0500"),
-    ("> bytes 0 M 0013 04", "out M 0015 03 0500"),
+const OPEN: &str = "M 0025 01 04 FDE9 005A 01010101 08 02 06 4104 0000FDE9";
+
+const UPDATE: &str = "M 002F 02 0000 0014 40010100 40020602010000FDE9 400304C000020B 180A0001";
+
+// Before the body is read: an OPEN of version 3, and an UPDATE whose withdrawn routes are longer than it.
+const FAULTY_OPEN: &str = "M 0025 01 03 FDE9 005A 01010101 08 02 06 4104 0000FDE9";
+
+const FAULTY_UPDATE: &str = "M 0017 02 0001 0000";
+
+// What comes in which state where no such type is expected.
+#[rattlefmt::skip]
+const UNEXPECTED: [(&[&str], &str, &str); 9] = [
+    (OPEN_SENT,    "a KEEPALIVE in OpenSent",           KEEPALIVE),
+    (OPEN_SENT,    "an UPDATE in OpenSent",             UPDATE),
+    (OPEN_SENT,    "a faulty UPDATE in OpenSent",       FAULTY_UPDATE),
+    (OPEN_CONFIRM, "an OPEN in OpenConfirm",            OPEN),
+    (OPEN_CONFIRM, "a faulty OPEN in OpenConfirm",      FAULTY_OPEN),
+    (OPEN_CONFIRM, "an UPDATE in OpenConfirm",          UPDATE),
+    (OPEN_CONFIRM, "a faulty UPDATE in OpenConfirm",    FAULTY_UPDATE),
+    (ESTABLISHED,  "an OPEN in Established",            OPEN),
+    (ESTABLISHED,  "a faulty OPEN in Established",      FAULTY_OPEN),
 ];
 
-const CLOSED_IN_OPEN_SENT: &str = "
-ok
-> show sessions
-0 Idle
-1 Active
-end
-> take 0 100
-";
-
-const NOTHING_MORE: &str = "
-> take 0 100
-out -
-";
-
 #[test]
-fn a_faulty_beginning_is_told(rt: HostRuntime) -> Result<(), Fail> {
-    for (beginning, told) in FAULTY_BEGINNINGS {
-        plays(
-            &rt,
-            rt.alloc(),
-            &[
-                TWO_PEERS,
-                OPEN_IS_TAKEN,
-                beginning,
-                CLOSED_IN_OPEN_SENT,
-                told,
-                NOTHING_MORE,
-            ],
-        )?;
+fn an_unexpected_message_is_told_whatever_its_body(rt: HostRuntime) -> Result<(), Fail> {
+    for (before, name, octets) in UNEXPECTED {
+        is_told(&rt, rt.alloc(), before, name, octets, "M 0015 03 0500")?;
     }
     Ok(())
 }
 
-// What comes in Established, and what it is told: lengths of 4,097 and 20, a type of 5, a marker with a bit that isn't
-// set, an OPEN whatever its body says, and a NOTIFICATION, which isn't answered.
-const FAULTS_IN_ESTABLISHED: [(&str, &str); 6] = [
-    ("> bytes 0 M 1001 02", "out M 0017 03 0102 1001"),
-    ("> bytes 0 M 0014 04", "out M 0017 03 0102 0014"),
-    ("> bytes 0 M 0013 05", "out M 0016 03 0103 05"),
-    (
-        "> bytes 0 FFFFFFFFFFFFFFFFFFFFFFFFFFFFFFFE001304",
-        "out M 0015 03 0101",
-    ),
-    (
-        "> bytes 0 M 0025 01 03 FDE9 005A 01010101 08 02 06 4104 0000FDE9",
-        "out M 0015 03 0500",
-    ),
-    ("> bytes 0 M 0017 03 0602 0000", "out -"),
+// NOTIFICATIONs that are read for their headers alone.
+#[rattlefmt::skip]
+const NOTIFICATIONS: [Row; 4] = [
+    ("of an administrative shutdown",   "M 0015 03 0602",           "-"),
+    ("with data",                       "M 0017 03 0602 0000",      "-"),
+    ("of an error that there isn't",    "M 0015 03 FFFF",           "-"),
+    ("before a message without a type", "M 0015 03 0602 M 0013 00", "-"),
 ];
 
-const CLOSED_IN_ESTABLISHED: &str = "
-ok
-> show sessions
-0 Idle
-1 Established
-end
-> take 0 100
-";
-
 #[test]
-fn a_fault_in_established_is_told(rt: HostRuntime) -> Result<(), Fail> {
-    for (message, told) in FAULTS_IN_ESTABLISHED {
-        plays(
-            &rt,
-            rt.alloc(),
-            &[
-                TWO_PEERS,
-                BOTH_COME_UP,
-                message,
-                CLOSED_IN_ESTABLISHED,
-                told,
-                NOTHING_MORE,
-            ],
-        )?;
+fn a_notification_closes_and_is_not_answered(rt: HostRuntime) -> Result<(), Fail> {
+    for before in [OPEN_SENT, OPEN_CONFIRM, ESTABLISHED] {
+        are_told(&rt, rt.alloc(), before, &NOTIFICATIONS)?;
     }
     Ok(())
-}
-
-const UPDATE_IN_OPEN_CONFIRM: &str = "
-> bytes 0 M 0025 01 04 FDE9 005A 01010101 08 02 06 4104 0000FDE9
-ok
-> take 0 100
-out M 0013 04
-> bytes 0 M 002F 02 0000 0014 40010100 40020602010000FDE9 400304C000020B 180A0001
-ok
-> take 0 100
-out M 0015 03 0500
-";
-
-#[test]
-fn an_update_in_open_confirm_is_unexpected(rt: HostRuntime) -> Result<(), Fail> {
-    plays(
-        &rt,
-        rt.alloc(),
-        &[TWO_PEERS, OPEN_IS_TAKEN, UPDATE_IN_OPEN_CONFIRM],
-    )
 }

@@ -86,12 +86,77 @@ impl Transcript {
         Ok(())
     }
 
+    /// Slot 0 sends these octets.
+    pub fn send(&mut self, octets: &str) -> Result<(), AllocError> {
+        self.script.push_str("bytes 0 ")?;
+        push_octets(&mut self.script, octets)?;
+        self.script.push('\n')?;
+        push_line(&mut self.told, "ok")
+    }
+
+    /// A slot takes all that waits for it, which are these octets.
+    pub fn take(&mut self, slot: u8, octets: &str) -> Result<(), AllocError> {
+        writeln!(self.script, "take {slot} 9999")?;
+        self.told.push_str("out ")?;
+        push_octets(&mut self.told, octets)?;
+        self.told.push('\n')
+    }
+
+    /// Slot 0 has sent one route, with these attributes.
+    pub fn show_in(&mut self, prefix: &str, attributes: &str) -> Result<(), AllocError> {
+        writeln!(self.script, "show in 0")?;
+        write!(self.told, "{prefix} ")?;
+        push_octets(&mut self.told, attributes)?;
+        writeln!(self.told, "\nend")
+    }
+
     /// Plays what is handed in, and compares the answers.
     pub fn play(&self, rt: &impl Abort, alloc: Global) -> Result<(), Fail> {
         let found = answers(alloc, self.script.as_bytes())?;
         compare(rt, &found, &self.told);
         Ok(())
     }
+
+    /// The same for a transcript that is one of many, and has a name.
+    pub fn play_row(&self, rt: &impl Abort, alloc: Global, name: &str) -> Result<(), Fail> {
+        let found = answers(alloc, self.script.as_bytes())?;
+        assert_eq!(rt; found.as_str(), self.told.as_str(), "{name}");
+        Ok(())
+    }
+}
+
+/// A message of this type: the marker, its length and type, and the body.
+pub fn message(alloc: Global, kind: &str, body: &str) -> Result<String, AllocError> {
+    let octets = packed(alloc, body)?;
+    let length = (octets.len() / 2).saturating_add(19);
+    format!(in alloc; "M {length:04X} {kind} {octets}")
+}
+
+/// An UPDATE with these withdrawn routes, path attributes and announced prefixes.
+pub fn update(
+    alloc: Global,
+    withdrawn: &str,
+    attributes: &str,
+    announced: &str,
+) -> Result<String, AllocError> {
+    let withdrawn = counted(alloc, withdrawn)?;
+    let attributes = counted(alloc, attributes)?;
+    let body = format!(in alloc; "{withdrawn} {attributes} {announced}")?;
+    message(alloc, "02", &body)
+}
+
+// Octets behind their number.
+fn counted(alloc: Global, octets: &str) -> Result<String, AllocError> {
+    let octets = packed(alloc, octets)?;
+    let count = octets.len() / 2;
+    format!(in alloc; "{count:04X} {octets}")
+}
+
+/// Octets without the spaces, and with each marker written out.
+pub fn packed(alloc: Global, octets: &str) -> Result<String, AllocError> {
+    let mut text = String::new(alloc);
+    push_octets(&mut text, octets)?;
+    Ok(text)
 }
 
 /// Plays a transcript and compares the answers.
@@ -135,7 +200,6 @@ fn push_line(text: &mut String, line: &str) -> Result<(), AllocError> {
     text.push('\n')
 }
 
-// Octets without the spaces, and with each marker written out.
 fn push_octets(text: &mut String, octets: &str) -> Result<(), AllocError> {
     for letter in octets.chars() {
         match letter {
