@@ -13,6 +13,8 @@ mod cache_pdus;
 #[cfg(test)]
 mod commands;
 #[cfg(test)]
+mod cuts;
+#[cfg(test)]
 mod export;
 #[cfg(test)]
 mod faults;
