@@ -1,34 +1,8 @@
 //! What is announced, and what waits.
 
-use crate::transcript::{BOTH_COME_UP, MARKER, TWO_PEERS, Transcript, plays};
-use std::alloc::{AllocError, Global};
+use crate::transcript::{BOTH_COME_UP, MARKER, TWO_PEERS, Transcript};
+use std::alloc::AllocError;
 use std::test::Fail;
-
-// The ASes that follow the first one in a segment of 255.
-fn following_ases(alloc: Global) -> Result<String, AllocError> {
-    let mut text = String::new(alloc);
-    for asn in 70_000u32..70_254 {
-        write!(text, "{asn:08X}")?;
-    }
-    Ok(text)
-}
-
-#[test]
-fn a_full_segment_is_prepended_by_a_new_one(rt: HostRuntime) -> Result<(), Fail> {
-    let alloc = rt.alloc();
-    let ases = following_ases(alloc)?;
-    let received = format!(in alloc;
-        "> bytes 0 M 0428 02 0000 040D 40010100 500203FE 02FF 0000FDE9 {ases} 400304C000020B 180A0001\nok\n"
-    )?;
-    let sent = format!(in alloc;
-        "> take 1 9999\nout M 042E 02 0000 0413 40010100 50020404 0201 0000FDE8 02FF 0000FDE9 {ases} 400304C0000201 180A0001\n"
-    )?;
-    plays(
-        &rt,
-        alloc,
-        &[TWO_PEERS, BOTH_COME_UP, received.as_str(), sent.as_str()],
-    )
-}
 
 // Of 2,000 prefixes that slot 0 announces, 1,125 UPDATEs of 51 octets are queued: 8,161 octets are free then.
 const ANNOUNCED: u16 = 2000;

@@ -21,6 +21,8 @@ mod faults;
 #[cfg(test)]
 mod header_faults;
 #[cfg(test)]
+mod large_messages;
+#[cfg(test)]
 mod open_faults;
 #[cfg(test)]
 mod payload_list;
