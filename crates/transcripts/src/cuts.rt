@@ -251,7 +251,7 @@ fn a_message_that_is_cut_counts_once_it_is_whole(rt: HostRuntime) -> Result<(), 
     Ok(())
 }
 
-// Two digits are an octet. The first of the parts has none: there the message doesn't come, or comes whole.
+// Two digits are an octet. At place 0 nothing of the message comes before the loss, and then it comes in one part.
 fn cut_at_each_octet(rt: &impl Abort, alloc: Global, stored: &Stored) -> Result<(), Fail> {
     let octets = packed(alloc, stored.octets)?;
     let mut transcript = Transcript::read(alloc, &[TWO_PEERS, SLOT_1_COMES_UP])?;

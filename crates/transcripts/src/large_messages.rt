@@ -159,10 +159,11 @@ fn as_many_as_4068_octets_of_attributes_are_exported(rt: HostRuntime) -> Result<
     )
 }
 
-// ASes behind the head of a segment or an AS: from one on, the last one left out.
+// Octets, and the ASes behind them: from the one up to the other, which is left out.
 type Ases = (&'static str, u32, u32);
 
-// Paths of 1,000 ASes without the head of their first segment, which has 255 or 254. The second one is an AS_SET.
+// Paths of 1,000 ASes, of which the first segment has 255 or 254, and the second is an AS_SET. The type and the number
+// of the first segment are left out; it begins with AS 65001.
 const BEHIND_255: [Ases; 4] = [
     ("0000FDE9", 70_000, 70_254),
     ("01FF", 70_254, 70_509),
@@ -177,7 +178,7 @@ const BEHIND_254: [Ases; 4] = [
     ("02EC", 70_763, 70_999),
 ];
 
-fn path(alloc: Global, segments: &[Ases]) -> Result<String, AllocError> {
+fn path_of(alloc: Global, segments: &[Ases]) -> Result<String, AllocError> {
     let mut octets = String::new(alloc);
     for (head, first, behind) in segments {
         octets.push_str(head)?;
@@ -196,7 +197,7 @@ fn push_ases(octets: &mut String, first: u32, behind: u32) -> Result<(), AllocEr
 #[test]
 fn a_full_segment_is_prepended_by_a_new_one(rt: HostRuntime) -> Result<(), Fail> {
     let alloc = rt.alloc();
-    let path = path(alloc, &[("0000FDE9", 70_000, 70_254)])?;
+    let path = path_of(alloc, &[("0000FDE9", 70_000, 70_254)])?;
     let received = format!(in alloc;
         "> bytes 0 M 0428 02 0000 040D 40010100 500203FE 02FF {path} 400304C000020B 180A0001\nok\n"
     )?;
@@ -214,7 +215,7 @@ fn a_full_segment_is_prepended_by_a_new_one(rt: HostRuntime) -> Result<(), Fail>
 #[test]
 fn the_limit_counts_a_segment_put_in_front_of_1000_ases(rt: HostRuntime) -> Result<(), Fail> {
     let alloc = rt.alloc();
-    let path = path(alloc, &BEHIND_255)?;
+    let path = path_of(alloc, &BEHIND_255)?;
     let value = "AB".repeat(alloc, 36)?;
     the_second_is_too_large(
         &rt,
@@ -235,7 +236,7 @@ fn the_limit_counts_a_segment_put_in_front_of_1000_ases(rt: HostRuntime) -> Resu
 #[test]
 fn the_limit_counts_an_as_put_in_front_of_1000(rt: HostRuntime) -> Result<(), Fail> {
     let alloc = rt.alloc();
-    let path = path(alloc, &BEHIND_254)?;
+    let path = path_of(alloc, &BEHIND_254)?;
     let value = "AB".repeat(alloc, 38)?;
     the_second_is_too_large(
         &rt,

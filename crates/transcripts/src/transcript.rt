@@ -102,7 +102,7 @@ impl Transcript {
         self.told.push('\n')
     }
 
-    /// Slot 0 has sent one route, with these attributes.
+    /// One route of slot 0 is kept: this prefix with these attributes.
     pub fn show_in(&mut self, prefix: &str, attributes: &str) -> Result<(), AllocError> {
         writeln!(self.script, "show in 0")?;
         write!(self.told, "{prefix} ")?;
