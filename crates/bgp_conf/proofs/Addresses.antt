@@ -1,4 +1,4 @@
-use Rattle.std.proofs.Common.{◌≡◌, ◌≢◌, ◌==◌, ◌||◌, ◌⊎◌, ℕ, Bool, true, false, cond, List, [], ◌∷◌, Option, Some, if◌then◌else◌, refl, sym, ◌∙◌, ap, inl, inr, ⊎_elim}
+use Rattle.std.proofs.Common.{◌≡◌, ◌≢◌, ◌==◌, ◌||◌, ◌⊎◌, ℕ, Bool, true, false, cond, List, [], ◌∷◌, Option, Some, None, if◌then◌else◌, refl, sym, ◌∙◌, ap, inl, inr, ⊎_elim}
 use Rattle.std.proofs.lemmas.Bool.{false≢true, eq-eqb}
 use Rattle.std.proofs.lemmas.Bool.Decides.{eqb_tells}
 use Rattle.std.specs.BTreeMap.{is_at}
@@ -57,3 +57,12 @@ AddressesDiffer-set old new slot peer set free differ s t p q at_s at_t same =
     (λ (b : ((t == slot) ≡ false) × (t ≢ slot)). differ s t p q old_s (rw b.0 at known_t) same)
     (eqb_tells t slot))
     (eqb_tells s slot)
+
+-- nor do fewer peers
+pub AddressesDiffer-without : (old new : List (ℕ × ConfiguredPeer)) (slot : ℕ) → ((s : ℕ) → lookup (is_at (nat_cmp s)) new ≡ (if s == slot then None else lookup (is_at (nat_cmp s)) old)) → AddressesDiffer old → AddressesDiffer new
+AddressesDiffer-without old new slot without differ s t p q at_s at_t same =
+    differ s t p q (still s p (s == slot) (sym (without s) ∙ at_s)) (still t q (t == slot) (sym (without t) ∙ at_t)) same
+  where
+    still : (u : ℕ) (x : ConfiguredPeer) (b : Bool) → cond b None (lookup (is_at (nat_cmp u)) old) ≡ Some x → lookup (is_at (nat_cmp u)) old ≡ Some x
+    still u x true at = absurd cc
+    still u x false at = at

@@ -9,7 +9,7 @@ use Rattle.bgp_conf.specs.declared.conf.ConfiguredPeer.{ConfiguredPeer}
 use Rattle.bgp_conf.specs.declared.conf.TheConstants.{PEER_SLOTS, MAX_REACH, MAX_NAME}
 use Rattle.bgp_conf.specs.declared.command.PeerConf.{PeerConf}
 use Rattle.bgp_conf.specs.declared.command.Command.{Command}
-use Rattle.bgp_conf.specs.declared.command.Command.TheVariants.{AddPeer, Enable, Disable, Reach}
+use Rattle.bgp_conf.specs.declared.command.Command.TheVariants.{AddPeer, RemovePeer, Enable, Disable, Reach}
 use Rattle.bgp_conf.specs.declared.refusal.Refusal.{Refusal}
 use Rattle.bgp_conf.specs.declared.refusal.Refusal.TheVariants.{UnknownName, TooMany, Range, BadSlot, SlotTaken, AddressTaken}
 use Rattle.bgp_conf.specs.Configuration.{Configuration, peer_at, entry_at}
@@ -62,6 +62,8 @@ first_refusal configuration closing (AddPeer slot peer) =
     ∷ (not (is_in_range configuration.own peer), Range)
     ∷ (not (is_known peer.import.now) || not (is_known peer.export.now), UnknownName)
     ∷ [])
+first_refusal configuration closing (RemovePeer slot) =
+    first ((nat_le PEER_SLOTS slot || is_none (peer_at configuration slot), BadSlot) ∷ [])
 first_refusal configuration closing (Enable slot) =
     first ((nat_le PEER_SLOTS slot || is_none (peer_at configuration slot), BadSlot) ∷ [])
 first_refusal configuration closing (Disable slot) =

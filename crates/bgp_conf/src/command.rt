@@ -27,6 +27,8 @@ pub struct PeerConf<'a> {
 pub enum Command<'a> {
     /// Configures the peer of a slot.
     AddPeer(u8, PeerConf<'a>),
+    /// Ends the session of a slot's peer, and forgets the peer.
+    RemovePeer(u8),
     /// Starts the session of a slot's peer.
     Enable(u8),
     /// Ends the session of a slot's peer, and starts none until the peer is enabled.

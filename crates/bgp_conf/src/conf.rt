@@ -103,7 +103,9 @@ impl<A: Allocator + Clone> Conf<A> {
     {
         match command {
             Command::AddPeer(slot, peer) => self.check_add_peer(*slot, peer, closing),
-            Command::Enable(slot) | Command::Disable(slot) => self.check_slot(*slot),
+            Command::RemovePeer(slot) | Command::Enable(slot) | Command::Disable(slot) => {
+                self.check_slot(*slot)
+            }
             Command::Reach(prefix, _) => self.check_reach(prefix),
         }
     }
@@ -123,6 +125,9 @@ impl<A: Allocator + Clone> Conf<A> {
         match command {
             Command::AddPeer(slot, peer) => {
                 self.peers.insert(*slot, configured(peer))?;
+            }
+            Command::RemovePeer(slot) => {
+                self.peers.remove(slot);
             }
             Command::Enable(_) | Command::Disable(_) => {}
             Command::Reach(prefix, cost) => {

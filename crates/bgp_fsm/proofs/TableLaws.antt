@@ -1,7 +1,7 @@
 -- What the rows of the session table make of Established, of the connection and of what is said.
 use Rattle.std.proofs.Common.{◌≡◌, ◌≢◌, ◌&&◌, ◌⊎◌, ℕ, true, false, not, Some, inl, inr, refl, arith}
 use Rattle.std.proofs.lemmas.Grind.{common_steps}
-use Rattle.net_prefix.specs.declared.transport.Transport.TheVariants.{Open as Connected, Closing}
+use Rattle.net_prefix.specs.declared.transport.Transport.TheVariants.{None as NoConnection, Open as Connected, Closing}
 use Rattle.bgp_msg.specs.declared.notification.SessionError.TheVariants.{HoldTimerExpired, UnexpectedMessage, AdministrativeShutdown, PeerDeconfigured, OutOfResources}
 use Rattle.bgp_msg.specs.Notifications.{NotificationBody, error_notification}
 use Rattle.bgp_fsm.specs.declared.state.State.{State}
@@ -13,6 +13,7 @@ use Rattle.bgp_fsm.specs.declared.session.Outgoing.TheVariants.{Notification as 
 use Rattle.bgp_fsm.specs.declared.session.Session.{Session}
 use Rattle.bgp_fsm.specs.SessionTable.{always, row_at, nothing, session_after, effects_of}
 use Rattle.bgp_fsm.specs.StateTests.{is_established, is_message}
+use Rattle.bgp_fsm.specs.TimerMoments.{stopped}
 use Rattle.bgp_fsm.specs.Transports.{transport_at, transport_of}
 use Rattle.bgp_fsm.specs.Laws.{ClosingIsTold}
 
@@ -59,6 +60,15 @@ no_memory_closes now s = grind (arith, common_steps)
 -- without a connection no message is more than nothing
 pub message_ignored : (input : Input) (s : Session) → is_message input ≡ true → transport_of s ≢ Connected → row_at s.state input s ≡ (always s, nothing)
 message_ignored input s is shut = grind (arith, common_steps)
+
+-- a removed peer's session is Idle, and no timer of it runs
+pub remove_ends : (now : ℕ) (s : Session) → ((session_after now Remove s).state ≡ Idle) × ((session_after now Remove s).timers ≡ stopped)
+remove_ends now s = (grind (arith, common_steps), grind (arith, common_steps))
+
+-- where nothing is but a connection that is still to be closed, its loss leaves nothing
+pub fail_leaves : (now : ℕ) (s : Session) → s.state ≡ Idle → s.timers ≡ stopped
+    → ((session_after now Fail s).state ≡ Idle) × ((session_after now Fail s).timers ≡ stopped) × (transport_of (session_after now Fail s) ≡ NoConnection)
+fail_leaves now s idle none = (rw idle refl, rw idle none, rw idle refl)
 
 -- a connection that stands is closed by an input that says why, or by a NOTIFICATION
 told_at : (now : ℕ) (state : State) (input : Input) (s : Session) → s.state ≡ state → transport_at state s ≡ Connected → transport_of ((row_at state input s).0 now) ≡ Closing

@@ -1,5 +1,5 @@
 -- What stands between a session and its connection: a function of the session.
-use Rattle.std.specs.Prelude.{if◌then◌else◌}
+use Rattle.std.specs.Prelude.{Bool, true, false, if◌then◌else◌}
 use Rattle.net_prefix.specs.declared.transport.Transport.{Transport}
 use Rattle.net_prefix.specs.declared.transport.Transport.TheVariants.{None as NoConnection, Opening, Listening, Open, Closing}
 use Rattle.bgp_attr.specs.declared.peer.Mode.{Mode}
@@ -7,6 +7,14 @@ use Rattle.bgp_attr.specs.declared.peer.Mode.TheVariants.{Passive, Active as Ope
 use Rattle.bgp_fsm.specs.declared.state.State.{State}
 use Rattle.bgp_fsm.specs.declared.state.State.TheVariants.{Idle, Connect, Active, OpenSent, OpenConfirm, Established}
 use Rattle.bgp_fsm.specs.declared.session.Session.{Session}
+
+-- a connection that is still to be closed
+abbrev pub is_closing : Transport → Bool
+is_closing NoConnection = false
+is_closing Opening = false
+is_closing Listening = false
+is_closing Open = false
+is_closing Closing = true
 
 -- in Active a passive peer's connection is awaited
 abbrev pub awaited_of : Mode → Transport

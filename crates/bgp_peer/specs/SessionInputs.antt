@@ -1,5 +1,5 @@
 -- What happens to a slot, and what that is to its session (RFC 4271 sections 4.1 and 8.1).
-use Rattle.std.specs.Prelude.{ℕ, List, [], ◌∷◌, ◌++◌, Option, Some, None, if◌then◌else◌}
+use Rattle.std.specs.Prelude.{ℕ, ◌||◌, Bool, List, [], ◌∷◌, ◌++◌, Option, Some, None, is_some, if◌then◌else◌}
 use Rattle.std.specs.Option.{option_map}
 use Rattle.net_prefix.specs.declared.asn.Asn.{Asn}
 use Rattle.bgp_attr.specs.declared.peer.Mode.{Mode}
@@ -17,13 +17,14 @@ use Rattle.bgp_msg.specs.MessageStream.{Item, WholeMessage, FaultyHeader, comple
 use Rattle.bgp_msg.specs.UpdateMeaning.{update_fault}
 use Rattle.bgp_fsm.specs.declared.state.State.{State}
 use Rattle.bgp_fsm.specs.declared.input.Input.{Input}
-use Rattle.bgp_fsm.specs.declared.input.Input.TheVariants.{Open, UnexpectedOpen, Keepalive, Update, Notification, Fault, Expires}
+use Rattle.bgp_fsm.specs.declared.input.Input.TheVariants.{Remove, Open, UnexpectedOpen, Keepalive, Update, Notification, Fault, Expires}
 use Rattle.bgp_fsm.specs.declared.timers.Timer.{Timer}
 use Rattle.bgp_fsm.specs.declared.timers.Timer.TheVariants.{Hold, ConnectRetry, IdleHold, Keepalive as KeepaliveTimer}
 use Rattle.bgp_fsm.specs.TimerMoments.{has_ended}
 use Rattle.bgp_fsm.specs.declared.session.Session.{Session}
 use Rattle.bgp_fsm.specs.SessionTable.{fresh, session_after}
 use Rattle.bgp_fsm.specs.StateTests.{is_established, awaits_open}
+use Rattle.bgp_fsm.specs.Transports.{is_closing, transport_of}
 use Rattle.bgp_peer.specs.Slot.{kept}
 
 -- what a slot's peer is configured with: the OPEN that this side sends, which side opens the connection, the peer's AS
@@ -41,11 +42,16 @@ pub data Event : Type 0 where
   Handed : (octets : List ℕ) → Event  -- octets are handed out
   Ticked : (now : ℕ) → Event  -- a moment comes, in seconds
 
+-- what an input leaves of a peer that is configured: one that is removed isn't any more
+abbrev pub staying : Input → Option Terms → Option Terms
+staying Remove found = None
+staying input found = found
+
 -- the terms of a peer that is configured, after a history, which has the newest first
 abbrev pub occupant : List Event → Option Terms
 occupant [] = None
 occupant (Configured terms ∷ h) = Some terms
-occupant (Signalled input ∷ h) = occupant h
+occupant (Signalled input ∷ h) = staying input (occupant h)
 occupant (Octet octet ∷ h) = occupant h
 occupant (Queued update ∷ h) = occupant h
 occupant (Handed octets ∷ h) = occupant h
@@ -150,6 +156,10 @@ restarted (Ticked now) s = s
 abbrev pub session : List Event → Session
 session [] = fresh nobody.own nobody.mode
 session (e ∷ h) = after (moment_of (e ∷ h)) (inputs_at (session h).state h e) (restarted e (session h))
+
+-- the slot is there: a peer is configured, or the connection of one that was removed is still closing
+abbrev pub is_there : List Event → Bool
+is_there h = is_some (occupant h) || is_closing (transport_of (session h))
 
 -- what an event is to the session, coming next
 abbrev pub inputs_of : List Event → Event → List Input

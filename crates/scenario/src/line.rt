@@ -36,6 +36,8 @@ pub enum SpeakerLine<'a> {
     Enable(u8),
     /// `disable SLOT`
     Disable(u8),
+    /// `drop SLOT`
+    Drop(u8),
     /// `reach PREFIX COST`
     Reach(Prefix, u32),
     /// `up SLOT`
@@ -155,6 +157,7 @@ fn speaker_line<'a>(words: &[&'a str]) -> Option<SpeakerLine<'a>> {
         ["peer", slot, words @ ..] => SpeakerLine::Peer(number(slot)?, peer(words)?),
         ["enable", slot] => SpeakerLine::Enable(number(slot)?),
         ["disable", slot] => SpeakerLine::Disable(number(slot)?),
+        ["drop", slot] => SpeakerLine::Drop(number(slot)?),
         ["reach", prefix, cost] => SpeakerLine::Reach(Prefix::parse(prefix).ok()?, number(cost)?),
         ["up", slot] => SpeakerLine::Up(number(slot)?),
         ["fail", slot] => SpeakerLine::Fail(number(slot)?),

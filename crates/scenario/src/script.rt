@@ -247,6 +247,7 @@ impl Stage {
             )?,
             SpeakerLine::Enable(slot) => command(speaker, Command::Enable(slot), writer)?,
             SpeakerLine::Disable(slot) => command(speaker, Command::Disable(slot), writer)?,
+            SpeakerLine::Drop(slot) => command(speaker, Command::RemovePeer(slot), writer)?,
             SpeakerLine::Reach(prefix, cost) => command(
                 speaker,
                 Command::Reach(prefix, cost),

@@ -66,7 +66,7 @@ pub tables_same : (config : Config) (r : Run) (conf : Configuration) (links : �
     → SlotsAgree config conf links adj_in (λ s. history config s r) → tables_after config r ≡ tables_in conf links adj_in
 tables_same config r conf links adj_in same all = λ i. record {
   conf = same i;
-  sessions = λ s. (ap (λ c. option_map (λ p. session (history config s r)) (peer_at c s)) same ∙ slot_session config (peer_at conf s) (links s) (route_at adj_in s) (history config s r) (all s)) i;
+  sessions = λ s. slot_session config (peer_at conf s) (links s) (route_at adj_in s) (history config s r) (all s) i;
   routes = λ s prefix. slot_route config (peer_at conf s) (links s) (route_at adj_in s) (history config s r) prefix (all s) i;
 }
 

@@ -45,16 +45,16 @@ use Rattle.speaker.proofs.KeptOffers.{moves_keep, pushes_keep}
 use Rattle.speaker.proofs.Messages.{rest_kept}
 use Rattle.speaker.proofs.Moments.{moment_same, onto_stays}
 use Rattle.speaker.proofs.SlotEvents.{with_peer}
-use Rattle.speaker.proofs.SlotOctets.{slot_pushed, slot_signalled, slot_taken, slot_shut, WithRest}
+use Rattle.speaker.proofs.SlotOctets.{agrees_dropped, slot_pushed, slot_signalled, slot_taken, slot_shut, WithRest}
 
 -- What each event makes of the speaker, as the run with it has it.
 
 -- one slot of the speaker changes
-pub put_by : (config : Config) (c1 c2 : Configuration) (now1 now2 : ℕ) (h1 h2 : ℕ → List happens.Event) (m1 m2 : ℕ) (slot : ℕ) (l : Linked) (old new : SpeakerState) → HoldsBy config c1 now1 h1 m1 old → c2 ≡ c1 → now2 ≡ now1
+pub put_agrees : (config : Config) (c1 c2 : Configuration) (now1 now2 : ℕ) (h1 h2 : ℕ → List happens.Event) (m1 m2 : ℕ) (slot : ℕ) (l : Linked) (old new : SpeakerState) → HoldsBy config c1 now1 h1 m1 old → c2 ≡ c1 → now2 ≡ now1
     → KeepsKept old new → KeepsRest old new → IsPut slot l old new → ((t : ℕ) → t ≢ slot → (p : Prefix) → route_at new.adj_in t p ≡ route_at old.adj_in t p)
     → ((t : ℕ) → t ≢ slot → h2 t ≡ h1 t) → new.chosen ≤ new.chosen_before + m2
-    → (peer : ConfiguredPeer) → peer_at old.conf slot ≡ Some peer → SlotIs config peer l (route_at new.adj_in slot) (h2 slot) → HoldsBy config c2 now2 h2 m2 new
-put_by config c1 c2 now1 now2 h1 h2 m1 m2 slot l old new h conf moment kept keeps put routes histories few peer configured here = record {
+    → SlotAgrees config (peer_at old.conf slot) (Some l) (route_at new.adj_in slot) (h2 slot) → HoldsBy config c2 now2 h2 m2 new
+put_agrees config c1 c2 now1 now2 h1 h2 m1 m2 slot l old new h conf moment kept keeps put routes histories few here = record {
   config_is = keeps.config ∙ h.config_is;
   moment = keeps.moment ∙ h.moment ∙ sym moment;
   conf = keeps.conf ∙ h.conf ∙ sym conf;
@@ -64,13 +64,21 @@ put_by config c1 c2 now1 now2 h1 h2 m1 m2 slot l old new h conf moment kept keep
       (λ t other. ap (λ c. peer_at c t) keeps.conf)
       (λ t other. put t ∙ off t other)
       routes histories
-      (rw (keeps.conf, put slot, eq-eqb slot slot refl, configured) (slot_agrees config peer l (route_at new.adj_in slot) (h2 slot) here));
+      (rw (keeps.conf, put slot, eq-eqb slot slot refl) here);
   kept = kept h.kept;
   chosen = few;
 }
   where
     off : (t : ℕ) → t ≢ slot → cond (t == slot) (Some l) (link_at old.links t) ≡ link_at old.links t
     off t other = rw (ne_eqb t slot other) refl
+
+pub put_by : (config : Config) (c1 c2 : Configuration) (now1 now2 : ℕ) (h1 h2 : ℕ → List happens.Event) (m1 m2 : ℕ) (slot : ℕ) (l : Linked) (old new : SpeakerState) → HoldsBy config c1 now1 h1 m1 old → c2 ≡ c1 → now2 ≡ now1
+    → KeepsKept old new → KeepsRest old new → IsPut slot l old new → ((t : ℕ) → t ≢ slot → (p : Prefix) → route_at new.adj_in t p ≡ route_at old.adj_in t p)
+    → ((t : ℕ) → t ≢ slot → h2 t ≡ h1 t) → new.chosen ≤ new.chosen_before + m2
+    → (peer : ConfiguredPeer) → peer_at old.conf slot ≡ Some peer → SlotIs config peer l (route_at new.adj_in slot) (h2 slot) → HoldsBy config c2 now2 h2 m2 new
+put_by config c1 c2 now1 now2 h1 h2 m1 m2 slot l old new h conf moment kept keeps put routes histories few peer configured here =
+    put_agrees config c1 c2 now1 now2 h1 h2 m1 m2 slot l old new h conf moment kept keeps put routes histories few
+    (subst (λ found. SlotAgrees config found (Some l) (route_at new.adj_in slot) (h2 slot)) (sym configured) (slot_agrees config peer l (route_at new.adj_in slot) (h2 slot) here))
 
 pub holds_put : (config : Config) (r1 r2 : Run) (slot : ℕ) (l : Linked) (old new : SpeakerState) → Holds config r1 old → configuration_of config r2 ≡ configuration_of config r1 → moment_after r2 ≡ moment_after r1
     → KeepsKept old new → KeepsRest old new → IsPut slot l old new → ((t : ℕ) → t ≢ slot → (p : Prefix) → route_at new.adj_in t p ≡ route_at old.adj_in t p)
@@ -290,7 +298,7 @@ slot_starved : (config : Config) (peer : ConfiguredPeer) (l : Linked) (old new :
     → ((p : Prefix) → new p ≡ cond (effects_of NoMemory l.peer.session).left None (old p)) → SlotIs config peer (moved (moment_of h) l NoMemory) new (onto behind (Signalled NoMemory ∷ h))
 slot_starved config peer l old new h part behind here change =
     slot_shut config peer (moved (moment_of h) l NoMemory) new (Signalled NoMemory ∷ h) behind (no_memory_closes (moment_of h) l.peer.session)
-    (slot_signalled config peer (with_peer l (holding part l.peer)) old new h NoMemory refl (λ e. cc) here change)
+    (slot_signalled config peer (with_peer l (holding part l.peer)) old new h NoMemory refl (λ e. cc) (λ found. refl) here change)
 
 -- octets come to an open connection, and memory is refused to the UPDATE that the last of them completes
 pub starves_heard : (config : Config) (r : Run) (done : List ℕ) (slot : ℕ) (peer : ConfiguredPeer) (l : Linked) (octets behind : List ℕ) (old mid new : SpeakerState)
@@ -416,6 +424,28 @@ holds_ticked config r now s h few = record {
   kept = h.kept;
   chosen = omega (arith, few);
 }
+
+-- octets come to a connection that doesn't stand
+pub holds_dropped : (config : Config) (r : Run) (slot : ℕ) (l : Linked) (octets : List ℕ) (s : SpeakerState) → Holds config r s → link_at s.links slot ≡ Some l → transport_of l.peer.session ≢ Connected → s.chosen ≤ s.chosen_before
+    → Holds config (turn (Bytes_call slot octets) [] ∷ r) s
+holds_dropped config r slot l octets s h linked shut few = record {
+  config_is = h.config_is;
+  moment = h.moment;
+  conf = h.conf;
+  peers = h.peers;
+  slots = λ t. elim (cases_eq t slot) [
+    | inl same ↦ subst (λ x. SlotAgrees config (peer_at s.conf x) (link_at s.links x) (route_at s.adj_in x) (history config x (turn (Bytes_call slot octets) [] ∷ r))) (sym same) here
+    | inr other ↦ let P : List happens.Event → Type 0 = λ x. SlotAgrees config (peer_at s.conf t) (link_at s.links t) (route_at s.adj_in t) x in subst P (sym (bytes_off config slot octets r t other)) (h.slots t)
+  ];
+  kept = h.kept;
+  chosen = omega (arith, few);
+}
+  where
+    here : SlotAgrees config (peer_at s.conf slot) (link_at s.links slot) (route_at s.adj_in slot) (history config slot (turn (Bytes_call slot octets) [] ∷ r))
+    here =
+        let before : SlotAgrees config (peer_at s.conf slot) (Some l) (route_at s.adj_in slot) (history config slot r) = subst (λ x. SlotAgrees config (peer_at s.conf slot) x (route_at s.adj_in slot) (history config slot r)) linked (h.slots slot) in
+        let P : List happens.Event → Type 0 = λ x. SlotAgrees config (peer_at s.conf slot) (link_at s.links slot) (route_at s.adj_in slot) x in
+        subst P (sym (bytes_at config slot octets r)) (subst (λ x. SlotAgrees config (peer_at s.conf slot) x (route_at s.adj_in slot) (onto octets (history config slot r))) (sym linked) (agrees_dropped config (peer_at s.conf slot) l (route_at s.adj_in slot) (history config slot r) octets shut before))
 
 pub some_taken : (count : ℕ) (octets : List ℕ) → count ≤ length octets → count ≢ 0 → 0 < length (take count octets)
 some_taken count octets within some = omega (arith, length-take count octets, within, some)

@@ -86,7 +86,7 @@ offer_alike t u slot prefix (Some c) a one = record {
   alone = λ d here is. one.alone d here (candidate_at_slot u t slot prefix d (alike_back t u slot prefix a) here is);
 }
 
-none_offered : (t : Tables) (slot : ℕ) (prefix : Prefix) (found : Option Candidate) → t.routes slot prefix ≡ None → IsOffer t slot prefix found → found ≡ None
+pub none_offered : (t : Tables) (slot : ℕ) (prefix : Prefix) (found : Option Candidate) → t.routes slot prefix ≡ None → IsOffer t slot prefix found → found ≡ None
 none_offered t slot prefix None nothing is = refl
 none_offered t slot prefix (Some c) nothing one =
     let route = subst (λ s. t.routes s prefix ≡ Some one.is_one.attrs) one.at_slot one.is_one.route in
@@ -412,3 +412,30 @@ kept_best t offers p (Some c) kept is = (
 pub kept_loc_rib : (t : Tables) (offers : Offers) (rows : List (Prefix × Candidate)) → ((p : Prefix) → IsBestOf (λ s. offers s p) (best_at rows p)) → IsStrictlySortedBy prefix_cmp (keys_of rows)
     → AreKept t offers → IsLocRib t rows
 kept_loc_rib t offers rows best rising kept = record { rising = rising; best = λ p. kept_best t offers p (best_at rows p) kept (best p) }
+
+-- a slot is without routes and candidates, and what is read of the others stays
+pub kept_without : (slot : ℕ) (old new : SpeakerState) → AreKept (tables_of old) (offer_at old.book) → new.conf.own ≡ old.conf.own → new.conf.reach ≡ old.conf.reach
+    → ((t : ℕ) → t ≢ slot → peer_at new.conf t ≡ peer_at old.conf t) → ((t : ℕ) → t ≢ slot → session_at new.links t ≡ session_at old.links t)
+    → ((t : ℕ) → t ≢ slot → (p : Prefix) → route_at new.adj_in t p ≡ route_at old.adj_in t p) → ((p : Prefix) → route_at new.adj_in slot p ≡ None)
+    → ((t : ℕ) → t ≢ slot → (p : Prefix) → offer_at new.book t p ≡ offer_at old.book t p) → ((p : Prefix) → offer_at new.book slot p ≡ None)
+    → ((session : Session) → session_at new.links slot ≡ Some session → slot < 64) → AreKept (tables_of new) (offer_at new.book)
+kept_without slot old new kept own reach peers sessions routes unrouted offers unoffered low = record {
+  made = λ t p. elim (cases_eq t slot) [
+    | inl same ↦ subst (λ x. IsOffer (tables_of new) x p (offer_at new.book x p)) (sym same) (subst (λ f. IsOffer (tables_of new) slot p f) (sym (unoffered p)) (none_routed (tables_of new) p slot (unrouted p)))
+    | inr other ↦
+        subst (λ f. IsOffer (tables_of new) t p f) (sym (offers t other p))
+        (offer_alike (tables_of old) (tables_of new) t p (offer_at old.book t p)
+        (record { own = own; reach = reach; peer = peers t other; identifier = ap (option_map (λ (x : Session). x.identifier)) (sessions t other); route = routes t other p })
+        (kept.made t p))
+  ];
+  routed = λ t p there. elim (cases_eq t slot) [
+    | inl same ↦ no_none (route_at new.adj_in t p) (subst (λ x. route_at new.adj_in x p ≡ None) (sym same) (unrouted p)) there
+    | inr other ↦
+        let before = kept.routed t p (subst (λ o. IsSome o) (routes t other p) there) in
+        (before.0, sessions t other ∙ before.1, before.2)
+  ];
+  below = λ t session there. elim (cases_eq t slot) [
+    | inl same ↦ subst (λ x. x < 64) (sym same) (low session (subst (λ x. session_at new.links x ≡ Some session) same there))
+    | inr other ↦ kept.below t session (sym (sessions t other) ∙ there)
+  ];
+}

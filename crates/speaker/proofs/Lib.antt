@@ -22,6 +22,7 @@ pub mod Events
 pub mod Commands
 pub mod Takes
 pub mod TimerEnds
+pub mod Removals
 pub mod Refusals
 pub mod ListedEvents
 pub mod ShownRoutes

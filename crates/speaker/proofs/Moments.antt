@@ -1,6 +1,6 @@
 use Rattle.std.proofs.Common.{◌≡◌, ◌==◌, ℕ, Bool, true, false, List, [], ◌∷◌, cond, refl, ap, ◌∙◌}
 use Rattle.bgp_conf.specs.declared.command.Command.{Command}
-use Rattle.bgp_conf.specs.declared.command.Command.TheVariants.{AddPeer, Enable, Disable, Reach}
+use Rattle.bgp_conf.specs.declared.command.Command.TheVariants.{AddPeer, RemovePeer, Enable, Disable, Reach}
 use Rattle.bgp_peer.specs.SessionInputs as happens
 use Rattle.bgp_fsm.specs.declared.input.Input.TheVariants.{NoMemory, Expires}
 use Rattle.bgp_fsm.specs.declared.timers.Timer.{Timer}
@@ -39,6 +39,7 @@ endings_stay (timer ∷ timers) now h = endings_stay timers now (ending timer no
 
 commanded_stays : (config : Config) (s : ℕ) (command : Command) (h : List happens.Event) → moment_of (commanded config s command h) ≡ moment_of h
 commanded_stays config s (AddPeer slot peer) h = either (s == slot) _ h (moment_of h) refl refl
+commanded_stays config s (RemovePeer slot) h = either (s == slot) _ h (moment_of h) refl refl
 commanded_stays config s (Enable slot) h = either (s == slot) _ h (moment_of h) refl refl
 commanded_stays config s (Disable slot) h = either (s == slot) _ h (moment_of h) refl refl
 commanded_stays config s (Reach prefix cost) h = refl

@@ -15,7 +15,7 @@ use Rattle.bgp_fsm.specs.declared.session.Session.{Session}
 use Rattle.bgp_fsm.specs.declared.state.State.TheVariants.{Established}
 use Rattle.bgp_peer.specs.SentMessages.{ring_of}
 use Rattle.bgp_peer.specs.SessionInputs as happens
-use Rattle.bgp_peer.specs.SessionInputs.{Queued, session}
+use Rattle.bgp_peer.specs.SessionInputs.{Queued, session, is_there}
 use Rattle.bgp_peer.proofs.Agreeing.{ring-is}
 use Rattle.decision.specs.BookContents.{IsBestOf, offer_at}
 use Rattle.decision.specs.declared.candidate.Candidate.{Candidate}
@@ -64,7 +64,7 @@ export_of_run config r s slot peer prefix tables conf is configured =
     (export_is (tables_of s) (best_at s.loc_rib) s.adj_in (export_peer_of s.conf slot peer) prefix (λ t p. refl) is.best)))
 
 -- an UPDATE leaves the session and the routes
-same_session : (b : Bool) (u : List ℕ) (h : List happens.Event) → session (cond b (Queued u ∷ h) h) ≡ session h
+same_session : (b : Bool) (u : List ℕ) (h : List happens.Event) → cond (is_there (cond b (Queued u ∷ h) h)) (Some (session (cond b (Queued u ∷ h) h))) None ≡ cond (is_there h) (Some (session h)) None
 same_session true u h = refl
 same_session false u h = refl
 
@@ -76,7 +76,7 @@ same_route false u h p = refl
 tables_queued : (config : Config) (call : Call) (r : Run) (queue : Queue) (slot : ℕ) (u : List ℕ) → tables_after config (turn call ((slot, Tells u) ∷ queue) ∷ r) ≡ tables_after config (turn call queue ∷ r)
 tables_queued config call r queue slot u = λ i. record {
   conf = configuration_of config (turn call queue ∷ r);
-  sessions = λ s. option_map (λ peer. same_session (s == slot) u (history config s (turn call queue ∷ r)) i) (peer_at (configuration_of config (turn call queue ∷ r)) s);
+  sessions = λ s. same_session (s == slot) u (history config s (turn call queue ∷ r)) i;
   routes = λ s prefix. same_route (s == slot) u (history config s (turn call queue ∷ r)) prefix i;
 }
 
@@ -155,7 +155,7 @@ pub queues_told : (slot : ℕ) (p : Prefix) (export : Option (List ℕ)) (now ne
 queues_told slot p export now new told up room exported accepts news order config call r queue passes =
     let was : Run = turn call queue ∷ r in
     let is : Run = turn call ((slot, Tells (update_saying p export)) ∷ queue) ∷ r in
-    let peer = peer_of config (turn call queue ∷ r) slot told.before now passes.holds told.was in
+    let peer = peer_of config (turn call queue ∷ r) slot told.before now passes.holds told.was (rw up refl) in
     let before = slot_is config (turn call queue ∷ r) slot peer.0 told.before now passes.holds peer.1 told.was in
     let short : (a : List ℕ) → export ≡ Some a → length a ≤ 4068 = λ a some. export_short now slot p a (exported ∙ some) in
     let after = slot_queued config peer.0 p export told.before told.after (route_at now.adj_in slot) (history config slot (turn call queue ∷ r)) short up room told.told before in
@@ -274,7 +274,7 @@ pub queues_starved : (slot : ℕ) (old new : SpeakerState) → (short : IsShortA
     → ((p : Prefix) → IsBestOf (λ s. offer_at new.book s p) (best_at new.loc_rib p)) → IsStrictlySortedBy prefix_cmp (keys_of new.loc_rib) → QueuesStarved slot old new
 queues_starved slot old new short moves chooses best rising config call r queue passes =
     let holds : Holds config (turn call ((slot, Starves) ∷ queue) ∷ r) new =
-    holds_signalled config (turn call queue ∷ r) (turn call ((slot, Starves) ∷ queue) ∷ r) slot short.linked NoMemory old new passes.holds short.is refl (λ e. cc) moves refl refl (λ t. refl) chooses (choices_in config (turn call queue ∷ r)) passes.holds.chosen (omega arith) in
+    holds_signalled config (turn call queue ∷ r) (turn call ((slot, Starves) ∷ queue) ∷ r) slot short.linked NoMemory old new passes.holds short.peer short.configured (λ x. refl) short.is refl (λ e. cc) moves refl refl (λ t. refl) chooses (choices_in config (turn call queue ∷ r)) passes.holds.chosen (omega arith) in
     let tables = tables_same config (turn call ((slot, Starves) ∷ queue) ∷ r) new.conf (link_at new.links) new.adj_in (sym holds.conf) holds.slots in
     record {
       holds = holds;

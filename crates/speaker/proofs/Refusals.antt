@@ -1,16 +1,13 @@
-use Rattle.std.proofs.Common.{◌≡◌, ℕ, Some, None, is_none, cond, sym, ap, ◌∙◌}
-use Rattle.bgp_conf.specs.Configuration.{peer_at}
+use Rattle.std.proofs.Common.{◌≡◌, ℕ, Some, None, cond, sym, ap, ◌∙◌}
 use Rattle.bgp_conf.specs.declared.refusal.Refusal.TheVariants.{BadSlot}
-use Rattle.rib_in.specs.LatestRoutes.{route_at}
 use Rattle.speaker.specs.Agreement.{Agrees, tables_after}
 use Rattle.speaker.specs.FirstRefusal.{refusal_by, refusal_in, refusal_of, take_refusal_in, take_refusal_of}
-use Rattle.speaker.specs.Runs.{Run, history, moment_after}
+use Rattle.speaker.specs.Runs.{Run, moment_after}
 use Rattle.speaker.specs.SpeakerState.{SpeakerState, tables_of}
 use Rattle.speaker.specs.Tables.{link_at}
 use Rattle.speaker.specs.declared.config.Config.{Config}
 use Rattle.speaker.specs.declared.event.Event.{Event}
 use Rattle.speaker.proofs.Calls.{tables_same}
-use Rattle.speaker.proofs.SlotStates.{both_there}
 
 -- A speaker that agrees with a run refuses as the run says.
 
@@ -23,4 +20,4 @@ refusal_same config r s event a =
 -- a take
 pub take_refusal_same : (config : Config) (r : Run) (s : SpeakerState) (slot : ℕ) → Agrees config r s → take_refusal_of s slot ≡ take_refusal_in config r slot
 take_refusal_same config r s slot a =
-    ap (λ b. cond b (Some BadSlot) None) (both_there config (peer_at s.conf slot) (link_at s.links slot) (route_at s.adj_in slot) (history config slot r) (a.holds.slots slot) ∙ ap (λ conf. is_none (peer_at conf slot)) a.holds.conf)
+    ap (λ b. cond b None (Some BadSlot)) (a.holds.slots slot).there

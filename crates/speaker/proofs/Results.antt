@@ -14,3 +14,8 @@ OnErr-got (Err e) P p is = p
 pub OnErr-is : {T F : Type 0} (r : Result T F) (P : Type 0) → P → OnErr r P
 OnErr-is (Ok v) P p = tt
 OnErr-is (Err e) P p = p
+
+-- an answer that can't be a failure
+pub OnOk-sure : {T F : Type 0} (r : Result T F) (P X : Type 0) → OnOk r P → OnErr r X → (X → ⊥) → P
+OnOk-sure (Ok v) P X p x never = p
+OnOk-sure (Err e) P X p x never = absurd (never x)

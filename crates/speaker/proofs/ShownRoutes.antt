@@ -19,21 +19,20 @@ use Rattle.speaker.specs.Held.{held}
 use Rattle.speaker.specs.Linked.{Linked}
 use Rattle.speaker.specs.Runs.{Run, history}
 use Rattle.speaker.specs.Shown.{held_by}
-use Rattle.speaker.specs.SpeakerState.{SpeakerState}
+use Rattle.speaker.specs.SpeakerState.{SpeakerState, tables_of}
 use Rattle.speaker.specs.LocRib.{HasNoCandidate, IsBest, IsLocRib}
-use Rattle.speaker.specs.Tables.{Tables, best_at, link_at, session_at}
+use Rattle.speaker.specs.Tables.{Tables, best_at, configured_session, link_at, session_at}
 use Rattle.speaker.specs.declared.config.Config.{Config}
 use Rattle.speaker.proofs.Calls.{slot_route, tables_same}
 use Rattle.speaker.proofs.OneBest.{best_is_candidate, same_best}
 use Rattle.speaker.proofs.Places.{same_from_is_prefix}
-use Rattle.bgp_peer.specs.SessionInputs.{occupant}
-use Rattle.speaker.proofs.SlotStates.{none_from}
+use Rattle.speaker.proofs.SlotStates.{vacant_from}
 
 -- What the views list is what the run has.
 
 held_of_slot : (config : Config) (peer : Option ConfiguredPeer) (found : Option Linked) (routes : Prefix → Option PathAttributes) (h : List happens.Event) (prefix : Prefix)
     → SlotAgrees config peer found routes h → held_at (held_by found) prefix ≡ held h prefix
-held_of_slot config peer None routes h prefix a = rw (a.vacant (none_from (occupant h) (sym a.there))).0 refl
+held_of_slot config peer None routes h prefix a = rw (a.vacant (vacant_from h (sym a.there))).0 refl
 held_of_slot config peer (Some l) routes h prefix a = (a.link l refl).held prefix
 
 pub held_shown : (config : Config) (r : Run) (s : SpeakerState) (slot : ℕ) (prefix : Prefix) → Agrees config r s → held_at (held_by (link_at s.links slot)) prefix ≡ held (history config slot r) prefix
@@ -48,6 +47,10 @@ routes_shown config r s slot prefix found is a =
 -- the sessions of a run are those that are kept
 pub session_shown : (config : Config) (r : Run) (s : SpeakerState) (slot : ℕ) → Agrees config r s → (tables_after config r).sessions slot ≡ session_at s.links slot
 session_shown config r s slot a = ap (λ (t : Tables). t.sessions slot) (tables_same config r s.conf (link_at s.links) s.adj_in (sym a.holds.conf) a.holds.slots)
+
+-- the session of a configured slot
+pub configured_shown : (config : Config) (r : Run) (s : SpeakerState) (slot : ℕ) → Agrees config r s → configured_session (tables_after config r) slot ≡ configured_session (tables_of s) slot
+configured_shown config r s slot a = ap (λ t. configured_session t slot) (tables_same config r s.conf (link_at s.links) s.adj_in (sym a.holds.conf) a.holds.slots)
 
 -- a row of Loc-RIB is the best route of its prefix
 row_from_best : (t : Tables) (prefix : Prefix) (c : Candidate) (found : Option Candidate) → MatchOption found (HasNoCandidate t prefix) (λ x. IsBest t prefix x) → IsBest t prefix c → found ≡ Some c

@@ -1,9 +1,9 @@
-use Rattle.std.proofs.Common.{◌≡◌, ◌≢◌, ◌≤◌, ℕ, Bool, true, false, List, [], ◌∷◌, ◌++◌, Option, Some, None, length, take, cond, refl, sym, ap, ◌∙◌, subst}
+use Rattle.std.proofs.Common.{◌≡◌, ◌≢◌, ◌≤◌, ◌||◌, ℕ, Bool, true, false, List, [], ◌∷◌, ◌++◌, Option, Some, None, is_some, length, take, cond, refl, sym, ap, ◌∙◌, subst}
 use Rattle.bgp_attr.specs.PathAttributes.{PathAttributes}
 use Rattle.bgp_conf.specs.declared.conf.ConfiguredPeer.{ConfiguredPeer}
 use Rattle.bgp_fsm.specs.SessionTable.{effects_of}
 use Rattle.bgp_fsm.specs.StateTests.{is_established, is_message}
-use Rattle.bgp_fsm.specs.Transports.{transport_of}
+use Rattle.bgp_fsm.specs.Transports.{is_closing, transport_of}
 use Rattle.bgp_fsm.specs.declared.input.Input.{Input}
 use Rattle.bgp_fsm.specs.declared.input.Input.TheVariants.{Up}
 use Rattle.bgp_fsm.specs.declared.session.Effects.{Effects}
@@ -11,7 +11,7 @@ use Rattle.bgp_fsm.specs.declared.session.Session.{Session}
 use Rattle.bgp_fsm.proofs.TableLaws.{established_stands}
 use Rattle.bgp_msg.specs.MessageStream.{Item, completed, needed_of}
 use Rattle.bgp_peer.specs.Agreement.{holding}
-use Rattle.bgp_peer.specs.SessionInputs.{Event, Terms, Signalled, Octet, Handed, terms_from, terms_of, item_at, input_of, moment_of, session, onto}
+use Rattle.bgp_peer.specs.SessionInputs.{Event, Terms, Signalled, Octet, Handed, terms_from, terms_of, item_at, input_of, moment_of, occupant, session, staying, onto}
 use Rattle.bgp_peer.specs.Slot.{pushed, handed}
 use Rattle.bgp_peer.proofs.Agreeing.{agrees-shut, agrees-take, shut_octet, item_of_rest}
 use Rattle.bgp_peer.proofs.Receiving.{Hears, HasHeard, heard-wanted, wants-agreed}
@@ -19,34 +19,39 @@ use Rattle.bgp_peer.proofs.Rows.{ignored}
 use Rattle.net_prefix.specs.declared.prefix.Prefix.{Prefix}
 use Rattle.net_prefix.specs.declared.transport.Transport.TheVariants.{Open as Connected}
 use Rattle.speaker.specs.AdjRibIn.{word_if, update_heard, route}
-use Rattle.speaker.specs.Agreement.{LinkAgrees}
+use Rattle.speaker.specs.Agreement.{LinkAgrees, SlotAgrees}
 use Rattle.speaker.specs.Linked.{Linked}
 use Rattle.speaker.specs.Moves.{moved}
 use Rattle.speaker.specs.Runs.{terms_in}
 use Rattle.speaker.specs.declared.config.Config.{Config}
-use Rattle.speaker.proofs.SlotStates.{SlotIs}
+use Rattle.speaker.proofs.SlotStates.{SlotIs, link_alone}
 use Rattle.speaker.proofs.Histories.{route_moved, route_stays}
 use Rattle.speaker.proofs.SlotEvents.{route_octet, route_item, link_signalled, link_octet, link_item, with_peer, unheard}
 
 -- A slot with its routes, as one thing after another happens to it.
 
 pub slot_signalled : (config : Config) (peer : ConfiguredPeer) (l : Linked) (old new : Prefix → Option PathAttributes) (h : List Event) (input : Input)
-    → is_message input ≡ false → (input ≡ Up → is_established (session h).state ≡ false) → SlotIs config peer l old h
+    → is_message input ≡ false → (input ≡ Up → is_established (session h).state ≡ false) → ((found : Option Terms) → staying input found ≡ found) → SlotIs config peer l old h
     → ((p : Prefix) → new p ≡ cond (effects_of input l.peer.session).left None (old p)) → SlotIs config peer (moved (moment_of h) l input) new (Signalled input ∷ h)
-slot_signalled config peer l old new h input is other s change = record {
-  terms = s.terms;
+slot_signalled config peer l old new h input is other stays s change = record {
+  terms = stays (occupant h) ∙ s.terms;
   link = link_signalled h l input is other s.link;
   routes_are = λ p. change p ∙ ap (λ r. cond (effects_of input l.peer.session).left None r) (s.routes_are p)
       ∙ ap (λ (x : Session). cond (effects_of input x).left None (route h p)) s.link.peer.session ∙ sym (route_moved (moment_of h) h (Signalled input) input None p refl refl (λ none. refl));
 }
 
-pub slot_handed : (config : Config) (peer : ConfiguredPeer) (l : Linked) (routes : Prefix → Option PathAttributes) (h : List Event) (count : ℕ) → SlotIs config peer l routes h
-    → SlotIs config peer (with_peer l (handed l.peer count)) routes (Handed (take count l.peer.ring) ∷ h)
-slot_handed config peer l routes h count s = record {
-  terms = s.terms;
-  link = record { peer = agrees-take h l.peer count s.link.peer; held = s.link.held; silent = s.link.silent };
-  routes_are = λ p. s.routes_are p ∙ sym (route_stays h p);
-}
+-- octets are handed out, whether or not a peer is configured
+pub agrees_handed : (config : Config) (found : Option ConfiguredPeer) (l : Linked) (routes : Prefix → Option PathAttributes) (h : List Event) (count : ℕ) → SlotAgrees config found (Some l) routes h
+    → SlotAgrees config found (Some (with_peer l (handed l.peer count))) routes (Handed (take count l.peer.ring) ∷ h)
+agrees_handed config found l routes h count a =
+    let link = a.link l refl in
+    record {
+      configured = a.configured;
+      there = a.there;
+      link = λ x is. link_alone (with_peer l (handed l.peer count)) x (Handed (take count l.peer.ring) ∷ h) (record { peer = agrees-take h l.peer count link.peer; held = link.held; silent = link.silent }) is;
+      vacant = a.vacant;
+      routes_are = λ p. a.routes_are p ∙ sym (route_stays h p);
+    }
 
 -- the slot with this rest is as the history leaves it
 abbrev pub WithRest : Config → ConfiguredPeer → Linked → (Prefix → Option PathAttributes) → List Event → List ℕ → Type 0
@@ -125,3 +130,27 @@ pub slot_shut : (config : Config) (peer : ConfiguredPeer) (l : Linked) (routes :
     → transport_of l.peer.session ≢ Connected → SlotIs config peer l routes h → SlotIs config peer l routes (onto octets h)
 slot_shut config peer l routes h [] shut s = s
 slot_shut config peer l routes h (octet ∷ octets) shut s = slot_shut config peer l routes (Octet octet ∷ h) octets shut (slot_quiet config peer l routes h octet shut s)
+
+-- nor does it whether or not a peer is configured
+agrees_quiet : (config : Config) (found : Option ConfiguredPeer) (l : Linked) (routes : Prefix → Option PathAttributes) (h : List Event) (octet : ℕ)
+    → transport_of l.peer.session ≢ Connected → SlotAgrees config found (Some l) routes h → SlotAgrees config found (Some l) routes (Octet octet ∷ h)
+agrees_quiet config found l routes h octet shut a =
+    let link = a.link l refl in
+    let shut_after : transport_of (session h) ≢ Connected = λ e. shut (ap transport_of link.peer.session ∙ e) in
+    let still = shut_octet h octet _ refl shut_after in
+    record {
+      configured = a.configured;
+      there = a.there ∙ ap (λ (x : Session). is_some (occupant h) || is_closing (transport_of x)) (sym still.0);
+      link = λ x is. link_alone l x (Octet octet ∷ h) (record {
+        peer = agrees-shut h l.peer (octet ∷ []) shut link.peer;
+        held = λ p. rw (still.0, still.1) (link.held p);
+        silent = λ k new p. rw still.1 (link.silent (rw still.0 at k) (rw still.0 at new) p);
+      }) is;
+      vacant = λ none. rw still.0 (a.vacant none);
+      routes_are = λ p. a.routes_are p ∙ sym (quiet_route h octet _ p refl shut_after);
+    }
+
+pub agrees_dropped : (config : Config) (found : Option ConfiguredPeer) (l : Linked) (routes : Prefix → Option PathAttributes) (h : List Event) (octets : List ℕ)
+    → transport_of l.peer.session ≢ Connected → SlotAgrees config found (Some l) routes h → SlotAgrees config found (Some l) routes (onto octets h)
+agrees_dropped config found l routes h [] shut a = a
+agrees_dropped config found l routes h (octet ∷ octets) shut a = agrees_dropped config found l routes (Octet octet ∷ h) octets shut (agrees_quiet config found l routes h octet shut a)

@@ -3,44 +3,46 @@ use Rattle.std.specs.Option.{option_map}
 use Rattle.std.proofs.lemmas.Bool.{cases_eq, eq-eqb, ne_eqb}
 use Rattle.std.proofs.lemmas.List.{length-take}
 use Rattle.std.proofs.Math.Seq.{take-append_seam}
+use Rattle.bgp_conf.specs.Configuration.{peer_at}
+use Rattle.speaker.specs.Choices.{choices_in}
 use Rattle.bgp_peer.specs.SessionInputs as happens
 use Rattle.bgp_peer.specs.SessionInputs.{Handed}
 use Rattle.bgp_peer.specs.Slot.{handed}
 use Rattle.rib_in.specs.LatestRoutes.{route_at}
-use Rattle.speaker.specs.Agreement.{Holds, Agrees, Passes, QueuesAll, tables_after}
-use Rattle.speaker.proofs.SlotStates.{SlotIs}
+use Rattle.speaker.specs.Agreement.{Holds, Agrees, Passes, QueuesAll, SlotAgrees, tables_after}
 use Rattle.speaker.specs.Linked.{Linked}
 use Rattle.speaker.specs.LocRib.{IsLocRib}
 use Rattle.speaker.specs.Moves.{Hands}
 use Rattle.speaker.specs.Queueing.{Queue, starved_in}
-use Rattle.speaker.specs.Runs.{Run, turn, Take_call, history}
+use Rattle.speaker.specs.Runs.{Run, turn, Take_call, configuration_of, history, moment_after}
 use Rattle.speaker.specs.Serving.{IsServedAt}
 use Rattle.speaker.specs.SpeakerState.{SpeakerState, tables_of}
 use Rattle.speaker.specs.Tables.{link_at}
 use Rattle.speaker.specs.declared.config.Config.{Config}
 use Rattle.speaker.proofs.Calls.{tables_same}
-use Rattle.speaker.proofs.Commands.{peer_of}
-use Rattle.speaker.proofs.Events.{begun, holds_begun, holds_put, slot_is}
+use Rattle.speaker.proofs.Events.{begun, holds_begun, put_agrees}
 use Rattle.speaker.proofs.KeptOffers.{hands_keep}
 use Rattle.speaker.proofs.Passing.{passes_first, agrees_served}
 use Rattle.speaker.proofs.SlotEvents.{with_peer}
-use Rattle.speaker.proofs.SlotOctets.{slot_handed}
+use Rattle.speaker.proofs.SlotOctets.{agrees_handed}
 
 -- Octets that are handed out.
 
 holds_handed : (config : Config) (r : Run) (slot : ℕ) (l : Linked) (count : ℕ) (old new : SpeakerState) → Holds config r old → link_at old.links slot ≡ Some l → Hands slot l count old new → old.chosen ≤ old.chosen_before
     → Holds config (turn (Take_call slot (take count l.peer.ring)) [] ∷ r) new
 holds_handed config r slot l count old new h linked hands so_far =
-    let peer = peer_of config r slot l old h linked in
-    let here = slot_handed config peer.0 l (route_at old.adj_in slot) (history config slot r) count (slot_is config r slot peer.0 l old h peer.1 linked) in
+    let before : SlotAgrees config (peer_at old.conf slot) (Some l) (route_at old.adj_in slot) (history config slot r) = subst (λ x. SlotAgrees config (peer_at old.conf slot) x (route_at old.adj_in slot) (history config slot r)) linked (h.slots slot) in
+    let here = agrees_handed config (peer_at old.conf slot) l (route_at old.adj_in slot) (history config slot r) count before in
     let on : history config slot (turn (Take_call slot (take count l.peer.ring)) [] ∷ r) ≡ Handed (take count l.peer.ring) ∷ history config slot r = rw (eq-eqb slot slot refl) refl in
-    let H : List happens.Event → Type 0 = λ x. SlotIs config peer.0 (with_peer l (handed l.peer count)) (route_at new.adj_in slot) x in
+    let H : List happens.Event → Type 0 = λ x. SlotAgrees config (peer_at old.conf slot) (Some (with_peer l (handed l.peer count))) (route_at new.adj_in slot) x in
     let same = hands.chosen in
     let same_before = hands.rest.chosen_before in
-    holds_put config r (turn (Take_call slot (take count l.peer.ring)) [] ∷ r) slot (with_peer l (handed l.peer count)) old new h refl refl (hands_keep slot l count old new linked hands) hands.rest hands.links
+    let after : Run = turn (Take_call slot (take count l.peer.ring)) [] ∷ r in
+    put_agrees config (configuration_of config r) (configuration_of config after) (moment_after r) (moment_after after) (λ t. history config t r) (λ t. history config t after) (choices_in config r) (choices_in config after)
+    slot (with_peer l (handed l.peer count)) old new h refl refl (hands_keep slot l count old new linked hands) hands.rest hands.links
     (λ t other p. ap (λ table. route_at table t p) hands.routes) (λ t other. rw (ne_eqb t slot other) refl)
     (omega (arith, so_far, same, same_before))
-    peer.0 peer.1 (subst H (sym on) (rw hands.routes here))
+    (subst H (sym on) (rw hands.routes here))
 
 handed_session : (slot t : ℕ) (l : Linked) (count : ℕ) (f : ℕ → Option Linked) → f slot ≡ Some l
     → option_map (λ x. x.peer.session) (cond (t == slot) (Some (with_peer l (handed l.peer count))) (f t)) ≡ option_map (λ x. x.peer.session) (f t)

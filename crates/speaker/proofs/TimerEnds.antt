@@ -1,4 +1,4 @@
-use Rattle.std.proofs.Common.{◌≡◌, ◌≢◌, ◌≤◌, ◌<◌, ◌+◌, ◌==◌, ◌&&◌, ◌||◌, ◌^◌, ℕ, zero, suc, Bool, true, false, List, [], ◌∷◌, Option, Some, None, is_none, nat_lt, cond, refl, sym, ap, ◌∙◌, subst, inl, inr, arith}
+use Rattle.std.proofs.Common.{◌≡◌, ◌≢◌, ◌≤◌, ◌<◌, ◌+◌, ◌==◌, ◌&&◌, ◌||◌, ◌^◌, ℕ, zero, suc, Bool, true, false, List, [], ◌∷◌, Option, Some, None, is_some, nat_lt, cond, refl, sym, ap, ◌∙◌, subst, inl, inr, arith}
 use Rattle.std.proofs.lemmas.Bool.{cases_eq, cases_lt, eq-eqb, ne_eqb, lt-ltb, le-ltb}
 use Rattle.std.proofs.Math.Numerals.{add-one}
 use Rattle.std.specs.Int.Bits.{bit_or, or_zero_l}
@@ -15,7 +15,7 @@ use Rattle.bgp_fsm.specs.declared.timers.Timer.{Timer}
 use Rattle.bgp_fsm.specs.declared.timers.Timer.TheVariants.{Hold, ConnectRetry, IdleHold, Keepalive}
 use Rattle.bgp_fsm.specs.declared.timers.Timers.{Timers}
 use Rattle.bgp_peer.specs.SessionInputs as happens
-use Rattle.bgp_peer.specs.SessionInputs.{Signalled, Ticked, ending, endings, moment_of, occupant, session, ticked, timers}
+use Rattle.bgp_peer.specs.SessionInputs.{Signalled, Ticked, ending, endings, moment_of, session, ticked, timers}
 use Rattle.net_prefix.specs.declared.prefix.Prefix.{Prefix}
 use Rattle.rib_in.specs.LatestRoutes.{route_at}
 use Rattle.speaker.specs.Agreement.{EndsAll, EndsTimers, Holds, HoldsBy, SlotAgrees}
@@ -30,7 +30,7 @@ use Rattle.speaker.specs.declared.config.Config.{Config}
 use Rattle.speaker.proofs.Commands.{signalled_by}
 use Rattle.speaker.proofs.Events.{holds_ticked}
 use Rattle.speaker.proofs.Moments.{endings_stay}
-use Rattle.speaker.proofs.SlotStates.{none_from}
+use Rattle.speaker.proofs.SlotStates.{vacant_from, vacant_or}
 
 -- Timers that end at a moment, as the histories of the slots have it.
 
@@ -58,7 +58,7 @@ none_ends Keepalive now = refl
 vacant_stays : (config : Config) (found : Option ConfiguredPeer) (linked : Option Linked) (routes : Prefix → Option PathAttributes) (h : List happens.Event) (timer : Timer) (now : ℕ) → SlotAgrees config found linked routes h → linked ≡ None
     → has_ended timer now (session h).timers ≡ false
 vacant_stays config found linked routes h timer now a none =
-    ap (has_ended timer now) (a.vacant (none_from (occupant h) (sym a.there ∙ ap is_none none))).1 ∙ none_ends timer now
+    ap (has_ended timer now) (a.vacant (vacant_from h (sym a.there ∙ ap is_some none))).1 ∙ none_ends timer now
 
 -- a timer that hasn't ended: nothing happens
 quiet : (b : Bool) (h : List happens.Event) (input : Input) → b ≡ false → cond b (Signalled input ∷ h) h ≡ h
@@ -99,8 +99,9 @@ pub ends_now : (slot : ℕ) (timer : Timer) (opened : Bool) (l : Linked) (old ne
 ends_now slot timer opened l old new linked runs moves chooses is config conf histories most moment h =
     let session_is : l.peer.session ≡ session (histories slot) = ((h.slots slot).link l linked).peer.session in
     let on : has_ended timer old.moment (session (histories slot)).timers ≡ true = ap (λ (x : Session). has_ended timer old.moment x.timers) (sym session_is) ∙ runs in
+    let peer = configured_at (peer_at old.conf slot) (link_at old.links slot) (route_at old.adj_in slot) config (histories slot) (h.slots slot) on in
     let so_far = h.chosen in (
-      signalled_by config conf conf old.moment old.moment histories (λ t. cond (t == slot) (ending timer old.moment (histories t)) (histories t)) most (most + choices_endings (timer ∷ []) old.moment (histories slot)) slot l (Expires timer) old new h refl refl moment linked
+      signalled_by config conf conf old.moment old.moment histories (λ t. cond (t == slot) (ending timer old.moment (histories t)) (histories t)) most (most + choices_endings (timer ∷ []) old.moment (histories slot)) slot l (Expires timer) old new h refl refl moment peer.0 peer.1 (λ x. refl) linked
           refl (λ e. cc) moves (same on) chooses most so_far (rw on (omega arith)),
       is ∙ ap (λ (x : Session). (effects_of (Expires timer) x).opened) session_is ∙ rw on (sym (or_false (effects_of (Expires timer) (session (histories slot))).opened)),
     )
@@ -108,6 +109,13 @@ ends_now slot timer opened l old new linked runs moves chooses is config conf hi
     or_false : (b : Bool) → (b || false) ≡ b
     or_false true = refl
     or_false false = refl
+
+    configured_at : (found : Option ConfiguredPeer) (there : Option Linked) (routes : Prefix → Option PathAttributes) (config : Config) (k : List happens.Event) → SlotAgrees config found there routes k → has_ended timer old.moment (session k).timers ≡ true
+        → (peer : ConfiguredPeer) × (found ≡ Some peer)
+    configured_at found there routes config k a on = elim (vacant_or config found there routes k a) [
+      | inl peer ↦ peer
+      | inr none ↦ let never = sym on ∙ ap (has_ended timer old.moment) (a.vacant none).1 ∙ none_ends timer old.moment in absurd (cc)
+    ]
 
     same : has_ended timer old.moment (session (histories slot)).timers ≡ true → (t : ℕ) → cond (t == slot) (ending timer old.moment (histories t)) (histories t) ≡ cond (t == slot) (Signalled (Expires timer) ∷ histories t) (histories t)
     same on t = elim (cases_eq t slot) [
@@ -238,7 +246,7 @@ HasTicked-end first opened s h config conf histories start =
       | inl low ↦ rw (lt-ltb t 64 low) refl
       | inr over ↦
           let a = start.slots t in
-          rw (le-ltb t 64 over) (quiet_endings timers first.moment (Ticked first.moment ∷ histories t) (a.vacant (none_from (occupant (Ticked first.moment ∷ histories t)) (sym a.there ∙ ap is_none (none t over)))).1)
+          rw (le-ltb t 64 over) (quiet_endings timers first.moment (Ticked first.moment ∷ histories t) (a.vacant (vacant_from (Ticked first.moment ∷ histories t) (sym a.there ∙ ap is_some (none t over)))).1)
     ]
 
 -- a moment comes

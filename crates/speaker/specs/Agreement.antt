@@ -1,12 +1,12 @@
 -- When a speaker is as a run leaves it (RFC 4271 sections 3.2, 8 and 9).
-use Rattle.std.specs.Prelude.{◌≡◌, ◌≢◌, ◌==◌, ◌<◌, ◌≤◌, ◌+◌, ◌++◌, ℕ, List, [], ◌∷◌, length, Bool, Option, Some, None, is_none, false, true, if◌then◌else◌}
+use Rattle.std.specs.Prelude.{◌≡◌, ◌≢◌, ◌==◌, ◌<◌, ◌≤◌, ◌+◌, ◌++◌, ℕ, List, [], ◌∷◌, length, Bool, Option, Some, None, is_some, false, true, if◌then◌else◌}
 use Rattle.std.specs.Option.{option_map}
 use Rattle.bgp_attr.specs.AttributeFaults.{is_host}
 use Rattle.bgp_attr.specs.PathAttributes.{PathAttributes}
 use Rattle.bgp_attr.specs.PeerKinds.{kind_between}
 use Rattle.bgp_conf.specs.Configuration.{Configuration, peer_at}
 use Rattle.bgp_conf.specs.declared.conf.ConfiguredPeer.{ConfiguredPeer}
-use Rattle.bgp_fsm.specs.declared.state.State.TheVariants.{Established}
+use Rattle.bgp_fsm.specs.declared.state.State.TheVariants.{Established, Idle}
 use Rattle.bgp_fsm.specs.StateTests.{is_established}
 use Rattle.bgp_fsm.specs.TimerMoments.{stopped}
 use Rattle.bgp_fsm.specs.Transports.{transport_of}
@@ -17,7 +17,7 @@ use Rattle.bgp_msg.specs.declared.frame.MessageType.TheVariants.{Update}
 use Rattle.bgp_peer.specs.Agreement.{PeerAgrees, IsUpdateMessage}
 use Rattle.bgp_peer.specs.SentMessages.{ring_of, sent}
 use Rattle.bgp_peer.specs.SessionInputs as slot
-use Rattle.bgp_peer.specs.SessionInputs.{Ticked, endings, item_at, moment_of, occupant, onto, session, ticked}
+use Rattle.bgp_peer.specs.SessionInputs.{Ticked, endings, is_there, item_at, moment_of, occupant, onto, session, ticked}
 use Rattle.decision.specs.BookContents.{offer_at}
 use Rattle.net_prefix.specs.declared.asn.Asn.{Asn}
 use Rattle.net_prefix.specs.declared.prefix.Prefix.{Prefix}
@@ -38,11 +38,11 @@ use Rattle.speaker.specs.Tables.{Tables, link_at}
 use Rattle.speaker.specs.declared.config.Config.{Config}
 use Rattle.bgp_peer.specs.PeerLimits.{ring_octets, room_for_update}
 
--- what the selection reads after a run: the configuration, the session of each configured slot, the latest routes
+-- what the selection reads after a run: the configuration, the session of each slot that is there, the latest routes
 abbrev pub tables_after : Config → Run → Tables
 tables_after config r = record {
   conf = configuration_of config r;
-  sessions = λ s. option_map (λ peer. session (history config s r)) (peer_at (configuration_of config r) s);
+  sessions = λ s. if is_there (history config s r) then Some (session (history config s r)) else None;
   routes = λ s prefix. route (history config s r) prefix;
 }
 
@@ -57,11 +57,11 @@ pub record LinkAgrees (h : List slot.Event) (l : Linked) : Type 0 where
 pub record SlotAgrees (config : Config) (found : Option ConfiguredPeer) (linked : Option Linked) (routes : Prefix → Option PathAttributes) (h : List slot.Event) : Type 0 where
   -- the configuration has the peer that occupies the slot
   pub configured : option_map (terms_in config) found ≡ occupant h
-  -- the slot is there where it isn't vacant
-  pub there : is_none linked ≡ is_none (occupant h)
+  -- the slot is there where a peer occupies it, or where a connection is still closing
+  pub there : is_some linked ≡ is_there h
   pub link : (l : Linked) → linked ≡ Some l → LinkAgrees h l
-  -- nothing is exchanged with a vacant one, and no timer of it runs
-  pub vacant : occupant h ≡ None → (is_established (session h).state ≡ false) × ((session h).timers ≡ stopped)
+  -- a vacant one is in Idle, and no timer of it runs
+  pub vacant : occupant h ≡ None → ((session h).state ≡ Idle) × ((session h).timers ≡ stopped)
   pub routes_are : (prefix : Prefix) → routes prefix ≡ route h prefix
 
 -- where 8,192 octets are free, the peer of each Established slot holds its export

@@ -1,9 +1,9 @@
 -- How often a best route may be chosen, by what comes and goes (own, for RFC 4271 section 9.1).
 use Rattle.std.specs.Prelude.{◌+◌, ◌&&◌, ◌||◌, ℕ, zero, suc, Bool, true, not, List, [], ◌∷◌, ◌++◌, Option, Some, None, is_some, false, if◌then◌else◌}
 use Rattle.bgp_conf.specs.declared.command.Command.{Command}
-use Rattle.bgp_conf.specs.declared.command.Command.TheVariants.{AddPeer, Enable, Disable, Reach}
+use Rattle.bgp_conf.specs.declared.command.Command.TheVariants.{AddPeer, RemovePeer, Enable, Disable, Reach}
 use Rattle.bgp_fsm.specs.StateTests.{is_established}
-use Rattle.bgp_fsm.specs.declared.input.Input.TheVariants.{Start, Disable as Disabled, Up, Fail, NoMemory, Expires}
+use Rattle.bgp_fsm.specs.declared.input.Input.TheVariants.{Start, Disable as Disabled, Remove as Removed, Up, Fail, NoMemory, Expires}
 use Rattle.bgp_fsm.specs.declared.timers.Timer.{Timer}
 use Rattle.bgp_fsm.specs.TimerMoments.{has_ended}
 use Rattle.bgp_msg.specs.UpdateMeaning.{UpdateBody}
@@ -81,10 +81,11 @@ abbrev pub choices_to : (ℕ → List slot.Event) → ℕ → ℕ → ℕ
 choices_to histories now zero = 0
 choices_to histories now (suc s) = choices_endings timers now (Ticked now ∷ histories s) + choices_to histories now s
 
--- for a command: what enabling a peer (which ends no session) or disabling it is to its session, and for an entry of
+-- for a command: what enabling a peer (which ends no session), disabling or removing it is to its session, for an entry of
 -- `reach` once for each prefix to which some slot has a route
 abbrev pub choices_commanded : Config → Run → Command → ℕ
 choices_commanded config r (AddPeer s peer) = 0
+choices_commanded config r (RemovePeer s) = choices_by (history config s r) (Signalled Removed)
 choices_commanded config r (Enable s) = choices_by (history config s r) (Signalled Start)
 choices_commanded config r (Disable s) = choices_by (history config s r) (Signalled Disabled)
 choices_commanded config r (Reach prefix cost) = how_many (is_routed config r 64) (announced_to config r 64)

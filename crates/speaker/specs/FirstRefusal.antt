@@ -1,21 +1,24 @@
 -- When a call is refused (own choice: the order and the numbers).
-use Rattle.std.specs.Prelude.{ℕ, nat_le, Bool, true, false, is_none, if◌then◌else◌, Option, Some, None}
+use Rattle.std.specs.Prelude.{ℕ, ◌&&◌, ◌^◌, nat_le, nat_lt, Bool, true, false, is_some, if◌then◌else◌, Option, Some, None}
 use Rattle.net_prefix.specs.declared.transport.Transport.{Transport}
 use Rattle.net_prefix.specs.declared.transport.Transport.TheVariants.{None as NoConnection, Opening, Listening, Open, Closing}
 use Rattle.bgp_conf.specs.declared.refusal.Refusal.{Refusal}
 use Rattle.bgp_conf.specs.declared.refusal.Refusal.TheVariants.{BadSlot, ClockBack, NotExpected}
 use Rattle.bgp_conf.specs.ConfAfter.{TakesMemory}
-use Rattle.bgp_conf.specs.Configuration.{Configuration, peer_at}
+use Rattle.bgp_conf.specs.Configuration.{Configuration}
+use Rattle.bgp_conf.specs.declared.command.Command.{Command}
+use Rattle.bgp_conf.specs.declared.command.Command.TheVariants.{AddPeer, RemovePeer, Enable, Disable, Reach}
 use Rattle.bgp_conf.specs.FirstRefusal.{first_refusal}
-use Rattle.bgp_fsm.specs.Transports.{transport_of}
+use Rattle.bgp_fsm.specs.Transports.{is_closing, transport_of}
+use Rattle.bgp_peer.specs.SessionInputs.{is_there}
 use Rattle.bgp_fsm.specs.declared.session.Session.{Session}
 use Rattle.speaker.specs.Agreement.{tables_after}
-use Rattle.speaker.specs.Runs.{Run, configuration_of, moment_after}
+use Rattle.speaker.specs.Runs.{Run, history, moment_after}
 use Rattle.speaker.specs.SpeakerState.{SpeakerState, IsAsBefore, tables_of}
-use Rattle.speaker.specs.Tables.{Tables, link_at}
+use Rattle.speaker.specs.Tables.{Tables, configured_session, link_at}
 use Rattle.speaker.specs.declared.config.Config.{Config}
 use Rattle.speaker.specs.declared.event.Event.{Event}
-use Rattle.speaker.specs.declared.event.Event.TheVariants.{Up, Fail, Bytes, Tick, Command}
+use Rattle.speaker.specs.declared.event.Event.TheVariants.{Up, Fail, Bytes, Tick, Command as Commanded}
 
 -- a connection may come up
 abbrev pub awaits_up : Transport → Bool
@@ -41,18 +44,39 @@ may_bring_octets Listening = false
 may_bring_octets Open = true
 may_bring_octets Closing = true
 
--- a slot that isn't configured is refused first, then one whose transport doesn't take the event
+-- the connection stands
+abbrev pub is_open : Transport → Bool
+is_open NoConnection = false
+is_open Opening = false
+is_open Listening = false
+is_open Open = true
+is_open Closing = false
+
+-- a slot that isn't there is refused first, then one whose transport doesn't take the event
 abbrev pub refused_at : Option Session → (Transport → Bool) → Option Refusal
 refused_at None takes = Some BadSlot
 refused_at (Some session) takes = if takes (transport_of session) then None else Some NotExpected
 
+-- a session whose connection is still to be closed
+abbrev pub closes : Option Session → Bool
+closes None = false
+closes (Some session) = is_closing (transport_of session)
+
+-- the slot that a command would give to a peer, as a set of slots, where a connection of it is still to be closed
+abbrev pub closing_for : Tables → Command → ℕ
+closing_for t (AddPeer slot peer) = if nat_lt slot 64 && closes (t.sessions slot) then 2 ^ slot else 0
+closing_for t (RemovePeer slot) = 0
+closing_for t (Enable slot) = 0
+closing_for t (Disable slot) = 0
+closing_for t (Reach prefix cost) = 0
+
 -- the first refusal of an event by the moment, the configuration and the sessions
 abbrev pub refusal_by : ℕ → Tables → Event → Option Refusal
-refusal_by moment t (Up slot) = refused_at (t.sessions slot) awaits_up
+refusal_by moment t (Up slot) = refused_at (configured_session t slot) awaits_up
 refusal_by moment t (Fail slot) = refused_at (t.sessions slot) may_fail
 refusal_by moment t (Bytes slot octets) = refused_at (t.sessions slot) may_bring_octets
 refusal_by moment t (Tick now) = if nat_le moment now then None else Some ClockBack
-refusal_by moment t (Command command) = first_refusal t.conf 0 command
+refusal_by moment t (Commanded command) = first_refusal t.conf (closing_for t command) command
 
 -- the first refusal of an event after a run
 abbrev pub refusal_in : Config → Run → Event → Option Refusal
@@ -64,11 +88,11 @@ refusal_of s event = refusal_by s.moment (tables_of s) event
 
 -- the first refusal of a take by a speaker
 abbrev pub take_refusal_of : SpeakerState → ℕ → Option Refusal
-take_refusal_of s slot = if is_none (link_at s.links slot) then Some BadSlot else None
+take_refusal_of s slot = if is_some (link_at s.links slot) then None else Some BadSlot
 
 -- the first refusal of a take after a run
 abbrev pub take_refusal_in : Config → Run → ℕ → Option Refusal
-take_refusal_in config r slot = if is_none (peer_at (configuration_of config r) slot) then Some BadSlot else None
+take_refusal_in config r slot = if is_there (history config slot r) then None else Some BadSlot
 
 -- the event takes memory of its own: a command that adds a peer or an entry of `reach`
 abbrev pub Grows : Configuration → Event → Type 0
@@ -76,7 +100,7 @@ Grows conf (Up slot) = ⊥
 Grows conf (Fail slot) = ⊥
 Grows conf (Bytes slot octets) = ⊥
 Grows conf (Tick now) = ⊥
-Grows conf (Command command) = TakesMemory conf command
+Grows conf (Commanded command) = TakesMemory conf command
 
 -- memory was refused to what an event takes of its own, and the speaker is as it was
 abbrev pub LacksMemory : Event → SpeakerState → SpeakerState → Type 0

@@ -1,6 +1,9 @@
 -- What an input of a session makes of its slot and its routes (RFC 4271 sections 3.2 and 8.2.2).
 use Rattle.std.specs.Prelude.{◌≡◌, ◌≢◌, ◌||◌, ◌&&◌, ◌==◌, ℕ, Bool, List, [], min, length, Option, Some, None, if◌then◌else◌}
 use Rattle.bgp_attr.specs.declared.peer.PeerKind.{PeerKind}
+use Rattle.bgp_conf.specs.ConfAfter.{conf_after}
+use Rattle.bgp_conf.specs.Configuration.{peer_at}
+use Rattle.bgp_conf.specs.declared.command.Command.TheVariants.{RemovePeer}
 use Rattle.bgp_fsm.specs.SessionTable.{effects_of}
 use Rattle.bgp_fsm.specs.declared.input.Input.{Input}
 use Rattle.bgp_fsm.specs.declared.session.Effects.{Effects}
@@ -18,7 +21,7 @@ use Rattle.net_prefix.specs.declared.transport.Transport.TheVariants.{None as No
 use Rattle.net_prefix.specs.declared.prefix.Prefix.{Prefix}
 use Rattle.speaker.specs.AdjRibIn.{NeedsMemory, word_if, update_heard}
 use Rattle.rib_in.specs.LatestRoutes.{RouteTable, route_at}
-use Rattle.speaker.specs.Chosen.{ChoosesHeard}
+use Rattle.speaker.specs.Chosen.{ChoosesHeard, Ends}
 use Rattle.speaker.specs.Linked.{Linked}
 use Rattle.speaker.specs.Offers.{AreKept}
 use Rattle.speaker.specs.RoutingState.{RoutingState}
@@ -38,6 +41,33 @@ moved now l input = record { peer = taken_input now l.peer input; adj_out = adj_
 abbrev pub IsPut : ℕ → Linked → SpeakerState → SpeakerState → Type 0
 IsPut slot l old new = (s : ℕ) → link_at new.links s ≡ (if s == slot then Some l else link_at old.links s)
 
+-- the settings, the moment, the configuration and the count of the calls before stay
+pub record KeepsRest (old new : SpeakerState) : Type 0 where
+  pub config : new.config ≡ old.config
+  pub moment : new.moment ≡ old.moment
+  pub conf : new.conf ≡ old.conf
+  pub chosen_before : new.chosen_before ≡ old.chosen_before
+
+-- the slot isn't there any more, and no other slot changes
+pub record IsWithout (slot : ℕ) (old new : SpeakerState) : Type 0 where
+  pub links : (s : ℕ) → link_at new.links s ≡ (if s == slot then None else link_at old.links s)
+  pub routes : new.adj_in ≡ old.adj_in
+  pub book : new.book ≡ old.book
+  pub chosen : new.chosen ≡ old.chosen
+  pub rest : KeepsRest old new
+
+-- the peer of a slot is taken from the configuration, and what is left of its routes goes
+pub record Forgets (slot : ℕ) (old new : SpeakerState) : Type 0 where
+  pub conf : new.conf ≡ conf_after old.conf (RemovePeer slot)
+  pub peers : (s : ℕ) → peer_at new.conf s ≡ (if s == slot then None else peer_at old.conf s)
+  pub links : new.links ≡ old.links
+  pub routes : (s : ℕ) (prefix : Prefix) → route_at new.adj_in s prefix ≡ (if s == slot then None else route_at old.adj_in s prefix)
+  pub offers : (s : ℕ) (prefix : Prefix) → offer_at new.book s prefix ≡ (if s == slot then None else offer_at old.book s prefix)
+  pub chosen : Ends slot old.adj_in old.chosen new.chosen
+  pub config : new.config ≡ old.config
+  pub moment : new.moment ≡ old.moment
+  pub chosen_before : new.chosen_before ≡ old.chosen_before
+
 -- the routes of a slot go where it leaves Established, and no other routes change
 abbrev pub IsDropped : Bool → ℕ → SpeakerState → SpeakerState → Type 0
 IsDropped left slot old new =
@@ -51,13 +81,6 @@ AreDropped left slot old new =
 -- where the candidates that were kept were those of all routes, they still are
 abbrev pub KeepsKept : SpeakerState → SpeakerState → Type 0
 KeepsKept old new = AreKept (tables_of old) (offer_at old.book) → AreKept (tables_of new) (offer_at new.book)
-
--- the settings, the moment, the configuration and the count of the calls before stay
-pub record KeepsRest (old new : SpeakerState) : Type 0 where
-  pub config : new.config ≡ old.config
-  pub moment : new.moment ≡ old.moment
-  pub conf : new.conf ≡ old.conf
-  pub chosen_before : new.chosen_before ≡ old.chosen_before
 
 -- the input makes this of the slot and its routes, and of nothing else
 pub record Moves (slot : ℕ) (l : Linked) (input : Input) (old new : SpeakerState) : Type 0 where

@@ -3,9 +3,9 @@ use Rattle.std.specs.Prelude.{ℕ, zero, suc, ◌==◌, ◌^◌, ◌&&◌, ◌||
 use Rattle.bgp_conf.specs.Configuration.{Configuration}
 use Rattle.bgp_conf.specs.ConfAfter.{conf_after, configured_of}
 use Rattle.bgp_conf.specs.declared.command.Command.{Command}
-use Rattle.bgp_conf.specs.declared.command.Command.TheVariants.{AddPeer, Enable, Disable, Reach}
+use Rattle.bgp_conf.specs.declared.command.Command.TheVariants.{AddPeer, RemovePeer, Enable, Disable, Reach}
 use Rattle.bgp_conf.specs.declared.conf.ConfiguredPeer.{ConfiguredPeer}
-use Rattle.bgp_fsm.specs.declared.input.Input.TheVariants.{Start, Disable as Disabled, Up, Fail, NoMemory, Expires}
+use Rattle.bgp_fsm.specs.declared.input.Input.TheVariants.{Start, Disable as Disabled, Remove as Removed, Up, Fail, NoMemory, Expires}
 use Rattle.bgp_fsm.specs.declared.timers.Timer.{Timer}
 use Rattle.bgp_fsm.specs.SessionTable.{effects_of}
 use Rattle.bgp_fsm.specs.TimerMoments.{has_ended}
@@ -109,6 +109,7 @@ terms_in config peer = record {
 -- what a command is to a slot
 abbrev pub commanded : Config → ℕ → Command → List slot.Event → List slot.Event
 commanded config s (AddPeer slot peer) h = if s == slot then Configured (terms_in config (configured_of peer)) ∷ h else h
+commanded config s (RemovePeer slot) h = if s == slot then Signalled Removed ∷ h else h
 commanded config s (Enable slot) h = if s == slot then Signalled Start ∷ h else h
 commanded config s (Disable slot) h = if s == slot then Signalled Disabled ∷ h else h
 commanded config s (Reach prefix cost) h = h
@@ -151,6 +152,7 @@ opened_to histories now (suc s) = bit_or (if opens_by timers now (Ticked now ∷
 -- those whose attempt begins by a command
 abbrev pub opened_commanded : Config → Run → Command → ℕ
 opened_commanded config r (AddPeer slot peer) = 0
+opened_commanded config r (RemovePeer slot) = 0
 opened_commanded config r (Enable slot) = if (effects_of Start (session (history config slot r))).opened then 2 ^ slot else 0
 opened_commanded config r (Disable slot) = 0
 opened_commanded config r (Reach prefix cost) = 0

@@ -13,7 +13,7 @@ use Rattle.speaker.specs.declared.views.BestRoute.{BestRoute}
 abbrev pub shown_of : Prefix × Candidate → BestRoute
 shown_of entry = record { prefix = entry.0; slot = entry.1.slot; degree = entry.1.degree }
 
--- the transport of a session; a slot that isn't configured has none
+-- the transport of a session; a slot that isn't there has none
 abbrev pub transport_at : Option Session → Transport
 transport_at None = NoConnection
 transport_at (Some session) = transport_of session
@@ -23,7 +23,7 @@ abbrev pub listed : Option (List (Prefix × List ℕ)) → List (Prefix × List 
 listed None = []
 listed (Some held) = held
 
--- what the peer of a slot holds; nothing where the slot isn't configured
+-- what the peer of a slot holds; nothing where the slot isn't there
 abbrev pub held_by : Option Linked → List (Prefix × List ℕ)
 held_by None = []
 held_by (Some l) = l.adj_out

@@ -1,11 +1,11 @@
 -- What the selection reads: the configuration, the sessions and Adj-RIB-In (RFC 4271 section 3.2).
-use Rattle.std.specs.Prelude.{ℕ, List, Option}
+use Rattle.std.specs.Prelude.{ℕ, List, Option, None, is_some, if◌then◌else◌}
 use Rattle.std.specs.Option.{option_map}
 use Rattle.std.specs.Map.{lookup}
 use Rattle.std.specs.Ordering.{nat_cmp}
 use Rattle.std.specs.BTreeMap.{is_at}
 use Rattle.bgp_attr.specs.PathAttributes.{PathAttributes}
-use Rattle.bgp_conf.specs.Configuration.{Configuration}
+use Rattle.bgp_conf.specs.Configuration.{Configuration, peer_at}
 use Rattle.bgp_fsm.specs.declared.session.Session.{Session}
 use Rattle.decision.specs.declared.candidate.Candidate.{Candidate}
 use Rattle.net_prefix.specs.declared.prefix.Prefix.{Prefix}
@@ -13,7 +13,7 @@ use Rattle.rib_in.specs.LatestRoutes.{RouteTable, route_at}
 use Rattle.net_prefix.specs.PrefixOrder.{prefix_cmp}
 use Rattle.speaker.specs.Linked.{Linked}
 
--- the configuration, the session of each slot, and the latest route of each slot and prefix
+-- the configuration, the session of each slot that is there, and the latest route of each slot and prefix
 pub record Tables : Type 0 where
   pub conf : Configuration
   pub sessions : ℕ → Option Session
@@ -26,6 +26,10 @@ link_at links slot = lookup (is_at (nat_cmp slot)) links
 -- the session of a slot
 abbrev pub session_at : List (ℕ × Linked) → ℕ → Option Session
 session_at links slot = option_map (λ l. l.peer.session) (link_at links slot)
+
+-- the session of a slot whose peer is configured
+abbrev pub configured_session : Tables → ℕ → Option Session
+configured_session t slot = if is_some (peer_at t.conf slot) then t.sessions slot else None
 
 -- the best route that is kept of a prefix
 abbrev pub best_at : List (Prefix × Candidate) → Prefix → Option Candidate

@@ -1,15 +1,19 @@
 //! What commands do to the tables.
-ghost use Rattle.std.specs.Prelude.{◌≡◌, ◌≤◌, ℕ, [], ◌∷◌, IfOk, OnOk, OnErr, IsSome, ◌<◌, ◌^◌, None, Some, if◌then◌else◌};
+ghost use Rattle.std.specs.Prelude.{◌≡◌, ◌≤◌, ℕ, false, [], ◌∷◌, IfOk, IsOk, OnOk, OnErr, IsSome, ◌<◌, ◌^◌, None, Some, if◌then◌else◌};
 ghost use Rattle.std.specs.Ordering.{nat_cmp};
 ghost use Rattle.std.specs.BTreeMap.{is_at};
 ghost use Rattle.bgp_conf.specs.ConfAfter.{TakesMemory};
 ghost use Rattle.bgp_conf.specs.FirstRefusal.{first_refusal};
-ghost use Rattle.bgp_conf.specs.declared.command.Command.TheVariants.{AddPeer as AddsPeer};
+ghost use Rattle.bgp_conf.specs.Configuration.{peer_at};
+ghost use Rattle.bgp_conf.specs.declared.command.Command.TheVariants.{AddPeer as AddsPeer, RemovePeer as RemovesPeer};
+ghost use Rattle.bgp_fsm.specs.StateTests.{is_established};
+ghost use Rattle.speaker.specs.FirstRefusal.{closing_for};
+ghost use Rattle.speaker.specs.SpeakerState.{tables_of};
 ghost use Rattle.bgp_fsm.specs.SessionTable.{effects_of};
 ghost use Rattle.bgp_fsm.specs.declared.input.Input.TheVariants.{Start};
 ghost use Rattle.speaker.specs.Chosen.{Chooses};
 ghost use Rattle.speaker.specs.Linked.{Linked};
-ghost use Rattle.speaker.specs.Moves.{Moves};
+ghost use Rattle.speaker.specs.Moves.{Forgets, Moves};
 ghost use Rattle.speaker.specs.Runs.{Run, turn, Command_call, opened_commanded};
 ghost use Rattle.speaker.specs.Agreement.{Holds};
 ghost use Rattle.speaker.specs.declared.config.Config.{Config as TheConfig};
@@ -31,7 +35,7 @@ impl<A: Allocator + Clone, B: Book<A>> Speaker<A, B> {
 
     // Makes the tables after a command that isn't refused. Answers the slots whose connection attempt begins, a bit each.
     pub(crate) fn obey(&mut self, command: &Command<'_>) -> Result<u64, AllocError>
-        requires { first_refusal self.old.conf 0 command.now ≡ None }
+        requires { first_refusal self.old.conf (closing_for (tables_of self.old) command.now) command.now ≡ None }
         ensures err { OnErr result (IsAsBefore self.old self.new) }
         ensures memory { OnErr result (TakesMemory self.old.conf command.now) }
         ensures ok { IfOk result (λ opened. (config : TheConfig) (r : Run) → Holds config r self.old
@@ -44,6 +48,11 @@ impl<A: Allocator + Clone, B: Book<A>> Speaker<A, B> {
             Command::Enable(slot) => {
                 self.begin_count();
                 Ok(self.start(slot))
+            }
+            Command::RemovePeer(slot) => {
+                self.begin_count();
+                self.remove_peer(command, slot);
+                Ok(0)
             }
             Command::Disable(slot) => {
                 self.begin_count();
@@ -74,13 +83,39 @@ impl<A: Allocator + Clone, B: Book<A>> Speaker<A, B> {
         0
     }
 
+    // A peer is removed: its session ends, and its slot is let go once no connection of it is still to be closed.
+    fn remove_peer(&mut self, command: &Command<'_>, slot: u8)
+        requires removes { command.now ≡ RemovesPeer slot }
+        requires configured { IsSome (peer_at self.old.conf slot) }
+        ensures removed { (config : TheConfig) (r : Run) → Holds config r self.old → self.old.chosen ≤ self.old.chosen_before
+            → Holds config (turn (Command_call (RemovesPeer slot)) [] ∷ r) self.new }
+        ensures counted { self.new.chosen_before ≡ self.old.chosen_before }
+        ensures rises { self.old.chosen ≤ self.new.chosen }
+    {
+        self.input(slot, Input::Remove);
+        self.forget(command, slot);
+        self.let_go(slot);
+    }
+
+    // The peer of a slot whose session isn't Established is taken from the configuration, which takes no memory, and
+    // what is left of its routes goes.
+    fn forget(&mut self, command: &Command<'_>, slot: u8)
+        requires removes { command.now ≡ RemovesPeer slot }
+        requires down { (l : Linked) → link_at self.old.links slot ≡ Some l → is_established l.peer.session.state ≡ false }
+        ensures forgets { Forgets slot self.old self.new }
+        ensures rises { self.old.chosen ≤ self.new.chosen }
+    {
+        self.routing.drop_slot(&self.conf, &self.links, slot);
+        let _takes_no_memory = self.conf.apply(command);
+    }
+
     fn add_peer(
         &mut self,
         command: &Command<'_>,
         slot: u8,
         conf: &PeerConf<'_>,
     ) -> Result<u64, AllocError>
-        requires accepted { first_refusal self.old.conf 0 command.now ≡ None }
+        requires accepted { first_refusal self.old.conf (closing_for (tables_of self.old) command.now) command.now ≡ None }
         requires adds { command.now ≡ AddsPeer slot conf.now }
         ensures err { OnErr result (IsAsBefore self.old self.new) }
         ensures ok { IfOk result (λ opened. (config : TheConfig) (r : Run) → Holds config r self.old

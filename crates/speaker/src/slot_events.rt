@@ -1,5 +1,6 @@
 //! What happens to one slot: its operator enables it, its connection stands or fails, octets come.
-ghost use Rattle.std.specs.Prelude.{◌≡◌, ◌≢◌, ◌≤◌, ◌<◌, ℕ, length, take, OnOk, OnErr, IfOk, ◌&&◌, ◌==◌, None, Some, if◌then◌else◌, true, false};
+ghost use Rattle.std.specs.Option.{IsSome};
+ghost use Rattle.std.specs.Prelude.{◌≡◌, ◌≢◌, ◌≤◌, ◌<◌, ℕ, [], ◌∷◌, length, take, OnOk, OnErr, IfOk, ◌&&◌, ◌==◌, None, Some, if◌then◌else◌, true, false};
 ghost use Rattle.bgp_conf.specs.Configuration.{peer_at};
 ghost use Rattle.bgp_conf.specs.declared.conf.ConfiguredPeer.{ConfiguredPeer as ThePeer};
 ghost use Rattle.bgp_fsm.specs.SessionTable.{effects_of};
@@ -15,9 +16,13 @@ ghost use Rattle.speaker.specs.Marks.{AreMarked, IsFollowed};
 ghost use Rattle.speaker.specs.Moves.{Moves, Pushes, TakesMemoryAt, TakesItem, taken_of};
 ghost use Rattle.bgp_peer.specs.SessionInputs.{kind_of};
 ghost use Rattle.speaker.specs.Runs.{terms_in};
-ghost use Rattle.speaker.specs.Agreement.{Hears, HearsUntil};
-ghost use Rattle.speaker.specs.Tables.{link_at};
+ghost use Rattle.speaker.specs.Agreement.{Hears, HearsUntil, Holds};
+ghost use Rattle.speaker.specs.Tables.{link_at, session_at};
 ghost use Rattle.speaker.specs.Linked.{Linked};
+ghost use Rattle.speaker.specs.FirstRefusal.{closes};
+ghost use Rattle.speaker.specs.Moves.{IsWithout};
+ghost use Rattle.speaker.specs.Runs.{Run, Fail_call, turn};
+ghost use Rattle.speaker.specs.declared.config.Config.{Config as TheConfig};
 
 use crate::queueing::Octets;
 use crate::receiving::{Sender, take_front};
@@ -38,6 +43,7 @@ impl<A: Allocator + Clone, B: Book<A>> Speaker<A, B> {
         ensures moves { (l : Linked) → link_at self.old.links slot ≡ Some l → Moves slot l input.entry self.old self.new }
         ensures chosen { (l : Linked) → link_at self.old.links slot ≡ Some l → Chooses slot (effects_of input.entry l.peer.session).left self.old self.new }
         ensures opened { (l : Linked) → link_at self.old.links slot ≡ Some l → result ≡ (effects_of input.entry l.peer.session).opened }
+        ensures none { link_at self.old.links slot ≡ None → self.new ≡ self.old }
         ensures counted { self.new.chosen_before ≡ self.old.chosen_before }
         ensures rises { self.old.chosen ≤ self.new.chosen }
     {
@@ -47,6 +53,30 @@ impl<A: Allocator + Clone, B: Book<A>> Speaker<A, B> {
         let effects = link.input(input, self.moment);
         follow(&self.conf, &self.links, &mut self.routing, slot, &effects);
         effects.opened
+    }
+
+    /// The slot's connection, or its attempt at one, has failed. A slot without a peer is let go.
+    pub(crate) fn fail(&mut self, slot: u8)
+        ensures fails { (config : TheConfig) (r : Run) (l : Linked) → Holds config r self.old → link_at self.old.links slot ≡ Some l → self.old.chosen ≤ self.old.chosen_before
+            → Holds config (turn (Fail_call slot) [] ∷ r) self.new }
+        ensures counted { self.new.chosen_before ≡ self.old.chosen_before }
+        ensures rises { self.old.chosen ≤ self.new.chosen }
+    {
+        self.input(slot, Input::Fail);
+        self.let_go(slot);
+    }
+
+    // A slot without a peer is let go, unless its connection is still to be closed.
+    pub(crate) fn let_go(&mut self, slot: u8)
+        ensures kept { IsSome (peer_at self.old.conf slot) → self.new ≡ self.old }
+        ensures closing { closes (session_at self.old.links slot) ≡ true → self.new ≡ self.old }
+        ensures gone { peer_at self.old.conf slot ≡ None → closes (session_at self.old.links slot) ≡ false → IsWithout slot self.old self.new }
+        ensures counted { self.new.chosen_before ≡ self.old.chosen_before }
+        ensures chosen { self.new.chosen ≡ self.old.chosen }
+    {
+        if self.conf.peer(slot).is_none() && !self.is_closing(slot) {
+            self.links.remove(&slot);
+        }
     }
 
     // Takes octets that come, message by message. What comes after the session has closed is dropped. Where memory is

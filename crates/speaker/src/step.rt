@@ -6,7 +6,8 @@ ghost use Rattle.speaker.specs.Moves.{Hands};
 ghost use Rattle.speaker.specs.Runs.{Call, Run, Turn, turn, asked, call_of, report_of, Take_call};
 ghost use Rattle.speaker.specs.Agreement.{Agrees, Holds, IsFair, IsThrifty};
 ghost use Rattle.speaker.specs.declared.config.Config.{Config as TheConfig};
-ghost use Rattle.speaker.specs.Tables.{link_at, session_at};
+ghost use Rattle.speaker.specs.FirstRefusal.{closes, closing_for, is_open};
+ghost use Rattle.speaker.specs.Tables.{configured_session, link_at, session_at};
 ghost use Rattle.speaker.specs.Linked.{Linked};
 ghost use Rattle.speaker.specs.Queueing.{Queue, starved_in};
 
@@ -14,7 +15,7 @@ use crate::config::Config;
 use crate::event::{Event, Report, only};
 use crate::link::Link;
 use crate::routing::Routing;
-use bgp_conf::{Command, Conf, Refusal};
+use bgp_conf::{Command, Conf, PEER_SLOTS, Refusal};
 use bgp_fsm::Input;
 use decision::{Book, PlainBook};
 use net_prefix::{Asn, Transport};
@@ -139,12 +140,15 @@ impl<A: Allocator + Clone, B: Book<A>> Speaker<A, B> {
             }
             Event::Fail(slot) => {
                 self.begin_count();
-                self.input(slot, Input::Fail);
+                self.fail(slot);
             }
             Event::Bytes(slot, octets) => {
                 self.begin_count();
-                if self.hear(slot, octets).is_err() {
-                    starved = only(slot);
+                // What comes to a connection that is still to be closed is dropped.
+                if self.is_open(slot) {
+                    if self.hear(slot, octets).is_err() {
+                        starved = only(slot);
+                    }
                 }
             }
             Event::Tick(now) => {
@@ -155,6 +159,15 @@ impl<A: Allocator + Clone, B: Book<A>> Speaker<A, B> {
         Ok(Report::of(opened, starved | self.settle()))
     }
 
+    fn is_open(&self, slot: u8) -> bool
+        ensures { (l : Linked) → link_at self.now.links slot ≡ Some l → result ≡ is_open (transport_of l.peer.session) }
+    {
+        match self.transport_at(slot) {
+            Some(Transport::Open) => true,
+            _ => false,
+        }
+    }
+
     // A call that isn't refused begins: what is chosen from now on is chosen in it.
     pub(crate) fn begin_count(&mut self)
         ensures { self.new ≡ record self.old { chosen_before = self.old.chosen } }
@@ -163,7 +176,7 @@ impl<A: Allocator + Clone, B: Book<A>> Speaker<A, B> {
     }
 
     /// Hands out the first octets of a slot's ring, as many as there are and fit, and queues again. Refused by 40
-    /// where the slot isn't configured. Where memory is refused to what a session is owed, that session is closed,
+    /// where the slot isn't there. Where memory is refused to what a session is owed, that session is closed,
     /// and the report names its slot.
     pub fn take(&mut self, slot: u8, buf: &mut [u8]) -> Result<(usize, Report), Refusal>
         // The first refusal is the answer, and all stays as it was; where there is none, octets are handed out.
@@ -187,7 +200,7 @@ impl<A: Allocator + Clone, B: Book<A>> Speaker<A, B> {
         Ok((taken, Report::of(0, self.queue_updates())))
     }
 
-    // Hands out the first octets of the ring of a configured slot, and answers how many.
+    // Hands out the first octets of the ring of a slot, and answers how many.
     fn hand_out(&mut self, slot: u8, buf: &mut [u8]) -> Option<usize>
         ensures none { link_at self.old.links slot ≡ None → (result ≡ None) × (self.new ≡ self.old) × (buf.new ≡ buf.old) }
         ensures some { (l : Linked) → link_at self.old.links slot ≡ Some l
@@ -203,7 +216,7 @@ impl<A: Allocator + Clone, B: Book<A>> Speaker<A, B> {
         ensures { MatchResult result (λ _. refusal_by self.now.moment (tables_of self.now) event.now ≡ None) (λ why. refusal_by self.now.moment (tables_of self.now) event.now ≡ Some why) }
     {
         match *event {
-            Event::Up(slot) => match self.transport_at(slot) {
+            Event::Up(slot) => match self.configured_transport(slot) {
                 Some(Transport::Opening | Transport::Listening) => Ok(()),
                 Some(_) => Err(Refusal::NotExpected),
                 None => Err(Refusal::BadSlot),
@@ -220,11 +233,41 @@ impl<A: Allocator + Clone, B: Book<A>> Speaker<A, B> {
             },
             Event::Tick(now) if now < self.moment => Err(Refusal::ClockBack),
             Event::Tick(_) => Ok(()),
-            Event::Command(command) => self.conf.check(&command, 0),
+            Event::Command(command) => self.conf.check(&command, self.closing_for(&command)),
         }
     }
 
-    // The transport of a configured slot.
+    // The slot that a command would give to a peer, as a set of slots, where a connection of it is still to be closed.
+    fn closing_for(&self, command: &Command<'_>) -> u64
+        ensures { result ≡ closing_for (tables_of self.now) command.now }
+    {
+        match *command {
+            Command::AddPeer(slot, _) if slot < PEER_SLOTS && self.is_closing(slot) => only(slot),
+            _ => 0,
+        }
+    }
+
+    // Whether a connection of the slot is still to be closed.
+    pub(crate) fn is_closing(&self, slot: u8) -> bool
+        ensures { result ≡ closes (session_at self.now.links slot) }
+    {
+        match self.transport_at(slot) {
+            Some(Transport::Closing) => true,
+            _ => false,
+        }
+    }
+
+    // The transport of a slot whose peer is configured.
+    fn configured_transport(&self, slot: u8) -> Option<Transport>
+        ensures { result ≡ option_map transport_of (configured_session (tables_of self.now) slot) }
+    {
+        match self.conf.peer(slot) {
+            Some(_) => self.transport_at(slot),
+            None => None,
+        }
+    }
+
+    // The transport of a slot that is there.
     fn transport_at(&self, slot: u8) -> Option<Transport>
         ensures { result ≡ option_map transport_of (session_at self.now.links slot) }
     {

@@ -16,7 +16,8 @@ ghost use Rattle.speaker.specs.LocRib.{IsBest};
 ghost use Rattle.speaker.specs.Held.{held};
 ghost use Rattle.speaker.specs.Runs.{Run, history};
 ghost use Rattle.speaker.specs.declared.config.Config.{Config};
-ghost use Rattle.speaker.specs.Tables.{link_at, session_at};
+ghost use Rattle.speaker.specs.SpeakerState.{tables_of};
+ghost use Rattle.speaker.specs.Tables.{configured_session, link_at, session_at};
 ghost use Rattle.rib_in.specs.LatestRoutes.{routes_of};
 ghost use Rattle.speaker.specs.Shown.{held_by, shown_of, transport_at};
 ghost use Rattle.speaker.specs.Waiting.{IsWaitingIn, waiting_of};
@@ -138,20 +139,25 @@ impl<'a, A: Allocator> Iterator for HeldRoutes<'a, A> {
 impl<A: Allocator + Clone, B: Book<A>> Speaker<A, B> {
     /// The state of a slot's session; none where the slot isn't configured.
     pub fn session(&self, slot: u8) -> Option<State>
-        ensures kept { result ≡ option_map (λ s. s.state) (session_at self.now.links slot) }
-        ensures agrees { (config : Config) (r : Run) → Agrees config r self.now → result ≡ option_map (λ s. s.state) ((tables_after config r).sessions slot) }
+        ensures kept { result ≡ option_map (λ s. s.state) (configured_session (tables_of self.now) slot) }
+        ensures agrees { (config : Config) (r : Run) → Agrees config r self.now → result ≡ option_map (λ s. s.state) (configured_session (tables_after config r) slot) }
     {
         self.state_of(slot)
     }
 
     fn state_of(&self, slot: u8) -> Option<State>
-        ensures { result ≡ option_map (λ s. s.state) (session_at self.now.links slot) }
+        ensures { result ≡ option_map (λ s. s.state) (configured_session (tables_of self.now) slot) }
     {
-        let link = self.links.get(&slot)?;
-        Some(link.peer.state())
+        if self.conf.peer(slot).is_none() {
+            return None;
+        }
+        match self.links.get(&slot) {
+            Some(link) => Some(link.peer.state()),
+            None => None,
+        }
     }
 
-    /// What the transport of a slot is asked to do; `Transport::None` where the slot isn't configured.
+    /// What the transport of a slot is asked to do; `Transport::None` where the slot isn't there.
     pub fn transport(&self, slot: u8) -> Transport
         ensures kept { result ≡ transport_at (session_at self.now.links slot) }
         ensures agrees { (config : Config) (r : Run) → Agrees config r self.now → result ≡ transport_at ((tables_after config r).sessions slot) }

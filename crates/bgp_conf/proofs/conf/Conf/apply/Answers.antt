@@ -5,7 +5,7 @@ use Rattle.bgp_conf.specs.FirstRefusal.{has_address}
 use Rattle.bgp_conf.specs.declared.conf.ConfiguredPeer.{ConfiguredPeer}
 use Rattle.bgp_conf.proofs.PrefixOrder.{is_at-prefix_cmp, is_eq-nat_cmp}
 use Rattle.bgp_conf.proofs.Accepted.{has_address-from_accepted}
-use Rattle.bgp_conf.proofs.Addresses.{AddressesDiffer-set}
+use Rattle.bgp_conf.proofs.Addresses.{AddressesDiffer-set, AddressesDiffer-without}
 use Rattle.bgp_conf.proofs.conf.Conf.apply.Goals as goal
 
 pub returns-in_ok-insert-in-AddPeer-clause-addresses :
@@ -52,3 +52,10 @@ returns-in_ok-insert-in-Reach-clause-reach g c =
     λ other.
     let same = is_at-prefix_cmp c.in-Reach.prefix other in
     rw (c.in-Reach.is, ← c.self.view_is, ← same) (c.in_ok-insert-in-Reach.ensures.updates.0 other)
+
+pub returns-in-RemovePeer-clause-addresses : goal.returns-in-RemovePeer-clause-addresses
+returns-in-RemovePeer-clause-addresses g c =
+    λ closing accepted differ.
+    AddressesDiffer-without c.args.self.now.peers c.remove.new.self.entries c.in-RemovePeer.slot
+    (λ s. rw (← is_eq-nat_cmp c.in-RemovePeer.slot s, ← c.self.view_is) (c.remove.ensures.updates.0 s))
+    differ
