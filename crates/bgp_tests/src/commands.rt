@@ -68,6 +68,31 @@ fn a_peer_is_configured_once(rt: HostRuntime) -> Result<(), Fail> {
 }
 
 #[test]
+fn a_removed_peer_leaves_its_slot_and_its_address(rt: HostRuntime) -> Result<(), Fail> {
+    let mut conf = Conf::new(rt.alloc(), Asn(65000))?;
+    assert_eq!(rt;
+        conf.check(&Command::RemovePeer(0), 0),
+        Err(Refusal::BadSlot)
+    );
+    assert_eq!(rt; conf.check(&Command::Disable(0), 0), Err(Refusal::BadSlot));
+    obey(&mut conf, &Command::AddPeer(0, PEER))?;
+    obey(&mut conf, &Command::Disable(0))?;
+    assert!(rt; conf.peer(0).is_some());
+    obey(&mut conf, &Command::RemovePeer(0))?;
+    assert_eq!(rt; conf.peer(0), None);
+    let active = PeerConf {
+        mode: Mode::Active,
+        ..PEER
+    };
+    obey(&mut conf, &Command::AddPeer(1, active))?;
+    assert_eq!(rt;
+        conf.check(&Command::AddPeer(0, PEER), 0),
+        Err(Refusal::AddressTaken)
+    );
+    Ok(())
+}
+
+#[test]
 fn a_policy_has_a_name(rt: HostRuntime) -> Result<(), Fail> {
     let conf = Conf::new(rt.alloc(), Asn(65000))?;
     let command = Command::AddPeer(63, PeerConf { import: "", ..PEER });
