@@ -6,7 +6,7 @@ use std::alloc::{AllocError, Global};
 use std::test::Fail;
 
 // Lines that the language doesn't have.
-const BAD_LINES: [&str; 38] = [
+const BAD_LINES: [&str; 43] = [
     "hello",
     "speaker 65000 192.0.2.1 nocache",
     "speaker 65000 192.0.2.1 cache",
@@ -30,6 +30,11 @@ const BAD_LINES: [&str; 38] = [
     "enable -1",
     "enable 256",
     "enable 0x1",
+    "disable",
+    "disable 256",
+    "disable 0 0",
+    "drop",
+    "drop 256",
     "reach 192.0.2.1/24 10",
     "reach 192.0.2.0/33 10",
     "reach 192.0.2.0 10",
@@ -106,8 +111,6 @@ refused 45
 > peer 2 65000 192.0.2.13 192.0.2.1 passive 180 all all
 refused 33
 > peer 2 0 192.0.2.13 192.0.2.1 passive 180 all all
-refused 33
-> peer 2 65003 192.0.2.13 192.0.2.1 active 180 all all
 refused 33
 > peer 2 65003 192.0.2.13 0.0.0.1 passive 180 all all
 refused 33

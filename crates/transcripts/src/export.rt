@@ -4,12 +4,13 @@ use crate::transcript::{BOTH_COME_UP, MARKER, TWO_PEERS, Transcript};
 use std::alloc::AllocError;
 use std::test::Fail;
 
-// Of 2,000 prefixes that slot 0 announces, 1,125 UPDATEs of 51 octets are queued: 8,161 octets are free then.
 const ANNOUNCED: u16 = 2000;
 
-const QUEUED: u16 = 1125;
+/// Of 2,000 prefixes that slot 0 announces, 1,125 UPDATEs of 51 octets are queued: 8,161 octets are free then.
+pub const QUEUED: u16 = 1125;
 
-fn announce(transcript: &mut Transcript, index: u16) -> Result<(), AllocError> {
+/// Slot 0 announces the prefix of this index.
+pub fn announce(transcript: &mut Transcript, index: u16) -> Result<(), AllocError> {
     let attributes = "4001010040020602010000FDE9400304C000020B";
     writeln!(
         transcript.script,
@@ -52,8 +53,8 @@ fn a_full_ring_lets_prefixes_wait(rt: HostRuntime) -> Result<(), Fail> {
     transcript.play(&rt, alloc)
 }
 
-// The UPDATEs that are queued to slot 1 before its ring is full.
-fn take_queued(transcript: &mut Transcript) -> Result<(), AllocError> {
+/// Slot 1 takes the UPDATEs that are queued before its ring is full.
+pub fn take_queued(transcript: &mut Transcript) -> Result<(), AllocError> {
     let attributes = "4001010040020A02020000FDE80000FDE9400304C0000201";
     writeln!(transcript.script, "take 1 {}", 51 * u32::from(QUEUED))?;
     transcript.told.push_str("out ")?;

@@ -31,6 +31,8 @@ mod selection;
 #[cfg(test)]
 mod sessions;
 #[cfg(test)]
+mod timers;
+#[cfg(test)]
 mod transcript;
 #[cfg(test)]
 mod update_faults;
