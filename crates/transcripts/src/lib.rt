@@ -27,6 +27,8 @@ mod open_faults;
 #[cfg(test)]
 mod payload_list;
 #[cfg(test)]
+mod removal;
+#[cfg(test)]
 mod selection;
 #[cfg(test)]
 mod sessions;
