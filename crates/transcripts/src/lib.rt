@@ -29,6 +29,8 @@ mod payload_list;
 #[cfg(test)]
 mod removal;
 #[cfg(test)]
+mod retries;
+#[cfg(test)]
 mod selection;
 #[cfg(test)]
 mod sessions;
