@@ -1,5 +1,6 @@
 //! Tests alone: the first path of a speaker, and a cache that loads and serves, with each growth refused in turn.
-//! `choices` has the first path with all its memory, and finds how often a best route is chosen.
+//! `choices` has the first path with all its memory, and finds how often a best route is chosen; `attempts` finds which
+//! connection attempts are reported.
 //!
 //! A route comes from one peer, is chosen and told to the other, and is taken back when the first peer's connection
 //! fails. `stepping` plays these calls on a speaker, and once the nth request for memory is refused finds what
@@ -12,6 +13,8 @@
 //! refused response closes its client alone, and the same call is answered when it is made again.
 #![tactic(auto)]
 
+#[cfg(test)]
+mod attempts;
 #[cfg(test)]
 mod choices;
 #[cfg(test)]

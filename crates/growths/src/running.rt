@@ -37,7 +37,12 @@ fn events_of<'a>(alloc: Global, calls: &[Call<'a>]) -> Result<Vec<Event<'a>>, Al
 fn slot_of(event: Event<'_>) -> Option<u8> {
     match event {
         Event::Up(slot) | Event::Fail(slot) | Event::Bytes(slot, _) => Some(slot),
-        Event::Command(Command::AddPeer(slot, _) | Command::Enable(slot)) => Some(slot),
+        Event::Command(
+            Command::AddPeer(slot, _)
+            | Command::RemovePeer(slot)
+            | Command::Enable(slot)
+            | Command::Disable(slot),
+        ) => Some(slot),
         Event::Tick(_) | Event::Command(Command::Reach(_, _)) => None,
     }
 }
