@@ -1,17 +1,20 @@
 -- Laws of the session table, in the words of RFC 4271 section 8.2.2.
-use Rattle.std.specs.Prelude.{◌≡◌, ◌≢◌, ◌↔◌, ◌⊎◌, ◌&&◌, ◌||◌, ℕ, Bool, true, is_none, Some, None}
+use Rattle.std.specs.Prelude.{◌≡◌, ◌≢◌, ◌↔◌, ◌⊎◌, ◌&&◌, ◌||◌, ℕ, min, Bool, true, is_none, Some, None}
+use Rattle.bgp_attr.specs.declared.peer.Mode.TheVariants.{Active as Opener}
 use Rattle.net_prefix.specs.declared.transport.Transport.TheVariants.{Open as Connected, Closing, Listening, Opening}
 use Rattle.bgp_msg.specs.declared.open_message.Open.{Open as OpenMessage}
 use Rattle.bgp_msg.specs.Notifications.{NotificationBody}
 use Rattle.bgp_fsm.specs.declared.state.State.{State}
 use Rattle.bgp_fsm.specs.declared.state.State.TheVariants.{Idle, Connect, Active, OpenSent, OpenConfirm, Established}
 use Rattle.bgp_fsm.specs.declared.input.Input.{Input}
-use Rattle.bgp_fsm.specs.declared.input.Input.TheVariants.{Up, Keepalive, Notification as NotificationInput, Expires}
+use Rattle.bgp_fsm.specs.declared.input.Input.TheVariants.{Up, Open, Keepalive, Notification as NotificationInput, Expires}
 use Rattle.bgp_fsm.specs.declared.timers.Timer.TheVariants.{ConnectRetry}
 use Rattle.bgp_fsm.specs.declared.timers.Timers.{Timers}
 use Rattle.bgp_fsm.specs.declared.session.Outgoing.TheVariants.{Open as OwnOpen, Notification as Notify}
 use Rattle.bgp_fsm.specs.declared.session.Session.{Session}
 use Rattle.bgp_fsm.specs.SessionTable.{session_after, effects_of}
+use Rattle.bgp_fsm.specs.StateTests.{is_message}
+use Rattle.bgp_fsm.specs.TimerMoments.{hold_again, only_connect_retry, only_hold, only_idle_hold, opened_timers}
 use Rattle.bgp_fsm.specs.Transports.{transport_of}
 
 -- Established is entered only from OpenConfirm, by a KEEPALIVE
@@ -45,7 +48,7 @@ OpenedTells =
     (now : ℕ) (input : Input) (s : Session)
     → ((effects_of input s).opened ≡ true) ↔ (((session_after now input s).state ≡ Connect) × ((s.state ≢ Connect) ⊎ (input ≡ Expires ConnectRetry)))
 
--- each timer runs only where its end means something, and none of a disabled peer in Idle
+-- each timer runs only where its end may mean something, and none of a disabled peer in Idle
 abbrev pub fit : State → Bool → Timers → Bool
 fit Idle enabled timers = is_none timers.hold && is_none timers.connect_retry && is_none timers.keepalive && (enabled || is_none timers.idle_hold)
 fit Connect enabled timers = is_none timers.hold && is_none timers.idle_hold && is_none timers.keepalive
@@ -59,6 +62,38 @@ abbrev pub TimersFit : Type 0
 TimersFit =
     (now : ℕ) (input : Input) (s : Session) → fit s.state s.enabled s.timers ≡ true
     → fit (session_after now input s).state (session_after now input s).enabled (session_after now input s).timers ≡ true
+
+-- entering OpenSent begins the hold timer, with a large value (section 8.2.2), and no other runs
+abbrev pub OpenIsAwaited : Type 0
+OpenIsAwaited =
+    (now : ℕ) (input : Input) (s : Session) → s.state ≢ OpenSent → (session_after now input s).state ≡ OpenSent
+    → (session_after now input s).timers ≡ only_hold now 240
+
+-- a connection attempt begins the ConnectRetryTimer, and so does its failure
+abbrev pub AttemptsAreRetried : Type 0
+AttemptsAreRetried =
+    (now : ℕ) (input : Input) (s : Session)
+    → ((effects_of input s).opened ≡ true → (session_after now input s).timers ≡ only_connect_retry now)
+    × (s.mode ≡ Opener → s.state ≢ Active → (session_after now input s).state ≡ Active → (session_after now input s).timers ≡ only_connect_retry now)
+
+-- where an enabled peer falls to Idle, the IdleHoldTimer begins, so that its session begins again
+abbrev pub FallsAndRises : Type 0
+FallsAndRises =
+    (now : ℕ) (input : Input) (s : Session) → s.state ≢ Idle → (session_after now input s).state ≡ Idle → (session_after now input s).enabled ≡ true
+    → (session_after now input s).timers ≡ only_idle_hold now
+
+-- a good OPEN agrees on the smaller hold time (section 4.2), and both timers begin by it
+abbrev pub HoldTimeIsAgreed : Type 0
+HoldTimeIsAgreed =
+    (now : ℕ) (message : OpenMessage) (s : Session) → s.state ≡ OpenSent
+    → ((session_after now (Open message) s).state ≡ OpenConfirm) × ((session_after now (Open message) s).hold_time ≡ min s.own.hold_time message.hold_time)
+    × ((session_after now (Open message) s).timers ≡ opened_timers (min s.own.hold_time message.hold_time) now)
+
+-- where the session stays Established by a message, or enters it, the hold timer begins again, and no other changes
+abbrev pub MessagesHold : Type 0
+MessagesHold =
+    (now : ℕ) (input : Input) (s : Session) → is_message input ≡ true → (session_after now input s).state ≡ Established
+    → (session_after now input s).timers ≡ hold_again s.hold_time now s.timers
 
 -- only a session whose connection stands begins to close it
 abbrev pub ClosesWhatIsOpen : Type 0

@@ -1,5 +1,5 @@
 //! Laws of the session table, in the words of RFC 4271 section 8.2.2. Each is the contract of an empty function.
-ghost use Rattle.bgp_fsm.specs.Laws.{EstablishedBegins, EnteredTells, LeftTells, OpenAnswersUp, ClosesWhatIsOpen, ClosingIsTold, NotificationsClose, NotificationIsUnanswered, OpenedTells, TimersFit, fit};
+ghost use Rattle.bgp_fsm.specs.Laws.{EstablishedBegins, EnteredTells, LeftTells, OpenAnswersUp, ClosesWhatIsOpen, ClosingIsTold, NotificationsClose, NotificationIsUnanswered, OpenedTells, TimersFit, fit, OpenIsAwaited, AttemptsAreRetried, FallsAndRises, HoldTimeIsAgreed, MessagesHold};
 ghost use Rattle.std.specs.Prelude.{◌≡◌, true};
 ghost use Rattle.bgp_fsm.specs.SessionTable.{fresh};
 ghost use Rattle.bgp_msg.specs.declared.open_message.Open.{Open};
@@ -29,6 +29,16 @@ pub fn opened_tells()
 pub fn timers_fit()
     ensures first { (own : Open) (mode : Mode) → fit (fresh own mode).state (fresh own mode).enabled (fresh own mode).timers ≡ true }
     ensures stays { TimersFit }
+{}
+
+/// Each timer begins where its end will mean something: the peer's OPEN is awaited, a connection attempt is retried, an
+/// enabled peer begins again, a session is kept alive by the hold time that both sides agreed on.
+pub fn timers_begin()
+    ensures awaited { OpenIsAwaited }
+    ensures retried { AttemptsAreRetried }
+    ensures rises { FallsAndRises }
+    ensures agreed { HoldTimeIsAgreed }
+    ensures held { MessagesHold }
 {}
 
 /// An OPEN is queued only when the connection stands, and it is our own.

@@ -47,8 +47,14 @@ impl Report {
         Report {
             opened,
             starved,
-            ..Report::NOTHING
+            ..Report::nothing()
         }
+    }
+
+    fn nothing() -> Report
+        ensures { result ≡ record { opened = 0; starved = 0; cache_opened = false; cache_starved = false } }
+    {
+        Report::NOTHING
     }
 }
 
