@@ -1,5 +1,6 @@
 -- The timers of a session (RFC 4271 sections 8.1.3 and 10): when each ends, in seconds.
-use Rattle.std.specs.Prelude.{◌+◌, ◌/◌, ◌==◌, ℕ, nat_le, Bool, false, Option, Some, None, if◌then◌else◌}
+use Rattle.std.specs.Prelude.{◌/◌, ◌==◌, ℕ, Bool, Option, None, if◌then◌else◌}
+use Rattle.moments.specs.Moments.{from_now, has_come}
 use Rattle.bgp_fsm.specs.declared.timers.Timer.{Timer}
 use Rattle.bgp_fsm.specs.declared.timers.Timer.TheVariants.{Hold, ConnectRetry, IdleHold, Keepalive}
 use Rattle.bgp_fsm.specs.declared.timers.Timers.{Timers}
@@ -14,14 +15,6 @@ connect_retry_time = 120
 
 abbrev pub idle_hold_time : ℕ
 idle_hold_time = 30
-
--- the last moment that can be handed in
-abbrev pub last_moment : ℕ
-last_moment = 18446744073709551615
-
--- so many seconds from now; no moment, where it would lie behind the last
-abbrev pub from_now : ℕ → ℕ → Option ℕ
-from_now now seconds = if nat_le (now + seconds) last_moment then Some (now + seconds) else None
 
 -- no timer runs
 abbrev pub stopped : Timers
@@ -65,11 +58,6 @@ end_of Hold timers = timers.hold
 end_of ConnectRetry timers = timers.connect_retry
 end_of IdleHold timers = timers.idle_hold
 end_of Keepalive timers = timers.keepalive
-
--- the moment has come
-abbrev pub has_come : Option ℕ → ℕ → Bool
-has_come None now = false
-has_come (Some moment) now = nat_le moment now
 
 -- the timer has ended
 abbrev pub has_ended : Timer → ℕ → Timers → Bool

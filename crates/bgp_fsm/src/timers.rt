@@ -1,6 +1,8 @@
 //! The timers of a session.
 ghost use Rattle.std.specs.Prelude.{◌≡◌};
-ghost use Rattle.bgp_fsm.specs.TimerMoments.{end_of, falling, from_now, has_come, has_ended, hold_end, keepalive_end, only_connect_retry, only_hold, opened_timers};
+ghost use Rattle.bgp_fsm.specs.TimerMoments.{end_of, falling, has_ended, hold_end, keepalive_end, only_connect_retry, only_hold, opened_timers};
+
+use moments::{from_now, has_come};
 
 /// How long a session waits for the peer's OPEN, in seconds (RFC 4271 section 8.2.2).
 pub const OPEN_HOLD_SECONDS: u16 = 240;
@@ -62,7 +64,7 @@ impl Timers {
         ensures { result ≡ only_hold now 240 }
     {
         Timers {
-            hold: from_now(now, OPEN_HOLD_SECONDS),
+            hold: from_now(now, u32::from(OPEN_HOLD_SECONDS)),
             ..Timers::STOPPED
         }
     }
@@ -72,7 +74,7 @@ impl Timers {
         ensures { result ≡ only_connect_retry now }
     {
         Timers {
-            connect_retry: from_now(now, CONNECT_RETRY_SECONDS),
+            connect_retry: from_now(now, u32::from(CONNECT_RETRY_SECONDS)),
             ..Timers::STOPPED
         }
     }
@@ -85,7 +87,7 @@ impl Timers {
             return Timers::STOPPED;
         }
         Timers {
-            idle_hold: from_now(now, IDLE_HOLD_SECONDS),
+            idle_hold: from_now(now, u32::from(IDLE_HOLD_SECONDS)),
             ..Timers::STOPPED
         }
     }
@@ -109,7 +111,7 @@ pub(crate) fn hold_end(hold_time: u16, now: u64) -> Option<u64>
     if hold_time == 0 {
         return None;
     }
-    from_now(now, hold_time)
+    from_now(now, u32::from(hold_time))
 }
 
 /// When a KEEPALIVE has to go: after a third of the hold time; never with one of 0.
@@ -119,21 +121,5 @@ pub(crate) fn keepalive_end(hold_time: u16, now: u64) -> Option<u64>
     if hold_time == 0 {
         return None;
     }
-    from_now(now, hold_time / 3)
-}
-
-// So many seconds from now; none where that lies behind the greatest moment.
-fn from_now(now: u64, seconds: u16) -> Option<u64>
-    ensures { result ≡ from_now now seconds }
-{
-    now.checked_add(u64::from(seconds))
-}
-
-fn has_come(moment: Option<u64>, now: u64) -> bool
-    ensures { result ≡ has_come moment now }
-{
-    match moment {
-        Some(moment) => moment <= now,
-        None => false,
-    }
+    from_now(now, u32::from(hold_time / 3))
 }
