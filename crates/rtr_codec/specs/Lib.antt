@@ -1,3 +1,5 @@
+pub mod ClientState
+pub mod ClientTable
 pub mod PduLimits
 pub mod Intervals
 pub mod PduContents

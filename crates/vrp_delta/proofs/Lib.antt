@@ -1,3 +1,4 @@
+pub mod Changing
 pub mod PayloadMembers
 pub mod Published
 pub mod Serials
