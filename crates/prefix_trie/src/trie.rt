@@ -132,6 +132,14 @@ impl<V: Marked, A: Allocator> Trie<V, A> {
         }
         removed
     }
+
+    /// Takes out all entries. It takes no memory.
+    pub fn clear(&mut self)
+        ensures { self.new ≡ [] }
+    {
+        self.tree = Tree::empty();
+        self.count = 0;
+    }
 }
 
 impl<V: Marked, A: Allocator + Clone> Trie<V, A> {
