@@ -1,0 +1,9 @@
+pub mod Kept
+pub mod PrefixSets
+pub mod SetWalks
+pub mod States
+pub mod Members
+pub mod CoverFacts
+pub mod Outsides
+pub mod StateLaws
+pub mod StretchLaws

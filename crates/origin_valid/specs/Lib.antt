@@ -1,0 +1,5 @@
+pub mod KeptPayloads
+pub mod Stretches
+pub mod StretchWalks
+pub mod Validity
+pub mod ValidityNames
