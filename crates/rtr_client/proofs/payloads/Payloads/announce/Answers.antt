@@ -1,0 +1,28 @@
+use Rattle.std.proofs.Common.{◌≡◌, ◌∙◌, List, ap, sym, subst, false}
+use Rattle.net_prefix.specs.declared.payload.Vrp.{Vrp}
+use Rattle.net_prefix.specs.PayloadSets.{has, put}
+use Rattle.rtr_client.specs.Book.{Book, base_of, loaded_from, start_of}
+use Rattle.rtr_client.proofs.Books.{came-put, start_of-is_set}
+use Rattle.rtr_client.proofs.payloads.Payloads.announce.Goals as goal
+
+pub invariant_of-self-2 : goal.invariant_of-self-2
+invariant_of-self-2 g c =
+    let p = c.args.payload in
+    let i = c.self.inside in
+    let start = start_of i.serially i.in_force.keys in
+    let loaded : has (loaded_from start i.load) p ≡ false = ap (λ (b : Book). has b.loaded p) c.self.view_is ∙ sym c.has_loaded.ensures ∙ c.if-has_loaded.false in
+    let step = came-put p start i.load (start_of-is_set i.serially i.in_force.keys c.self.invariant.rises) c.self.invariant.change loaded in
+    record { rises = c.self.invariant.rises; flushed = c.self.invariant.flushed; change = rw c.in_ok-come.ensures.ok step.0 }
+
+pub returns : goal.returns
+returns g c =
+    let p = c.args.payload in
+    let i = c.self.inside in
+    let start = start_of i.serially i.in_force.keys in
+    let loaded : has (loaded_from start i.load) p ≡ false = ap (λ (b : Book). has b.loaded p) c.self.view_is ∙ sym c.has_loaded.ensures ∙ c.if-has_loaded.false in
+    let step = came-put p start i.load (start_of-is_set i.serially i.in_force.keys c.self.invariant.rises) c.self.invariant.change loaded in
+    let seen : List Vrp → Book = λ set. record { base = base_of i.base i.in_force.keys; serially = i.serially; session = i.session; loaded = set; changed = i.changed } in (
+      sym c.has_loaded.ensures ∙ c.if-has_loaded.false,
+      subst (λ (b : Book). seen (loaded_from start c.come.new.load) ≡ record b { loaded = put p b.loaded }) c.self.view_is
+          (ap seen (ap (λ load. loaded_from start load) c.in_ok-come.ensures.ok ∙ step.1)),
+    )

@@ -1,0 +1,59 @@
+-- What a client is seen as, and what a step of it may do.
+use Rattle.std.specs.Prelude.{◌&&◌, ◌==◌, ℕ, Bool, false, not, if◌then◌else◌}
+use Rattle.net_prefix.specs.PayloadSets.{has}
+use Rattle.rtr_codec.specs.ClientState as table
+use Rattle.rtr_codec.specs.Intervals.{are_lawful}
+use Rattle.rtr_codec.specs.declared.intervals.Intervals.{Intervals}
+use Rattle.rtr_codec.specs.PduSpelling.{Content, Announce, Withdraw, End_of_data, content_of}
+use Rattle.vrp_delta.specs.Delta.{Change}
+use Rattle.rtr_client.specs.declared.input.Input.{Input}
+use Rattle.rtr_client.specs.declared.input.Input.TheVariants.{Up, Fail, Heard, Faulty, Tick, NoRoom}
+use Rattle.rtr_client.specs.declared.state.ClientState.{ClientState}
+use Rattle.rtr_client.specs.declared.state.ClientState.TheVariants as states
+
+-- the client of the table, and what the last step changed of the payloads in force
+pub record Following : Type 0 where
+  pub client : table.Client
+  pub changed : Change
+
+-- an input of the code as the table has it
+abbrev pub input_of : Input → table.Input
+input_of Up = table.Up
+input_of Fail = table.Fail
+input_of (Heard pdu octets) = table.Heard (content_of pdu) octets.now
+input_of (Faulty fault octets) = table.Faulty fault octets.now
+input_of Tick = table.Tick
+input_of NoRoom = table.No_room
+
+-- where memory was refused the input's row is that of refused memory
+abbrev pub served : Bool → table.Input → table.Input
+served starved input = if starved then table.Starved else input
+
+-- an End of Data of this session and with lawful intervals completes a load
+abbrev pub completes : ℕ → ℕ → Intervals → Bool
+completes own session intervals = (session == own) && are_lawful intervals
+
+-- whether a load needs memory for this PDU: a payload that comes or leaves, and the end of the load, each where it is no fault
+abbrev pub load_takes : table.Stage → Content → Bool
+load_takes (table.Loading serially own set) (Announce payload) = not (has set payload)
+load_takes (table.Loading serially own set) (Withdraw payload) = has set payload
+load_takes (table.Loading serially own set) (End_of_data session serial intervals) = completes own session intervals
+load_takes stage content = false
+
+-- whether memory may be refused to a step
+abbrev pub can_starve : table.Client → table.Input → Bool
+can_starve client (table.Heard content octets) = load_takes client.stage content
+can_starve client input = false
+
+-- the state that operators see
+abbrev pub state_at : table.Stage → ClientState
+state_at table.Off = states.Off
+state_at table.Opening = states.Opening
+state_at table.Asked_serial = states.Asked
+state_at table.Asked_reset = states.Asked
+state_at table.Waiting = states.Wait
+state_at (table.Loading serially session set) = states.Loading
+state_at table.Synced = states.Synced
+
+abbrev pub state_of : table.Client → ClientState
+state_of client = state_at client.stage

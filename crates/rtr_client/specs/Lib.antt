@@ -1,0 +1,5 @@
+pub mod Book
+pub mod Following
+pub mod Laws
+pub mod Sessions
+pub mod StateNames
