@@ -1,0 +1,9 @@
+pub mod ClientRows
+pub mod Saying
+pub mod Pushing
+pub mod Agreeing
+pub mod Pieces
+pub mod SessionLaws
+pub mod LoadRows
+pub mod ForceRows
+pub mod LastLoad
