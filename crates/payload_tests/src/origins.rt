@@ -1,0 +1,229 @@
+//! The origins of routes: what the payloads by prefix say of them, which prefixes a change of the payloads concerns, and
+//! that the payloads stay as they were where a growth is refused.
+ghost use Rattle.std.specs.Prelude.{◌≡◌, [], OnOk, OnErr};
+
+use crate::sets::payload;
+use net_prefix::{Asn, Prefix, Vrp};
+use origin_valid::{PayloadTrie, Validity, affected};
+use refusing::Refusing;
+use std::alloc::{AllocError, Allocator, Global};
+use std::collections::BTreeSet;
+use std::process::Abort;
+use std::test::Fail;
+use vrp_delta::{Delta, Keeper};
+
+// A payload's prefix, maximum length and AS.
+type Row = (u32, u8, u8, u32);
+
+// A route's prefix and origin, and its state.
+type Route = (u32, u8, Option<u32>, Validity);
+
+#[rattlefmt::skip]
+const PAYLOADS: [Row; 5] = [
+    (0x0a00_0000, 16, 16, 65002),
+    (0x0a00_0000, 16, 24, 65001),
+    (0x0a00_0100, 24, 24, 65003),
+    (0xc000_0200, 24, 32,     0),
+    (0xc633_6400, 24, 24, 65001),
+];
+
+#[rattlefmt::skip]
+const ROUTES: [Route; 15] = [
+    (0x0a00_0000, 16, Some(65001), Validity::Valid),
+    (0x0a00_0000, 16, Some(65002), Validity::Valid),
+    (0x0a00_0000, 16, Some(65003), Validity::Invalid),
+    (0x0a00_0000, 16, None,        Validity::Invalid),
+    (0x0a00_0000, 24, Some(65001), Validity::Valid),
+    (0x0a00_0000, 24, Some(65002), Validity::Invalid),
+    (0x0a00_0100, 24, Some(65001), Validity::Valid),
+    (0x0a00_0100, 24, Some(65003), Validity::Valid),
+    (0x0a00_0100, 25, Some(65003), Validity::Invalid),
+    (0x0a00_0000,  8, Some(65001), Validity::NotFound),
+    (0x0a01_0000, 16, Some(65001), Validity::NotFound),
+    (0xc000_0200, 24, Some(0),     Validity::Invalid),
+    (0xc000_0200, 24, None,        Validity::Invalid),
+    (0xc633_6400, 24, Some(65001), Validity::Valid),
+    (0xcb00_7100, 24, None,        Validity::NotFound),
+];
+
+// Those that are there behind a change: among them one with another maximum length, one with another AS, and one that
+// covers all of 10.0.0.0/16.
+#[rattlefmt::skip]
+const LATER: [Row; 6] = [
+    (0x0a00_0000,  8,  8, 65004),
+    (0x0a00_0000, 16, 16, 65001),
+    (0x0a00_0000, 16, 16, 65002),
+    (0x0a00_0100, 24, 24, 65002),
+    (0x0a00_0100, 24, 24, 65003),
+    (0xc633_6400, 24, 24, 65001),
+];
+
+#[rattlefmt::skip]
+const LATER_ROUTES: [Route; 8] = [
+    (0x0a00_0000,  8, Some(65004), Validity::Valid),
+    (0x0a00_0000, 16, Some(65001), Validity::Valid),
+    (0x0a00_0000, 24, Some(65001), Validity::Invalid),
+    (0x0a00_0100, 24, Some(65002), Validity::Valid),
+    (0x0a00_0100, 24, Some(65003), Validity::Valid),
+    (0x0a01_0000, 16, Some(65001), Validity::Invalid),
+    (0xc000_0200, 24, Some(0),     Validity::NotFound),
+    (0xc633_6400, 24, Some(65001), Validity::Valid),
+];
+
+// What that change concerns: 10.0.0.0/16 lies in 10.0.0.0/8.
+const STRETCHES: [(u32, u8); 2] = [(0x0a00_0000, 8), (0xc000_0200, 24)];
+
+// How many requests for memory the payloads and the change take: one for each place in the trie where a prefix stands
+// or two part, and one for the second payload of a prefix.
+const REQUESTS: u64 = 9;
+
+fn set_of(alloc: Global, rows: &[Row]) -> Result<BTreeSet<Vrp>, Fail> {
+    let mut set = BTreeSet::new(alloc);
+    for (bits, len, max_len, asn) in rows {
+        if set.insert(payload(*bits, *len, *max_len, *asn)?).is_err() {
+            return Err(Fail::from(AllocError));
+        }
+    }
+    Ok(set)
+}
+
+// Makes the change from one set to another.
+fn follow<A: Allocator + Clone>(
+    trie: &mut PayloadTrie<A>,
+    old: &BTreeSet<Vrp>,
+    new: &BTreeSet<Vrp>,
+) -> Result<(), AllocError>
+    requires { trie.old ≡ old.now.keys }
+    ensures ok { OnOk result (trie.new ≡ new.now.keys) }
+    ensures err { OnErr result (trie.new ≡ old.now.keys) }
+{
+    let _ = (old.len(), new.len());
+    let delta = Delta::between(old, new)?;
+    trie.change(&delta)
+}
+
+// Whether each route has its state.
+fn has_states<A: Allocator>(trie: &PayloadTrie<A>, routes: &[Route]) -> Result<bool, Fail> {
+    for (bits, len, origin, state) in routes {
+        let prefix = Prefix::new(*bits, *len)?;
+        if trie.state(&prefix, origin.map(Asn)) != *state {
+            return Ok(false);
+        }
+    }
+    Ok(true)
+}
+
+// Whether of all these payloads just those of the set are kept.
+fn has_just<A: Allocator>(
+    trie: &PayloadTrie<A>,
+    set: &BTreeSet<Vrp>,
+    rows: &[Row],
+) -> Result<bool, Fail> {
+    for (bits, len, max_len, asn) in rows {
+        let payload = payload(*bits, *len, *max_len, *asn)?;
+        if trie.contains(&payload) != set.contains(&payload) {
+            return Ok(false);
+        }
+    }
+    Ok(true)
+}
+
+#[test]
+fn states_are_those_of_all_payloads(rt: HostRuntime) -> Result<(), Fail> {
+    let mut trie = PayloadTrie::new(rt.alloc());
+    let none = BTreeSet::new(rt.alloc());
+    let all = set_of(rt.alloc(), &PAYLOADS)?;
+    follow(&mut trie, &none, &all)?;
+    assert!(rt; has_just(&trie, &all, &PAYLOADS)?);
+    assert!(rt; has_states(&trie, &ROUTES)?);
+    trie.clear();
+    assert!(rt; has_just(&trie, &none, &PAYLOADS)?);
+    assert!(rt; trie.state(&Prefix::new(0x0a00_0000, 16)?, Some(Asn(65001))) == Validity::NotFound);
+    Ok(())
+}
+
+#[test]
+fn a_change_concerns_the_prefixes_that_no_other_covers(rt: HostRuntime) -> Result<(), Fail> {
+    let mut trie = PayloadTrie::new(rt.alloc());
+    let none = BTreeSet::new(rt.alloc());
+    let all = set_of(rt.alloc(), &PAYLOADS)?;
+    let later = set_of(rt.alloc(), &LATER)?;
+    follow(&mut trie, &none, &all)?;
+    follow(&mut trie, &all, &later)?;
+    assert!(rt; has_just(&trie, &later, &PAYLOADS)? && has_just(&trie, &later, &LATER)?);
+    assert!(rt; has_states(&trie, &LATER_ROUTES)?);
+    let delta = Delta::between(&all, &later)?;
+    let mut concerned = affected(&delta);
+    for (bits, len) in STRETCHES {
+        assert!(rt; concerned.next() == Some(Prefix::new(bits, len)?));
+    }
+    assert!(rt; concerned.next().is_none());
+    Ok(())
+}
+
+// Makes the change, and again where a growth is refused, which leaves the payloads. Answers how often one was.
+fn refusals_of<A: Allocator + Clone>(
+    rt: &impl Abort,
+    trie: &mut PayloadTrie<A>,
+    old: &BTreeSet<Vrp>,
+    new: &BTreeSet<Vrp>,
+) -> Result<u32, Fail>
+    requires { trie.old ≡ old.now.keys }
+    ensures { OnOk result (trie.new ≡ new.now.keys) }
+{
+    let mut refused = 0u32;
+    if follow(trie, old, new).is_err() {
+        refused = 1;
+        assert!(rt; has_just(trie, old, &PAYLOADS)? && has_just(trie, old, &LATER)?);
+        follow(trie, old, new)?;
+    }
+    assert!(rt; has_just(trie, new, &PAYLOADS)? && has_just(trie, new, &LATER)?);
+    Ok(refused)
+}
+
+// Fills the trie and changes it, and answers how often a growth was refused.
+fn refusals_in<A: Allocator + Clone>(
+    rt: &impl Abort,
+    mut trie: PayloadTrie<A>,
+    none: &BTreeSet<Vrp>,
+    all: &BTreeSet<Vrp>,
+    later: &BTreeSet<Vrp>,
+) -> Result<u32, Fail>
+    requires { trie ≡ none.now.keys }
+{
+    let first = refusals_of(rt, &mut trie, none, all)?;
+    let second = refusals_of(rt, &mut trie, all, later)?;
+    Ok(first.saturating_add(second))
+}
+
+#[test]
+fn a_refused_growth_leaves_the_payloads(rt: HostRuntime) -> Result<(), Fail> {
+    let none = BTreeSet::new(rt.alloc());
+    let all = set_of(rt.alloc(), &PAYLOADS)?;
+    let later = set_of(rt.alloc(), &LATER)?;
+    let mut refusals = 0u64;
+    let mut left = true;
+    for nth in 1..100u64 {
+        let heap = Refusing::new(rt.alloc(), nth);
+        let refused = refusals_in(&rt, PayloadTrie::new(&heap), &none, &all, &later)?;
+        left = heap.has_refused();
+        if !left {
+            assert_eq!(rt; refused, 0);
+            break;
+        }
+        assert_eq!(rt; refused, 1, "{nth}");
+        refusals = refusals.saturating_add(1);
+    }
+    assert!(rt; !left);
+    assert_eq!(rt; refusals, REQUESTS);
+    Ok(())
+}
+
+#[test]
+fn states_are_printed_by_name(rt: HostRuntime) -> Result<(), Fail> {
+    let (valid, invalid) = (Validity::Valid, Validity::Invalid);
+    let not_found = Validity::NotFound;
+    let text = format!(in rt.alloc(); "{valid} {invalid} {not_found}")?;
+    assert_eq!(rt; text.as_str(), "Valid Invalid NotFound");
+    Ok(())
+}
