@@ -6,6 +6,7 @@ ghost use Rattle.decision.specs.BookContents.{offer_at};
 use bgp_attr::Origin;
 use decision::{Book, Candidate, Change, Meter, PlainBook};
 use net_prefix::Prefix;
+use origin_valid::Validity;
 use refusing::Refusing;
 use std::alloc::{AllocError, Allocator};
 use std::process::Abort;
@@ -26,6 +27,7 @@ pub fn candidate(slot: u8, degree: Option<u64>) -> Option<Candidate>
             cost: 0,
             identifier: u32::from(slot),
             address: u32::from(slot),
+            validity: Validity::NotFound,
         }),
         None => None,
     }

@@ -5,6 +5,7 @@ use bgp_attr::{Attrs, Origin, PeerKind, read_attrs};
 use decision::Candidate;
 use export_rules::{ExportPeer, export_of};
 use net_prefix::Asn;
+use origin_valid::Validity;
 use std::test::Fail;
 
 #[rattlefmt::skip]
@@ -48,6 +49,7 @@ const ROUTE: Candidate = Candidate {
     cost: 10,
     identifier: 1,
     address: 2,
+    validity: Validity::NotFound,
 };
 
 const PEER: ExportPeer = ExportPeer {

@@ -2,6 +2,7 @@
 
 use bgp_attr::Origin;
 use decision::{Candidate, Meter, choose};
+use origin_valid::Validity;
 
 const ORDINARY: Candidate = Candidate {
     slot: 1,
@@ -12,6 +13,7 @@ const ORDINARY: Candidate = Candidate {
     cost: 10,
     identifier: 20,
     address: 30,
+    validity: Validity::NotFound,
 };
 
 // One that every step of the ties passes over.
@@ -24,6 +26,7 @@ const WORST: Candidate = Candidate {
     cost: 90,
     identifier: 90,
     address: 90,
+    validity: Validity::NotFound,
 };
 
 // The slot of the better one.

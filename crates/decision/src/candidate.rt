@@ -2,6 +2,7 @@
 ghost use Rattle.std.specs.Prelude.{◌≡◌, false};
 
 use bgp_attr::Origin;
+use origin_valid::Validity;
 
 /// The slot of a local network, behind those of the peers.
 pub const LOCAL_SLOT: u8 = 64;
@@ -28,12 +29,15 @@ pub struct Candidate {
     pub identifier: u32,
     /// The address of the peer.
     pub address: u32,
+    /// The state of its origin, which no step of the selection compares.
+    pub validity: Validity,
 }
 
 impl Default for Candidate {
     ghost use Rattle.bgp_attr.specs.declared.attrs.Origin.TheVariants.{Igp};
+    ghost use Rattle.origin_valid.specs.declared.validity.Validity.TheVariants.{NotFound};
 
-    ghost is_default = { λ c. c ≡ record { slot = 0; degree = 0; path_length = 0; origin = Igp; external = false; cost = 0; identifier = 0; address = 0 } };
+    ghost is_default = { λ c. c ≡ record { slot = 0; degree = 0; path_length = 0; origin = Igp; external = false; cost = 0; identifier = 0; address = 0; validity = NotFound } };
 
     /// What fills the places of a list that are not in use.
     fn default() -> Candidate {
@@ -46,6 +50,7 @@ impl Default for Candidate {
             cost: 0,
             identifier: 0,
             address: 0,
+            validity: Validity::NotFound,
         }
     }
 }

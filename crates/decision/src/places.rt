@@ -217,6 +217,17 @@ fn are_idle(changes: &[Change], places: &[Place]) -> bool
 fn is_same(first: Option<Candidate>, second: Option<Candidate>) -> bool
     ensures { IsTrue result ↔ (first ≡ second) }
 {
+    match (first, second) {
+        (Some(first), Some(second)) => is_one(&first, &second),
+        (None, None) => true,
+        _ => false,
+    }
+}
+
+// Whether both are one candidate.
+fn is_one(first: &Candidate, second: &Candidate) -> bool
+    ensures { IsTrue result ↔ (first.now ≡ second.now) }
+{
     first == second
 }
 

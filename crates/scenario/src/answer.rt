@@ -27,7 +27,7 @@ pub enum Answer<'a> {
     Out(&'a [u8], u64),
     /// `SLOT STATE`
     Session(u8, State),
-    /// `PREFIX SLOT NotFound DEGREE`: without payloads each route is NotFound (RFC 6811 section 2).
+    /// `PREFIX SLOT STATE DEGREE`, with the state of the route (RFC 6811 section 2).
     Best(BestRoute),
     /// `PREFIX HEX`, a route with its attributes.
     Route(Prefix, &'a [u8]),
@@ -62,8 +62,9 @@ impl fmt::Display for Answer<'_> {
             }
             Answer::Session(slot, state) => write!(f, "{slot} {state}"),
             Answer::Best(route) => {
-                let (prefix, slot, degree) = (route.prefix, route.slot, route.degree);
-                write!(f, "{prefix} {slot} NotFound {degree}")
+                let (prefix, slot) = (route.prefix, route.slot);
+                let (validity, degree) = (route.validity, route.degree);
+                write!(f, "{prefix} {slot} {validity} {degree}")
             }
             Answer::Route(prefix, octets) => {
                 write!(f, "{prefix} ")?;

@@ -1,4 +1,4 @@
-use Rattle.std.proofs.Common.{◌≡◌, ◌≢◌, ◌≤◌, ◌==◌, inl, inr, ℕ, Bool, true, false, nat_le, List, ◌∷◌, Option, Some, None, length, cond, refl, sym, ap, ◌∙◌, subst}
+use Rattle.std.proofs.Common.{◌≡◌, ◌≢◌, ◌≤◌, ◌==◌, inl, inr, ℕ, Bool, true, false, nat_le, List, [], ◌∷◌, Option, Some, None, length, cond, refl, sym, ap, subst}
 use Rattle.std.specs.Bool.{OnTrue}
 use Rattle.std.specs.Option.{option_map, option_and_then, MatchOption}
 use Rattle.std.proofs.lemmas.Bool.{cases_eq, eq-eqb, ne_eqb, leb-true}
@@ -13,6 +13,7 @@ use Rattle.decision.specs.declared.candidate.Candidate.{Candidate}
 use Rattle.decision.proofs.Laws.{selected_member}
 use Rattle.export_rules.specs.Export.{AreAccepted, IsSender, export_at, exported_of, fitting}
 use Rattle.export_rules.specs.declared.export.ExportPeer.{ExportPeer}
+use Rattle.net_prefix.specs.declared.payload.Vrp.{Vrp}
 use Rattle.net_prefix.specs.declared.prefix.Prefix.{Prefix}
 use Rattle.rib_in.specs.LatestRoutes.{RouteTable, route_at}
 use Rattle.speaker.specs.AdjRibIn.{route}
@@ -54,18 +55,19 @@ slots_changed config conf conf2 links links2 adj_in adj_in2 hs hs2 slot all peer
     ]
 
 -- what the selection reads of these slots
-abbrev pub tables_in : Configuration → (ℕ → Option Linked) → RouteTable → Tables
-tables_in conf links adj_in = record { conf = conf; sessions = λ s. option_map (λ l. l.peer.session) (links s); routes = λ s prefix. route_at adj_in s prefix }
+abbrev pub tables_in : Configuration → List Vrp → (ℕ → Option Linked) → RouteTable → Tables
+tables_in conf payloads links adj_in = record { conf = conf; payloads = payloads; sessions = λ s. option_map (λ l. l.peer.session) (links s); routes = λ s prefix. route_at adj_in s prefix }
 
 pub slot_route : (config : Config) (peer : Option ConfiguredPeer) (l : Option Linked) (routes : Prefix → Option PathAttributes) (h : List happens.Event) (p : Prefix) → SlotAgrees config peer l routes h
     → route h p ≡ routes p
 slot_route config peer l routes h p a = sym (a.routes_are p)
 
 -- the run's tables are those that are kept
-pub tables_same : (config : Config) (r : Run) (conf : Configuration) (links : ℕ → Option Linked) (adj_in : RouteTable) → configuration_of config r ≡ conf
-    → SlotsAgree config conf links adj_in (λ s. history config s r) → tables_after config r ≡ tables_in conf links adj_in
-tables_same config r conf links adj_in same all = λ i. record {
+pub tables_same : (config : Config) (r : Run) (conf : Configuration) (payloads : List Vrp) (links : ℕ → Option Linked) (adj_in : RouteTable) → configuration_of config r ≡ conf → payloads ≡ []
+    → SlotsAgree config conf links adj_in (λ s. history config s r) → tables_after config r ≡ tables_in conf payloads links adj_in
+tables_same config r conf payloads links adj_in same none all = λ i. record {
   conf = same i;
+  payloads = sym none i;
   sessions = λ s. slot_session config (peer_at conf s) (links s) (route_at adj_in s) (history config s r) (all s) i;
   routes = λ s prefix. slot_route config (peer_at conf s) (links s) (route_at adj_in s) (history config s r) prefix (all s) i;
 }

@@ -181,14 +181,15 @@ slot_of_route config r s h p there =
 
 -- an entry of `reach`
 pub holds_reach : (config : Config) (r : Run) (prefix : Prefix) (cost : ℕ) (old new : SpeakerState) → Holds config r old → new.conf ≡ conf_after old.conf (Reach prefix cost)
-    → ((s : ℕ) → peer_at new.conf s ≡ peer_after old.conf (Reach prefix cost) s) → new.config ≡ old.config → new.moment ≡ old.moment → new.links ≡ old.links → new.adj_in ≡ old.adj_in
-    → AreMadeAgain (tables new.conf old.links old.adj_in) (offer_at old.book) (offer_at new.book)
+    → ((s : ℕ) → peer_at new.conf s ≡ peer_after old.conf (Reach prefix cost) s) → new.config ≡ old.config → new.moment ≡ old.moment → new.payloads ≡ old.payloads → new.links ≡ old.links → new.adj_in ≡ old.adj_in
+    → AreMadeAgain (tables new.conf new.payloads old.links old.adj_in) (offer_at old.book) (offer_at new.book)
     → (known : List Prefix) → AreDifferent (HasRoute old.adj_in) known → new.chosen ≤ old.chosen + length known → new.chosen_before ≡ old.chosen
     → Holds config (turn (Command_call (Reach prefix cost)) [] ∷ r) new
-holds_reach config r prefix cost old new h conf peers config_same moment links adj_in again known routed count counted = record {
+holds_reach config r prefix cost old new h conf peers config_same moment payloads links adj_in again known routed count counted = record {
   config_is = config_same ∙ h.config_is;
   moment = moment ∙ h.moment;
   conf = conf ∙ ap (λ c. conf_after c (Reach prefix cost)) h.conf;
+  payloads = payloads ∙ h.payloads;
   peers = (h.peers.0, λ t peer at. h.peers.1 t peer (sym (peers t) ∙ at));
   slots = λ t. let P : Option ConfiguredPeer → Type 0 = λ x. SlotAgrees config x (link_at old.links t) (route_at old.adj_in t) (history config t r) in
       rw (links, adj_in) (subst P (sym (peers t)) (h.slots t));
@@ -244,8 +245,8 @@ is_taken closing config r slot peer s h may = record {
 pub holds_added : (closing : ℕ) (config : Config) (r : Run) (slot : ℕ) (peer : PeerConf) (old new : SpeakerState) → Holds config r old → first_refusal old.conf closing (AddPeer slot peer) ≡ None
     → new.conf ≡ conf_after old.conf (AddPeer slot peer) → ((s : ℕ) → peer_at new.conf s ≡ peer_after old.conf (AddPeer slot peer) s)
     → IsPut slot (record { peer = configured (terms_in config (configured_of peer)).own peer.mode; adj_out = [] }) old new
-    → new.config ≡ old.config → new.moment ≡ old.moment → new.adj_in ≡ old.adj_in → new.book ≡ old.book → new.chosen ≤ new.chosen_before → Holds config (turn (Command_call (AddPeer slot peer)) [] ∷ r) new
-holds_added closing config r slot peer old new h may conf peers put config_same moment adj_in book few =
+    → new.config ≡ old.config → new.moment ≡ old.moment → new.payloads ≡ old.payloads → new.adj_in ≡ old.adj_in → new.book ≡ old.book → new.chosen ≤ new.chosen_before → Holds config (turn (Command_call (AddPeer slot peer)) [] ∷ r) new
+holds_added closing config r slot peer old new h may conf peers put config_same moment payloads adj_in book few =
     let free : peer_at old.conf slot ≡ None = peer_at-from_accepted old.conf closing slot peer may in
     let before = h.slots slot in
     let vacant : is_established (session (history config slot r)).state ≡ false = ap is_established (before.vacant (sym before.configured ∙ ap (option_map (terms_in config)) free)).0 in
@@ -253,6 +254,7 @@ holds_added closing config r slot peer old new h may conf peers put config_same 
       config_is = config_same ∙ h.config_is;
       moment = moment ∙ h.moment;
       conf = conf ∙ ap (λ c. conf_after c (AddPeer slot peer)) h.conf;
+      payloads = payloads ∙ h.payloads;
       peers = (h.peers.0, λ t found at. added_taken config.asn slot t (peer_at old.conf t) (configured_of peer) found (is_taken closing config r slot peer old h may) (h.peers.1 t found) (sym (peers t) ∙ at));
       slots =
           slots_changed config old.conf new.conf (link_at old.links) (link_at new.links) old.adj_in new.adj_in (λ t. history config t r) (λ t. history config t (turn (Command_call (AddPeer slot peer)) [] ∷ r)) slot h.slots
@@ -273,7 +275,7 @@ holds_added closing config r slot peer old new h may conf peers put config_same 
           kept_added slot (configured (terms_in config (configured_of peer)).own peer.mode) old new (offer_at old.book) (offer_at new.book) (slot-from_accepted old.conf closing slot peer may) put
           (λ p. before.routes_are p ∙ no_route (history config slot r) p vacant)
           (ap (λ (c : Configuration). c.own) conf) (ap (λ (c : Configuration). c.reach) conf) (λ t other. peers t ∙ rw (ne_eqb t slot other) refl)
-          adj_in (ap (λ b. offer_at b) book) h.kept;
+          payloads adj_in (ap (λ b. offer_at b) book) h.kept;
       chosen = omega (arith, few);
     }
 

@@ -95,11 +95,11 @@ announced_case true true what o Q named there = inr (named refl)
 announced_case true false what o Q named there = inl there
 announced_case false b what o Q named there = inl there
 
-pub announced_some : (slot : ℕ) (prefixes seen rest : List Prefix) (what : Option PathAttributes) (old now new : RouteTable) → Sets slot (λ p. true) prefixes seen rest what (route_at old) (route_at now)
+pub announced_some : (slot : ℕ) (prefixes seen rest : List Prefix) (what : Prefix → Option PathAttributes) (old now new : RouteTable) → Sets slot (λ p. true) prefixes seen rest what (route_at old) (route_at now)
     → ((s : ℕ) (p : Prefix) → route_at new s p ≡ route_at now s p) → AreAnnounced slot prefixes old new
 announced_some slot prefixes seen rest what old now new h same p there =
     let here = subst (λ o. IsSome o) (same slot p ∙ h.set slot p) there in
-    announced_case (slot == slot) (is_among p seen && true) what (route_at old slot p) (is_among p prefixes ≡ true)
+    announced_case (slot == slot) (is_among p seen && true) (what p) (route_at old slot p) (is_among p prefixes ≡ true)
     (λ among. subst (λ all. is_among p all ≡ true) h.whole (among_all p seen rest (both_true (is_among p seen) true among))) here
 
 -- a best route was chosen once at most for each different one of those seen that are taken

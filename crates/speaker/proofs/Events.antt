@@ -58,6 +58,7 @@ put_agrees config c1 c2 now1 now2 h1 h2 m1 m2 slot l old new h conf moment kept 
   config_is = keeps.config ∙ h.config_is;
   moment = keeps.moment ∙ h.moment ∙ sym moment;
   conf = keeps.conf ∙ h.conf ∙ sym conf;
+  payloads = keeps.payloads ∙ h.payloads;
   peers = rw keeps.conf h.peers;
   slots =
       slots_changed config old.conf new.conf (link_at old.links) (link_at new.links) old.adj_in new.adj_in h1 h2 slot h.slots
@@ -97,6 +98,7 @@ holds_begun config r s h = record {
   config_is = h.config_is;
   moment = h.moment;
   conf = h.conf;
+  payloads = h.payloads;
   peers = h.peers;
   slots = h.slots;
   kept = h.kept;
@@ -396,6 +398,7 @@ holds_nothing config r slot s h few = record {
   config_is = h.config_is;
   moment = h.moment;
   conf = h.conf;
+  payloads = h.payloads;
   peers = h.peers;
   slots = λ t. let P : List happens.Event → Type 0 = λ x. SlotAgrees config (peer_at s.conf t) (link_at s.links t) (route_at s.adj_in t) x in subst P (sym (bytes_none config slot r t _ refl)) (h.slots t);
   kept = h.kept;
@@ -419,6 +422,7 @@ holds_ticked config r now s h few = record {
   config_is = h.config_is;
   moment = refl;
   conf = h.conf;
+  payloads = h.payloads;
   peers = h.peers;
   slots = λ t. slot_ticked config (peer_at s.conf t) (link_at s.links t) (route_at s.adj_in t) (history config t r) now (h.slots t);
   kept = h.kept;
@@ -432,6 +436,7 @@ holds_dropped config r slot l octets s h linked shut few = record {
   config_is = h.config_is;
   moment = h.moment;
   conf = h.conf;
+  payloads = h.payloads;
   peers = h.peers;
   slots = λ t. elim (cases_eq t slot) [
     | inl same ↦ subst (λ x. SlotAgrees config (peer_at s.conf x) (link_at s.links x) (route_at s.adj_in x) (history config x (turn (Bytes_call slot octets) [] ∷ r))) (sym same) here

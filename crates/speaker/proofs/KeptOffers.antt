@@ -15,9 +15,12 @@ use Rattle.bgp_peer.specs.Slot.{Slot, handed, pushed}
 use Rattle.decision.specs.BookContents.{IsBestOf, best_at, offer_at}
 use Rattle.decision.specs.declared.candidate.Candidate.{Candidate}
 use Rattle.net_prefix.specs.PrefixOrder.{prefix_cmp}
+use Rattle.net_prefix.specs.declared.asn.Asn.{Asn}
+use Rattle.net_prefix.specs.declared.payload.Vrp.{Vrp}
 use Rattle.net_prefix.specs.declared.prefix.Prefix.{Prefix}
+use Rattle.origin_valid.specs.Validity.{validity}
 use Rattle.rib_in.specs.LatestRoutes.{RouteTable, route_at}
-use Rattle.speaker.specs.Candidates.{IsCandidate, IsMade, HasNoneAt, IsOnlyCandidateAt}
+use Rattle.speaker.specs.Candidates.{IsCandidate, IsMade, HasNoneAt, IsOnlyCandidateAt, judged_at, origin_in, state_in}
 use Rattle.speaker.specs.Linked.{Linked}
 use Rattle.speaker.specs.LocRib.{HasNoCandidate, IsBest, IsLocRib}
 use Rattle.speaker.specs.Moves.{Hands, IsPut, KeepsKept, Moves, Pushes, moved}
@@ -36,9 +39,11 @@ pub record IsAlike (t u : Tables) (slot : ℕ) (prefix : Prefix) : Type 0 where
   pub peer : peer_at u.conf slot ≡ peer_at t.conf slot
   pub identifier : option_map (λ (s : Session). s.identifier) (u.sessions slot) ≡ option_map (λ (s : Session). s.identifier) (t.sessions slot)
   pub route : u.routes slot prefix ≡ t.routes slot prefix
+  -- whatever its origin is
+  pub state : (origin : Option Asn) → validity u.payloads prefix origin ≡ validity t.payloads prefix origin
 
 alike_back : (t u : Tables) (slot : ℕ) (prefix : Prefix) → IsAlike t u slot prefix → IsAlike u t slot prefix
-alike_back t u slot prefix a = record { own = sym a.own; reach = sym a.reach; peer = sym a.peer; identifier = sym a.identifier; route = sym a.route }
+alike_back t u slot prefix a = record { own = sym a.own; reach = sym a.reach; peer = sym a.peer; identifier = sym a.identifier; route = sym a.route; state = λ origin. sym (a.state origin) }
 
 identifier_of : (found : Option Session) (identifier : ℕ) → option_map (λ (s : Session). s.identifier) found ≡ Some identifier
     → (session : Session) × (found ≡ Some session) × (session.identifier ≡ identifier)
@@ -72,6 +77,7 @@ candidate_alike t u prefix c a is =
         identifier_is = made.identifier_is ∙ sym found.2;
         address_is = made.address_is;
       };
+      judged = is.judged ∙ sym (a.state (origin_in t.conf.own is.attrs)) ∙ ap (λ own. state_in own u.payloads prefix is.attrs) (sym a.own);
     }
 
 candidate_at_slot : (t u : Tables) (slot : ℕ) (prefix : Prefix) (c : Candidate) → IsAlike t u slot prefix → c.slot ≡ slot → IsCandidate t prefix c → IsCandidate u prefix c
@@ -126,51 +132,51 @@ pub kept_same : (t u : Tables) (f g : Offers) → t ≡ u → g ≡ f → AreKep
 kept_same t u f g tables offers kept = subst (λ x. AreKept x g) tables (subst (λ x. AreKept t x) (sym offers) kept)
 
 -- some slots' routes go, with their candidates
-pub kept_gone : (conf : Configuration) (sessions : ℕ → Option Session) (old new : RouteTable) (had has : Offers) (gone : ℕ → Prefix → Bool)
+pub kept_gone : (conf : Configuration) (payloads : List Vrp) (sessions : ℕ → Option Session) (old new : RouteTable) (had has : Offers) (gone : ℕ → Prefix → Bool)
     → ((slot : ℕ) (prefix : Prefix) → route_at new slot prefix ≡ cond (gone slot prefix) None (route_at old slot prefix))
     → ((slot : ℕ) (prefix : Prefix) → has slot prefix ≡ cond (gone slot prefix) None (had slot prefix))
-    → AreKept (read_in conf sessions old) had → AreKept (read_in conf sessions new) has
-kept_gone conf sessions old new had has gone routes offers kept = record {
+    → AreKept (read_in conf payloads sessions old) had → AreKept (read_in conf payloads sessions new) has
+kept_gone conf payloads sessions old new had has gone routes offers kept = record {
   made = λ slot prefix. made_here slot prefix (gone slot prefix) (routes slot prefix) (offers slot prefix);
   routed = λ slot prefix there. kept.routed slot prefix (routed_here slot prefix (gone slot prefix) (routes slot prefix) there);
   below = kept.below;
 }
   where
     made_here : (slot : ℕ) (prefix : Prefix) (b : Bool) → route_at new slot prefix ≡ cond b None (route_at old slot prefix) → has slot prefix ≡ cond b None (had slot prefix)
-        → IsOffer (read_in conf sessions new) slot prefix (has slot prefix)
-    made_here slot prefix true route offer = subst (λ f. IsOffer (read_in conf sessions new) slot prefix f) (sym offer) (none_routed (read_in conf sessions new) prefix slot route)
+        → IsOffer (read_in conf payloads sessions new) slot prefix (has slot prefix)
+    made_here slot prefix true route offer = subst (λ f. IsOffer (read_in conf payloads sessions new) slot prefix f) (sym offer) (none_routed (read_in conf payloads sessions new) prefix slot route)
     made_here slot prefix false route offer =
-        subst (λ f. IsOffer (read_in conf sessions new) slot prefix f) (sym offer)
-        (offer_alike (read_in conf sessions old) (read_in conf sessions new) slot prefix (had slot prefix) (record { own = refl; reach = refl; peer = refl; identifier = refl; route = route }) (kept.made slot prefix))
+        subst (λ f. IsOffer (read_in conf payloads sessions new) slot prefix f) (sym offer)
+        (offer_alike (read_in conf payloads sessions old) (read_in conf payloads sessions new) slot prefix (had slot prefix) (record { own = refl; reach = refl; peer = refl; identifier = refl; route = route; state = λ origin. refl }) (kept.made slot prefix))
 
     routed_here : (slot : ℕ) (prefix : Prefix) (b : Bool) → route_at new slot prefix ≡ cond b None (route_at old slot prefix) → IsSome (route_at new slot prefix) → IsSome (route_at old slot prefix)
     routed_here slot prefix true route there = no_none (route_at new slot prefix) route there
     routed_here slot prefix false route there = some_if (route_at old slot prefix) (route_at new slot prefix) (sym route) there
 
--- routes of the slot with these attributes come, and make this candidate
-pub kept_come : (conf : Configuration) (slot identifier : ℕ) (attrs : PathAttributes) (found : Option Candidate) (old new : RouteTable) (had has : Offers) (come : ℕ → Prefix → Bool)
+-- routes of the slot with these attributes come, and make this candidate, each with its state
+pub kept_come : (conf : Configuration) (payloads : List Vrp) (slot identifier : ℕ) (attrs : PathAttributes) (found : Option Candidate) (old new : RouteTable) (had has : Offers) (come : ℕ → Prefix → Bool)
     → ((s : ℕ) (p : Prefix) → come s p ≡ true → s ≡ slot) → IsMade conf slot identifier attrs found
     → ((s : ℕ) (p : Prefix) → route_at new s p ≡ cond (come s p) (Some attrs) (route_at old s p))
-    → ((s : ℕ) (p : Prefix) → has s p ≡ cond (come s p) found (had s p))
+    → ((s : ℕ) (p : Prefix) → has s p ≡ cond (come s p) (judged_at conf.own payloads attrs found p) (had s p))
     → (session : Session) → is_established session.state ≡ true → session.identifier ≡ identifier → (sessions : ℕ → Option Session) → sessions slot ≡ Some session
-    → AreKept (read_in conf sessions old) had → AreKept (read_in conf sessions new) has
-kept_come conf slot identifier attrs found old new had has come here made routes offers session established same sessions there kept = record {
+    → AreKept (read_in conf payloads sessions old) had → AreKept (read_in conf payloads sessions new) has
+kept_come conf payloads slot identifier attrs found old new had has come here made routes offers session established same sessions there kept = record {
   made = λ s p. made_here s p (come s p) refl (routes s p) (offers s p);
   routed = λ s p routed. routed_here s p (come s p) refl (routes s p) routed;
   below = kept.below;
 }
   where
-    made_there : (s : ℕ) (p : Prefix) → s ≡ slot → route_at new s p ≡ Some attrs → IsOffer (read_in conf sessions new) s p found
+    made_there : (s : ℕ) (p : Prefix) → s ≡ slot → route_at new s p ≡ Some attrs → IsOffer (read_in conf payloads sessions new) s p (judged_at conf.own payloads attrs found p)
     made_there s p slots route =
-        subst (λ x. IsOffer (read_in conf sessions new) x p found) (sym slots)
-        (candidate_made (read_in conf sessions new) p slot identifier session attrs found (kept.below slot session there) there (subst (λ x. route_at new x p ≡ Some attrs) slots route) (sym same) made)
+        subst (λ x. IsOffer (read_in conf payloads sessions new) x p (judged_at conf.own payloads attrs found p)) (sym slots)
+        (candidate_made (read_in conf payloads sessions new) p slot identifier session attrs found (kept.below slot session there) there (subst (λ x. route_at new x p ≡ Some attrs) slots route) (sym same) made)
 
-    made_here : (s : ℕ) (p : Prefix) (b : Bool) → come s p ≡ b → route_at new s p ≡ cond b (Some attrs) (route_at old s p) → has s p ≡ cond b found (had s p)
-        → IsOffer (read_in conf sessions new) s p (has s p)
-    made_here s p true is route offer = subst (λ f. IsOffer (read_in conf sessions new) s p f) (sym offer) (made_there s p (here s p is) route)
+    made_here : (s : ℕ) (p : Prefix) (b : Bool) → come s p ≡ b → route_at new s p ≡ cond b (Some attrs) (route_at old s p) → has s p ≡ cond b (judged_at conf.own payloads attrs found p) (had s p)
+        → IsOffer (read_in conf payloads sessions new) s p (has s p)
+    made_here s p true is route offer = subst (λ f. IsOffer (read_in conf payloads sessions new) s p f) (sym offer) (made_there s p (here s p is) route)
     made_here s p false is route offer =
-        subst (λ f. IsOffer (read_in conf sessions new) s p f) (sym offer)
-        (offer_alike (read_in conf sessions old) (read_in conf sessions new) s p (had s p) (record { own = refl; reach = refl; peer = refl; identifier = refl; route = route }) (kept.made s p))
+        subst (λ f. IsOffer (read_in conf payloads sessions new) s p f) (sym offer)
+        (offer_alike (read_in conf payloads sessions old) (read_in conf payloads sessions new) s p (had s p) (record { own = refl; reach = refl; peer = refl; identifier = refl; route = route; state = λ origin. refl }) (kept.made s p))
 
     routed_here : (s : ℕ) (p : Prefix) (b : Bool) → come s p ≡ b → route_at new s p ≡ cond b (Some attrs) (route_at old s p) → IsSome (route_at new s p)
         → (x : Session) × (sessions s ≡ Some x) × (is_established x.state ≡ true)
@@ -178,16 +184,16 @@ kept_come conf slot identifier attrs found old new had has come here made routes
     routed_here s p false is route routed = kept.routed s p (some_if (route_at old s p) (route_at new s p) (sym route) routed)
 
 -- nothing has changed at any route
-pub kept_still : (conf : Configuration) (sessions : ℕ → Option Session) (old new : RouteTable) (had has : Offers) → ((s : ℕ) (p : Prefix) → route_at new s p ≡ route_at old s p)
-    → ((s : ℕ) (p : Prefix) → has s p ≡ had s p) → AreKept (read_in conf sessions old) had → AreKept (read_in conf sessions new) has
-kept_still conf sessions old new had has routes offers kept = kept_gone conf sessions old new had has (λ s p. false) routes offers kept
+pub kept_still : (conf : Configuration) (payloads : List Vrp) (sessions : ℕ → Option Session) (old new : RouteTable) (had has : Offers) → ((s : ℕ) (p : Prefix) → route_at new s p ≡ route_at old s p)
+    → ((s : ℕ) (p : Prefix) → has s p ≡ had s p) → AreKept (read_in conf payloads sessions old) had → AreKept (read_in conf payloads sessions new) has
+kept_still conf payloads sessions old new had has routes offers kept = kept_gone conf payloads sessions old new had has (λ s p. false) routes offers kept
 
 -- a session takes an input, and its routes go where it leaves Established
-pub kept_moved : (slot : ℕ) (l : Linked) (input : Input) (old new : SpeakerState) (had has : Offers) → link_at old.links slot ≡ Some l → IsPut slot (moved old.moment l input) old new → new.conf ≡ old.conf
+pub kept_moved : (slot : ℕ) (l : Linked) (input : Input) (old new : SpeakerState) (had has : Offers) → link_at old.links slot ≡ Some l → IsPut slot (moved old.moment l input) old new → new.conf ≡ old.conf → new.payloads ≡ old.payloads
     → ((s : ℕ) (p : Prefix) → route_at new.adj_in s p ≡ cond ((effects_of input l.peer.session).left && s == slot) None (route_at old.adj_in s p))
     → ((s : ℕ) (p : Prefix) → has s p ≡ cond ((effects_of input l.peer.session).left && s == slot) None (had s p))
     → AreKept (tables_of old) had → AreKept (tables_of new) has
-kept_moved slot l input old new had has linked put conf routes offers kept = record {
+kept_moved slot l input old new had has linked put conf payloads routes offers kept = record {
   made = λ s p. elim (cases_eq s slot) [
     | inl same ↦ subst (λ x. IsOffer (tables_of new) x p (has x p)) (sym same) (made_here p _ refl _ refl)
     | inr other ↦ made_there s p other
@@ -240,7 +246,7 @@ kept_moved slot l input old new had has linked put conf routes offers kept = rec
     made_there s p other =
         subst (λ f. IsOffer (tables_of new) s p f) (sym (offer_off s p other))
         (offer_alike (tables_of old) (tables_of new) s p (had s p)
-        (record { own = ap (λ (c : Configuration). c.own) conf; reach = ap (λ (c : Configuration). c.reach) conf; peer = ap (λ c. peer_at c s) conf; identifier = ap (option_map (λ (x : Session). x.identifier)) (session_off s other); route = route_off s p other })
+        (record { own = ap (λ (c : Configuration). c.own) conf; reach = ap (λ (c : Configuration). c.reach) conf; peer = ap (λ c. peer_at c s) conf; identifier = ap (option_map (λ (x : Session). x.identifier)) (session_off s other); route = route_off s p other; state = λ origin. ap (λ x. validity x p origin) payloads })
         (kept.made s p))
 
     -- where it stays Established, so does its identifier
@@ -273,6 +279,7 @@ kept_moved slot l input old new had has linked put conf routes offers kept = rec
           peer = ap (λ c. peer_at c slot) conf;
           identifier = ap (option_map (λ (x : Session). x.identifier)) session_on ∙ ap Some lasts.1 ∙ sym (ap (option_map (λ (x : Session). x.identifier)) session_was);
           route = route_on p ∙ rw is refl;
+          state = λ origin. ap (λ x. validity x p origin) payloads;
         })
         (kept.made slot p))
 
@@ -284,11 +291,12 @@ kept_moved slot l input old new had has linked put conf routes offers kept = rec
 
 -- a slot keeps its session
 pub kept_put : (slot : ℕ) (l m : Linked) (old new : SpeakerState) (had has : Offers) → link_at old.links slot ≡ Some l → m.peer.session ≡ l.peer.session → IsPut slot m old new
-    → new.conf ≡ old.conf → new.adj_in ≡ old.adj_in → has ≡ had → AreKept (tables_of old) had → AreKept (tables_of new) has
-kept_put slot l m old new had has linked session put conf adj_in book kept =
+    → new.conf ≡ old.conf → new.payloads ≡ old.payloads → new.adj_in ≡ old.adj_in → has ≡ had → AreKept (tables_of old) had → AreKept (tables_of new) has
+kept_put slot l m old new had has linked session put conf payloads adj_in book kept =
     kept_same (tables_of old) (tables_of new) had has
     (λ i. record {
       conf = sym conf i;
+      payloads = sym payloads i;
       sessions = λ s. sym (sessions s) i;
       routes = λ s p. route_at (sym adj_in i) s p;
     }) book kept
@@ -303,21 +311,21 @@ kept_put slot l m old new had has linked session put conf adj_in book kept =
 
 -- so it is where a session takes an input, octets come, or octets are handed out
 pub moves_keep : (slot : ℕ) (l : Linked) (input : Input) (old new : SpeakerState) → link_at old.links slot ≡ Some l → Moves slot l input old new → KeepsKept old new
-moves_keep slot l input old new linked moves = kept_moved slot l input old new (offer_at old.book) (offer_at new.book) linked moves.links moves.rest.conf moves.routes moves.offers
+moves_keep slot l input old new linked moves = kept_moved slot l input old new (offer_at old.book) (offer_at new.book) linked moves.links moves.rest.conf moves.rest.payloads moves.routes moves.offers
 
 pub pushes_keep : (slot : ℕ) (l : Linked) (octets : List ℕ) (old new : SpeakerState) → link_at old.links slot ≡ Some l → Pushes slot l octets old new → KeepsKept old new
 pushes_keep slot l octets old new linked pushes =
-    kept_put slot l (record { peer = pushed l.peer octets; adj_out = l.adj_out }) old new (offer_at old.book) (offer_at new.book) linked refl pushes.links pushes.rest.conf pushes.routes (ap (λ b. offer_at b) pushes.book)
+    kept_put slot l (record { peer = pushed l.peer octets; adj_out = l.adj_out }) old new (offer_at old.book) (offer_at new.book) linked refl pushes.links pushes.rest.conf pushes.rest.payloads pushes.routes (ap (λ b. offer_at b) pushes.book)
 
 pub hands_keep : (slot : ℕ) (l : Linked) (count : ℕ) (old new : SpeakerState) → link_at old.links slot ≡ Some l → Hands slot l count old new → KeepsKept old new
 hands_keep slot l count old new linked hands =
-    kept_put slot l (record { peer = handed l.peer count; adj_out = l.adj_out }) old new (offer_at old.book) (offer_at new.book) linked refl hands.links hands.rest.conf hands.routes (ap (λ b. offer_at b) hands.book)
+    kept_put slot l (record { peer = handed l.peer count; adj_out = l.adj_out }) old new (offer_at old.book) (offer_at new.book) linked refl hands.links hands.rest.conf hands.rest.payloads hands.routes (ap (λ b. offer_at b) hands.book)
 
 -- a peer is told something
 pub kept_told : (slot : ℕ) (p : Prefix) (export : Option (List ℕ)) (old new : SpeakerState) (had : Offers) → IsToldAt slot p export old new → AreKept (tables_of old) had → AreKept (tables_of new) had
 kept_told slot p export old new had told =
     kept_put slot told.before told.after old new had had told.was (ap (λ (x : Slot). x.session) told.told.peer) told.puts
-    (ap (λ (s : SpeakerState). s.conf) told.rest) (ap (λ (s : SpeakerState). s.adj_in) told.rest) refl
+    (ap (λ (s : SpeakerState). s.conf) told.rest) (ap (λ (s : SpeakerState). s.payloads) told.rest) (ap (λ (s : SpeakerState). s.adj_in) told.rest) refl
 
 -- no slot has changed
 pub kept_still_links : (old new : SpeakerState) (had : Offers) → IsStill old new → AreKept (tables_of old) had → AreKept (tables_of (record old { links = new.links })) had
@@ -325,6 +333,7 @@ kept_still_links old new had still kept =
     kept_same (tables_of old) (tables_of (record old { links = new.links })) had had
     (λ i. record {
       conf = old.conf;
+      payloads = old.payloads;
       sessions = λ s. sym (ap (option_map (λ (l : Linked). l.peer.session)) (still.links s)) i;
       routes = λ s p. route_at old.adj_in s p;
     }) refl kept
@@ -332,15 +341,15 @@ kept_still_links old new had still kept =
 -- a peer is added to a slot that has no routes
 pub kept_added : (slot : ℕ) (peer : Slot) (old new : SpeakerState) (had has : Offers) → slot < 64 → IsPut slot (record { peer = peer; adj_out = [] }) old new → ((p : Prefix) → route_at old.adj_in slot p ≡ None)
     → new.conf.own ≡ old.conf.own → new.conf.reach ≡ old.conf.reach → ((s : ℕ) → s ≢ slot → peer_at new.conf s ≡ peer_at old.conf s)
-    → new.adj_in ≡ old.adj_in → has ≡ had → AreKept (tables_of old) had → AreKept (tables_of new) has
-kept_added slot peer old new had has within put unrouted own reach peers adj_in book kept = record {
+    → new.payloads ≡ old.payloads → new.adj_in ≡ old.adj_in → has ≡ had → AreKept (tables_of old) had → AreKept (tables_of new) has
+kept_added slot peer old new had has within put unrouted own reach peers payloads adj_in book kept = record {
   made = λ s p. subst (λ f. IsOffer (tables_of new) s p f) (ap (λ (o : Offers). o s p) (sym book)) (elim (cases_eq s slot) [
     | inl same ↦
         let was : route_at old.adj_in s p ≡ None = subst (λ x. route_at old.adj_in x p ≡ None) (sym same) (unrouted p) in
         offer_unrouted (tables_of old) (tables_of new) s p (had s p) was (route_same s p ∙ was) (kept.made s p)
     | inr other ↦
         offer_alike (tables_of old) (tables_of new) s p (had s p)
-        (record { own = own; reach = reach; peer = peers s other; identifier = ap (option_map (λ (x : Session). x.identifier)) (session_off s other); route = route_same s p })
+        (record { own = own; reach = reach; peer = peers s other; identifier = ap (option_map (λ (x : Session). x.identifier)) (session_off s other); route = route_same s p; state = λ origin. ap (λ x. validity x p origin) payloads })
         (kept.made s p)
   ]);
   routed = λ s p there.
@@ -381,11 +390,11 @@ kept_remade old new had has remade still links adj_in kept = record {
         remade s p before.0 before.1 (kept.below s before.0 before.1) there
 
 -- with another configuration the candidates of all routes were made again
-pub kept_again : (old new : SpeakerState) → new.links ≡ old.links → new.adj_in ≡ old.adj_in → AreMadeAgain (tables new.conf old.links old.adj_in) (offer_at old.book) (offer_at new.book) → KeepsKept old new
+pub kept_again : (old new : SpeakerState) → new.links ≡ old.links → new.adj_in ≡ old.adj_in → AreMadeAgain (tables new.conf new.payloads old.links old.adj_in) (offer_at old.book) (offer_at new.book) → KeepsKept old new
 kept_again old new links adj_in again =
     kept_remade old new (offer_at old.book) (offer_at new.book)
     (λ slot prefix session linked below there.
-    subst (λ t. IsOffer t slot prefix (offer_at new.book slot prefix)) (λ i. tables new.conf (sym links i) (sym adj_in i)) (again.made slot prefix session below linked there))
+    subst (λ t. IsOffer t slot prefix (offer_at new.book slot prefix)) (λ i. tables new.conf new.payloads (sym links i) (sym adj_in i)) (again.made slot prefix session below linked there))
     again.still links adj_in
 
 -- Loc-RIB has the best of the candidates of all routes
@@ -414,18 +423,18 @@ pub kept_loc_rib : (t : Tables) (offers : Offers) (rows : List (Prefix × Candid
 kept_loc_rib t offers rows best rising kept = record { rising = rising; best = λ p. kept_best t offers p (best_at rows p) kept (best p) }
 
 -- a slot is without routes and candidates, and what is read of the others stays
-pub kept_without : (slot : ℕ) (old new : SpeakerState) → AreKept (tables_of old) (offer_at old.book) → new.conf.own ≡ old.conf.own → new.conf.reach ≡ old.conf.reach
+pub kept_without : (slot : ℕ) (old new : SpeakerState) → AreKept (tables_of old) (offer_at old.book) → new.conf.own ≡ old.conf.own → new.conf.reach ≡ old.conf.reach → new.payloads ≡ old.payloads
     → ((t : ℕ) → t ≢ slot → peer_at new.conf t ≡ peer_at old.conf t) → ((t : ℕ) → t ≢ slot → session_at new.links t ≡ session_at old.links t)
     → ((t : ℕ) → t ≢ slot → (p : Prefix) → route_at new.adj_in t p ≡ route_at old.adj_in t p) → ((p : Prefix) → route_at new.adj_in slot p ≡ None)
     → ((t : ℕ) → t ≢ slot → (p : Prefix) → offer_at new.book t p ≡ offer_at old.book t p) → ((p : Prefix) → offer_at new.book slot p ≡ None)
     → ((session : Session) → session_at new.links slot ≡ Some session → slot < 64) → AreKept (tables_of new) (offer_at new.book)
-kept_without slot old new kept own reach peers sessions routes unrouted offers unoffered low = record {
+kept_without slot old new kept own reach payloads peers sessions routes unrouted offers unoffered low = record {
   made = λ t p. elim (cases_eq t slot) [
     | inl same ↦ subst (λ x. IsOffer (tables_of new) x p (offer_at new.book x p)) (sym same) (subst (λ f. IsOffer (tables_of new) slot p f) (sym (unoffered p)) (none_routed (tables_of new) p slot (unrouted p)))
     | inr other ↦
         subst (λ f. IsOffer (tables_of new) t p f) (sym (offers t other p))
         (offer_alike (tables_of old) (tables_of new) t p (offer_at old.book t p)
-        (record { own = own; reach = reach; peer = peers t other; identifier = ap (option_map (λ (x : Session). x.identifier)) (sessions t other); route = routes t other p })
+        (record { own = own; reach = reach; peer = peers t other; identifier = ap (option_map (λ (x : Session). x.identifier)) (sessions t other); route = routes t other p; state = λ origin. ap (λ x. validity x p origin) payloads })
         (kept.made t p))
   ];
   routed = λ t p there. elim (cases_eq t slot) [

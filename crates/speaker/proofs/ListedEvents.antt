@@ -26,6 +26,7 @@ agrees_new config own = record {
     config_is = refl;
     moment = refl;
     conf = refl;
+    payloads = refl;
     peers = (own, λ slot peer at. absurd (cc));
     slots = λ slot. record {
       configured = refl;
@@ -62,6 +63,7 @@ agrees_same config r old new same a = record {
     config_is = same.config ∙ a.holds.config_is;
     moment = same.moment ∙ a.holds.moment;
     conf = same.conf ∙ a.holds.conf;
+    payloads = same.payloads ∙ a.holds.payloads;
     peers = rw same.conf a.holds.peers;
     slots = λ t. rw (same.conf, same.links t, same.adj_in) (a.holds.slots t);
     kept = kept_same (tables_of old) (tables_of new) (offer_at old.book) (offer_at new.book) tables (ap (λ b. offer_at b) same.book) a.holds.kept;
@@ -75,6 +77,7 @@ agrees_same config r old new same a = record {
     tables : tables_of old ≡ tables_of new
     tables i = record {
       conf = sym same.conf i;
+      payloads = sym same.payloads i;
       sessions = λ s. option_map (λ (l : Linked). l.peer.session) (sym (same.links s) i);
       routes = λ s p. route_at (sym same.adj_in i) s p;
     }

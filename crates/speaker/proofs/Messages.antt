@@ -28,7 +28,7 @@ pub some_same : {X : Type 0} (o : Option X) (x y : X) → Some x ≡ o → o ≡
 some_same o x y a b = cc
 
 pub rest_kept : (a b c : SpeakerState) → KeepsRest a b → KeepsRest b c → KeepsRest a c
-rest_kept a b c h k = record { config = k.config ∙ h.config; moment = k.moment ∙ h.moment; conf = k.conf ∙ h.conf; chosen_before = k.chosen_before ∙ h.chosen_before }
+rest_kept a b c h k = record { config = k.config ∙ h.config; moment = k.moment ∙ h.moment; conf = k.conf ∙ h.conf; payloads = k.payloads ∙ h.payloads; chosen_before = k.chosen_before ∙ h.chosen_before }
 
 -- how often a best route was chosen for a message, its UPDATE's routes and those of a session that it ends
 heard_chosen : (slot : ℕ) (update : Option UpdateBody) (left : Bool) (old mid new : SpeakerState) → IsHeard slot update old.adj_in mid.adj_in → mid.chosen ≤ old.chosen + named_if update → Chooses slot left mid new

@@ -1,7 +1,6 @@
 use Rattle.std.proofs.Common.{◌≡◌, ◌≢◌, ◌≤◌, ◌<◌, ◌+◌, ◌==◌, ◌^◌, ℕ, Bool, true, false, List, [], ◌∷◌, Option, Some, None, length, cond, MatchOption, refl, sym, ap, ◌∙◌, subst, arith}
 use Rattle.std.specs.List.Sorted.{IsStrictlySortedBy}
 use Rattle.std.specs.Map.{keys_of}
-use Rattle.std.specs.Option.{option_map}
 use Rattle.bgp_attr.specs.AsPath.{PathSegment}
 use Rattle.bgp_attr.specs.PathAttributes.{PathAttributes, missing_of}
 use Rattle.bgp_attr.specs.declared.attrs.Origin.{Origin}
@@ -76,6 +75,7 @@ same_route false u h p = refl
 tables_queued : (config : Config) (call : Call) (r : Run) (queue : Queue) (slot : ℕ) (u : List ℕ) → tables_after config (turn call ((slot, Tells u) ∷ queue) ∷ r) ≡ tables_after config (turn call queue ∷ r)
 tables_queued config call r queue slot u = λ i. record {
   conf = configuration_of config (turn call queue ∷ r);
+  payloads = [];
   sessions = λ s. same_session (s == slot) u (history config s (turn call queue ∷ r)) i;
   routes = λ s prefix. same_route (s == slot) u (history config s (turn call queue ∷ r)) prefix i;
 }
@@ -116,7 +116,7 @@ is_owed : (config : Config) (r : Run) (s : SpeakerState) (slot : ℕ) (p : Prefi
     → export_to s slot p ≡ export → ((a : List ℕ) → export ≡ Some a → length a ≤ 4068) → Accepts s slot p export → held_at l.adj_out p ≢ export
     → ((q : Prefix) → held_at l.adj_out q ≢ export_to s slot q → ComesFirst p export q (export_to s slot q)) → IsOwedIn config r slot (update_saying p export)
 is_owed config r s slot p export peer l holds loc_rib configured here place exported short accepts news order =
-    let tables : tables_after config r ≡ tables_of s = tables_same config r s.conf (link_at s.links) s.adj_in (sym holds.conf) holds.slots in
+    let tables : tables_after config r ≡ tables_of s = tables_same config r s.conf s.payloads (link_at s.links) s.adj_in (sym holds.conf) holds.payloads holds.slots in
     let chosen : IsLocRib (tables_of s) s.loc_rib = subst (λ t. IsLocRib t s.loc_rib) tables loc_rib in
     let E : Option (List ℕ) → Type 0 = λ e. IsExport (tables_after config r) (export_peer_of (configuration_of config r) slot peer) p e in
     let P : Prefix → Type 0 = λ q. IsNews config r slot peer q (told_in (update_saying p export) q) in
@@ -168,7 +168,7 @@ queues_told slot p export now new told up room exported accepts news order confi
         holds =
             holds_put config (turn call queue ∷ r) (turn call ((slot, Tells (update_saying p export)) ∷ queue) ∷ r) slot told.after now new passes.holds refl refl
             (λ kept. subst (λ b. AreKept (tables_of new) (offer_at b)) (sym book) (kept_told slot p export now new (offer_at now.book) told kept))
-            (record { config = ap (λ (s : SpeakerState). s.config) told.rest; moment = ap (λ (s : SpeakerState). s.moment) told.rest; conf = ap (λ (s : SpeakerState). s.conf) told.rest; chosen_before = ap (λ (s : SpeakerState). s.chosen_before) told.rest })
+            (record { config = ap (λ (s : SpeakerState). s.config) told.rest; moment = ap (λ (s : SpeakerState). s.moment) told.rest; conf = ap (λ (s : SpeakerState). s.conf) told.rest; payloads = ap (λ (s : SpeakerState). s.payloads) told.rest; chosen_before = ap (λ (s : SpeakerState). s.chosen_before) told.rest })
             told.puts (λ t other q. ap (λ table. route_at table t q) routes) (λ t other. off_slot config t slot call (Tells (update_saying p export)) queue r other)
             (told_few config call r queue slot (update_saying p export) now new told.rest passes.holds.chosen)
             peer.0 peer.1 (rw (routes, at_slot config slot call (Tells (update_saying p export)) queue r) after);
@@ -188,6 +188,7 @@ queues_still now new still config call r queue passes =
           config_is = passes.holds.config_is;
           moment = passes.holds.moment;
           conf = passes.holds.conf;
+          payloads = passes.holds.payloads;
           peers = passes.holds.peers;
           slots = λ t. subst (λ l. SlotAgrees config (peer_at now.conf t) l (route_at now.adj_in t) (history config t (turn call queue ∷ r))) (sym (still.links t)) (passes.holds.slots t);
           kept = kept_still_links now new (offer_at now.book) still passes.holds.kept;
@@ -211,7 +212,7 @@ QueuesOn-more a b c first later config call r queue passes =
 -- a call that has queued nothing yet
 pub passes_first : (config : Config) (call : Call) (r : Run) (s : SpeakerState) → Holds config (turn call [] ∷ r) s → IsLocRib (tables_of s) s.loc_rib → Passes config call r [] s
 passes_first config call r s holds chosen =
-    let tables = tables_same config (turn call [] ∷ r) s.conf (link_at s.links) s.adj_in (sym holds.conf) holds.slots in
+    let tables = tables_same config (turn call [] ∷ r) s.conf s.payloads (link_at s.links) s.adj_in (sym holds.conf) holds.payloads holds.slots in
     record { holds = holds; loc_rib = subst (λ t. IsLocRib t s.loc_rib) (sym tables) chosen; owed = tt }
 
 -- a slot that is served holds the run's export
@@ -237,7 +238,7 @@ pub agrees_served : (config : Config) (call : Call) (r : Run) (queue : Queue) (s
 agrees_served config call r queue s passes fair thrifty served =
     let holds = passes.holds in
     let conf : configuration_of config (turn call queue ∷ r) ≡ s.conf = sym holds.conf in
-    let tables : tables_after config (turn call queue ∷ r) ≡ tables_of s = tables_same config (turn call queue ∷ r) s.conf (link_at s.links) s.adj_in conf holds.slots in
+    let tables : tables_after config (turn call queue ∷ r) ≡ tables_of s = tables_same config (turn call queue ∷ r) s.conf s.payloads (link_at s.links) s.adj_in conf holds.payloads holds.slots in
     let chosen : IsLocRib (tables_of s) s.loc_rib = subst (λ t. IsLocRib t s.loc_rib) tables passes.loc_rib in
     record {
       holds = holds;
@@ -252,7 +253,7 @@ agrees_served config call r queue s passes fair thrifty served =
 -- as the run stands, the slot's export has what its peer doesn't hold
 is_short : (config : Config) (r : Run) (s : SpeakerState) (slot : ℕ) → Holds config r s → IsLocRib (tables_after config r) s.loc_rib → IsShortAt s slot → IsShortIn config r slot
 is_short config r s slot holds loc_rib short =
-    let tables : tables_after config r ≡ tables_of s = tables_same config r s.conf (link_at s.links) s.adj_in (sym holds.conf) holds.slots in
+    let tables : tables_after config r ≡ tables_of s = tables_same config r s.conf s.payloads (link_at s.links) s.adj_in (sym holds.conf) holds.payloads holds.slots in
     let chosen : IsLocRib (tables_of s) s.loc_rib = subst (λ t. IsLocRib t s.loc_rib) tables loc_rib in
     let here = slot_is config r slot short.peer short.linked s holds short.configured short.is in
     let E : Option (List ℕ) → Type 0 = λ e. IsExport (tables_after config r) (export_peer_of (configuration_of config r) slot short.peer) short.prefix e in
@@ -275,7 +276,7 @@ pub queues_starved : (slot : ℕ) (old new : SpeakerState) → (short : IsShortA
 queues_starved slot old new short moves chooses best rising config call r queue passes =
     let holds : Holds config (turn call ((slot, Starves) ∷ queue) ∷ r) new =
     holds_signalled config (turn call queue ∷ r) (turn call ((slot, Starves) ∷ queue) ∷ r) slot short.linked NoMemory old new passes.holds short.peer short.configured (λ x. refl) short.is refl (λ e. cc) moves refl refl (λ t. refl) chooses (choices_in config (turn call queue ∷ r)) passes.holds.chosen (omega arith) in
-    let tables = tables_same config (turn call ((slot, Starves) ∷ queue) ∷ r) new.conf (link_at new.links) new.adj_in (sym holds.conf) holds.slots in
+    let tables = tables_same config (turn call ((slot, Starves) ∷ queue) ∷ r) new.conf new.payloads (link_at new.links) new.adj_in (sym holds.conf) holds.payloads holds.slots in
     record {
       holds = holds;
       loc_rib = subst (λ t. IsLocRib t new.loc_rib) (sym tables) (kept_loc_rib (tables_of new) (offer_at new.book) new.loc_rib best rising holds.kept);

@@ -14,7 +14,7 @@ use Rattle.speaker.proofs.Calls.{tables_same}
 -- an event
 pub refusal_same : (config : Config) (r : Run) (s : SpeakerState) (event : Event) → Agrees config r s → refusal_of s event ≡ refusal_in config r event
 refusal_same config r s event a =
-    let tables : tables_after config r ≡ tables_of s = tables_same config r s.conf (link_at s.links) s.adj_in (sym a.holds.conf) a.holds.slots in
+    let tables : tables_after config r ≡ tables_of s = tables_same config r s.conf s.payloads (link_at s.links) s.adj_in (sym a.holds.conf) a.holds.payloads a.holds.slots in
     ap (λ moment. refusal_by moment (tables_of s) event) a.holds.moment ∙ ap (λ t. refusal_by (moment_after r) t event) (sym tables)
 
 -- a take

@@ -1,4 +1,5 @@
-use Rattle.std.proofs.Common.{◌≡◌, Result, Ok, Err, OnErr, OnOk, false, true}
+use Rattle.std.proofs.Common.{◌≡◌, Bool, Result, Ok, Err, OnErr, OnOk, IsTrue, false, refl, true}
+use Rattle.std.specs.Bool.{OnTrue}
 use Rattle.std.specs.Result.{is_err}
 
 -- What holds of an answer that is none of a failure.
@@ -14,6 +15,11 @@ OnErr-got (Err e) P p is = p
 pub OnErr-is : {T F : Type 0} (r : Result T F) (P : Type 0) → P → OnErr r P
 OnErr-is (Ok v) P p = tt
 OnErr-is (Err e) P p = p
+
+-- what holds where a test is met
+pub OnTrue-if : (b : Bool) (P : Type 0) → (IsTrue b → P) → OnTrue b P
+OnTrue-if true P p = p refl
+OnTrue-if false P p = tt
 
 -- an answer that can't be a failure
 pub OnOk-sure : {T F : Type 0} (r : Result T F) (P X : Type 0) → OnOk r P → OnErr r X → (X → ⊥) → P

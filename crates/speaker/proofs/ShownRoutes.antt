@@ -46,11 +46,11 @@ routes_shown config r s slot prefix found is a =
 
 -- the sessions of a run are those that are kept
 pub session_shown : (config : Config) (r : Run) (s : SpeakerState) (slot : ℕ) → Agrees config r s → (tables_after config r).sessions slot ≡ session_at s.links slot
-session_shown config r s slot a = ap (λ (t : Tables). t.sessions slot) (tables_same config r s.conf (link_at s.links) s.adj_in (sym a.holds.conf) a.holds.slots)
+session_shown config r s slot a = ap (λ (t : Tables). t.sessions slot) (tables_same config r s.conf s.payloads (link_at s.links) s.adj_in (sym a.holds.conf) a.holds.payloads a.holds.slots)
 
 -- the session of a configured slot
 pub configured_shown : (config : Config) (r : Run) (s : SpeakerState) (slot : ℕ) → Agrees config r s → configured_session (tables_after config r) slot ≡ configured_session (tables_of s) slot
-configured_shown config r s slot a = ap (λ t. configured_session t slot) (tables_same config r s.conf (link_at s.links) s.adj_in (sym a.holds.conf) a.holds.slots)
+configured_shown config r s slot a = ap (λ t. configured_session t slot) (tables_same config r s.conf s.payloads (link_at s.links) s.adj_in (sym a.holds.conf) a.holds.payloads a.holds.slots)
 
 -- a row of Loc-RIB is the best route of its prefix
 row_from_best : (t : Tables) (prefix : Prefix) (c : Candidate) (found : Option Candidate) → MatchOption found (HasNoCandidate t prefix) (λ x. IsBest t prefix x) → IsBest t prefix c → found ≡ Some c

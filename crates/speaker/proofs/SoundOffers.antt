@@ -1,5 +1,5 @@
 use Rattle.std.proofs.Common.{◌≡◌, ◌==◌, ◌⊎◌, ℕ, Bool, true, false, Option, Some, None, cond, refl, sym, ◌∙◌, subst, inl, inr}
-use Rattle.std.specs.Option.{IfSome}
+use Rattle.std.specs.Option.{IfSome, option_map}
 use Rattle.std.proofs.lemmas.Bool.{eqb-true}
 use Rattle.bgp_attr.specs.PathAttributes.{PathAttributes}
 use Rattle.bgp_conf.specs.Configuration.{AddressesDiffer, Configuration, peer_at}
@@ -7,7 +7,8 @@ use Rattle.bgp_conf.specs.declared.conf.ConfiguredPeer.{ConfiguredPeer}
 use Rattle.decision.specs.BookContents.{AreApart}
 use Rattle.decision.specs.declared.candidate.Candidate.{Candidate}
 use Rattle.net_prefix.specs.declared.prefix.Prefix.{Prefix}
-use Rattle.speaker.specs.Candidates.{IsMade}
+use Rattle.origin_valid.specs.declared.validity.Validity.{Validity}
+use Rattle.speaker.specs.Candidates.{IsMade, with_state}
 use Rattle.speaker.specs.Offers.{IsOffer, IsOwn, IsSound, Offers}
 use Rattle.speaker.specs.Tables.{Tables}
 
@@ -28,6 +29,15 @@ made_own conf slot identifier attrs (Some c) made = (made.0, (made.1.peer, subst
 pub made_named : (conf : Configuration) (slot identifier : ℕ) (attrs : PathAttributes) (found : Option Candidate) → IsMade conf slot identifier attrs found → IfSome found (λ c. c.slot ≡ slot)
 made_named conf slot identifier attrs None made = tt
 made_named conf slot identifier attrs (Some c) made = made.0
+
+-- its state is no part of that
+pub judged_own : (conf : Configuration) (slot : ℕ) (found : Option Candidate) (state : Validity) → IsOwn conf slot found → IsOwn conf slot (option_map (with_state state) found)
+judged_own conf slot None state own = tt
+judged_own conf slot (Some c) state own = own
+
+pub judged_named : (slot : ℕ) (found : Option Candidate) (state : Validity) → IfSome found (λ c. c.slot ≡ slot) → IfSome (option_map (with_state state) found) (λ c. c.slot ≡ slot)
+judged_named slot None state named = tt
+judged_named slot (Some c) state named = named
 
 pub offer_own : (t : Tables) (slot : ℕ) (prefix : Prefix) (found : Option Candidate) → IsOffer t slot prefix found → IsOwn t.conf slot found
 offer_own t slot prefix None is = tt
@@ -54,11 +64,11 @@ own_some conf slot s found before after own was (inl here) = subst (λ o. IsOwn 
 own_some conf slot s found before after own was (inr same) = subst (λ o. IsOwn conf s o) (sym same) was
 
 -- some of the slot's candidates become this one
-pub sound_some : (conf : Configuration) (slot : ℕ) (found : Option Candidate) (had has : Offers) → IsSound conf had → IsOwn conf slot found
-    → ((s : ℕ) (p : Prefix) → ((s ≡ slot) × (has s p ≡ found)) ⊎ (has s p ≡ had s p)) → IsSound conf has
+pub sound_some : (conf : Configuration) (slot : ℕ) (found : Prefix → Option Candidate) (had has : Offers) → IsSound conf had → ((p : Prefix) → IsOwn conf slot (found p))
+    → ((s : ℕ) (p : Prefix) → ((s ≡ slot) × (has s p ≡ found p)) ⊎ (has s p ≡ had s p)) → IsSound conf has
 sound_some conf slot found had has sound own some = record {
   addresses = sound.addresses;
-  own = λ s p. own_some conf slot s found (had s p) (has s p) own (sound.own s p) (some s p);
+  own = λ s p. own_some conf slot s (found p) (had s p) (has s p) (own p) (sound.own s p) (some s p);
 }
 
 own_gone : (conf : Configuration) (s : ℕ) (before after : Option Candidate) (b : Bool) → IsOwn conf s before → after ≡ cond b None before → IsOwn conf s after

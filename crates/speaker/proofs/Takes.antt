@@ -55,6 +55,7 @@ handed_session slot t l count f linked =
 tables_handed : (slot : ℕ) (l : Linked) (count : ℕ) (old new : SpeakerState) → link_at old.links slot ≡ Some l → Hands slot l count old new → tables_of old ≡ tables_of new
 tables_handed slot l count old new linked hands = λ i. record {
   conf = sym hands.rest.conf i;
+  payloads = sym hands.rest.payloads i;
   sessions = λ t. sym (ap (λ x. option_map (λ y. y.peer.session) x) (hands.links t) ∙ handed_session slot t l count (link_at old.links) linked) i;
   routes = λ t p. route_at (sym hands.routes i) t p;
 }
@@ -70,7 +71,7 @@ passes_handed : (config : Config) (r : Run) (slot : ℕ) (l : Linked) (count : �
     → Passes config (Take_call slot (take count l.peer.ring)) r [] mid
 passes_handed config r slot l count old mid a linked hands so_far =
     let before : IsLocRib (tables_after config r) mid.loc_rib = rw hands.loc_rib a.loc_rib in
-    let tables = tables_same config r old.conf (link_at old.links) old.adj_in (sym a.holds.conf) a.holds.slots ∙ tables_handed slot l count old mid linked hands in
+    let tables = tables_same config r old.conf old.payloads (link_at old.links) old.adj_in (sym a.holds.conf) a.holds.payloads a.holds.slots ∙ tables_handed slot l count old mid linked hands in
     passes_first config (Take_call slot (take count l.peer.ring)) r mid (holds_handed config r slot l count old mid a.holds linked hands so_far) (subst (λ t. IsLocRib t mid.loc_rib) tables before)
 
 -- the count of the take begins
@@ -84,7 +85,7 @@ hands_begun slot l count old mid hands = record {
   book = hands.book;
   loc_rib = hands.loc_rib;
   chosen = hands.chosen;
-  rest = record { config = hands.rest.config; moment = hands.rest.moment; conf = hands.rest.conf; chosen_before = hands.chosen };
+  rest = record { config = hands.rest.config; moment = hands.rest.moment; conf = hands.rest.conf; payloads = hands.rest.payloads; chosen_before = hands.chosen };
 }
 
 -- a take with what it did at its end

@@ -1,4 +1,4 @@
-use Rattle.std.proofs.Common.{◌≡◌, ◌≢◌, ◌≤◌, ◌<◌, ◌+◌, ◌==◌, ◌&&◌, ◌||◌, ◌^◌, ℕ, zero, suc, Bool, true, false, List, [], ◌∷◌, Option, Some, None, is_some, nat_lt, cond, refl, sym, ap, ◌∙◌, subst, inl, inr, arith}
+use Rattle.std.proofs.Common.{◌≡◌, ◌≤◌, ◌<◌, ◌+◌, ◌==◌, ◌&&◌, ◌||◌, ◌^◌, ℕ, suc, Bool, true, false, List, [], ◌∷◌, Option, Some, None, is_some, nat_lt, cond, refl, sym, ap, ◌∙◌, subst, inl, inr, arith}
 use Rattle.std.proofs.lemmas.Bool.{cases_eq, cases_lt, eq-eqb, ne_eqb, lt-ltb, le-ltb}
 use Rattle.std.proofs.Math.Numerals.{add-one}
 use Rattle.std.specs.Int.Bits.{bit_or, or_zero_l}
@@ -13,19 +13,18 @@ use Rattle.bgp_fsm.specs.declared.input.Input.TheVariants.{Expires}
 use Rattle.bgp_fsm.specs.declared.session.Session.{Session}
 use Rattle.bgp_fsm.specs.declared.timers.Timer.{Timer}
 use Rattle.bgp_fsm.specs.declared.timers.Timer.TheVariants.{Hold, ConnectRetry, IdleHold, Keepalive}
-use Rattle.bgp_fsm.specs.declared.timers.Timers.{Timers}
 use Rattle.bgp_peer.specs.SessionInputs as happens
 use Rattle.bgp_peer.specs.SessionInputs.{Signalled, Ticked, ending, endings, moment_of, session, ticked, timers}
 use Rattle.net_prefix.specs.declared.prefix.Prefix.{Prefix}
 use Rattle.rib_in.specs.LatestRoutes.{route_at}
 use Rattle.speaker.specs.Agreement.{EndsAll, EndsTimers, Holds, HoldsBy, SlotAgrees}
-use Rattle.speaker.specs.Choices.{choices_by, choices_endings, choices_in, choices_to}
+use Rattle.speaker.specs.Choices.{choices_endings, choices_in, choices_to}
 use Rattle.speaker.specs.Chosen.{Chooses}
 use Rattle.speaker.specs.Linked.{Linked}
 use Rattle.speaker.specs.Moves.{Moves}
 use Rattle.speaker.specs.Runs.{Run, turn, Tick_call, configuration_of, history, opened_by, opened_to, opens_by}
 use Rattle.speaker.specs.SpeakerState.{SpeakerState}
-use Rattle.speaker.specs.Tables.{link_at, session_at}
+use Rattle.speaker.specs.Tables.{link_at}
 use Rattle.speaker.specs.declared.config.Config.{Config}
 use Rattle.speaker.proofs.Commands.{signalled_by}
 use Rattle.speaker.proofs.Events.{holds_ticked}
@@ -41,6 +40,7 @@ by_same config conf now h1 h2 m1 m2 s same few h = record {
   config_is = h.config_is;
   moment = h.moment;
   conf = h.conf;
+  payloads = h.payloads;
   peers = h.peers;
   slots = λ t. let P : List happens.Event → Type 0 = λ x. SlotAgrees config (peer_at s.conf t) (link_at s.links t) (route_at s.adj_in t) x in subst P (sym (same t)) (h.slots t);
   kept = h.kept;

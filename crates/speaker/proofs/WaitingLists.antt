@@ -1,4 +1,4 @@
-use Rattle.std.proofs.Common.{◌≡◌, ◌≢◌, ◌↔◌, ◌&&◌, ◌||◌, ℕ, Bool, true, false, not, cond, List, [], ◌∷◌, Option, Some, None, Contains, filter, is_some, refl, sym, ap, ◌∙◌}
+use Rattle.std.proofs.Common.{◌≡◌, ◌≢◌, ◌↔◌, ◌&&◌, ◌||◌, ℕ, Bool, true, false, not, cond, List, [], ◌∷◌, Option, Some, None, Contains, IsTrue, filter, is_some, refl, sym, ap, ◌∙◌}
 use Rattle.std.specs.Bool.{Decides}
 use Rattle.std.specs.Cmp.{eq_by_cmp_equiv}
 use Rattle.std.specs.List.{list_any}
@@ -9,7 +9,9 @@ use Rattle.std.proofs.lemmas.List.Kept.{IsStrictlySortedBy-filter}
 use Rattle.std.proofs.lemmas.Map.Made.{is_some-lookup}
 use Rattle.std.proofs.lemmas.Map.Views.{list_any-from_Contains, Contains-from_any}
 use Rattle.std.proofs.lemmas.Slice.Eq.{bytes_eq-Decides}
-use Rattle.bgp_fsm.specs.declared.state.State.TheVariants.{Established}
+use Rattle.bgp_fsm.specs.StateTests.{is_established}
+use Rattle.bgp_fsm.specs.declared.state.State.{State}
+use Rattle.bgp_fsm.specs.declared.state.State.TheVariants.{Idle, Connect, Active, OpenSent, OpenConfirm, Established}
 use Rattle.decision.specs.declared.candidate.Candidate.{Candidate}
 use Rattle.export_rules.specs.Export.{export_at}
 use Rattle.export_rules.specs.declared.export.ExportPeer.{ExportPeer}
@@ -111,6 +113,23 @@ differing_is loc_rib adj_in peer held q =
       λ listed same. not_true (is_same (held_at held q) (export_in (best_at loc_rib) adj_in peer q)) (sym test ∙ any_from_listed q _ listed) (decides.1 same),
       λ differs. listed_from_any q _ (test ∙ true_from_not (is_same (held_at held q) (export_in (best_at loc_rib) adj_in peer q)) (λ e. differs (decides.0 e))),
     )
+
+not_established : (state : State) → (state ≡ Established → IsTrue false) → is_established state ≡ false
+not_established Idle never = refl
+not_established Connect never = refl
+not_established Active never = refl
+not_established OpenSent never = refl
+not_established OpenConfirm never = refl
+not_established Established never = let impossible = never refl in cc
+
+-- nothing is listed of a slot that is there and whose session isn't Established
+pub none_listed : (loc_rib : List (Prefix × Candidate)) (adj_in : RouteTable) (peer : ExportPeer) (l : Linked) (found : Option ExportPeer) (link : Option Linked)
+    → Some peer ≡ found → Some l ≡ link → (l.peer.session.state ≡ Established → IsTrue false) → [] ≡ waiting_at loc_rib adj_in found link
+none_listed loc_rib adj_in peer l found link there linked never =
+    let all = differing (held_at l.adj_out) (export_in (best_at loc_rib) adj_in peer) (known_prefixes loc_rib l.adj_out) in
+    sym (ap (λ b. cond b all []) (not_established l.peer.session.state never))
+    ∙ ap (λ x. waiting_at loc_rib adj_in x (Some l)) there
+    ∙ ap (λ x. waiting_at loc_rib adj_in found x) linked
 
 -- what is listed of a slot that is there and whose session is Established
 pub listed_of : (loc_rib : List (Prefix × Candidate)) (adj_in : RouteTable) (peer : ExportPeer) (l : Linked) (found : Option ExportPeer) (link : Option Linked) (prefixes : List Prefix)

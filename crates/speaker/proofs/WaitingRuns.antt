@@ -47,7 +47,7 @@ in_established false prefixes q listed = absurd (none_listed q listed)
 run_export : (config : Config) (r : Run) (s : SpeakerState) (slot : ℕ) (peer : ConfiguredPeer) (q : Prefix) → Agrees config r s → peer_at s.conf slot ≡ Some peer
     → IsExport (tables_after config r) (export_peer_of (configuration_of config r) slot peer) q (export_to s slot q)
 run_export config r s slot peer q a configured =
-    let tables : tables_after config r ≡ tables_of s = tables_same config r s.conf (link_at s.links) s.adj_in (sym a.holds.conf) a.holds.slots in
+    let tables : tables_after config r ≡ tables_of s = tables_same config r s.conf s.payloads (link_at s.links) s.adj_in (sym a.holds.conf) a.holds.payloads a.holds.slots in
     let P : Tables → Type 0 = λ t. IsLocRib t s.loc_rib in
     export_of_run config r s slot peer q tables (sym a.holds.conf) (subst P tables a.loc_rib) configured
 

@@ -32,16 +32,17 @@ use Rattle.speaker.specs.Linked.{Linked}
 use Rattle.speaker.specs.LocRib.{IsLocRib}
 use Rattle.speaker.specs.Offers.{AreKept}
 use Rattle.speaker.specs.Queueing.{ComesFirst, Queue, Service, Tells, Starves, starved_in, update_saying}
-use Rattle.speaker.specs.Runs.{Call, Run, turn, Up_call, Fail_call, Bytes_call, Starved_call, Tick_call, Command_call, Take_call, configuration_of, history, moment_after, opened_to, opens_by, terms_in}
+use Rattle.speaker.specs.Runs.{Call, Run, turn, Up_call, Fail_call, Bytes_call, Starved_call, Tick_call, Command_call, Take_call, configuration_of, history, moment_after, opened_to, opens_by, payloads_after, terms_in}
 use Rattle.speaker.specs.SpeakerState.{SpeakerState, tables_of}
 use Rattle.speaker.specs.Tables.{Tables, link_at}
 use Rattle.speaker.specs.declared.config.Config.{Config}
 use Rattle.bgp_peer.specs.PeerLimits.{ring_octets, room_for_update}
 
--- what the selection reads after a run: the configuration, the session of each slot that is there, the latest routes
+-- what the selection reads after a run: the configuration, the payloads in force, the session of each slot that is there, the latest routes
 abbrev pub tables_after : Config → Run → Tables
 tables_after config r = record {
   conf = configuration_of config r;
+  payloads = payloads_after r;
   sessions = λ s. if is_there (history config s r) then Some (session (history config s r)) else None;
   routes = λ s prefix. route (history config s r) prefix;
 }
@@ -153,6 +154,7 @@ pub record HoldsBy (config : Config) (conf_is : Configuration) (now : ℕ) (hist
   pub config_is : s.config ≡ config
   pub moment : s.moment ≡ now
   pub conf : s.conf ≡ conf_is
+  pub payloads : s.payloads ≡ []
   pub peers : AreTaken config.asn s.conf
   pub slots : (slot : ℕ) → SlotAgrees config (peer_at s.conf slot) (link_at s.links slot) (route_at s.adj_in slot) (histories slot)
   -- the candidates that are kept are those of all routes

@@ -41,11 +41,12 @@ moved now l input = record { peer = taken_input now l.peer input; adj_out = adj_
 abbrev pub IsPut : ℕ → Linked → SpeakerState → SpeakerState → Type 0
 IsPut slot l old new = (s : ℕ) → link_at new.links s ≡ (if s == slot then Some l else link_at old.links s)
 
--- the settings, the moment, the configuration and the count of the calls before stay
+-- the settings, the moment, the configuration, the payloads and the count of the calls before stay
 pub record KeepsRest (old new : SpeakerState) : Type 0 where
   pub config : new.config ≡ old.config
   pub moment : new.moment ≡ old.moment
   pub conf : new.conf ≡ old.conf
+  pub payloads : new.payloads ≡ old.payloads
   pub chosen_before : new.chosen_before ≡ old.chosen_before
 
 -- the slot isn't there any more, and no other slot changes
@@ -66,6 +67,7 @@ pub record Forgets (slot : ℕ) (old new : SpeakerState) : Type 0 where
   pub chosen : Ends slot old.adj_in old.chosen new.chosen
   pub config : new.config ≡ old.config
   pub moment : new.moment ≡ old.moment
+  pub payloads : new.payloads ≡ old.payloads
   pub chosen_before : new.chosen_before ≡ old.chosen_before
 
 -- the routes of a slot go where it leaves Established, and no other routes change

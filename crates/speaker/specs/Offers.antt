@@ -9,6 +9,7 @@ use Rattle.bgp_fsm.specs.declared.state.State.{State}
 use Rattle.decision.specs.BookContents.{changed, offer_at}
 use Rattle.decision.specs.declared.book.Change.{Change}
 use Rattle.decision.specs.declared.candidate.Candidate.{Candidate}
+use Rattle.net_prefix.specs.declared.payload.Vrp.{Vrp}
 use Rattle.net_prefix.specs.declared.prefix.Prefix.{Prefix}
 use Rattle.rib_in.specs.LatestRoutes.{RouteTable, route_at}
 use Rattle.speaker.specs.Candidates.{HasNoneAt, IsOnlyCandidateAt}
@@ -39,19 +40,20 @@ pub record IsSound (conf : Configuration) (offers : Offers) : Type 0 where
   pub addresses : AddressesDiffer conf.peers
   pub own : (slot : ℕ) (prefix : Prefix) → IsOwn conf slot (offers slot prefix)
 
--- what the selection reads of these sessions and routes
-abbrev pub read_in : Configuration → (ℕ → Option Session) → RouteTable → Tables
-read_in conf sessions adj_in = record { conf = conf; sessions = sessions; routes = λ slot prefix. route_at adj_in slot prefix }
+-- what the selection reads of these payloads, sessions and routes
+abbrev pub read_in : Configuration → List Vrp → (ℕ → Option Session) → RouteTable → Tables
+read_in conf payloads sessions adj_in = record { conf = conf; payloads = payloads; sessions = sessions; routes = λ slot prefix. route_at adj_in slot prefix }
 
 -- whatever the other slots' sessions are: where the candidates of all routes were kept, they are
-abbrev pub KeepsOffers : Configuration → ℕ → Session → RoutingState → RoutingState → Type 0
-KeepsOffers conf slot session old new =
+abbrev pub KeepsOffers : Configuration → List Vrp → ℕ → Session → RoutingState → RoutingState → Type 0
+KeepsOffers conf payloads slot session old new =
     (sessions : ℕ → Option Session) → sessions slot ≡ Some session
-    → AreKept (read_in conf sessions old.adj_in) (offer_at old.book) → AreKept (read_in conf sessions new.adj_in) (offer_at new.book)
+    → AreKept (read_in conf payloads sessions old.adj_in) (offer_at old.book) → AreKept (read_in conf payloads sessions new.adj_in) (offer_at new.book)
 
 -- so it is where the sender's session is in this state
-abbrev pub KeepsHeard : Configuration → Sender → State → RoutingState → RoutingState → Type 0
-KeepsHeard conf sender state old new = (session : Session) → session.state ≡ state → session.identifier ≡ sender.identifier → KeepsOffers conf sender.slot session old new
+abbrev pub KeepsHeard : Configuration → List Vrp → Sender → State → RoutingState → RoutingState → Type 0
+KeepsHeard conf payloads sender state old new =
+    (session : Session) → session.state ≡ state → session.identifier ≡ sender.identifier → KeepsOffers conf payloads sender.slot session old new
 
 -- the slot has no session, or no route to the prefix
 abbrev pub LacksRoute : Tables → ℕ → Prefix → Type 0

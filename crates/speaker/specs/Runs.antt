@@ -11,6 +11,7 @@ use Rattle.bgp_fsm.specs.SessionTable.{effects_of}
 use Rattle.bgp_fsm.specs.TimerMoments.{has_ended}
 use Rattle.bgp_peer.specs.SessionInputs as slot
 use Rattle.bgp_peer.specs.SessionInputs.{Terms, Configured, Signalled, Queued, Handed, Ticked, ending, onto, session, ticked, timers}
+use Rattle.net_prefix.specs.declared.payload.Vrp.{Vrp}
 use Rattle.speaker.specs.Queueing.{Queue, Service, Tells, Starves, starved_in}
 use Rattle.speaker.specs.declared.config.Config.{Config}
 use Rattle.speaker.specs.declared.event.Event.{Event}
@@ -97,6 +98,10 @@ moment_called (Take_call slot octets) before = before
 abbrev pub moment_after : Run → ℕ
 moment_after [] = 0
 moment_after (now ∷ r) = moment_called now.call (moment_after r)
+
+-- the payloads in force after a run: none, since there is no cache session yet
+abbrev pub payloads_after : Run → List Vrp
+payloads_after r = []
 
 -- the terms of a peer's session
 abbrev pub terms_in : Config → ConfiguredPeer → Terms

@@ -11,7 +11,7 @@ use Rattle.speaker.specs.declared.views.BestRoute.{BestRoute}
 
 -- a row of Loc-RIB
 abbrev pub shown_of : Prefix × Candidate → BestRoute
-shown_of entry = record { prefix = entry.0; slot = entry.1.slot; degree = entry.1.degree }
+shown_of entry = record { prefix = entry.0; slot = entry.1.slot; validity = entry.1.validity; degree = entry.1.degree }
 
 -- the transport of a session; a slot that isn't there has none
 abbrev pub transport_at : Option Session → Transport

@@ -3,18 +3,20 @@ use Rattle.std.specs.Prelude.{◌≡◌, ◌==◌, ◌||◌, ℕ, List, Bool, []
 use Rattle.bgp_conf.specs.Configuration.{Configuration}
 use Rattle.decision.specs.BookContents.{BookState}
 use Rattle.decision.specs.declared.candidate.Candidate.{Candidate}
+use Rattle.net_prefix.specs.declared.payload.Vrp.{Vrp}
 use Rattle.net_prefix.specs.declared.prefix.Prefix.{Prefix}
 use Rattle.rib_in.specs.LatestRoutes.{RouteTable}
 use Rattle.speaker.specs.declared.config.Config.{Config}
 use Rattle.speaker.specs.Linked.{Linked}
 use Rattle.speaker.specs.Tables.{Tables, tables, link_at}
 
--- what others see of a speaker: its settings, the moment, the configured tables, its slots, Adj-RIB-In, the candidates
--- that are kept, Loc-RIB, how often a best route was chosen so far, and how often before the last call that wasn't refused
+-- what others see of a speaker: its settings, the moment, the configured tables, the payloads in force, its slots, Adj-RIB-In,
+-- the candidates that are kept, Loc-RIB, how often a best route was chosen so far, and how often before the last call that wasn't refused
 pub record SpeakerState : Type 0 where
   pub config : Config
   pub moment : ℕ
   pub conf : Configuration
+  pub payloads : List Vrp
   pub links : List (ℕ × Linked)
   pub adj_in : RouteTable
   pub book : BookState
@@ -24,7 +26,7 @@ pub record SpeakerState : Type 0 where
 
 -- what the selection reads
 abbrev pub tables_of : SpeakerState → Tables
-tables_of s = tables s.conf s.links s.adj_in
+tables_of s = tables s.conf s.payloads s.links s.adj_in
 
 -- a speaker without peers, before any tick
 abbrev pub started : Config → SpeakerState
@@ -32,6 +34,7 @@ started config = record {
   config = config;
   moment = 0;
   conf = record { own = config.asn; peers = []; reach = [] };
+  payloads = [];
   links = [];
   adj_in = [];
   book = [];
@@ -49,6 +52,7 @@ pub record IsAsBefore (old new : SpeakerState) : Type 0 where
   pub config : new.config ≡ old.config
   pub moment : new.moment ≡ old.moment
   pub conf : new.conf ≡ old.conf
+  pub payloads : new.payloads ≡ old.payloads
   pub links : (slot : ℕ) → link_at new.links slot ≡ link_at old.links slot
   pub adj_in : new.adj_in ≡ old.adj_in
   pub book : new.book ≡ old.book

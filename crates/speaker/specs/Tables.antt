@@ -1,4 +1,4 @@
--- What the selection reads: the configuration, the sessions and Adj-RIB-In (RFC 4271 section 3.2).
+-- What the selection reads: the configuration, the payloads in force, the sessions and Adj-RIB-In (RFC 4271 section 3.2).
 use Rattle.std.specs.Prelude.{ℕ, List, Option, None, is_some, if◌then◌else◌}
 use Rattle.std.specs.Option.{option_map}
 use Rattle.std.specs.Map.{lookup}
@@ -8,14 +8,17 @@ use Rattle.bgp_attr.specs.PathAttributes.{PathAttributes}
 use Rattle.bgp_conf.specs.Configuration.{Configuration, peer_at}
 use Rattle.bgp_fsm.specs.declared.session.Session.{Session}
 use Rattle.decision.specs.declared.candidate.Candidate.{Candidate}
+use Rattle.net_prefix.specs.declared.payload.Vrp.{Vrp}
 use Rattle.net_prefix.specs.declared.prefix.Prefix.{Prefix}
 use Rattle.rib_in.specs.LatestRoutes.{RouteTable, route_at}
 use Rattle.net_prefix.specs.PrefixOrder.{prefix_cmp}
 use Rattle.speaker.specs.Linked.{Linked}
 
--- the configuration, the session of each slot that is there, and the latest route of each slot and prefix
+-- the configuration, the payloads in force, the session of each slot that is there, and the latest route of each slot and
+-- prefix
 pub record Tables : Type 0 where
   pub conf : Configuration
+  pub payloads : List Vrp
   pub sessions : ℕ → Option Session
   pub routes : ℕ → Prefix → Option PathAttributes
 
@@ -36,5 +39,10 @@ abbrev pub best_at : List (Prefix × Candidate) → Prefix → Option Candidate
 best_at routes prefix = lookup (is_at (prefix_cmp prefix)) routes
 
 -- what the selection reads of these slots
-abbrev pub tables : Configuration → List (ℕ × Linked) → RouteTable → Tables
-tables conf links adj_in = record { conf = conf; sessions = λ slot. session_at links slot; routes = λ slot prefix. route_at adj_in slot prefix }
+abbrev pub tables : Configuration → List Vrp → List (ℕ × Linked) → RouteTable → Tables
+tables conf payloads links adj_in = record {
+  conf = conf;
+  payloads = payloads;
+  sessions = λ slot. session_at links slot;
+  routes = λ slot prefix. route_at adj_in slot prefix;
+}

@@ -29,6 +29,7 @@ pub use config::Config;
 pub use event::{Event, Report};
 pub use laws::{moments_are_of_the_run, one_export, refusals_are_of_the_run};
 pub use net_prefix::Transport;
+pub use origin_valid::Validity;
 pub use rib_in::SlotRoutes;
 pub use runs::{Trace, run};
 pub use step::Speaker;

@@ -1,11 +1,12 @@
 //! One slot: its session, and what its peer was sent.
-ghost use Rattle.std.specs.Prelude.{◌≡◌, ◌≤◌, [], ◌++◌, IfOk, length, min, take, drop};
+ghost use Rattle.std.specs.Prelude.{◌≡◌, ◌↔◌, ◌≤◌, [], ◌++◌, IfOk, IsTrue, length, min, take, drop};
 ghost use Rattle.bgp_fsm.specs.SessionTable.{effects_of};
+ghost use Rattle.bgp_fsm.specs.declared.state.State.TheVariants.{Established};
 ghost use Rattle.bgp_peer.specs.Slot.{configured, pushed, handed};
 ghost use Rattle.speaker.specs.Moves.{adj_out_after, moved, taken_of};
 
 use bgp_attr::Mode;
-use bgp_fsm::{Effects, Input};
+use bgp_fsm::{Effects, Input, State};
 use bgp_msg::Open;
 use bgp_peer::Peer;
 use net_prefix::Transport;
@@ -36,6 +37,13 @@ impl<A: Allocator + Clone> Link<A> {
         let adj_out = AdjOut::new(alloc.clone()?)?;
         let peer = Peer::new(alloc, own, mode)?;
         Ok(Link { peer, adj_out })
+    }
+
+    /// Whether the session is Established.
+    pub fn is_established(&self) -> bool
+        ensures { IsTrue result ↔ (self.now.peer.session.state ≡ Established) }
+    {
+        self.peer.state() == State::Established
     }
 
     /// The session takes an input, as `Peer::input`.

@@ -62,7 +62,7 @@ impl<A: Allocator + Clone, B: Book<A>> Speaker<A, B> {
             Command::Reach(_, _) => {
                 self.conf.apply(command)?;
                 self.chosen_before = self.routing.chosen();
-                choose_again(&self.conf, &self.links, &mut self.routing);
+                choose_again(&self.conf, &self.payloads, &self.links, &mut self.routing);
                 Ok(0)
             }
         }

@@ -21,7 +21,7 @@ use crate::routing::slots_end;
 use crate::step::Speaker;
 use arrayvec::ArrayVec;
 use bgp_conf::Conf;
-use bgp_fsm::{Input, State};
+use bgp_fsm::Input;
 use bgp_msg::{MAX_MESSAGE, write_announcement, write_withdrawal};
 use bgp_peer::ROOM_FOR_UPDATE;
 use decision::Book;
@@ -201,7 +201,7 @@ impl<A: Allocator + Clone, B: Book<A>> Speaker<A, B> {
         ensures down { result ≡ false → (l : Linked) → link_at self.now.links slot ≡ Some l → l.peer.session.state ≢ Established }
     {
         match self.links.get(&slot) {
-            Some(link) => link.peer.state() == State::Established,
+            Some(link) => link.is_established(),
             None => false,
         }
     }

@@ -14,13 +14,14 @@ ghost use Rattle.decision.specs.BookContents.{AreApart, offer_at};
 ghost use Rattle.net_prefix.specs.declared.prefix.Prefix.{Prefix as ThePrefix};
 ghost use Rattle.rib_in.specs.LatestRoutes.{route_at};
 ghost use Rattle.speaker.specs.AdjRibIn.{NeedsMemory, is_among, is_only_withdrawn, word_of, sound_update, update_heard};
+ghost use Rattle.speaker.specs.Candidates.{judged_at};
 ghost use Rattle.speaker.specs.Choices.{named_if, named_in};
 ghost use Rattle.speaker.specs.Chosen.{IsPart, OncePerPrefix};
 ghost use Rattle.speaker.specs.Marks.{AreMarked};
 ghost use Rattle.speaker.specs.Moves.{AreOf, IsHeard, KeepsOthers, TakesMemoryAt};
 ghost use Rattle.speaker.specs.Offers.{IsSound, KeepsHeard};
 
-use crate::choosing::candidate;
+use crate::choosing::{candidate, judge_origin};
 use crate::link::Link;
 use crate::queueing::Octets;
 use crate::routing::{Links, Routing};
@@ -33,6 +34,7 @@ use bgp_msg::{
 };
 use decision::{Book, Candidate};
 use net_prefix::Prefix;
+use origin_valid::PayloadTrie;
 use std::alloc::{AllocError, Allocator};
 use std::rc::Rc;
 
@@ -51,6 +53,7 @@ pub struct Sender {
 pub fn take_front<'r, A: Allocator + Clone, B: Book<A>>(
     alloc: &A,
     conf: &Conf<A>,
+    payloads: &PayloadTrie<A>,
     links: &Links<A>,
     routing: &mut Routing<A, B>,
     sender: Sender,
@@ -65,7 +68,7 @@ pub fn take_front<'r, A: Allocator + Clone, B: Book<A>>(
         → found ≡ option_map (input_of link.now.peer.session.state terms) (meaning link.now.peer.rest)) }
     ensures routes { OnOk result ((terms : Terms) → AreOf terms sender
         → IsHeard sender.slot (option_and_then (update_heard link.now.peer.session.state terms) (meaning link.now.peer.rest)) routing.old.adj_in routing.new.adj_in) }
-    ensures kept { OnOk result (KeepsHeard conf.now sender link.now.peer.session.state routing.old routing.new) }
+    ensures kept { OnOk result (KeepsHeard conf.now payloads.now sender link.now.peer.session.state routing.old routing.new) }
     ensures others { OnErr result (KeepsOthers sender.slot routing.old routing.new) }
     ensures memory { OnErr result (TakesMemoryAt sender.kind link.now) }
     ensures chosen { OnOk result ((terms : Terms) → AreOf terms sender
@@ -78,7 +81,9 @@ pub fn take_front<'r, A: Allocator + Clone, B: Book<A>>(
         Step::Faulty(fault) => Ok(Some(tell(&Fault::Header(fault), room))),
         Step::Message(frame, _) => {
             let state = link.peer.state();
-            let input = judge(alloc, conf, links, routing, sender, state, frame, room)?;
+            let input = judge(
+                alloc, conf, payloads, links, routing, sender, state, frame, room,
+            )?;
             Ok(Some(input))
         }
     }
@@ -88,6 +93,7 @@ pub fn take_front<'r, A: Allocator + Clone, B: Book<A>>(
 fn judge<'r, A: Allocator + Clone, B: Book<A>>(
     alloc: &A,
     conf: &Conf<A>,
+    payloads: &PayloadTrie<A>,
     links: &Links<A>,
     routing: &mut Routing<A, B>,
     sender: Sender,
@@ -103,7 +109,7 @@ fn judge<'r, A: Allocator + Clone, B: Book<A>>(
         → found ≡ input_of state terms (WholeMessage frame.entry.kind frame.entry.body.now)) }
     ensures routes { OnOk result ((terms : Terms) → AreOf terms sender
         → IsHeard sender.slot (update_heard state terms (WholeMessage frame.entry.kind frame.entry.body.now)) routing.old.adj_in routing.new.adj_in) }
-    ensures kept { OnOk result (KeepsHeard conf.now sender state routing.old routing.new) }
+    ensures kept { OnOk result (KeepsHeard conf.now payloads.now sender state routing.old routing.new) }
     ensures others { OnErr result (KeepsOthers sender.slot routing.old routing.new) }
     ensures memory { OnErr result ((state ≡ Established) × (frame.entry.kind ≡ UpdateMessage) × NeedsMemory sender.kind frame.entry.body.now) }
     ensures chosen { OnOk result ((terms : Terms) → AreOf terms sender
@@ -115,7 +121,9 @@ fn judge<'r, A: Allocator + Clone, B: Book<A>>(
         (MessageType::Open, State::OpenSent) => Ok(judge_open(frame.body, sender.expected, room)),
         (MessageType::Open, _) => Ok(Input::UnexpectedOpen),
         (MessageType::Update, State::Established) => {
-            judge_update(alloc, conf, links, routing, sender, frame.body, room)
+            judge_update(
+                alloc, conf, payloads, links, routing, sender, frame.body, room,
+            )
         }
         (MessageType::Update, _) => Ok(Input::Update),
         (MessageType::Keepalive, _) => Ok(Input::Keepalive),
@@ -143,6 +151,7 @@ fn tell<'r>(fault: &Fault<'_>, room: &'r mut Octets) -> Input<'r>
 fn judge_update<'r, A: Allocator + Clone, B: Book<A>>(
     alloc: &A,
     conf: &Conf<A>,
+    payloads: &PayloadTrie<A>,
     links: &Links<A>,
     routing: &mut Routing<A, B>,
     sender: Sender,
@@ -155,7 +164,7 @@ fn judge_update<'r, A: Allocator + Clone, B: Book<A>>(
     ensures marked { AreMarked conf.now links.now.entries routing.new }
     ensures input { IfOk result (λ found. found ≡ update_input (update_fault sender.kind body.now)) }
     ensures routes { OnOk result (IsHeard sender.slot (sound_update sender.kind body.now (update_fault sender.kind body.now)) routing.old.adj_in routing.new.adj_in) }
-    ensures kept { OnOk result (KeepsHeard conf.now sender Established routing.old routing.new) }
+    ensures kept { OnOk result (KeepsHeard conf.now payloads.now sender Established routing.old routing.new) }
     ensures others { OnErr result (KeepsOthers sender.slot routing.old routing.new) }
     ensures memory { OnErr result (NeedsMemory sender.kind body.now) }
     ensures chosen { OnOk result (routing.new.chosen ≤ routing.old.chosen + named_if (sound_update sender.kind body.now (update_fault sender.kind body.now))) }
@@ -164,7 +173,7 @@ fn judge_update<'r, A: Allocator + Clone, B: Book<A>>(
 {
     match read_update(alloc, body, sender.kind) {
         Ok(update) => {
-            take_update(alloc, conf, links, routing, sender, update)?;
+            take_update(alloc, conf, payloads, links, routing, sender, update)?;
             Ok(Input::Update)
         }
         Err(UpdateFault::NoMemory) => Err(AllocError),
@@ -177,6 +186,7 @@ fn judge_update<'r, A: Allocator + Clone, B: Book<A>>(
 fn take_update<A: Allocator + Clone, B: Book<A>>(
     alloc: &A,
     conf: &Conf<A>,
+    payloads: &PayloadTrie<A>,
     links: &Links<A>,
     routing: &mut Routing<A, B>,
     sender: Sender,
@@ -187,7 +197,7 @@ fn take_update<A: Allocator + Clone, B: Book<A>>(
     ensures sound { IsSound conf.now (offer_at routing.new.book) }
     ensures marked { AreMarked conf.now links.now.entries routing.new }
     ensures routes { OnOk result ((s : ℕ) (prefix : ThePrefix) → route_at routing.new.adj_in s prefix ≡ (if s == sender.slot then word_of update.entry prefix (route_at routing.old.adj_in s prefix) else route_at routing.old.adj_in s prefix)) }
-    ensures kept { OnOk result (KeepsHeard conf.now sender Established routing.old routing.new) }
+    ensures kept { OnOk result (KeepsHeard conf.now payloads.now sender Established routing.old routing.new) }
     ensures others { OnErr result (KeepsOthers sender.slot routing.old routing.new) }
     ensures memory { OnErr result (update.entry.announced ≢ []) }
     ensures chosen { routing.new.chosen ≤ routing.old.chosen + named_in update.entry }
@@ -211,6 +221,7 @@ fn take_update<A: Allocator + Clone, B: Book<A>>(
     let candidate = candidate(conf, sender.slot, sender.identifier, &attrs);
     announce_each(
         conf,
+        payloads,
         links,
         routing,
         sender.slot,
@@ -255,9 +266,11 @@ fn is_named(prefixes: Prefixes<'_>, prefix: Prefix) -> bool
     false
 }
 
-// Where memory is refused, some of the prefixes have been announced.
+// Announces each prefix, with the candidate that these attributes make, judged. Where memory is refused, some of the prefixes
+// have been announced.
 fn announce_each<A: Allocator + Clone, B: Book<A>>(
     conf: &Conf<A>,
+    payloads: &PayloadTrie<A>,
     links: &Links<A>,
     routing: &mut Routing<A, B>,
     slot: u8,
@@ -266,19 +279,20 @@ fn announce_each<A: Allocator + Clone, B: Book<A>>(
     candidate: Option<Candidate>,
 ) -> Result<(), AllocError>
     requires named { IfSome candidate (λ c. c.slot ≡ slot) }
-    requires apart { (prefix : ThePrefix) → AreApart (λ s. if slot == s then candidate else offer_at routing.old.book s prefix) }
+    requires apart { (prefix : ThePrefix) → AreApart (λ s. if slot == s then judged_at conf.now.own payloads.now attrs.now.value candidate prefix else offer_at routing.old.book s prefix) }
     requires marked { AreMarked conf.now links.now.entries routing.old }
     ensures marked { AreMarked conf.now links.now.entries routing.new }
     ensures routes { OnOk result ((s : ℕ) (prefix : ThePrefix) → route_at routing.new.adj_in s prefix ≡ (if s == slot && is_among prefix (front_prefixes prefixes.entry.octets.now).0 then Some attrs.now.value else route_at routing.old.adj_in s prefix)) }
-    ensures offers { OnOk result ((s : ℕ) (prefix : ThePrefix) → offer_at routing.new.book s prefix ≡ (if s == slot && is_among prefix (front_prefixes prefixes.entry.octets.now).0 then candidate else offer_at routing.old.book s prefix)) }
+    ensures offers { OnOk result ((s : ℕ) (prefix : ThePrefix) → offer_at routing.new.book s prefix ≡ (if s == slot && is_among prefix (front_prefixes prefixes.entry.octets.now).0 then judged_at conf.now.own payloads.now attrs.now.value candidate prefix else offer_at routing.old.book s prefix)) }
     ensures others { OnErr result (KeepsOthers slot routing.old routing.new) }
     ensures chosen { OncePerPrefix (λ p. is_among p (front_prefixes prefixes.entry.octets.now).0 ≡ true) routing.old.chosen routing.new.chosen }
     ensures rises { routing.old.chosen ≤ routing.new.chosen }
     ensures announced { OnErr result ((p : ThePrefix) → IsSome (route_at routing.new.adj_in slot p) → IsSome (route_at routing.old.adj_in slot p) ⊎ (is_among p (front_prefixes prefixes.entry.octets.now).0 ≡ true)) }
-    ensures some { (s : ℕ) (prefix : ThePrefix) → ((s ≡ slot) × (offer_at routing.new.book s prefix ≡ candidate)) ⊎ (offer_at routing.new.book s prefix ≡ offer_at routing.old.book s prefix) }
+    ensures some { (s : ℕ) (prefix : ThePrefix) → ((s ≡ slot) × (offer_at routing.new.book s prefix ≡ judged_at conf.now.own payloads.now attrs.now.value candidate prefix)) ⊎ (offer_at routing.new.book s prefix ≡ offer_at routing.old.book s prefix) }
 {
     for prefix in prefixes {
-        routing.announce(conf, links, slot, prefix, attrs.clone()?, candidate)?;
+        let judged = judge_origin(conf.own(), payloads, prefix, attrs, candidate);
+        routing.announce(conf, links, slot, prefix, attrs.clone()?, judged)?;
     }
     Ok(())
 }

@@ -169,6 +169,7 @@ impl<A: Allocator + Clone, B: Book<A>> Speaker<A, B> {
         let heard = match take_front(
             &self.alloc,
             &self.conf,
+            &self.payloads,
             &self.links,
             &mut self.routing,
             sender,

@@ -19,6 +19,7 @@ use bgp_conf::{Command, Conf, PEER_SLOTS, Refusal};
 use bgp_fsm::Input;
 use decision::{Book, PlainBook};
 use net_prefix::{Asn, Transport};
+use origin_valid::PayloadTrie;
 use std::alloc::{AllocError, Allocator, Global};
 use std::collections::BTreeMap;
 use std::marker::Model;
@@ -29,6 +30,8 @@ pub struct Speaker<A: Allocator + Clone = Global, B: Book<A> = PlainBook<A>> {
     pub(crate) alloc: A,
     pub(crate) config: Config,
     pub(crate) conf: Conf<A>,
+    // The payloads in force.
+    pub(crate) payloads: PayloadTrie<A>,
     pub(crate) links: BTreeMap<u8, Link<A>, A>,
     pub(crate) routing: Routing<A, B>,
     // The moment of the last tick.
@@ -49,6 +52,7 @@ impl<A: Allocator + Clone, B: Book<A>> Model for Speaker<A, B> {
       config = s.config;
       moment = s.moment;
       conf = s.conf;
+      payloads = s.payloads;
       links = s.links.entries;
       adj_in = s.routing.adj_in;
       book = s.routing.book;
@@ -86,12 +90,14 @@ impl<A: Allocator + Clone, B: Book<A>> Speaker<A, B> {
         ensures { IfOk result (λ s. s ≡ started config) }
     {
         let conf = Conf::new(alloc.clone()?, config.asn)?;
+        let payloads = PayloadTrie::new(alloc.clone()?);
         let links = BTreeMap::new(alloc.clone()?);
         let routing = Routing::new(alloc.clone()?)?;
         Ok(Speaker {
             alloc,
             config,
             conf,
+            payloads,
             links,
             routing,
             moment: 0,

@@ -30,15 +30,18 @@ use bgp_fsm::State;
 use decision::{Book, PlainBook};
 use loc_rib::Rows;
 use net_prefix::{Prefix, Transport, Vrp};
+use origin_valid::Validity;
 use rib_in::SlotRoutes;
 use std::alloc::{Allocator, Global};
 use std::marker::Model;
 
-/// A row of Loc-RIB: a prefix, the slot of its best route, and that route's degree of preference.
+/// A row of Loc-RIB: a prefix, the slot of its best route, that route's state (RFC 6811 section 2) and its degree of
+/// preference.
 #[derive(Clone, Copy, Debug, PartialEq, Eq)]
 pub struct BestRoute {
     pub prefix: Prefix,
     pub slot: u8,
+    pub validity: Validity,
     pub degree: u64,
 }
 
@@ -70,6 +73,7 @@ impl<A: Allocator + Clone, B: Book<A>> Iterator for LocRib<'_, A, B> {
         Some(BestRoute {
             prefix,
             slot: route.slot,
+            validity: route.validity,
             degree: route.degree,
         })
     }
@@ -265,7 +269,7 @@ impl<A: Allocator + Clone, B: Book<A>> Speaker<A, B> {
     {
         let peer = export_peer(&self.conf, slot)?;
         let link = self.links.get(&slot)?;
-        if link.peer.state() != State::Established {
+        if !link.is_established() {
             return None;
         }
         Some(Waiting::new(&self.routing.ribs, link, peer))

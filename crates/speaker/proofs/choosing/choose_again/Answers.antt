@@ -17,7 +17,7 @@ loop-prefix-preserved g c =
     let walked : c.routes.result.now ≡ c.args.routing.now.adj_in = c.routes.ensures.all ∙ ap (λ (t : RoutingState). t.adj_in) c.routing.view_is ∙ h.1 in
     let read : c.routes-in-Some.result.now ≡ c.args.routing.now.adj_in = c.routes-in-Some.ensures.all ∙ ap (λ (t : RoutingState). t.adj_in) c.routing.view_is ∙ h.1 in
     let least = rw walked at c.in-Some.ensures.least in
-    let remade : AreRemade (tables c.args.conf.now c.args.links.now.entries c.args.routing.now.adj_in) c.in-Some.prefix c.remade-changes.result.items = rw (← read) c.remade-changes.ensures in
+    let remade : AreRemade (tables c.args.conf.now c.args.payloads.now c.args.links.now.entries c.args.routing.now.adj_in) c.in-Some.prefix c.remade-changes.result.items = rw (← read) c.remade-changes.ensures in
     let offers = rw c.as_slice.ensures.value at c.change.ensures.offers in
     let has : HasRoute c.args.routing.now.adj_in c.in-Some.prefix = subst (λ t. HasRoute t c.in-Some.prefix) walked c.in-Some.ensures.has in (
       RemadeUpTo-more _ _ _ _ _ _ _ h.0 c.in-Some.ensures.above least below remade offers,

@@ -1,6 +1,8 @@
-use Rattle.std.proofs.Common.{◌≡◌, true, ap, arith, refl}
+use Rattle.std.proofs.Common.{◌≡◌, ◌==◌, ◌∙◌, true, ap, arith, cond, refl, subst, sym}
 use Rattle.bgp_msg.specs.MessageSpelling.{front_prefixes}
+use Rattle.decision.specs.BookContents.{AreApart, offer_at}
 use Rattle.speaker.specs.AdjRibIn.{is_among}
+use Rattle.speaker.specs.Candidates.{judged_at}
 use Rattle.speaker.proofs.Counting.{announced_some, named_each, named_more, named_none}
 use Rattle.speaker.proofs.HeardOffers.{apart_still, some_more, some_none, some_still}
 use Rattle.speaker.proofs.Results.{OnErr-is}
@@ -13,18 +15,23 @@ loop-prefix-init g c =
     (Sets-start _ _ _ _ _ _ all, Sets-start _ _ _ _ _ _ all, some_none _ _ _, c.requires.marked, named_none _ _, omega arith)
 
 pub announce-requires-clause-apart : goal.announce-requires-clause-apart
-announce-requires-clause-apart g c = apart_still _ _ _ _ c.loop-prefix.invariant.2 c.in-Some.prefix (c.requires.apart c.in-Some.prefix)
+announce-requires-clause-apart g c =
+    let judged : c.judge_origin-judged.result ≡ judged_at c.args.conf.now.own c.args.payloads.now c.args.attrs.now.value c.args.candidate c.in-Some.prefix = rw (c.own.ensures, c.deref.ensures) at c.judge_origin-judged.ensures in
+    subst (λ found. AreApart (λ s. cond (c.args.slot == s) found (offer_at c.loop-prefix.routing.book s c.in-Some.prefix))) (sym judged)
+    (apart_still _ _ _ _ c.loop-prefix.invariant.2 c.in-Some.prefix (c.requires.apart c.in-Some.prefix))
 
 pub loop-prefix-preserved : goal.loop-prefix-preserved
 loop-prefix-preserved g c =
     let h = c.loop-prefix.invariant in
-    let again : is_among c.in-Some.prefix c.loop-prefix.yielded ≡ true → c.announce.new.self.chosen ≡ c.loop-prefix.routing.chosen = λ there. c.in_ok-announce.ensures.same (set_here _ _ _ _ _ _ _ _ c.in-Some.prefix h.1 there refl) in
+    let judged : c.judge_origin-judged.result ≡ judged_at c.args.conf.now.own c.args.payloads.now c.args.attrs.now.value c.args.candidate c.in-Some.prefix = rw (c.own.ensures, c.deref.ensures) at c.judge_origin-judged.ensures in
+    let offers = rw judged at c.in_ok-announce.ensures.offers in
+    let again : is_among c.in-Some.prefix c.loop-prefix.yielded ≡ true → c.announce.new.self.chosen ≡ c.loop-prefix.routing.chosen = λ there. c.in_ok-announce.ensures.same (set_here _ _ _ _ _ _ _ _ c.in-Some.prefix h.1 there refl ∙ sym judged) in
     let before = h.5 in
     let later = c.in_ok-announce.ensures.rises in
     let routes = rw c.in_ok-clone.ensures.cases at c.in_ok-announce.ensures.routes in (
       Sets-more _ _ _ _ _ _ _ _ _ _ _ h.0 c.in-Some.ensures.steps refl routes,
-      Sets-more _ _ _ _ _ _ _ _ _ _ _ h.1 c.in-Some.ensures.steps refl c.in_ok-announce.ensures.offers,
-      some_more _ c.in-Some.prefix _ _ _ _ h.2 c.in_ok-announce.ensures.offers,
+      Sets-more _ _ _ _ _ _ _ _ _ _ _ h.1 c.in-Some.ensures.steps refl offers,
+      some_more _ c.in-Some.prefix _ _ _ _ h.2 offers,
       c.in_ok-announce.ensures.marked,
       named_more _ _ _ _ _ _ h.4 refl c.in_ok-announce.ensures.chosen again,
       omega (arith, before, later),

@@ -5,20 +5,22 @@ use Rattle.speaker.proofs.receiving.take_update.Goals as goal
 
 pub announce_each-requires-clause-apart : goal.announce_each-requires-clause-apart
 announce_each-requires-clause-apart g c =
-    apart_heard c.args.conf.now c.args.sender.slot c.args.sender.identifier _ c.candidate-candidate.result _ _ _ c.requires.sound c.withdraw_each.ensures.offers c.candidate-candidate.ensures
+    let made = rw c.deref.ensures at c.candidate-candidate.ensures in
+    apart_heard c.args.conf.now c.args.payloads.now c.args.sender.slot c.args.sender.identifier _ c.candidate-candidate.result _ _ _ c.requires.sound c.withdraw_each.ensures.offers made
 
 pub returns-clause-sound : goal.returns-clause-sound
 returns-clause-sound g c =
-    sound_heard c.args.conf.now c.args.sender.slot c.args.sender.identifier _ c.candidate-candidate.result _ _ _ _ c.requires.sound c.withdraw_each.ensures.offers c.candidate-candidate.ensures c.announce_each.ensures.some
+    let made = rw c.deref.ensures at c.candidate-candidate.ensures in
+    sound_heard c.args.conf.now c.args.payloads.now c.args.sender.slot c.args.sender.identifier _ c.candidate-candidate.result _ _ _ _ c.requires.sound c.withdraw_each.ensures.offers made c.announce_each.ensures.some
 
 pub returns-clause-kept : goal.returns-clause-kept
 returns-clause-kept g c =
     let made = rw c.deref.ensures at c.candidate-candidate.ensures in
-    on_kept c.announce_each.result c.args.conf.now c.args.sender _ c.candidate-candidate.result _ _ c.args.routing.now c.withdraw_each.new.routing c.announce_each.new.routing made
+    on_kept c.announce_each.result c.args.conf.now c.args.payloads.now c.args.sender _ c.candidate-candidate.result _ _ c.args.routing.now c.withdraw_each.new.routing c.announce_each.new.routing made
     c.withdraw_each.ensures.routes c.withdraw_each.ensures.offers c.announce_each.ensures.routes c.announce_each.ensures.offers
 
 pub returns-then-is_none-clause-kept : goal.returns-then-is_none-clause-kept
-returns-then-is_none-clause-kept g c = kept_withdrawn c.args.conf.now c.args.sender _ c.args.routing.now c.withdraw_each.new.routing c.withdraw_each.ensures.routes c.withdraw_each.ensures.offers
+returns-then-is_none-clause-kept g c = kept_withdrawn c.args.conf.now c.args.payloads.now c.args.sender _ c.args.routing.now c.withdraw_each.new.routing c.withdraw_each.ensures.routes c.withdraw_each.ensures.offers
 
 pub returns-in_err-clone-clause-others : goal.returns-in_err-clone-clause-others
 returns-in_err-clone-clause-others g c = OnErr-is _ _ (others_withdrawn c.args.sender.slot _ c.args.routing.now c.withdraw_each.new.routing c.withdraw_each.ensures.routes c.withdraw_each.ensures.offers)

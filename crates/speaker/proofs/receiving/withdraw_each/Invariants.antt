@@ -9,8 +9,8 @@ use Rattle.speaker.proofs.receiving.withdraw_each.Given as goal
 
 abbrev pub invariant-loop-prefix : goal.invariant-loop-prefix
 invariant-loop-prefix g l =
-    Sets l.slot (only_in l.fn.announced.octets.now) (front_prefixes l.fn.prefixes.octets.now).0 l.yielded (front_prefixes l.prefix-iterator.octets.now).0 None (route_at l.initial.routing.adj_in) (route_at l.routing.adj_in)
-    × Sets l.slot (only_in l.fn.announced.octets.now) (front_prefixes l.fn.prefixes.octets.now).0 l.yielded (front_prefixes l.prefix-iterator.octets.now).0 None (offer_at l.initial.routing.book) (offer_at l.routing.book)
+    Sets l.slot (only_in l.fn.announced.octets.now) (front_prefixes l.fn.prefixes.octets.now).0 l.yielded (front_prefixes l.prefix-iterator.octets.now).0 (λ p. None) (route_at l.initial.routing.adj_in) (route_at l.routing.adj_in)
+    × Sets l.slot (only_in l.fn.announced.octets.now) (front_prefixes l.fn.prefixes.octets.now).0 l.yielded (front_prefixes l.prefix-iterator.octets.now).0 (λ p. None) (offer_at l.initial.routing.book) (offer_at l.routing.book)
     × AreMarked l.fn.conf l.fn.links.entries l.routing
     × CountsNamed (only_in l.fn.announced.octets.now) l.yielded l.initial.routing.chosen l.routing.chosen
     × (l.initial.routing.chosen ≤ l.routing.chosen)

@@ -32,7 +32,7 @@ returns-in-Ok-clause-ok g c = λ config r holds.
     let peers = rw c.requires.adds at c.in-Ok.ensures.peers in
     let here = rw (← c.self.view_is) at holds in
     let put = put_inserted c.args.slot c.in_ok-link.link _ _ _ c.in_ok-before.ensures.updates.0 (c.in_ok-link.ensures ∙ added_same c.self.inside.config config c.args.conf.now here.config_is) in
-    rw (c.begin_count.ensures, c.requires.adds) (holds_added _ config r c.args.slot c.args.conf.now _ _ here may conf peers put refl refl refl refl (omega arith), refl)
+    rw (c.begin_count.ensures, c.requires.adds) (holds_added _ config r c.args.slot c.args.conf.now _ _ here may conf peers put refl refl refl refl refl (omega arith), refl)
 
 pub returns-in-Err-clause-err : goal.returns-in-Err-clause-err
 returns-in-Err-clause-err g c =
@@ -40,6 +40,7 @@ returns-in-Err-clause-err g c =
       config = refl;
       moment = refl;
       conf = c.in-Err.ensures.err;
+      payloads = refl;
       links = put_back c.args.slot c.in_ok-link.link c.in_ok-before.before _ _ _ c.in_ok-before.ensures.updates.0 c.put_back.ensures c.in_ok-before.ensures.old;
       adj_in = refl;
       book = refl;

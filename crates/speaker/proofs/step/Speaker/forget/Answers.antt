@@ -16,5 +16,6 @@ returns-clause-forgets g c =
       chosen = c.drop_slot.ensures.chosen;
       config = refl;
       moment = refl;
+      payloads = refl;
       chosen_before = refl;
     })

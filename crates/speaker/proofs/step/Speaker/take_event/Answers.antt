@@ -1,4 +1,4 @@
-use Rattle.std.proofs.Common.{[], ◌∷◌, ◌∙◌, refl, sym, ap, subst, arith}
+use Rattle.std.proofs.Common.{[], ◌∷◌, ◌∙◌, refl, sym, arith}
 use Rattle.bgp_fsm.specs.declared.input.Input.TheVariants.{Up}
 use Rattle.speaker.specs.Runs.{turn, call_of, Up_call, Fail_call, Bytes_call, Tick_call, Command_call}
 use Rattle.speaker.specs.FirstRefusal.{awaits_up, may_fail, may_bring_octets}

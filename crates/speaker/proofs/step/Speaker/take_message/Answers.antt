@@ -28,7 +28,7 @@ returns-in-Some-heard-clause-taken g c = λ l peer linked configured.
     (c.in-Ok.ensures.routes (terms_in c.self.inside.config c.in-Some.peer) (record { expected_is = refl; kind_is = c.between.ensures }))
     (c.in-Ok.ensures.chosen (terms_in c.self.inside.config c.in-Some.peer) (record { expected_is = refl; kind_is = c.between.ensures }))
     kept
-    (record { config = refl; moment = refl; conf = refl; chosen_before = refl })
+    (record { config = refl; moment = refl; conf = refl; payloads = refl; chosen_before = refl })
     (λ s. refl)
     (sym c.in-Some-get.ensures.value)
     (c.input-in-Some-heard.ensures.moves _ (sym c.in-Some-get.ensures.value))
@@ -49,7 +49,7 @@ returns-in_default-heard-clause-taken g c = λ l peer linked configured.
     (c.in-Ok.ensures.chosen (terms_in c.self.inside.config c.in-Some.peer) (record { expected_is = refl; kind_is = c.between.ensures }))
     c.in-Ok.ensures.rises
     kept
-    (record { config = refl; moment = refl; conf = refl; chosen_before = refl })
+    (record { config = refl; moment = refl; conf = refl; payloads = refl; chosen_before = refl })
     (λ s. refl))
 
 pub returns-in-Err-clause-starved : goal.returns-in-Err-clause-starved
@@ -64,7 +64,7 @@ returns-in-Err-clause-starved g c = λ l peer linked configured.
     rw (← peer_same, ← c.self.view_is) (
       takes,
       starves c.args.slot l _ _ _ takes.established (λ s. refl) (λ s p other. c.in-Err.ensures.others.routes s p other) (λ s p other. c.in-Err.ensures.others.offers s p other)
-          (record { config = refl; moment = refl; conf = refl; chosen_before = refl }) (c.input.ensures.moves l linked_here),
+          (record { config = refl; moment = refl; conf = refl; payloads = refl; chosen_before = refl }) (c.input.ensures.moves l linked_here),
       refused_chosen c.args.slot (sound_update (kind_of (terms_in c.self.inside.config c.in-Some.peer)) takes.body (update_fault (kind_of (terms_in c.self.inside.config c.in-Some.peer)) takes.body)) (effects_of NoMemory l.peer.session).left _ _ _ (rw takes.established refl) part.routes part.chosen (c.input.ensures.chosen l linked_here),
     )
 

@@ -1,5 +1,3 @@
-use Rattle.speaker.specs.Agreement.{EndsAll}
-use Rattle.std.proofs.Common.{subst}
 use Rattle.speaker.proofs.TimerEnds.{ticks}
 use Rattle.speaker.proofs.step.Speaker.tick.Goals as goal
 

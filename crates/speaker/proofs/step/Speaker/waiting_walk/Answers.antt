@@ -1,4 +1,4 @@
-use Rattle.std.proofs.Common.{Some, ◌≡◌, rules, subst, ap}
+use Rattle.std.proofs.Common.{Some, ◌≡◌, refl, rules, subst, ap}
 use Rattle.decision.specs.BookContents.{rows_of}
 use Rattle.rib_out.specs.Held.{held_at}
 use Rattle.std.specs.Option.{option_map}
@@ -9,7 +9,7 @@ use Rattle.speaker.specs.Tables.{best_at, link_at}
 use Rattle.speaker.specs.Waiting.{differing, known_prefixes}
 use Rattle.bgp_fsm.specs.declared.state.State.TheVariants.{Established}
 use Rattle.speaker.specs.declared.step.Speaker.TheInside.{Inside}
-use Rattle.speaker.proofs.WaitingLists.{listed_of, nothing_rises}
+use Rattle.speaker.proofs.WaitingLists.{listed_of, none_listed, nothing_rises}
 use Rattle.speaker.proofs.step.Speaker.waiting_walk.Goals as goal
 
 pub returns-in_err-peer-clause-rising : goal.returns-in_err-peer-clause-rising
@@ -18,12 +18,18 @@ returns-in_err-peer-clause-rising g c = let rises = nothing_rises in search rule
 pub returns-in_err-link-clause-rising : goal.returns-in_err-link-clause-rising
 returns-in_err-link-clause-rising g c = let rises = nothing_rises in search rules
 
-pub returns-then-ne-clause-rising : goal.returns-then-ne-clause-rising
-returns-then-ne-clause-rising g c = nothing_rises
+pub returns-then-not-is_established-clause-rising : goal.returns-then-not-is_established-clause-rising
+returns-then-not-is_established-clause-rising g c = nothing_rises
+
+pub returns-then-not-is_established-clause-all : goal.returns-then-not-is_established-clause-all
+returns-then-not-is_established-clause-all g c =
+    let there = subst (λ (x : Inside g.row.A.Denot g.row.B.Denot). Some c.in_ok-peer.peer ≡ option_map (export_peer_of x.conf c.args.slot) (peer_at x.conf c.args.slot)) c.self-inside.view_is c.in_ok-peer.ensures in
+    let linked = subst (λ (x : Inside g.row.A.Denot g.row.B.Denot). Some c.in_ok-link.link.now ≡ link_at x.links.entries c.args.slot) c.self-inside.view_is c.in_ok-link.ensures.value in
+    rw (← c.self.view_is) (none_listed _ _ c.in_ok-peer.peer c.in_ok-link.link.now _ _ there linked c.if-not-is_established.ensures.1)
 
 pub returns-clause-all : goal.returns-clause-all
 returns-clause-all g c =
-    let established : c.in_ok-link.link.now.peer.session.state ≡ Established = search rules in
+    let established : c.in_ok-link.link.now.peer.session.state ≡ Established = c.if-not-is_established.ensures.0 refl in
     let there = subst (λ (x : Inside g.row.A.Denot g.row.B.Denot). Some c.in_ok-peer.peer ≡ option_map (export_peer_of x.conf c.args.slot) (peer_at x.conf c.args.slot)) c.self-inside.view_is c.in_ok-peer.ensures in
     let linked = subst (λ (x : Inside g.row.A.Denot g.row.B.Denot). Some c.in_ok-link.link.now ≡ link_at x.links.entries c.args.slot) c.self-inside.view_is c.in_ok-link.ensures.value in
     let waiting : c.new.result ≡ differing (held_at c.in_ok-link.link.now.adj_out) (export_in (best_at (rows_of c.self.inside.routing.book)) c.self.inside.routing.adj_in c.in_ok-peer.peer) (known_prefixes (rows_of c.self.inside.routing.book) c.in_ok-link.link.now.adj_out) =

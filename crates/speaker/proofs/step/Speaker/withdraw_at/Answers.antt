@@ -23,6 +23,7 @@ invariant_of-self-2 g c =
       config = c.self.inside.config;
       moment = c.self.inside.moment;
       conf = c.self.inside.conf;
+      payloads = c.self.inside.payloads;
       links = c.self.inside.links.entries;
       adj_in = c.self.inside.routing.adj_in;
       book = c.self.inside.routing.book;
