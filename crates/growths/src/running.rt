@@ -4,7 +4,7 @@ use crate::first_path::{
 };
 use net_prefix::Prefix;
 use refusing::Refusing;
-use speaker::{BestRoute, Command, Event, Refusal, Report, State, Transport, run};
+use speaker::{BestRoute, Command, Event, Refusal, Report, State, Transport, Validity, run};
 use std::alloc::{AllocError, Allocator, Global};
 use std::process::Abort;
 use std::test::Fail;
@@ -166,6 +166,7 @@ fn a_run_shows_the_route_of_its_peer(rt: HostRuntime) -> Result<(), Fail> {
         prefix: Prefix::parse(ANNOUNCED_PREFIX)?,
         slot: 0,
         degree: 100,
+        validity: Validity::NotFound,
     };
     let routes: Vec<BestRoute> = trace.speaker.loc_rib().collect(rt.alloc())?;
     assert_eq!(rt; routes.as_slice(), [best].as_slice());

@@ -5,7 +5,7 @@ use crate::first_path::{
 };
 use net_prefix::{Prefix, Transport};
 use refusing::Refusing;
-use speaker::{BestRoute, Refusal, Report, Speaker, State};
+use speaker::{BestRoute, Refusal, Report, Speaker, State, Validity};
 use std::alloc::{AllocError, Global};
 use std::process::Abort;
 use std::test::Fail;
@@ -114,6 +114,7 @@ fn lacks_second(rt: &impl Abort, before: &Shown, after: &Shown) -> Result<(), Fa
         prefix,
         slot: 0,
         degree: 100,
+        validity: Validity::NotFound,
     };
     assert_eq!(rt; after.sessions, [before.sessions[0], Some(State::Idle)]);
     assert_eq!(rt;
