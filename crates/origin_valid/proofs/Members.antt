@@ -41,7 +41,7 @@ module _ {K : Type 0} {R : K → K → Ordering} (o : IsTotalOrder R) (exact : (
   any_case t x xs b true passes inside more h = any_passed t x b (inside x passes (key_first x xs)) passes
   any_case t x xs b false passes inside more h = more h
 
-  any_inside : (t : K → Bool) (a b : List K) → ((q : K) → t q ≡ true → has_key a q ≡ true → has_key b q ≡ true) → list_any t a ≡ true → list_any t b ≡ true
+  pub any_inside : (t : K → Bool) (a b : List K) → ((q : K) → t q ≡ true → has_key a q ≡ true → has_key b q ≡ true) → list_any t a ≡ true → list_any t b ≡ true
   any_inside t [] b inside h = absurd cc
   any_inside t (x ∷ xs) b inside h =
       any_case t x xs b (t x) refl inside (any_inside t xs b (λ q passes there. inside q passes (or_right (is_at (R q) x) (has_key xs q) there))) h

@@ -25,7 +25,7 @@ use Rattle.origin_valid.proofs.Members.{any-map, any-same, any_passed, passes_so
 use Rattle.origin_valid.proofs.Outsides.{has-in_order, has-stretches, has_prefix, is_covered, outside-stretches, rise-in_order}
 
 -- ---- what the stretches cover
-abbrev is_over : List Prefix → Prefix → Bool
+abbrev pub is_over : List Prefix → Prefix → Bool
 is_over ps q = list_any (λ p. covers p q) ps
 
 further_case : (last : Option Prefix) (p q : Prefix) (b : Bool) → covers p q ≡ b → is_inside last p ≡ true → is_inside last q ≡ (is_inside last q || b)
@@ -98,7 +98,7 @@ IsChanged change q = (payload : Vrp) × (Contains change.withdrawn payload ⊎ C
 over_payloads : (set : List Vrp) (q : Prefix) → is_over (prefixes_of set) q ≡ list_any (covers_route q) set
 over_payloads set q = any-map (λ (v : Vrp). v.prefix) (λ p. covers p q) set
 
-over_change : (change : Change) (q : Prefix) → is_over (stretches (changed_prefixes change)) q ≡ list_any (covers_route q) (change.withdrawn ++ change.announced)
+pub over_change : (change : Change) (q : Prefix) → is_over (stretches (changed_prefixes change)) q ≡ list_any (covers_route q) (change.withdrawn ++ change.announced)
 over_change change q = over-stretches (changed_prefixes change) q ∙ over_payloads (change.withdrawn ++ change.announced) q
 
 joined : (change : Change) (payload : Vrp) → Contains change.withdrawn payload ⊎ Contains change.announced payload → Contains (change.withdrawn ++ change.announced) payload
@@ -138,7 +138,7 @@ stays old new change q applied none v h =
     let announced : has change.announced v ≡ false = absent_case change.announced (covers_route q) v (has change.announced v) refl (or_parts _ _ parts).1 h in
     unchanged_case (has old v) (has change.withdrawn v) (has change.announced v) withdrawn announced ∙ sym (applied v)
 
-same_state : (old new : List Vrp) (change : Change) (q : Prefix) (origin : Option Asn) → IsApplied old change new → list_any (covers_route q) (change.withdrawn ++ change.announced) ≡ false
+pub same_state : (old new : List Vrp) (change : Change) (q : Prefix) (origin : Option Asn) → IsApplied old change new → list_any (covers_route q) (change.withdrawn ++ change.announced) ≡ false
     → validity old q origin ≡ validity new q origin
 same_state old new change q origin applied none =
     let covered : list_any (covers_route q) old ≡ list_any (covers_route q) new =

@@ -6,15 +6,14 @@ use Rattle.net_prefix.specs.declared.transport.Transport.TheVariants.{Open as Co
 use Rattle.octet_streams.proofs.Streams.{front_is_none, wants_front, some_is_not_none}
 use Rattle.rtr_codec.specs.declared.place.Place.{Place}
 use Rattle.rtr_client.specs.Following.{load_takes}
-use Rattle.rtr_codec.specs.ClientTable.{Stage, Loading, in_force, transport_of}
-use Rattle.rtr_codec.specs.PduSpelling.{Content, Announce, Withdraw, End_of_data}
+use Rattle.rtr_codec.specs.ClientTable.{Client, in_force, transport_of}
 use Rattle.rtr_codec.specs.PduStream.{Item, WholePdu, FaultyPdu, Wants, meaning, needed_of, pdu_grammar}
 use Rattle.rtr_codec.specs.Receiving.{Reception, passed_by, received}
 use Rattle.rtr_codec.proofs.ReaderAnswers.{one_at_most_push, wants_passed}
 use Rattle.rtr_codec.proofs.Streams.{is_grammar, wants_none}
 use Rattle.rtr_session.specs.Agreement.{SessionAgrees, Starves}
 use Rattle.rtr_session.specs.SessionHistory.{Event, Octet, moment_of, onto}
-use Rattle.rtr_session.specs.SessionState.{Changes, HearsOctets, MayStarve, Session, heard, takes_memory, with_octets}
+use Rattle.rtr_session.specs.SessionState.{Changes, HearsOctets, MayStarve, Session, heard, with_octets}
 use Rattle.rtr_session.proofs.Agreeing.{agrees_item, agrees_octet, agrees_refused, item_here}
 use Rattle.rtr_client.proofs.Books.{change_between-same}
 
@@ -123,13 +122,6 @@ pub agrees_heard :
 agrees_heard h s new now octets count starved connected wants count_is hears now_is fed a =
     subst (λ (x : Session). SessionAgrees (onto (take count octets) h) x) (sym hears.exact) (agrees_by h s now octets count starved _ connected wants count_is refl now_is fed a)
 
--- a PDU for which a load takes memory serves a load
-load_takes_memory : (stage : Stage) (content : Content) → load_takes stage content ≡ true → takes_memory content ≡ true
-load_takes_memory (Loading serially own set) (Announce payload) h = refl
-load_takes_memory (Loading serially own set) (Withdraw payload) h = refl
-load_takes_memory (Loading serially own set) (End_of_data session serial intervals) h = refl
-load_takes_memory stage content h = absurd cc
-
 -- octets are heard, and memory is refused
 starves_by :
     (h : List Event) (s : Session) (now : ℕ) (octets : List ℕ) (count : ℕ) (starved : Bool) (found : Option Item) → transport_of s.client ≡ Connected → Wants s.reading.place s.reading.part
@@ -144,7 +136,7 @@ starves_by h s now octets count starved (Some (WholePdu content whole)) connecte
       whole = whole;
       some = k.some;
       item = item_here (onto (take (count - 1) octets) h) (with_octets s (take (count - 1) octets)) (get_or octets (count - 1) 0) (Some (WholePdu content whole)) connected k.completes k.before;
-      takes = load_takes_memory s.client.stage content may;
+      takes = ap (λ (c : Client). load_takes c.stage content) (sym k.before.client) ∙ may;
       agrees = agrees_refused (onto (take (count - 1) octets) h) (with_octets s (take (count - 1) octets)) now (WholePdu content whole) k.moment_is k.before;
     })
 

@@ -4,7 +4,8 @@ use Rattle.net_prefix.specs.declared.transport.Transport.TheVariants.{Open as Co
 use Rattle.rtr_codec.specs.ClientTable.{transport_of}
 use Rattle.rtr_codec.specs.PduSpelling.{Content}
 use Rattle.rtr_codec.specs.PduStream.{WholePdu}
-use Rattle.rtr_session.specs.SessionState.{Session, takes_memory}
+use Rattle.rtr_client.specs.Following.{load_takes}
+use Rattle.rtr_session.specs.SessionState.{Session}
 use Rattle.rtr_session.specs.SessionHistory.{Event, Refused, client, course, given, item_at, onto, reading_in, sent}
 
 -- the client is the one that its table gives
@@ -31,5 +32,5 @@ pub record Starves (h : List Event) (octets : List ℕ) (count : ℕ) (s : Sessi
   pub whole : List ℕ
   pub some : 1 ≤ count
   pub item : item_at (onto (take (count - 1) octets) h) (slice_index octets (count - 1)) ≡ Some (WholePdu content whole)
-  pub takes : takes_memory content ≡ true
+  pub takes : load_takes (client (onto (take (count - 1) octets) h)).stage content ≡ true
   pub agrees : SessionAgrees (Refused ∷ onto (take (count - 1) octets) h) s

@@ -85,20 +85,6 @@ heard now starved (Some item) s =
 abbrev pub with_octets : Session → List ℕ → Session
 with_octets s octets = record { client = s.client; reading = record { place = s.reading.place; part = s.reading.part ++ octets }; ring = s.ring; changed = s.changed }
 
--- a PDU that serves a load, which takes memory: a Cache Response, an IPv4 Prefix or an End of Data
-abbrev pub takes_memory : Content → Bool
-takes_memory (Serial_notify session serial) = false
-takes_memory (Serial_query session serial) = false
-takes_memory Reset_query = false
-takes_memory (Cache_response session) = true
-takes_memory (Announce payload) = true
-takes_memory (Withdraw payload) = true
-takes_memory (Ipv6_prefix body) = false
-takes_memory (End_of_data session serial intervals) = true
-takes_memory Cache_reset = false
-takes_memory (Router_key body) = false
-takes_memory (Error_report code quoted) = false
-
 -- memory may be refused to what this item is to the client
 abbrev pub MayStarve : Client → Option Item → Type 0
 MayStarve client None = ⊥

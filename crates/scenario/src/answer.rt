@@ -2,15 +2,37 @@
 
 use bgp_conf::PEER_SLOTS;
 use bgp_fsm::State;
-use net_prefix::Prefix;
-use speaker::BestRoute;
+use net_prefix::{Prefix, Vrp};
+use speaker::{BestRoute, ClientState, Report};
 use std::fmt;
+
+/// What was closed for want of memory: the slots, a bit each, and the cache session.
+#[derive(Clone, Copy)]
+pub struct Starved {
+    pub slots: u64,
+    pub cache: bool,
+}
+
+impl Starved {
+    /// Nothing was.
+    pub const NOTHING: Starved = Starved {
+        slots: 0,
+        cache: false,
+    };
+
+    pub fn of(report: &Report) -> Starved {
+        Starved {
+            slots: report.starved,
+            cache: report.cache_starved,
+        }
+    }
+}
 
 /// One line of what a script answers.
 #[derive(Clone, Copy)]
 pub enum Answer<'a> {
-    /// `ok`, and the slots that were closed for want of memory (a bit for each).
-    Done(u64),
+    /// `ok`, and what was closed for want of memory.
+    Done(Starved),
     /// `refused NUMBER`
     Refused(u8),
     /// `refused NUMBER row ROW`
@@ -23,12 +45,16 @@ pub enum Answer<'a> {
     },
     /// `client KEY`, a client of the cache that has come up.
     Client(u64),
-    /// `out HEX`, or `out -` where there is nothing, and the slots that were closed for want of memory.
-    Out(&'a [u8], u64),
+    /// `out HEX`, or `out -` where there is nothing, and what was closed for want of memory.
+    Out(&'a [u8], Starved),
     /// `SLOT STATE`
     Session(u8, State),
+    /// `cache STATE`
+    CacheSession(ClientState),
     /// `PREFIX SLOT STATE DEGREE`, with the state of the route (RFC 6811 section 2).
     Best(BestRoute),
+    /// `PREFIX-MAX ASn`
+    Payload(Vrp),
     /// `PREFIX HEX`, a route with its attributes.
     Route(Prefix, &'a [u8]),
     /// `PREFIX`, which waits.
@@ -61,6 +87,8 @@ impl fmt::Display for Answer<'_> {
                 write_starved(f, *starved)
             }
             Answer::Session(slot, state) => write!(f, "{slot} {state}"),
+            Answer::CacheSession(state) => write!(f, "cache {state}"),
+            Answer::Payload(payload) => write!(f, "{payload}"),
             Answer::Best(route) => {
                 let (prefix, slot) = (route.prefix, route.slot);
                 let (validity, degree) = (route.validity, route.degree);
@@ -83,15 +111,18 @@ fn write_octets<W: fmt::Write>(f: &mut fmt::Formatter<W>, octets: &[u8]) -> fmt:
     Ok(())
 }
 
-fn write_starved<W: fmt::Write>(f: &mut fmt::Formatter<W>, starved: u64) -> fmt::Result {
-    if starved == 0 {
+fn write_starved<W: fmt::Write>(f: &mut fmt::Formatter<W>, starved: Starved) -> fmt::Result {
+    if starved.slots == 0 && !starved.cache {
         return Ok(());
     }
     write!(f, " starved")?;
     for slot in 0..PEER_SLOTS {
-        if (starved >> slot) & 1 == 1 {
+        if (starved.slots >> slot) & 1 == 1 {
             write!(f, " {slot}")?;
         }
+    }
+    if starved.cache {
+        write!(f, " cache")?;
     }
     Ok(())
 }

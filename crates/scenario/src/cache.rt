@@ -1,7 +1,7 @@
 //! The cache of a script, and the list that is being handed in.
 ghost use Rattle.std.specs.Prelude.{◌≤◌, IfSome};
 
-use crate::answer::Answer;
+use crate::answer::{Answer, Starved};
 use crate::line::CacheLine;
 use crate::script::write_answer;
 use rtr_cache::{Cache, CacheEvent, CacheRefusal, CacheReport};
@@ -118,7 +118,7 @@ impl ScriptCache {
                     ..
                 },
             ) => Answer::Client(key),
-            Ok(_) => Answer::Done(0),
+            Ok(_) => Answer::Done(Starved::NOTHING),
             Err(refusal) => Answer::Refused(refusal.number()),
         };
         write_answer(writer, answer)
@@ -136,7 +136,7 @@ impl ScriptCache {
         match self.cache.take(u64::from(key), &mut room[..most]) {
             Ok(count) => {
                 let octets = &room[..count.min(room.len())];
-                write_answer(writer, Answer::Out(octets, 0))
+                write_answer(writer, Answer::Out(octets, Starved::NOTHING))
             }
             Err(refusal) => write_answer(writer, Answer::Refused(refusal.number())),
         }

@@ -15,7 +15,7 @@ use thiserror::Error;
 /// A line of a script. Its words are separated by single spaces.
 #[derive(Drop)]
 pub enum Line<'a> {
-    /// `speaker AS IDENTIFIER nocache`
+    /// `speaker AS IDENTIFIER cache|nocache`
     Speaker(Config),
     /// A line for the speaker.
     Drive(SpeakerLine<'a>),
@@ -46,6 +46,14 @@ pub enum SpeakerLine<'a> {
     Fail(u8),
     /// `bytes SLOT HEX`
     Bytes(u8, Vec<u8>),
+    /// `rup`
+    CacheUp,
+    /// `rfail`
+    CacheFail,
+    /// `rbytes HEX`
+    CacheBytes(Vec<u8>),
+    /// `rtake MAX`
+    CacheTake(u32),
     /// `tick SECONDS`
     Tick(u64),
     /// `take SLOT MAX`
@@ -69,11 +77,12 @@ pub enum CacheLine {
     Take(u32, u32),
 }
 
-/// What `show` shows: `sessions`, `rib`, `in SLOT`, `held SLOT` or `waiting SLOT`.
+/// What `show` shows: `sessions`, `rib`, `payloads`, `in SLOT`, `held SLOT` or `waiting SLOT`.
 #[derive(Clone, Copy)]
 pub enum Table {
     Sessions,
     Rib,
+    Payloads,
     In(u8),
     Held(u8),
     Waiting(u8),
@@ -106,6 +115,10 @@ impl Line<'_> {
                 let octets = octets(alloc, hex)?;
                 Ok(Line::Drive(SpeakerLine::Bytes(slot, octets)))
             }
+            ["rbytes", hex] => {
+                let octets = octets(alloc, hex)?;
+                Ok(Line::Drive(SpeakerLine::CacheBytes(octets)))
+            }
             ["cbytes", key, hex] => {
                 let key = number(key).ok_or(LineFault::BadLine)?;
                 let octets = octets(alloc, hex)?;
@@ -129,10 +142,10 @@ fn octets(alloc: Global, hex: &str) -> Result<Vec<u8>, LineFault> {
 
 fn line_of<'a>(words: &[&'a str]) -> Option<Line<'a>> {
     let line = match words {
-        ["speaker", asn, identifier, "nocache"] => Line::Speaker(Config {
+        ["speaker", asn, identifier, cache] => Line::Speaker(Config {
             asn: Asn(number(asn)?),
             identifier: address(identifier)?,
-            cache: false,
+            cache: cache_word(cache)?,
         }),
         ["cache", session, refresh, retry, expire] => Line::Cache(
             number(session)?,
@@ -161,6 +174,9 @@ fn speaker_line<'a>(words: &[&'a str]) -> Option<SpeakerLine<'a>> {
         ["reach", prefix, cost] => SpeakerLine::Reach(Prefix::parse(prefix).ok()?, number(cost)?),
         ["up", slot] => SpeakerLine::Up(number(slot)?),
         ["fail", slot] => SpeakerLine::Fail(number(slot)?),
+        ["rup"] => SpeakerLine::CacheUp,
+        ["rfail"] => SpeakerLine::CacheFail,
+        ["rtake", max] => SpeakerLine::CacheTake(number(max)?),
         ["tick", seconds] => SpeakerLine::Tick(number(seconds)?),
         ["take", slot, max] => SpeakerLine::Take(number(slot)?, number(max)?),
         ["show", words @ ..] => SpeakerLine::Show(table_of(words)?),
@@ -187,6 +203,15 @@ fn peer<'a>(words: &[&'a str]) -> Option<PeerConf<'a>> {
     })
 }
 
+// Whether a speaker has a cache session.
+fn cache_word(text: &str) -> Option<bool> {
+    match text {
+        "cache" => Some(true),
+        "nocache" => Some(false),
+        _ => None,
+    }
+}
+
 fn mode_of(text: &str) -> Option<Mode> {
     match text {
         "active" => Some(Mode::Active),
@@ -199,6 +224,7 @@ fn table_of(words: &[&str]) -> Option<Table> {
     let table = match words {
         ["sessions"] => Table::Sessions,
         ["rib"] => Table::Rib,
+        ["payloads"] => Table::Payloads,
         ["in", slot] => Table::In(number(slot)?),
         ["held", slot] => Table::Held(number(slot)?),
         ["waiting", slot] => Table::Waiting(number(slot)?),

@@ -2,7 +2,7 @@
 ghost use Rattle.std.specs.Prelude.{◌≤◌, IfErr};
 ghost use Rattle.scenario.specs.LineNumbers.{IsOutside, NamesLine, CountsFromOne};
 
-use crate::answer::Answer;
+use crate::answer::{Answer, Starved};
 use crate::cache::ScriptCache;
 use crate::line::{CacheLine, Line, LineFault, SpeakerLine, Table};
 use arrayvec::ArrayVec;
@@ -160,7 +160,7 @@ impl Stage {
         match Speaker::new(self.alloc, config) {
             Ok(speaker) => {
                 self.speaker = Some(speaker);
-                write_answer(writer, Answer::Done(0))?;
+                write_answer(writer, Answer::Done(Starved::NOTHING))?;
             }
             Err(refusal) => write_answer(writer, Answer::Refused(refusal.number()))?,
         }
@@ -192,7 +192,7 @@ impl Stage {
         match ScriptCache::new(self.alloc, session, intervals) {
             Ok(cache) => {
                 self.cache = Some(cache);
-                write_answer(writer, Answer::Done(0))?;
+                write_answer(writer, Answer::Done(Starved::NOTHING))?;
             }
             Err(refusal) => write_answer(writer, Answer::Refused(refusal.number()))?,
         }
@@ -258,6 +258,12 @@ impl Stage {
             SpeakerLine::Bytes(slot, octets) => {
                 step(speaker, Event::Bytes(slot, octets.as_slice()), writer)?
             }
+            SpeakerLine::CacheUp => step(speaker, Event::CacheUp, writer)?,
+            SpeakerLine::CacheFail => step(speaker, Event::CacheFail, writer)?,
+            SpeakerLine::CacheBytes(octets) => {
+                step(speaker, Event::CacheBytes(octets.as_slice()), writer)?
+            }
+            SpeakerLine::CacheTake(max) => take_cache(speaker, max, room, writer)?,
             SpeakerLine::Tick(seconds) => step(speaker, Event::Tick(seconds), writer)?,
             SpeakerLine::Take(slot, max) => take(speaker, slot, max, room, writer)?,
             SpeakerLine::Show(table) => show(speaker, table, writer)?,
@@ -281,7 +287,7 @@ fn command<W: Write>(
 
 fn step<W: Write>(speaker: &mut Speaker, event: Event<'_>, writer: &mut W) -> io::Result<()> {
     match speaker.step(event) {
-        Ok(report) => write_answer(writer, Answer::Done(report.starved)),
+        Ok(report) => write_answer(writer, Answer::Done(Starved::of(&report))),
         Err(refusal) => write_answer(writer, Answer::Refused(refusal.number())),
     }
 }
@@ -298,16 +304,30 @@ fn take<W: Write>(
     match speaker.take(slot, &mut room[..most]) {
         Ok((count, report)) => {
             let octets = &room[..count.min(room.len())];
-            write_answer(writer, Answer::Out(octets, report.starved))
+            write_answer(writer, Answer::Out(octets, Starved::of(&report)))
         }
         Err(refusal) => write_answer(writer, Answer::Refused(refusal.number())),
     }
+}
+
+// The same of the ring of the cache session.
+fn take_cache<W: Write>(
+    speaker: &mut Speaker,
+    max: u32,
+    room: &mut [u8],
+    writer: &mut W,
+) -> io::Result<()> {
+    let most = room.len().min(max as usize);
+    let count = speaker.take_cache(&mut room[..most]);
+    let octets = &room[..count.min(room.len())];
+    write_answer(writer, Answer::Out(octets, Starved::NOTHING))
 }
 
 fn show<W: Write>(speaker: &Speaker, table: Table, writer: &mut W) -> io::Result<()> {
     match table {
         Table::Sessions => show_sessions(speaker, writer)?,
         Table::Rib => show_rib(speaker, writer)?,
+        Table::Payloads => show_payloads(speaker, writer)?,
         Table::In(slot) => show_in(speaker, slot, writer)?,
         Table::Held(slot) => show_held(speaker, slot, writer)?,
         Table::Waiting(slot) => show_waiting(speaker, slot, writer)?,
@@ -321,12 +341,22 @@ fn show_sessions<W: Write>(speaker: &Speaker, writer: &mut W) -> io::Result<()> 
             write_answer(writer, Answer::Session(slot, state))?;
         }
     }
+    if let Some(state) = speaker.cache_session() {
+        write_answer(writer, Answer::CacheSession(state))?;
+    }
     Ok(())
 }
 
 fn show_rib<W: Write>(speaker: &Speaker, writer: &mut W) -> io::Result<()> {
     for route in speaker.loc_rib().take(MAX_ROWS) {
         write_answer(writer, Answer::Best(route))?;
+    }
+    Ok(())
+}
+
+fn show_payloads<W: Write>(speaker: &Speaker, writer: &mut W) -> io::Result<()> {
+    for payload in speaker.payloads().take(MAX_ROWS) {
+        write_answer(writer, Answer::Payload(payload))?;
     }
     Ok(())
 }

@@ -18,11 +18,12 @@ use Rattle.bgp_msg.specs.declared.frame.MessageType.TheVariants.{Open, Update, N
 use Rattle.bgp_peer.proofs.Agreeing.{item_octet}
 use Rattle.bgp_peer.specs.SessionInputs.{Event, Terms, Octet, Signalled, input_of, item_at, kind_of, moment_of, onto, session, terms_of, update_input}
 use Rattle.net_prefix.specs.PrefixOrder.{prefix_cmp}
+use Rattle.net_prefix.specs.declared.payload.Vrp.{Vrp}
 use Rattle.net_prefix.specs.declared.prefix.Prefix.{Prefix}
 use Rattle.rib_in.specs.LatestRoutes.{route_at}
 use Rattle.rib_out.proofs.Prefixes.{is_prefix-refl}
 use Rattle.speaker.specs.AdjRibIn.{brought, is_among, is_only_withdrawn, route, sound_update, update_heard, word_if}
-use Rattle.speaker.specs.Choices.{announced_if, announced_in, announced_to, choices_by, choices_on, choices_refused, how_many, is_routed, named_if, named_in, routes_held}
+use Rattle.speaker.specs.Choices.{is_touched, announced_if, announced_in, announced_to, choices_by, choices_on, choices_refused, how_many, is_routed, named_if, named_in, routes_held}
 use Rattle.speaker.specs.Chosen.{AreDifferent, Chooses, IsPart, OncePerPrefix}
 use Rattle.speaker.specs.RoutingState.{RoutingState}
 use Rattle.speaker.specs.Runs.{Run, history}
@@ -262,6 +263,20 @@ pub most_known : (config : Config) (r : Run) (ps : List Prefix) → AreDifferent
 most_known config r ps different =
     most_of (is_routed config r 64) (announced_to config r 64) ps
     (different_as (λ p. (s : ℕ) × (s < 64) × IsSome (route (history config s r) p)) (IsOne (is_routed config r 64) (announced_to config r 64)) ps (λ p there. slot_routed config r p 64 there.0 there.1 there.2) different)
+
+-- of them those that a change of the payloads concerns
+pub most_touched : (config : Config) (r : Run) (before after : List Vrp) (ps : List Prefix)
+    → AreDifferent (λ p. (is_touched before after p ≡ true) × ((s : ℕ) × (s < 64) × IsSome (route (history config s r) p))) ps
+    → length ps ≤ how_many (λ p. is_routed config r 64 p && is_touched before after p) (announced_to config r 64)
+most_touched config r before after ps different =
+    let holds : Prefix → Bool = λ p. is_routed config r 64 p && is_touched before after p in
+    most_of holds (announced_to config r 64) ps
+    (different_as (λ p. (is_touched before after p ≡ true) × ((s : ℕ) × (s < 64) × IsSome (route (history config s r) p))) (IsOne holds (announced_to config r 64)) ps
+    (λ p there. let one = slot_routed config r p 64 there.1.0 there.1.1 there.1.2 in (and_both (is_routed config r 64 p) (is_touched before after p) one.0 there.0, one.1)) different)
+  where
+    and_both : (a b : Bool) → a ≡ true → b ≡ true → (a && b) ≡ true
+    and_both true b is so = so
+    and_both false b is so = absurd (cc)
 
 -- ---- what happens to a slot
 ended_few : (h : List Event) (e : Event) → is_established (session (e ∷ h)).state ≡ false → named_if (brought h e) + routes_held h ≤ choices_by h e

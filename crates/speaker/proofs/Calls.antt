@@ -1,4 +1,4 @@
-use Rattle.std.proofs.Common.{◌≡◌, ◌≢◌, ◌≤◌, ◌==◌, inl, inr, ℕ, Bool, true, false, nat_le, List, [], ◌∷◌, Option, Some, None, length, cond, refl, sym, ap, subst}
+use Rattle.std.proofs.Common.{◌≡◌, ◌≢◌, ◌≤◌, ◌==◌, inl, inr, ℕ, Bool, true, false, nat_le, List, ◌∷◌, Option, Some, None, length, cond, refl, sym, ap, subst}
 use Rattle.std.specs.Bool.{OnTrue}
 use Rattle.std.specs.Option.{option_map, option_and_then, MatchOption}
 use Rattle.std.proofs.lemmas.Bool.{cases_eq, eq-eqb, ne_eqb, leb-true}
@@ -23,7 +23,7 @@ use Rattle.speaker.specs.Export.{IsAccepted, IsExport, export_in, export_to, exp
 use Rattle.speaker.specs.Linked.{Linked}
 use Rattle.speaker.specs.LocRib.{AreBest, IsBest, HasNoCandidate}
 use Rattle.speaker.specs.Queueing.{Queue, Service}
-use Rattle.speaker.specs.Runs.{Call, Run, turn, configuration_of, history, served_by}
+use Rattle.speaker.specs.Runs.{Call, Run, turn, configuration_of, history, payloads_after, served_by}
 use Rattle.speaker.specs.SpeakerState.{SpeakerState}
 use Rattle.speaker.specs.Tables.{Tables, best_at}
 use Rattle.speaker.specs.declared.config.Config.{Config}
@@ -63,7 +63,7 @@ pub slot_route : (config : Config) (peer : Option ConfiguredPeer) (l : Option Li
 slot_route config peer l routes h p a = sym (a.routes_are p)
 
 -- the run's tables are those that are kept
-pub tables_same : (config : Config) (r : Run) (conf : Configuration) (payloads : List Vrp) (links : ℕ → Option Linked) (adj_in : RouteTable) → configuration_of config r ≡ conf → payloads ≡ []
+pub tables_same : (config : Config) (r : Run) (conf : Configuration) (payloads : List Vrp) (links : ℕ → Option Linked) (adj_in : RouteTable) → configuration_of config r ≡ conf → payloads ≡ payloads_after r
     → SlotsAgree config conf links adj_in (λ s. history config s r) → tables_after config r ≡ tables_in conf payloads links adj_in
 tables_same config r conf payloads links adj_in same none all = λ i. record {
   conf = same i;

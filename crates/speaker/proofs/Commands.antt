@@ -34,7 +34,8 @@ use Rattle.net_prefix.specs.declared.transport.Transport.{Transport}
 use Rattle.net_prefix.specs.declared.transport.Transport.TheVariants.{Open as Connected}
 use Rattle.rib_in.specs.LatestRoutes.{HasRoute, route_at}
 use Rattle.speaker.specs.AdjRibIn.{route}
-use Rattle.speaker.specs.Agreement.{SlotAgrees, IsTaken, Holds, HoldsBy}
+use Rattle.speaker.specs.Agreement.{CacheAgrees, SlotAgrees, IsTaken, Holds, HoldsBy}
+use Rattle.rtr_session.specs.SessionHistory as cached
 use Rattle.speaker.proofs.Histories.{no_route}
 use Rattle.speaker.proofs.SlotStates.{SlotIs, slot_agrees, configured_from, slot_from}
 use Rattle.speaker.specs.Choices.{choices_by, choices_in}
@@ -43,7 +44,7 @@ use Rattle.speaker.specs.FirstRefusal.{refused_at, awaits_up, is_open}
 use Rattle.speaker.specs.Linked.{Linked}
 use Rattle.speaker.specs.Offers.{AreMadeAgain, IsSound, Offers}
 use Rattle.speaker.specs.Moves.{Moves, IsPut, moved}
-use Rattle.speaker.specs.Runs.{Call, Run, turn, Up_call, Fail_call, Bytes_call, Starved_call, Tick_call, Command_call, Take_call, conf_called, configuration_of, history, moment_after, opened_commanded, terms_in}
+use Rattle.speaker.specs.Runs.{Call, Run, turn, Up_call, Fail_call, Bytes_call, Starved_call, Tick_call, Command_call, Take_call, Cache_up_call, Cache_fail_call, Cache_bytes_call, Cache_starved_call, Cache_take_call, cache_history, conf_called, configuration_of, history, moment_after, opened_commanded, terms_in}
 use Rattle.speaker.specs.SpeakerState.{SpeakerState}
 use Rattle.speaker.specs.Tables.{link_at, tables}
 use Rattle.speaker.specs.declared.config.Config.{Config}
@@ -98,14 +99,14 @@ not_yet s true is shut = absurd (shut (established_stands s is))
 not_yet s false is shut = refl
 
 -- an input that is no message moves a slot; a connection comes up only where none stands
-pub signalled_by : (config : Config) (c1 c2 : Configuration) (now1 now2 : ℕ) (h1 h2 : ℕ → List happens.Event) (m1 m2 : ℕ) (slot : ℕ) (l : Linked) (input : Input) (old new : SpeakerState)
-    → HoldsBy config c1 now1 h1 m1 old → c2 ≡ c1 → now2 ≡ now1 → moment_of (h1 slot) ≡ old.moment
+pub signalled_by : (config : Config) (c1 c2 : Configuration) (now1 now2 : ℕ) (k1 k2 : List cached.Event) (h1 h2 : ℕ → List happens.Event) (m1 m2 : ℕ) (slot : ℕ) (l : Linked) (input : Input) (old new : SpeakerState)
+    → HoldsBy config c1 now1 k1 h1 m1 old → c2 ≡ c1 → now2 ≡ now1 → k2 ≡ k1 → moment_of (h1 slot) ≡ old.moment
     → (peer : ConfiguredPeer) → peer_at old.conf slot ≡ Some peer → ((found : Option Terms) → staying input found ≡ found)
     → link_at old.links slot ≡ Some l → is_message input ≡ false → (input ≡ Up → transport_of l.peer.session ≢ Connected) → Moves slot l input old new
     → ((t : ℕ) → h2 t ≡ cond (t == slot) (Signalled input ∷ h1 t) (h1 t))
     → Chooses slot (effects_of input l.peer.session).left old new → (most : ℕ) → old.chosen ≤ old.chosen_before + most → most + choices_by (h1 slot) (Signalled input) ≤ m2
-    → HoldsBy config c2 now2 h2 m2 new
-signalled_by config c1 c2 now1 now2 h1 h2 m1 m2 slot l input old new h conf moment at_moment peer configured stays linked is shut moves histories chooses most so_far allowed =
+    → HoldsBy config c2 now2 k2 h2 m2 new
+signalled_by config c1 c2 now1 now2 k1 k2 h1 h2 m1 m2 slot l input old new h conf moment cache at_moment peer configured stays linked is shut moves histories chooses most so_far allowed =
     let here : SlotIs config peer l (route_at old.adj_in slot) (h1 slot) = slot_from config (peer_at old.conf slot) peer (link_at old.links slot) l (route_at old.adj_in slot) (h1 slot) configured linked (h.slots slot) in
     let at : h2 slot ≡ Signalled input ∷ h1 slot = histories slot ∙ rw (eq-eqb slot slot refl) refl in
     let other : input ≡ Up → is_established (session (h1 slot)).state ≡ false =
@@ -114,7 +115,7 @@ signalled_by config c1 c2 now1 now2 h1 h2 m1 m2 slot l input old new h conf mome
     let M : ℕ → Type 0 = λ m. SlotIs config peer (moved m l input) (route_at new.adj_in slot) (Signalled input ∷ h1 slot) in
     let few = signal_few slot (h1 slot) input l.peer.session old new here.link.peer.session here.routes_are chooses in
     let kept_before = moves.rest.chosen_before in
-    put_by config c1 c2 now1 now2 h1 h2 m1 m2 slot (moved old.moment l input) old new h conf moment (moves_keep slot l input old new linked moves) moves.rest moves.links
+    put_by config c1 c2 now1 now2 k1 k2 h1 h2 m1 m2 slot (moved old.moment l input) old new h conf moment cache (moves_keep slot l input old new linked moves) moves.rest moves.links
     (λ t away p. moves.routes t p ∙ left_there slot t (effects_of input l.peer.session).left (route_at old.adj_in t p) away)
     (λ t away. histories t ∙ rw (ne_eqb t slot away) refl)
     (omega (arith, few, so_far, allowed, kept_before))
@@ -125,13 +126,13 @@ signalled_by config c1 c2 now1 now2 h1 h2 m1 m2 slot l input old new h conf mome
 pub holds_signalled : (config : Config) (r1 r2 : Run) (slot : ℕ) (l : Linked) (input : Input) (old new : SpeakerState)
     → Holds config r1 old → (peer : ConfiguredPeer) → peer_at old.conf slot ≡ Some peer → ((found : Option Terms) → staying input found ≡ found)
     → link_at old.links slot ≡ Some l → is_message input ≡ false → (input ≡ Up → transport_of l.peer.session ≢ Connected) → Moves slot l input old new
-    → configuration_of config r2 ≡ configuration_of config r1 → moment_after r2 ≡ moment_after r1
+    → configuration_of config r2 ≡ configuration_of config r1 → moment_after r2 ≡ moment_after r1 → cache_history r2 ≡ cache_history r1
     → ((t : ℕ) → history config t r2 ≡ cond (t == slot) (Signalled input ∷ history config t r1) (history config t r1))
     → Chooses slot (effects_of input l.peer.session).left old new → (most : ℕ) → old.chosen ≤ old.chosen_before + most → most + choices_by (history config slot r1) (Signalled input) ≤ choices_in config r2
     → Holds config r2 new
-holds_signalled config r1 r2 slot l input old new h peer configured stays linked is shut moves conf moment histories chooses most so_far allowed =
-    signalled_by config (configuration_of config r1) (configuration_of config r2) (moment_after r1) (moment_after r2) (λ t. history config t r1) (λ t. history config t r2) (choices_in config r1) (choices_in config r2)
-    slot l input old new h conf moment (moment_same config r1 slot ∙ sym h.moment) peer configured stays linked is shut moves histories chooses most so_far allowed
+holds_signalled config r1 r2 slot l input old new h peer configured stays linked is shut moves conf moment cache histories chooses most so_far allowed =
+    signalled_by config (configuration_of config r1) (configuration_of config r2) (moment_after r1) (moment_after r2) (cache_history r1) (cache_history r2) (λ t. history config t r1) (λ t. history config t r2) (choices_in config r1) (choices_in config r2)
+    slot l input old new h conf moment cache (moment_same config r1 slot ∙ sym h.moment) peer configured stays linked is shut moves histories chooses most so_far allowed
 
 -- where a connection may come up, none stands
 pub awaits_none : (t : Transport) → awaits_up t ≡ true → t ≢ Connected
@@ -148,7 +149,7 @@ pub holds_enable : (config : Config) (r : Run) (slot : ℕ) (old new : SpeakerSt
 holds_enable config r slot old new h may moves chooses so_far =
     let peer = some_from_not (nat_le 64 slot) (peer_at old.conf slot) Refusal.BadSlot may in
     let found = slot_of config r slot peer.0 old h peer.1 in
-    holds_signalled config r (turn (Command_call (Enable slot)) [] ∷ r) slot found.0 Start old new h peer.0 peer.1 (λ x. refl) found.1 refl (λ e. cc) (moves found.0 found.1) refl refl (λ t. refl) (chooses found.0 found.1) 0 (omega (arith, so_far)) (omega arith)
+    holds_signalled config r (turn (Command_call (Enable slot)) [] ∷ r) slot found.0 Start old new h peer.0 peer.1 (λ x. refl) found.1 refl (λ e. cc) (moves found.0 found.1) refl refl refl (λ t. refl) (chooses found.0 found.1) 0 (omega (arith, so_far)) (omega arith)
 
 pub slot_low : (conf : Configuration) (slot : ℕ) → first_refusal conf 0 (Enable slot) ≡ None → slot < 64
 slot_low conf slot may = below (nat_le 64 slot) refl may
@@ -171,7 +172,7 @@ pub holds_disable : (config : Config) (r : Run) (slot : ℕ) (old new : SpeakerS
 holds_disable config r slot old new h may moves chooses so_far =
     let peer = some_from_not (nat_le 64 slot) (peer_at old.conf slot) Refusal.BadSlot may in
     let found = slot_of config r slot peer.0 old h peer.1 in
-    holds_signalled config r (turn (Command_call (Disable slot)) [] ∷ r) slot found.0 Disabled old new h peer.0 peer.1 (λ x. refl) found.1 refl (λ e. cc) (moves found.0 found.1) refl refl (λ t. refl) (chooses found.0 found.1) 0 (omega (arith, so_far)) (omega arith)
+    holds_signalled config r (turn (Command_call (Disable slot)) [] ∷ r) slot found.0 Disabled old new h peer.0 peer.1 (λ x. refl) found.1 refl (λ e. cc) (moves found.0 found.1) refl refl refl (λ t. refl) (chooses found.0 found.1) 0 (omega (arith, so_far)) (omega arith)
 
 -- a slot with a route is one of the 64
 slot_of_route : (config : Config) (r : Run) (s : SpeakerState) → Holds config r s → (p : Prefix) → HasRoute s.adj_in p → (t : ℕ) × (t < 64) × IsSome (route (history config t r) p)
@@ -181,14 +182,15 @@ slot_of_route config r s h p there =
 
 -- an entry of `reach`
 pub holds_reach : (config : Config) (r : Run) (prefix : Prefix) (cost : ℕ) (old new : SpeakerState) → Holds config r old → new.conf ≡ conf_after old.conf (Reach prefix cost)
-    → ((s : ℕ) → peer_at new.conf s ≡ peer_after old.conf (Reach prefix cost) s) → new.config ≡ old.config → new.moment ≡ old.moment → new.payloads ≡ old.payloads → new.links ≡ old.links → new.adj_in ≡ old.adj_in
+    → ((s : ℕ) → peer_at new.conf s ≡ peer_after old.conf (Reach prefix cost) s) → new.config ≡ old.config → new.moment ≡ old.moment → new.cache ≡ old.cache → new.payloads ≡ old.payloads → new.links ≡ old.links → new.adj_in ≡ old.adj_in
     → AreMadeAgain (tables new.conf new.payloads old.links old.adj_in) (offer_at old.book) (offer_at new.book)
     → (known : List Prefix) → AreDifferent (HasRoute old.adj_in) known → new.chosen ≤ old.chosen + length known → new.chosen_before ≡ old.chosen
     → Holds config (turn (Command_call (Reach prefix cost)) [] ∷ r) new
-holds_reach config r prefix cost old new h conf peers config_same moment payloads links adj_in again known routed count counted = record {
+holds_reach config r prefix cost old new h conf peers config_same moment cache payloads links adj_in again known routed count counted = record {
   config_is = config_same ∙ h.config_is;
   moment = moment ∙ h.moment;
   conf = conf ∙ ap (λ c. conf_after c (Reach prefix cost)) h.conf;
+  cache = subst (λ x. CacheAgrees config (cache_history r) x) (sym cache) h.cache;
   payloads = payloads ∙ h.payloads;
   peers = (h.peers.0, λ t peer at. h.peers.1 t peer (sym (peers t) ∙ at));
   slots = λ t. let P : Option ConfiguredPeer → Type 0 = λ x. SlotAgrees config x (link_at old.links t) (route_at old.adj_in t) (history config t r) in
@@ -222,6 +224,11 @@ own_called (Starved_call slot before octet behind) conf = refl
 own_called (Tick_call now) conf = refl
 own_called (Command_call command) conf = own_after conf command
 own_called (Take_call slot octets) conf = refl
+own_called Cache_up_call conf = refl
+own_called Cache_fail_call conf = refl
+own_called (Cache_bytes_call octets) conf = refl
+own_called (Cache_starved_call before octet behind) conf = refl
+own_called (Cache_take_call octets) conf = refl
 
 pub own_is : (config : Config) (r : Run) → (configuration_of config r).own ≡ config.asn
 own_is config [] = refl
@@ -245,8 +252,8 @@ is_taken closing config r slot peer s h may = record {
 pub holds_added : (closing : ℕ) (config : Config) (r : Run) (slot : ℕ) (peer : PeerConf) (old new : SpeakerState) → Holds config r old → first_refusal old.conf closing (AddPeer slot peer) ≡ None
     → new.conf ≡ conf_after old.conf (AddPeer slot peer) → ((s : ℕ) → peer_at new.conf s ≡ peer_after old.conf (AddPeer slot peer) s)
     → IsPut slot (record { peer = configured (terms_in config (configured_of peer)).own peer.mode; adj_out = [] }) old new
-    → new.config ≡ old.config → new.moment ≡ old.moment → new.payloads ≡ old.payloads → new.adj_in ≡ old.adj_in → new.book ≡ old.book → new.chosen ≤ new.chosen_before → Holds config (turn (Command_call (AddPeer slot peer)) [] ∷ r) new
-holds_added closing config r slot peer old new h may conf peers put config_same moment payloads adj_in book few =
+    → new.config ≡ old.config → new.moment ≡ old.moment → new.cache ≡ old.cache → new.payloads ≡ old.payloads → new.adj_in ≡ old.adj_in → new.book ≡ old.book → new.chosen ≤ new.chosen_before → Holds config (turn (Command_call (AddPeer slot peer)) [] ∷ r) new
+holds_added closing config r slot peer old new h may conf peers put config_same moment cache payloads adj_in book few =
     let free : peer_at old.conf slot ≡ None = peer_at-from_accepted old.conf closing slot peer may in
     let before = h.slots slot in
     let vacant : is_established (session (history config slot r)).state ≡ false = ap is_established (before.vacant (sym before.configured ∙ ap (option_map (terms_in config)) free)).0 in
@@ -254,6 +261,7 @@ holds_added closing config r slot peer old new h may conf peers put config_same 
       config_is = config_same ∙ h.config_is;
       moment = moment ∙ h.moment;
       conf = conf ∙ ap (λ c. conf_after c (AddPeer slot peer)) h.conf;
+      cache = subst (λ x. CacheAgrees config (cache_history r) x) (sym cache) h.cache;
       payloads = payloads ∙ h.payloads;
       peers = (h.peers.0, λ t found at. added_taken config.asn slot t (peer_at old.conf t) (configured_of peer) found (is_taken closing config r slot peer old h may) (h.peers.1 t found) (sym (peers t) ∙ at));
       slots =

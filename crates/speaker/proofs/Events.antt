@@ -1,6 +1,6 @@
 use Rattle.std.proofs.Common.{◌≡◌, ◌≢◌, ◌≤◌, ◌<◌, ◌+◌, ◌==◌, ◌&&◌, ◌⊎◌, ◌^◌, inl, inr, ℕ, Bool, true, false, List, [], ◌∷◌, ◌++◌, Option, Some, None, length, take, min, cond, refl, sym, ap, ◌∙◌, subst, arith, append-nil, append_assoc}
-use Rattle.std.proofs.lemmas.Bool.{cases_eq, eq-eqb, ne_eqb, eqb-true, lt-ltb, le-ltb}
-use Rattle.std.proofs.lemmas.List.{length-take, nil_from_length}
+use Rattle.std.proofs.lemmas.Bool.{cases_eq, eq-eqb, ne_eqb, lt-ltb, le-ltb}
+use Rattle.std.proofs.lemmas.List.{length-take}
 use Rattle.std.specs.Option.{IsSome, option_and_then}
 use Rattle.bgp_attr.specs.PathAttributes.{PathAttributes}
 use Rattle.bgp_conf.specs.Configuration.{Configuration, peer_at}
@@ -24,7 +24,7 @@ use Rattle.net_prefix.specs.declared.transport.Transport.{Transport}
 use Rattle.net_prefix.specs.declared.transport.Transport.TheVariants.{None as NoConnection, Opening, Listening, Open as Connected, Closing}
 use Rattle.rib_in.specs.LatestRoutes.{route_at}
 use Rattle.speaker.specs.AdjRibIn.{NeedsMemory, brought, is_among, route, sound_update, update_heard, word_if}
-use Rattle.speaker.specs.Agreement.{Agrees, Hears, HearsUntil, HoldsBy, IsFair, IsThrifty, MayStarve, SlotAgrees, Holds}
+use Rattle.speaker.specs.Agreement.{Agrees, Hears, HearsUntil, CacheAgrees, HoldsBy, IsFair, IsThrifty, MayStarve, SlotAgrees, Holds}
 use Rattle.speaker.proofs.SlotStates.{SlotIs, slot_agrees, slot_from, linked_from}
 use Rattle.speaker.specs.Choices.{announced_if, choices_by, choices_in, choices_on, choices_refused, named_if}
 use Rattle.speaker.specs.Chosen.{AreDifferent, ChoosesRefused}
@@ -33,12 +33,15 @@ use Rattle.speaker.specs.Moves.{KeepsKept, KeepsRest, IsPut, Moves, Pushes, Take
 use Rattle.speaker.specs.Queueing.{Queue, starved_in}
 use Rattle.speaker.specs.declared.event.Report.{Report}
 use Rattle.std.specs.Int.Bits.{bit_or}
-use Rattle.speaker.specs.Runs.{Call, Run, Turn, report_of, turn, asked, starved_by, Bytes_call, Starved_call, configuration_of, history, moment_after, opened_by, terms_in}
+use Rattle.speaker.specs.Runs.{Call, Run, Turn, cache_history, cache_opened_by, cache_starved_by, report_of, turn, asked, starved_by, Bytes_call, Starved_call, configuration_of, history, moment_after, opened_by, terms_in}
+use Rattle.rtr_codec.specs.ClientTable.{in_force}
+use Rattle.rtr_session.specs.SessionHistory as cached
 use Rattle.speaker.specs.SpeakerState.{SpeakerState}
 use Rattle.speaker.specs.Tables.{link_at}
 use Rattle.speaker.specs.declared.config.Config.{Config}
 use Rattle.speaker.proofs.AllowedChoices.{choices_append, choices_last, item_few, most_refused}
 use Rattle.speaker.proofs.Calls.{slots_changed}
+use Rattle.speaker.proofs.Coming.{HasCome, Joins}
 use Rattle.speaker.proofs.Counting.{different_as}
 use Rattle.speaker.proofs.Histories.{route_stays}
 use Rattle.speaker.proofs.KeptOffers.{moves_keep, pushes_keep}
@@ -50,15 +53,16 @@ use Rattle.speaker.proofs.SlotOctets.{agrees_dropped, slot_pushed, slot_signalle
 -- What each event makes of the speaker, as the run with it has it.
 
 -- one slot of the speaker changes
-pub put_agrees : (config : Config) (c1 c2 : Configuration) (now1 now2 : ℕ) (h1 h2 : ℕ → List happens.Event) (m1 m2 : ℕ) (slot : ℕ) (l : Linked) (old new : SpeakerState) → HoldsBy config c1 now1 h1 m1 old → c2 ≡ c1 → now2 ≡ now1
+pub put_agrees : (config : Config) (c1 c2 : Configuration) (now1 now2 : ℕ) (k1 k2 : List cached.Event) (h1 h2 : ℕ → List happens.Event) (m1 m2 : ℕ) (slot : ℕ) (l : Linked) (old new : SpeakerState) → HoldsBy config c1 now1 k1 h1 m1 old → c2 ≡ c1 → now2 ≡ now1 → k2 ≡ k1
     → KeepsKept old new → KeepsRest old new → IsPut slot l old new → ((t : ℕ) → t ≢ slot → (p : Prefix) → route_at new.adj_in t p ≡ route_at old.adj_in t p)
     → ((t : ℕ) → t ≢ slot → h2 t ≡ h1 t) → new.chosen ≤ new.chosen_before + m2
-    → SlotAgrees config (peer_at old.conf slot) (Some l) (route_at new.adj_in slot) (h2 slot) → HoldsBy config c2 now2 h2 m2 new
-put_agrees config c1 c2 now1 now2 h1 h2 m1 m2 slot l old new h conf moment kept keeps put routes histories few here = record {
+    → SlotAgrees config (peer_at old.conf slot) (Some l) (route_at new.adj_in slot) (h2 slot) → HoldsBy config c2 now2 k2 h2 m2 new
+put_agrees config c1 c2 now1 now2 k1 k2 h1 h2 m1 m2 slot l old new h conf moment cache kept keeps put routes histories few here = record {
   config_is = keeps.config ∙ h.config_is;
   moment = keeps.moment ∙ h.moment ∙ sym moment;
   conf = keeps.conf ∙ h.conf ∙ sym conf;
-  payloads = keeps.payloads ∙ h.payloads;
+  cache = subst (λ x. CacheAgrees config x new.cache) (sym cache) (subst (λ x. CacheAgrees config k1 x) (sym keeps.cache) h.cache);
+  payloads = keeps.payloads ∙ h.payloads ∙ ap (λ x. in_force (cached.client x)) (sym cache);
   peers = rw keeps.conf h.peers;
   slots =
       slots_changed config old.conf new.conf (link_at old.links) (link_at new.links) old.adj_in new.adj_in h1 h2 slot h.slots
@@ -73,21 +77,21 @@ put_agrees config c1 c2 now1 now2 h1 h2 m1 m2 slot l old new h conf moment kept 
     off : (t : ℕ) → t ≢ slot → cond (t == slot) (Some l) (link_at old.links t) ≡ link_at old.links t
     off t other = rw (ne_eqb t slot other) refl
 
-pub put_by : (config : Config) (c1 c2 : Configuration) (now1 now2 : ℕ) (h1 h2 : ℕ → List happens.Event) (m1 m2 : ℕ) (slot : ℕ) (l : Linked) (old new : SpeakerState) → HoldsBy config c1 now1 h1 m1 old → c2 ≡ c1 → now2 ≡ now1
+pub put_by : (config : Config) (c1 c2 : Configuration) (now1 now2 : ℕ) (k1 k2 : List cached.Event) (h1 h2 : ℕ → List happens.Event) (m1 m2 : ℕ) (slot : ℕ) (l : Linked) (old new : SpeakerState) → HoldsBy config c1 now1 k1 h1 m1 old → c2 ≡ c1 → now2 ≡ now1 → k2 ≡ k1
     → KeepsKept old new → KeepsRest old new → IsPut slot l old new → ((t : ℕ) → t ≢ slot → (p : Prefix) → route_at new.adj_in t p ≡ route_at old.adj_in t p)
     → ((t : ℕ) → t ≢ slot → h2 t ≡ h1 t) → new.chosen ≤ new.chosen_before + m2
-    → (peer : ConfiguredPeer) → peer_at old.conf slot ≡ Some peer → SlotIs config peer l (route_at new.adj_in slot) (h2 slot) → HoldsBy config c2 now2 h2 m2 new
-put_by config c1 c2 now1 now2 h1 h2 m1 m2 slot l old new h conf moment kept keeps put routes histories few peer configured here =
-    put_agrees config c1 c2 now1 now2 h1 h2 m1 m2 slot l old new h conf moment kept keeps put routes histories few
+    → (peer : ConfiguredPeer) → peer_at old.conf slot ≡ Some peer → SlotIs config peer l (route_at new.adj_in slot) (h2 slot) → HoldsBy config c2 now2 k2 h2 m2 new
+put_by config c1 c2 now1 now2 k1 k2 h1 h2 m1 m2 slot l old new h conf moment cache kept keeps put routes histories few peer configured here =
+    put_agrees config c1 c2 now1 now2 k1 k2 h1 h2 m1 m2 slot l old new h conf moment cache kept keeps put routes histories few
     (subst (λ found. SlotAgrees config found (Some l) (route_at new.adj_in slot) (h2 slot)) (sym configured) (slot_agrees config peer l (route_at new.adj_in slot) (h2 slot) here))
 
-pub holds_put : (config : Config) (r1 r2 : Run) (slot : ℕ) (l : Linked) (old new : SpeakerState) → Holds config r1 old → configuration_of config r2 ≡ configuration_of config r1 → moment_after r2 ≡ moment_after r1
+pub holds_put : (config : Config) (r1 r2 : Run) (slot : ℕ) (l : Linked) (old new : SpeakerState) → Holds config r1 old → configuration_of config r2 ≡ configuration_of config r1 → moment_after r2 ≡ moment_after r1 → cache_history r2 ≡ cache_history r1
     → KeepsKept old new → KeepsRest old new → IsPut slot l old new → ((t : ℕ) → t ≢ slot → (p : Prefix) → route_at new.adj_in t p ≡ route_at old.adj_in t p)
     → ((t : ℕ) → t ≢ slot → history config t r2 ≡ history config t r1) → new.chosen ≤ new.chosen_before + choices_in config r2
     → (peer : ConfiguredPeer) → peer_at old.conf slot ≡ Some peer → SlotIs config peer l (route_at new.adj_in slot) (history config slot r2) → Holds config r2 new
-holds_put config r1 r2 slot l old new h conf moment kept keeps put routes histories few peer configured here =
-    put_by config (configuration_of config r1) (configuration_of config r2) (moment_after r1) (moment_after r2) (λ t. history config t r1) (λ t. history config t r2) (choices_in config r1) (choices_in config r2) slot l old new
-    h conf moment kept keeps put routes histories few peer configured here
+holds_put config r1 r2 slot l old new h conf moment cache kept keeps put routes histories few peer configured here =
+    put_by config (configuration_of config r1) (configuration_of config r2) (moment_after r1) (moment_after r2) (cache_history r1) (cache_history r2) (λ t. history config t r1) (λ t. history config t r2) (choices_in config r1) (choices_in config r2) slot l old new
+    h conf moment cache kept keeps put routes histories few peer configured here
 
 -- a call begins: what was chosen so far was chosen in the calls before
 abbrev pub begun : SpeakerState → SpeakerState
@@ -98,6 +102,7 @@ holds_begun config r s h = record {
   config_is = h.config_is;
   moment = h.moment;
   conf = h.conf;
+  cache = h.cache;
   payloads = h.payloads;
   peers = h.peers;
   slots = h.slots;
@@ -162,18 +167,18 @@ left_on false r = refl
 
 -- the octets and the item that they complete are taken
 takes_found : (config : Config) (r1 r2 : Run) (slot : ℕ) (peer : ConfiguredPeer) (l : Linked) (found : Option Item) (old mid new : SpeakerState) → meaning l.peer.rest ≡ found
-    → Holds config r1 old → configuration_of config r2 ≡ configuration_of config r1 → moment_after r2 ≡ moment_after r1 → ((t : ℕ) → t ≢ slot → history config t r2 ≡ history config t r1) → peer_at old.conf slot ≡ Some peer
+    → Holds config r1 old → configuration_of config r2 ≡ configuration_of config r1 → moment_after r2 ≡ moment_after r1 → cache_history r2 ≡ cache_history r1 → ((t : ℕ) → t ≢ slot → history config t r2 ≡ history config t r1) → peer_at old.conf slot ≡ Some peer
     → KeepsKept old mid → KeepsRest old mid → IsPut slot l old mid → mid.adj_in ≡ old.adj_in
     → transport_of l.peer.session ≡ Connected → HasHeard (λ x rest. WithRest config peer l (route_at old.adj_in slot) x rest) (history config slot r2) l.peer.rest
     → TakesItem slot (terms_in config peer) l found mid new → new.chosen ≤ new.chosen_before + choices_in config r2 → Holds config r2 new
-takes_found config r1 r2 slot peer l None old mid new is h conf moment histories configured kept keeps put routes connected heard takes few =
+takes_found config r1 r2 slot peer l None old mid new is h conf moment cache histories configured kept keeps put routes connected heard takes few =
     let same : (t : ℕ) (p : Prefix) → route_at new.adj_in t p ≡ route_at old.adj_in t p = λ t p. takes.1 t p ∙ ap (λ table. route_at table t p) routes in
-    holds_put config r1 r2 slot l old new h conf moment (λ before. takes.2 (kept before)) (rest_kept old mid new keeps takes.3) (λ s. takes.0 s ∙ put s) (λ t other p. same t p) histories few
+    holds_put config r1 r2 slot l old new h conf moment cache (λ before. takes.2 (kept before)) (rest_kept old mid new keeps takes.3) (λ s. takes.0 s ∙ put s) (λ t other p. same t p) histories few
     peer configured (same_routes config peer l (route_at old.adj_in slot) (route_at new.adj_in slot) (history config slot r2) (heard.0 is) (same slot))
-takes_found config r1 r2 slot peer l (Some item) old mid new is h conf moment histories configured kept keeps put routes connected heard takes few =
+takes_found config r1 r2 slot peer l (Some item) old mid new is h conf moment cache histories configured kept keeps put routes connected heard takes few =
     let now : moment_of (history config slot r2) ≡ mid.moment = moment_same config r2 slot ∙ moment ∙ sym h.moment ∙ sym keeps.moment in
     let P : ℕ → Type 0 = λ at. SlotIs config peer (moved at l (input_of l.peer.session.state (terms_in config peer) item)) (route_at new.adj_in slot) (history config slot r2) in
-    holds_put config r1 r2 slot (moved mid.moment l (input_of l.peer.session.state (terms_in config peer) item)) old new h conf moment (λ before. takes.2 (kept before)) (rest_kept old mid new keeps takes.3)
+    holds_put config r1 r2 slot (moved mid.moment l (input_of l.peer.session.state (terms_in config peer) item)) old new h conf moment cache (λ before. takes.2 (kept before)) (rest_kept old mid new keeps takes.3)
     (λ s. takes.0 s ∙ ap (λ other. cond (s == slot) (Some (moved mid.moment l (input_of l.peer.session.state (terms_in config peer) item))) other) (put s)
     ∙ cond_again (s == slot) (Some (moved mid.moment l (input_of l.peer.session.state (terms_in config peer) item))) (Some l) (link_at old.links s))
     (λ t other p. takes.1 t p ∙ rw (ne_eqb t slot other) (left_off (effects_of (input_of l.peer.session.state (terms_in config peer) item) l.peer.session).left (route_at mid.adj_in t p)) ∙ ap (λ table. route_at table t p) routes)
@@ -266,7 +271,7 @@ holds_heard config r done slot peer l octets old mid new h configured linked con
     ap (λ x. onto octets x) (bytes_at config slot done r) ∙ sym (onto-append done octets (history config slot r)) ∙ sym (bytes_at config slot (done ++ octets) r) in
     let H : List happens.Event → Type 0 = λ x. HasHeard (λ y rest. WithRest config peer l (route_at old.adj_in slot) y rest) x (l.peer.rest ++ octets) in
     let heard = subst H on (slot_pushed config peer l (route_at old.adj_in slot) (history config slot (turn (Bytes_call slot done) [] ∷ r)) octets connected few here) in
-    takes_found config (turn (Bytes_call slot done) [] ∷ r) (turn (Bytes_call slot (done ++ octets)) [] ∷ r) slot peer (with_peer l (pushed l.peer octets)) _ old mid new refl h refl refl
+    takes_found config (turn (Bytes_call slot done) [] ∷ r) (turn (Bytes_call slot (done ++ octets)) [] ∷ r) slot peer (with_peer l (pushed l.peer octets)) _ old mid new refl h refl refl refl
     (λ t other. bytes_off config slot (done ++ octets) r t other ∙ sym (bytes_off config slot done r t other)) configured (pushes_keep slot l octets old mid linked pushes) pushes.rest pushes.links pushes.routes connected heard takes
     (heard_count config r done slot peer l octets old mid new h some connected pushes heard takes)
 
@@ -285,7 +290,7 @@ holds_shut config r done slot peer l octets old new h configured linked shut pus
     let before : old.chosen ≤ old.chosen_before + (choices_on done (history config slot r) + 0) = h.chosen in
     let still = pushes.chosen in
     let here_still = pushes.rest.chosen_before in
-    holds_put config (turn (Bytes_call slot done) [] ∷ r) (turn (Bytes_call slot (done ++ octets)) [] ∷ r) slot (with_peer l (pushed l.peer [])) old new h refl refl (pushes_keep slot l [] old new linked pushes) pushes.rest pushes.links
+    holds_put config (turn (Bytes_call slot done) [] ∷ r) (turn (Bytes_call slot (done ++ octets)) [] ∷ r) slot (with_peer l (pushed l.peer [])) old new h refl refl refl (pushes_keep slot l [] old new linked pushes) pushes.rest pushes.links
     (λ t other p. ap (λ table. route_at table t p) pushes.routes)
     (λ t other. bytes_off config slot (done ++ octets) r t other ∙ sym (bytes_off config slot done r t other))
     (omega (arith, before, here_still, still, choices_append done octets (history config slot r)))
@@ -362,7 +367,7 @@ starves_heard config r done slot peer l octets behind old mid new h configured l
       behind,
       ap (λ xs. done ++ (xs ++ behind)) cut.2 ∙ ap (λ xs. done ++ xs) (append_assoc cut.0 (cut.1 ∷ []) behind) ∙ sym (append_assoc done cut.0 (cut.1 ∷ behind)),
       subst (λ octet. M (onto (done ++ cut.0) (history config slot r)) octet) (sym same.0) (subst (λ x. M x heard.octet) (sym same.1) may),
-      holds_put config was (turn (Starved_call slot (done ++ cut.0) cut.1 behind) [] ∷ r) slot (moved mid.moment (with_peer l (pushed l.peer octets)) NoMemory) old new h refl refl
+      holds_put config was (turn (Starved_call slot (done ++ cut.0) cut.1 behind) [] ∷ r) slot (moved mid.moment (with_peer l (pushed l.peer octets)) NoMemory) old new h refl refl refl
           (λ before. moves_keep slot (with_peer l (pushed l.peer octets)) NoMemory mid new (put_here slot (with_peer l (pushed l.peer octets)) old mid pushes.links) moves (pushes_keep slot l octets old mid linked pushes before))
           (rest_kept old mid new pushes.rest moves.rest)
           (λ s. moves.links s ∙ ap (λ other. cond (s == slot) (Some (moved mid.moment (with_peer l (pushed l.peer octets)) NoMemory)) other) (pushes.links s)
@@ -398,6 +403,7 @@ holds_nothing config r slot s h few = record {
   config_is = h.config_is;
   moment = h.moment;
   conf = h.conf;
+  cache = h.cache;
   payloads = h.payloads;
   peers = h.peers;
   slots = λ t. let P : List happens.Event → Type 0 = λ x. SlotAgrees config (peer_at s.conf t) (link_at s.links t) (route_at s.adj_in t) x in subst P (sym (bytes_none config slot r t _ refl)) (h.slots t);
@@ -417,11 +423,12 @@ slot_ticked config found linked routes h now a = record {
 }
 
 pub holds_ticked : (config : Config) (r : Run) (now : ℕ) (s : SpeakerState) → Holds config r s → s.chosen ≤ s.chosen_before
-    → HoldsBy config (configuration_of config r) now (λ t. Ticked now ∷ history config t r) 0 (record s { moment = now })
+    → HoldsBy config (configuration_of config r) now (cache_history r) (λ t. Ticked now ∷ history config t r) 0 (record s { moment = now })
 holds_ticked config r now s h few = record {
   config_is = h.config_is;
   moment = refl;
   conf = h.conf;
+  cache = h.cache;
   payloads = h.payloads;
   peers = h.peers;
   slots = λ t. slot_ticked config (peer_at s.conf t) (link_at s.links t) (route_at s.adj_in t) (history config t r) now (h.slots t);
@@ -436,6 +443,7 @@ holds_dropped config r slot l octets s h linked shut few = record {
   config_is = h.config_is;
   moment = h.moment;
   conf = h.conf;
+  cache = h.cache;
   payloads = h.payloads;
   peers = h.peers;
   slots = λ t. elim (cases_eq t slot) [
@@ -456,45 +464,18 @@ pub some_taken : (count : ℕ) (octets : List ℕ) → count ≤ length octets �
 some_taken count octets within some = omega (arith, length-take count octets, within, some)
 
 -- octets one after another
-pub Hears-more : (slot : ℕ) (a b : List ℕ) (old mid new : SpeakerState) → Hears slot a old mid → Hears slot b mid new → Hears slot (a ++ b) old new
+pub Hears-more : (slot : ℕ) → Joins (Hears slot)
 Hears-more slot a b old mid new first later config r done peer configured holds =
     let before = first config r done peer configured holds in
     let still : peer_at mid.conf slot ≡ Some peer = ap (λ c. peer_at c slot) (before.conf ∙ sym holds.conf) ∙ configured in
     subst (λ x. Holds config (turn (Bytes_call slot x) [] ∷ r) new) (append_assoc done a b) (later config r (done ++ a) peer still before)
 
--- octets that have come so far, with those that are still to come
-pub record HasCome (slot : ℕ) (octets rest : List ℕ) (first now : SpeakerState) : Type 0 where
-  pub done : List ℕ
-  pub whole : done ++ rest ≡ octets
-  pub heard : Hears slot done first now
-  pub counted : now.chosen_before ≡ first.chosen_before
-  pub rises : first.chosen ≤ now.chosen
-
-pub HasCome-start : (slot : ℕ) (octets : List ℕ) (first : SpeakerState) → HasCome slot octets octets first first
-HasCome-start slot octets first = record {
-  done = [];
-  whole = refl;
-  heard = λ config r done peer configured holds. subst (λ x. Holds config (turn (Bytes_call slot x) [] ∷ r) first) (sym (append-nil done)) holds;
-  counted = refl;
-  rises = omega arith;
-}
-
-pub HasCome-more : (slot : ℕ) (octets rest taken next : List ℕ) (first now new : SpeakerState) → HasCome slot octets rest first now → taken ++ next ≡ rest → Hears slot taken now new → new.chosen_before ≡ now.chosen_before → now.chosen ≤ new.chosen
-    → HasCome slot octets next first new
-HasCome-more slot octets rest taken next first now new h split more same later = record {
-  done = h.done ++ taken;
-  whole = append_assoc h.done taken next ∙ ap (λ x. h.done ++ x) split ∙ h.whole;
-  heard = Hears-more slot h.done taken first now new h.heard more;
-  counted = same ∙ h.counted;
-  rises = let before = h.rises in omega (arith, before, later);
-}
-
--- all octets have come, or the rest is dropped
-pub HasCome-end : (slot : ℕ) (octets rest : List ℕ) (first now new : SpeakerState) → HasCome slot octets rest first now → Hears slot rest now new → Hears slot octets first new
-HasCome-end slot octets rest first now new h last = subst (λ x. Hears slot x first new) h.whole (Hears-more slot h.done rest first now new h.heard last)
+-- none are nothing
+pub Hears-start : (slot : ℕ) (s : SpeakerState) → Hears slot [] s s
+Hears-start slot s config r done peer configured holds = subst (λ x. Holds config (turn (Bytes_call slot x) [] ∷ r) s) (sym (append-nil done)) holds
 
 -- memory is refused behind octets that have come
-pub HasCome-until : (slot : ℕ) (octets rest : List ℕ) (first now new : SpeakerState) → HasCome slot octets rest first now → HearsUntil slot rest now new → HearsUntil slot octets first new
+pub HasCome-until : (slot : ℕ) (octets rest : List ℕ) (first now new : SpeakerState) → HasCome (Hears slot) octets rest first now → HearsUntil slot rest now new → HearsUntil slot octets first new
 HasCome-until slot octets rest first now new h until config r done peer configured holds =
     let mid = h.heard config r done peer configured holds in
     let still : peer_at now.conf slot ≡ Some peer = ap (λ c. peer_at c slot) (mid.conf ∙ sym holds.conf) ∙ configured in
@@ -505,27 +486,20 @@ pub Hears-none : (slot : ℕ) (rest : List ℕ) (s : SpeakerState) → rest ≡ 
 Hears-none slot rest s none config r done peer configured holds =
     subst (λ x. Holds config (turn (Bytes_call slot x) [] ∷ r) s) (sym (append-nil done) ∙ ap (λ x. done ++ x) (sym none)) holds
 
-pub some_left : (n : ℕ) → false ≡ (n == 0) → 0 < n
-some_left n is = elim (cases_eq n 0) [
-  | inl none ↦ absurd (let back = eq-eqb n 0 none in cc)
-  | inr some ↦ omega (arith, some)
-]
-
-pub none_left : (octets : List ℕ) → true ≡ (length octets == 0) → octets ≡ []
-none_left octets is = nil_from_length octets (eqb-true (length octets) 0 (sym is))
-
--- a call that has taken its event, up to its end
-pub record IsReady (config : Config) (r : Run) (wanted : Call) (opened starved : ℕ) (s : SpeakerState) : Type 0 where
+-- a call that has taken its event, up to its end, and what it reports so far
+pub record IsReady (config : Config) (r : Run) (wanted : Call) (done : Report) (s : SpeakerState) : Type 0 where
   pub call : Call
   pub asked_is : asked call ≡ wanted
-  pub opened_is : opened_by config r call ≡ opened
-  pub starved_is : starved_by call ≡ starved
+  pub opened_is : opened_by config r call ≡ done.opened
+  pub starved_is : starved_by call ≡ done.starved
+  pub cache_opened_is : cache_opened_by r call ≡ done.cache_opened
+  pub cache_starved_is : cache_starved_by call ≡ done.cache_starved
   pub fair : IsFair config r call
   pub holds : Holds config (turn call [] ∷ r) s
 
 -- octets to one of which memory was refused
 pub ready_starved : (config : Config) (r : Run) (slot starved : ℕ) (octets : List ℕ) (peer : ConfiguredPeer) (old new : SpeakerState) → starved ≡ 2 ^ slot → HearsUntil slot octets old new
-    → peer_at old.conf slot ≡ Some peer → Holds config r old → old.chosen ≤ old.chosen_before → IsReady config r (Bytes_call slot octets) 0 starved new
+    → peer_at old.conf slot ≡ Some peer → Holds config r old → old.chosen ≤ old.chosen_before → IsReady config r (Bytes_call slot octets) (record { opened = 0; starved = starved; cache_opened = false; cache_starved = false }) new
 ready_starved config r slot starved octets peer old new is until configured holds few =
     let found = until config r [] peer configured (holds_nothing config r slot old holds few) in
     record {
@@ -533,15 +507,17 @@ ready_starved config r slot starved octets peer old new is until configured hold
       asked_is = ap (λ x. Bytes_call slot x) (sym found.3);
       opened_is = refl;
       starved_is = sym is;
+      cache_opened_is = refl;
+      cache_starved_is = refl;
       fair = found.4;
       holds = found.5;
     }
 
 -- a step with what it did at its end
-pub steps : (config : Config) (r : Run) (wanted : Call) (opened starved : ℕ) (mid new : SpeakerState) (more : ℕ) (report : Report) → IsReady config r wanted opened starved mid → IsThrifty config r
+pub steps : (config : Config) (r : Run) (wanted : Call) (done : Report) (mid new : SpeakerState) (more : ℕ) (report : Report) → IsReady config r wanted done mid → IsThrifty config r
     → ((config : Config) (call : Call) (r : Run) → Holds config (turn call [] ∷ r) mid → IsFair config r call → IsThrifty config r → (queue : Queue) × (starved_in queue ≡ more) × Agrees config (turn call queue ∷ r) new)
-    → report ≡ record { opened = opened; starved = bit_or starved more; cache_opened = false; cache_starved = false }
+    → report ≡ record { opened = done.opened; starved = bit_or done.starved more; cache_opened = done.cache_opened; cache_starved = done.cache_starved }
     → (now : Turn) × (asked now.call ≡ wanted) × (report ≡ report_of config r now) × Agrees config (now ∷ r) new
-steps config r wanted opened starved mid new more report ready thrifty settles is =
+steps config r wanted done mid new more report ready thrifty settles is =
     let end = settles config ready.call r ready.holds ready.fair thrifty in
-    (turn ready.call end.0, ready.asked_is, rw (ready.opened_is, ready.starved_is, end.1) is, end.2)
+    (turn ready.call end.0, ready.asked_is, rw (ready.opened_is, ready.starved_is, ready.cache_opened_is, ready.cache_starved_is, end.1) is, end.2)

@@ -24,7 +24,7 @@ use Rattle.speaker.specs.Candidates.{IsCandidate, IsMade, HasNoneAt, IsOnlyCandi
 use Rattle.speaker.specs.Linked.{Linked}
 use Rattle.speaker.specs.LocRib.{HasNoCandidate, IsBest, IsLocRib}
 use Rattle.speaker.specs.Moves.{Hands, IsPut, KeepsKept, Moves, Pushes, moved}
-use Rattle.speaker.specs.Offers.{AreKept, AreMadeAgain, IsOffer, Offers, read_in}
+use Rattle.speaker.specs.Offers.{AreKept, AreMadeAgain, AreMadeWhere, IsOffer, Offers, read_in}
 use Rattle.speaker.specs.Serving.{IsStill, IsToldAt}
 use Rattle.speaker.specs.SpeakerState.{SpeakerState, tables_of}
 use Rattle.speaker.specs.Tables.{Tables, link_at, session_at, tables}
@@ -394,8 +394,40 @@ pub kept_again : (old new : SpeakerState) → new.links ≡ old.links → new.ad
 kept_again old new links adj_in again =
     kept_remade old new (offer_at old.book) (offer_at new.book)
     (λ slot prefix session linked below there.
-    subst (λ t. IsOffer t slot prefix (offer_at new.book slot prefix)) (λ i. tables new.conf new.payloads (sym links i) (sym adj_in i)) (again.made slot prefix session below linked there))
-    again.still links adj_in
+    subst (λ t. IsOffer t slot prefix (offer_at new.book slot prefix)) (λ i. tables new.conf new.payloads (sym links i) (sym adj_in i)) (again.made slot prefix session refl below linked there))
+    (λ slot prefix none. again.still slot prefix (inr none)) links adj_in
+
+-- the payloads in force change: the candidates of some prefixes are made again, and of the others no state changes
+pub kept_touched : (holds : Prefix → Bool) (old new : SpeakerState) → new.conf ≡ old.conf → new.links ≡ old.links → new.adj_in ≡ old.adj_in
+    → AreMadeWhere (tables new.conf new.payloads new.links new.adj_in) holds (offer_at old.book) (offer_at new.book)
+    → ((q : Prefix) → holds q ≡ false → (origin : Option Asn) → validity new.payloads q origin ≡ validity old.payloads q origin)
+    → AreKept (tables_of old) (offer_at old.book) → AreKept (tables_of new) (offer_at new.book)
+kept_touched holds old new conf links adj_in made states kept = record {
+  made = λ s p. made_here s p (holds p) refl (route_at old.adj_in s p) refl;
+  routed = λ s p there. let before = kept.routed s p (some_if (route_at old.adj_in s p) (route_at new.adj_in s p) (ap (λ t. route_at t s p) (sym adj_in)) there) in (before.0, ap (λ t. session_at t s) links ∙ before.1, before.2);
+  below = λ s session there. kept.below s session (ap (λ t. session_at t s) (sym links) ∙ there);
+}
+  where
+    made_here : (s : ℕ) (p : Prefix) (b : Bool) → holds p ≡ b → (found : Option PathAttributes) → route_at old.adj_in s p ≡ found → IsOffer (tables_of new) s p (offer_at new.book s p)
+    made_here s p false at found is =
+        subst (λ f. IsOffer (tables_of new) s p f) (sym (made.still s p (inl at)))
+        (offer_alike (tables_of old) (tables_of new) s p (offer_at old.book s p)
+        (record {
+          own = ap (λ (c : Configuration). c.own) conf;
+          reach = ap (λ (c : Configuration). c.reach) conf;
+          peer = ap (λ c. peer_at c s) conf;
+          identifier = ap (λ t. option_map (λ (x : Session). x.identifier) (session_at t s)) links;
+          route = ap (λ t. route_at t s p) adj_in;
+          state = states p at;
+        })
+        (kept.made s p))
+    made_here s p true at None is =
+        subst (λ f. IsOffer (tables_of new) s p f) (sym (made.still s p (inr (ap (λ t. route_at t s p) adj_in ∙ is))))
+        (offer_unrouted (tables_of old) (tables_of new) s p (offer_at old.book s p) is (ap (λ t. route_at t s p) adj_in ∙ is) (kept.made s p))
+    made_here s p true at (Some attrs) is =
+        let there : IsSome (route_at old.adj_in s p) = rw is refl in
+        let before = kept.routed s p there in
+        made.made s p before.0 at (kept.below s before.0 before.1) (ap (λ t. session_at t s) links ∙ before.1) (some_if (route_at new.adj_in s p) (route_at old.adj_in s p) (ap (λ t. route_at t s p) adj_in) there)
 
 -- Loc-RIB has the best of the candidates of all routes
 

@@ -18,6 +18,7 @@ pub mod NeededMemory
 pub mod Calls
 pub mod Passing
 pub mod Messages
+pub mod Coming
 pub mod Events
 pub mod Commands
 pub mod Takes
@@ -37,3 +38,8 @@ pub mod Counting
 pub mod AllowedChoices
 pub mod Owing
 pub mod AddedMarks
+pub mod Revalidating
+pub mod CacheSteps
+pub mod Touches
+pub mod Stretching
+pub mod TouchedStretches

@@ -1,14 +1,15 @@
-use Rattle.std.proofs.Common.{◌≡◌, ◌≤◌, ◌<◌, ◌++◌, IfOk, IfErr, List, [], ◌∷◌, Option, Some, None, Result, Ok, Err, refl, sym, ap, ◌∙◌, subst, arith}
+use Rattle.std.proofs.Common.{◌≡◌, ◌≤◌, ◌<◌, ◌++◌, IfOk, IfErr, Bool, true, false, cond, List, [], ◌∷◌, Option, Some, None, Result, Ok, Err, refl, sym, ap, ◌∙◌, subst, arith}
 use Rattle.std.specs.Option.{MatchOption, option_map}
 use Rattle.bgp_conf.specs.declared.refusal.Refusal.{Refusal}
 use Rattle.bgp_conf.specs.declared.refusal.Refusal.TheVariants.{NoMemory}
 use Rattle.decision.specs.BookContents.{offer_at}
 use Rattle.rib_in.specs.LatestRoutes.{route_at}
-use Rattle.speaker.specs.Agreement.{Agrees}
+use Rattle.speaker.specs.Agreement.{CacheAgrees, Agrees}
+use Rattle.rtr_session.specs.SessionState.{configured}
 use Rattle.speaker.specs.FirstRefusal.{refusal_in, refusal_of, Grows, LacksMemory}
 use Rattle.speaker.specs.Linked.{Linked}
 use Rattle.speaker.specs.Played.{Follows, GoesOn, IsPlayed, Point, beginning}
-use Rattle.speaker.specs.Runs.{Run, Turn, asked, call_of, configuration_of, report_of}
+use Rattle.speaker.specs.Runs.{cache_history, Run, Turn, asked, call_of, configuration_of, report_of}
 use Rattle.speaker.specs.SpeakerState.{SpeakerState, IsAsBefore, started, tables_of}
 use Rattle.speaker.specs.declared.config.Config.{Config}
 use Rattle.speaker.specs.declared.event.Event.{Event}
@@ -19,6 +20,11 @@ use Rattle.speaker.proofs.WaitingLists.{nothing_rises}
 
 -- Lists of events.
 
+-- a cache session that is asked for is as nothing leaves it
+cache_starts : (config : Config) (b : Bool) → config.cache ≡ b → CacheAgrees config [] (cond b (Some configured) None)
+cache_starts config true is = (is, record { client = refl; reading = λ stands. absurd (cc); ring = refl })
+cache_starts config false is = (is, refl)
+
 -- a speaker without peers is as no call leaves it
 pub agrees_new : (config : Config) → 0 < config.asn.0 → Agrees config [] (started config)
 agrees_new config own = record {
@@ -26,6 +32,7 @@ agrees_new config own = record {
     config_is = refl;
     moment = refl;
     conf = refl;
+    cache = cache_starts config config.cache refl;
     payloads = refl;
     peers = (own, λ slot peer at. absurd (cc));
     slots = λ slot. record {
@@ -63,6 +70,7 @@ agrees_same config r old new same a = record {
     config_is = same.config ∙ a.holds.config_is;
     moment = same.moment ∙ a.holds.moment;
     conf = same.conf ∙ a.holds.conf;
+    cache = subst (λ x. CacheAgrees config (cache_history r) x) (sym same.cache) a.holds.cache;
     payloads = same.payloads ∙ a.holds.payloads;
     peers = rw same.conf a.holds.peers;
     slots = λ t. rw (same.conf, same.links t, same.adj_in) (a.holds.slots t);

@@ -27,8 +27,14 @@ use Rattle.speaker.proofs.KeptOffers.{moves_keep}
 pub some_same : {X : Type 0} (o : Option X) (x y : X) → Some x ≡ o → o ≡ Some y → x ≡ y
 some_same o x y a b = cc
 
+pub rises_once : (a b c : ℕ) → b ≡ a → b ≤ c → a ≤ c
+rises_once a b c same first = omega (arith, same, first)
+
+pub rises_twice : (a b c d : ℕ) → b ≡ a → b ≤ c → c ≤ d → a ≤ d
+rises_twice a b c d same first later = omega (arith, same, first, later)
+
 pub rest_kept : (a b c : SpeakerState) → KeepsRest a b → KeepsRest b c → KeepsRest a c
-rest_kept a b c h k = record { config = k.config ∙ h.config; moment = k.moment ∙ h.moment; conf = k.conf ∙ h.conf; payloads = k.payloads ∙ h.payloads; chosen_before = k.chosen_before ∙ h.chosen_before }
+rest_kept a b c h k = record { config = k.config ∙ h.config; moment = k.moment ∙ h.moment; conf = k.conf ∙ h.conf; cache = k.cache ∙ h.cache; payloads = k.payloads ∙ h.payloads; chosen_before = k.chosen_before ∙ h.chosen_before }
 
 -- how often a best route was chosen for a message, its UPDATE's routes and those of a session that it ends
 heard_chosen : (slot : ℕ) (update : Option UpdateBody) (left : Bool) (old mid new : SpeakerState) → IsHeard slot update old.adj_in mid.adj_in → mid.chosen ≤ old.chosen + named_if update → Chooses slot left mid new

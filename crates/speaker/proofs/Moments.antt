@@ -7,7 +7,7 @@ use Rattle.bgp_fsm.specs.declared.timers.Timer.{Timer}
 use Rattle.bgp_fsm.specs.TimerMoments.{has_ended}
 use Rattle.bgp_peer.specs.SessionInputs.{Octet, Signalled, Ticked, ending, endings, moment_of, onto, session, timers}
 use Rattle.speaker.specs.Queueing.{Queue, Service, Tells, Starves}
-use Rattle.speaker.specs.Runs.{Call, Run, Up_call, Fail_call, Bytes_call, Starved_call, Tick_call, Command_call, Take_call, called, commanded, history, moment_after, moment_called, queued_on, served_by}
+use Rattle.speaker.specs.Runs.{Call, Run, Up_call, Fail_call, Bytes_call, Starved_call, Tick_call, Command_call, Take_call, Cache_up_call, Cache_fail_call, Cache_bytes_call, Cache_starved_call, Cache_take_call, called, commanded, history, moment_after, moment_called, queued_on, served_by}
 use Rattle.speaker.specs.declared.config.Config.{Config}
 
 -- All slots are at the moment of the run.
@@ -53,6 +53,11 @@ called_moves config s (Starved_call slot before octet behind) h =
 called_moves config s (Tick_call now) h = endings_stay timers now (Ticked now ∷ h)
 called_moves config s (Command_call command) h = commanded_stays config s command h
 called_moves config s (Take_call slot octets) h = either (s == slot) _ h (moment_of h) refl refl
+called_moves config s Cache_up_call h = refl
+called_moves config s Cache_fail_call h = refl
+called_moves config s (Cache_bytes_call octets) h = refl
+called_moves config s (Cache_starved_call before octet behind) h = refl
+called_moves config s (Cache_take_call octets) h = refl
 
 pub moment_same : (config : Config) (r : Run) (slot : ℕ) → moment_of (history config slot r) ≡ moment_after r
 moment_same config [] slot = refl

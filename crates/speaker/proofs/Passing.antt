@@ -35,7 +35,7 @@ use Rattle.speaker.specs.Candidates.{IsCandidate}
 use Rattle.speaker.specs.Offers.{AreKept}
 use Rattle.speaker.specs.Moves.{Moves}
 use Rattle.speaker.specs.Queueing.{ComesFirst, Queue, Starves, Tells, IsServed, starved_in, update_saying, rank_of}
-use Rattle.speaker.specs.Runs.{Call, Run, turn, configuration_of, history}
+use Rattle.speaker.specs.Runs.{payloads_after, Call, Run, turn, configuration_of, history}
 use Rattle.speaker.specs.Serving.{HasRoom, IsServedAt, IsShortAt, IsStill, IsToldAt}
 use Rattle.speaker.specs.SpeakerState.{SpeakerState, tables_of}
 use Rattle.speaker.specs.Tables.{Tables, best_at, link_at}
@@ -75,7 +75,7 @@ same_route false u h p = refl
 tables_queued : (config : Config) (call : Call) (r : Run) (queue : Queue) (slot : ℕ) (u : List ℕ) → tables_after config (turn call ((slot, Tells u) ∷ queue) ∷ r) ≡ tables_after config (turn call queue ∷ r)
 tables_queued config call r queue slot u = λ i. record {
   conf = configuration_of config (turn call queue ∷ r);
-  payloads = [];
+  payloads = payloads_after (turn call queue ∷ r);
   sessions = λ s. same_session (s == slot) u (history config s (turn call queue ∷ r)) i;
   routes = λ s prefix. same_route (s == slot) u (history config s (turn call queue ∷ r)) prefix i;
 }
@@ -166,9 +166,9 @@ queues_told slot p export now new told up room exported accepts news order confi
       (slot, Tells (update_saying p export)) ∷ queue,
       record {
         holds =
-            holds_put config (turn call queue ∷ r) (turn call ((slot, Tells (update_saying p export)) ∷ queue) ∷ r) slot told.after now new passes.holds refl refl
+            holds_put config (turn call queue ∷ r) (turn call ((slot, Tells (update_saying p export)) ∷ queue) ∷ r) slot told.after now new passes.holds refl refl refl
             (λ kept. subst (λ b. AreKept (tables_of new) (offer_at b)) (sym book) (kept_told slot p export now new (offer_at now.book) told kept))
-            (record { config = ap (λ (s : SpeakerState). s.config) told.rest; moment = ap (λ (s : SpeakerState). s.moment) told.rest; conf = ap (λ (s : SpeakerState). s.conf) told.rest; payloads = ap (λ (s : SpeakerState). s.payloads) told.rest; chosen_before = ap (λ (s : SpeakerState). s.chosen_before) told.rest })
+            (record { config = ap (λ (s : SpeakerState). s.config) told.rest; moment = ap (λ (s : SpeakerState). s.moment) told.rest; conf = ap (λ (s : SpeakerState). s.conf) told.rest; cache = ap (λ (s : SpeakerState). s.cache) told.rest; payloads = ap (λ (s : SpeakerState). s.payloads) told.rest; chosen_before = ap (λ (s : SpeakerState). s.chosen_before) told.rest })
             told.puts (λ t other q. ap (λ table. route_at table t q) routes) (λ t other. off_slot config t slot call (Tells (update_saying p export)) queue r other)
             (told_few config call r queue slot (update_saying p export) now new told.rest passes.holds.chosen)
             peer.0 peer.1 (rw (routes, at_slot config slot call (Tells (update_saying p export)) queue r) after);
@@ -188,6 +188,7 @@ queues_still now new still config call r queue passes =
           config_is = passes.holds.config_is;
           moment = passes.holds.moment;
           conf = passes.holds.conf;
+          cache = passes.holds.cache;
           payloads = passes.holds.payloads;
           peers = passes.holds.peers;
           slots = λ t. subst (λ l. SlotAgrees config (peer_at now.conf t) l (route_at now.adj_in t) (history config t (turn call queue ∷ r))) (sym (still.links t)) (passes.holds.slots t);
@@ -275,7 +276,7 @@ pub queues_starved : (slot : ℕ) (old new : SpeakerState) → (short : IsShortA
     → ((p : Prefix) → IsBestOf (λ s. offer_at new.book s p) (best_at new.loc_rib p)) → IsStrictlySortedBy prefix_cmp (keys_of new.loc_rib) → QueuesStarved slot old new
 queues_starved slot old new short moves chooses best rising config call r queue passes =
     let holds : Holds config (turn call ((slot, Starves) ∷ queue) ∷ r) new =
-    holds_signalled config (turn call queue ∷ r) (turn call ((slot, Starves) ∷ queue) ∷ r) slot short.linked NoMemory old new passes.holds short.peer short.configured (λ x. refl) short.is refl (λ e. cc) moves refl refl (λ t. refl) chooses (choices_in config (turn call queue ∷ r)) passes.holds.chosen (omega arith) in
+    holds_signalled config (turn call queue ∷ r) (turn call ((slot, Starves) ∷ queue) ∷ r) slot short.linked NoMemory old new passes.holds short.peer short.configured (λ x. refl) short.is refl (λ e. cc) moves refl refl refl (λ t. refl) chooses (choices_in config (turn call queue ∷ r)) passes.holds.chosen (omega arith) in
     let tables = tables_same config (turn call ((slot, Starves) ∷ queue) ∷ r) new.conf new.payloads (link_at new.links) new.adj_in (sym holds.conf) holds.payloads holds.slots in
     record {
       holds = holds;

@@ -1,4 +1,4 @@
-use Rattle.std.proofs.Common.{◌≡◌, ◌<◌, ◌≤◌, ◌+◌, ◌^◌, ◌==◌, ◌++◌, ℕ, Bool, true, false, List, [], ◌∷◌, Option, Some, None, All, length, cond, refl, sym, ap, ◌∙◌, subst, inl, inr, arith, length-append}
+use Rattle.std.proofs.Common.{◌≡◌, ◌<◌, ◌≤◌, ◌+◌, ◌^◌, ◌==◌, ◌||◌, ◌⊎◌, ◌++◌, ℕ, Bool, true, false, List, [], ◌∷◌, Option, Some, None, All, length, cond, refl, sym, ap, ◌∙◌, subst, inl, inr, arith, length-append}
 use Rattle.std.specs.Option.{IfSome, IsSome}
 use Rattle.std.specs.Ordering.{is_gt}
 use Rattle.std.proofs.lemmas.Bool.{cases_lt, eq-eqb, eqb-true}
@@ -10,7 +10,7 @@ use Rattle.decision.specs.declared.candidate.Candidate.{Candidate}
 use Rattle.net_prefix.specs.PrefixOrder.{prefix_cmp, IsAbove}
 use Rattle.net_prefix.specs.declared.prefix.Prefix.{Prefix}
 use Rattle.rib_out.proofs.Prefixes.{is_prefix-refl}
-use Rattle.speaker.specs.Offers.{AreMadeAgain, AreRemade, IsOffer, IsOwn, IsRemade, IsSound, LacksRoute, Offers}
+use Rattle.speaker.specs.Offers.{AreMadeAgain, AreMadeAt, AreMadeWhere, AreRemade, IsOffer, IsOwn, IsRemade, IsSound, LacksRoute, Offers}
 use Rattle.speaker.specs.Queueing.{rank_of}
 use Rattle.speaker.specs.Tables.{Tables}
 use Rattle.speaker.proofs.Places.{above_from_rank, reached, same_from_is_prefix, same_from_rank}
@@ -129,17 +129,36 @@ sound_remade t p changes had has remade sound offers = record {
   own = λ s q. own_remade t p q changes s (had s q) (has s q) (is_prefix p q) remade (sound.own s q) (offers s q);
 }
 
--- those of all prefixes up to one
-pub record RemadeUpTo (t : Tables) (had : Offers) (after : Option Prefix) (now : Offers) : Type 0 where
-  pub place : IsPlace after
-  pub made : (slot : ℕ) (q : Prefix) (session : Session) → rank_of q < reached after → slot < 64 → t.sessions slot ≡ Some session → IsSome (t.routes slot q) → IsOffer t slot q (now slot q)
-  pub still : (slot : ℕ) (q : Prefix) → t.routes slot q ≡ None → now slot q ≡ had slot q
+-- ---- prefix by prefix
 
-pub RemadeUpTo-none : (t : Tables) (had : Offers) → RemadeUpTo t had None had
-RemadeUpTo-none t had = record {
+-- those of the routes to one prefix
+pub made_at : (t : Tables) (p : Prefix) (changes : List Change) (had has : Offers) → AreRemade t p changes
+    → ((s : ℕ) (q : Prefix) → has s q ≡ cond (is_prefix p q) (changed changes s (had s q)) (had s q)) → AreMadeAt t p had has
+made_at t p changes had has remade offers = record {
+  made = λ slot session below linked there.
+      subst (λ f. IsOffer t slot p f) (sym (offers slot p ∙ ap (λ b. cond b (changed changes slot (had slot p)) (had slot p)) (is_prefix-refl p)))
+      (remade.made slot session (had slot p) below linked there);
+  still = λ slot q out. offers slot q ∙ still_here slot q (is_prefix p q) refl out;
+}
+  where
+    still_here : (slot : ℕ) (q : Prefix) (b : Bool) → is_prefix p q ≡ b → (is_prefix p q ≡ false) ⊎ (t.routes slot q ≡ None) → cond b (changed changes slot (had slot q)) (had slot q) ≡ had slot q
+    still_here slot q false other out = refl
+    still_here slot q true same (inl other) = absurd (cc)
+    still_here slot q true same (inr none) =
+        let one : p ≡ q = same_from_is_prefix p q same in
+        remade.still slot (had slot q) (inr (subst (λ x. t.routes slot x ≡ None) (sym one) none))
+
+-- those of all prefixes of which this holds, up to one
+pub record RemadeUpTo (t : Tables) (holds : Prefix → Bool) (had : Offers) (after : Option Prefix) (now : Offers) : Type 0 where
+  pub place : IsPlace after
+  pub made : (slot : ℕ) (q : Prefix) (session : Session) → holds q ≡ true → rank_of q < reached after → slot < 64 → t.sessions slot ≡ Some session → IsSome (t.routes slot q) → IsOffer t slot q (now slot q)
+  pub still : (slot : ℕ) (q : Prefix) → (holds q ≡ false) ⊎ (t.routes slot q ≡ None) → now slot q ≡ had slot q
+
+pub RemadeUpTo-none : (t : Tables) (holds : Prefix → Bool) (had : Offers) → RemadeUpTo t holds had None had
+RemadeUpTo-none t holds had = record {
   place = tt;
-  made = λ slot q session under. absurd (omega (arith, under));
-  still = λ slot q none. refl;
+  made = λ slot q session held under. absurd (omega (arith, under));
+  still = λ slot q out. refl;
 }
 
 -- a prefix between the last one and the next has no route
@@ -147,13 +166,13 @@ no_route_between : {X P : Type 0} (p q : Prefix) (found : Option X) → (IsSome 
 no_route_between p q found least under there = absurd (let never = subst (λ o. IsSome o) (none_between p q found least under) there in cc)
 
 -- the next prefix
-pub RemadeUpTo-more : (t : Tables) (had now new : Offers) (after : Option Prefix) (p : Prefix) (changes : List Change) → RemadeUpTo t had after now → IsAbove after p
-    → ((s : ℕ) (r : Prefix) → IsAbove after r → IsSome (t.routes s r) → is_gt (prefix_cmp p r) ≡ false) → rank_of p < 2 ^ 38
-    → AreRemade t p changes → ((s : ℕ) (q : Prefix) → new s q ≡ cond (is_prefix p q) (changed changes s (now s q)) (now s q)) → RemadeUpTo t had (Some p) new
-RemadeUpTo-more t had now new after p changes h above least place remade offers = record {
+pub RemadeUpTo-more : (t : Tables) (holds : Prefix → Bool) (had now new : Offers) (after : Option Prefix) (p : Prefix) → RemadeUpTo t holds had after now → holds p ≡ true
+    → ((s : ℕ) (r : Prefix) → holds r ≡ true → IsAbove after r → IsSome (t.routes s r) → is_gt (prefix_cmp p r) ≡ false) → rank_of p < 2 ^ 38
+    → AreMadeAt t p now new → RemadeUpTo t holds had (Some p) new
+RemadeUpTo-more t holds had now new after p h held least place at = record {
   place = place;
-  made = λ slot q session under below linked there. subst (λ f. IsOffer t slot q f) (sym (offers slot q)) (made_here slot q session (is_prefix p q) refl under below linked there);
-  still = λ slot q none. offers slot q ∙ still_here slot q (is_prefix p q) refl none;
+  made = λ slot q session holds_it under below linked there. made_here slot q session (is_prefix p q) refl holds_it under below linked there;
+  still = λ slot q out. still_here slot q (is_prefix p q) refl out ∙ h.still slot q out;
 }
   where
     behind : (q : Prefix) → rank_of q < reached (Some p) → is_prefix p q ≡ false → rank_of q < rank_of p
@@ -162,28 +181,62 @@ RemadeUpTo-more t had now new after p changes h above least place remade offers 
       | inr not_less ↦ let one : p ≡ q = same_from_rank p q (omega (arith, under, not_less)) in absurd (let same = ap (λ x. is_prefix p x) (sym one) ∙ is_prefix-refl p in cc)
     ]
 
-    made_here : (slot : ℕ) (q : Prefix) (session : Session) (b : Bool) → is_prefix p q ≡ b → rank_of q < reached (Some p) → slot < 64 → t.sessions slot ≡ Some session → IsSome (t.routes slot q)
-        → IsOffer t slot q (cond b (changed changes slot (now slot q)) (now slot q))
-    made_here slot q session true same under below linked there =
+    made_here : (slot : ℕ) (q : Prefix) (session : Session) (b : Bool) → is_prefix p q ≡ b → holds q ≡ true → rank_of q < reached (Some p) → slot < 64 → t.sessions slot ≡ Some session → IsSome (t.routes slot q)
+        → IsOffer t slot q (new slot q)
+    made_here slot q session true same holds_it under below linked there =
         let one : p ≡ q = same_from_is_prefix p q same in
-        subst (λ x. IsOffer t slot x (changed changes slot (now slot q))) one (remade.made slot session (now slot q) below linked (subst (λ x. IsSome (t.routes slot x)) (sym one) there))
-    made_here slot q session false other under below linked there = elim (cases_lt (rank_of q) (reached after)) [
-      | inl already ↦ h.made slot q session already below linked there
-      | inr between ↦ no_route_between p q (t.routes slot q) (least slot q (above_from_rank after q between)) (behind q under other) there
-    ]
+        subst (λ x. IsOffer t slot x (new slot x)) one (at.made slot session below linked (subst (λ x. IsSome (t.routes slot x)) (sym one) there))
+    made_here slot q session false other holds_it under below linked there =
+        subst (λ f. IsOffer t slot q f) (sym (at.still slot q (inl other))) (elim (cases_lt (rank_of q) (reached after)) [
+          | inl already ↦ h.made slot q session holds_it already below linked there
+          | inr between ↦ no_route_between p q (t.routes slot q) (least slot q holds_it (above_from_rank after q between)) (behind q under other) there
+        ])
 
-    still_here : (slot : ℕ) (q : Prefix) (b : Bool) → is_prefix p q ≡ b → t.routes slot q ≡ None → cond b (changed changes slot (now slot q)) (now slot q) ≡ had slot q
-    still_here slot q true same none =
-        let one : p ≡ q = same_from_is_prefix p q same in
-        remade.still slot (now slot q) (inr (subst (λ x. t.routes slot x ≡ None) (sym one) none)) ∙ h.still slot q none
-    still_here slot q false other none = h.still slot q none
+    still_here : (slot : ℕ) (q : Prefix) (b : Bool) → is_prefix p q ≡ b → (holds q ≡ false) ⊎ (t.routes slot q ≡ None) → new slot q ≡ now slot q
+    still_here slot q false other out = at.still slot q (inl other)
+    still_here slot q true same (inr none) = at.still slot q (inr none)
+    still_here slot q true same (inl not) = absurd (let one = ap holds (sym (same_from_is_prefix p q same)) in cc)
 
 -- where no route is above, all are made again
-pub RemadeUpTo-all : (t : Tables) (had now : Offers) (after : Option Prefix) → RemadeUpTo t had after now → ((s : ℕ) (q : Prefix) → IsAbove after q → t.routes s q ≡ None) → AreMadeAgain t had now
-RemadeUpTo-all t had now after h none = record {
-  made = λ slot q session below linked there. elim (cases_lt (rank_of q) (reached after)) [
-    | inl already ↦ h.made slot q session already below linked there
-    | inr above ↦ absurd (let never = subst (λ o. IsSome o) (none slot q (above_from_rank after q above)) there in cc)
+pub RemadeUpTo-all : (t : Tables) (holds : Prefix → Bool) (had now : Offers) (after : Option Prefix) → RemadeUpTo t holds had after now
+    → ((s : ℕ) (q : Prefix) → holds q ≡ true → IsAbove after q → t.routes s q ≡ None) → AreMadeWhere t holds had now
+RemadeUpTo-all t holds had now after h none = record {
+  made = λ slot q session held below linked there. elim (cases_lt (rank_of q) (reached after)) [
+    | inl already ↦ h.made slot q session held already below linked there
+    | inr above ↦ absurd (let never = subst (λ o. IsSome o) (none slot q held (above_from_rank after q above)) there in cc)
   ];
   still = h.still;
 }
+
+-- of all prefixes
+pub made_again : (t : Tables) (holds : Prefix → Bool) (had has : Offers) → ((q : Prefix) → holds q ≡ true) → AreMadeWhere t holds had has → AreMadeAgain t had has
+made_again t holds had has all made = record {
+  made = λ slot q session held below linked there. made.made slot q session (all q) below linked there;
+  still = λ slot q out. elim out [ inl never ↦ absurd (cc) | inr none ↦ made.still slot q (inr none) ];
+}
+
+-- those of some prefixes and then of others
+pub made_none : (t : Tables) (had : Offers) → AreMadeWhere t (λ q. false) had had
+made_none t had = record { made = λ slot q session held. absurd (cc); still = λ slot q out. refl }
+
+or_neither : (a b : Bool) → (a || b) ≡ false → (a ≡ false) × (b ≡ false)
+or_neither true b is = absurd (cc)
+or_neither false b is = (refl, is)
+
+pub made_both : (t : Tables) (first second both : Prefix → Bool) (had mid has : Offers) → AreMadeWhere t first had mid → AreMadeWhere t second mid has → ((q : Prefix) → both q ≡ (first q || second q)) → AreMadeWhere t both had has
+made_both t first second both had mid has a b is = record {
+  made = λ slot q session held below linked there. made_here slot q session (second q) refl held below linked there;
+  still = λ slot q out. elim out [
+    | inl neither ↦ let parts = or_neither (first q) (second q) (sym (is q) ∙ neither) in b.still slot q (inl parts.1) ∙ a.still slot q (inl parts.0)
+    | inr none ↦ b.still slot q (inr none) ∙ a.still slot q (inr none)
+  ];
+}
+  where
+    first_of_both : (c d : Bool) → (c || d) ≡ true → d ≡ false → c ≡ true
+    first_of_both true d is not = refl
+    first_of_both false d is not = absurd (cc)
+
+    made_here : (slot : ℕ) (q : Prefix) (session : Session) (c : Bool) → second q ≡ c → both q ≡ true → slot < 64 → t.sessions slot ≡ Some session → IsSome (t.routes slot q) → IsOffer t slot q (has slot q)
+    made_here slot q session true at held below linked there = b.made slot q session at below linked there
+    made_here slot q session false at held below linked there =
+        subst (λ f. IsOffer t slot q f) (sym (b.still slot q (inl at))) (a.made slot q session (first_of_both (first q) (second q) (sym (is q) ∙ held) at) below linked there)

@@ -20,13 +20,15 @@ use Rattle.bgp_peer.specs.SessionInputs.{Signalled, is_there, moment_of, occupan
 use Rattle.decision.specs.BookContents.{offer_at}
 use Rattle.net_prefix.specs.declared.prefix.Prefix.{Prefix}
 use Rattle.rib_in.specs.LatestRoutes.{route_at}
-use Rattle.speaker.specs.Agreement.{AreTaken, Holds, LinkAgrees, SlotAgrees}
+use Rattle.speaker.specs.Agreement.{CacheAgrees, AreTaken, Holds, LinkAgrees, SlotAgrees}
+use Rattle.rtr_codec.specs.ClientTable.{in_force}
+use Rattle.rtr_session.specs.SessionHistory.{client}
 use Rattle.speaker.specs.Choices.{choices_in}
 use Rattle.speaker.specs.Chosen.{AreDifferent, Chooses}
 use Rattle.speaker.specs.FirstRefusal.{closes}
 use Rattle.speaker.specs.Linked.{Linked}
 use Rattle.speaker.specs.Moves.{Forgets, IsWithout, Moves, moved}
-use Rattle.speaker.specs.Runs.{Run, turn, Command_call, Fail_call, configuration_of, history, moment_after, terms_in}
+use Rattle.speaker.specs.Runs.{cache_history, Run, turn, Command_call, Fail_call, configuration_of, history, moment_after, terms_in}
 use Rattle.speaker.specs.SpeakerState.{SpeakerState, tables_of}
 use Rattle.speaker.specs.Tables.{link_at, session_at}
 use Rattle.speaker.specs.declared.config.Config.{Config}
@@ -51,6 +53,7 @@ pub record IsLeft (slot : ℕ) (mid new : SpeakerState) : Type 0 where
   pub config : new.config ≡ mid.config
   pub moment : new.moment ≡ mid.moment
   pub conf : new.conf ≡ mid.conf
+  pub cache : new.cache ≡ mid.cache
   pub payloads : new.payloads ≡ mid.payloads
   pub chosen_before : new.chosen_before ≡ mid.chosen_before
 
@@ -69,6 +72,7 @@ is_left slot mid new stays goes = by_test (closes (session_at mid.links slot)) r
           config = ap (λ (s : SpeakerState). s.config) same;
           moment = ap (λ (s : SpeakerState). s.moment) same;
           conf = ap (λ (s : SpeakerState). s.conf) same;
+          cache = ap (λ (s : SpeakerState). s.cache) same;
           payloads = ap (λ (s : SpeakerState). s.payloads) same;
           chosen_before = ap (λ (s : SpeakerState). s.chosen_before) same;
         }
@@ -83,6 +87,7 @@ is_left slot mid new stays goes = by_test (closes (session_at mid.links slot)) r
           config = gone.rest.config;
           moment = gone.rest.moment;
           conf = gone.rest.conf;
+          cache = gone.rest.cache;
           payloads = gone.rest.payloads;
           chosen_before = gone.rest.chosen_before;
         }
@@ -126,17 +131,18 @@ still_some true x y is = absurd (cc)
 still_some false x y is = is
 
 -- one slot is left without a peer
-gone_by : (config : Config) (r1 r2 : Run) (slot : ℕ) (old new : SpeakerState) → Holds config r1 old → slot < 64 → new.config ≡ old.config → new.moment ≡ old.moment → moment_after r2 ≡ moment_after r1 → new.conf ≡ configuration_of config r2 → new.payloads ≡ old.payloads
+gone_by : (config : Config) (r1 r2 : Run) (slot : ℕ) (old new : SpeakerState) → Holds config r1 old → slot < 64 → new.config ≡ old.config → new.moment ≡ old.moment → moment_after r2 ≡ moment_after r1 → new.conf ≡ configuration_of config r2 → new.cache ≡ old.cache → new.payloads ≡ old.payloads → cache_history r2 ≡ cache_history r1
     → AreTaken config.asn new.conf → new.conf.own ≡ old.conf.own → new.conf.reach ≡ old.conf.reach → ((t : ℕ) → t ≢ slot → peer_at new.conf t ≡ peer_at old.conf t) → ((t : ℕ) → t ≢ slot → link_at new.links t ≡ link_at old.links t)
     → ((t : ℕ) → t ≢ slot → (p : Prefix) → route_at new.adj_in t p ≡ route_at old.adj_in t p) → ((p : Prefix) → route_at new.adj_in slot p ≡ None)
     → ((t : ℕ) → t ≢ slot → (p : Prefix) → offer_at new.book t p ≡ offer_at old.book t p) → ((p : Prefix) → offer_at new.book slot p ≡ None)
     → ((t : ℕ) → t ≢ slot → history config t r2 ≡ history config t r1) → new.chosen ≤ new.chosen_before + choices_in config r2
     → SlotAgrees config (peer_at new.conf slot) (link_at new.links slot) (route_at new.adj_in slot) (history config slot r2) → Holds config r2 new
-gone_by config r1 r2 slot old new h low config_same moment now conf payloads taken own reach peers links routes unrouted offers unoffered histories few here = record {
+gone_by config r1 r2 slot old new h low config_same moment now conf cache payloads cached taken own reach peers links routes unrouted offers unoffered histories few here = record {
   config_is = config_same ∙ h.config_is;
   moment = moment ∙ h.moment ∙ sym now;
   conf = conf;
-  payloads = payloads ∙ h.payloads;
+  cache = subst (λ x. CacheAgrees config x new.cache) (sym cached) (subst (λ x. CacheAgrees config (cache_history r1) x) (sym cache) h.cache);
+  payloads = payloads ∙ h.payloads ∙ ap (λ x. in_force (client x)) (sym cached);
   peers = taken;
   slots = slots_changed config old.conf new.conf (link_at old.links) (link_at new.links) old.adj_in new.adj_in (λ t. history config t r1) (λ t. history config t r2) slot h.slots peers links routes histories here;
   kept = kept_without slot old new h.kept own reach payloads peers (λ t other. ap (option_map (λ (x : Linked). x.peer.session)) (links t other)) routes unrouted offers unoffered (λ session there. low);
@@ -174,7 +180,7 @@ holds_lost config r slot l old mid new h linked nobody moves chooses left so_far
     let at : history config slot after ≡ Signalled Fail ∷ history config slot r = rw (eq-eqb slot slot refl) refl in
     let P : List happens.Event → Type 0 = λ x. SlotAgrees config (peer_at new.conf slot) (link_at new.links slot) (route_at new.adj_in slot) x in
     let peers : (t : ℕ) → peer_at new.conf t ≡ peer_at old.conf t = λ t. ap (λ c. peer_at c t) (left.conf ∙ moves.rest.conf) in
-    gone_by config r after slot old new h (within_slots config r slot l old h linked) (left.config ∙ moves.rest.config) (left.moment ∙ moves.rest.moment) refl (left.conf ∙ moves.rest.conf ∙ h.conf) (left.payloads ∙ moves.rest.payloads)
+    gone_by config r after slot old new h (within_slots config r slot l old h linked) (left.config ∙ moves.rest.config) (left.moment ∙ moves.rest.moment) refl (left.conf ∙ moves.rest.conf ∙ h.conf) (left.cache ∙ moves.rest.cache) (left.payloads ∙ moves.rest.payloads) refl
     (h.peers.0, λ t peer there. h.peers.1 t peer (sym (peers t) ∙ there)) (ap (λ (c : Configuration). c.own) (left.conf ∙ moves.rest.conf)) (ap (λ (c : Configuration). c.reach) (left.conf ∙ moves.rest.conf)) (λ t other. peers t)
     (λ t other. left.links t other ∙ put_off slot t l Fail old mid moves other)
     (λ t other p. ap (λ x. route_at x t p) left.adj_in ∙ moves.routes t p ∙ off_either (effects_of Fail l.peer.session).left slot t (route_at old.adj_in t p) other) routes
@@ -200,7 +206,7 @@ holds_failed config r slot l old mid new h linked moves chooses kept closing gon
     by_peer None nobody = holds_lost config r slot l old mid new h linked nobody moves chooses (is_left slot mid new closing (gone (same ∙ nobody))) so_far
     by_peer (Some peer) configured =
         rw (kept (subst (λ o. IsSome o) (sym (same ∙ configured)) refl))
-        (holds_signalled config r (turn (Fail_call slot) [] ∷ r) slot l Fail old mid h peer configured (λ x. refl) linked refl (λ e. cc) moves refl refl (λ t. refl) chooses 0 (omega (arith, so_far)) (omega arith))
+        (holds_signalled config r (turn (Fail_call slot) [] ∷ r) slot l Fail old mid h peer configured (λ x. refl) linked refl (λ e. cc) moves refl refl refl (λ t. refl) chooses 0 (omega (arith, so_far)) (omega arith))
 
 no_different : (holds : Prefix → Type 0) (ps : List Prefix) → ((p : Prefix) → holds p → ⊥) → AreDifferent holds ps → length ps ≤ 0
 no_different holds [] never h = omega arith
@@ -240,7 +246,7 @@ holds_removed config r slot l old mid forgot new h linked moves chooses forgets 
     let peers : (t : ℕ) → peer_at new.conf t ≡ cond (t == slot) None (peer_at old.conf t) = λ t. ap (λ c. peer_at c t) left.conf ∙ forgets.peers t ∙ ap (λ c. cond (t == slot) None (peer_at c t)) moves.rest.conf in
     let nobody : peer_at new.conf slot ≡ None = peers slot ∙ ap (λ b. cond b None (peer_at old.conf slot)) (eq-eqb slot slot refl) in
     let routes : (p : Prefix) → route_at new.adj_in slot p ≡ None = λ p. ap (λ t. route_at t slot p) left.adj_in ∙ forgets.routes slot p ∙ ap (λ b. cond b None (route_at mid.adj_in slot p)) (eq-eqb slot slot refl) in
-    gone_by config r after slot old new h (within_slots config r slot l old h linked) (left.config ∙ forgets.config ∙ moves.rest.config) (left.moment ∙ forgets.moment ∙ moves.rest.moment) refl (conf_is ∙ ap (λ c. conf_after c (RemovePeer slot)) h.conf) (left.payloads ∙ forgets.payloads ∙ moves.rest.payloads)
+    gone_by config r after slot old new h (within_slots config r slot l old h linked) (left.config ∙ forgets.config ∙ moves.rest.config) (left.moment ∙ forgets.moment ∙ moves.rest.moment) refl (conf_is ∙ ap (λ c. conf_after c (RemovePeer slot)) h.conf) (left.cache ∙ forgets.cache ∙ moves.rest.cache) (left.payloads ∙ forgets.payloads ∙ moves.rest.payloads) refl
     (h.peers.0, λ t peer there. h.peers.1 t peer (still_some (t == slot) (peer_at old.conf t) peer (sym (peers t) ∙ there))) (ap (λ (c : Configuration). c.own) conf_is) (ap (λ (c : Configuration). c.reach) conf_is)
     (λ t other. peers t ∙ ap (λ b. cond b None (peer_at old.conf t)) (ne_eqb t slot other))
     (λ t other. left.links t other ∙ ap (λ ls. link_at ls t) forgets.links ∙ put_off slot t l Removed old mid moves other)

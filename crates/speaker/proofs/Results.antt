@@ -1,4 +1,6 @@
-use Rattle.std.proofs.Common.{◌≡◌, Bool, Result, Ok, Err, OnErr, OnOk, IsTrue, false, refl, true}
+use Rattle.std.proofs.Common.{◌≡◌, ◌≤◌, ◌+◌, ◌↔◌, ℕ, nat_le, Bool, Result, Ok, Err, OnErr, OnOk, IsTrue, false, refl, true, arith}
+use Rattle.std.proofs.lemmas.Bool.{leb-true, le-leb}
+use Rattle.bgp_peer.specs.PeerLimits.{ring_octets, room_for_update}
 use Rattle.std.specs.Bool.{OnTrue}
 use Rattle.std.specs.Result.{is_err}
 
@@ -25,3 +27,10 @@ OnTrue-if false P p = tt
 pub OnOk-sure : {T F : Type 0} (r : Result T F) (P X : Type 0) → OnOk r P → OnErr r X → (X → ⊥) → P
 OnOk-sure (Ok v) P X p x never = p
 OnOk-sure (Err e) P X p x never = absurd (never x)
+
+-- a ring has room where so many octets of it are free
+pub room_test : (free ring : ℕ) → free + ring ≡ ring_octets → IsTrue (nat_le room_for_update free) ↔ (ring + room_for_update ≤ ring_octets)
+room_test free ring is = (
+  λ yes. let low = leb-true room_for_update free yes in omega (arith, low, is),
+  λ room. le-leb room_for_update free (omega (arith, room, is)),
+)

@@ -1,5 +1,6 @@
-use Rattle.std.proofs.Common.{◌≡◌, ◌↔◌, ℕ, List, Option, Some, None, MatchOption, Contains, refl, sym, ap, ◌∙◌, subst}
+use Rattle.std.proofs.Common.{◌≡◌, ◌↔◌, ℕ, List, [], Option, Some, None, MatchOption, Contains, cond, refl, sym, ap, ◌∙◌, subst}
 use Rattle.std.specs.Cmp.{eq_by_cmp_equiv}
+use Rattle.std.specs.List.Sorted.{IsStrictlySortedBy}
 use Rattle.std.specs.Map.{keys_of}
 use Rattle.std.proofs.lemmas.Map.Keys.{IsDistinct-from_sorted}
 use Rattle.std.proofs.lemmas.Map.Views.{Contains-from_lookup, lookup-from_Contains}
@@ -7,18 +8,22 @@ use Rattle.bgp_attr.specs.PathAttributes.{PathAttributes}
 use Rattle.bgp_conf.specs.Configuration.{peer_at}
 use Rattle.bgp_conf.specs.declared.conf.ConfiguredPeer.{ConfiguredPeer}
 use Rattle.bgp_peer.specs.SessionInputs as happens
+use Rattle.net_prefix.specs.PayloadSets.{IsPayloadSet}
 use Rattle.net_prefix.specs.PrefixOrder.{prefix_cmp}
 use Rattle.net_prefix.specs.declared.prefix.Prefix.{Prefix}
 use Rattle.net_prefix.proofs.PayloadSets.{prefix_cmp_total}
 use Rattle.rib_in.specs.LatestRoutes.{route_at}
 use Rattle.rib_out.specs.Held.{held_at, is_prefix}
+use Rattle.rtr_client.specs.Following.{state_of}
+use Rattle.rtr_session.specs.SessionHistory as cached
+use Rattle.rtr_session.specs.SessionState.{Session as CacheSession}
 use Rattle.speaker.specs.AdjRibIn.{route}
 use Rattle.decision.specs.declared.candidate.Candidate.{Candidate}
-use Rattle.speaker.specs.Agreement.{Agrees, SlotAgrees, tables_after}
+use Rattle.speaker.specs.Agreement.{Agrees, CacheAgrees, SlotAgrees, tables_after}
 use Rattle.speaker.specs.Held.{held}
 use Rattle.speaker.specs.Linked.{Linked}
-use Rattle.speaker.specs.Runs.{Run, history}
-use Rattle.speaker.specs.Shown.{held_by}
+use Rattle.speaker.specs.Runs.{Run, cache_history, history}
+use Rattle.speaker.specs.Shown.{cache_state_after, cache_state_of, held_by}
 use Rattle.speaker.specs.SpeakerState.{SpeakerState, tables_of}
 use Rattle.speaker.specs.LocRib.{HasNoCandidate, IsBest, IsLocRib}
 use Rattle.speaker.specs.Tables.{Tables, best_at, configured_session, link_at, session_at}
@@ -68,3 +73,17 @@ best_shown t routes prefix c is = (
       (lookup-from_Contains {eq = is_prefix} (eq_by_cmp_equiv prefix_cmp_total) prefix c routes (IsDistinct-from_sorted prefix_cmp (keys_of routes) is.rising) listed),
   λ best. Contains-from_lookup {eq = is_prefix} same_from_is_prefix prefix c routes (row_from_best t prefix c (best_at routes prefix) (is.best prefix) best),
 )
+
+-- ---- the cache session
+
+state_kept : (config : Config) (h : List cached.Event) (found : Option CacheSession) → CacheAgrees config h found → cache_state_of found ≡ cond config.cache (Some (state_of (cached.client h))) None
+state_kept config h None agrees = rw agrees.0 refl
+state_kept config h (Some session) agrees = rw agrees.0 (ap (λ c. Some (state_of c)) agrees.1.client)
+
+pub cache_state_shown : (config : Config) (r : Run) (s : SpeakerState) → Agrees config r s → cache_state_of s.cache ≡ cache_state_after config r
+cache_state_shown config r s a = state_kept config (cache_history r) s.cache a.holds.cache
+
+-- no payloads are a set
+pub nothing_in_force : IsPayloadSet []
+unfolding IsStrictlySortedBy
+nothing_in_force = tt

@@ -14,7 +14,7 @@ use Rattle.speaker.specs.Linked.{Linked}
 use Rattle.speaker.specs.LocRib.{IsLocRib}
 use Rattle.speaker.specs.Moves.{Hands}
 use Rattle.speaker.specs.Queueing.{Queue, starved_in}
-use Rattle.speaker.specs.Runs.{Run, turn, Take_call, configuration_of, history, moment_after}
+use Rattle.speaker.specs.Runs.{cache_history, Run, turn, Take_call, configuration_of, history, moment_after}
 use Rattle.speaker.specs.Serving.{IsServedAt}
 use Rattle.speaker.specs.SpeakerState.{SpeakerState, tables_of}
 use Rattle.speaker.specs.Tables.{link_at}
@@ -38,8 +38,8 @@ holds_handed config r slot l count old new h linked hands so_far =
     let same = hands.chosen in
     let same_before = hands.rest.chosen_before in
     let after : Run = turn (Take_call slot (take count l.peer.ring)) [] ∷ r in
-    put_agrees config (configuration_of config r) (configuration_of config after) (moment_after r) (moment_after after) (λ t. history config t r) (λ t. history config t after) (choices_in config r) (choices_in config after)
-    slot (with_peer l (handed l.peer count)) old new h refl refl (hands_keep slot l count old new linked hands) hands.rest hands.links
+    put_agrees config (configuration_of config r) (configuration_of config after) (moment_after r) (moment_after after) (cache_history r) (cache_history after) (λ t. history config t r) (λ t. history config t after) (choices_in config r) (choices_in config after)
+    slot (with_peer l (handed l.peer count)) old new h refl refl refl (hands_keep slot l count old new linked hands) hands.rest hands.links
     (λ t other p. ap (λ table. route_at table t p) hands.routes) (λ t other. rw (ne_eqb t slot other) refl)
     (omega (arith, so_far, same, same_before))
     (subst H (sym on) (rw hands.routes here))
@@ -85,7 +85,7 @@ hands_begun slot l count old mid hands = record {
   book = hands.book;
   loc_rib = hands.loc_rib;
   chosen = hands.chosen;
-  rest = record { config = hands.rest.config; moment = hands.rest.moment; conf = hands.rest.conf; payloads = hands.rest.payloads; chosen_before = hands.chosen };
+  rest = record { config = hands.rest.config; moment = hands.rest.moment; conf = hands.rest.conf; cache = hands.rest.cache; payloads = hands.rest.payloads; chosen_before = hands.chosen };
 }
 
 -- a take with what it did at its end

@@ -131,6 +131,10 @@ none_listed loc_rib adj_in peer l found link there linked never =
     ∙ ap (λ x. waiting_at loc_rib adj_in x (Some l)) there
     ∙ ap (λ x. waiting_at loc_rib adj_in found x) linked
 
+-- nothing is listed of a slot that isn't there
+pub none_there : (loc_rib : List (Prefix × Candidate)) (adj_in : RouteTable) (peer : ExportPeer) (found : Option ExportPeer) (link : Option Linked) → Some peer ≡ found → None ≡ link → [] ≡ waiting_at loc_rib adj_in found link
+none_there loc_rib adj_in peer found link there linked = ap (λ x. waiting_at loc_rib adj_in x None) there ∙ ap (λ x. waiting_at loc_rib adj_in found x) linked
+
 -- what is listed of a slot that is there and whose session is Established
 pub listed_of : (loc_rib : List (Prefix × Candidate)) (adj_in : RouteTable) (peer : ExportPeer) (l : Linked) (found : Option ExportPeer) (link : Option Linked) (prefixes : List Prefix)
     → Some peer ≡ found → Some l ≡ link → l.peer.session.state ≡ Established

@@ -24,6 +24,14 @@ use Rattle.net_prefix.specs.declared.prefix.Prefix.{Prefix}
 use Rattle.net_prefix.specs.declared.transport.Transport.TheVariants.{Open as Connected}
 use Rattle.rib_in.specs.LatestRoutes.{route_at}
 use Rattle.rib_out.specs.Held.{held_at}
+use Rattle.rtr_codec.specs.ClientTable.{in_force, initial}
+use Rattle.rtr_codec.specs.PduSpelling.{Content}
+use Rattle.rtr_codec.specs.PduStream.{WholePdu}
+use Rattle.rtr_client.specs.Following.{load_takes}
+use Rattle.rtr_session.specs.Agreement.{SessionAgrees}
+use Rattle.rtr_session.specs.SessionHistory as cache
+use Rattle.rtr_session.specs.SessionHistory.{client}
+use Rattle.rtr_session.specs.SessionState.{Session as CacheSession}
 use Rattle.speaker.specs.AdjRibIn.{NeedsMemory, route}
 use Rattle.speaker.specs.Choices.{choices_endings, choices_in, choices_to}
 use Rattle.speaker.specs.Export.{IsExport, export_peer_of}
@@ -32,7 +40,7 @@ use Rattle.speaker.specs.Linked.{Linked}
 use Rattle.speaker.specs.LocRib.{IsLocRib}
 use Rattle.speaker.specs.Offers.{AreKept}
 use Rattle.speaker.specs.Queueing.{ComesFirst, Queue, Service, Tells, Starves, starved_in, update_saying}
-use Rattle.speaker.specs.Runs.{Call, Run, turn, Up_call, Fail_call, Bytes_call, Starved_call, Tick_call, Command_call, Take_call, configuration_of, history, moment_after, opened_to, opens_by, payloads_after, terms_in}
+use Rattle.speaker.specs.Runs.{Call, Run, turn, Up_call, Fail_call, Bytes_call, Starved_call, Tick_call, Command_call, Take_call, Cache_up_call, Cache_fail_call, Cache_bytes_call, Cache_starved_call, Cache_take_call, cache_history, configuration_of, history, moment_after, opened_to, opens_by, payloads_after, terms_in}
 use Rattle.speaker.specs.SpeakerState.{SpeakerState, tables_of}
 use Rattle.speaker.specs.Tables.{Tables, link_at}
 use Rattle.speaker.specs.declared.config.Config.{Config}
@@ -122,7 +130,15 @@ pub record MayStarve (h : List slot.Event) (octet : ℕ) : Type 0 where
   pub completes : item_at h octet ≡ Some (WholeMessage Update body)
   pub needs : NeedsMemory (slot.kind_of (slot.terms_of h)) body
 
--- memory is refused to nothing but such a message
+-- the next octet completes a PDU of the cache session that memory is taken for: a payload that comes or leaves in a load, or the
+-- End of Data that completes one
+pub record CacheMayStarve (h : List cache.Event) (octet : ℕ) : Type 0 where
+  pub content : Content
+  pub octets : List ℕ
+  pub completes : cache.item_at h octet ≡ Some (WholePdu content octets)
+  pub takes : load_takes (client h).stage content ≡ true
+
+-- memory is refused to nothing but such a message or PDU
 abbrev pub IsFair : Config → Run → Call → Type 0
 IsFair config r (Up_call s) = Unit {0}
 IsFair config r (Fail_call s) = Unit {0}
@@ -131,6 +147,11 @@ IsFair config r (Starved_call s before octet behind) = MayStarve (onto before (h
 IsFair config r (Tick_call now) = Unit {0}
 IsFair config r (Command_call command) = Unit {0}
 IsFair config r (Take_call s octets) = Unit {0}
+IsFair config r Cache_up_call = Unit {0}
+IsFair config r Cache_fail_call = Unit {0}
+IsFair config r (Cache_bytes_call octets) = Unit {0}
+IsFair config r (Cache_starved_call before octet behind) = CacheMayStarve (cache.onto before (cache_history r)) octet
+IsFair config r (Cache_take_call octets) = Unit {0}
 
 -- nothing was queued but what was owed, and no session was closed for want of memory but one that takes some
 abbrev pub IsThrifty : Config → Run → Type 0
@@ -149,12 +170,21 @@ pub record IsTaken (own : Asn) (slot : ℕ) (peer : ConfiguredPeer) : Type 0 whe
 abbrev pub AreTaken : Asn → Configuration → Type 0
 AreTaken own conf = (0 < own.0) × ((slot : ℕ) (peer : ConfiguredPeer) → peer_at conf slot ≡ Some peer → IsTaken own slot peer)
 
--- the settings, the configuration and the moment are these, and each slot is as its history leaves it
-pub record HoldsBy (config : Config) (conf_is : Configuration) (now : ℕ) (histories : ℕ → List slot.Event) (most : ℕ) (s : SpeakerState) : Type 0 where
+-- the cache session is there just where the settings ask for one, and is as this history leaves it; where there is none
+-- nothing has happened to it
+abbrev pub CacheAgrees : Config → List cache.Event → Option CacheSession → Type 0
+CacheAgrees config h None = (config.cache ≡ false) × (client h ≡ initial)
+CacheAgrees config h (Some session) = (config.cache ≡ true) × SessionAgrees h session
+
+-- the settings, the configuration and the moment are these, and the cache session and each slot are as their histories leave
+-- them
+pub record HoldsBy (config : Config) (conf_is : Configuration) (now : ℕ) (cached : List cache.Event) (histories : ℕ → List slot.Event) (most : ℕ) (s : SpeakerState) : Type 0 where
   pub config_is : s.config ≡ config
   pub moment : s.moment ≡ now
   pub conf : s.conf ≡ conf_is
-  pub payloads : s.payloads ≡ []
+  -- the cache session is as its history leaves it, and routes are judged by the payloads that it has in force
+  pub cache : CacheAgrees config cached s.cache
+  pub payloads : s.payloads ≡ in_force (client cached)
   pub peers : AreTaken config.asn s.conf
   pub slots : (slot : ℕ) → SlotAgrees config (peer_at s.conf slot) (link_at s.links slot) (route_at s.adj_in slot) (histories slot)
   -- the candidates that are kept are those of all routes
@@ -164,22 +194,22 @@ pub record HoldsBy (config : Config) (conf_is : Configuration) (now : ℕ) (hist
 
 -- they are as the run leaves them, and a best route was chosen in its last call at most as often as what it did allows
 abbrev pub Holds : Config → Run → SpeakerState → Type 0
-Holds config r s = HoldsBy config (configuration_of config r) (moment_after r) (λ slot. history config slot r) (choices_in config r) s
+Holds config r s = HoldsBy config (configuration_of config r) (moment_after r) (cache_history r) (λ slot. history config slot r) (choices_in config r) s
 
 -- the ends of these timers of a slot, where they have ended, come to it, whatever came before, and this tells whether its
 -- connection attempt begins
 abbrev pub EndsTimers : List Timer → ℕ → Bool → SpeakerState → SpeakerState → Type 0
 EndsTimers timers at opened old new =
-    (config : Config) (conf : Configuration) (histories : ℕ → List slot.Event) (most : ℕ) → moment_of (histories at) ≡ old.moment
-    → HoldsBy config conf old.moment histories most old
-    → HoldsBy config conf old.moment (λ s. if s == at then endings timers old.moment (histories s) else histories s) (most + choices_endings timers old.moment (histories at)) new
+    (config : Config) (conf : Configuration) (cached : List cache.Event) (histories : ℕ → List slot.Event) (most : ℕ) → moment_of (histories at) ≡ old.moment
+    → HoldsBy config conf old.moment cached histories most old
+    → HoldsBy config conf old.moment cached (λ s. if s == at then endings timers old.moment (histories s) else histories s) (most + choices_endings timers old.moment (histories at)) new
     × (opened ≡ opens_by timers old.moment (histories at))
 
 -- the same for all slots, to each of which the moment has come, and these are those whose connection attempt begins
 abbrev pub EndsAll : ℕ → SpeakerState → SpeakerState → Type 0
 EndsAll opened old new =
-    (config : Config) (conf : Configuration) (histories : ℕ → List slot.Event) → HoldsBy config conf old.moment (λ s. Ticked old.moment ∷ histories s) 0 old
-    → HoldsBy config conf old.moment (λ s. ticked old.moment (histories s)) (choices_to histories old.moment 64) new × (opened ≡ opened_to histories old.moment 64)
+    (config : Config) (conf : Configuration) (cached : List cache.Event) (histories : ℕ → List slot.Event) (most : ℕ) → HoldsBy config conf old.moment cached (λ s. Ticked old.moment ∷ histories s) most old
+    → HoldsBy config conf old.moment cached (λ s. ticked old.moment (histories s)) (most + choices_to histories old.moment 64) new × (opened ≡ opened_to histories old.moment 64)
 
 -- these octets come on a configured slot, behind those of the same call that came before: all is as the run with them
 -- leaves it, where it was before
@@ -195,6 +225,19 @@ HearsUntil slot octets old new =
     → Holds config (turn (Bytes_call slot done) [] ∷ r) old
     → (before : List ℕ) × (octet : ℕ) × (behind : List ℕ) × (done ++ octets ≡ before ++ octet ∷ behind)
     × MayStarve (onto before (history config slot r)) octet × Holds config (turn (Starved_call slot before octet behind) [] ∷ r) new
+
+-- these octets come to the cache session, behind those of the same call that came before: all is as the run with them leaves
+-- it, where it was before
+abbrev pub CacheHears : List ℕ → SpeakerState → SpeakerState → Type 0
+CacheHears octets old new =
+    (config : Config) (r : Run) (done : List ℕ) → Holds config (turn (Cache_bytes_call done) [] ∷ r) old → Holds config (turn (Cache_bytes_call (done ++ octets)) [] ∷ r) new
+
+-- so they do up to one that completes a PDU to which memory is refused: the cache session is closed
+abbrev pub CacheHearsUntil : List ℕ → SpeakerState → SpeakerState → Type 0
+CacheHearsUntil octets old new =
+    (config : Config) (r : Run) (done : List ℕ) → Holds config (turn (Cache_bytes_call done) [] ∷ r) old
+    → (before : List ℕ) × (octet : ℕ) × (behind : List ℕ) × (done ++ octets ≡ before ++ octet ∷ behind)
+    × CacheMayStarve (cache.onto before (cache_history r)) octet × Holds config (turn (Cache_starved_call before octet behind) [] ∷ r) new
 
 -- in the midst of a call all is as the run with what the call has done so far leaves it: Loc-RIB is the selection, and
 -- what was done was owed

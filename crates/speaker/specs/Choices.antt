@@ -1,5 +1,6 @@
 -- How often a best route may be chosen, by what comes and goes (own, for RFC 4271 section 9.1).
 use Rattle.std.specs.Prelude.{◌+◌, ◌&&◌, ◌||◌, ℕ, zero, suc, Bool, true, not, List, [], ◌∷◌, ◌++◌, Option, Some, None, is_some, false, if◌then◌else◌}
+use Rattle.std.specs.List.{list_any}
 use Rattle.bgp_conf.specs.declared.command.Command.{Command}
 use Rattle.bgp_conf.specs.declared.command.Command.TheVariants.{AddPeer, RemovePeer, Enable, Disable, Reach}
 use Rattle.bgp_fsm.specs.StateTests.{is_established}
@@ -9,10 +10,15 @@ use Rattle.bgp_fsm.specs.TimerMoments.{has_ended}
 use Rattle.bgp_msg.specs.UpdateMeaning.{UpdateBody}
 use Rattle.bgp_peer.specs.SessionInputs as slot
 use Rattle.bgp_peer.specs.SessionInputs.{Octet, Signalled, Ticked, ending, onto, session, timers}
+use Rattle.net_prefix.specs.declared.payload.Vrp.{Vrp}
 use Rattle.net_prefix.specs.declared.prefix.Prefix.{Prefix}
+use Rattle.prefix_trie.specs.CoverWalks.{covers}
+use Rattle.rtr_codec.specs.ClientTable.{in_force}
+use Rattle.rtr_session.specs.SessionHistory as cache
 use Rattle.speaker.specs.AdjRibIn.{brought, is_among, route}
 use Rattle.speaker.specs.Queueing.{Queue, Service, Tells, Starves}
-use Rattle.speaker.specs.Runs.{Call, Run, turn, Up_call, Fail_call, Bytes_call, Starved_call, Tick_call, Command_call, Take_call, history}
+use Rattle.speaker.specs.Runs.{Call, Run, turn, Up_call, Fail_call, Bytes_call, Starved_call, Tick_call, Command_call, Take_call, Cache_up_call, Cache_fail_call, Cache_bytes_call, Cache_starved_call, Cache_take_call, cache_history, history}
+use Rattle.vrp_delta.specs.Delta.{lacked}
 use Rattle.speaker.specs.declared.config.Config.{Config}
 
 -- of how many of these prefixes this is so, each counted once
@@ -81,6 +87,21 @@ abbrev pub choices_to : (ℕ → List slot.Event) → ℕ → ℕ → ℕ
 choices_to histories now zero = 0
 choices_to histories now (suc s) = choices_endings timers now (Ticked now ∷ histories s) + choices_to histories now s
 
+-- the payloads that come or go from one set to another, the covering of a prefix by one of them
+abbrev pub is_touched : List Vrp → List Vrp → Prefix → Bool
+is_touched before after prefix = list_any (λ payload. covers payload.prefix prefix) (lacked before after ++ lacked after before)
+
+-- for what happens to the cache session, coming next: once for each prefix with a route that is covered by a payload which
+-- came into force or went
+abbrev pub choices_cached : Config → Run → List cache.Event → cache.Event → ℕ
+choices_cached config r h e =
+    how_many (λ p. is_routed config r 64 p && is_touched (in_force (cache.client h)) (in_force (cache.client (e ∷ h))) p) (announced_to config r 64)
+
+-- for octets that come to it, one after another
+abbrev pub choices_cached_on : Config → Run → List ℕ → List cache.Event → ℕ
+choices_cached_on config r [] h = 0
+choices_cached_on config r (octet ∷ octets) h = choices_cached config r h (cache.Octet octet) + choices_cached_on config r octets (cache.Octet octet ∷ h)
+
 -- for a command: what enabling a peer (which ends no session), disabling or removing it is to its session, for an entry of
 -- `reach` once for each prefix to which some slot has a route
 abbrev pub choices_commanded : Config → Run → Command → ℕ
@@ -98,9 +119,15 @@ choices_called config r (Bytes_call s octets) = choices_on octets (history confi
 choices_called config r (Starved_call s before octet behind) =
     choices_on before (history config s r)
     + choices_refused (brought (onto before (history config s r)) (Octet octet)) (onto before (history config s r))
-choices_called config r (Tick_call now) = choices_to (λ s. history config s r) now 64
+choices_called config r (Tick_call now) = choices_cached config r (cache_history r) (cache.Ticked now) + choices_to (λ s. history config s r) now 64
 choices_called config r (Command_call command) = choices_commanded config r command
 choices_called config r (Take_call s octets) = 0
+choices_called config r Cache_up_call = choices_cached config r (cache_history r) cache.Came_up
+choices_called config r Cache_fail_call = choices_cached config r (cache_history r) cache.Failed
+choices_called config r (Cache_bytes_call octets) = choices_cached_on config r octets (cache_history r)
+choices_called config r (Cache_starved_call before octet behind) =
+    choices_cached_on config r before (cache_history r) + choices_cached config r (cache.onto before (cache_history r)) cache.Refused
+choices_called config r (Cache_take_call octets) = 0
 
 -- for what is done for a slot: none for an UPDATE that is queued
 abbrev pub choices_served : List slot.Event → Service → ℕ

@@ -20,3 +20,4 @@ pub mod Waiting
 pub mod Marks
 pub mod Choices
 pub mod Chosen
+pub mod CacheMoves

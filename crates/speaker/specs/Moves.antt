@@ -41,11 +41,12 @@ moved now l input = record { peer = taken_input now l.peer input; adj_out = adj_
 abbrev pub IsPut : ℕ → Linked → SpeakerState → SpeakerState → Type 0
 IsPut slot l old new = (s : ℕ) → link_at new.links s ≡ (if s == slot then Some l else link_at old.links s)
 
--- the settings, the moment, the configuration, the payloads and the count of the calls before stay
+-- the settings, the moment, the configuration, the cache session, the payloads and the count of the calls before stay
 pub record KeepsRest (old new : SpeakerState) : Type 0 where
   pub config : new.config ≡ old.config
   pub moment : new.moment ≡ old.moment
   pub conf : new.conf ≡ old.conf
+  pub cache : new.cache ≡ old.cache
   pub payloads : new.payloads ≡ old.payloads
   pub chosen_before : new.chosen_before ≡ old.chosen_before
 
@@ -67,6 +68,7 @@ pub record Forgets (slot : ℕ) (old new : SpeakerState) : Type 0 where
   pub chosen : Ends slot old.adj_in old.chosen new.chosen
   pub config : new.config ≡ old.config
   pub moment : new.moment ≡ old.moment
+  pub cache : new.cache ≡ old.cache
   pub payloads : new.payloads ≡ old.payloads
   pub chosen_before : new.chosen_before ≡ old.chosen_before
 

@@ -1,17 +1,21 @@
 -- The candidates that are kept of each slot and prefix (RFC 4271 section 9.1.2).
-use Rattle.std.specs.Prelude.{◌≡◌, ◌<◌, ◌⊎◌, ℕ, List, true, All, Option, Some, None, MatchOption}
+use Rattle.std.specs.Prelude.{◌≡◌, ◌<◌, ◌⊎◌, ℕ, Bool, List, true, false, All, Option, Some, None, MatchOption}
+use Rattle.std.specs.List.{list_any}
 use Rattle.std.specs.Option.{IfSome, IsSome}
+use Rattle.std.specs.Ordering.{is_gt}
 use Rattle.bgp_conf.specs.Configuration.{AddressesDiffer, Configuration, peer_at}
 use Rattle.bgp_conf.specs.declared.conf.ConfiguredPeer.{ConfiguredPeer}
 use Rattle.bgp_fsm.specs.StateTests.{is_established}
 use Rattle.bgp_fsm.specs.declared.session.Session.{Session}
 use Rattle.bgp_fsm.specs.declared.state.State.{State}
-use Rattle.decision.specs.BookContents.{changed, offer_at}
+use Rattle.decision.specs.BookContents.{changed, is_prefix, offer_at}
 use Rattle.decision.specs.declared.book.Change.{Change}
 use Rattle.decision.specs.declared.candidate.Candidate.{Candidate}
+use Rattle.net_prefix.specs.PrefixOrder.{IsAbove, prefix_cmp}
 use Rattle.net_prefix.specs.declared.payload.Vrp.{Vrp}
 use Rattle.net_prefix.specs.declared.prefix.Prefix.{Prefix}
-use Rattle.rib_in.specs.LatestRoutes.{RouteTable, route_at}
+use Rattle.prefix_trie.specs.CoverWalks.{covers}
+use Rattle.rib_in.specs.LatestRoutes.{HasRoute, RouteTable, route_at}
 use Rattle.speaker.specs.Candidates.{HasNoneAt, IsOnlyCandidateAt}
 use Rattle.speaker.specs.RoutingState.{RoutingState}
 use Rattle.speaker.specs.Tables.{Tables}
@@ -77,7 +81,27 @@ pub record AreRemade (t : Tables) (prefix : Prefix) (changes : List Change) : Ty
   pub still : (slot : ℕ) (before : Option Candidate) → LacksRoute t slot prefix → changed changes slot before ≡ before
   pub own : (slot : ℕ) (before : Option Candidate) → IsOwn t.conf slot before → IsOwn t.conf slot (changed changes slot before)
 
+-- the candidates of the routes to a prefix are made again, and no other one changes
+pub record AreMadeAt (t : Tables) (prefix : Prefix) (had has : Offers) : Type 0 where
+  pub made : (slot : ℕ) (session : Session) → slot < 64 → t.sessions slot ≡ Some session → IsSome (t.routes slot prefix) → IsOffer t slot prefix (has slot prefix)
+  pub still : (slot : ℕ) (q : Prefix) → (is_prefix prefix q ≡ false) ⊎ (t.routes slot q ≡ None) → has slot q ≡ had slot q
+
+-- the same of the routes to all prefixes of which this holds
+pub record AreMadeWhere (t : Tables) (holds : Prefix → Bool) (had has : Offers) : Type 0 where
+  pub made : (slot : ℕ) (q : Prefix) (session : Session) → holds q ≡ true → slot < 64 → t.sessions slot ≡ Some session → IsSome (t.routes slot q) → IsOffer t slot q (has slot q)
+  pub still : (slot : ℕ) (q : Prefix) → (holds q ≡ false) ⊎ (t.routes slot q ≡ None) → has slot q ≡ had slot q
+
 -- the candidates of all routes are made again, and no other one changes
-pub record AreMadeAgain (t : Tables) (had has : Offers) : Type 0 where
-  pub made : (slot : ℕ) (prefix : Prefix) (session : Session) → slot < 64 → t.sessions slot ≡ Some session → IsSome (t.routes slot prefix) → IsOffer t slot prefix (has slot prefix)
-  pub still : (slot : ℕ) (prefix : Prefix) → t.routes slot prefix ≡ None → has slot prefix ≡ had slot prefix
+abbrev pub AreMadeAgain : Tables → Offers → Offers → Type 0
+AreMadeAgain t had has = AreMadeWhere t (λ q. true) had has
+
+-- one of these prefixes covers it
+abbrev pub is_within : List Prefix → Prefix → Bool
+is_within stretches prefix = list_any (λ stretch. covers stretch prefix) stretches
+
+-- the next prefix with a route that this one covers: behind the given one, or the first
+abbrev pub IsNextWithin : RouteTable → Prefix → Option Prefix → Option Prefix → Type 0
+IsNextWithin adj_in stretch after found =
+    MatchOption found ((slot : ℕ) (q : Prefix) → covers stretch q ≡ true → IsAbove after q → route_at adj_in slot q ≡ None)
+    (λ p. HasRoute adj_in p × (covers stretch p ≡ true) × IsAbove after p
+    × ((slot : ℕ) (q : Prefix) → covers stretch q ≡ true → IsAbove after q → IsSome (route_at adj_in slot q) → is_gt (prefix_cmp p q) ≡ false))

@@ -1,5 +1,5 @@
--- The calls of a speaker, and what they are to each slot. A run has the newest call first.
-use Rattle.std.specs.Prelude.{ℕ, zero, suc, ◌==◌, ◌^◌, ◌&&◌, ◌||◌, bit_or, Bool, List, [], ◌∷◌, ◌++◌, false, if◌then◌else◌}
+-- The calls of a speaker, and what they are to each slot and to the cache session. A run has the newest call first.
+use Rattle.std.specs.Prelude.{ℕ, zero, suc, ◌==◌, ◌^◌, ◌&&◌, ◌||◌, bit_or, Bool, List, [], ◌∷◌, ◌++◌, false, true, if◌then◌else◌}
 use Rattle.bgp_conf.specs.Configuration.{Configuration}
 use Rattle.bgp_conf.specs.ConfAfter.{conf_after, configured_of}
 use Rattle.bgp_conf.specs.declared.command.Command.{Command}
@@ -12,14 +12,16 @@ use Rattle.bgp_fsm.specs.TimerMoments.{has_ended}
 use Rattle.bgp_peer.specs.SessionInputs as slot
 use Rattle.bgp_peer.specs.SessionInputs.{Terms, Configured, Signalled, Queued, Handed, Ticked, ending, onto, session, ticked, timers}
 use Rattle.net_prefix.specs.declared.payload.Vrp.{Vrp}
+use Rattle.rtr_codec.specs.ClientTable.{in_force}
+use Rattle.rtr_session.specs.SessionHistory as cache
 use Rattle.speaker.specs.Queueing.{Queue, Service, Tells, Starves, starved_in}
 use Rattle.speaker.specs.declared.config.Config.{Config}
 use Rattle.speaker.specs.declared.event.Event.{Event}
-use Rattle.speaker.specs.declared.event.Event.TheVariants.{Up as CameUp, Fail as HasFailed, Bytes, Tick, Command as Commanded}
+use Rattle.speaker.specs.declared.event.Event.TheVariants.{Up as CameUp, Fail as HasFailed, Bytes, Tick, Command as Commanded, CacheUp, CacheFail, CacheBytes}
 use Rattle.speaker.specs.declared.event.Report.{Report}
 
--- a call with its arguments; of a take, the octets that it handed out; of octets, where memory was refused to the UPDATE
--- that one of them completes, which one
+-- a call with its arguments; of a take, the octets that it handed out; of octets, where memory was refused to the UPDATE or
+-- the PDU that one of them completes, which one
 pub data Call : Type 0 where
   Up_call : (slot : ℕ) → Call
   Fail_call : (slot : ℕ) → Call
@@ -28,6 +30,11 @@ pub data Call : Type 0 where
   Tick_call : (now : ℕ) → Call
   Command_call : (command : Command) → Call
   Take_call : (slot : ℕ) → (octets : List ℕ) → Call
+  Cache_up_call : Call
+  Cache_fail_call : Call
+  Cache_bytes_call : (octets : List ℕ) → Call
+  Cache_starved_call : (before : List ℕ) → (octet : ℕ) → (behind : List ℕ) → Call
+  Cache_take_call : (octets : List ℕ) → Call
 
 -- a call as it was asked for, whether or not memory was refused to it
 abbrev pub asked : Call → Call
@@ -38,6 +45,11 @@ asked (Starved_call slot before octet behind) = Bytes_call slot (before ++ octet
 asked (Tick_call now) = Tick_call now
 asked (Command_call command) = Command_call command
 asked (Take_call slot octets) = Take_call slot octets
+asked Cache_up_call = Cache_up_call
+asked Cache_fail_call = Cache_fail_call
+asked (Cache_bytes_call octets) = Cache_bytes_call octets
+asked (Cache_starved_call before octet behind) = Cache_bytes_call (before ++ octet ∷ behind)
+asked (Cache_take_call octets) = Cache_take_call octets
 
 -- the slot to whose UPDATE memory was refused, as a set of slots, a bit each
 abbrev pub starved_by : Call → ℕ
@@ -48,6 +60,26 @@ starved_by (Starved_call slot before octet behind) = 2 ^ slot
 starved_by (Tick_call now) = 0
 starved_by (Command_call command) = 0
 starved_by (Take_call slot octets) = 0
+starved_by Cache_up_call = 0
+starved_by Cache_fail_call = 0
+starved_by (Cache_bytes_call octets) = 0
+starved_by (Cache_starved_call before octet behind) = 0
+starved_by (Cache_take_call octets) = 0
+
+-- whether memory was refused to the cache session
+abbrev pub cache_starved_by : Call → Bool
+cache_starved_by (Up_call slot) = false
+cache_starved_by (Fail_call slot) = false
+cache_starved_by (Bytes_call slot octets) = false
+cache_starved_by (Starved_call slot before octet behind) = false
+cache_starved_by (Tick_call now) = false
+cache_starved_by (Command_call command) = false
+cache_starved_by (Take_call slot octets) = false
+cache_starved_by Cache_up_call = false
+cache_starved_by Cache_fail_call = false
+cache_starved_by (Cache_bytes_call octets) = false
+cache_starved_by (Cache_starved_call before octet behind) = true
+cache_starved_by (Cache_take_call octets) = false
 
 -- a call, and what it did at its end for slots that were owed something
 pub record Turn : Type 0 where
@@ -68,6 +100,9 @@ call_of (HasFailed slot) = Fail_call slot
 call_of (Bytes slot octets) = Bytes_call slot octets.now
 call_of (Tick now) = Tick_call now
 call_of (Commanded command) = Command_call command
+call_of CacheUp = Cache_up_call
+call_of CacheFail = Cache_fail_call
+call_of (CacheBytes octets) = Cache_bytes_call octets.now
 
 -- what a call makes of the configuration
 abbrev pub conf_called : Call → Configuration → Configuration
@@ -78,6 +113,11 @@ conf_called (Starved_call slot before octet behind) conf = conf
 conf_called (Tick_call now) conf = conf
 conf_called (Command_call command) conf = conf_after conf command
 conf_called (Take_call slot octets) conf = conf
+conf_called Cache_up_call conf = conf
+conf_called Cache_fail_call conf = conf
+conf_called (Cache_bytes_call octets) conf = conf
+conf_called (Cache_starved_call before octet behind) conf = conf
+conf_called (Cache_take_call octets) conf = conf
 
 -- the configuration after a run
 abbrev pub configuration_of : Config → Run → Configuration
@@ -93,15 +133,40 @@ moment_called (Starved_call slot front octet behind) before = before
 moment_called (Tick_call now) before = now
 moment_called (Command_call command) before = before
 moment_called (Take_call slot octets) before = before
+moment_called Cache_up_call before = before
+moment_called Cache_fail_call before = before
+moment_called (Cache_bytes_call octets) before = before
+moment_called (Cache_starved_call front octet behind) before = before
+moment_called (Cache_take_call octets) before = before
 
 -- the moment after a run: that of its last tick, and 0 before one
 abbrev pub moment_after : Run → ℕ
 moment_after [] = 0
 moment_after (now ∷ r) = moment_called now.call (moment_after r)
 
--- the payloads in force after a run: none, since there is no cache session yet
+-- what a call is to the cache session; want of memory stands in the place of the PDU to which memory was refused
+abbrev pub cache_called : Call → List cache.Event → List cache.Event
+cache_called (Up_call slot) h = h
+cache_called (Fail_call slot) h = h
+cache_called (Bytes_call slot octets) h = h
+cache_called (Starved_call slot before octet behind) h = h
+cache_called (Tick_call now) h = cache.Ticked now ∷ h
+cache_called (Command_call command) h = h
+cache_called (Take_call slot octets) h = h
+cache_called Cache_up_call h = cache.Came_up ∷ h
+cache_called Cache_fail_call h = cache.Failed ∷ h
+cache_called (Cache_bytes_call octets) h = cache.onto octets h
+cache_called (Cache_starved_call before octet behind) h = cache.onto behind (cache.Refused ∷ cache.onto before h)
+cache_called (Cache_take_call octets) h = cache.Handed octets ∷ h
+
+-- what happened to the cache session in a run
+abbrev pub cache_history : Run → List cache.Event
+cache_history [] = []
+cache_history (now ∷ r) = cache_called now.call (cache_history r)
+
+-- the payloads in force after a run
 abbrev pub payloads_after : Run → List Vrp
-payloads_after r = []
+payloads_after r = in_force (cache.client (cache_history r))
 
 -- the terms of a peer's session
 abbrev pub terms_in : Config → ConfiguredPeer → Terms
@@ -128,6 +193,11 @@ called config s (Starved_call slot before octet behind) h = if s == slot then on
 called config s (Tick_call now) h = ticked now h
 called config s (Command_call command) h = commanded config s command h
 called config s (Take_call slot octets) h = if s == slot then Handed octets ∷ h else h
+called config s Cache_up_call h = h
+called config s Cache_fail_call h = h
+called config s (Cache_bytes_call octets) h = h
+called config s (Cache_starved_call before octet behind) h = h
+called config s (Cache_take_call octets) h = h
 
 -- what is done for a slot is this to it
 abbrev pub served_by : Service → slot.Event
@@ -171,7 +241,33 @@ opened_by config r (Starved_call slot before octet behind) = 0
 opened_by config r (Tick_call now) = opened_to (λ s. history config s r) now 64
 opened_by config r (Command_call command) = opened_commanded config r command
 opened_by config r (Take_call slot octets) = 0
+opened_by config r Cache_up_call = 0
+opened_by config r Cache_fail_call = 0
+opened_by config r (Cache_bytes_call octets) = 0
+opened_by config r (Cache_starved_call before octet behind) = 0
+opened_by config r (Cache_take_call octets) = 0
 
--- what a call after a run reports: the slots whose connection attempt begins, and those to which memory was refused
+-- whether an attempt of the cache session begins in a call: by a moment alone
+abbrev pub cache_opened_by : Run → Call → Bool
+cache_opened_by r (Up_call slot) = false
+cache_opened_by r (Fail_call slot) = false
+cache_opened_by r (Bytes_call slot octets) = false
+cache_opened_by r (Starved_call slot before octet behind) = false
+cache_opened_by r (Tick_call now) = cache.opens_at now (cache_history r)
+cache_opened_by r (Command_call command) = false
+cache_opened_by r (Take_call slot octets) = false
+cache_opened_by r Cache_up_call = false
+cache_opened_by r Cache_fail_call = false
+cache_opened_by r (Cache_bytes_call octets) = false
+cache_opened_by r (Cache_starved_call before octet behind) = false
+cache_opened_by r (Cache_take_call octets) = false
+
+-- what a call after a run reports: the slots whose connection attempt begins, and those to which memory was refused, and
+-- both of the cache session
 abbrev pub report_of : Config → Run → Turn → Report
-report_of config r now = record { opened = opened_by config r now.call; starved = bit_or (starved_by now.call) (starved_in now.queued); cache_opened = false; cache_starved = false }
+report_of config r now = record {
+  opened = opened_by config r now.call;
+  starved = bit_or (starved_by now.call) (starved_in now.queued);
+  cache_opened = cache_opened_by r now.call;
+  cache_starved = cache_starved_by now.call;
+}

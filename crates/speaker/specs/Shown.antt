@@ -1,12 +1,19 @@
 -- What operators see of the tables.
-use Rattle.std.specs.Prelude.{ℕ, List, [], Option, Some, None}
+use Rattle.std.specs.Prelude.{ℕ, List, [], Option, Some, None, unwrap_or, if◌then◌else◌}
+use Rattle.std.specs.Option.{option_map}
 use Rattle.bgp_fsm.specs.Transports.{transport_of}
 use Rattle.bgp_fsm.specs.declared.session.Session.{Session}
 use Rattle.decision.specs.declared.candidate.Candidate.{Candidate}
 use Rattle.net_prefix.specs.declared.prefix.Prefix.{Prefix}
 use Rattle.net_prefix.specs.declared.transport.Transport.{Transport}
 use Rattle.net_prefix.specs.declared.transport.Transport.TheVariants.{None as NoConnection}
+use Rattle.rtr_client.specs.Following.{state_of}
+use Rattle.rtr_client.specs.declared.state.ClientState.{ClientState}
+use Rattle.rtr_session.specs.SessionHistory.{client}
+use Rattle.rtr_session.specs.SessionState.{Session as CacheSession}
 use Rattle.speaker.specs.Linked.{Linked}
+use Rattle.speaker.specs.Runs.{Run, cache_history}
+use Rattle.speaker.specs.declared.config.Config.{Config}
 use Rattle.speaker.specs.declared.views.BestRoute.{BestRoute}
 
 -- a row of Loc-RIB
@@ -27,3 +34,15 @@ listed (Some held) = held
 abbrev pub held_by : Option Linked → List (Prefix × List ℕ)
 held_by None = []
 held_by (Some l) = l.adj_out
+
+-- the state of a cache session, where there is one
+abbrev pub cache_state_of : Option CacheSession → Option ClientState
+cache_state_of cache = option_map (λ session. state_of session.client) cache
+
+-- the same after a run
+abbrev pub cache_state_after : Config → Run → Option ClientState
+cache_state_after config r = if config.cache then Some (state_of (client (cache_history r))) else None
+
+-- a transport; where there is no session there is none
+abbrev pub transport_or_none : Option Transport → Transport
+transport_or_none found = unwrap_or found NoConnection

@@ -1,21 +1,25 @@
 -- A speaker, as others see it.
-use Rattle.std.specs.Prelude.{◌≡◌, ◌==◌, ◌||◌, ℕ, List, Bool, []}
+use Rattle.std.specs.Prelude.{◌≡◌, ◌==◌, ◌||◌, ℕ, List, Bool, [], Option, Some, None, if◌then◌else◌}
 use Rattle.bgp_conf.specs.Configuration.{Configuration}
 use Rattle.decision.specs.BookContents.{BookState}
 use Rattle.decision.specs.declared.candidate.Candidate.{Candidate}
 use Rattle.net_prefix.specs.declared.payload.Vrp.{Vrp}
 use Rattle.net_prefix.specs.declared.prefix.Prefix.{Prefix}
 use Rattle.rib_in.specs.LatestRoutes.{RouteTable}
+use Rattle.rtr_codec.specs.ClientTable.{in_force}
+use Rattle.rtr_session.specs.SessionState.{Session as CacheSession, configured}
 use Rattle.speaker.specs.declared.config.Config.{Config}
 use Rattle.speaker.specs.Linked.{Linked}
 use Rattle.speaker.specs.Tables.{Tables, tables, link_at}
 
--- what others see of a speaker: its settings, the moment, the configured tables, the payloads in force, its slots, Adj-RIB-In,
+-- what others see of a speaker: its settings, the moment, the configured tables, the cache session, the payloads in
+-- force, its slots, Adj-RIB-In,
 -- the candidates that are kept, Loc-RIB, how often a best route was chosen so far, and how often before the last call that wasn't refused
 pub record SpeakerState : Type 0 where
   pub config : Config
   pub moment : ℕ
   pub conf : Configuration
+  pub cache : Option CacheSession
   pub payloads : List Vrp
   pub links : List (ℕ × Linked)
   pub adj_in : RouteTable
@@ -34,6 +38,7 @@ started config = record {
   config = config;
   moment = 0;
   conf = record { own = config.asn; peers = []; reach = [] };
+  cache = if config.cache then Some configured else None;
   payloads = [];
   links = [];
   adj_in = [];
@@ -43,15 +48,25 @@ started config = record {
   chosen_before = 0;
 }
 
--- an AS or an identifier of 0, or a cache session, of which there is none yet
+-- an AS or an identifier of 0
 abbrev pub is_out_of_range : Config → Bool
-is_out_of_range config = config.asn.0 == 0 || config.identifier == 0 || config.cache
+is_out_of_range config = config.asn.0 == 0 || config.identifier == 0
+
+-- the payloads in force of a cache session; none where there is no session
+abbrev pub payloads_in : Option CacheSession → List Vrp
+payloads_in None = []
+payloads_in (Some session) = in_force session.client
+
+-- the payloads by which routes are judged are those in force
+abbrev pub KeepsInForce : SpeakerState → Type 0
+KeepsInForce s = s.payloads ≡ payloads_in s.cache
 
 -- nothing that others see has changed: each slot is as it was, and so is all else
 pub record IsAsBefore (old new : SpeakerState) : Type 0 where
   pub config : new.config ≡ old.config
   pub moment : new.moment ≡ old.moment
   pub conf : new.conf ≡ old.conf
+  pub cache : new.cache ≡ old.cache
   pub payloads : new.payloads ≡ old.payloads
   pub links : (slot : ℕ) → link_at new.links slot ≡ link_at old.links slot
   pub adj_in : new.adj_in ≡ old.adj_in

@@ -1,13 +1,16 @@
 //! The candidates that routes make (RFC 4271 section 9.1).
-ghost use Rattle.std.specs.Prelude.{◌≡◌, ◌<◌, ◌≤◌, ◌+◌, List, length, MatchOption};
+ghost use Rattle.std.specs.Prelude.{◌≡◌, ◌<◌, ◌≤◌, ◌+◌, List, length, true, MatchOption, Some};
+ghost use Rattle.std.specs.Option.{IfSome};
 ghost use Rattle.decision.specs.BookContents.{offer_at};
 ghost use Rattle.speaker.specs.Tables.{tables};
 ghost use Rattle.net_prefix.specs.declared.prefix.Prefix.{Prefix as ThePrefix};
 ghost use Rattle.rib_in.specs.LatestRoutes.{HasRoute};
 ghost use Rattle.speaker.specs.Candidates.{IsMade, judged_at};
-ghost use Rattle.speaker.specs.Chosen.{AreDifferent};
+ghost use Rattle.origin_valid.specs.Stretches.{changed_prefixes, stretches};
+ghost use Rattle.prefix_trie.specs.CoverWalks.{covers};
+ghost use Rattle.speaker.specs.Chosen.{AreDifferent, OncePerPrefix};
 ghost use Rattle.speaker.specs.Marks.{AreMarked};
-ghost use Rattle.speaker.specs.Offers.{AreMadeAgain, AreRemade, IsRemade, IsSound, LacksRoute};
+ghost use Rattle.speaker.specs.Offers.{AreMadeAgain, AreMadeAt, AreMadeWhere, AreRemade, IsNextWithin, IsRemade, IsSound, LacksRoute, is_within};
 
 use crate::queueing::place;
 use crate::routing::{Links, Routing};
@@ -16,9 +19,10 @@ use bgp_attr::{Attrs, PeerKind, origin_as};
 use bgp_conf::{Conf, PEER_SLOTS};
 use decision::{Book, Candidate, Change, MAX_CANDIDATES};
 use net_prefix::{Asn, Prefix};
-use origin_valid::{PayloadTrie, Validity};
+use origin_valid::{PayloadTrie, Validity, affected};
 use rib_in::AdjIn;
 use std::alloc::Allocator;
+use vrp_delta::Delta;
 
 /// The degree of preference of a route of an external peer for which no rule sets one.
 const DEFAULT_DEGREE: u64 = 100;
@@ -98,12 +102,119 @@ pub fn choose_again<A: Allocator + Clone, B: Book<A>>(
 {
     let mut after = None;
     while let Some(prefix) = routing.ribs.routes().prefix_after(after) {
-        let changes = remade(conf, payloads, links, routing.ribs.routes(), prefix);
-        routing.change(conf, links, prefix, changes.as_slice());
+        choose_at(conf, payloads, links, routing, prefix);
         // Places rise, so the walk ends.
         let _place = place(prefix);
         after = Some(prefix);
     }
+}
+
+/// Makes the candidates again of the routes that a change of the payloads in force concerns, and chooses the best route of
+/// each of their prefixes again, once.
+pub fn choose_touched<A: Allocator + Clone, B: Book<A>>(
+    conf: &Conf<A>,
+    payloads: &PayloadTrie<A>,
+    links: &Links<A>,
+    routing: &mut Routing<A, B>,
+    change: &Delta<A>,
+)
+    requires sound { IsSound conf.now (offer_at routing.old.book) }
+    requires marked { AreMarked conf.now links.now.entries routing.old }
+    ensures sound { IsSound conf.now (offer_at routing.new.book) }
+    ensures marked { AreMarked conf.now links.now.entries routing.new }
+    ensures routes { routing.new.adj_in ≡ routing.old.adj_in }
+    ensures made { AreMadeWhere (tables conf.now payloads.now links.now.entries routing.old.adj_in) (is_within (stretches (changed_prefixes change.now))) (offer_at routing.old.book) (offer_at routing.new.book) }
+    ensures chosen { OncePerPrefix (λ p. (is_within (stretches (changed_prefixes change.now)) p ≡ true) × HasRoute routing.old.adj_in p) routing.old.chosen routing.new.chosen }
+    ensures rises { routing.old.chosen ≤ routing.new.chosen }
+{
+    for stretch in affected(change) {
+        choose_within(conf, payloads, links, routing, stretch);
+    }
+}
+
+// The same of all routes to prefixes that one covers.
+fn choose_within<A: Allocator + Clone, B: Book<A>>(
+    conf: &Conf<A>,
+    payloads: &PayloadTrie<A>,
+    links: &Links<A>,
+    routing: &mut Routing<A, B>,
+    stretch: Prefix,
+)
+    requires sound { IsSound conf.now (offer_at routing.old.book) }
+    requires marked { AreMarked conf.now links.now.entries routing.old }
+    ensures sound { IsSound conf.now (offer_at routing.new.book) }
+    ensures marked { AreMarked conf.now links.now.entries routing.new }
+    ensures routes { routing.new.adj_in ≡ routing.old.adj_in }
+    ensures made { AreMadeWhere (tables conf.now payloads.now links.now.entries routing.old.adj_in) (covers stretch) (offer_at routing.old.book) (offer_at routing.new.book) }
+    ensures chosen { OncePerPrefix (λ p. (covers stretch p ≡ true) × HasRoute routing.old.adj_in p) routing.old.chosen routing.new.chosen }
+    ensures rises { routing.old.chosen ≤ routing.new.chosen }
+{
+    let mut after = None;
+    while let Some(prefix) = next_within(routing.ribs.routes(), stretch, after) {
+        choose_at(conf, payloads, links, routing, prefix);
+        // Places rise, so the walk ends.
+        let _place = place(prefix);
+        after = Some(prefix);
+    }
+}
+
+// The next prefix with a route that this one covers: behind the given one, or the first.
+fn next_within<A: Allocator + Clone>(
+    routes: &AdjIn<A>,
+    stretch: Prefix,
+    after: Option<Prefix>,
+) -> Option<Prefix>
+    requires { IfSome after (λ p. covers stretch p ≡ true) }
+    ensures { IsNextWithin routes.now stretch after result }
+{
+    let Some(after) = after else {
+        if routes.is_routed(stretch) {
+            return Some(stretch);
+        }
+        return next_behind(routes, stretch, stretch);
+    };
+    next_behind(routes, stretch, after)
+}
+
+// The next prefix with a route behind the given one, where the stretch covers it.
+fn next_behind<A: Allocator + Clone>(
+    routes: &AdjIn<A>,
+    stretch: Prefix,
+    after: Prefix,
+) -> Option<Prefix>
+    requires { covers stretch after ≡ true }
+    ensures { IsNextWithin routes.now stretch (Some after) result }
+{
+    let Some(prefix) = routes.prefix_after(Some(after)) else {
+        return None;
+    };
+    if stretch.covers(&prefix) {
+        Some(prefix)
+    } else {
+        None
+    }
+}
+
+// Makes the candidates of the routes to a prefix again, and chooses its best route again.
+fn choose_at<A: Allocator + Clone, B: Book<A>>(
+    conf: &Conf<A>,
+    payloads: &PayloadTrie<A>,
+    links: &Links<A>,
+    routing: &mut Routing<A, B>,
+    prefix: Prefix,
+)
+    requires routed { HasRoute routing.old.adj_in prefix }
+    requires sound { IsSound conf.now (offer_at routing.old.book) }
+    requires marked { AreMarked conf.now links.now.entries routing.old }
+    ensures sound { IsSound conf.now (offer_at routing.new.book) }
+    ensures marked { AreMarked conf.now links.now.entries routing.new }
+    ensures routes { routing.new.adj_in ≡ routing.old.adj_in }
+    ensures made { AreMadeAt (tables conf.now payloads.now links.now.entries routing.old.adj_in) prefix (offer_at routing.old.book) (offer_at routing.new.book) }
+    ensures chosen { routing.new.chosen ≤ routing.old.chosen + 1 }
+    ensures rises { routing.old.chosen ≤ routing.new.chosen }
+{
+    let changes = remade(conf, payloads, links, routing.ribs.routes(), prefix);
+    routing.change(conf, links, prefix, changes.as_slice());
 }
 
 // The candidates that the slots' routes to a prefix make now: a change for each slot that has a route.

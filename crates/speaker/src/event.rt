@@ -12,6 +12,12 @@ pub enum Event<'a> {
     Fail(u8),
     /// Octets that came on the slot's connection.
     Bytes(u8, &'a [u8]),
+    /// The connection of the cache session is there.
+    CacheUp,
+    /// The connection of the cache session, or the attempt at one, has failed or has ended.
+    CacheFail,
+    /// Octets that came on the connection of the cache session.
+    CacheBytes(&'a [u8]),
     /// A moment, in whole seconds; none comes before the last one.
     Tick(u64),
     /// What the operator asks for.
@@ -40,18 +46,7 @@ impl Report {
         cache_starved: false,
     };
 
-    // The report of a call that began the connection attempts of some slots, and closed others for want of memory.
-    pub(crate) fn of(opened: u64, starved: u64) -> Report
-        ensures { result ≡ record { opened = opened; starved = starved; cache_opened = false; cache_starved = false } }
-    {
-        Report {
-            opened,
-            starved,
-            ..Report::nothing()
-        }
-    }
-
-    fn nothing() -> Report
+    pub(crate) fn nothing() -> Report
         ensures { result ≡ record { opened = 0; starved = 0; cache_opened = false; cache_starved = false } }
     {
         Report::NOTHING

@@ -6,6 +6,7 @@
 //! ends when a moment is handed in.
 #![tactic(auto)]
 
+mod caching;
 mod choosing;
 mod config;
 mod event;
@@ -31,6 +32,7 @@ pub use laws::{moments_are_of_the_run, one_export, refusals_are_of_the_run};
 pub use net_prefix::Transport;
 pub use origin_valid::Validity;
 pub use rib_in::SlotRoutes;
+pub use rtr_client::ClientState;
 pub use runs::{Trace, run};
 pub use step::Speaker;
 pub use views::{BestRoute, HeldRoutes, LocRib, Payloads};

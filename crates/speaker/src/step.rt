@@ -20,6 +20,7 @@ use bgp_fsm::Input;
 use decision::{Book, PlainBook};
 use net_prefix::{Asn, Transport};
 use origin_valid::PayloadTrie;
+use rtr_session::CacheSession;
 use std::alloc::{AllocError, Allocator, Global};
 use std::collections::BTreeMap;
 use std::marker::Model;
@@ -30,6 +31,7 @@ pub struct Speaker<A: Allocator + Clone = Global, B: Book<A> = PlainBook<A>> {
     pub(crate) alloc: A,
     pub(crate) config: Config,
     pub(crate) conf: Conf<A>,
+    pub(crate) cache: Option<CacheSession<A>>,
     // The payloads in force.
     pub(crate) payloads: PayloadTrie<A>,
     pub(crate) links: BTreeMap<u8, Link<A>, A>,
@@ -44,7 +46,8 @@ impl<A: Allocator + Clone, B: Book<A>> Model for Speaker<A, B> {
     ghost use Rattle.decision.specs.BookContents.{offer_at, rows_of};
     ghost use Rattle.speaker.specs.Marks.{AreMarked};
     ghost use Rattle.speaker.specs.Offers.{IsSound};
-    ghost use Rattle.speaker.specs.SpeakerState.{SpeakerState};
+    ghost use Rattle.std.specs.Prelude.{◌≡◌};
+    ghost use Rattle.speaker.specs.SpeakerState.{SpeakerState, payloads_in};
 
     ghost Value = { SpeakerState };
 
@@ -52,6 +55,7 @@ impl<A: Allocator + Clone, B: Book<A>> Model for Speaker<A, B> {
       config = s.config;
       moment = s.moment;
       conf = s.conf;
+      cache = s.cache;
       payloads = s.payloads;
       links = s.links.entries;
       adj_in = s.routing.adj_in;
@@ -61,15 +65,16 @@ impl<A: Allocator + Clone, B: Book<A>> Model for Speaker<A, B> {
       chosen_before = s.chosen_before;
     } };
 
-    ghost invariant = { λ s. IsSound s.conf (offer_at s.routing.book) × AreMarked s.conf s.links.entries s.routing };
+    // The payloads by prefix are those in force.
+    ghost invariant = { λ s. IsSound s.conf (offer_at s.routing.book) × AreMarked s.conf s.links.entries s.routing × (s.payloads ≡ payloads_in s.cache) };
 }
 
 impl<A: Allocator + Clone, B: Book<A>> Speaker<A, B> {
     ghost use Rattle.speaker.specs.SpeakerState.{SpeakerState, tables_of, started, is_out_of_range};
-    ghost use Rattle.speaker.specs.FirstRefusal.{refusal_by, refusal_of, take_refusal_of, LacksMemory};
+    ghost use Rattle.speaker.specs.FirstRefusal.{cache_transport_of, refusal_of, take_refusal_of, LacksMemory};
 
-    /// A speaker without peers. Refused by 33 where the AS or the identifier is 0, or a cache session is
-    /// asked for (there is none yet), and by 44.
+    /// A speaker without peers, whose cache session, where one is asked for, has begun its first connection attempt. Refused by
+    /// 33 where the AS or the identifier is 0, and by 44.
     pub fn new(alloc: A, config: Config) -> Result<Self, Refusal>
         ensures ok { IfOk result (λ s. s ≡ started config) }
         // It agrees with the run of no calls.
@@ -77,7 +82,7 @@ impl<A: Allocator + Clone, B: Book<A>> Speaker<A, B> {
         ensures range { (result ≡ Err Refusal.Range) ↔ (is_out_of_range config ≡ true) }
         ensures err { IfErr result (λ why. (why ≡ Refusal.Range) ⊎ (why ≡ Refusal.NoMemory)) }
     {
-        if config.asn == Asn(0) || config.identifier == 0 || config.cache {
+        if config.asn == Asn(0) || config.identifier == 0 {
             return Err(Refusal::Range);
         }
         match Speaker::empty(alloc, config) {
@@ -90,6 +95,10 @@ impl<A: Allocator + Clone, B: Book<A>> Speaker<A, B> {
         ensures { IfOk result (λ s. s ≡ started config) }
     {
         let conf = Conf::new(alloc.clone()?, config.asn)?;
+        let cache = match config.cache {
+            true => Some(CacheSession::new(alloc.clone()?)?),
+            false => None,
+        };
         let payloads = PayloadTrie::new(alloc.clone()?);
         let links = BTreeMap::new(alloc.clone()?);
         let routing = Routing::new(alloc.clone()?)?;
@@ -97,6 +106,7 @@ impl<A: Allocator + Clone, B: Book<A>> Speaker<A, B> {
             alloc,
             config,
             conf,
+            cache,
             payloads,
             links,
             routing,
@@ -126,18 +136,17 @@ impl<A: Allocator + Clone, B: Book<A>> Speaker<A, B> {
 
     // An event that isn't refused.
     fn take_event(&mut self, event: Event<'_>) -> Result<Report, Refusal>
-        requires { refusal_by self.old.moment (tables_of self.old) event ≡ None }
+        requires { refusal_of self.old event ≡ None }
         ensures memory { IfErr result (λ why. (why ≡ Refusal.NoMemory) × LacksMemory event.entry self.old self.new) }
         ensures agrees { IfOk result (λ report. (config : TheConfig) (r : Run) → Agrees config r self.old
             → (now : Turn) × (asked now.call ≡ call_of event.entry) × (report ≡ report_of config r now) × Agrees config (now ∷ r) self.new) }
         ensures counted { IfOk result (λ _. self.new.chosen_before ≡ self.old.chosen) }
         ensures rises { IfOk result (λ _. self.old.chosen ≤ self.new.chosen) }
     {
-        let mut opened = 0;
-        let mut starved = 0;
+        let mut report = Report::nothing();
         match event {
             Event::Command(command) => match self.obey(&command) {
-                Ok(slots) => opened = slots,
+                Ok(slots) => report.opened = slots,
                 Err(_) => return Err(Refusal::NoMemory),
             },
             Event::Up(slot) => {
@@ -153,16 +162,29 @@ impl<A: Allocator + Clone, B: Book<A>> Speaker<A, B> {
                 // What comes to a connection that is still to be closed is dropped.
                 if self.is_open(slot) {
                     if self.hear(slot, octets).is_err() {
-                        starved = only(slot);
+                        report.starved = only(slot);
                     }
                 }
             }
+            Event::CacheUp => {
+                self.begin_count();
+                self.cache_up();
+            }
+            Event::CacheFail => {
+                self.begin_count();
+                self.cache_fail();
+            }
+            Event::CacheBytes(octets) => {
+                self.begin_count();
+                report.cache_starved = self.hear_cache(octets);
+            }
             Event::Tick(now) => {
                 self.begin_count();
-                opened = self.tick(now);
+                report = self.tick(now);
             }
         }
-        Ok(Report::of(opened, starved | self.settle()))
+        report.starved |= self.settle();
+        Ok(report)
     }
 
     fn is_open(&self, slot: u8) -> bool
@@ -203,7 +225,9 @@ impl<A: Allocator + Clone, B: Book<A>> Speaker<A, B> {
             return Err(Refusal::BadSlot);
         };
         self.begin_count();
-        Ok((taken, Report::of(0, self.queue_updates())))
+        let mut report = Report::nothing();
+        report.starved = self.queue_updates();
+        Ok((taken, report))
     }
 
     // Hands out the first octets of the ring of a slot, and answers how many.
@@ -219,7 +243,7 @@ impl<A: Allocator + Clone, B: Book<A>> Speaker<A, B> {
 
     // The first refusal of an event, if there is one.
     fn check(&self, event: &Event<'_>) -> Result<(), Refusal>
-        ensures { MatchResult result (λ _. refusal_by self.now.moment (tables_of self.now) event.now ≡ None) (λ why. refusal_by self.now.moment (tables_of self.now) event.now ≡ Some why) }
+        ensures { MatchResult result (λ _. refusal_of self.now event.now ≡ None) (λ why. refusal_of self.now event.now ≡ Some why) }
     {
         match *event {
             Event::Up(slot) => match self.configured_transport(slot) {
@@ -237,9 +261,31 @@ impl<A: Allocator + Clone, B: Book<A>> Speaker<A, B> {
                 Some(_) => Err(Refusal::NotExpected),
                 None => Err(Refusal::BadSlot),
             },
+            Event::CacheUp => match self.transport_to_cache() {
+                Some(Transport::Listening | Transport::Opening) => Ok(()),
+                _ => Err(Refusal::NotExpected),
+            },
+            Event::CacheFail => match self.transport_to_cache() {
+                Some(Transport::Opening | Transport::Open | Transport::Closing) => Ok(()),
+                _ => Err(Refusal::NotExpected),
+            },
+            Event::CacheBytes(_) => match self.transport_to_cache() {
+                Some(Transport::Open | Transport::Closing) => Ok(()),
+                _ => Err(Refusal::NotExpected),
+            },
             Event::Tick(now) if now < self.moment => Err(Refusal::ClockBack),
             Event::Tick(_) => Ok(()),
             Event::Command(command) => self.conf.check(&command, self.closing_for(&command)),
+        }
+    }
+
+    // The transport of the cache session, where there is one.
+    pub(crate) fn transport_to_cache(&self) -> Option<Transport>
+        ensures { result ≡ cache_transport_of self.now }
+    {
+        match &self.cache {
+            Some(session) => Some(session.transport()),
+            None => None,
         }
     }
 

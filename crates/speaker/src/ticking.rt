@@ -2,10 +2,10 @@
 ghost use Rattle.std.specs.Prelude.{◌≡◌, ◌≤◌, [], ◌∷◌};
 ghost use Rattle.bgp_peer.specs.SessionInputs.{timers};
 ghost use Rattle.speaker.specs.Agreement.{EndsAll, EndsTimers, Holds};
-ghost use Rattle.speaker.specs.Runs.{Run, Tick_call, opened_by, turn};
+ghost use Rattle.speaker.specs.Runs.{Run, Tick_call, report_of, turn};
 ghost use Rattle.speaker.specs.declared.config.Config.{Config as TheConfig};
 
-use crate::event::only;
+use crate::event::{Report, only};
 use crate::step::Speaker;
 use bgp_conf::PEER_SLOTS;
 use bgp_fsm::{Input, Timer};
@@ -13,15 +13,18 @@ use decision::Book;
 use std::alloc::Allocator;
 
 impl<A: Allocator + Clone, B: Book<A>> Speaker<A, B> {
-    /// A moment comes to each slot, in rising order. Answers the slots whose connection attempt begins, a bit each.
-    pub(crate) fn tick(&mut self, now: u64) -> u64
+    /// A moment comes to the cache session, and then to each slot, in rising order. Answers whose connection attempt begins.
+    pub(crate) fn tick(&mut self, now: u64) -> Report
         ensures ticks { (config : TheConfig) (r : Run) → Holds config r self.old → self.old.chosen ≤ self.old.chosen_before
-            → Holds config (turn (Tick_call now) [] ∷ r) self.new × (result ≡ opened_by config r (Tick_call now)) }
+            → Holds config (turn (Tick_call now) [] ∷ r) self.new × (result ≡ report_of config r (turn (Tick_call now) [])) }
         ensures counted { self.new.chosen_before ≡ self.old.chosen_before }
         ensures rises { self.old.chosen ≤ self.new.chosen }
     {
         self.moment = now;
-        self.end_all_timers()
+        let mut report = Report::nothing();
+        report.cache_opened = self.cache_tick(now);
+        report.opened = self.end_all_timers();
+        report
     }
 
     // The timers of each slot that have ended end.

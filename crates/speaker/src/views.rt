@@ -5,6 +5,7 @@ ghost use Rattle.std.specs.Iterator.{YieldsFirst, YieldsFirstBy, item_count};
 ghost use Rattle.std.specs.List.Sorted.{IsStrictlySortedBy};
 ghost use Rattle.std.specs.Map.{keys_of, lookup};
 ghost use Rattle.bgp_peer.specs.SentMessages.{ring_of};
+ghost use Rattle.net_prefix.specs.PayloadSets.{IsPayloadSet};
 ghost use Rattle.net_prefix.specs.PrefixOrder.{prefix_cmp};
 ghost use Rattle.net_prefix.specs.declared.prefix.Prefix.{Prefix as ThePrefix};
 ghost use Rattle.rib_out.specs.Held.{held_at, is_prefix};
@@ -14,12 +15,13 @@ ghost use Rattle.speaker.specs.Agreement.{Agrees, tables_after};
 ghost use Rattle.speaker.specs.Choices.{choices_in};
 ghost use Rattle.speaker.specs.LocRib.{IsBest};
 ghost use Rattle.speaker.specs.Held.{held};
-ghost use Rattle.speaker.specs.Runs.{Run, history};
+ghost use Rattle.speaker.specs.FirstRefusal.{cache_transport_after, cache_transport_of};
+ghost use Rattle.speaker.specs.Runs.{Run, history, payloads_after};
 ghost use Rattle.speaker.specs.declared.config.Config.{Config};
 ghost use Rattle.speaker.specs.SpeakerState.{tables_of};
 ghost use Rattle.speaker.specs.Tables.{configured_session, link_at, session_at};
 ghost use Rattle.rib_in.specs.LatestRoutes.{routes_of};
-ghost use Rattle.speaker.specs.Shown.{held_by, shown_of, transport_at};
+ghost use Rattle.speaker.specs.Shown.{cache_state_after, cache_state_of, held_by, shown_of, transport_at, transport_or_none};
 ghost use Rattle.speaker.specs.Waiting.{IsWaitingIn, waiting_of};
 ghost use Rattle.bgp_peer.specs.PeerLimits.{ring_octets, room_for_update};
 
@@ -32,7 +34,9 @@ use loc_rib::Rows;
 use net_prefix::{Prefix, Transport, Vrp};
 use origin_valid::Validity;
 use rib_in::SlotRoutes;
+use rtr_client::ClientState;
 use std::alloc::{Allocator, Global};
+use std::collections::btree_set;
 use std::marker::Model;
 
 /// A row of Loc-RIB: a prefix, the slot of its best route, that route's state (RFC 6811 section 2) and its degree of
@@ -79,19 +83,19 @@ impl<A: Allocator + Clone, B: Book<A>> Iterator for LocRib<'_, A, B> {
     }
 }
 
-/// Payloads in rising order.
+/// The payloads in force in rising order.
 #[derive(Drop)]
 pub struct Payloads<'a> {
-    pub(crate) payloads: &'a [Vrp],
+    pub(crate) payloads: Option<btree_set::Iter<'a, Vrp>>,
 }
 
 impl<'a> Model for Payloads<'a> {
-    ghost use Rattle.std.specs.Prelude.{List};
+    ghost use Rattle.std.specs.Prelude.{List, [], unwrap_or};
     ghost use Rattle.net_prefix.specs.declared.payload.Vrp.{Vrp};
 
     ghost Value = { List Vrp };
 
-    ghost view = { λ payloads. payloads.payloads.now };
+    ghost view = { λ payloads. unwrap_or payloads.payloads [] };
 }
 
 impl Iterator for Payloads<'_> {
@@ -102,9 +106,13 @@ impl Iterator for Payloads<'_> {
     ghost remaining = { item_count (λ rest. rest) };
 
     fn next(&mut self) -> Option<Vrp> {
-        let (first, rest) = self.payloads.split_first()?;
-        self.payloads = rest;
-        Some(*first)
+        match &mut self.payloads {
+            Some(payloads) => match payloads.next() {
+                Some(payload) => Some(*payload),
+                None => None,
+            },
+            None => None,
+        }
     }
 }
 
@@ -152,9 +160,16 @@ impl<A: Allocator + Clone, B: Book<A>> Speaker<A, B> {
     fn state_of(&self, slot: u8) -> Option<State>
         ensures { result ≡ option_map (λ s. s.state) (configured_session (tables_of self.now) slot) }
     {
-        if self.conf.peer(slot).is_none() {
-            return None;
+        match self.conf.peer(slot) {
+            Some(_) => self.state_at(slot),
+            None => None,
         }
+    }
+
+    // The state of the session of a slot that is there.
+    fn state_at(&self, slot: u8) -> Option<State>
+        ensures { result ≡ option_map (λ s. s.state) (session_at self.now.links slot) }
+    {
         match self.links.get(&slot) {
             Some(link) => Some(link.peer.state()),
             None => None,
@@ -201,11 +216,54 @@ impl<A: Allocator + Clone, B: Book<A>> Speaker<A, B> {
         self.routing.chosen().saturating_sub(self.chosen_before)
     }
 
-    /// The payloads in force in rising order. There are none, since there is no cache session yet.
+    /// The payloads in force in rising order.
     pub fn payloads(&self) -> Payloads<'_>
-        ensures { result ≡ [] }
+        // Each once.
+        ensures rising { IsPayloadSet result }
+        ensures kept { result ≡ self.now.payloads }
+        ensures agrees { (config : Config) (r : Run) → Agrees config r self.now → result ≡ payloads_after r }
     {
-        Payloads { payloads: &[] }
+        self.payload_rows()
+    }
+
+    fn payload_rows(&self) -> Payloads<'_>
+        ensures all { result ≡ self.now.payloads }
+        ensures rising { IsPayloadSet result }
+    {
+        match &self.cache {
+            Some(session) => Payloads {
+                payloads: Some(session.payloads().iter()),
+            },
+            None => Payloads { payloads: None },
+        }
+    }
+
+    /// The state of the cache session; none where there is no such session.
+    pub fn cache_session(&self) -> Option<ClientState>
+        ensures kept { result ≡ cache_state_of self.now.cache }
+        ensures agrees { (config : Config) (r : Run) → Agrees config r self.now → result ≡ cache_state_after config r }
+    {
+        self.cache_state()
+    }
+
+    fn cache_state(&self) -> Option<ClientState>
+        ensures { result ≡ cache_state_of self.now.cache }
+    {
+        match &self.cache {
+            Some(session) => Some(session.state()),
+            None => None,
+        }
+    }
+
+    /// What the transport of the cache session is asked to do; `Transport::None` where there is no such session.
+    pub fn cache_transport(&self) -> Transport
+        ensures kept { result ≡ transport_or_none (cache_transport_of self.now) }
+        ensures agrees { (config : Config) (r : Run) → Agrees config r self.now → result ≡ transport_or_none (cache_transport_after config r) }
+    {
+        match self.transport_to_cache() {
+            Some(transport) => transport,
+            None => Transport::None,
+        }
     }
 
     /// The routes that a slot's peer has announced and not taken back, in rising order; none where the slot

@@ -1,30 +1,26 @@
 use Rattle.std.proofs.Common.{◌≡◌, ◌∙◌, ap, refl, subst}
 use Rattle.rib_in.specs.LatestRoutes.{HasRoute}
-use Rattle.speaker.specs.Offers.{AreRemade}
 use Rattle.speaker.specs.RoutingState.{RoutingState}
-use Rattle.speaker.specs.Tables.{tables}
-use Rattle.speaker.proofs.RemadeOffers.{RemadeUpTo-more, RemadeUpTo-none, sound_remade}
+use Rattle.speaker.proofs.RemadeOffers.{RemadeUpTo-more, RemadeUpTo-none}
 use Rattle.speaker.proofs.Counting.{counts_more, counts_none}
 use Rattle.speaker.proofs.choosing.choose_again.Goals as goal
 
 pub loop-prefix-init : goal.loop-prefix-init
-loop-prefix-init g c = (RemadeUpTo-none _ _, refl, c.requires.sound, c.requires.marked, counts_none _ _)
+loop-prefix-init g c = (RemadeUpTo-none _ _ _, refl, c.requires.sound, c.requires.marked, counts_none _ _)
 
 pub loop-prefix-preserved : goal.loop-prefix-preserved
 loop-prefix-preserved g c =
     let h = c.loop-prefix.invariant in
     let below = rw c.place-place.ensures.place at c.place-place.ensures.below in
     let walked : c.routes.result.now ≡ c.args.routing.now.adj_in = c.routes.ensures.all ∙ ap (λ (t : RoutingState). t.adj_in) c.routing.view_is ∙ h.1 in
-    let read : c.routes-in-Some.result.now ≡ c.args.routing.now.adj_in = c.routes-in-Some.ensures.all ∙ ap (λ (t : RoutingState). t.adj_in) c.routing.view_is ∙ h.1 in
     let least = rw walked at c.in-Some.ensures.least in
-    let remade : AreRemade (tables c.args.conf.now c.args.payloads.now c.args.links.now.entries c.args.routing.now.adj_in) c.in-Some.prefix c.remade-changes.result.items = rw (← read) c.remade-changes.ensures in
-    let offers = rw c.as_slice.ensures.value at c.change.ensures.offers in
+    let made = rw h.1 at c.choose_at.ensures.made in
     let has : HasRoute c.args.routing.now.adj_in c.in-Some.prefix = subst (λ t. HasRoute t c.in-Some.prefix) walked c.in-Some.ensures.has in (
-      RemadeUpTo-more _ _ _ _ _ _ _ h.0 c.in-Some.ensures.above least below remade offers,
-      c.change.ensures.routes ∙ h.1,
-      sound_remade _ _ _ _ _ remade h.2 offers,
-      c.change.ensures.marked,
-      counts_more _ c.loop-prefix.after c.in-Some.prefix _ _ _ h.4 c.in-Some.ensures.above has c.change.ensures.chosen c.change.ensures.rises,
+      RemadeUpTo-more _ _ _ _ _ _ _ h.0 refl (λ s r held. least s r) below made,
+      c.choose_at.ensures.routes ∙ h.1,
+      c.choose_at.ensures.sound,
+      c.choose_at.ensures.marked,
+      counts_more _ c.loop-prefix.after c.in-Some.prefix _ _ _ h.4 c.in-Some.ensures.above has c.choose_at.ensures.chosen c.choose_at.ensures.rises,
     )
 
 pub returns-clause-chosen : goal.returns-clause-chosen

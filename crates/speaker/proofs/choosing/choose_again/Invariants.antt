@@ -1,9 +1,9 @@
-use Rattle.std.proofs.Common.{◌≡◌}
+use Rattle.std.proofs.Common.{◌≡◌, true}
 use Rattle.decision.specs.BookContents.{offer_at}
+use Rattle.rib_in.specs.LatestRoutes.{HasRoute}
 use Rattle.speaker.specs.Marks.{AreMarked}
 use Rattle.speaker.specs.Offers.{IsSound}
 use Rattle.speaker.specs.Tables.{tables}
-use Rattle.rib_in.specs.LatestRoutes.{HasRoute}
 use Rattle.speaker.proofs.Counting.{Counts}
 use Rattle.speaker.proofs.RemadeOffers.{RemadeUpTo}
 use Rattle.speaker.proofs.Serving.{left_above}
@@ -11,7 +11,7 @@ use Rattle.speaker.proofs.choosing.choose_again.Given as goal
 
 abbrev pub invariant-loop-prefix : goal.invariant-loop-prefix
 invariant-loop-prefix g l =
-    RemadeUpTo (tables l.fn.conf l.fn.payloads l.fn.links.entries l.fn.routing.adj_in) (offer_at l.fn.routing.book) l.after (offer_at l.routing.book)
+    RemadeUpTo (tables l.fn.conf l.fn.payloads l.fn.links.entries l.fn.routing.adj_in) (λ q. true) (offer_at l.fn.routing.book) l.after (offer_at l.routing.book)
     × (l.routing.adj_in ≡ l.fn.routing.adj_in)
     × IsSound l.fn.conf (offer_at l.routing.book)
     × AreMarked l.fn.conf l.fn.links.entries l.routing

@@ -16,6 +16,7 @@ returns-clause-forgets g c =
       chosen = c.drop_slot.ensures.chosen;
       config = refl;
       moment = refl;
+      cache = refl;
       payloads = refl;
       chosen_before = refl;
     })

@@ -8,4 +8,5 @@ invariant_of-self-2 g c = (
   c.self.invariant.0,
   marked_put c.self.inside.conf c.self.inside.routing c.args.slot c.in_ok-link.link.now c.take.new.self c.self.inside.links.entries _ c.self.invariant.1 (sym c.in_ok-link.ensures.value)
       (ap (λ (l : Linked). l.peer.session) c.take.ensures.link) (ap (λ (l : Linked). l.adj_out) c.take.ensures.link) (search rules),
+  c.self.invariant.2,
 )

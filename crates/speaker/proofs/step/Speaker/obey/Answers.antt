@@ -32,7 +32,7 @@ returns-in_ok-apply-in-Reach-clause-ok g c = λ config r holds.
     let conf = rw c.in-Reach.is at c.in_ok-apply-in-Reach.ensures.ok in
     let peers = rw c.in-Reach.is at c.in_ok-apply-in-Reach.ensures.peers in
     let here = rw (← c.self.view_is) at holds in
-    rw (c.in-Reach.is, c.chosen-self-inside.ensures) (holds_reach config r c.in-Reach.field-0 c.in-Reach.field-1 _ _ here conf peers refl refl refl refl c.choose_again.ensures.routes c.choose_again.ensures.made c.choose_again.ensures.chosen.0 c.choose_again.ensures.chosen.1 c.choose_again.ensures.chosen.2 refl, refl)
+    rw (c.in-Reach.is, c.chosen-self-inside.ensures) (holds_reach config r c.in-Reach.field-0 c.in-Reach.field-1 _ _ here conf peers refl refl refl refl refl c.choose_again.ensures.routes c.choose_again.ensures.made c.choose_again.ensures.chosen.0 c.choose_again.ensures.chosen.1 c.choose_again.ensures.chosen.2 refl, refl)
 
 pub remove_peer-requires-clause-configured : goal.remove_peer-requires-clause-configured
 remove_peer-requires-clause-configured g c =

@@ -1,5 +1,5 @@
 use Rattle.std.specs.Int.Bits.{or_zero_l}
-use Rattle.std.proofs.Common.{◌∙◌, ap, subst, arith}
+use Rattle.std.proofs.Common.{◌∙◌, refl, ap, subst, arith}
 use Rattle.speaker.specs.SpeakerState.{SpeakerState}
 use Rattle.speaker.specs.Agreement.{QueuesAll}
 use Rattle.speaker.specs.Queueing.{starved_in}
@@ -13,7 +13,7 @@ returns-clause-agrees g c = λ config r a.
     let agrees =
     taken_agrees config r c.args.slot found.0 c.in-Some.taken c.queue_updates.result c.args.buf.now c.hand_out.new.buf c.args.self.now c.hand_out.new.self c.queue_updates.new.self a found.1
     given.0 given.1 given.2 (subst (λ s. QueuesAll c.queue_updates.result s c.queue_updates.new.self) c.begin_count.ensures c.queue_updates.ensures.queues) c.queue_updates.ensures.served in
-    (agrees.0, rw (or_zero_l (starved_in agrees.0), agrees.1) c.of.ensures, agrees.2)
+    (agrees.0, rw (c.nothing-report.ensures, or_zero_l (starved_in agrees.0), agrees.1) refl, agrees.2)
 
 pub returns-clause-counted : goal.returns-clause-counted
 returns-clause-counted g c =

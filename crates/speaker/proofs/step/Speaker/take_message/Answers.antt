@@ -11,7 +11,8 @@ use Rattle.speaker.specs.Linked.{Linked}
 use Rattle.speaker.specs.Moves.{TakesMemoryAt}
 use Rattle.speaker.specs.Runs.{terms_in}
 use Rattle.speaker.specs.Tables.{session_at}
-use Rattle.speaker.proofs.Messages.{refused_chosen, starves, takes, takes_none, some_same}
+use Rattle.speaker.specs.SpeakerState.{SpeakerState}
+use Rattle.speaker.proofs.Messages.{refused_chosen, rises_once, rises_twice, starves, takes, takes_none, some_same}
 use Rattle.speaker.proofs.step.Speaker.take_message.Goals as goal
 
 pub returns-in-Some-heard-clause-taken : goal.returns-in-Some-heard-clause-taken
@@ -28,7 +29,7 @@ returns-in-Some-heard-clause-taken g c = λ l peer linked configured.
     (c.in-Ok.ensures.routes (terms_in c.self.inside.config c.in-Some.peer) (record { expected_is = refl; kind_is = c.between.ensures }))
     (c.in-Ok.ensures.chosen (terms_in c.self.inside.config c.in-Some.peer) (record { expected_is = refl; kind_is = c.between.ensures }))
     kept
-    (record { config = refl; moment = refl; conf = refl; payloads = refl; chosen_before = refl })
+    (record { config = refl; moment = refl; conf = refl; cache = refl; payloads = refl; chosen_before = refl })
     (λ s. refl)
     (sym c.in-Some-get.ensures.value)
     (c.input-in-Some-heard.ensures.moves _ (sym c.in-Some-get.ensures.value))
@@ -49,7 +50,7 @@ returns-in_default-heard-clause-taken g c = λ l peer linked configured.
     (c.in-Ok.ensures.chosen (terms_in c.self.inside.config c.in-Some.peer) (record { expected_is = refl; kind_is = c.between.ensures }))
     c.in-Ok.ensures.rises
     kept
-    (record { config = refl; moment = refl; conf = refl; payloads = refl; chosen_before = refl })
+    (record { config = refl; moment = refl; conf = refl; cache = refl; payloads = refl; chosen_before = refl })
     (λ s. refl))
 
 pub returns-in-Err-clause-starved : goal.returns-in-Err-clause-starved
@@ -64,9 +65,24 @@ returns-in-Err-clause-starved g c = λ l peer linked configured.
     rw (← peer_same, ← c.self.view_is) (
       takes,
       starves c.args.slot l _ _ _ takes.established (λ s. refl) (λ s p other. c.in-Err.ensures.others.routes s p other) (λ s p other. c.in-Err.ensures.others.offers s p other)
-          (record { config = refl; moment = refl; conf = refl; payloads = refl; chosen_before = refl }) (c.input.ensures.moves l linked_here),
+          (record { config = refl; moment = refl; conf = refl; cache = refl; payloads = refl; chosen_before = refl }) (c.input.ensures.moves l linked_here),
       refused_chosen c.args.slot (sound_update (kind_of (terms_in c.self.inside.config c.in-Some.peer)) takes.body (update_fault (kind_of (terms_in c.self.inside.config c.in-Some.peer)) takes.body)) (effects_of NoMemory l.peer.session).left _ _ _ (rw takes.established refl) part.routes part.chosen (c.input.ensures.chosen l linked_here),
     )
 
 pub returns-in-Err-clause-within : goal.returns-in-Err-clause-within
 returns-in-Err-clause-within g c = c.self.invariant.1.there.within c.args.slot c.in-Some-get.link.now (sym c.in-Some-get.ensures.value)
+
+pub returns-in-Err-clause-counted : goal.returns-in-Err-clause-counted
+returns-in-Err-clause-counted g c = c.input.ensures.counted ∙ ap (λ (s : SpeakerState). s.chosen_before) c.self.view_is
+
+pub returns-in-Some-heard-clause-counted : goal.returns-in-Some-heard-clause-counted
+returns-in-Some-heard-clause-counted g c = c.input-in-Some-heard.ensures.counted ∙ ap (λ (s : SpeakerState). s.chosen_before) c.self.view_is
+
+pub returns-in-Err-clause-rises : goal.returns-in-Err-clause-rises
+returns-in-Err-clause-rises g c = rises_twice _ _ _ _ (ap (λ (s : SpeakerState). s.chosen) c.self.view_is) c.take_front.ensures.rises c.input.ensures.rises
+
+pub returns-in-Some-heard-clause-rises : goal.returns-in-Some-heard-clause-rises
+returns-in-Some-heard-clause-rises g c = rises_twice _ _ _ _ (ap (λ (s : SpeakerState). s.chosen) c.self.view_is) c.take_front.ensures.rises c.input-in-Some-heard.ensures.rises
+
+pub returns-in_default-heard-clause-rises : goal.returns-in_default-heard-clause-rises
+returns-in_default-heard-clause-rises g c = rises_once _ _ _ (ap (λ (s : SpeakerState). s.chosen) c.self.view_is) c.take_front.ensures.rises

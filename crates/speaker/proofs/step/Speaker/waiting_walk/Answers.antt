@@ -1,4 +1,4 @@
-use Rattle.std.proofs.Common.{Some, ◌≡◌, refl, rules, subst, ap}
+use Rattle.std.proofs.Common.{Some, None, ◌≡◌, refl, rules, subst, ap}
 use Rattle.decision.specs.BookContents.{rows_of}
 use Rattle.rib_out.specs.Held.{held_at}
 use Rattle.std.specs.Option.{option_map}
@@ -9,7 +9,7 @@ use Rattle.speaker.specs.Tables.{best_at, link_at}
 use Rattle.speaker.specs.Waiting.{differing, known_prefixes}
 use Rattle.bgp_fsm.specs.declared.state.State.TheVariants.{Established}
 use Rattle.speaker.specs.declared.step.Speaker.TheInside.{Inside}
-use Rattle.speaker.proofs.WaitingLists.{listed_of, none_listed, nothing_rises}
+use Rattle.speaker.proofs.WaitingLists.{listed_of, none_listed, none_there, nothing_rises}
 use Rattle.speaker.proofs.step.Speaker.waiting_walk.Goals as goal
 
 pub returns-in_err-peer-clause-rising : goal.returns-in_err-peer-clause-rising
@@ -17,6 +17,12 @@ returns-in_err-peer-clause-rising g c = let rises = nothing_rises in search rule
 
 pub returns-in_err-link-clause-rising : goal.returns-in_err-link-clause-rising
 returns-in_err-link-clause-rising g c = let rises = nothing_rises in search rules
+
+pub returns-in_err-link-clause-all : goal.returns-in_err-link-clause-all
+returns-in_err-link-clause-all g c =
+    let there = subst (λ (x : Inside g.row.A.Denot g.row.B.Denot). Some c.in_ok-peer.peer ≡ option_map (export_peer_of x.conf c.args.slot) (peer_at x.conf c.args.slot)) c.self-inside.view_is c.in_ok-peer.ensures in
+    let linked = subst (λ (x : Inside g.row.A.Denot g.row.B.Denot). None ≡ link_at x.links.entries c.args.slot) c.self-inside.view_is c.in_err-link.ensures.value in
+    rw (c.from_residual-in_err-link.ensures, ← c.self.view_is) (none_there _ _ c.in_ok-peer.peer _ _ there linked)
 
 pub returns-then-not-is_established-clause-rising : goal.returns-then-not-is_established-clause-rising
 returns-then-not-is_established-clause-rising g c = nothing_rises

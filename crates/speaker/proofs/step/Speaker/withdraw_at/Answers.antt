@@ -23,6 +23,7 @@ invariant_of-self-2 g c =
       config = c.self.inside.config;
       moment = c.self.inside.moment;
       conf = c.self.inside.conf;
+      cache = c.self.inside.cache;
       payloads = c.self.inside.payloads;
       links = c.self.inside.links.entries;
       adj_in = c.self.inside.routing.adj_in;
@@ -35,4 +36,5 @@ invariant_of-self-2 g c =
       subst (λ b. IsSound c.self.inside.conf (offer_at b)) (sym (ap (λ (t : RoutingState). t.book) c.told.ensures.rest)) c.self.invariant.0,
       marked_told c.self.inside.conf c.self.inside.routing c.told.new.self c.args.slot c.args.prefix None c.in-Some.link.now c.withdraw.new.link c.self.inside.links.entries _ c.self.invariant.1
           (sym c.in-Some.ensures.value) c.withdraw.ensures put (exported_to state c.args.slot c.args.prefix None refl gone) c.told.ensures.rest c.told.ensures.owed c.told.ensures.known c.told.ensures.released,
+      c.self.invariant.2,
     )

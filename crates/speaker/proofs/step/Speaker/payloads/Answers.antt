@@ -1,0 +1,5 @@
+use Rattle.std.proofs.Common.{◌∙◌}
+use Rattle.speaker.proofs.step.Speaker.payloads.Goals as goal
+
+pub returns-clause-agrees : goal.returns-clause-agrees
+returns-clause-agrees g c = λ config r a. c.payload_rows.ensures.all ∙ a.holds.payloads
