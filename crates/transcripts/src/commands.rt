@@ -6,7 +6,7 @@ use std::alloc::{AllocError, Global};
 use std::test::Fail;
 
 // Lines that the language doesn't have.
-const BAD_LINES: [&str; 43] = [
+const BAD_LINES: [&str; 51] = [
     "hello",
     "speaker 65000 192.0.2.1 nocache",
     "speaker 65000 192.0.2.1 cache",
@@ -46,7 +46,15 @@ const BAD_LINES: [&str; 43] = [
     "bytes 0 FF FF",
     "take 0 4294967296",
     "show",
-    "show payloads",
+    "show payloads 0",
+    "rup 0",
+    "rfail 0",
+    "rbytes",
+    "rbytes ",
+    "rbytes 0",
+    "rbytes 0 00",
+    "rtake",
+    "rtake 4294967296",
     "show in",
     "show held 256",
     "tick",
@@ -67,10 +75,11 @@ fn a_line_that_the_language_lacks_ends_the_run(rt: HostRuntime) -> Result<(), Fa
 }
 
 // Scripts whose line ends, comments and numbers are out of the ordinary, and what they answer.
-const UNUSUAL: [(&[u8], &str); 9] = [
+const UNUSUAL: [(&[u8], &str); 10] = [
     (b"", ""),
     (b"# \xC3\xA9\n\n\r\n#", ""),
     (b"show rib", "line 1: bad line\n"),
+    (b"speaker 65000 192.0.2.1 Cache\n", "line 1: bad line\n"),
     (b"\n# a comment\n\nup 0\n", "line 4: bad line\n"),
     (b"speaker 65000 192.0.2.1 nocache", "ok\n"),
     (

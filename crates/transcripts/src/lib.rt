@@ -11,6 +11,18 @@ mod cache;
 #[cfg(test)]
 mod cache_pdus;
 #[cfg(test)]
+mod cache_session;
+#[cfg(test)]
+mod client_cuts;
+#[cfg(test)]
+mod client_faults;
+#[cfg(test)]
+mod client_loads;
+#[cfg(test)]
+mod client_pdus;
+#[cfg(test)]
+mod client_timers;
+#[cfg(test)]
 mod commands;
 #[cfg(test)]
 mod cuts;
@@ -42,3 +54,5 @@ mod transcript;
 mod update_faults;
 #[cfg(test)]
 mod updates;
+#[cfg(test)]
+mod validation;

@@ -102,6 +102,22 @@ impl Transcript {
         self.told.push('\n')
     }
 
+    /// The cache of the speaker's session sends these octets.
+    pub fn cache_sends(&mut self, octets: &str) -> Result<(), AllocError> {
+        self.script.push_str("rbytes ")?;
+        push_octets(&mut self.script, octets)?;
+        self.script.push('\n')?;
+        push_line(&mut self.told, "ok")
+    }
+
+    /// All that waits for that cache is taken, which are these octets.
+    pub fn cache_is_sent(&mut self, octets: &str) -> Result<(), AllocError> {
+        writeln!(self.script, "rtake 9999")?;
+        self.told.push_str("out ")?;
+        push_octets(&mut self.told, octets)?;
+        self.told.push('\n')
+    }
+
     /// One route of slot 0 is kept: this prefix with these attributes.
     pub fn show_in(&mut self, prefix: &str, attributes: &str) -> Result<(), AllocError> {
         writeln!(self.script, "show in 0")?;
