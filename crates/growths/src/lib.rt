@@ -8,9 +8,10 @@
 //! comes again; or one session is closed, the report names it, its routes have gone, the other
 //! is as it was, and all goes on when its peer comes again. `running` plays the events by `run`, once with memory for
 //! all of them. `taking` has a growth refused to what follows a take, which hands its octets out all the same and
-//! closes the session. `many_prefixes` has two thousand prefixes told to two peers whose rings fill, and one growth
-//! refused. `serving` plays loads, a client and its queries on a cache: a refused load or client changes nothing, a
-//! refused response closes its client alone, and the same call is answered when it is made again.
+//! closes the session. `payloads` has a cache send a load and a change of it: a refused growth closes the cache session
+//! alone, and what is in force stays. `many_prefixes` has two thousand prefixes told to two peers whose rings fill, and
+//! one growth refused. `serving` plays loads, a client and its queries on a cache: a refused load or client changes
+//! nothing, a refused response closes its client alone, and the same call is answered when it is made again.
 #![tactic(auto)]
 
 #[cfg(test)]
@@ -21,6 +22,8 @@ mod choices;
 mod first_path;
 #[cfg(test)]
 mod many_prefixes;
+#[cfg(test)]
+mod payloads;
 #[cfg(test)]
 mod running;
 #[cfg(test)]

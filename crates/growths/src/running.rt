@@ -43,7 +43,11 @@ fn slot_of(event: Event<'_>) -> Option<u8> {
             | Command::Enable(slot)
             | Command::Disable(slot),
         ) => Some(slot),
-        Event::Tick(_) | Event::Command(Command::Reach(_, _)) => None,
+        Event::CacheUp
+        | Event::CacheFail
+        | Event::CacheBytes(_)
+        | Event::Tick(_)
+        | Event::Command(Command::Reach(_, _)) => None,
     }
 }
 
