@@ -1,6 +1,7 @@
 //! What is measured.
+use crate::loads::{NOTIFY, change, load};
 use crate::messages::{Change, MOST, prefix_of, update};
-use crate::peers::{FIRST, drain, established};
+use crate::peers::{FIRST, drain, established, hear_cache};
 use net_prefix::Prefix;
 use speaker::{Event, Refusal, Speaker};
 use std::alloc::{AllocError, Global};
@@ -97,15 +98,65 @@ impl Measured {
     }
 }
 
-/// Measures a new speaker. False where one of its calls is refused.
-pub fn measure(
+/// How much is measured.
+#[derive(Clone, Copy)]
+pub struct Sizes {
+    /// How many prefixes the first peer announces.
+    pub prefixes: u32,
+    /// How many of them in an UPDATE.
+    pub per_update: usize,
+    /// How many payloads the cache sends.
+    pub payloads: u32,
+    /// How many of them it changes then.
+    pub changes: u32,
+}
+
+// The cache sends payloads; prints how long that took for each, by how much the process has grown, and how often a best
+// route was chosen at their end. False where a call is refused.
+fn tell_payloads(
     rt: &HostRuntime,
+    speaker: &mut Speaker,
+    what: &str,
+    octets: &[u8],
     count: u32,
-    per_update: usize,
+) -> io::Result<bool> {
+    let before = resident(rt)?;
+    let start = rt.process_cpu_time()?;
+    let Ok(chosen) = hear_cache(speaker, octets) else {
+        return Ok(false);
+    };
+    let time = rt.process_cpu_time()?.saturating_sub(start);
+    let grown = resident(rt)?.saturating_sub(before);
+    let each = time.as_nanos().checked_div(count as u128).unwrap_or(0);
+    let more = grown.checked_div(count as u64).unwrap_or(0);
+    println!(rt; "  {what:<15} {each:>7} ns, {more:>5} octets more, {chosen:>10} choices")?;
+    Ok(true)
+}
+
+// The cache sends its payloads, and then a change of them. False where a call is refused.
+fn measure_payloads(
+    rt: &HostRuntime,
+    speaker: &mut Speaker,
+    sizes: Sizes,
     scattered: bool,
 ) -> io::Result<bool> {
     let alloc = rt.alloc();
-    let prefixes: Vec<u32> = (0..count)
+    let all = load(alloc, sizes.payloads, scattered)?;
+    let some = change(alloc, sizes.changes, scattered)?;
+    if !tell_payloads(rt, speaker, "load", all.as_slice(), sizes.payloads)? {
+        return Ok(false);
+    }
+    if hear_cache(speaker, &NOTIFY).is_err() {
+        return Ok(false);
+    }
+    tell_payloads(rt, speaker, "change", some.as_slice(), sizes.changes)
+}
+
+/// Measures a new speaker. False where one of its calls is refused.
+pub fn measure(rt: &HostRuntime, sizes: Sizes, scattered: bool) -> io::Result<bool> {
+    let alloc = rt.alloc();
+    let per_update = sizes.per_update;
+    let prefixes: Vec<u32> = (0..sizes.prefixes)
         .map(|number| prefix_of(number, scattered))
         .collect(alloc)?;
     let announced = updates(alloc, Change::Announce, prefixes.as_slice(), per_update)?;
@@ -126,6 +177,7 @@ pub fn measure(
         measured.tell(rt, "announce", announce)?
             && measured.tell(rt, "withdraw", withdraw)?
             && measured.tell(rt, "announce again", announce)?
+            && measure_payloads(rt, &mut measured.speaker, sizes, scattered)?
             && measured.tell(rt, "fall", Phase::Lose)?,
     )
 }

@@ -48,7 +48,8 @@ pub fn prefix_of(number: u32, scattered: bool) -> u32 {
     }
 }
 
-fn push_all(message: &mut Vec<u8>, octets: &[u8]) -> Result<(), AllocError> {
+/// Appends octets.
+pub fn push_all(message: &mut Vec<u8>, octets: &[u8]) -> Result<(), AllocError> {
     for octet in octets {
         message.push(*octet).map_err(|_| AllocError)?;
     }

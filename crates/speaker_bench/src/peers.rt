@@ -1,4 +1,4 @@
-//! A speaker with two passive peers.
+//! A speaker with two passive peers and a cache.
 use crate::messages::{FIRST_OPEN, KEEPALIVE, SECOND_OPEN};
 use net_prefix::{Asn, Prefix};
 use speaker::{Command, Config, Event, Mode, PeerConf, Refusal, Speaker};
@@ -13,7 +13,7 @@ pub const SECOND: u8 = 1;
 const CONFIG: Config = Config {
     asn: Asn(65_000),
     identifier: 0xC000_0201,
-    cache: false,
+    cache: true,
 };
 
 const FIRST_PEER: PeerConf<'static> = PeerConf {
@@ -36,7 +36,7 @@ const SECOND_PEER: PeerConf<'static> = PeerConf {
     export: "all",
 };
 
-/// A speaker to which both peers are Established.
+/// A speaker to which both peers are Established, and whose connection to a cache stands.
 pub fn established(alloc: Global, reachable: Prefix) -> Result<Speaker, Refusal> {
     let mut speaker = Speaker::new(alloc, CONFIG)?;
     let events = [
@@ -51,6 +51,7 @@ pub fn established(alloc: Global, reachable: Prefix) -> Result<Speaker, Refusal>
         Event::Bytes(FIRST, &KEEPALIVE),
         Event::Bytes(SECOND, &SECOND_OPEN),
         Event::Bytes(SECOND, &KEEPALIVE),
+        Event::CacheUp,
     ];
     for event in events {
         let _ = speaker.step(event)?;
@@ -71,4 +72,18 @@ pub fn drain(speaker: &mut Speaker) -> Result<u64, Refusal> {
         octets = octets.saturating_add(taken as u64);
     }
     Ok(octets)
+}
+
+/// The cache sends octets, 4,096 at a time, and takes what it is sent; the second peer takes what comes of them. How often a
+/// best route was chosen for the last of them.
+pub fn hear_cache(speaker: &mut Speaker, octets: &[u8]) -> Result<u64, Refusal> {
+    let mut buf = [0u8; 4_096];
+    let mut chosen = 0;
+    for piece in octets.chunks(4_096) {
+        let _ = speaker.step(Event::CacheBytes(piece))?;
+        chosen = speaker.chosen();
+        speaker.take_cache(&mut buf);
+        let _ = drain(speaker)?;
+    }
+    Ok(chosen)
 }
