@@ -1,5 +1,5 @@
 //! The payloads by prefix.
-ghost use Rattle.std.specs.Prelude.{◌≡◌, ◌||◌, ◌&&◌, [], false, not, OnOk, OnErr};
+ghost use Rattle.std.specs.Prelude.{◌≡◌, ◌≢◌, ◌||◌, ◌&&◌, [], false, not, OnOk, OnErr};
 ghost use Rattle.net_prefix.specs.PayloadSets.{IsPayloadSet, has, out, put};
 ghost use Rattle.net_prefix.specs.declared.payload.Vrp.{Vrp as Payload};
 ghost use Rattle.origin_valid.specs.KeptPayloads.{IsNextPayloads};
@@ -137,6 +137,7 @@ impl<A: Allocator + Clone> PayloadTrie<A> {
     fn put_all<B: Allocator>(&mut self, announced: &BTreeSet<Vrp, B>) -> Result<(), AllocError>
         ensures ok { OnOk result ((q : Payload) → has self.new q ≡ (has self.old q || has announced.now.keys q)) }
         ensures err { OnErr result ((q : Payload) → has announced.now.keys q ≡ false → has self.new q ≡ has self.old q) }
+        ensures needs { OnErr result (announced.now.keys ≢ []) }
     {
         for payload in announced {
             self.put(*payload)?;

@@ -10,7 +10,7 @@ use vrp_delta::{Delta, DeltaFault, Versions, apply};
 
 const TEN: u32 = 0x0a00_0000;
 
-const PUBLISHED: u32 = 20;
+const PUBLISHED: u32 = 68;
 
 fn set_with_as(alloc: Global, asn: u32) -> Result<BTreeSet<Vrp>, Fail> {
     let one = payload(TEN, 16, 16, asn)?;
@@ -41,7 +41,7 @@ fn tells_change<A: Allocator + Clone>(
     versions: &Versions<A>,
     serial: u32,
 ) -> Result<(), Fail> {
-    let oldest = serial.saturating_sub(16).max(1);
+    let oldest = serial.saturating_sub(64).max(1);
     let change = match versions.delta_from(oldest) {
         Ok(change) => change,
         Err(_) => versions.delta_from(oldest)?,
@@ -82,7 +82,7 @@ fn publish_all<A: Allocator + Clone>(
 #[test]
 fn a_refused_growth_that_is_asked_for_again_changes_nothing(rt: HostRuntime) -> Result<(), Fail> {
     let mut left = true;
-    for nth in 1..100u64 {
+    for nth in 1..2_000u64 {
         let heap = Refusing::new(rt.alloc(), nth);
         let refused = publish_all(&rt, rt.alloc(), Versions::new(&heap))?;
         left = heap.has_refused();
@@ -100,7 +100,7 @@ fn a_refused_growth_that_is_asked_for_again_changes_nothing(rt: HostRuntime) -> 
 fn a_refused_growth_leaves_the_versions(rt: HostRuntime) -> Result<(), Fail> {
     let mut refusals = 0u32;
     let mut left = true;
-    for nth in 1..100u64 {
+    for nth in 1..2_000u64 {
         let behind = Refusing::new(rt.alloc(), nth);
         let heap = Refusing::new(&behind, nth);
         let refused = publish_all(&rt, rt.alloc(), Versions::new(&heap))?;

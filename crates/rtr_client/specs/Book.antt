@@ -4,9 +4,10 @@ use Rattle.std.specs.declared.alloc.AllocError.{AllocError}
 use Rattle.net_prefix.specs.declared.payload.Vrp.{Vrp}
 use Rattle.net_prefix.specs.PayloadSets.{IsPayloadSet, has, out, put}
 use Rattle.rtr_codec.specs.ClientState as table
-use Rattle.vrp_delta.specs.Delta.{Change, change_between, lacked}
+use Rattle.vrp_delta.specs.Delta.{Change, change_between}
 use Rattle.vrp_delta.specs.Keeping.{IsChangeOf, no_change}
 use Rattle.rtr_client.specs.declared.payloads.Base.{Base}
+pub use Rattle.vrp_delta.specs.Staged.{came, left, loaded_from, with_all}
 
 -- the base with the payloads in force; of the load in progress whether it answers a Serial Query, its session and its payloads so far; and the change
 pub record Book : Type 0 where
@@ -32,32 +33,15 @@ base_of (Some base) payloads = Some (record { session = base.session; serial = b
 abbrev pub start_of : Bool → List Vrp → List Vrp
 start_of serially payloads = if serially then payloads else []
 
--- a set with all of a list
-abbrev pub with_all : List Vrp → List Vrp → List Vrp
-with_all [] set = set
-with_all (payload ∷ more) set = put payload (with_all more set)
-
--- the payloads of a load that is kept as a change of what it started from
-unfoldable pub loaded_from : List Vrp → Change → List Vrp
-loaded_from start change = with_all change.announced (lacked start change.withdrawn)
-
--- a payload comes that a load lacks: it comes back where it had left what the load started from
-abbrev pub came : Vrp → Change → Change
-came payload load =
-    if has load.withdrawn payload then record load { withdrawn = out payload load.withdrawn }
-    else record load { announced = put payload load.announced }
-
--- a payload leaves that a load has: it goes again where it had come
-abbrev pub left : Vrp → Change → Change
-left payload load =
-    if has load.announced payload then record load { announced = out payload load.announced }
-    else record load { withdrawn = put payload load.withdrawn }
-
 -- what is kept: without a base no payload is in force, and the load is a change of what it started from
 pub record IsBook (base : Option Base) (payloads : List Vrp) (serially : Bool) (load : Change) : Type 0 where
   pub rises : IsPayloadSet payloads
   pub flushed : base ≡ None → payloads ≡ []
   pub change : IsChangeOf (start_of serially payloads) load
+
+-- what the load of a book started from
+abbrev pub started_from : Book → List Vrp
+started_from book = start_of book.serially (table.payloads_of book.base)
 
 -- a load begins
 abbrev pub begun : Bool → ℕ → Book → Book

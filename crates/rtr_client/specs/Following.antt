@@ -1,11 +1,14 @@
 -- What a client is seen as, and what a step of it may do.
-use Rattle.std.specs.Prelude.{◌&&◌, ◌==◌, ℕ, Bool, false, not, if◌then◌else◌}
+use Rattle.std.specs.Prelude.{◌&&◌, ◌||◌, ◌==◌, ℕ, Bool, false, not, List, if◌then◌else◌}
+use Rattle.std.specs.List.{list_any}
+use Rattle.net_prefix.specs.declared.payload.Vrp.{Vrp}
 use Rattle.net_prefix.specs.PayloadSets.{has}
 use Rattle.rtr_codec.specs.ClientState as table
 use Rattle.rtr_codec.specs.Intervals.{are_lawful}
 use Rattle.rtr_codec.specs.declared.intervals.Intervals.{Intervals}
 use Rattle.rtr_codec.specs.PduSpelling.{Content, Announce, Withdraw, End_of_data, content_of}
 use Rattle.vrp_delta.specs.Delta.{Change}
+use Rattle.rtr_client.specs.Book.{start_of}
 use Rattle.rtr_client.specs.declared.input.Input.{Input}
 use Rattle.rtr_client.specs.declared.input.Input.TheVariants.{Up, Fail, Heard, Faulty, Tick, NoRoom}
 use Rattle.rtr_client.specs.declared.state.ClientState.{ClientState}
@@ -33,16 +36,23 @@ served starved input = if starved then table.Starved else input
 abbrev pub completes : ℕ → ℕ → Intervals → Bool
 completes own session intervals = (session == own) && are_lawful intervals
 
--- whether a load needs memory for this PDU: a payload that comes or leaves, and the end of the load, each where it is no fault
-abbrev pub load_takes : table.Stage → Content → Bool
-load_takes (table.Loading serially own set) (Announce payload) = not (has set payload)
-load_takes (table.Loading serially own set) (Withdraw payload) = has set payload
-load_takes (table.Loading serially own set) (End_of_data session serial intervals) = completes own session intervals
-load_takes stage content = false
+-- whether a set has a payload that another lacks
+abbrev pub has_more : List Vrp → List Vrp → Bool
+has_more set other = list_any (λ payload. not (has other payload)) set
+
+-- whether a load needs memory for this PDU, where the PDU is no fault: a payload that comes and that the load didn't start from, one that leaves and that it did start from, and the end of a load, after a Serial Query only where the load brings a payload that isn't in force
+abbrev pub takes_at : table.Stage → List Vrp → Content → Bool
+takes_at (table.Loading serially own set) in_force (Announce payload) = not (has set payload) && not (has (start_of serially in_force) payload)
+takes_at (table.Loading serially own set) in_force (Withdraw payload) = has set payload && has (start_of serially in_force) payload
+takes_at (table.Loading serially own set) in_force (End_of_data session serial intervals) = completes own session intervals && (not serially || has_more set in_force)
+takes_at stage in_force content = false
+
+abbrev pub load_takes : table.Client → Content → Bool
+load_takes client content = takes_at client.stage (table.in_force client) content
 
 -- whether memory may be refused to a step
 abbrev pub can_starve : table.Client → table.Input → Bool
-can_starve client (table.Heard content octets) = load_takes client.stage content
+can_starve client (table.Heard content octets) = load_takes client content
 can_starve client input = false
 
 -- the state that operators see

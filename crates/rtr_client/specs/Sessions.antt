@@ -1,9 +1,9 @@
 -- A client of the code as the client's table sees it.
-use Rattle.std.specs.Prelude.{Bool, true, false}
+use Rattle.std.specs.Prelude.{◌≡◌, Bool, true, false}
 use Rattle.std.specs.Option.{option_map}
 use Rattle.rtr_codec.specs.ClientState as table
 use Rattle.rtr_codec.specs.PduSpelling.{content_of}
-use Rattle.rtr_client.specs.Book.{Book}
+use Rattle.rtr_client.specs.Book.{Book, started_from}
 use Rattle.rtr_client.specs.declared.acts.Acts.{Acts}
 use Rattle.rtr_client.specs.declared.session.Session.{Session}
 use Rattle.rtr_client.specs.declared.session.Stage.{Stage}
@@ -45,3 +45,7 @@ client_of session book = record {
 -- what a row leaves of the session, with what it does, is this reply
 abbrev pub reply_of : Session → Book → Acts → table.Reply
 reply_of session book acts = record { client = client_of session book; said = option_map content_of acts.pdu; opened = acts.opened }
+
+-- where no load is in progress, none of its payloads are kept
+abbrev pub IsSettled : Session → Book → Type 0
+IsSettled session book = is_loading session.stage ≡ false → book.loaded ≡ started_from book

@@ -9,6 +9,7 @@ ghost use Rattle.vrp_delta.specs.Delta.{change_between};
 ghost use Rattle.vrp_delta.specs.Keeping.{no_change};
 ghost use Rattle.rtr_client.specs.Book.{named};
 ghost use Rattle.rtr_client.specs.Following.{can_starve, input_of, served, state_of};
+ghost use Rattle.rtr_client.specs.Sessions.{IsSettled, client_of};
 
 use crate::acts::Acts;
 use crate::input::Input;
@@ -34,9 +35,11 @@ impl<A: Allocator> Model for Client<A> {
 
     ghost Value = { Following };
 
-    ghost use Rattle.rtr_client.specs.Sessions.{client_of};
+    ghost use Rattle.rtr_client.specs.Sessions.{IsSettled, client_of};
 
     ghost view = { λ c. record { client = client_of c.session c.payloads; changed = c.payloads.changed } };
+
+    ghost invariant = { λ c. IsSettled c.session c.payloads };
 }
 
 impl<A: Allocator> Client<A> {
@@ -90,6 +93,7 @@ impl<A: Allocator> Client<A> {
         ensures changed { self.new.changed ≡ self.old.changed }
     {
         self.session.no_room(now);
+        settle(&self.session, &mut self.payloads);
     }
 }
 
@@ -118,9 +122,18 @@ impl<A: Allocator + Clone> Client<A> {
     {
         self.payloads.forget();
         let acts = serve(&mut self.session, &mut self.payloads, input, now, keeper);
-        if !self.session.is_loading() {
-            self.payloads.drop_load();
-        }
+        settle(&self.session, &mut self.payloads);
         acts
+    }
+}
+
+// Where no load is in progress, what came of one is dropped.
+fn settle<A: Allocator>(session: &Session, payloads: &mut Payloads<A>)
+    ensures client { client_of session.now payloads.new ≡ client_of session.now payloads.old }
+    ensures changed { payloads.new.changed ≡ payloads.old.changed }
+    ensures settled { IsSettled session.now payloads.new }
+{
+    if !session.is_loading() {
+        payloads.drop_load();
     }
 }

@@ -1,9 +1,9 @@
 //! A load in progress: what it changes of the payloads that it started from.
-ghost use Rattle.std.specs.Prelude.{◌≡◌, [], IfOk, OnOk, OnErr};
-ghost use Rattle.net_prefix.specs.PayloadSets.{IsPayloadSet, has};
+ghost use Rattle.std.specs.Prelude.{◌≡◌, [], IfOk};
+ghost use Rattle.net_prefix.specs.PayloadSets.{has};
 ghost use Rattle.vrp_delta.specs.Delta.{change_between};
 ghost use Rattle.vrp_delta.specs.Keeping.{no_change};
-ghost use Rattle.rtr_client.specs.Book.{came, left, loaded_from, start_of};
+ghost use Rattle.rtr_client.specs.Book.{loaded_from, start_of};
 
 use net_prefix::Vrp;
 use std::alloc::{AllocError, Allocator};
@@ -27,36 +27,6 @@ pub fn is_loaded<A: Allocator>(
         return false;
     }
     serially && in_force.contains(payload)
-}
-
-/// A payload comes that the load lacks. It may have left what the load started from.
-pub fn come<A: Allocator + Clone>(load: &mut Delta<A>, payload: Vrp) -> Result<(), AllocError>
-    requires { IsPayloadSet load.old.withdrawn }
-    ensures ok { OnOk result (load.new ≡ came payload load.old) }
-    ensures err { OnErr result (load.new ≡ load.old) }
-{
-    if load.withdrawn.remove(&payload) {
-        return Ok(());
-    }
-    match load.announced.insert(payload) {
-        Ok(_) => Ok(()),
-        Err(_) => Err(AllocError),
-    }
-}
-
-/// A payload leaves that the load has. It may have come in this load.
-pub fn leave<A: Allocator + Clone>(load: &mut Delta<A>, payload: Vrp) -> Result<(), AllocError>
-    requires { IsPayloadSet load.old.announced }
-    ensures ok { OnOk result (load.new ≡ left payload load.old) }
-    ensures err { OnErr result (load.new ≡ load.old) }
-{
-    if load.announced.remove(&payload) {
-        return Ok(());
-    }
-    match load.withdrawn.insert(payload) {
-        Ok(_) => Ok(()),
-        Err(_) => Err(AllocError),
-    }
 }
 
 /// A load that started from no payloads, as a change of those in force.

@@ -1,5 +1,5 @@
 //! The payloads of a client.
-ghost use Rattle.std.specs.Prelude.{◌≡◌, ◌==◌, [], IfOk, OnOk, OnErr, None, true};
+ghost use Rattle.std.specs.Prelude.{◌≡◌, ◌==◌, ◌||◌, [], IfOk, OnOk, OnErr, None, true, false, not};
 ghost use Rattle.std.specs.Option.{option_map};
 ghost use Rattle.net_prefix.specs.PayloadSets.{IsPayloadSet, has};
 ghost use Rattle.rtr_codec.specs.ClientState.{payloads_of};
@@ -7,7 +7,7 @@ ghost use Rattle.rtr_codec.specs.ClientTable.{is_serial, is_session};
 ghost use Rattle.vrp_delta.specs.Delta.{change_between};
 ghost use Rattle.vrp_delta.specs.Keeping.{no_change};
 
-use crate::load::{against, come, is_loaded, leave, leave_all};
+use crate::load::{against, is_loaded, leave_all};
 use net_prefix::Vrp;
 use std::alloc::{AllocError, Allocator, Global};
 use std::collections::BTreeSet;
@@ -155,7 +155,8 @@ impl<A: Allocator> Payloads<A> {
 }
 
 impl<A: Allocator + Clone> Payloads<A> {
-    ghost use Rattle.rtr_client.specs.Book.{Announces, Commits, Withdraws, completed, empty_book};
+    ghost use Rattle.rtr_client.specs.Book.{Announces, Commits, Withdraws, completed, empty_book, started_from};
+    ghost use Rattle.rtr_client.specs.Following.{has_more};
 
     /// No payloads.
     pub fn new(alloc: A) -> Result<Self, AllocError>
@@ -173,33 +174,37 @@ impl<A: Allocator + Clone> Payloads<A> {
         })
     }
 
-    /// A payload of the load comes; false where it is there already.
+    /// A payload of the load comes; false where it is there already. One that the load started from needs no memory.
     pub fn announce(&mut self, payload: Vrp) -> Result<bool, AllocError>
-        ensures { Announces self.old payload result self.new }
+        ensures does { Announces self.old payload result self.new }
+        ensures needs { OnErr result (has (started_from self.old) payload ≡ false) }
     {
         if self.has_loaded(&payload) {
             return Ok(false);
         }
-        come(&mut self.load, payload)?;
+        self.load.come(payload)?;
         Ok(true)
     }
 
-    /// A payload of the load leaves; false where it isn't there.
+    /// A payload of the load leaves; false where it isn't there. One that came in this load needs no memory.
     pub fn withdraw(&mut self, payload: Vrp) -> Result<bool, AllocError>
-        ensures { Withdraws self.old payload result self.new }
+        ensures does { Withdraws self.old payload result self.new }
+        ensures needs { OnErr result (has (started_from self.old) payload ≡ true) }
     {
         if !self.has_loaded(&payload) {
             return Ok(false);
         }
-        leave(&mut self.load, payload)?;
+        self.load.leave(payload)?;
         Ok(true)
     }
 
-    /// The load is in force under its session and this serial, whole or, where memory is refused, not at all.
+    /// The load is in force under its session and this serial, whole or, where memory is refused, not at all. After a
+    /// Serial Query a load that brings nothing new needs none.
     pub fn commit<K: Keeper>(&mut self, serial: u32, keeper: &mut K) -> Result<(), AllocError>
         requires told { self.old.changed ≡ no_change }
         requires follows { K.kept keeper.old ≡ payloads_of self.old.base }
         ensures does { Commits self.old serial result self.new }
+        ensures needs { OnErr result ((not self.old.serially || has_more self.old.loaded (payloads_of self.old.base)) ≡ true) }
         ensures follows { K.kept keeper.new ≡ payloads_of self.new.base }
     {
         self.rebase()?;
@@ -210,6 +215,7 @@ impl<A: Allocator + Clone> Payloads<A> {
     fn rebase(&mut self) -> Result<(), AllocError>
         ensures ok { OnOk result (self.new ≡ record self.old { serially = true }) }
         ensures err { OnErr result (self.new ≡ self.old) }
+        ensures needs { OnErr result (self.old.serially ≡ false) }
     {
         if self.serially {
             return Ok(());
@@ -225,6 +231,7 @@ impl<A: Allocator + Clone> Payloads<A> {
         requires told { self.old.changed ≡ no_change }
         requires follows { K.kept keeper.old ≡ payloads_of self.old.base }
         ensures does { Commits self.old serial result self.new }
+        ensures needs { OnErr result (has_more self.old.loaded (payloads_of self.old.base) ≡ true) }
         ensures follows { K.kept keeper.new ≡ payloads_of self.new.base }
     {
         change_both(&mut self.in_force, &self.load, keeper)?;

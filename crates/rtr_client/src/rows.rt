@@ -3,11 +3,11 @@ ghost use Rattle.std.specs.Prelude.{◌≡◌, [], true, false};
 ghost use Rattle.std.specs.Bool.{OnFalse, OnTrue};
 ghost use Rattle.rtr_codec.specs.ClientState.{payloads_of};
 ghost use Rattle.rtr_codec.specs.ClientTable.{asked_hears_report, corrupts, ends_load, expire_ends, expires, flushed as flushed_client, hears_asked_reset, hears_asked_serial, hears_at, hears_loading, hears_notify, hears_report, hears_synced, hears_waiting, reports, row, ticks};
-ghost use Rattle.rtr_codec.specs.PduSpelling.{Announce, Withdraw, content_of};
+ghost use Rattle.rtr_codec.specs.PduSpelling.{Announce, End_of_data, Withdraw, content_of};
 ghost use Rattle.rtr_codec.specs.declared.fault.ErrorCode.TheVariants.{InternalError};
 ghost use Rattle.vrp_delta.specs.Keeping.{no_change};
 ghost use Rattle.rtr_client.specs.Book.{IsTold};
-ghost use Rattle.rtr_client.specs.Following.{can_starve, completes, input_of, load_takes, served};
+ghost use Rattle.rtr_client.specs.Following.{can_starve, input_of, load_takes, served};
 ghost use Rattle.rtr_client.specs.Sessions.{client_of, reply_of, stage_of};
 
 use crate::acts::Acts;
@@ -58,7 +58,7 @@ fn hear<'a, A: Allocator + Clone, K: Keeper>(
     requires forgotten { payloads.old.changed ≡ no_change }
     requires follows { K.kept keeper.old ≡ payloads_of payloads.old.base }
     ensures reply { OnFalse result.starved (reply_of session.new payloads.new result ≡ hears_at (stage_of session.old.stage payloads.old) now (client_of session.old payloads.old) octets.now (content_of pdu.entry)) }
-    ensures starved { OnTrue result.starved ((reply_of session.new payloads.new result ≡ reports now (client_of session.old payloads.old) InternalError []) × (load_takes (stage_of session.old.stage payloads.old) (content_of pdu.entry) ≡ true)) }
+    ensures starved { OnTrue result.starved ((reply_of session.new payloads.new result ≡ reports now (client_of session.old payloads.old) InternalError []) × (load_takes (client_of session.old payloads.old) (content_of pdu.entry) ≡ true)) }
     ensures told { IsTold payloads.old payloads.new }
     ensures follows { K.kept keeper.new ≡ payloads_of payloads.new.base }
 {
@@ -162,7 +162,7 @@ fn hear_loading<'a, A: Allocator + Clone, K: Keeper>(
     requires forgotten { payloads.old.changed ≡ no_change }
     requires follows { K.kept keeper.old ≡ payloads_of payloads.old.base }
     ensures reply { OnFalse result.starved (reply_of session.new payloads.new result ≡ hears_loading now (client_of session.old payloads.old) octets.now payloads.old.serially payloads.old.session payloads.old.loaded (content_of pdu.entry)) }
-    ensures starved { OnTrue result.starved ((reply_of session.new payloads.new result ≡ reports now (client_of session.old payloads.old) InternalError []) × (load_takes (stage_of session.old.stage payloads.old) (content_of pdu.entry) ≡ true)) }
+    ensures starved { OnTrue result.starved ((reply_of session.new payloads.new result ≡ reports now (client_of session.old payloads.old) InternalError []) × (load_takes (client_of session.old payloads.old) (content_of pdu.entry) ≡ true)) }
     ensures told { IsTold payloads.old payloads.new }
     ensures follows { K.kept keeper.new ≡ payloads_of payloads.new.base }
 {
@@ -252,7 +252,7 @@ fn announce<'a, A: Allocator + Clone>(
 ) -> Acts<'a>
     requires { session.old.stage ≡ Stage.Loading }
     ensures reply { OnFalse result.starved (reply_of session.new payloads.new result ≡ hears_loading now (client_of session.old payloads.old) octets.now payloads.old.serially payloads.old.session payloads.old.loaded (Announce payload)) }
-    ensures starved { OnTrue result.starved ((reply_of session.new payloads.new result ≡ reports now (client_of session.old payloads.old) InternalError []) × (load_takes (stage_of session.old.stage payloads.old) (Announce payload) ≡ true)) }
+    ensures starved { OnTrue result.starved ((reply_of session.new payloads.new result ≡ reports now (client_of session.old payloads.old) InternalError []) × (load_takes (client_of session.old payloads.old) (Announce payload) ≡ true)) }
     ensures base { payloads.new.base ≡ payloads.old.base }
     ensures changed { payloads.new.changed ≡ payloads.old.changed }
 {
@@ -273,7 +273,7 @@ fn withdraw<'a, A: Allocator + Clone>(
 ) -> Acts<'a>
     requires { session.old.stage ≡ Stage.Loading }
     ensures reply { OnFalse result.starved (reply_of session.new payloads.new result ≡ hears_loading now (client_of session.old payloads.old) octets.now payloads.old.serially payloads.old.session payloads.old.loaded (Withdraw payload)) }
-    ensures starved { OnTrue result.starved ((reply_of session.new payloads.new result ≡ reports now (client_of session.old payloads.old) InternalError []) × (load_takes (stage_of session.old.stage payloads.old) (Withdraw payload) ≡ true)) }
+    ensures starved { OnTrue result.starved ((reply_of session.new payloads.new result ≡ reports now (client_of session.old payloads.old) InternalError []) × (load_takes (client_of session.old payloads.old) (Withdraw payload) ≡ true)) }
     ensures base { payloads.new.base ≡ payloads.old.base }
     ensures changed { payloads.new.changed ≡ payloads.old.changed }
 {
@@ -294,10 +294,11 @@ fn end_load<'a, A: Allocator + Clone, K: Keeper>(
     now: u64,
     keeper: &mut K,
 ) -> Acts<'a>
+    requires loading { session.old.stage ≡ Stage.Loading }
     requires forgotten { payloads.old.changed ≡ no_change }
     requires follows { K.kept keeper.old ≡ payloads_of payloads.old.base }
     ensures reply { OnFalse result.starved (reply_of session.new payloads.new result ≡ ends_load now (client_of session.old payloads.old) octets.now payloads.old.session payloads.old.loaded told.session told.serial intervals) }
-    ensures starved { OnTrue result.starved ((reply_of session.new payloads.new result ≡ reports now (client_of session.old payloads.old) InternalError []) × (completes payloads.old.session told.session intervals ≡ true)) }
+    ensures starved { OnTrue result.starved ((reply_of session.new payloads.new result ≡ reports now (client_of session.old payloads.old) InternalError []) × (load_takes (client_of session.old payloads.old) (End_of_data told.session told.serial intervals) ≡ true)) }
     ensures told { IsTold payloads.old payloads.new }
     ensures follows { K.kept keeper.new ≡ payloads_of payloads.new.base }
 {

@@ -136,7 +136,7 @@ starves_by h s now octets count starved (Some (WholePdu content whole)) connecte
       whole = whole;
       some = k.some;
       item = item_here (onto (take (count - 1) octets) h) (with_octets s (take (count - 1) octets)) (get_or octets (count - 1) 0) (Some (WholePdu content whole)) connected k.completes k.before;
-      takes = ap (λ (c : Client). load_takes c.stage content) (sym k.before.client) ∙ may;
+      takes = ap (λ (c : Client). load_takes c content) (sym k.before.client) ∙ may;
       agrees = agrees_refused (onto (take (count - 1) octets) h) (with_octets s (take (count - 1) octets)) now (WholePdu content whole) k.moment_is k.before;
     })
 

@@ -32,5 +32,5 @@ pub record Starves (h : List Event) (octets : List ℕ) (count : ℕ) (s : Sessi
   pub whole : List ℕ
   pub some : 1 ≤ count
   pub item : item_at (onto (take (count - 1) octets) h) (slice_index octets (count - 1)) ≡ Some (WholePdu content whole)
-  pub takes : load_takes (client (onto (take (count - 1) octets) h)).stage content ≡ true
+  pub takes : load_takes (client (onto (take (count - 1) octets) h)) content ≡ true
   pub agrees : SessionAgrees (Refused ∷ onto (take (count - 1) octets) h) s

@@ -308,7 +308,7 @@ cache_starves config r done octets count s t old new h was is within starves pay
         content = w.content;
         octets = w.whole;
         completes = ap (λ x. cached.item_at x octet) join ∙ w.item;
-        takes = ap (λ x. load_takes (cached.client x).stage w.content) join ∙ w.takes;
+        takes = ap (λ x. load_takes (cached.client x) w.content) join ∙ w.takes;
       },
       allowed config (configuration_of config r) (moment_after r) k3 (cached.onto behind (cached.Refused ∷ cached.onto (done ++ piece) k)) (λ slot. history config slot r)
           (choices_in config (turn (Cache_bytes_call done) [] ∷ r) + choices_from config r k1 k3) (choices_in config (turn (Cache_starved_call (done ++ piece) octet behind) [] ∷ r)) new after

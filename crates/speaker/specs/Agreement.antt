@@ -130,13 +130,13 @@ pub record MayStarve (h : List slot.Event) (octet : ℕ) : Type 0 where
   pub completes : item_at h octet ≡ Some (WholeMessage Update body)
   pub needs : NeedsMemory (slot.kind_of (slot.terms_of h)) body
 
--- the next octet completes a PDU of the cache session that memory is taken for: a payload that comes or leaves in a load, or the
--- End of Data that completes one
+-- the next octet completes a PDU of the cache session that memory is taken for: in a load a payload that comes anew or that leaves
+-- what the load started from, or the End of Data that completes one, after a Serial Query only where the load brings a payload
 pub record CacheMayStarve (h : List cache.Event) (octet : ℕ) : Type 0 where
   pub content : Content
   pub octets : List ℕ
   pub completes : cache.item_at h octet ≡ Some (WholePdu content octets)
-  pub takes : load_takes (client h).stage content ≡ true
+  pub takes : load_takes (client h) content ≡ true
 
 -- memory is refused to nothing but such a message or PDU
 abbrev pub IsFair : Config → Run → Call → Type 0

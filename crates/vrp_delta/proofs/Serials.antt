@@ -48,7 +48,7 @@ differ (v ∷ vs) (suc i) (suc j) d h before few less = differ vs i j d h.1 (ome
 -- no two kept versions have one serial
 pub kept_differ : (sets : List (List Vrp)) → AllPairs (λ newer older. newer.serial ≢ older.serial) (take kept_versions (published sets))
 kept_differ sets i j d before less =
-    let few : j < 17 = omega (arith, length-take 17 (published sets)) in
-    let inside : j < length (published sets) = omega (arith, length-take 17 (published sets)) in
-    rw (get_or-take 17 (published sets) i d (omega arith), get_or-take 17 (published sets) j d few)
+    let few : j < 65 = omega (arith, length-take 65 (published sets)) in
+    let inside : j < length (published sets) = omega (arith, length-take 65 (published sets)) in
+    rw (get_or-take 65 (published sets) i d (omega arith), get_or-take 65 (published sets) j d few)
     (differ (published sets) i j d (chain_published sets) before (omega arith) inside)

@@ -12,9 +12,9 @@ pub record Version : Type 0 where
   pub serial : ℕ
   pub set : List Vrp
 
--- how many versions are kept: the newest and the 16 before it
+-- how many versions are kept: the newest and the 64 before it
 abbrev pub kept_versions : ℕ
-kept_versions = 17
+kept_versions = 65
 
 -- the serial of the newest version, and 0 before the first
 abbrev pub newest_serial : List Version → ℕ

@@ -1,5 +1,5 @@
 //! What follows a set of payloads.
-ghost use Rattle.std.specs.Prelude.{◌≡◌, List, [], OnOk, OnErr};
+ghost use Rattle.std.specs.Prelude.{◌≡◌, ◌≢◌, List, [], OnOk, OnErr};
 ghost use Rattle.net_prefix.specs.declared.payload.Vrp.{Vrp};
 ghost use Rattle.net_prefix.specs.PayloadSets.{IsPayloadSet};
 ghost use Rattle.vrp_delta.specs.Delta.{IsApplied};
@@ -13,12 +13,13 @@ use std::alloc::{AllocError, Allocator};
 pub trait Keeper {
     ghost kept: { Self → List Vrp };
 
-    /// Makes the whole change, or none of it where memory is refused.
+    /// Makes the whole change, or none of it where memory is refused, which only payloads that come can need.
     fn change<A: Allocator>(&mut self, delta: &Delta<A>) -> Result<(), AllocError>
         requires { IsChangeOf (kept self.old) delta.now }
         ensures ok { OnOk result (IsApplied (kept self.old) delta.now (kept self.new)) }
         ensures rises { OnOk result (IsPayloadSet (kept self.new)) }
-        ensures err { OnErr result (kept self.new ≡ kept self.old) };
+        ensures err { OnErr result (kept self.new ≡ kept self.old) }
+        ensures needs { OnErr result (delta.now.announced ≢ []) };
 
     /// Forgets all payloads. It takes no memory.
     fn clear(&mut self)

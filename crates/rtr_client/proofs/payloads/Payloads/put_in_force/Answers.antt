@@ -4,7 +4,8 @@ use Rattle.vrp_delta.specs.Delta.{change_between}
 use Rattle.vrp_delta.specs.Keeping.{IsChangeOf, no_change}
 use Rattle.rtr_codec.specs.ClientState as table
 use Rattle.rtr_client.specs.Book.{Book, completed, loaded_from, start_of}
-use Rattle.rtr_client.proofs.Books.{applied-loaded, change_between-loaded, no_change-fits, payloads_of-base}
+use Rattle.rtr_client.specs.Following.{has_more}
+use Rattle.rtr_client.proofs.Books.{announced_more, applied-loaded, change_between-loaded, no_change-fits, on_err, payloads_of-base}
 use Rattle.rtr_client.proofs.payloads.Payloads.put_in_force.Goals as goal
 
 pub invariant_of-self-2 : goal.invariant_of-self-2
@@ -31,3 +32,15 @@ returns-clause-does g c =
           ∙ ap (λ set. change_between keys set) start
           ∙ ap (λ set. change_between set (loaded_from (start_of i.serially keys) i.load)) (sym (payloads_of-base i.base keys c.self.invariant.flushed))),
     )
+
+pub returns-in_err-change_both-clause-needs : goal.returns-in_err-change_both-clause-needs
+returns-in_err-change_both-clause-needs g c =
+    let i = c.self.inside in
+    let keys = i.in_force.keys in
+    let serially : i.serially ≡ true = ap (λ (b : Book). b.serially) c.self.view_is ∙ c.requires.serially in
+    let fits : IsChangeOf keys i.load = subst (λ s. IsChangeOf (start_of s keys) i.load) serially c.self.invariant.change in
+    let more : has_more (loaded_from keys i.load) keys ≡ true = announced_more keys i.load fits c.in_err-change_both.ensures.needs in
+    on_err c.from_residual.result
+    (subst (λ (b : Book). has_more b.loaded (table.payloads_of b.base) ≡ true) c.self.view_is
+    (ap (λ set. has_more (loaded_from (start_of i.serially keys) i.load) set) (payloads_of-base i.base keys c.self.invariant.flushed)
+    ∙ ap (λ s. has_more (loaded_from (start_of s keys) i.load) keys) serially ∙ more))
