@@ -1,0 +1,4 @@
+pub mod Channels
+pub mod ChannelEvents
+pub mod VersionsAgree
+pub mod Joins
