@@ -1,14 +1,10 @@
 //! A session with a cache, from its connection on: the queries and the report that it hands out, loads octet by octet, a
 //! refresh, an expiry, and a connection that fails. The PDUs are laid out as in RFC 8210 section 5.
-ghost use Rattle.std.specs.Prelude.{◌≡◌, ◌<◌, ◌≤◌, length};
-ghost use Rattle.net_prefix.specs.declared.transport.Transport.TheVariants.{Open as Connected};
-ghost use Rattle.rtr_codec.specs.ClientTable.{in_force, transport_of};
-
+use crate::router::Router;
 use net_prefix::{Asn, Prefix, Transport, Vrp};
 use rtr_client::ClientState;
-use rtr_session::{CacheSession, Hearing};
+use rtr_session::Hearing;
 use std::alloc::{AllocError, Allocator};
-use std::collections::BTreeSet;
 use std::process::Abort;
 use std::test::Fail;
 
@@ -46,73 +42,6 @@ const UNSUPPORTED: [u8; 24] = [
     0, 0, 0, 8, 1, 5, 0, 0, 0, 0, 0, 8,
     0, 0, 0, 0,
 ];
-
-// A session, and a set that follows its payloads in force.
-#[derive(Drop)]
-struct Router<A: Allocator> {
-    session: CacheSession<A>,
-    kept: BTreeSet<Vrp, A>,
-    ghost follows: { kept.keys ≡ in_force session.client },
-}
-
-impl<A: Allocator + Clone> Router<A> {
-    fn new(alloc: A) -> Result<Self, AllocError> {
-        let kept = BTreeSet::new(alloc.clone()?);
-        let session = CacheSession::new(alloc)?;
-        Ok(Router { session, kept })
-    }
-
-    fn up(&mut self, now: u64) {
-        self.session.up(now, &mut self.kept);
-    }
-
-    fn fail(&mut self, now: u64) {
-        self.session.fail(now, &mut self.kept);
-    }
-
-    fn tick(&mut self, now: u64) -> bool {
-        self.session.tick(now, &mut self.kept)
-    }
-
-    fn hear_next(&mut self, octets: &[u8], now: u64) -> Hearing
-        requires { transport_of self.old.session.client ≡ Connected }
-        ensures fits { result.count ≤ length octets.now }
-        ensures goes_on { 0 < length octets.now → 0 < result.count }
-    {
-        self.session.hear_next(octets, now, &mut self.kept)
-    }
-
-    // Octets come while the connection stands. Answers whether all of them were taken, and no memory was refused.
-    fn hear(&mut self, octets: &[u8], now: u64) -> bool {
-        let mut rest = octets;
-        while self.session.transport() == Transport::Open && !rest.is_empty() {
-            let heard = self.hear_next(rest, now);
-            if heard.starved {
-                return false;
-            }
-            rest = &rest[heard.count..];
-        }
-        rest.is_empty()
-    }
-
-    // Whether all that is to be handed out are these octets.
-    fn hands_out(&mut self, octets: &[u8]) -> bool {
-        let mut buf = [0; 64];
-        let count = self.session.take(&mut buf);
-        &buf[..count] == octets
-    }
-
-    // Whether just these payloads are in force, and the set that follows has them too.
-    fn has(&self, payloads: &[Vrp]) -> bool {
-        self.session.payloads().iter().eq(payloads) && self.kept.iter().eq(payloads)
-    }
-
-    // Whether the last call took just these payloads out of force, and put just these into it.
-    fn has_changed(&self, withdrawn: &[Vrp], announced: &[Vrp]) -> bool {
-        let changed = self.session.changed();
-        changed.withdrawn.iter().eq(withdrawn) && changed.announced.iter().eq(announced)
-    }
-}
 
 fn first() -> Result<Vrp, Fail> {
     Ok(Vrp::new(Prefix::new(0x0a00_0100, 24)?, 24, Asn(65_002))?)

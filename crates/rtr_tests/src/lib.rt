@@ -1,6 +1,10 @@
-//! Tests alone, of a router's session with its cache. They stand above the crates that they test, so that those are
-//! proved once.
+//! Tests alone, of a router's session with its cache, and of both ends together. They stand above the crates that they
+//! test, so that those are proved once.
 #![tactic(auto)]
 
 #[cfg(test)]
 mod cache_sessions;
+#[cfg(test)]
+mod router;
+#[cfg(test)]
+mod two_ends;

@@ -125,21 +125,22 @@ fn a_kept_serial_gets_what_changed_since(rt: HostRuntime) -> Result<(), Fail> {
     plays(&rt, rt.alloc(), &[DELTAS])
 }
 
-// The serial that a client of a cache with 18 versions asks about, and what it is sent.
+// The serial that a client of a cache with 66 versions asks about, and what it is sent.
 #[rattlefmt::skip]
-const OF_EIGHTEEN_VERSIONS: [(&str, &str); 3] = [
-    ("00000002", "01030007000000080104000000000014001818000A0002000000FDEA0104000000000014011818000A0012000000FDEA01070007000000180000001200000E100000025800001C20"),
+const OF_SIXTY_SIX_VERSIONS: [(&str, &str); 4] = [
+    ("00000002", "01030007000000080104000000000014001818000A0002000000FDEA0104000000000014011818000A0042000000FDEA01070007000000180000004200000E100000025800001C20"),
     ("00000001", "0108000000000008"),
-    ("00000012", "010300070000000801070007000000180000001200000E100000025800001C20"),
+    ("00000041", "01030007000000080104000000000014001818000A0041000000FDEA0104000000000014011818000A0042000000FDEA01070007000000180000004200000E100000025800001C20"),
+    ("00000042", "010300070000000801070007000000180000004200000E100000025800001C20"),
 ];
 
 #[test]
-fn sixteen_versions_are_kept_before_the_newest(rt: HostRuntime) -> Result<(), Fail> {
+fn sixty_four_versions_are_kept_before_the_newest(rt: HostRuntime) -> Result<(), Fail> {
     let alloc = rt.alloc();
-    let mut transcript = eighteen_versions(alloc)?;
+    let mut transcript = sixty_six_versions(alloc)?;
     writeln!(transcript.script, "cup")?;
     writeln!(transcript.told, "client 0")?;
-    for (serial, answer) in &OF_EIGHTEEN_VERSIONS {
+    for (serial, answer) in &OF_SIXTY_SIX_VERSIONS {
         ask(&mut transcript, serial, answer)?;
     }
     transcript.play(&rt, alloc)
@@ -154,10 +155,10 @@ fn ask(transcript: &mut Transcript, serial: &str, answer: &str) -> Result<(), Al
     writeln!(transcript.told, "ok\nout {answer}")
 }
 
-// A cache with 18 versions: version n is the one payload 10.0.n.0/24-24 AS65002.
-fn eighteen_versions(alloc: Global) -> Result<Transcript, Fail> {
+// A cache with 66 versions: version n is the one payload 10.0.n.0/24-24 AS65002.
+fn sixty_six_versions(alloc: Global) -> Result<Transcript, Fail> {
     let mut transcript = Transcript::read(alloc, &["> cache 7 3600 600 7200\nok"])?;
-    for version in 1..19u8 {
+    for version in 1..67u8 {
         load_slash_24s(&mut transcript.script, version, 1)?;
         writeln!(transcript.told, "ok serial {version} rows 1 skipped 0")?;
     }

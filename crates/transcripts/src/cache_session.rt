@@ -360,3 +360,86 @@ fn a_connection_that_is_lost_leaves_the_payloads(rt: HostRuntime) -> Result<(), 
     }
     Ok(())
 }
+
+// A cache restarts under another session id while a router has its payloads. The router asks for what changed in the old
+// session, is told by an Error Report that there is no such session, and drops them. On its next connection it gets what
+// the new session published.
+const IS_RESTARTED: &str = "
+> cache 7 3600 600 7200
+ok
+> load
+> ASN,IP Prefix,Max Length,Trust Anchor
+> AS65002,10.0.0.0/16,24,ta
+> end
+ok serial 1 rows 1 skipped 0
+> speaker 65000 192.0.2.1 cache
+ok
+> rup
+ok
+> rtake 99
+out 0102000000000008
+> cup
+client 0
+> cbytes 0 0102000000000008
+ok
+> ctake 0 999
+out 01030007000000080104000000000014011018000A0000000000FDEA01070007000000180000000100000E100000025800001C20
+> rbytes 01030007000000080104000000000014011018000A0000000000FDEA01070007000000180000000100000E100000025800001C20
+ok
+> cache 8 3600 600 7200
+ok
+> load
+> ASN,IP Prefix,Max Length,Trust Anchor
+> AS65003,10.3.0.0/16,24,ta
+> end
+ok serial 1 rows 1 skipped 0
+> rfail
+ok
+> tick 600
+ok
+> rup
+ok
+> rtake 99
+out 010100070000000C00000001
+> cup
+client 0
+> cbytes 0 010100070000000C00000001
+ok
+> ctake 0 999
+out 010A00000000001C0000000C010100070000000C0000000100000000
+> rbytes 010A00000000001C0000000C010100070000000C0000000100000000
+ok
+> show payloads
+end
+> show sessions
+cache Off
+end
+> rtake 99
+out -
+> rfail
+ok
+> tick 1200
+ok
+> rup
+ok
+> rtake 99
+out 0102000000000008
+> cdown 0
+ok
+> cup
+client 0
+> cbytes 0 0102000000000008
+ok
+> ctake 0 999
+out 01030008000000080104000000000014011018000A0300000000FDEB01070008000000180000000100000E100000025800001C20
+> rbytes 01030008000000080104000000000014011018000A0300000000FDEB01070008000000180000000100000E100000025800001C20
+ok
+> show payloads
+10.3.0.0/16-24 AS65003
+end
+";
+
+#[test]
+fn a_cache_that_restarts_is_asked_anew(rt: HostRuntime) -> Result<(), Fail> {
+    plays(&rt, rt.alloc(), &[IS_RESTARTED])
+}

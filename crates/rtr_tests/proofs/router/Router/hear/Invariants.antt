@@ -1,5 +1,5 @@
 use Rattle.std.proofs.Common.{length}
-use Rattle.rtr_tests.proofs.cache_sessions.Router.hear.Given as goal
+use Rattle.rtr_tests.proofs.router.Router.hear.Given as goal
 
 abbrev pub decreases-loop-self : goal.decreases-loop-self
 decreases-loop-self g l = length l.rest
