@@ -11,7 +11,8 @@
 //! closes the session. `payloads` has a cache send a load and a change of it: a refused growth closes the cache session
 //! alone, and what is in force stays. `many_prefixes` has two thousand prefixes told to two peers whose rings fill, and
 //! one growth refused. `serving` plays loads, a client and its queries on a cache: a refused load or client changes
-//! nothing, a refused response closes its client alone, and the same call is answered when it is made again.
+//! nothing, a refused response closes its client alone, and the same call is answered when it is made again; what one
+//! client has asked for takes no memory when another asks for it.
 #![tactic(auto)]
 
 #[cfg(test)]

@@ -81,19 +81,26 @@ fn answer_to<A: Allocator + Clone>(cache: &mut Cache<A>, call: Call<'_>) -> Answ
     match call {
         Call::Load(set, serial) => step(cache, CacheEvent::Load(set), None, Some(serial)),
         Call::Up(key) => step(cache, CacheEvent::Up, Some(key), None),
-        Call::Take(told) => taken(cache, told),
-        Call::Query(query, told) => {
-            if step(cache, CacheEvent::Bytes(0, query), None, None) != Answer::AsWithMemory {
-                return Answer::Other;
-            }
-            taken(cache, told)
-        }
+        Call::Take(told) => taken(cache, 0, told),
+        Call::Query(query, told) => asked(cache, 0, query, told),
     }
 }
 
-fn taken<A: Allocator + Clone>(cache: &mut Cache<A>, told: &[u8]) -> Answer {
+fn asked<A: Allocator + Clone>(
+    cache: &mut Cache<A>,
+    key: u64,
+    query: &[u8],
+    told: &[u8],
+) -> Answer {
+    if step(cache, CacheEvent::Bytes(key, query), None, None) != Answer::AsWithMemory {
+        return Answer::Other;
+    }
+    taken(cache, key, told)
+}
+
+fn taken<A: Allocator + Clone>(cache: &mut Cache<A>, key: u64, told: &[u8]) -> Answer {
     let mut buf = [0u8; 200];
-    match cache.take(0, &mut buf) {
+    match cache.take(key, &mut buf) {
         Ok(taken) if buf.get(..taken) == Some(told) => Answer::AsWithMemory,
         Ok(taken) if buf.get(..taken) == Some(&INTERNAL_ERROR) => Answer::NoMemory,
         _ => Answer::Other,
@@ -188,6 +195,42 @@ fn endings(rt: &impl Abort, alloc: Global, calls: &[Call<'_>]) -> Result<Vec<End
         }
         assert_ne!(rt; ending, Ending::Nothing, "{nth}");
         endings.push(ending)?;
+    }
+    panic!(rt; "the calls make no end of requests");
+}
+
+// What the second client is told that asks what the first one has asked at the end of the calls; None where one of these
+// was refused.
+fn answer_to_second<B: Allocator>(heap: &Refusing<B>, calls: &[Call<'_>]) -> Option<Answer> {
+    let mut cache = match Cache::new(heap, 7, Intervals::USUAL) {
+        Ok(cache) => cache,
+        Err(_) => return None,
+    };
+    for call in calls {
+        if answer_to(&mut cache, *call) != Answer::AsWithMemory {
+            return None;
+        }
+    }
+    Some(asked(&mut cache, 1, &SERIAL_QUERY, &CHANGE))
+}
+
+// What changed since a version is made once: whichever request is refused, it is none of the second client's.
+#[test]
+fn what_one_client_has_asked_for_needs_no_memory(rt: HostRuntime) -> Result<(), Fail> {
+    let alloc = rt.alloc();
+    let first = one_payload(alloc, "10.0.1.0/24")?;
+    let second = one_payload(alloc, "10.0.2.0/24")?;
+    for nth in 1..1_000u64 {
+        let behind = Refusing::new(alloc, nth);
+        let heap = Refusing::new(&behind, nth);
+        match answer_to_second(&heap, &calls(&first, &second)) {
+            None => assert!(rt; heap.has_refused()),
+            Some(answer) => {
+                assert_eq!(rt; answer, Answer::AsWithMemory);
+                assert!(rt; !heap.has_refused());
+                return Ok(());
+            }
+        }
     }
     panic!(rt; "the calls make no end of requests");
 }

@@ -7,6 +7,7 @@ pub mod Queueing
 pub mod QueueingLaws
 pub mod Quoting
 pub mod Resting
+pub mod SharedChanges
 pub mod Telling
 pub mod TellingHistories
 pub mod WholeVersions

@@ -6,11 +6,20 @@ use Rattle.rtr_cache.specs.CacheTable.{Shared, is_idle}
 use Rattle.rtr_codec.specs.PduSpelling.{Content, Serial_notify, Serial_query, Reset_query, Cache_response, Announce, Withdraw, Ipv6_prefix, End_of_data, Cache_reset, Router_key, Error_report}
 use Rattle.rtr_codec.specs.Responses.{response}
 use Rattle.vrp_delta.specs.Delta.{Change}
-use Rattle.vrp_delta.specs.Versions.{Version, version_of}
+use Rattle.vrp_delta.specs.Versions.{Version, change_from, version_of}
 
 -- the payloads of a response
 abbrev pub payloads_of : Change → List Content
 payloads_of change = map Withdraw change.withdrawn ++ map Announce change.announced
+
+-- what changed since the version of a serial
+pub record ChangeSince : Type 0 where
+  pub serial : ℕ
+  pub change : Change
+
+-- up to the newest of some versions
+abbrev pub LeadsToNewest : List Version → ChangeSince → Type 0
+LeadsToNewest versions since = change_from versions since.serial ≡ Some since.change
 
 -- what is unsaid: the Cache Response where the response has not begun, payloads, the End of Data
 abbrev pub unsaid : Bool → ℕ → Intervals → ℕ → List Content → List Content

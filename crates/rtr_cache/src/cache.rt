@@ -164,7 +164,7 @@ impl<A: Allocator + Clone> Cache<A> {
     {
         match self.clients.get_mut(key as usize) {
             Some(client) => {
-                client.receive(&self.publisher, octets);
+                client.receive(&mut self.publisher, octets);
                 Ok(CacheReport::NOTHING)
             }
             None => Err(CacheRefusal::NoClient),

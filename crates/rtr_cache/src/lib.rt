@@ -18,6 +18,7 @@ mod refusal;
 mod response;
 mod sender;
 mod served;
+mod shared_change;
 mod table;
 mod unsaid;
 

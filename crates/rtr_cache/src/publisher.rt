@@ -1,19 +1,20 @@
 //! What all clients of a cache share.
-ghost use Rattle.std.specs.Prelude.{◌≡◌, [], IfOk, OnOk, OnErr, IsSome, true, false};
+ghost use Rattle.std.specs.Prelude.{◌≡◌, [], IfOk, IfSome, OnOk, OnErr, IsSome, Some, true, false};
 ghost use Rattle.net_prefix.specs.PayloadSets.{IsPayloadSet};
 ghost use Rattle.rtr_cache.specs.CacheTable.{Shared};
 ghost use Rattle.rtr_codec.specs.PduSpelling.{Serial_notify, content_of};
-ghost use Rattle.rtr_cache.specs.Unsaid.{is_published, kept_response, whole_response};
-ghost use Rattle.vrp_delta.specs.Versions.{is_newest_set, kept_after, newest_serial, version_of};
+ghost use Rattle.rtr_cache.specs.Unsaid.{change_response, is_published, kept_response, whole_response};
+ghost use Rattle.vrp_delta.specs.Versions.{change_from, is_newest_set, kept_after, newest_serial, version_of};
 
 use crate::other_session::OtherSession;
 use crate::response::{Response, Terms};
+use crate::shared_change::SharedChange;
 use net_prefix::Vrp;
 use rtr_codec::Pdu;
 use std::alloc::{AllocError, Allocator, Global};
 use std::collections::BTreeSet;
 use std::marker::Model;
-use vrp_delta::Versions;
+use vrp_delta::{Delta, Versions};
 
 /// The session, what a Serial Query of another one is answered with, the versions that were published in it, and the
 /// moment.
@@ -23,15 +24,21 @@ pub struct Publisher<A: Allocator = Global> {
     terms: Terms,
     other_session: OtherSession,
     versions: Versions<A>,
+    // What changed up to the newest version, since each serial that was asked about behind the last load.
+    changes: Vec<SharedChange<A>, A>,
     moment: u64,
 }
 
 impl<A: Allocator> Model for Publisher<A> {
+    ghost use Rattle.std.specs.List.{AllByRecursion};
     ghost use Rattle.rtr_cache.specs.CacheTable.{Shared};
+    ghost use Rattle.rtr_cache.specs.Unsaid.{LeadsToNewest};
 
     ghost Value = { Shared };
 
     ghost view = { λ p. record { session = p.terms.session; intervals = p.terms.intervals; other_session = p.other_session; kept = p.versions; now = p.moment } };
+
+    ghost invariant = { λ p. AllByRecursion (LeadsToNewest p.versions) p.changes.items };
 }
 
 impl<A: Allocator + Clone> Publisher<A> {
@@ -40,11 +47,13 @@ impl<A: Allocator + Clone> Publisher<A> {
         ensures { IfOk result (λ p. p ≡ record { session = terms.session; intervals = terms.intervals; other_session = other_session; kept = []; now = 0 }) }
     {
         let versions = Versions::new(alloc.clone()?);
+        let changes = Vec::new(alloc.clone()?);
         Ok(Publisher {
             alloc,
             terms,
             other_session,
             versions,
+            changes,
             moment: 0,
         })
     }
@@ -64,6 +73,7 @@ impl<A: Allocator + Clone> Publisher<A> {
     {
         // The members of a set rise: any walk through them says so.
         let _members = set.iter();
+        self.changes.clear();
         self.versions.publish(set)
     }
 
@@ -98,20 +108,46 @@ impl<A: Allocator + Clone> Publisher<A> {
         }
     }
 
-    /// The response with what changed from a serial to the newest version, where the serial is kept.
-    pub fn change_since(&self, serial: u32) -> Result<Option<Response<A>>, AllocError>
-        ensures response { IfOk result (λ response. response ≡ kept_response self.now serial self.now.kept) }
-        ensures refused { OnErr result (IsSome (version_of self.now.kept serial)) }
+    /// The response with what changed from a serial to the newest version, where the serial is kept. What changed is
+    /// made once, and shared by all that ask for it before the next load.
+    #[tactic(auto, using(crate::proofs::SharedChanges::is_kept, crate::proofs::SharedChanges::tells_change))]
+    pub fn change_since(&mut self, serial: u32) -> Result<Option<Response<A>>, AllocError>
+        ensures shared { self.new ≡ self.old }
+        ensures response { IfOk result (λ response. response ≡ kept_response self.old serial self.old.kept) }
+        ensures refused { OnErr result (IsSome (version_of self.old.kept serial)) }
     {
+        let terms = self.terms;
+        let newest = self.newest_serial();
+        if let Some(change) = self.change_made(serial) {
+            let response = Response::of_change(terms, newest, change)?;
+            return Ok(Some(response));
+        }
         match self.versions.delta_from(serial)? {
-            Some(change) => {
-                let alloc = self.alloc.clone()?;
-                let newest = self.newest_serial();
-                let response = Response::of_change(alloc, self.terms, newest, &change)?;
+            Some(delta) => {
+                let response = self.make_change(serial, &delta)?;
                 Ok(Some(response))
             }
             None => Ok(None),
         }
+    }
+
+    // The response with what changed since a serial, which is shared from now on.
+    fn make_change(&mut self, serial: u32, delta: &Delta<A>) -> Result<Response<A>, AllocError>
+        requires { change_from self.old.kept serial ≡ Some delta.now }
+        ensures shared { self.new ≡ self.old }
+        ensures response { IfOk result (λ response. response ≡ change_response self.old.session self.old.intervals (newest_serial self.old.kept) delta.now) }
+    {
+        let change = SharedChange::of_delta(self.alloc.clone()?, serial, delta)?;
+        let response = Response::of_change(self.terms, self.newest_serial(), &change)?;
+        self.changes.push(change)?;
+        Ok(response)
+    }
+
+    // What changed since the version of the serial, where it was made.
+    fn change_made(&self, serial: u32) -> Option<&SharedChange<A>>
+        ensures { IfSome result (λ change. change_from self.now.kept serial ≡ Some change.now.change) }
+    {
+        self.changes.iter().find(|change| change.serial() == serial)
     }
 
     /// The session that is served.

@@ -5,13 +5,14 @@ ghost use Rattle.rtr_codec.specs.PduSpelling.{content_of};
 ghost use Rattle.rtr_codec.specs.Responses.{response};
 ghost use Rattle.rtr_cache.specs.Unsaid.{IsResponsePart, IsUnsaid, change_response, left_of};
 
+use crate::shared_change::SharedChange;
 use crate::unsaid::UnsaidPayloads;
 use net_prefix::Vrp;
 use rtr_codec::{Intervals, Pdu};
 use std::alloc::{AllocError, Allocator, Global};
 use std::marker::Model;
 use std::rc::RcSlice;
-use vrp_delta::{Delta, Snapshot};
+use vrp_delta::Snapshot;
 
 /// What every response of a cache tells.
 #[derive(Clone, Copy)]
@@ -44,15 +45,14 @@ impl<A: Allocator> Model for Response<A> {
 impl<A: Allocator + Clone> Response<A> {
     /// The response that tells what changed up to the version of a serial.
     pub fn of_change(
-        alloc: A,
         terms: Terms,
         serial: u32,
-        change: &Delta<A>,
+        change: &SharedChange<A>,
     ) -> Result<Self, AllocError>
-        ensures { IfOk result (λ r. r ≡ change_response terms.session terms.intervals serial change.now) }
+        ensures { IfOk result (λ r. r ≡ change_response terms.session terms.intervals serial change.now.change) }
     {
-        let withdrawn = change.withdrawn.iter().copied().collect(alloc.clone()?)?;
-        let announced = change.announced.iter().copied().collect(alloc)?;
+        let withdrawn = change.share_withdrawn()?;
+        let announced = change.share_announced()?;
         Ok(Response::of_lists(terms, serial, withdrawn, announced))
     }
 

@@ -59,8 +59,9 @@ impl<A: Allocator + Clone> ServedClient<A> {
     }
 
     /// Octets came: each PDU that they complete is heard, and what is to be said is queued.
-    pub fn receive(&mut self, publisher: &Publisher<A>, octets: &[u8])
-        ensures { (refused : List Bool) × (self.new ≡ pumped (hears_octets publisher.now refused self.old octets.now)) }
+    pub fn receive(&mut self, publisher: &mut Publisher<A>, octets: &[u8])
+        ensures shared { publisher.new ≡ publisher.old }
+        ensures heard { (refused : List Bool) × (self.new ≡ pumped (hears_octets publisher.old refused self.old octets.now)) }
     {
         self.hear(publisher, octets);
         self.sender.pump();
@@ -99,8 +100,9 @@ impl<A: Allocator + Clone> ServedClient<A> {
         self.sender.is_open()
     }
 
-    fn hear(&mut self, publisher: &Publisher<A>, octets: &[u8])
-        ensures { (refused : List Bool) × (self.new ≡ hears_octets publisher.now refused self.old octets.now) }
+    fn hear(&mut self, publisher: &mut Publisher<A>, octets: &[u8])
+        ensures shared { publisher.new ≡ publisher.old }
+        ensures heard { (refused : List Bool) × (self.new ≡ hears_octets publisher.old refused self.old octets.now) }
     {
         let mut rest = octets;
         while self.is_open() && !rest.is_empty() {
@@ -109,11 +111,12 @@ impl<A: Allocator + Clone> ServedClient<A> {
     }
 
     // Takes octets up to the end of the PDU at the front, hears it where it is whole, and answers the octets behind.
-    fn hear_next<'a>(&mut self, publisher: &Publisher<A>, octets: &'a [u8]) -> &'a [u8]
+    fn hear_next<'a>(&mut self, publisher: &mut Publisher<A>, octets: &'a [u8]) -> &'a [u8]
         requires open { self.old.is_open ≡ true }
         requires some { 0 < length octets.now }
+        ensures shared { publisher.new ≡ publisher.old }
         ensures moves { length result.now < length octets.now }
-        ensures goes_on { (later : List Bool) → (refused : List Bool) × (hears_octets publisher.now refused self.old octets.now ≡ hears_octets publisher.now later self.new result.now) }
+        ensures goes_on { (later : List Bool) → (refused : List Bool) × (hears_octets publisher.old refused self.old octets.now ≡ hears_octets publisher.old later self.new result.now) }
     {
         let count = self.receiver.push(octets);
         self.sender.hear_front(publisher, &self.receiver);

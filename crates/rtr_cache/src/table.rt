@@ -15,9 +15,10 @@ use std::alloc::Allocator;
 
 impl<A: Allocator + Clone> Sender<A> {
     /// Hears what stands at the front of what came, if it is whole or faulty.
-    pub fn hear_front(&mut self, publisher: &Publisher<A>, receiver: &Receiver)
+    pub fn hear_front(&mut self, publisher: &mut Publisher<A>, receiver: &Receiver)
         requires { self.old.is_open ≡ true }
-        ensures { HearsFront publisher.now (meaning receiver.now.place receiver.now.part) self.old self.new }
+        ensures shared { publisher.new ≡ publisher.old }
+        ensures heard { HearsFront publisher.old (meaning receiver.now.place receiver.now.part) self.old self.new }
     {
         match receiver.front() {
             Step::Need => {}
@@ -27,9 +28,10 @@ impl<A: Allocator + Clone> Sender<A> {
     }
 
     // A whole PDU came, of these octets. The first row that holds counts.
-    fn hear(&mut self, publisher: &Publisher<A>, pdu: &Pdu<'_>, octets: &[u8])
+    fn hear(&mut self, publisher: &mut Publisher<A>, pdu: &Pdu<'_>, octets: &[u8])
         requires { self.old.is_open ≡ true }
-        ensures { (refused : Bool) × (behind_pdu self.new ≡ hears_pdu publisher.now refused (behind_pdu self.old) octets.now (content_of pdu.now)) }
+        ensures shared { publisher.new ≡ publisher.old }
+        ensures heard { (refused : Bool) × (behind_pdu self.new ≡ hears_pdu publisher.old refused (behind_pdu self.old) octets.now (content_of pdu.now)) }
     {
         match pdu {
             // An Error Report: closed without an answer.
@@ -81,10 +83,11 @@ impl<A: Allocator + Clone> Sender<A> {
     }
 
     // A Serial Query of this session, behind the first load (RFC 8210 section 5.3).
-    fn answer_serial(&mut self, publisher: &Publisher<A>, serial: u32)
+    fn answer_serial(&mut self, publisher: &mut Publisher<A>, serial: u32)
         requires open { self.old.is_open ≡ true }
-        requires loaded { is_published publisher.now.kept ≡ true }
-        ensures { (refused : Bool) × (behind_pdu self.new ≡ serial_query publisher.now refused (behind_pdu self.old) [] publisher.now.session serial publisher.now.kept) }
+        requires loaded { is_published publisher.old.kept ≡ true }
+        ensures shared { publisher.new ≡ publisher.old }
+        ensures heard { (refused : Bool) × (behind_pdu self.new ≡ serial_query publisher.old refused (behind_pdu self.old) [] publisher.old.session serial publisher.old.kept) }
     {
         match publisher.change_since(serial) {
             // The serial is kept: a response, with what changed since.

@@ -6,5 +6,5 @@ use Rattle.rtr_cache.proofs.served.ServedClient.receive.Goals as goal
 pub invariant_of-self : goal.invariant_of-self
 invariant_of-self g c = still_receiving _ _ _ c.self.invariant (pumped_same_open c.self.inside.sender c.pump.new.self (c.pump.ensures false []))
 
-pub returns : goal.returns
-returns g c = (c.hear.ensures.0, c.pump.ensures _ _ ∙ ap pumped (c.self.view_is ∙ c.hear.ensures.1))
+pub returns-clause-heard : goal.returns-clause-heard
+returns-clause-heard g c = (c.hear.ensures.heard.0, c.pump.ensures _ _ ∙ ap pumped (c.self.view_is ∙ c.hear.ensures.heard.1))
