@@ -139,6 +139,8 @@ fn states_are_those_of_all_payloads(rt: HostRuntime) -> Result<(), Fail> {
     trie.clear();
     assert!(rt; has_just(&trie, &none, &PAYLOADS)?);
     assert!(rt; trie.state(&Prefix::new(0x0a00_0000, 16)?, Some(Asn(65001))) == Validity::NotFound);
+    follow(&mut trie, &none, &all)?;
+    assert!(rt; has_states(&trie, &ROUTES)?);
     Ok(())
 }
 

@@ -14,8 +14,8 @@ use Rattle.rtr_codec.specs.PduStream.{place_after}
 use Rattle.rtr_session.specs.SessionState.{finds_room, input_of}
 use Rattle.rtr_session.specs.SessionState as sessions
 use Rattle.vrp_delta.specs.Versions.{Version, is_newest_set, kept_versions, newest_serial, next_version}
-use Rattle.rtr_channels.specs.Joins.{AcceptancesAreEvents, BeginningsAreNew, CallsAreEvents, CanBeTold, EventsGoOn, FailuresAreEvents, IsStep, HearingsAreEvents, LoadsAreEvents, LossesAreEvents, ReadingsAreEvents, ReadingsWithoutRoomAreEvents, RestartsAreEvents, SessionsAreClients, StepsAreEvents, StepsWithoutRoomAreEvents, TakesAreEvents, spelled}
-use Rattle.rtr_channels.specs.ChannelEvents.{IsOwn, LoadsPublishable, called, client_after, handed, link_after, link_lost, published_by, said, settled, up_after}
+use Rattle.rtr_channels.specs.Joins.{AcceptancesAreEvents, BeginningsAreNew, CallsAreEvents, CanBeTold, EventsGoOn, FailuresAreEvents, IsStep, HearingsAreEvents, LoadsAreEvents, LossesAreEvents, OthersAreEvents, ReadingsAreEvents, ReadingsWithoutRoomAreEvents, RestartsAreEvents, SessionsAreClients, StepsAreEvents, StepsWithoutRoomAreEvents, TakesAreEvents, spelled}
+use Rattle.rtr_channels.specs.ChannelEvents.{IsOwn, brought, LoadsPublishable, called, client_after, handed, link_after, link_lost, published_by, said, settled, up_after}
 use Rattle.rtr_channels.specs.Channels.{Awaited, Gone, Link, Publication, TwoEnds, Under, first_place, is_new_session, publication, published_after}
 use Rattle.rtr_channels.proofs.Flights.{In}
 use Rattle.rtr_channels.proofs.Joining.{if_true}
@@ -84,6 +84,45 @@ hearings_are_events w key octets rest report cache joined makes brings = record 
   brings = brings ∙ ap (λ l. l ++ rest) (sym (rw joined (if_true (key == key) octets [] (same_key key))));
   leaves = sym (parts w cache (link_after w.link (calls.Heard key octets (Ok report))) w.link rest (w.down ++ handed w.link (calls.Heard key octets (Ok report))) w.down w.published w.published
       (rw joined refl) (ap (λ l. w.down ++ handed l (calls.Heard key octets (Ok report))) joined ∙ append-nil w.down) refl);
+}
+
+brought_case : (heard key : ℕ) (octets : List ℕ) (report : CacheReport) (t : Bool) → (heard == key) ≡ t → calls.Heard heard octets (Ok report) ≢ calls.Heard key octets (Ok report) → cond t octets [] ≡ []
+brought_case heard key octets report true at apart = absurd (apart (ap (λ k. calls.Heard k octets (Ok report)) (eqb-true heard key at)))
+brought_case heard key octets report false at apart = refl
+
+others_brought : (link : Link) (call : Call) → ((key : ℕ) (octets : List ℕ) (report : CacheReport) → link ≡ Under key → call ≢ calls.Heard key octets (Ok report)) → brought link call ≡ []
+others_brought Awaited call apart = refl
+others_brought Gone call apart = refl
+others_brought (Under key) (calls.Heard heard octets (Ok report)) apart = brought_case heard key octets report (heard == key) refl (apart key octets report refl)
+others_brought (Under key) (calls.Heard heard octets (Err why)) apart = refl
+others_brought (Under key) (calls.WentDown lost result) apart = refl
+others_brought (Under key) (calls.Loaded set result) apart = refl
+others_brought (Under key) (calls.CameUp result) apart = refl
+others_brought (Under key) (calls.Ticked now result) apart = refl
+others_brought (Under key) (calls.Took taken buf result out) apart = refl
+
+handed_case : (taken key : ℕ) (buf out : List ℕ) (count : ℕ) (t : Bool) → (taken == key) ≡ t → calls.Took taken buf (Ok count) out ≢ calls.Took key buf (Ok count) out → cond t (take count out) [] ≡ []
+handed_case taken key buf out count true at apart = absurd (apart (ap (λ k. calls.Took k buf (Ok count) out) (eqb-true taken key at)))
+handed_case taken key buf out count false at apart = refl
+
+others_handed : (link : Link) (call : Call) → ((key : ℕ) (buf out : List ℕ) (count : ℕ) → link ≡ Under key → call ≢ calls.Took key buf (Ok count) out) → handed link call ≡ []
+others_handed Awaited call apart = refl
+others_handed Gone call apart = refl
+others_handed (Under key) (calls.Took taken buf (Ok count) out) apart = handed_case taken key buf out count (taken == key) refl (apart key buf out count refl)
+others_handed (Under key) (calls.Took taken buf (Err why) out) apart = refl
+others_handed (Under key) (calls.Heard heard octets result) apart = refl
+others_handed (Under key) (calls.WentDown lost result) apart = refl
+others_handed (Under key) (calls.Loaded set result) apart = refl
+others_handed (Under key) (calls.CameUp result) apart = refl
+others_handed (Under key) (calls.Ticked now result) apart = refl
+
+pub others_are_events : OthersAreEvents
+others_are_events w call cache makes no_load no_heard no_took no_loss = record {
+  makes = makes;
+  publishable = can_load call (λ set report is. absurd (no_load set report is));
+  brings = ap (λ l. l ++ w.up) (sym (others_brought w.link call no_heard));
+  leaves = sym (parts w cache (link_after w.link call) w.link w.up (w.down ++ handed w.link call) w.down (published_by w call) w.published
+      (link_same w.link call no_loss) (ap (λ l. w.down ++ l) (others_handed w.link call no_took) ∙ append-nil w.down) (published_same w call no_load));
 }
 
 pub takes_are_events : TakesAreEvents

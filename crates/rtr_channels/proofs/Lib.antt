@@ -1,3 +1,4 @@
+pub mod FewSets
 pub mod Flights
 pub mod Clients
 pub mod Answering

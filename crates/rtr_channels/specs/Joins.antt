@@ -14,12 +14,14 @@ use Rattle.rtr_codec.specs.ClientTable.{Client, Fail, Input, No_room, Off, Tick,
 use Rattle.rtr_codec.specs.Intervals.{usual}
 use Rattle.rtr_codec.specs.PduSpelling.{Content, spelling}
 use Rattle.rtr_codec.specs.PduStream.{Item, meaning, place_after}
+use Rattle.rtr_codec.specs.Receiving.{beginning}
+use Rattle.rtr_codec.specs.declared.place.End.TheVariants.{Client as Router}
 use Rattle.rtr_codec.specs.declared.intervals.Intervals.{Intervals}
 use Rattle.rtr_codec.specs.declared.place.Place.{Place}
 use Rattle.rtr_session.specs.SessionState.{Session, after_input, input_of}
 use Rattle.vrp_delta.specs.Versions.{is_newest_set, newest_serial}
 use Rattle.rtr_channels.specs.ChannelEvents.{Accepts, Calls, Event, Fails, Happens, IsAfter, Reads, Restarts, Steps, brought, client_after, handed, up_after}
-use Rattle.rtr_channels.specs.Channels.{Awaited, Gone, Link, Publication, TwoEnds, Under, first_place}
+use Rattle.rtr_channels.specs.Channels.{Awaited, Gone, Link, Publication, TwoEnds, Under}
 use Rattle.rtr_channels.specs.VersionsAgree.{AreFew}
 
 -- the event leads to two ends with these parts
@@ -40,6 +42,16 @@ CallsAreEvents =
     → (new : TwoEnds) × Happens w (Calls call) new × (new.cache ≡ cache) × (new.client ≡ w.client) × (new.up ≡ rest) × (new.down ≡ w.down ++ handed w.link call) × (new.place ≡ w.place)
     × (((key : ℕ) (report : CacheReport) → w.link ≡ Under key → call ≢ calls.WentDown key (Ok report)) → new.link ≡ w.link)
     × (((set : List Vrp) (report : CacheReport) → call ≢ calls.Loaded set (Ok report)) → new.published ≡ w.published)
+
+-- any other call than a load: of another client, or of none
+abbrev pub OthersAreEvents : Type 0
+OthersAreEvents =
+    (w : TwoEnds) (call : Call) (cache : CacheState) → Makes w.cache call cache
+    → ((set : List Vrp) (report : CacheReport) → call ≢ calls.Loaded set (Ok report))
+    → ((key : ℕ) (octets : List ℕ) (report : CacheReport) → w.link ≡ Under key → call ≢ calls.Heard key octets (Ok report))
+    → ((key : ℕ) (buf out : List ℕ) (count : ℕ) → w.link ≡ Under key → call ≢ calls.Took key buf (Ok count) out)
+    → ((key : ℕ) (report : CacheReport) → w.link ≡ Under key → call ≢ calls.WentDown key (Ok report))
+    → LeadsToParts w (Calls call) cache w.client w.link w.up w.down w.place w.published
 
 -- octets that come from the client
 abbrev pub HearingsAreEvents : Type 0
@@ -109,7 +121,7 @@ StepsWithoutRoomAreEvents =
 
 -- its connection, or its attempt to open one, has failed
 abbrev pub FailuresAreEvents : Type 0
-FailuresAreEvents = (w : TwoEnds) (now : ℕ) → LeadsToParts w (Fails now) w.cache (row now w.client Fail).client Awaited [] [] first_place w.published
+FailuresAreEvents = (w : TwoEnds) (now : ℕ) → LeadsToParts w (Fails now) w.cache (row now w.client Fail).client Awaited [] [] (beginning Router).place w.published
 
 -- Beginnings.
 
@@ -117,7 +129,7 @@ FailuresAreEvents = (w : TwoEnds) (now : ℕ) → LeadsToParts w (Fails now) w.c
 abbrev pub BeginningsAreNew : Type 0
 BeginningsAreNew =
     (session : ℕ) (intervals : Intervals) (other_session : OtherSession) (cache : CacheState) → session < 2 ^ 16 → IsNew session intervals other_session (Ok cache)
-    → IsAfter session intervals other_session [] (record { cache = cache; client = initial; link = Awaited; up = []; down = []; place = first_place; published = [] })
+    → IsAfter session intervals other_session [] (record { cache = cache; client = initial; link = Awaited; up = []; down = []; place = (beginning Router).place; published = [] })
 
 -- a new cache in the place of the old one, in a session in which nothing was published. It hasn't a connection that the old one had, and may get one that waits
 abbrev pub RestartsAreEvents : Type 0

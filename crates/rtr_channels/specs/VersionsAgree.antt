@@ -1,5 +1,5 @@
 -- When a client holds just what its cache published (our own).
-use Rattle.std.specs.Prelude.{◌≡◌, ◌<◌, ◌^◌, ℕ, List, Some}
+use Rattle.std.specs.Prelude.{◌≡◌, ◌<◌, ◌^◌, ℕ, List, Some, length}
 use Rattle.std.specs.List.{Contains}
 use Rattle.net_prefix.specs.declared.payload.Vrp.{Vrp}
 use Rattle.rtr_cache.specs.declared.other_session.OtherSession.{OtherSession}
@@ -26,3 +26,7 @@ abbrev pub VersionsAgree : Type 0
 VersionsAgree =
     (session : ℕ) (intervals : Intervals) (other_session : OtherSession) (events : List Event) (w : TwoEnds)
     → IsAfter session intervals other_session events w → AreFew w.published → HoldsPublished w
+
+-- where fewer than 2^32 sets were published in all, no session published so often
+abbrev pub AllAreFew : Type 0
+AllAreFew = (published : List Publication) → length published < 2 ^ 32 → AreFew published

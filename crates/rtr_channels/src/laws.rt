@@ -1,12 +1,14 @@
 //! Laws of a cache and a client of it. Each is the contract of an empty function.
-ghost use Rattle.rtr_channels.specs.Joins.{AcceptancesAreEvents, BeginningsAreNew, CallsAreEvents, EventsGoOn, EventsLeadToPayloads, FailuresAreEvents, HearingsAreEvents, LoadsAreEvents, LossesAreEvents, ReadingsAreEvents, ReadingsWithoutRoomAreEvents, RestartsAreEvents, SessionsAreClients, StepsAreEvents, StepsWithoutRoomAreEvents, TakesAreEvents};
-ghost use Rattle.rtr_channels.specs.VersionsAgree.{VersionsAgree};
+ghost use Rattle.rtr_channels.specs.Joins.{AcceptancesAreEvents, BeginningsAreNew, CallsAreEvents, EventsGoOn, EventsLeadToPayloads, FailuresAreEvents, HearingsAreEvents, LoadsAreEvents, LossesAreEvents, OthersAreEvents, ReadingsAreEvents, ReadingsWithoutRoomAreEvents, RestartsAreEvents, SessionsAreClients, StepsAreEvents, StepsWithoutRoomAreEvents, TakesAreEvents};
+ghost use Rattle.rtr_channels.specs.VersionsAgree.{AllAreFew, VersionsAgree};
 
 /// Whatever is published, cut, lost, delayed and restarted: where a client has payloads under a session id and a serial,
 /// they are exactly the set that the cache published under them (RFC 8210 sections 2 and 5.1). Each restart brings a
-/// session id under which nothing was published, and no session publishes 2^32 sets.
+/// session id under which nothing was published, and no session publishes 2^32 sets: so it is where fewer were published in
+/// all.
 pub fn versions_agree()
-    ensures { VersionsAgree }
+    ensures agree { VersionsAgree }
+    ensures few { AllAreFew }
 {}
 
 /// What a call of `rtr_cache::Cache` makes of it, by its contract, is an event of any two ends with this cache: octets
@@ -16,6 +18,7 @@ pub fn versions_agree()
 pub fn calls_are_events()
     ensures calls { CallsAreEvents }
     ensures hearings { HearingsAreEvents }
+    ensures others { OthersAreEvents }
     ensures takes { TakesAreEvents }
     ensures losses { LossesAreEvents }
     ensures loads { LoadsAreEvents }

@@ -1,5 +1,5 @@
 -- The books of a client: sets that are kept as changes of what they started from.
-use Rattle.std.proofs.Common.{◌≡◌, ◌≢◌, Bool, true, false, not, ◌&&◌, ◌||◌, List, [], ◌∷◌, Option, Some, None, Result, Ok, Err, ap, sym, refl, ◌∙◌, inl, inr}
+use Rattle.std.proofs.Common.{◌≡◌, ◌≢◌, Bool, true, false, not, ◌||◌, List, [], ◌∷◌, Option, Some, None, Result, Ok, Err, ap, sym, refl, ◌∙◌, inl, inr}
 use Rattle.std.specs.BTreeMap.{is_at}
 use Rattle.std.specs.Result.{OnErr}
 use Rattle.std.specs.Cmp.{Equal-is}
@@ -9,10 +9,12 @@ use Rattle.net_prefix.specs.PayloadSets.{IsPayloadSet, has}
 use Rattle.net_prefix.proofs.PayloadSets.{payload_cmp_exact}
 use Rattle.vrp_delta.specs.Delta.{Change, change_between}
 use Rattle.vrp_delta.specs.Keeping.{IsChangeOf, no_change}
+use Rattle.vrp_delta.specs.Versions.{is_same_set}
+use Rattle.vrp_delta.proofs.Published.{same_set-Decides}
 use Rattle.rtr_codec.specs.ClientState as table
 use Rattle.rtr_client.specs.declared.payloads.Base.{Base}
 use Rattle.rtr_client.specs.Book.{Book, IsTold, base_of, loaded_from, start_of}
-use Rattle.rtr_client.specs.Following.{has_more}
+use Rattle.rtr_client.specs.Following.{has_more, wants_memory}
 pub use Rattle.vrp_delta.proofs.Staged.{Moves, applied-loaded, at_each, at_itself, came-back, came-put, change_between-fits, change_between-loaded, change_between-nothing, change_between-same, either_right, empty_rises, fits_leave, fits_out, fits_put, fits_put_back, has-loaded, has_case, lacked-nothing, lacks_case, left-again, left-out, load_leave, load_out, load_put, load_put_back, loaded-announced, loaded-change_between, loaded-from_none, loaded-started, loaded-withdrawn, loaded_from-is_set, loaded_from-nothing, moved_alike, no_change-fits, out-moves, put-moves}
 
 pub payloads_of-base : (base : Option Base) (payloads : List Vrp) → (base ≡ None → payloads ≡ []) → table.payloads_of (base_of base payloads) ≡ payloads
@@ -69,3 +71,29 @@ left_start p start load there other = has_case (has load.announced p) (has load.
 pub on_err : {X Y P : Type 0} (result : Result X Y) → P → OnErr result P
 on_err (Ok done) p = tt
 on_err (Err refused) p = p
+
+-- ---- a load that has just the payloads in force
+
+nothing_case : (set other : List Vrp) → set ≡ other → no_change ≡ change_between other set
+nothing_case set other same = sym (ap (λ s. change_between other s) same ∙ change_between-same other)
+
+pub nothing_changes : (set other : List Vrp) → is_same_set set other ≡ true → no_change ≡ change_between other set
+nothing_changes set other same = nothing_case set other ((same_set-Decides set other).0 same)
+
+no_more : (set other : List Vrp) → ((q : Vrp) → has set q ≡ true → has other q ≡ true) → has_more set other ≡ false
+no_more [] other within = refl
+no_more (x ∷ xs) other within =
+    let there : has other x ≡ true = within x (rw (at_itself x) refl) in
+    rw there (no_more xs other (λ q h. within q (either_right (is_at (payload_cmp q) x) (has xs q) h)))
+
+more_apart : (set other : List Vrp) (same : Bool) → is_same_set set other ≡ same → has_more set other ≡ true → not same ≡ true
+more_apart set other false e more = refl
+more_apart set other true e more =
+    let alike : set ≡ other = (same_set-Decides set other).0 e in
+    let none : has_more set other ≡ false = no_more set other (λ q h. sym (ap (λ s. has s q) alike) ∙ h) in
+    cc
+
+-- a load that brings a payload hasn't just those in force
+pub more_wants : (serially : Bool) (set in_force : List Vrp) → has_more set in_force ≡ true → wants_memory serially set in_force ≡ true
+more_wants true set in_force more = more
+more_wants false set in_force more = more_apart set in_force (is_same_set set in_force) refl more

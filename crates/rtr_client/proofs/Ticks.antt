@@ -1,5 +1,5 @@
 -- What the timers of a tick say.
-use Rattle.std.proofs.Common.{◌≡◌, ◌≤◌, ◌+◌, ◌⊎◌, ℕ, Bool, true, false, cond, Option, Some, None, inl, inr, refl, ap, arith}
+use Rattle.std.proofs.Common.{◌≡◌, ◌≤◌, ◌+◌, ◌⊎◌, ℕ, Bool, true, false, cond, Option, Some, None, inl, inr, refl, arith}
 use Rattle.moments.specs.Moments.{has_come}
 use Rattle.rtr_codec.specs.ClientTable.{Base, Client, Stage, Off, Opening, Asked_serial, Asked_reset, Waiting, Loading, Synced, asks_again, asks_from, becomes, expire_ends, expires, flushed, query_ends, refresh_ends, refreshes, reopen_ends, reopens, reopens_off}
 use Rattle.rtr_codec.specs.PduSpelling.{Content}

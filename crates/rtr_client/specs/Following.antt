@@ -1,5 +1,5 @@
 -- What a client is seen as, and what a step of it may do.
-use Rattle.std.specs.Prelude.{◌&&◌, ◌||◌, ◌==◌, ℕ, Bool, false, not, List, if◌then◌else◌}
+use Rattle.std.specs.Prelude.{◌&&◌, ◌==◌, ℕ, Bool, false, not, List, if◌then◌else◌}
 use Rattle.std.specs.List.{list_any}
 use Rattle.net_prefix.specs.declared.payload.Vrp.{Vrp}
 use Rattle.net_prefix.specs.PayloadSets.{has}
@@ -8,6 +8,7 @@ use Rattle.rtr_codec.specs.Intervals.{are_lawful}
 use Rattle.rtr_codec.specs.declared.intervals.Intervals.{Intervals}
 use Rattle.rtr_codec.specs.PduSpelling.{Content, Announce, Withdraw, End_of_data, content_of}
 use Rattle.vrp_delta.specs.Delta.{Change}
+use Rattle.vrp_delta.specs.Versions.{is_same_set}
 use Rattle.rtr_client.specs.Book.{start_of}
 use Rattle.rtr_client.specs.declared.input.Input.{Input}
 use Rattle.rtr_client.specs.declared.input.Input.TheVariants.{Up, Fail, Heard, Faulty, Tick, NoRoom}
@@ -40,11 +41,15 @@ completes own session intervals = (session == own) && are_lawful intervals
 abbrev pub has_more : List Vrp → List Vrp → Bool
 has_more set other = list_any (λ payload. not (has other payload)) set
 
--- whether a load needs memory for this PDU, where the PDU is no fault: a payload that comes and that the load didn't start from, one that leaves and that it did start from, and the end of a load, after a Serial Query only where the load brings a payload that isn't in force
+-- whether a load with these payloads needs memory to be in force: after a Serial Query where it brings a payload that isn't in force, after a Reset Query where it hasn't just those in force
+abbrev pub wants_memory : Bool → List Vrp → List Vrp → Bool
+wants_memory serially set in_force = if serially then has_more set in_force else not (is_same_set set in_force)
+
+-- whether a load needs memory for this PDU, where the PDU is no fault: a payload that comes and that the load didn't start from, one that leaves and that it did start from, and the end of a load
 abbrev pub takes_at : table.Stage → List Vrp → Content → Bool
 takes_at (table.Loading serially own set) in_force (Announce payload) = not (has set payload) && not (has (start_of serially in_force) payload)
 takes_at (table.Loading serially own set) in_force (Withdraw payload) = has set payload && has (start_of serially in_force) payload
-takes_at (table.Loading serially own set) in_force (End_of_data session serial intervals) = completes own session intervals && (not serially || has_more set in_force)
+takes_at (table.Loading serially own set) in_force (End_of_data session serial intervals) = completes own session intervals && wants_memory serially set in_force
 takes_at stage in_force content = false
 
 abbrev pub load_takes : table.Client → Content → Bool

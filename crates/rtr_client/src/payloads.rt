@@ -7,7 +7,7 @@ ghost use Rattle.rtr_codec.specs.ClientTable.{is_serial, is_session};
 ghost use Rattle.vrp_delta.specs.Delta.{change_between};
 ghost use Rattle.vrp_delta.specs.Keeping.{no_change};
 
-use crate::load::{against, is_loaded, leave_all};
+use crate::load::{is_loaded, leave_all, turn_against};
 use net_prefix::Vrp;
 use std::alloc::{AllocError, Allocator, Global};
 use std::collections::BTreeSet;
@@ -156,7 +156,8 @@ impl<A: Allocator> Payloads<A> {
 
 impl<A: Allocator + Clone> Payloads<A> {
     ghost use Rattle.rtr_client.specs.Book.{Announces, Commits, Withdraws, completed, empty_book, started_from};
-    ghost use Rattle.rtr_client.specs.Following.{has_more};
+    ghost use Rattle.rtr_client.specs.Following.{has_more, wants_memory};
+    ghost use Rattle.vrp_delta.specs.Versions.{is_same_set};
 
     /// No payloads.
     pub fn new(alloc: A) -> Result<Self, AllocError>
@@ -198,13 +199,13 @@ impl<A: Allocator + Clone> Payloads<A> {
         Ok(true)
     }
 
-    /// The load is in force under its session and this serial, whole or, where memory is refused, not at all. After a
-    /// Serial Query a load that brings nothing new needs none.
+    /// The load is in force under its session and this serial, whole or, where memory is refused, not at all. A load
+    /// that brings nothing new after a Serial Query, or that has just the payloads in force, needs none.
     pub fn commit<K: Keeper>(&mut self, serial: u32, keeper: &mut K) -> Result<(), AllocError>
         requires told { self.old.changed ≡ no_change }
         requires follows { K.kept keeper.old ≡ payloads_of self.old.base }
         ensures does { Commits self.old serial result self.new }
-        ensures needs { OnErr result ((not self.old.serially || has_more self.old.loaded (payloads_of self.old.base)) ≡ true) }
+        ensures needs { OnErr result (wants_memory self.old.serially self.old.loaded (payloads_of self.old.base) ≡ true) }
         ensures follows { K.kept keeper.new ≡ payloads_of self.new.base }
     {
         self.rebase()?;
@@ -215,12 +216,13 @@ impl<A: Allocator + Clone> Payloads<A> {
     fn rebase(&mut self) -> Result<(), AllocError>
         ensures ok { OnOk result (self.new ≡ record self.old { serially = true }) }
         ensures err { OnErr result (self.new ≡ self.old) }
-        ensures needs { OnErr result (self.old.serially ≡ false) }
+        ensures afresh { OnErr result (self.old.serially ≡ false) }
+        ensures needs { OnErr result (is_same_set self.old.loaded (payloads_of self.old.base) ≡ false) }
     {
         if self.serially {
             return Ok(());
         }
-        self.load = against(&self.in_force, &self.load)?;
+        turn_against(&self.in_force, &mut self.load)?;
         self.serially = true;
         Ok(())
     }

@@ -46,6 +46,7 @@ impl<A: Allocator + Clone> Delta<A> {
         ensures ok { OnOk result (self.new ≡ came payload self.old) }
         ensures err { OnErr result (self.new ≡ self.old) }
         ensures needs { OnErr result (has self.old.withdrawn payload ≡ false) }
+        ensures lacks { OnErr result (has self.old.announced payload ≡ false) }
     {
         if self.withdrawn.remove(&payload) {
             return Ok(());
@@ -62,6 +63,7 @@ impl<A: Allocator + Clone> Delta<A> {
         ensures ok { OnOk result (self.new ≡ left payload self.old) }
         ensures err { OnErr result (self.new ≡ self.old) }
         ensures needs { OnErr result (has self.old.announced payload ≡ false) }
+        ensures lacks { OnErr result (has self.old.withdrawn payload ≡ false) }
     {
         if self.announced.remove(&payload) {
             return Ok(());

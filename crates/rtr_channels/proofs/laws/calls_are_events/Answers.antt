@@ -7,6 +7,9 @@ returns-clause-calls c = joins.calls_are_events
 pub returns-clause-hearings : goal.returns-clause-hearings
 returns-clause-hearings c = joins.hearings_are_events
 
+pub returns-clause-others : goal.returns-clause-others
+returns-clause-others c = joins.others_are_events
+
 pub returns-clause-takes : goal.returns-clause-takes
 returns-clause-takes c = joins.takes_are_events
 

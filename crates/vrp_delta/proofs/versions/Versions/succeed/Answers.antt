@@ -1,7 +1,7 @@
-use Rattle.std.proofs.Common.{◌≡◌, ◌∷◌, List, Option, Some, take, ap, sym, subst, ◌∙◌}
+use Rattle.std.proofs.Common.{◌≡◌, ◌∷◌, Some, take, ap, sym, subst, ◌∙◌}
 use Rattle.net_prefix.specs.PayloadSets.{IsPayloadSet}
 use Rattle.vrp_delta.specs.Delta.{change_between}
-use Rattle.vrp_delta.specs.Steps.{AreKeptSteps, AreSteps, Step, before, versions_of}
+use Rattle.vrp_delta.specs.Steps.{AreKeptSteps, AreSteps, before, versions_of}
 use Rattle.vrp_delta.specs.Versions.{Version}
 use Rattle.vrp_delta.proofs.Steps.{behind_steps, behind_versions}
 use Rattle.vrp_delta.proofs.versions.Versions.succeed.Goals as goal
