@@ -1,5 +1,5 @@
 -- The attributes of an UPDATE (RFC 4271 section 5.1).
-use Rattle.std.specs.Prelude.{ℕ, ◌==◌, ◌&&◌, Bool, not, List, Option, Some, None, is_none, if◌then◌else◌}
+use Rattle.std.specs.Prelude.{ℕ, ◌==◌, ◌&&◌, Bool, false, not, List, [], Option, Some, None, is_none, if◌then◌else◌}
 use Rattle.bgp_attr.specs.AsPath.{PathSegment}
 use Rattle.bgp_attr.specs.PeerKinds.{is_external}
 use Rattle.bgp_attr.specs.UnknownAttributes.{Unknown}
@@ -20,6 +20,20 @@ pub record PathAttributes : Type 0 where
   pub atomic_aggregate : Bool
   pub aggregator : Option Aggregator
   pub unknown : Unknown
+
+-- the attributes of a route that this speaker originates (RFC 4271 sections 5.1.1 and 5.1.2)
+abbrev pub originated : PathAttributes
+originated =
+    record {
+      origin = Some Igp;
+      as_path = Some [];
+      next_hop = None;
+      multi_exit_disc = None;
+      local_pref = None;
+      atomic_aggregate = false;
+      aggregator = None;
+      unknown = [];
+    }
 
 -- the octet of an origin (RFC 4271 section 5.1.1)
 abbrev pub origin_octet : Origin → ℕ

@@ -1,7 +1,7 @@
 //! The attributes of an UPDATE.
 ghost use Rattle.std.specs.Prelude.{◌≡◌, ◌<◌, ◌^◌, MatchOption, ⊤};
 ghost use Rattle.std.specs.Option.{option_copied};
-ghost use Rattle.bgp_attr.specs.PathAttributes.{PathAttributes, origin_at, origin_octet, missing_of};
+ghost use Rattle.bgp_attr.specs.PathAttributes.{PathAttributes, origin_at, origin_octet, originated, missing_of};
 ghost use Rattle.bgp_attr.specs.UnknownAttributes.{ArePassedOn, unknown_or_none};
 ghost use Rattle.bgp_attr.specs.Written.{attributes_of};
 
@@ -72,6 +72,23 @@ impl<A: Allocator> Model for Attrs<A> {
 }
 
 impl<A: Allocator> Attrs<A> {
+    /// The attributes of a route that this speaker originates: ORIGIN is IGP and the path is empty (RFC 4271 sections 5.1.1
+    /// and 5.1.2). The next hop is told where the route is.
+    pub fn originated(alloc: A) -> Self
+        ensures { result ≡ originated }
+    {
+        Attrs {
+            origin: Some(Origin::Igp),
+            as_path: Some(AsPath::new(Vec::new(alloc))),
+            next_hop: None,
+            multi_exit_disc: None,
+            local_pref: None,
+            atomic_aggregate: false,
+            aggregator: None,
+            unknown: None,
+        }
+    }
+
     /// ORIGIN.
     pub fn origin(&self) -> Option<Origin>
         ensures { result ≡ self.now.origin }

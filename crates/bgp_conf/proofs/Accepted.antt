@@ -21,9 +21,9 @@ four_false false false false false r s t u rest h = (refl, refl, refl, refl)
 
 -- the first four tests of AddPeer failed
 tests_false : (conf : Configuration) (closing slot : ℕ) (peer : PeerConf) → first_refusal conf closing (AddPeer slot peer) ≡ None
-    → (nat_le PEER_SLOTS slot ≡ false) × ((is_some (peer_at conf slot) || has_bit closing slot) ≡ false) × (has_address conf.peers peer.address ≡ false) × (not (is_in_range conf.own peer) ≡ false)
+    → (nat_le PEER_SLOTS slot ≡ false) × ((is_some (peer_at conf slot) || has_bit closing slot) ≡ false) × (has_address conf.peers peer.address ≡ false) × (not (is_in_range peer) ≡ false)
 tests_false conf closing slot peer h =
-    four_false (nat_le PEER_SLOTS slot) (is_some (peer_at conf slot) || has_bit closing slot) (has_address conf.peers peer.address) (not (is_in_range conf.own peer)) BadSlot SlotTaken AddressTaken Range _ h
+    four_false (nat_le PEER_SLOTS slot) (is_some (peer_at conf slot) || has_bit closing slot) (has_address conf.peers peer.address) (not (is_in_range peer)) BadSlot SlotTaken AddressTaken Range _ h
 
 -- neither of two tests holds
 or_false : (a b : Bool) → (a || b) ≡ false → a ≡ false
@@ -67,13 +67,13 @@ peer_at-from_accepted conf closing slot peer h =
 pub has_address-from_accepted : (conf : Configuration) (closing slot : ℕ) (peer : PeerConf) → first_refusal conf closing (AddPeer slot peer) ≡ None → has_address conf.peers peer.address ≡ false
 has_address-from_accepted conf closing slot peer h = (tests_false conf closing slot peer h).2
 
--- the peer is in another AS than ours
-pub external-from_accepted : (conf : Configuration) (closing slot : ℕ) (peer : PeerConf) → first_refusal conf closing (AddPeer slot peer) ≡ None → (peer.asn.0 == conf.own.0) ≡ false
-external-from_accepted conf closing slot peer h =
+-- the peer has an address
+pub addressed-from_accepted : (conf : Configuration) (closing slot : ℕ) (peer : PeerConf) → first_refusal conf closing (AddPeer slot peer) ≡ None → (peer.address == 0) ≡ false
+addressed-from_accepted conf closing slot peer h =
     let inside = not_missed _ (tests_false conf closing slot peer h).3 in
     not_held _ (and_right _ _ (and_left _ _ (and_left _ _ (and_left _ _ (and_left _ _ (and_left _ _ (and_left _ _ inside)))))))
 
--- and sees of us the address of a host
+-- the peer sees of us the address of a host
 pub is_host-from_accepted : (conf : Configuration) (closing slot : ℕ) (peer : PeerConf) → first_refusal conf closing (AddPeer slot peer) ≡ None → is_host peer.local ≡ true
 is_host-from_accepted conf closing slot peer h =
     let inside = not_missed _ (tests_false conf closing slot peer h).3 in

@@ -1,17 +1,25 @@
 -- The tables that commands fill.
-use Rattle.std.specs.Prelude.{◌≡◌, ℕ, List, Option, Some}
-use Rattle.std.specs.Map.{lookup}
+use Rattle.std.specs.Prelude.{◌≡◌, ℕ, ◌||◌, Bool, List, Option, Some}
+use Rattle.std.specs.List.{list_any}
+use Rattle.std.specs.Map.{lookup, values_of}
 use Rattle.std.specs.Ordering.{nat_cmp, ordering_then}
 use Rattle.std.specs.declared.cmp.Ordering.{Ordering}
 use Rattle.std.specs.BTreeMap.{is_at}
+use Rattle.net_prefix.specs.PrefixOrder.{prefix_cmp}
 use Rattle.net_prefix.specs.declared.asn.Asn.{Asn}
 use Rattle.net_prefix.specs.declared.prefix.Prefix.{Prefix}
+use Rattle.policy.specs.declared.name.PolicyName.{PolicyName}
+use Rattle.policy.specs.PolicyNames.{is_same}
+use Rattle.policy.specs.PolicyTable.{PolicyTable}
 use Rattle.bgp_conf.specs.declared.conf.ConfiguredPeer.{ConfiguredPeer}
 
--- the own AS, the peers by their slots, and the costs of the `reach` entries, both tables rising
+-- the own AS, the peers by their slots, the policies by their names, the local networks, and the costs of the `reach`
+-- entries; each table rises, but the policies stand as their names came
 pub record Configuration : Type 0 where
   pub own : Asn
   pub peers : List (ℕ × ConfiguredPeer)
+  pub policies : PolicyTable
+  pub networks : List Prefix
   pub reach : List (Prefix × ℕ)
 
 -- the peer of a slot
@@ -25,6 +33,15 @@ address_cmp bits len prefix = ordering_then (nat_cmp bits prefix.bits) (nat_cmp 
 -- the cost of a prefix's entry
 abbrev pub entry_at : List (Prefix × ℕ) → Prefix → Option ℕ
 entry_at reach prefix = lookup (is_at (address_cmp prefix.bits prefix.len)) reach
+
+-- whether the prefix is a local network
+abbrev pub is_network : Configuration → Prefix → Bool
+is_network configuration prefix = list_any (is_at (prefix_cmp prefix)) configuration.networks
+
+-- some peer's routes are taken or announced by the policy
+abbrev pub uses_policy : Configuration → PolicyName → Bool
+uses_policy configuration name =
+    list_any (λ peer. is_same peer.import name || is_same peer.export name) (values_of configuration.peers)
 
 -- the peers of two slots have different addresses
 abbrev pub AddressesDiffer : List (ℕ × ConfiguredPeer) → Type 0

@@ -1,5 +1,5 @@
 -- The interior cost of a next hop (RFC 4271 section 9.1.2.1; own choice: by `reach` entries).
-use Rattle.std.specs.Prelude.{◌≡◌, ◌≢◌, ◌≤◌, ℕ, List, Option, Some, None, IsSome}
+use Rattle.std.specs.Prelude.{◌≡◌, ◌≤◌, ℕ, List, Option, Some, None, IsSome}
 use Rattle.net_prefix.specs.Cover.{Covers}
 use Rattle.net_prefix.specs.declared.prefix.Prefix.{Prefix}
 use Rattle.bgp_conf.specs.Configuration.{entry_at}
@@ -16,12 +16,3 @@ IsCost reach next_hop (Some cost) =
     × (entry_at reach longest ≡ Some cost)
     × Covers longest.bits longest.len next_hop 32
     × ((prefix : Prefix) → IsCovering reach next_hop prefix → prefix.len ≤ longest.len)
-
--- the cost of the entry of this length that covers the address, or none where no such entry does
-abbrev pub IsCostAt : List (Prefix × ℕ) → ℕ → ℕ → Option ℕ → Type 0
-IsCostAt reach address len None = (prefix : Prefix) → IsCovering reach address prefix → prefix.len ≢ len
-IsCostAt reach address len (Some cost) =
-    (prefix : Prefix)
-    × (entry_at reach prefix ≡ Some cost)
-    × Covers prefix.bits prefix.len address 32
-    × (prefix.len ≡ len)

@@ -2,6 +2,7 @@
 
 use bgp_attr::Mode;
 use net_prefix::{Asn, Prefix};
+use policy::Rule;
 
 /// What an operator sets for a peer.
 #[derive(Clone, Copy, Debug, PartialEq, Eq)]
@@ -33,6 +34,20 @@ pub enum Command<'a> {
     Enable(u8),
     /// Ends the session of a slot's peer, and starts none until the peer is enabled.
     Disable(u8),
+    /// Sets the rules of a policy.
+    SetPolicy(&'a str, &'a [Rule]),
+    /// Forgets a policy that no peer uses.
+    DropPolicy(&'a str),
+    /// Takes the routes of a slot's peer by this import policy from now on.
+    UseIn(u8, &'a str),
+    /// Announces routes to a slot's peer by this export policy from now on.
+    UseOut(u8, &'a str),
+    /// Originates a route to a prefix: a local network.
+    Network(Prefix),
+    /// Originates the route to a prefix no more.
+    NoNetwork(Prefix),
     /// Gives the next hops under a prefix their interior cost.
     Reach(Prefix, u32),
+    /// Takes a prefix's interior cost away.
+    NoReach(Prefix),
 }

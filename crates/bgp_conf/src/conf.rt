@@ -1,28 +1,35 @@
 //! The tables that commands fill.
-ghost use Rattle.std.specs.Prelude.{◌≡◌, ◌≤◌, ℕ, [], Some, None, IfOk, OnOk, OnErr, MatchResult, is_some};
-ghost use Rattle.std.specs.List.{list_all};
+ghost use Rattle.std.specs.Prelude.{◌≡◌, ℕ, ◌==◌, ◌≤◌, [], true, None, IfOk, OnOk, OnErr, if◌then◌else◌};
+ghost use Rattle.std.specs.Option.{option_map};
 ghost use Rattle.net_prefix.specs.declared.prefix.Prefix.{Prefix};
-ghost use Rattle.bgp_conf.specs.Configuration.{AddressesDiffer, entry_at, peer_at};
-ghost use Rattle.bgp_conf.specs.FirstRefusal.{first_refusal, has_address, is_in_range, is_known, is_name_octet, is_policy_name};
-ghost use Rattle.bgp_conf.specs.ConfAfter.{TakesMemory, conf_after, configured_of, entry_after, peer_after};
-ghost use Rattle.bgp_conf.specs.Reach.{IsCost, IsCostAt};
+ghost use Rattle.prefix_trie.specs.TrieMap.{IsRising};
+ghost use Rattle.policy.specs.PolicyNames.{is_policy_name, name_of};
+ghost use Rattle.policy.specs.PolicyRefusals.{drop_refusal};
+ghost use Rattle.policy.specs.PolicyTable.{without_policy};
+ghost use Rattle.bgp_conf.specs.Configuration.{AddressesDiffer, entry_at, is_network, peer_at, uses_policy};
+ghost use Rattle.bgp_conf.specs.FirstRefusal.{IsAccepted, first_refusal, is_in_range};
+ghost use Rattle.bgp_conf.specs.ConfAfter.{TakesMemory, conf_after, configured_of, entry_after, exporting, importing, is_network_after, peer_after, with_changed};
+ghost use Rattle.bgp_conf.specs.PeerPolicies.{export_action, exports_by, import_action};
+ghost use Rattle.bgp_conf.specs.Reach.{IsCost};
 
 use crate::command::{Command, PeerConf};
-use crate::refusal::Refusal;
-use bgp_attr::{Mode, is_host};
+use crate::cost::Cost;
+use bgp_attr::Mode;
 use net_prefix::{Asn, Prefix};
+use policy::{Action, Policies, PolicyName, SeenRoute};
+use prefix_trie::Trie;
 use std::alloc::{AllocError, Allocator, Global};
-use std::collections::BTreeMap;
+use std::collections::{BTreeMap, BTreeSet};
 use std::marker::Model;
 
 /// The slots of peers, numbered from 0.
 pub const PEER_SLOTS: u8 = 64;
 
+/// The most local networks.
+pub const MAX_NETWORKS: usize = 4096;
+
 /// The most `reach` entries.
 pub const MAX_REACH: usize = 4096;
-
-// The most octets in the name of a policy.
-const MAX_NAME: usize = 32;
 
 // The length of an address in bits.
 const ADDRESS_BITS: u8 = 32;
@@ -40,14 +47,20 @@ pub struct ConfiguredPeer {
     pub mode: Mode,
     /// The hold time to offer, in seconds.
     pub hold: u16,
+    /// The import policy.
+    pub import: PolicyName,
+    /// The export policy.
+    pub export: PolicyName,
 }
 
-/// The configured peers and `reach` entries.
+/// The configured peers, policies, local networks and `reach` entries.
 #[derive(Drop)]
 pub struct Conf<A: Allocator = Global> {
     own: Asn,
-    peers: BTreeMap<u8, ConfiguredPeer, A>,
-    reach: BTreeMap<Prefix, u32, A>,
+    pub(crate) peers: BTreeMap<u8, ConfiguredPeer, A>,
+    pub(crate) policies: Policies<A>,
+    pub(crate) networks: BTreeSet<Prefix, A>,
+    pub(crate) reach: Trie<Cost, A>,
 }
 
 impl<A: Allocator> Model for Conf<A> {
@@ -55,19 +68,29 @@ impl<A: Allocator> Model for Conf<A> {
 
     ghost Value = { Configuration };
 
-    ghost view = { λ c. record { own = c.own; peers = c.peers.entries; reach = c.reach.entries } };
+    ghost view = { λ c. record { own = c.own; peers = c.peers.entries; policies = c.policies; networks = c.networks.keys; reach = c.reach } };
+}
+
+impl<A: Allocator + Clone + Copy> Conf<A> {
+    /// No peers, policies, local networks and `reach` entries, of a speaker of this AS.
+    pub fn new(alloc: A, own: Asn) -> Result<Self, AllocError>
+        ensures { IfOk result (λ conf. conf ≡ record { own = own; peers = []; policies = []; networks = []; reach = [] }) }
+    {
+        let peers = BTreeMap::new(alloc.clone()?);
+        let policies = Policies::new(alloc);
+        let networks = BTreeSet::new(alloc.clone()?);
+        let reach = Trie::new(alloc);
+        Ok(Conf {
+            own,
+            peers,
+            policies,
+            networks,
+            reach,
+        })
+    }
 }
 
 impl<A: Allocator + Clone> Conf<A> {
-    /// No peers and no `reach` entries, of a speaker of this AS.
-    pub fn new(alloc: A, own: Asn) -> Result<Self, AllocError>
-        ensures { IfOk result (λ conf. conf ≡ record { own = own; peers = []; reach = [] }) }
-    {
-        let peers = BTreeMap::new(alloc.clone()?);
-        let reach = BTreeMap::new(alloc);
-        Ok(Conf { own, peers, reach })
-    }
-
     /// The speaker's own AS.
     pub fn own(&self) -> Asn
         ensures { result ≡ self.now.own }
@@ -82,39 +105,74 @@ impl<A: Allocator + Clone> Conf<A> {
         self.peers.get(&slot).copied()
     }
 
+    /// What the import policy of a slot's peer makes of a route. Where the slot has no peer, the route is rejected.
+    pub fn import(&self, slot: u8, route: &SeenRoute<'_, A>) -> Action
+        ensures { result ≡ import_action self.now slot route.now }
+    {
+        match self.peer(slot) {
+            Some(peer) => self.policies.import(peer.import, route),
+            None => Action::Reject,
+        }
+    }
+
+    /// What the export policy of a slot's peer makes of a route. Where the slot has no peer, the route is rejected.
+    pub fn export(&self, slot: u8, route: &SeenRoute<'_, A>) -> Action
+        ensures { result ≡ export_action self.now slot route.now }
+    {
+        match self.peer(slot) {
+            Some(peer) => self.policies.export(peer.export, route),
+            None => Action::Reject,
+        }
+    }
+
+    /// Whether the routes that a slot's peer is told go by the policy of this name.
+    pub fn exports_by(&self, slot: u8, name: &str) -> bool
+        requires { is_policy_name name.now ≡ true }
+        ensures { result ≡ exports_by self.now slot (name_of name.now) }
+    {
+        match self.peer(slot) {
+            Some(peer) => peer.export == name_of(name),
+            None => false,
+        }
+    }
+
+    /// Whether a prefix is a local network.
+    pub fn is_network(&self, prefix: Prefix) -> bool
+        ensures { result ≡ is_network self.now prefix }
+    {
+        self.networks.contains(&prefix)
+    }
+
     /// The interior cost of a next hop (RFC 4271 section 9.1.2.1): that of the longest entry that covers it.
     pub fn cost(&self, next_hop: u32) -> Option<u32>
         ensures { IsCost self.now.reach next_hop result }
     {
-        for host_bits in 0..ADDRESS_BITS + 1 {
-            if let Some(cost) = self.cost_at(next_hop, ADDRESS_BITS - host_bits) {
-                return Some(cost);
-            }
+        self.reach_rises();
+        let host = Prefix {
+            bits: next_hop,
+            len: ADDRESS_BITS,
+        };
+        match self.reach.covering(&host).last() {
+            Some((_, cost)) => Some(cost.0),
+            None => None,
         }
-        None
     }
 
-    /// The first refusal of a command, in the order 40, 43, 45, 33, 30, 31. `closing` has a bit for each slot
-    /// whose last connection is still closing.
-    pub fn check(&self, command: &Command<'_>, closing: u64) -> Result<(), Refusal>
-        ensures { MatchResult result
-            (λ _. first_refusal self.now closing command.now ≡ None)
-            (λ refusal. first_refusal self.now closing command.now ≡ Some refusal) }
+    // The entries stand in the order of prefixes.
+    fn reach_rises(&self)
+        ensures { IsRising self.now.reach }
     {
-        match command {
-            Command::AddPeer(slot, peer) => self.check_add_peer(*slot, peer, closing),
-            Command::RemovePeer(slot) | Command::Enable(slot) | Command::Disable(slot) => {
-                self.check_slot(*slot)
-            }
-            Command::Reach(prefix, _) => self.check_reach(prefix),
-        }
+        let _ = self.reach.len();
     }
 
-    /// Makes the tables after a command. Where memory is refused they stay as they were.
+    /// Makes the tables after a command that `check` doesn't refuse. Where memory is refused they stay as they were.
     pub fn apply(&mut self, command: &Command<'_>) -> Result<(), AllocError>
+        requires { IsAccepted self.old command.now }
         ensures ok { OnOk result (self.new ≡ conf_after self.old command.now) }
         ensures peers { OnOk result
             ((slot : ℕ) → peer_at self.new slot ≡ peer_after self.old command.now slot) }
+        ensures networks { OnOk result
+            ((prefix : Prefix) → is_network self.new prefix ≡ is_network_after self.old command.now prefix) }
         ensures reach { OnOk result
             ((prefix : Prefix) → entry_at self.new.reach prefix ≡ entry_after self.old command.now prefix) }
         ensures addresses { (closing : ℕ) → first_refusal self.old closing command.now ≡ None
@@ -130,97 +188,73 @@ impl<A: Allocator + Clone> Conf<A> {
                 self.peers.remove(slot);
             }
             Command::Enable(_) | Command::Disable(_) => {}
+            Command::SetPolicy(name, rules) => {
+                if self.policies.set(name, rules).is_err() {
+                    return Err(AllocError);
+                }
+            }
+            Command::DropPolicy(name) => self.drop_policy(name),
+            Command::UseIn(slot, name) => self.use_in(*slot, name_of(name)),
+            Command::UseOut(slot, name) => self.use_out(*slot, name_of(name)),
+            Command::Network(prefix) => {
+                self.networks.insert(*prefix)?;
+            }
+            Command::NoNetwork(prefix) => {
+                self.networks.remove(prefix);
+            }
             Command::Reach(prefix, cost) => {
-                self.reach.insert(*prefix, *cost)?;
+                self.reach.insert(*prefix, Cost(*cost))?;
+            }
+            Command::NoReach(prefix) => {
+                self.reach_rises();
+                self.reach.remove(prefix);
             }
         }
         Ok(())
     }
 
-    // The cost of the entry of this length that covers the address.
-    fn cost_at(&self, address: u32, len: u8) -> Option<u32>
-        requires { len ≤ 32 }
-        ensures { IsCostAt self.now.reach address len result }
+    // Forgets a policy that nothing refuses to drop.
+    #[tactic(auto, unfolding(policy::specs::PolicyRefusals::drop_refusal))]
+    fn drop_policy(&mut self, name: &str)
+        requires { drop_refusal self.old.policies name.now (uses_policy self.old (name_of name.now)) ≡ None }
+        ensures { self.new ≡ record self.old { policies = without_policy self.old.policies (name_of name.now) } }
     {
-        match Prefix::masked(address, len) {
-            Ok(prefix) => self.reach.get(&prefix).copied(),
-            Err(_) => None,
+        let in_use = self.uses_policy(name_of(name));
+        let _nothing_refuses = self.policies.drop_name(name, in_use);
+    }
+
+    // The peer of a slot, if there is one, has another import policy.
+    fn use_in(&mut self, slot: u8, import: PolicyName)
+        ensures conf { self.new ≡ record self.old { peers = with_changed self.old.peers slot (importing import) } }
+        ensures peers { (other : ℕ) → peer_at self.new other ≡ (if other == slot then option_map (importing import) (peer_at self.old slot) else peer_at self.old other) }
+    {
+        if let Some(peer) = self.peer(slot) {
+            let _takes_no_memory = self.peers.insert(slot, ConfiguredPeer { import, ..peer });
         }
     }
 
-    fn check_add_peer(&self, slot: u8, peer: &PeerConf<'_>, closing: u64) -> Result<(), Refusal>
-        ensures { MatchResult result
-            (λ _. first_refusal self.now closing (Command.AddPeer slot peer.now) ≡ None)
-            (λ refusal. first_refusal self.now closing (Command.AddPeer slot peer.now) ≡ Some refusal) }
+    // The peer of a slot, if there is one, has another export policy.
+    fn use_out(&mut self, slot: u8, export: PolicyName)
+        ensures conf { self.new ≡ record self.old { peers = with_changed self.old.peers slot (exporting export) } }
+        ensures peers { (other : ℕ) → peer_at self.new other ≡ (if other == slot then option_map (exporting export) (peer_at self.old slot) else peer_at self.old other) }
     {
-        if slot >= PEER_SLOTS {
-            return Err(Refusal::BadSlot);
+        if let Some(peer) = self.peer(slot) {
+            let _takes_no_memory = self.peers.insert(slot, ConfiguredPeer { export, ..peer });
         }
-        if self.is_configured(slot) || (closing >> slot) % 2 == 1 {
-            return Err(Refusal::SlotTaken);
-        }
-        if self.has_address(peer.address) {
-            return Err(Refusal::AddressTaken);
-        }
-        if !self.is_in_range(peer) {
-            return Err(Refusal::Range);
-        }
-        if !is_known(peer.import) || !is_known(peer.export) {
-            return Err(Refusal::UnknownName);
-        }
-        Ok(())
     }
 
-    fn check_slot(&self, slot: u8) -> Result<(), Refusal>
-        ensures { MatchResult result
-            (λ _. first_refusal self.now 0 (Command.Enable slot) ≡ None)
-            (λ refusal. first_refusal self.now 0 (Command.Enable slot) ≡ Some refusal) }
+    // Whether some peer's routes are taken or announced by the policy.
+    pub(crate) fn uses_policy(&self, name: PolicyName) -> bool
+        ensures { result ≡ uses_policy self.now name }
     {
-        if slot >= PEER_SLOTS || !self.is_configured(slot) {
-            return Err(Refusal::BadSlot);
-        }
-        Ok(())
-    }
-
-    fn check_reach(&self, prefix: &Prefix) -> Result<(), Refusal>
-        ensures { MatchResult result
-            (λ _. first_refusal self.now 0 (Command.Reach prefix.now 0) ≡ None)
-            (λ refusal. first_refusal self.now 0 (Command.Reach prefix.now 0) ≡ Some refusal) }
-    {
-        if !self.reach.contains_key(prefix) && self.reach.len() >= MAX_REACH {
-            return Err(Refusal::TooMany);
-        }
-        Ok(())
-    }
-
-    fn is_configured(&self, slot: u8) -> bool
-        ensures { result ≡ is_some (peer_at self.now slot) }
-    {
-        self.peers.contains_key(&slot)
-    }
-
-    fn has_address(&self, address: u32) -> bool
-        ensures { result ≡ has_address self.now.peers address }
-    {
-        self.peers.values().any(|peer| peer.address == address)
-    }
-
-    // Own choice: an internal peer, and an address of our own that no peer would take for a next hop, are out of range.
-    fn is_in_range(&self, peer: &PeerConf<'_>) -> bool
-        ensures { result ≡ is_in_range self.now.own peer.now }
-    {
-        peer.asn.0 != 0
-            && peer.asn.0 != self.own.0
-            && is_host(peer.local)
-            && peer.local != peer.address
-            && peer.hold != 1
-            && peer.hold != 2
-            && is_policy_name(peer.import)
-            && is_policy_name(peer.export)
+        self.peers
+            .values()
+            .any(|peer| peer.import == name || peer.export == name)
     }
 }
 
 fn configured(peer: &PeerConf<'_>) -> ConfiguredPeer
+    requires { is_in_range peer.now ≡ true }
     ensures { result ≡ configured_of peer.now }
 {
     ConfiguredPeer {
@@ -229,35 +263,18 @@ fn configured(peer: &PeerConf<'_>) -> ConfiguredPeer
         local: peer.local,
         mode: peer.mode,
         hold: peer.hold,
+        import: name_of(peer.import),
+        export: name_of(peer.export),
     }
 }
 
-// Whether a text can be the name of a policy: 1 to 32 of `a` to `z`, `0` to `9` and `-`.
-fn is_policy_name(text: &str) -> bool
-    ensures { result ≡ is_policy_name text.now }
+// The policy name that a text is, where it is one.
+pub(crate) fn name_of(text: &str) -> PolicyName
+    requires { is_policy_name text.now ≡ true }
+    ensures { result ≡ name_of text.now }
 {
-    let octets = text.as_bytes();
-    if octets.is_empty() || octets.len() > MAX_NAME {
-        return false;
+    match PolicyName::new(text) {
+        Ok(name) => name,
+        Err(_) => unreachable!(),
     }
-    are_name_octets(octets)
-}
-
-fn are_name_octets(octets: &[u8]) -> bool
-    ensures { result ≡ list_all is_name_octet octets.now }
-{
-    octets.iter().all(|octet| is_name_octet(*octet))
-}
-
-fn is_name_octet(octet: u8) -> bool
-    ensures { result ≡ is_name_octet octet }
-{
-    matches!(octet, b'a'..=b'z' | b'0'..=b'9' | b'-')
-}
-
-// Whether a policy of the name is built in: the one that accepts all routes.
-fn is_known(name: &str) -> bool
-    ensures { result ≡ is_known name.now }
-{
-    name == "all"
 }

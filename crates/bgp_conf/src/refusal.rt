@@ -1,16 +1,21 @@
 //! Why a call of the speaker is refused.
 ghost use Rattle.std.specs.Prelude.{◌≡◌};
-ghost use Rattle.bgp_conf.specs.RefusalNumbers.{number_of};
+ghost use Rattle.policy.specs.PolicyRefusals.{number_of as policy_number_of};
+ghost use Rattle.policy.specs.declared.refusal.PolicyRefusal.{PolicyRefusal as WhyPolicy};
+ghost use Rattle.bgp_conf.specs.RefusalNumbers.{number_of, refusal_of};
 
+use policy::PolicyRefusal;
 use thiserror::Error;
 
 /// Why a call is refused.
 #[derive(Clone, Copy, Debug, PartialEq, Eq, Error)]
 pub enum Refusal {
-    #[error("the policy is unknown")]
+    #[error("the policy, network or reach entry is unknown")]
     UnknownName,
     #[error("the table is full")]
     TooMany,
+    #[error("the policy is built in, or in use")]
+    InUse,
     #[error("a value is out of its range")]
     Range,
     #[error("there is no such slot")]
@@ -35,6 +40,7 @@ impl Refusal {
         match self {
             Refusal::UnknownName => 30,
             Refusal::TooMany => 31,
+            Refusal::InUse => 32,
             Refusal::Range => 33,
             Refusal::BadSlot => 40,
             Refusal::ClockBack => 41,
@@ -45,3 +51,22 @@ impl Refusal {
         }
     }
 }
+
+impl From<PolicyRefusal> for Refusal {
+    ghost from_gives = { λ why refusal. refusal ≡ refusal_of why };
+
+    fn from(why: PolicyRefusal) -> Refusal {
+        match why {
+            PolicyRefusal::UnknownName => Refusal::UnknownName,
+            PolicyRefusal::TooMany => Refusal::TooMany,
+            PolicyRefusal::InUse => Refusal::InUse,
+            PolicyRefusal::Range => Refusal::Range,
+            PolicyRefusal::NoMemory => Refusal::NoMemory,
+        }
+    }
+}
+
+/// A refusal of the policies keeps its number.
+pub fn policy_refusals_keep_their_numbers()
+    ensures { (why : WhyPolicy) → number_of (refusal_of why) ≡ policy_number_of why }
+{}

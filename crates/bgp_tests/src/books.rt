@@ -5,7 +5,7 @@ ghost use Rattle.decision.specs.BookContents.{offer_at};
 
 use bgp_attr::Origin;
 use decision::{Book, Candidate, Change, Meter, PlainBook};
-use net_prefix::Prefix;
+use net_prefix::{Asn, Prefix};
 use origin_valid::Validity;
 use refusing::Refusing;
 use std::alloc::{AllocError, Allocator};
@@ -23,6 +23,8 @@ pub fn candidate(slot: u8, degree: Option<u64>) -> Option<Candidate>
             degree,
             path_length: 1,
             origin: Origin::Igp,
+            neighbor: Asn(65001),
+            med: None,
             external: true,
             cost: 0,
             identifier: u32::from(slot),

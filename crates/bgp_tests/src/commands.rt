@@ -1,8 +1,12 @@
 //! Each public call with ample memory. Commands that are refused are in the transcripts.
 
 use bgp_attr::Mode;
-use bgp_conf::{Command, Conf, ConfiguredPeer, PeerConf, Refusal};
+use bgp_conf::{
+    Action, Command, Condition, Conf, ConfiguredPeer, MAX_NETWORKS, MAX_REACH, PeerConf,
+    PolicyName, Refusal, Rule, SeenRoute,
+};
 use net_prefix::{Asn, Prefix};
+use origin_valid::Validity;
 use std::alloc::Global;
 use std::test::Fail;
 
@@ -22,6 +26,7 @@ fn refusals_have_their_numbers(rt: HostRuntime) {
     for (refusal, number) in [
         (Refusal::UnknownName, 30),
         (Refusal::TooMany, 31),
+        (Refusal::InUse, 32),
         (Refusal::Range, 33),
         (Refusal::BadSlot, 40),
         (Refusal::ClockBack, 41),
@@ -55,6 +60,8 @@ fn a_peer_is_configured_once(rt: HostRuntime) -> Result<(), Fail> {
         local: 0xc000_0201,
         mode: Mode::Passive,
         hold: 180,
+        import: PolicyName::new("all")?,
+        export: PolicyName::new("all")?,
     };
     assert_eq!(rt; conf.peer(0), Some(peer));
     assert_eq!(rt; conf.peer(1), None);
@@ -92,11 +99,247 @@ fn a_removed_peer_leaves_its_slot_and_its_address(rt: HostRuntime) -> Result<(),
     Ok(())
 }
 
+// What any route is.
+const ANY: Condition = Condition {
+    prefix: None,
+    state: None,
+    origin: None,
+    path: None,
+    from: None,
+};
+
+// What a route is whose origin is invalid.
+const INVALID: Condition = Condition {
+    state: Some(Validity::Invalid),
+    ..ANY
+};
+
+// What accepts a route, and sets nothing.
+const ACCEPT: Action = Action::Accept {
+    degree: None,
+    med: None,
+    prepend: None,
+};
+
+// What accepts a route, and sets its degree.
+const PREFER: Action = Action::Accept {
+    degree: Some(200),
+    med: None,
+    prepend: None,
+};
+
+// Rejects the routes whose origin is invalid, and prefers the others.
+const RULES: [Rule; 2] = [
+    Rule {
+        condition: INVALID,
+        action: Action::Reject,
+    },
+    Rule {
+        condition: ANY,
+        action: PREFER,
+    },
+];
+
+// A rule that puts the own AS in front too often.
+const OUT_OF_RANGE: Rule = Rule {
+    condition: ANY,
+    action: Action::Accept {
+        degree: None,
+        med: None,
+        prepend: Some(9),
+    },
+};
+
+// More rules than a policy may have.
+fn many_rules(alloc: Global) -> Result<Vec<Rule>, Fail> {
+    Ok(vec![in alloc; RULES[0]; 257]?)
+}
+
+// Whether each command in turn is refused as its row says, or obeyed where the row says nothing.
+fn plays(conf: &mut Conf, rows: &[(Command<'_>, Option<Refusal>)]) -> Result<bool, Fail> {
+    for (command, refusal) in rows {
+        match conf.check(command, 0) {
+            Ok(()) if refusal.is_none() => conf.apply(command)?,
+            Err(why) if *refusal == Some(why) => {}
+            _ => return Ok(false),
+        }
+    }
+    Ok(true)
+}
+
+// Whether this becomes of the routes of the slots' peers, with these states of their origins.
+fn imports(conf: &Conf, rows: &[(u8, Validity, Action)]) -> bool {
+    rows.iter().all(|(slot, state, action)| imported(conf, *slot, *state) == *action)
+}
+
+fn imported(conf: &Conf, slot: u8, state: Validity) -> Action {
+    conf.import(slot, &route_of(slot, state))
+}
+
+// Whether this becomes of the routes of slot 5 that the slots' peers are to be told, with these states of their origins.
+fn exports(conf: &Conf, rows: &[(u8, Validity, Action)]) -> bool {
+    rows.iter().all(|(slot, state, action)| conf.export(*slot, &route_of(5, *state)) == *action)
+}
+
+// A route of this slot, with this state of its origin.
+fn route_of(slot: u8, state: Validity) -> SeenRoute<'static> {
+    SeenRoute {
+        prefix: Prefix {
+            bits: 0x0a00_0000,
+            len: 8,
+        },
+        state,
+        origin: Some(Asn(65001)),
+        path: None,
+        from: Some(slot),
+    }
+}
+
+#[test]
+fn a_peer_can_be_of_the_own_as(rt: HostRuntime) -> Result<(), Fail> {
+    let mut conf = Conf::new(rt.alloc(), Asn(65000))?;
+    let internal = PeerConf {
+        asn: Asn(65000),
+        ..PEER
+    };
+    obey(&mut conf, &Command::AddPeer(0, internal))?;
+    assert_eq!(rt; conf.peer(0).map(|peer| peer.asn), Some(Asn(65000)));
+    let nobody = PeerConf {
+        asn: Asn(0),
+        address: 0xc000_020c,
+        ..PEER
+    };
+    assert_eq!(rt;
+        conf.check(&Command::AddPeer(1, nobody), 0),
+        Err(Refusal::Range)
+    );
+    Ok(())
+}
+
 #[test]
 fn a_policy_has_a_name(rt: HostRuntime) -> Result<(), Fail> {
     let conf = Conf::new(rt.alloc(), Asn(65000))?;
     let command = Command::AddPeer(63, PeerConf { import: "", ..PEER });
     assert_eq!(rt; conf.check(&command, 0), Err(Refusal::Range));
+    Ok(())
+}
+
+// The command that adds a peer in slot 1, with these policies.
+fn adds<'a>(import: &'a str, export: &'a str) -> Command<'a> {
+    let peer = PeerConf {
+        address: 0xc000_020c,
+        import,
+        export,
+        ..PEER
+    };
+    Command::AddPeer(1, peer)
+}
+
+#[test]
+fn peers_have_policies_that_are_there(rt: HostRuntime) -> Result<(), Fail> {
+    let mut conf = Conf::new(rt.alloc(), Asn(65000))?;
+    let rows = [
+        (Command::SetPolicy("preferred", &RULES), None),
+        (adds("Preferred", "unknown"), Some(Refusal::Range)),
+        (adds("unknown", "Preferred"), Some(Refusal::Range)),
+        (adds("unknown", "all"), Some(Refusal::UnknownName)),
+        (adds("all", "unknown"), Some(Refusal::UnknownName)),
+        (adds("none", "preferred"), None),
+        (Command::UseIn(64, "Preferred"), Some(Refusal::BadSlot)),
+        (Command::UseOut(64, "Preferred"), Some(Refusal::BadSlot)),
+        (Command::UseIn(0, "Preferred"), Some(Refusal::BadSlot)),
+        (Command::UseOut(0, "Preferred"), Some(Refusal::BadSlot)),
+        (Command::UseIn(1, "Preferred"), Some(Refusal::Range)),
+        (Command::UseOut(1, "Preferred"), Some(Refusal::Range)),
+        (Command::UseIn(1, "unknown"), Some(Refusal::UnknownName)),
+        (Command::UseOut(1, "unknown"), Some(Refusal::UnknownName)),
+    ];
+    assert!(rt; plays(&mut conf, &rows)?);
+    Ok(())
+}
+
+#[test]
+fn what_no_policy_may_be_is_refused(rt: HostRuntime) -> Result<(), Fail> {
+    let mut conf = Conf::new(rt.alloc(), Asn(65000))?;
+    let many = many_rules(rt.alloc())?;
+    let rows = [
+        (Command::SetPolicy("Preferred", &many), Some(Refusal::Range)),
+        (
+            Command::SetPolicy("all", &[OUT_OF_RANGE]),
+            Some(Refusal::Range),
+        ),
+        (Command::SetPolicy("all", &many), Some(Refusal::TooMany)),
+        (Command::SetPolicy("all", &RULES), Some(Refusal::InUse)),
+        (Command::SetPolicy("none", &RULES), Some(Refusal::InUse)),
+    ];
+    assert!(rt; plays(&mut conf, &rows)?);
+    Ok(())
+}
+
+#[test]
+fn a_policy_that_is_used_stays(rt: HostRuntime) -> Result<(), Fail> {
+    let mut conf = Conf::new(rt.alloc(), Asn(65000))?;
+    let rows = [
+        (Command::AddPeer(0, PEER), None),
+        (Command::SetPolicy("preferred", &RULES), None),
+        (Command::DropPolicy("Preferred"), Some(Refusal::Range)),
+        (Command::DropPolicy("unknown"), Some(Refusal::UnknownName)),
+        (Command::DropPolicy("all"), Some(Refusal::InUse)),
+        (Command::DropPolicy("none"), Some(Refusal::InUse)),
+        (Command::UseIn(0, "preferred"), None),
+        (Command::DropPolicy("preferred"), Some(Refusal::InUse)),
+        (Command::UseOut(0, "preferred"), None),
+        (Command::UseIn(0, "all"), None),
+        (Command::DropPolicy("preferred"), Some(Refusal::InUse)),
+        (Command::RemovePeer(0), None),
+        (Command::DropPolicy("preferred"), None),
+        (Command::DropPolicy("preferred"), Some(Refusal::UnknownName)),
+    ];
+    assert!(rt; plays(&mut conf, &rows)?);
+    Ok(())
+}
+
+#[test]
+fn a_peer_takes_its_routes_by_another_policy(rt: HostRuntime) -> Result<(), Fail> {
+    let mut conf = Conf::new(rt.alloc(), Asn(65000))?;
+    let rows = [
+        (Command::AddPeer(0, PEER), None),
+        (Command::SetPolicy("preferred", &RULES), None),
+    ];
+    assert!(rt; plays(&mut conf, &rows)?);
+    let routes = [
+        (0, Validity::Invalid, ACCEPT),
+        (1, Validity::Valid, Action::Reject),
+    ];
+    assert!(rt; imports(&conf, &routes));
+    obey(&mut conf, &Command::UseIn(0, "preferred"))?;
+    let routes = [
+        (0, Validity::Invalid, Action::Reject),
+        (0, Validity::Valid, PREFER),
+    ];
+    assert!(rt; imports(&conf, &routes));
+    Ok(())
+}
+
+// Its own routes are taken as before.
+#[test]
+fn a_peer_is_told_routes_by_another_policy(rt: HostRuntime) -> Result<(), Fail> {
+    let mut conf = Conf::new(rt.alloc(), Asn(65000))?;
+    let rows = [
+        (Command::AddPeer(0, PEER), None),
+        (Command::SetPolicy("preferred", &RULES), None),
+        (Command::UseOut(0, "preferred"), None),
+    ];
+    assert!(rt; plays(&mut conf, &rows)?);
+    let routes = [
+        (0, Validity::Invalid, Action::Reject),
+        (0, Validity::Valid, PREFER),
+        (1, Validity::Valid, Action::Reject),
+    ];
+    assert!(rt; exports(&conf, &routes));
+    assert!(rt; imports(&conf, &[(0, Validity::Invalid, ACCEPT)]));
+    assert!(rt; conf.exports_by(0, "preferred") && !conf.exports_by(0, "all"));
+    assert!(rt; !conf.exports_by(1, "preferred"));
     Ok(())
 }
 
@@ -128,5 +371,97 @@ fn the_longest_entry_tells_the_cost(rt: HostRuntime) -> Result<(), Fail> {
     ] {
         assert_eq!(rt; conf.cost(next_hop), cost);
     }
+    Ok(())
+}
+
+#[test]
+fn an_entry_that_goes_tells_no_cost(rt: HostRuntime) -> Result<(), Fail> {
+    let mut conf = conf_with(rt.alloc(), &ENTRIES)?;
+    let longer = Prefix::new(0x0a01_0000, 16)?;
+    obey(&mut conf, &Command::NoReach(longer))?;
+    assert_eq!(rt; conf.cost(0x0a01_0204), Some(5));
+    assert_eq!(rt; conf.cost(0x0a01_0203), Some(1));
+    assert_eq!(rt;
+        conf.check(&Command::NoReach(longer), 0),
+        Err(Refusal::UnknownName)
+    );
+    obey(&mut conf, &Command::Reach(longer, 6))?;
+    assert_eq!(rt; conf.cost(0x0a01_0204), Some(6));
+    Ok(())
+}
+
+#[test]
+fn a_network_comes_and_goes(rt: HostRuntime) -> Result<(), Fail> {
+    let mut conf = Conf::new(rt.alloc(), Asn(65000))?;
+    let network = Prefix::new(0xc633_6400, 24)?;
+    let goes = Command::NoNetwork(network);
+    assert!(rt; !conf.is_network(network));
+    assert_eq!(rt; conf.check(&goes, 0), Err(Refusal::UnknownName));
+    obey(&mut conf, &Command::Network(network))?;
+    assert!(rt; conf.is_network(network));
+    assert!(rt; !conf.is_network(Prefix::new(0xc633_6400, 25)?));
+    assert!(rt; !conf.is_network(Prefix::new(0xc633_6400, 23)?));
+    // A second time changes nothing.
+    obey(&mut conf, &Command::Network(network))?;
+    assert!(rt; conf.is_network(network));
+    obey(&mut conf, &goes)?;
+    assert!(rt; !conf.is_network(network));
+    assert_eq!(rt; conf.check(&goes, 0), Err(Refusal::UnknownName));
+    Ok(())
+}
+
+// 10.0.0.0/24, 10.0.1.0/24 and so on: as many as this.
+fn prefixes(alloc: Global, count: usize) -> Result<Vec<Prefix>, Fail> {
+    let mut prefixes = Vec::new(alloc);
+    for bits in (0x0a00_0000..0x0b00_0000u32).step_by(256).take(count) {
+        prefixes.push(Prefix::new(bits, 24)?)?;
+    }
+    Ok(prefixes)
+}
+
+#[test]
+fn there_are_4096_networks_at_most(rt: HostRuntime) -> Result<(), Fail> {
+    let mut conf = Conf::new(rt.alloc(), Asn(65000))?;
+    let one_more = Prefix::new(0xc633_6400, 24)?;
+    let all = prefixes(rt.alloc(), MAX_NETWORKS)?;
+    assert_eq!(rt; all.len(), 4_096);
+    for prefix in all.as_slice() {
+        obey(&mut conf, &Command::Network(*prefix))?;
+    }
+    assert_eq!(rt;
+        conf.check(&Command::Network(one_more), 0),
+        Err(Refusal::TooMany)
+    );
+    // One that is there is taken, and one that goes leaves its place.
+    obey(&mut conf, &Command::Network(all[0]))?;
+    obey(&mut conf, &Command::NoNetwork(all[4_095]))?;
+    obey(&mut conf, &Command::Network(one_more))?;
+    assert_eq!(rt;
+        conf.check(&Command::Network(all[4_095]), 0),
+        Err(Refusal::TooMany)
+    );
+    Ok(())
+}
+
+#[test]
+fn there_are_4096_entries_at_most(rt: HostRuntime) -> Result<(), Fail> {
+    let mut conf = Conf::new(rt.alloc(), Asn(65000))?;
+    let one_more = Prefix::new(0xc633_6400, 24)?;
+    let all = prefixes(rt.alloc(), MAX_REACH)?;
+    assert_eq!(rt; all.len(), 4_096);
+    for prefix in all.as_slice() {
+        obey(&mut conf, &Command::Reach(*prefix, 10))?;
+    }
+    assert_eq!(rt;
+        conf.check(&Command::Reach(one_more, 10), 0),
+        Err(Refusal::TooMany)
+    );
+    obey(&mut conf, &Command::Reach(all[0], 11))?;
+    obey(&mut conf, &Command::NoReach(all[4_095]))?;
+    obey(&mut conf, &Command::Reach(one_more, 10))?;
+    assert_eq!(rt;
+        conf.check(&Command::Reach(all[4_095], 10), 0),
+        Err(Refusal::TooMany)
+    );
     Ok(())
 }

@@ -6,6 +6,8 @@ use decision::Candidate;
 use export_rules::{ExportPeer, export_of};
 use net_prefix::Asn;
 use origin_valid::Validity;
+use policy::Action;
+use std::alloc::Global;
 use std::test::Fail;
 
 #[rattlefmt::skip]
@@ -20,6 +22,23 @@ const SENT: [u8; 24] = [
     0x40, 0x01, 0x01, 0x00,
     0x40, 0x02, 0x0a, 0x02, 0x02, 0x00, 0x00, 0xfd, 0xe8, 0x00, 0x00, 0xfd, 0xe9,
     0x40, 0x03, 0x04, 192, 0, 2, 1,
+];
+
+#[rattlefmt::skip]
+const ORIGINATED: [u8; 20] = [
+    0x40, 0x01, 0x01, 0x00,
+    0x40, 0x02, 0x06, 0x02, 0x01, 0x00, 0x00, 0xfd, 0xe8,
+    0x40, 0x03, 0x04, 192, 0, 2, 1,
+];
+
+// The own AS three times, and MULTI_EXIT_DISC 5.
+#[rattlefmt::skip]
+const SENT_TWICE_MORE: [u8; 39] = [
+    0x40, 0x01, 0x01, 0x00,
+    0x40, 0x02, 0x12, 0x02, 0x04,
+    0x00, 0x00, 0xfd, 0xe8, 0x00, 0x00, 0xfd, 0xe8, 0x00, 0x00, 0xfd, 0xe8, 0x00, 0x00, 0xfd, 0xe9,
+    0x40, 0x03, 0x04, 192, 0, 2, 1,
+    0x80, 0x04, 0x04, 0x00, 0x00, 0x00, 0x05,
 ];
 
 // MULTI_EXIT_DISC, LOCAL_PREF, ATOMIC_AGGREGATE, AGGREGATOR with the partial bit, an unknown attribute.
@@ -45,6 +64,8 @@ const ROUTE: Candidate = Candidate {
     degree: 100,
     path_length: 1,
     origin: Origin::Igp,
+    neighbor: Asn(65001),
+    med: None,
     external: true,
     cost: 10,
     identifier: 1,
@@ -55,12 +76,29 @@ const ROUTE: Candidate = Candidate {
 const PEER: ExportPeer = ExportPeer {
     slot: 1,
     own: Asn(65000),
+    asn: Asn(65002),
     local: 0xc000_0201,
 };
 
+// What accepts the route, and sets nothing.
+const ACCEPT: Action = Action::Accept {
+    degree: None,
+    med: None,
+    prepend: None,
+};
+
+// What accepts the route and sets its MULTI_EXIT_DISC, and how often more the own AS is put in front of its path.
+fn setting(med: u32, more: u8) -> Action {
+    Action::Accept {
+        degree: Some(7),
+        med: Some(med),
+        prepend: Some(more),
+    }
+}
+
 fn is_sent(attrs: &Attrs, peer: &ExportPeer) -> bool {
     let mut out = ArrayVec::new();
-    export_of(&ROUTE, attrs, peer, &mut out) && out.as_slice() == &SENT[..]
+    export_of(&ROUTE, attrs, peer, ACCEPT, &mut out) && out.as_slice() == &SENT[..]
 }
 
 #[test]
@@ -74,10 +112,48 @@ fn sends_on_with_own_as_and_address(rt: HostRuntime) {
     }
 }
 
-// Whether the route of these attributes is sent on, with so many octets, and with these behind the first ones.
-fn is_sent_with(attrs: &Attrs, octets: usize, behind: &[u8]) -> bool {
+#[test]
+fn sends_nothing_to_an_internal_peer(rt: HostRuntime) -> Result<(), Fail> {
+    let attrs = read_attrs(&rt.alloc(), &RECEIVED, PeerKind::External(Asn(65001)))?;
+    let internal = ExportPeer {
+        asn: Asn(65000),
+        ..PEER
+    };
     let mut out = ArrayVec::new();
-    export_of(&ROUTE, attrs, &PEER, &mut out)
+    assert!(rt; export_of(&ROUTE, &attrs, &PEER, ACCEPT, &mut out));
+    assert!(rt; !export_of(&ROUTE, &attrs, &internal, ACCEPT, &mut out) && out.is_empty());
+    let network = Candidate { slot: 64, ..ROUTE };
+    assert!(rt; !export_of(&network, &attrs, &internal, ACCEPT, &mut out) && out.is_empty());
+    Ok(())
+}
+
+// What this speaker originates has an empty path, and no next hop of its own.
+#[test]
+fn sends_a_local_network_with_its_own_as_alone(rt: HostRuntime) {
+    let network = Candidate {
+        slot: 64,
+        path_length: 0,
+        neighbor: Asn(65000),
+        external: false,
+        ..ROUTE
+    };
+    let mut out = ArrayVec::new();
+    assert!(rt;
+        export_of(
+            &network,
+            &Attrs::originated(rt.alloc()),
+            &PEER,
+            ACCEPT,
+            &mut out
+        )
+    );
+    assert!(rt; out.as_slice() == &ORIGINATED[..]);
+}
+
+// Whether the route of these attributes is sent on by this action, with so many octets, and with these behind `SENT`.
+fn is_sent_with(attrs: &Attrs, action: Action, octets: usize, behind: &[u8]) -> bool {
+    let mut out = ArrayVec::new();
+    export_of(&ROUTE, attrs, &PEER, action, &mut out)
         && out.len() == octets
         && out.as_slice().starts_with(&SENT)
         && out[SENT.len()..].starts_with(behind)
@@ -88,15 +164,24 @@ fn sends_on_what_is_not_its_own(rt: HostRuntime) -> Result<(), Fail> {
     let mut octets = Vec::from_slice(rt.alloc(), &RECEIVED)?;
     octets.extend_from_slice(&FURTHER)?;
     let attrs = read_attrs(&rt.alloc(), octets.as_slice(), PeerKind::Internal)?;
-    assert!(rt; is_sent_with(&attrs, 42, &FURTHER_SENT));
+    assert!(rt; is_sent_with(&attrs, ACCEPT, 42, &FURTHER_SENT));
+    // What a rule sets stands in the place of the MULTI_EXIT_DISC that came.
+    assert!(rt;
+        is_sent_with(
+            &attrs,
+            setting(0, 0),
+            49,
+            &[0x80, 4, 4, 0, 0, 0, 0, 0x40, 6, 0]
+        )
+    );
     Ok(())
 }
 
 #[test]
 fn sends_on_what_a_message_holds(rt: HostRuntime) -> Result<(), Fail> {
-    assert!(rt; is_sent_with(&long(&rt, 0xC8)?, 4_068, &[0xF0, 0x63, 0x0F, 0xC8]));
+    assert!(rt; is_sent_with(&long(&rt, 0xC8)?, ACCEPT, 4_068, &[0xF0, 0x63, 0x0F, 0xC8]));
     let mut out = ArrayVec::new();
-    assert!(rt; !export_of(&ROUTE, &long(&rt, 0xC9)?, &PEER, &mut out) && out.is_empty());
+    assert!(rt; !export_of(&ROUTE, &long(&rt, 0xC9)?, &PEER, ACCEPT, &mut out) && out.is_empty());
     Ok(())
 }
 
@@ -111,4 +196,57 @@ fn long(rt: &HostRuntime, more: u8) -> Result<Attrs, Fail> {
         PeerKind::External(Asn(65001)),
     )?;
     Ok(attrs)
+}
+
+#[test]
+fn sends_on_what_a_rule_sets(rt: HostRuntime) -> Result<(), Fail> {
+    let attrs = read_attrs(&rt.alloc(), &RECEIVED, PeerKind::External(Asn(65001)))?;
+    let greatest = setting(u32::MAX, 0);
+    assert!(rt; is_sent_with(&attrs, greatest, 31, &[0x80, 4, 4, 0xff, 0xff, 0xff, 0xff]));
+    let mut out = ArrayVec::new();
+    assert!(rt; export_of(&ROUTE, &attrs, &PEER, setting(5, 2), &mut out));
+    assert!(rt; out.as_slice() == &SENT_TWICE_MORE[..]);
+    assert!(rt; !export_of(&ROUTE, &attrs, &PEER, Action::Reject, &mut out) && out.is_empty());
+    Ok(())
+}
+
+// An AS so many times.
+fn push_ases(octets: &mut Vec<u8>, asn: u32, times: usize) -> Result<(), Fail> {
+    for _ in 0..times {
+        octets.extend_from_slice(&asn.to_be_bytes())?;
+    }
+    Ok(())
+}
+
+// The attributes of a route whose path is one AS_SEQUENCE, AS 65001 253 times.
+fn of_253_ases(alloc: Global) -> Result<Vec<u8>, Fail> {
+    let mut octets = vec![in alloc; 0x40, 1, 1, 0, 0x50, 2, 0x03, 0xF6, 2, 0xFD]?;
+    push_ases(&mut octets, 65001, 253)?;
+    octets.extend_from_slice(&[0x40, 3, 4, 192, 0, 2, 11])?;
+    Ok(octets)
+}
+
+// The same with AS 65000 nine times in front: two of them fill the segment, and seven are one of their own.
+fn of_262_ases(alloc: Global) -> Result<Vec<u8>, Fail> {
+    let mut octets = vec![in alloc; 0x40, 1, 1, 0, 0x50, 2, 0x04, 0x1C, 2, 7]?;
+    push_ases(&mut octets, 65000, 7)?;
+    octets.extend_from_slice(&[2, 0xFF])?;
+    push_ases(&mut octets, 65000, 2)?;
+    push_ases(&mut octets, 65001, 253)?;
+    octets.extend_from_slice(&[0x40, 3, 4, 192, 0, 2, 1, 0x80, 4, 4, 0, 0, 0, 5])?;
+    Ok(octets)
+}
+
+#[test]
+fn fills_a_segment_and_begins_another(rt: HostRuntime) -> Result<(), Fail> {
+    let received = of_253_ases(rt.alloc())?;
+    let attrs = read_attrs(
+        &rt.alloc(),
+        received.as_slice(),
+        PeerKind::External(Asn(65001)),
+    )?;
+    let mut out = ArrayVec::new();
+    assert!(rt; export_of(&ROUTE, &attrs, &PEER, setting(5, 8), &mut out));
+    assert!(rt; out.as_slice() == of_262_ases(rt.alloc())?.as_slice());
+    Ok(())
 }

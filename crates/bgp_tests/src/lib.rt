@@ -17,6 +17,8 @@ mod export;
 #[cfg(test)]
 mod messages;
 #[cfg(test)]
+mod policies;
+#[cfg(test)]
 mod routes;
 #[cfg(test)]
 mod selection;

@@ -2,6 +2,7 @@
 
 use bgp_attr::Origin;
 use decision::{Candidate, Meter, choose};
+use net_prefix::Asn;
 use origin_valid::Validity;
 
 const ORDINARY: Candidate = Candidate {
@@ -9,6 +10,8 @@ const ORDINARY: Candidate = Candidate {
     degree: 100,
     path_length: 2,
     origin: Origin::Egp,
+    neighbor: Asn(65001),
+    med: Some(5),
     external: false,
     cost: 10,
     identifier: 20,
@@ -22,6 +25,8 @@ const WORST: Candidate = Candidate {
     degree: 100,
     path_length: 9,
     origin: Origin::Incomplete,
+    neighbor: Asn(65001),
+    med: Some(9),
     external: false,
     cost: 90,
     identifier: 90,
@@ -57,18 +62,27 @@ fn each_step_decides(rt: HostRuntime) {
         Candidate {
             path_length: 2,
             origin: Origin::Egp,
+            med: Some(4),
+            ..WORST
+        },
+        Candidate {
+            path_length: 2,
+            origin: Origin::Egp,
+            med: Some(5),
             external: true,
             ..WORST
         },
         Candidate {
             path_length: 2,
             origin: Origin::Egp,
+            med: Some(5),
             cost: 9,
             ..WORST
         },
         Candidate {
             path_length: 2,
             origin: Origin::Egp,
+            med: Some(5),
             cost: 10,
             identifier: 19,
             ..WORST
@@ -76,6 +90,7 @@ fn each_step_decides(rt: HostRuntime) {
         Candidate {
             path_length: 2,
             origin: Origin::Egp,
+            med: Some(5),
             cost: 10,
             identifier: 20,
             address: 29,
@@ -87,6 +102,88 @@ fn each_step_decides(rt: HostRuntime) {
         assert_eq!(rt; slot_of_best(ORDINARY, candidate), Some(2));
     }
     assert_eq!(rt; slot_of_best(WORST, ORDINARY), Some(1));
+}
+
+// The slot of the best one of three.
+fn slot_of_best_of_three(first: Candidate, second: Candidate, third: Candidate) -> Option<u8> {
+    if first.address == second.address
+        || first.address == third.address
+        || second.address == third.address
+    {
+        return None;
+    }
+    let best = choose(&mut Meter::new(), &[first, second, third])?;
+    Some(best.slot)
+}
+
+#[test]
+fn med_is_compared_within_a_neighbor_as(rt: HostRuntime) {
+    let first = Candidate {
+        slot: 1,
+        med: Some(10),
+        identifier: 1,
+        address: 1,
+        ..ORDINARY
+    };
+    let second = Candidate {
+        slot: 2,
+        med: Some(5),
+        identifier: 3,
+        address: 3,
+        ..ORDINARY
+    };
+    let third = Candidate {
+        slot: 3,
+        neighbor: Asn(65002),
+        med: None,
+        identifier: 2,
+        address: 2,
+        ..ORDINARY
+    };
+    assert_eq!(rt; slot_of_best(first, second), Some(2));
+    assert_eq!(rt; slot_of_best(second, third), Some(3));
+    assert_eq!(rt; slot_of_best(third, first), Some(1));
+    assert_eq!(rt; slot_of_best_of_three(first, second, third), Some(3));
+    assert_eq!(rt; slot_of_best_of_three(third, first, second), Some(3));
+    assert_eq!(rt; slot_of_best_of_three(second, third, first), Some(3));
+}
+
+#[test]
+fn a_missing_med_counts_as_0(rt: HostRuntime) {
+    let without = Candidate {
+        slot: 2,
+        med: None,
+        address: 31,
+        ..ORDINARY
+    };
+    assert_eq!(rt; slot_of_best(without, ORDINARY), Some(2));
+    assert_eq!(rt; slot_of_best(ORDINARY, without), Some(2));
+
+    let zero = Candidate {
+        med: Some(0),
+        ..ORDINARY
+    };
+    assert_eq!(rt; slot_of_best(without, zero), Some(1));
+}
+
+#[test]
+fn med_comes_behind_origin_and_before_external_peers(rt: HostRuntime) {
+    let lower_med = Candidate {
+        slot: 2,
+        med: Some(4),
+        address: 31,
+        ..ORDINARY
+    };
+    let lower_origin = Candidate {
+        origin: Origin::Igp,
+        ..ORDINARY
+    };
+    let external = Candidate {
+        external: true,
+        ..ORDINARY
+    };
+    assert_eq!(rt; slot_of_best(lower_med, lower_origin), Some(1));
+    assert_eq!(rt; slot_of_best(lower_med, external), Some(2));
 }
 
 #[test]

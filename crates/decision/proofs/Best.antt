@@ -1,6 +1,7 @@
 -- What a step keeps is what no member beats.
-use Rattle.std.proofs.Common.{◌≡◌, ℕ, Bool, true, false, not, ◌||◌, ◌&&◌, if◌then◌else◌, nat_lt, nat_le, min, max, List, [], ◌∷◌, ◌++◌, fold, filter, Some, None, slice_get, unwrap_or, refl, sym, ◌∙◌, ap, arith}
+use Rattle.std.proofs.Common.{◌≡◌, ℕ, Bool, true, false, not, ◌||◌, ◌&&◌, if◌then◌else◌, nat_lt, nat_le, min, max, List, [], ◌∷◌, ◌++◌, fold, filter, Option, Some, None, slice_get, unwrap_or, refl, sym, ◌∙◌, ap, arith}
 use Rattle.std.specs.List.{list_all, list_any}
+use Rattle.arrayvec.specs.ArrayVec.{ArrayVec}
 use Rattle.std.proofs.lemmas.List.Folds.{list_all-append}
 use Rattle.std.proofs.lemmas.List.Elements.{filter_agree}
 use Rattle.std.proofs.lemmas.Bool.Decides.{nat_tests}
@@ -9,8 +10,8 @@ use Rattle.std.proofs.Math.Path.{fun_ext}
 use Rattle.decision.specs.declared.selection.Bound.{Bound}
 use Rattle.decision.specs.declared.selection.Step.{Step}
 use Rattle.decision.specs.declared.selection.Step.TheVariants.{FewestAses, LowestOrigin, ExternalFirst, LowestCost, LowestIdentifier, LowestAddress}
-use Rattle.decision.specs.Selection.{unbeaten, has_greater_degree}
-use Rattle.decision.specs.Steps.{beats, key_of, greatest_of, is_within, lower, lowest_of}
+use Rattle.decision.specs.Selection.{unbeaten, has_greater_degree, has_lower_med}
+use Rattle.decision.specs.Steps.{beats, key_of, greatest_of, has_rival, is_bounded_by, is_within, lower, lowest_of, passes_med}
 
 or_turn : (a b c : Bool) → ((a || b) || c) ≡ (b || (a || c))
 or_turn true true c = refl
@@ -63,7 +64,7 @@ unfolding unbeaten
 lowest_unbeaten key c cs = filter_agree _ _ (λ x. le_not_lt (key x) (fold (λ lowest d. min (key d) lowest) (key c) cs) ∙ ap not (sym (or_comm (nat_lt (key c) (key x)) (list_any (λ d. nat_lt (key d) (key x)) cs) ∙ any_below key (key x) (key c) cs))) (c ∷ cs)
 
 -- the candidates of the greatest degree are those that none has a greater one than
-pub greatest_unbeaten : (cs : List Candidate) → filter (λ x. nat_le (greatest_of cs) x.degree) cs ≡ unbeaten has_greater_degree cs
+greatest_unbeaten : (cs : List Candidate) → filter (λ x. nat_le (greatest_of cs) x.degree) cs ≡ unbeaten has_greater_degree cs
 unfolding unbeaten
 greatest_unbeaten cs = filter_agree _ _ (λ x. le_not_lt (greatest_of cs) x.degree ∙ ap not (sym (or_false (list_any (λ d. nat_lt x.degree d.degree) cs) ∙ ap (λ b. list_any (λ d. nat_lt x.degree d.degree) cs || b) (sym (none_below_zero x.degree)) ∙ any_above x.degree 0 cs))) cs
 
@@ -131,12 +132,65 @@ filter_twice p q (c ∷ cs) =
     ap (λ (rest : List Candidate). if q c && p c then c ∷ rest else rest) (filter_twice p q cs)
     ∙ kept_by (p c) (q c) c q (filter p cs) refl
 
-pub left_more : (degree : ℕ) (bounds : List Bound) (step : Step) (most : ℕ) (cs : List Candidate)
-    → filter (is_within degree (bounds ++ record { step = step; most = most } ∷ [])) cs
-    ≡ filter (λ c. nat_le (key_of step c) most) (filter (is_within degree bounds) cs)
-left_more degree bounds step most cs =
-    filter_agree _ _ (λ c. within_more degree bounds step most c) cs
-    ∙ filter_twice (is_within degree bounds) (λ c. nat_le (key_of step c) most) cs
+and_assoc : (a b c : Bool) → ((a && b) && c) ≡ (a && (b && c))
+and_assoc true b c = refl
+and_assoc false b c = refl
+
+pub left_more : (cs : List Candidate) (degree : ℕ) (bounds : List Bound) (tied : Option (ArrayVec Bound)) (step : Step) (most : ℕ)
+    → filter (λ c. is_within degree (bounds ++ record { step = step; most = most } ∷ []) c && passes_med cs degree tied c) cs
+    ≡ filter (λ c. nat_le (key_of step c) most) (filter (λ c. is_within degree bounds c && passes_med cs degree tied c) cs)
+left_more cs degree bounds tied step most =
+    filter_agree _ _ (λ c. ap (λ b. b && passes_med cs degree tied c) (within_more degree bounds step most c)
+    ∙ and_assoc (nat_le (key_of step c) most) (is_within degree bounds c) (passes_med cs degree tied c)) cs
+    ∙ filter_twice (λ c. is_within degree bounds c && passes_med cs degree tied c) (λ c. nat_le (key_of step c) most) cs
+
+-- a test that finds one of those that pass another finds one that passes both
+any_head : (q : Candidate → Bool) (c : Candidate) (rest : List Candidate) (a b : Bool) → q c ≡ a → ((a && b) || list_any q rest) ≡ list_any q (if b then c ∷ rest else rest)
+any_head q c rest true true e = ap (λ x. x || list_any q rest) (sym e)
+any_head q c rest true false e = refl
+any_head q c rest false true e = ap (λ x. x || list_any q rest) (sym e)
+any_head q c rest false false e = refl
+
+any_filter : (q p : Candidate → Bool) (cs : List Candidate) → list_any (λ d. q d && p d) cs ≡ list_any q (filter p cs)
+any_filter q p [] = refl
+any_filter q p (c ∷ cs) =
+    ap (λ b. (q c && p c) || b) (any_filter q p cs)
+    ∙ any_head q c (filter p cs) (q c) (p c) refl
+
+med_regroup : (a n r : Bool) → (n && ((a && n) && not r)) ≡ (not r && (a && n))
+med_regroup true true true = refl
+med_regroup true true false = refl
+med_regroup true false true = refl
+med_regroup true false false = refl
+med_regroup false true true = refl
+med_regroup false true false = refl
+med_regroup false false true = refl
+med_regroup false false false = refl
+
+and_true : (a : Bool) → a ≡ (a && true)
+and_true true = refl
+and_true false = refl
+
+-- those within the bounds that none within them has a lower MED than
+within_unbeaten : (degree : ℕ) (bounds : List Bound) (cs : List Candidate)
+    → filter (λ c. is_within degree [] c && (is_within degree bounds c && not (has_rival cs degree bounds c))) cs
+    ≡ unbeaten has_lower_med (filter (is_within degree bounds) cs)
+unfolding unbeaten
+within_unbeaten degree bounds cs =
+    filter_agree _ _ (λ c. med_regroup (is_bounded_by bounds c) (nat_le degree c.degree) (has_rival cs degree bounds c)
+    ∙ ap (λ b. not b && is_within degree bounds c) (any_filter (λ d. has_lower_med d c) (is_within degree bounds) cs)) cs
+    ∙ filter_twice (is_within degree bounds) (λ c. not (list_any (λ d. has_lower_med d c) (filter (is_within degree bounds) cs))) cs
+
+-- those of the greatest degree, where no step has been taken
+pub preferred_left : (cs : List Candidate) → filter (λ c. nat_le (greatest_of cs) c.degree && true) cs ≡ unbeaten has_greater_degree cs
+preferred_left cs = filter_agree _ _ (λ c. sym (and_true (nat_le (greatest_of cs) c.degree))) cs ∙ greatest_unbeaten cs
+
+pub med_keeps : (degree : ℕ) (bounds : List Bound) (cs : List Candidate)
+    → filter (λ c. is_within degree [] c && (is_within degree bounds c && not (has_rival cs degree bounds c))) cs
+    ≡ unbeaten has_lower_med (filter (λ c. is_within degree bounds c && true) cs)
+med_keeps degree bounds cs =
+    within_unbeaten degree bounds cs
+    ∙ ap (unbeaten has_lower_med) (filter_agree _ _ (λ c. and_true (is_within degree bounds c)) cs)
 
 -- the first of candidates, as a fold finds it
 first_kept : (c : Candidate) (cs : List Candidate) → fold (λ first d. Some (unwrap_or first d)) (Some c) cs ≡ Some c

@@ -3,7 +3,7 @@ use Rattle.std.proofs.Common.{◌≡◌, ℕ, zero, suc, ◌<◌, ◌≤◌, Boo
 use Rattle.std.specs.List.{list_any}
 use Rattle.std.proofs.lemmas.Bool.Decides.{nat_tests}
 use Rattle.decision.specs.declared.candidate.Candidate.{Candidate}
-use Rattle.decision.specs.Selection.{unbeaten, has_greater_degree, has_fewer_ases, has_lower_origin, is_external_alone, has_lower_cost, has_lower_identifier, has_lower_address, selection, IsSelected}
+use Rattle.decision.specs.Selection.{unbeaten, has_greater_degree, has_fewer_ases, has_lower_origin, has_lower_med, is_external_alone, has_lower_cost, has_lower_identifier, has_lower_address, selection, IsSelected}
 use Rattle.decision.proofs.One.{Among, among_unbeaten, among_selection, before_address}
 
 -- what stands at a place is a member
@@ -48,9 +48,10 @@ not_lt_le a b e = grind (arith, nat_tests)
 among_fewest : (cs : List Candidate) (x : Candidate) → Among x (before_address cs) → Among x (unbeaten has_fewer_ases (unbeaten has_greater_degree cs))
 among_fewest cs x at =
     (among_unbeaten has_lower_origin _ x
+    (among_unbeaten has_lower_med _ x
     (among_unbeaten is_external_alone _ x
     (among_unbeaten has_lower_cost _ x
-    (among_unbeaten has_lower_identifier _ x at).0).0).0).0
+    (among_unbeaten has_lower_identifier _ x at).0).0).0).0).0
 
 pub among_one : (cs : List Candidate) (x : Candidate) → IsSelected cs x → Among x (selection cs)
 among_one cs x is = subst (Among x) (sym is) (inl refl)

@@ -1,12 +1,12 @@
 -- Of distinct candidates the selection leaves one.
-use Rattle.std.proofs.Common.{◌≡◌, ◌≢◌, ℕ, ◌<◌, ◌≤◌, Bool, true, false, not, cond, ◌||◌, ◌⊎◌, inl, inr, nat_lt, List, [], ◌∷◌, filter, Option, MatchOption, slice_get, length, refl, sym, ◌∙◌, ap, subst, arith}
+use Rattle.std.proofs.Common.{◌≡◌, ◌≢◌, ℕ, ◌<◌, ◌≤◌, Bool, true, false, not, cond, ◌||◌, ◌&&◌, ◌==◌, ◌⊎◌, inl, inr, nat_lt, List, [], ◌∷◌, filter, Option, MatchOption, slice_get, length, refl, sym, ◌∙◌, ap, subst, arith}
 use Rattle.std.specs.List.{list_any}
 use Rattle.std.proofs.lemmas.Bool.Decides.{nat_tests}
 use Rattle.std.proofs.lemmas.List.Kept.{AllPairs-filter}
 use Rattle.decision.specs.declared.candidate.Candidate.{Candidate}
 use Rattle.decision.specs.declared.selection.Step.{Step}
 use Rattle.decision.specs.declared.selection.Step.TheVariants.{FewestAses, LowestOrigin, ExternalFirst, LowestCost, LowestIdentifier, LowestAddress}
-use Rattle.decision.specs.Selection.{unbeaten, has_greater_degree, has_fewer_ases, has_lower_origin, is_external_alone, has_lower_cost, has_lower_identifier, has_lower_address, selection, IsSelected, AreDistinct, DifferInRank}
+use Rattle.decision.specs.Selection.{unbeaten, has_greater_degree, has_fewer_ases, has_lower_origin, med_of, has_lower_med, is_external_alone, has_lower_cost, has_lower_identifier, has_lower_address, selection, IsSelected, AreDistinct, DifferInRank}
 use Rattle.decision.specs.Steps.{beats, key_of}
 use Rattle.decision.proofs.Best.{beats-key}
 
@@ -65,6 +65,30 @@ strict_greater = record { irreflexive = λ c. not_below c.degree; transitive = �
 strict_step : (step : Step) → IsStrict (beats step)
 strict_step step = subst IsStrict (beats-key step) (strict_lower (key_of step))
 
+both_hold : (a b : Bool) → (a && b) ≡ true → (a ≡ true) × (b ≡ true)
+both_hold true b e = (refl, e)
+both_hold false b e = cc
+
+both_true : (a b : Bool) → a ≡ true → b ≡ true → (a && b) ≡ true
+both_true true b e f = f
+both_true false b e f = cc
+
+same_same : (a b c : ℕ) → (a == b) ≡ true → (b == c) ≡ true → (a == c) ≡ true
+same_same a b c e f = grind (arith, nat_tests)
+
+and_false : (a b : Bool) → b ≡ false → (a && b) ≡ false
+and_false true b e = e
+and_false false b e = refl
+
+strict_med : IsStrict has_lower_med
+strict_med = record {
+  irreflexive = λ c. and_false (c.neighbor.0 == c.neighbor.0) (nat_lt (med_of c) (med_of c)) (not_below (med_of c));
+  transitive = λ a b c e f.
+      let one = both_hold (a.neighbor.0 == b.neighbor.0) (nat_lt (med_of a) (med_of b)) e in
+      let other = both_hold (b.neighbor.0 == c.neighbor.0) (nat_lt (med_of b) (med_of c)) f in
+      both_true (a.neighbor.0 == c.neighbor.0) (nat_lt (med_of a) (med_of c)) (same_same a.neighbor.0 b.neighbor.0 c.neighbor.0 one.0 other.0) (below_below (med_of a) (med_of b) (med_of c) one.1 other.1);
+}
+
 beats_none : (beats : Candidate → Candidate → Bool) → IsStrict beats → (c x : Candidate) → beats c x ≡ true → (y : Candidate) (b : Bool) → beats y c ≡ b → beats y x ≡ false → b ≡ false
 beats_none beats s c x e y false is free = refl
 beats_none beats s c x e y true is free = let beaten : beats y x ≡ true = s.transitive y c x is e in cc
@@ -120,7 +144,7 @@ distinct_unbeaten beats cs distinct = AllPairs-filter DifferInRank (λ c. not (l
 
 -- what all steps but the last leave
 abbrev pub before_address : List Candidate → List Candidate
-before_address cs = unbeaten has_lower_identifier (unbeaten has_lower_cost (unbeaten is_external_alone (unbeaten has_lower_origin (unbeaten has_fewer_ases (unbeaten has_greater_degree cs)))))
+before_address cs = unbeaten has_lower_identifier (unbeaten has_lower_cost (unbeaten is_external_alone (unbeaten has_lower_med (unbeaten has_lower_origin (unbeaten has_fewer_ases (unbeaten has_greater_degree cs))))))
 
 selection_some : (cs : List Candidate) → cs ≢ [] → selection cs ≢ []
 selection_some cs some =
@@ -128,9 +152,10 @@ selection_some cs some =
     (some_unbeaten has_lower_identifier (strict_step LowestIdentifier) _
     (some_unbeaten has_lower_cost (strict_step LowestCost) _
     (some_unbeaten is_external_alone (strict_step ExternalFirst) _
+    (some_unbeaten has_lower_med strict_med _
     (some_unbeaten has_lower_origin (strict_step LowestOrigin) _
     (some_unbeaten has_fewer_ases (strict_step FewestAses) _
-    (some_unbeaten has_greater_degree strict_greater cs some))))))
+    (some_unbeaten has_greater_degree strict_greater cs some)))))))
 
 distinct_selection : (cs : List Candidate) → AreDistinct cs → AreDistinct (selection cs)
 distinct_selection cs distinct =
@@ -138,17 +163,19 @@ distinct_selection cs distinct =
     (distinct_unbeaten has_lower_identifier _
     (distinct_unbeaten has_lower_cost _
     (distinct_unbeaten is_external_alone _
+    (distinct_unbeaten has_lower_med _
     (distinct_unbeaten has_lower_origin _
     (distinct_unbeaten has_fewer_ases _
-    (distinct_unbeaten has_greater_degree cs distinct))))))
+    (distinct_unbeaten has_greater_degree cs distinct)))))))
 
 pub among_before : (cs : List Candidate) (x : Candidate) → Among x (before_address cs) → Among x (unbeaten has_greater_degree cs)
 among_before cs x at =
     (among_unbeaten has_fewer_ases _ x
     (among_unbeaten has_lower_origin _ x
+    (among_unbeaten has_lower_med _ x
     (among_unbeaten is_external_alone _ x
     (among_unbeaten has_lower_cost _ x
-    (among_unbeaten has_lower_identifier _ x at).0).0).0).0).0
+    (among_unbeaten has_lower_identifier _ x at).0).0).0).0).0).0
 
 -- a selected one is a candidate, and none has a greater degree
 pub among_selection : (cs : List Candidate) (x : Candidate) → Among x (selection cs) → Among x cs × ((y : Candidate) → Among y cs → has_greater_degree y x ≡ false)

@@ -1,7 +1,7 @@
 -- Lists of the same members select the same one.
 use Rattle.std.proofs.Common.{◌≡◌, ◌↔◌, Bool, inl, inr, List, [], ◌∷◌, Contains, sym, subst}
 use Rattle.decision.specs.declared.candidate.Candidate.{Candidate}
-use Rattle.decision.specs.Selection.{unbeaten, has_greater_degree, has_fewer_ases, has_lower_origin, is_external_alone, has_lower_cost, has_lower_identifier, has_lower_address, selection, IsSelected}
+use Rattle.decision.specs.Selection.{unbeaten, has_greater_degree, has_fewer_ases, has_lower_origin, has_lower_med, is_external_alone, has_lower_cost, has_lower_identifier, has_lower_address, selection, IsSelected}
 use Rattle.decision.proofs.One.{Among, among_unbeaten}
 use Rattle.decision.proofs.Laws.{at_among, contains_among, unbeaten_among, among_one}
 
@@ -23,9 +23,10 @@ same_selection cs ds same =
     (same_left has_lower_identifier _ _
     (same_left has_lower_cost _ _
     (same_left is_external_alone _ _
+    (same_left has_lower_med _ _
     (same_left has_lower_origin _ _
     (same_left has_fewer_ases _ _
-    (same_left has_greater_degree cs ds same))))))
+    (same_left has_greater_degree cs ds same)))))))
 
 among_contained : (cs : List Candidate) (x : Candidate) → Contains cs x → Among x cs
 among_contained cs x at = subst (λ y. Among y cs) at.2 (at_among cs at.0 x at.1)

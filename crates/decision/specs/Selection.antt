@@ -1,5 +1,5 @@
 -- The selection of a prefix's best route (RFC 4271 sections 9.1.1 and 9.1.2.2).
-use Rattle.std.specs.Prelude.{◌≡◌, ◌≢◌, Bool, nat_lt, not, ◌&&◌, List, [], ◌∷◌, filter, fold, AllPairs}
+use Rattle.std.specs.Prelude.{ℕ, ◌≡◌, ◌≢◌, ◌==◌, Bool, nat_lt, not, unwrap_or, ◌&&◌, List, [], ◌∷◌, filter, fold, AllPairs}
 use Rattle.std.specs.List.{list_any}
 use Rattle.bgp_attr.specs.PathAttributes.{origin_octet}
 use Rattle.decision.specs.declared.candidate.Candidate.{Candidate}
@@ -19,6 +19,14 @@ has_fewer_ases d c = nat_lt d.path_length c.path_length
 -- (b) the ORIGIN is lower
 abbrev pub has_lower_origin : Candidate → Candidate → Bool
 has_lower_origin d c = nat_lt (origin_octet d.origin) (origin_octet c.origin)
+
+-- the MULTI_EXIT_DISC, where a missing one counts as 0
+abbrev pub med_of : Candidate → ℕ
+med_of c = unwrap_or c.med 0
+
+-- (c) the neighbor AS is the same, and the MULTI_EXIT_DISC is lower
+abbrev pub has_lower_med : Candidate → Candidate → Bool
+has_lower_med d c = d.neighbor.0 == c.neighbor.0 && nat_lt (med_of d) (med_of c)
 
 -- (d) an external peer announced the one, and none the other
 abbrev pub is_external_alone : Candidate → Candidate → Bool
@@ -43,6 +51,7 @@ selection cs =
     (has_greater_degree
     ∷ has_fewer_ases
     ∷ has_lower_origin
+    ∷ has_lower_med
     ∷ is_external_alone
     ∷ has_lower_cost
     ∷ has_lower_identifier

@@ -1,13 +1,14 @@
 -- The steps of the selection as the code names them.
-use Rattle.std.specs.Prelude.{ℕ, Bool, Option, None, Some, List, fold, filter, max, min, nat_le, ◌&&◌, if◌then◌else◌}
+use Rattle.std.specs.Prelude.{ℕ, Bool, Option, None, Some, List, fold, filter, max, min, nat_le, not, ◌&&◌, true, if◌then◌else◌}
+use Rattle.arrayvec.specs.ArrayVec.{ArrayVec}
 use Rattle.bgp_attr.specs.PathAttributes.{origin_octet}
 use Rattle.decision.specs.declared.candidate.Candidate.{Candidate}
-use Rattle.std.specs.List.{list_all}
+use Rattle.std.specs.List.{list_all, list_any}
 use Rattle.decision.specs.declared.selection.Bound.{Bound}
 use Rattle.decision.specs.declared.selection.Left.{Left}
 use Rattle.decision.specs.declared.selection.Step.{Step}
 use Rattle.decision.specs.declared.selection.Step.TheVariants.{FewestAses, LowestOrigin, ExternalFirst, LowestCost, LowestIdentifier, LowestAddress}
-use Rattle.decision.specs.Selection.{has_fewer_ases, has_lower_origin, is_external_alone, has_lower_cost, has_lower_identifier, has_lower_address}
+use Rattle.decision.specs.Selection.{has_fewer_ases, has_lower_origin, has_lower_med, is_external_alone, has_lower_cost, has_lower_identifier, has_lower_address}
 
 -- the comparison that a step makes
 abbrev pub beats : Step → Candidate → Candidate → Bool
@@ -48,6 +49,19 @@ is_bounded_by bounds c = list_all (λ bound. nat_le (key_of bound.step c) bound.
 abbrev pub is_within : ℕ → List Bound → Candidate → Bool
 is_within degree bounds c = is_bounded_by bounds c && nat_le degree c.degree
 
+-- a candidate within the bounds has a lower MULTI_EXIT_DISC
+abbrev pub has_rival : List Candidate → ℕ → List Bound → Candidate → Bool
+has_rival cs degree bounds c = list_any (λ d. has_lower_med d c && is_within degree bounds d) cs
+
+-- the candidate is within the bounds that stood before (c), and has no rival there; until (c) each one passes
+abbrev pub passes_med : List Candidate → ℕ → Option (ArrayVec Bound) → Candidate → Bool
+passes_med cs degree None c = true
+passes_med cs degree (Some bounds) c = is_within degree bounds.items c && not (has_rival cs degree bounds.items c)
+
+-- the candidate is left
+abbrev pub is_left : Left → Candidate → Bool
+is_left left c = is_within left.degree left.bounds.items c && passes_med left.candidates.now left.degree left.tied c
+
 -- the candidates that are left
 abbrev pub left_of : Left → List Candidate
-left_of left = filter (λ c. is_within left.degree left.bounds.items c) left.candidates.now
+left_of left = filter (is_left left) left.candidates.now

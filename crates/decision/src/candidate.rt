@@ -1,7 +1,8 @@
 //! What the selection compares of a route.
-ghost use Rattle.std.specs.Prelude.{◌≡◌, false};
+ghost use Rattle.std.specs.Prelude.{◌≡◌, None, false};
 
 use bgp_attr::Origin;
+use net_prefix::Asn;
 use origin_valid::Validity;
 
 /// The slot of a local network, behind those of the peers.
@@ -21,6 +22,10 @@ pub struct Candidate {
     pub path_length: u32,
     /// Its ORIGIN.
     pub origin: Origin,
+    /// The neighbor AS of its path.
+    pub neighbor: Asn,
+    /// Its MULTI_EXIT_DISC, where it has one.
+    pub med: Option<u32>,
     /// Whether an external peer announced it.
     pub external: bool,
     /// The interior cost of its next hop.
@@ -37,7 +42,7 @@ impl Default for Candidate {
     ghost use Rattle.bgp_attr.specs.declared.attrs.Origin.TheVariants.{Igp};
     ghost use Rattle.origin_valid.specs.declared.validity.Validity.TheVariants.{NotFound};
 
-    ghost is_default = { λ c. c ≡ record { slot = 0; degree = 0; path_length = 0; origin = Igp; external = false; cost = 0; identifier = 0; address = 0; validity = NotFound } };
+    ghost is_default = { λ c. c ≡ record { slot = 0; degree = 0; path_length = 0; origin = Igp; neighbor = record { 0 = 0 }; med = None; external = false; cost = 0; identifier = 0; address = 0; validity = NotFound } };
 
     /// What fills the places of a list that are not in use.
     fn default() -> Candidate {
@@ -46,6 +51,8 @@ impl Default for Candidate {
             degree: 0,
             path_length: 0,
             origin: Origin::Igp,
+            neighbor: Asn(0),
+            med: None,
             external: false,
             cost: 0,
             identifier: 0,

@@ -1,10 +1,11 @@
 //! The selection of the best route of a prefix (RFC 4271 section 9.1), and books that keep it.
 //!
 //! `choose` answers the one candidate that the selection leaves: those of the greatest degree of preference, then
-//! step by step those that no other one left beats. `one_best` says that candidates which differ in degree or
-//! address always leave one. A `Book` keeps the candidates of each prefix by slot and the best of each prefix, and
-//! chooses again where one of them changes; `PlainBook` does so among all candidates of the prefix. A slot's place at
-//! a prefix takes memory, and no other call does. The policies, and what makes a route a candidate, stand above.
+//! step by step those that no other one left beats. MED is compared within a neighbor AS alone, so the best one isn't
+//! found by comparing two at a time. `one_best` says that candidates which differ in degree or address always leave
+//! one. A `Book` keeps the candidates of each prefix by slot and the best of each prefix, and chooses again where one
+//! of them changes; `PlainBook` does so among all candidates of the prefix. A slot's place at a prefix takes memory,
+//! and no other call does. The policies, and what makes a route a candidate, stand above.
 #![tactic(auto)]
 
 mod book;

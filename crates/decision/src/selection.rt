@@ -1,14 +1,15 @@
 //! The steps of the selection.
 ghost use Rattle.std.specs.Prelude.{◌≡◌, ◌≢◌, ◌≤◌, ◌+◌, ◌-◌, ◌^◌, ◌<◌, [], fold, length, min, None, Some, unwrap_or, All, Contains, IfSome, MatchOption, slice_get};
-ghost use Rattle.decision.specs.Selection.{AreDistinct, IsSelected, has_greater_degree, selection, unbeaten};
-ghost use Rattle.decision.specs.Steps.{beats, greatest_of, is_bounded_by, is_within, key_of, left_of, lower, lowest_of};
+ghost use Rattle.decision.specs.Selection.{AreDistinct, IsSelected, has_greater_degree, has_lower_med, med_of, selection, unbeaten};
+ghost use Rattle.decision.specs.Steps.{beats, greatest_of, has_rival, is_bounded_by, is_left, is_within, key_of, left_of, lower, lowest_of, passes_med};
 ghost use Rattle.decision.specs.declared.candidate.Candidate.{Candidate as Route};
 
 use crate::candidate::Candidate;
 use crate::meter::Meter;
 use arrayvec::ArrayVec;
 
-// The steps that break ties (RFC 4271 section 9.1.2.2).
+// The steps that go by a number of each candidate (RFC 4271 section 9.1.2.2). MED, which is compared within a neighbor
+// AS alone, is none of them.
 #[derive(Clone, Copy)]
 enum Step {
     FewestAses,
@@ -55,29 +56,47 @@ impl Default for Bound {
     }
 }
 
-// The candidates that are left: those of this degree of preference and above, and within the bounds of the steps so far.
+// The candidates that are left: those of this degree of preference and above, and within the bounds of the steps so
+// far. From (c) on `tied` has the bounds that stood before it, and none is left that another one within these beats.
 #[derive(Drop)]
 struct Left<'a> {
     candidates: &'a [Candidate],
     degree: u64,
-    bounds: ArrayVec<Bound, 6>,
+    bounds: ArrayVec<Bound, 4>,
+    tied: Option<ArrayVec<Bound, 4>>,
 }
 
 impl<'a> Left<'a> {
     // Whether the candidate is left.
     fn holds(&self, candidate: &Candidate) -> bool
-        ensures { result ≡ is_within self.now.degree self.now.bounds.items candidate.now }
+        ensures { result ≡ is_left self.now candidate.now }
     {
-        self.is_bounded(candidate) && self.degree <= candidate.degree
+        self.is_within(&self.bounds, candidate) && self.passes_med(candidate)
     }
 
-    // Whether it is within the bounds.
-    fn is_bounded(&self, candidate: &Candidate) -> bool
-        ensures { result ≡ is_bounded_by self.now.bounds.items candidate.now }
+    // Whether it is of the degree of preference, and within the bounds.
+    fn is_within(&self, bounds: &[Bound], candidate: &Candidate) -> bool
+        ensures { result ≡ is_within self.now.degree bounds.now candidate.now }
     {
-        self.bounds
-            .iter()
-            .all(|bound| bound.step.key(candidate) <= bound.most)
+        is_bounded(bounds, candidate) && self.degree <= candidate.degree
+    }
+
+    // Whether it was left before (c), and no other one left then beats it. Until (c) each one passes.
+    fn passes_med(&self, candidate: &Candidate) -> bool
+        ensures { result ≡ passes_med self.now.candidates.now self.now.degree self.now.tied candidate.now }
+    {
+        match &self.tied {
+            Some(tied) => self.is_within(tied, candidate) && !self.has_rival(tied, candidate),
+            None => true,
+        }
+    }
+
+    // Whether one within the bounds has a lower MED.
+    fn has_rival(&self, bounds: &[Bound], candidate: &Candidate) -> bool
+        ensures { result ≡ has_rival self.now.candidates.now self.now.degree bounds.now candidate.now }
+    {
+        self.candidates.iter().any(|other| has_lower_med(other, candidate)
+            && self.is_within(bounds, other))
     }
 
     // The first of them.
@@ -94,9 +113,10 @@ impl<'a> Left<'a> {
 
     // Those of the lowest key.
     fn lowest(mut self, step: Step) -> Left<'a>
-        requires { length self.bounds.items < 6 }
+        requires { length self.bounds.items < 4 }
         ensures left { left_of result ≡ unbeaten (beats step) (left_of self.entry) }
         ensures steps { length result.bounds.items ≤ length self.entry.bounds.items + 1 }
+        ensures tied { result.tied ≡ self.entry.tied }
     {
         match self.lowest_key(step) {
             Some(most) => {
@@ -104,6 +124,20 @@ impl<'a> Left<'a> {
                 self
             }
             None => self,
+        }
+    }
+
+    // Those that no other one of the same neighbor AS has a lower MED than.
+    fn lowest_med(self) -> Left<'a>
+        requires { self.tied ≡ None }
+        ensures left { left_of result ≡ unbeaten has_lower_med (left_of self.entry) }
+        ensures steps { result.bounds.items ≡ [] }
+    {
+        Left {
+            candidates: self.candidates,
+            degree: self.degree,
+            bounds: ArrayVec::new(),
+            tied: Some(self.bounds),
         }
     }
 
@@ -118,6 +152,29 @@ impl<'a> Left<'a> {
                 Some(lower_of(lowest, step.key(candidate)))
             })
     }
+}
+
+// Whether no number of the candidate is above the bound of its step.
+fn is_bounded(bounds: &[Bound], candidate: &Candidate) -> bool
+    ensures { result ≡ is_bounded_by bounds.now candidate.now }
+{
+    bounds
+        .iter()
+        .all(|bound| bound.step.key(candidate) <= bound.most)
+}
+
+// Whether the one is of the same neighbor AS as the other, and has a lower MED.
+fn has_lower_med(one: &Candidate, other: &Candidate) -> bool
+    ensures { result ≡ has_lower_med one.now other.now }
+{
+    one.neighbor == other.neighbor && med_of(one) < med_of(other)
+}
+
+// A missing MED counts as 0.
+fn med_of(candidate: &Candidate) -> u32
+    ensures { result ≡ med_of candidate.now }
+{
+    candidate.med.unwrap_or(0)
 }
 
 // The lower one of two keys, of which the first may be none.
@@ -163,6 +220,7 @@ fn selected(candidates: &[Candidate]) -> Option<Candidate>
     let left = preferred(candidates);
     let left = left.lowest(Step::FewestAses); // (a)
     let left = left.lowest(Step::LowestOrigin); // (b)
+    let left = left.lowest_med(); // (c)
     let left = left.lowest(Step::ExternalFirst); // (d)
     let left = left.lowest(Step::LowestCost); // (e)
     let left = left.lowest(Step::LowestIdentifier); // (f)
@@ -174,11 +232,13 @@ fn selected(candidates: &[Candidate]) -> Option<Candidate>
 fn preferred(candidates: &[Candidate]) -> Left<'_>
     ensures left { left_of result ≡ unbeaten has_greater_degree candidates.now }
     ensures steps { result.bounds.items ≡ [] }
+    ensures tied { result.tied ≡ None }
 {
     Left {
         candidates,
         degree: greatest_degree(candidates),
         bounds: ArrayVec::new(),
+        tied: None,
     }
 }
 

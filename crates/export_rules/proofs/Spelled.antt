@@ -1,5 +1,5 @@
 -- What goes on to a peer is never empty.
-use Rattle.std.proofs.Common.{◌≡◌, ℕ, ◌+◌, ◌<◌, nat_lt, nat_le, Bool, true, false, if◌then◌else◌, List, [], ◌∷◌, ◌++◌, length, length-append, Some, None, arith}
+use Rattle.std.proofs.Common.{◌≡◌, ℕ, ◌+◌, ◌<◌, nat_lt, nat_le, Bool, true, false, if◌then◌else◌, List, [], ◌∷◌, ◌++◌, length, length-append, Option, Some, None, arith}
 use Rattle.std.specs.Bool.{OnTrue}
 use Rattle.std.specs.Int.{to_be_bytes, w16, w32}
 use Rattle.std.specs.List.{flat_map}
@@ -23,10 +23,10 @@ front_some xs ys h = omega (arith, length-append xs ys)
 back_some : (xs ys : List ℕ) → 0 < length ys → 0 < length (xs ++ ys)
 back_some xs ys h = omega (arith, length-append xs ys)
 
-pub exported_some : (attrs : PathAttributes) (peer : ExportPeer) → 0 < length (attributes_spelling (exported_of attrs peer))
+pub exported_some : (attrs : PathAttributes) (peer : ExportPeer) (med : Option ℕ) (times : ℕ) → 0 < length (attributes_spelling (exported_of attrs peer med times))
 unfolding exported_of
-exported_some attrs peer =
-    let sent : PathAttributes = exported_of attrs peer in
+exported_some attrs peer med times =
+    let sent : PathAttributes = exported_of attrs peer med times in
     let address : List ℕ = to_be_bytes w32 peer.local in
     let behind : List ℕ = flat_map (type_spelling sent) (MultiExitDisc ∷ LocalPref ∷ AtomicAggregate ∷ Aggregator ∷ []) in
     back_some (unknown_spelling true attrs.unknown) (flat_map (type_spelling sent) types ++ unknown_spelling false attrs.unknown)

@@ -1,7 +1,7 @@
 //! How often a best route is chosen on the first path: once for the route that comes, and once when it goes.
-use crate::first_path::{CONFIG, Call, REACHABLE, UP_TO_ROUTE, calls};
+use crate::first_path::{ANNOUNCED_PREFIX, CONFIG, Call, REACHABLE, UP_TO_ROUTE, calls};
 use net_prefix::Prefix;
-use speaker::{Event, Refusal, Report, Speaker};
+use speaker::{Command, Event, Refusal, Report, Speaker};
 use std::alloc::Global;
 use std::process::Abort;
 use std::test::Fail;
@@ -19,6 +19,15 @@ const REPLACED: [u8; 55] = [
     0x00, 0x37, 0x02, 0x00, 0x04, 0x18, 0x0A, 0x00, 0x01, 0x00, 0x14,
     0x40, 0x01, 0x01, 0x02, 0x40, 0x02, 0x06, 0x02, 0x01, 0x00, 0x00, 0xFD, 0xE9,
     0x40, 0x03, 0x04, 0xC0, 0x00, 0x02, 0x0B, 0x18, 0x0A, 0x00, 0x01, 0x18, 0x0A, 0x00, 0x01,
+];
+
+// 10.0.2.0/24 and 10.0.3.0/24 by AS 65001, next hop 192.0.2.11.
+#[rattlefmt::skip]
+const TWO_MORE: [u8; 51] = [
+    255, 255, 255, 255, 255, 255, 255, 255, 255, 255, 255, 255, 255, 255, 255, 255,
+    0x00, 0x33, 0x02, 0x00, 0x00, 0x00, 0x14,
+    0x40, 0x01, 0x01, 0x00, 0x40, 0x02, 0x06, 0x02, 0x01, 0x00, 0x00, 0xFD, 0xE9,
+    0x40, 0x03, 0x04, 0xC0, 0x00, 0x02, 0x0B, 0x18, 0x0A, 0x00, 0x02, 0x18, 0x0A, 0x00, 0x03,
 ];
 
 fn step(rt: &impl Abort, speaker: &mut Speaker<Global>, event: Event<'_>) {
@@ -82,5 +91,55 @@ fn a_refused_call_leaves_the_count(rt: HostRuntime) -> Result<(), Fail> {
     assert_eq!(rt; speaker.chosen(), 1);
     step(&rt, &mut speaker, Event::Tick(1));
     assert_eq!(rt; speaker.chosen(), 0);
+    Ok(())
+}
+
+// A local network is chosen for when it comes and when it goes, and not when it is there already. An entry of `reach`
+// that goes or comes changes the candidate of the peer's route alone.
+#[test]
+fn a_command_chooses_where_it_changes_a_candidate(rt: HostRuntime) -> Result<(), Fail> {
+    let mut speaker = Speaker::new(rt.alloc(), CONFIG)?;
+    let reachable = Prefix::parse(REACHABLE)?;
+    play(&rt, &mut speaker, &calls(reachable)[..UP_TO_ROUTE]);
+    let there = Prefix::parse(ANNOUNCED_PREFIX)?;
+    let alone = Prefix::parse("198.51.100.0/24")?;
+    for (command, chosen) in [
+        (Command::Network(there), 1),
+        (Command::Network(there), 0),
+        (Command::Network(alone), 1),
+        (Command::NoReach(reachable), 1),
+        (Command::Reach(reachable, 10), 1),
+        (Command::NoNetwork(there), 1),
+        (Command::NoNetwork(alone), 1),
+    ] {
+        step(&rt, &mut speaker, Event::Command(command));
+        assert_eq!(rt; speaker.chosen(), chosen);
+    }
+    Ok(())
+}
+
+// The first peer has routes to three prefixes then, and the second has none. What a peer is told by chooses nothing.
+#[test]
+fn another_policy_of_a_peer_chooses_for_the_routes_that_it_takes(
+    rt: HostRuntime,
+) -> Result<(), Fail> {
+    let mut speaker = Speaker::new(rt.alloc(), CONFIG)?;
+    play(
+        &rt,
+        &mut speaker,
+        &calls(Prefix::parse(REACHABLE)?)[..UP_TO_ROUTE],
+    );
+    step(&rt, &mut speaker, Event::Bytes(0, &TWO_MORE));
+    for (command, chosen) in [
+        (Command::UseOut(1, "none"), 0),
+        (Command::UseOut(1, "all"), 0),
+        (Command::UseIn(1, "none"), 0),
+        (Command::UseIn(0, "none"), 3),
+        (Command::UseOut(0, "none"), 0),
+        (Command::UseIn(0, "all"), 3),
+    ] {
+        step(&rt, &mut speaker, Event::Command(command));
+        assert_eq!(rt; speaker.chosen(), chosen);
+    }
     Ok(())
 }

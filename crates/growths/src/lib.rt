@@ -10,7 +10,8 @@
 //! all of them. `taking` has a growth refused to what follows a take, which hands its octets out all the same and
 //! closes the session. `payloads` has a cache send a load and a change of it: a refused growth closes the cache session
 //! alone, and what is in force stays. `many_prefixes` has two thousand prefixes told to two peers whose rings fill, and
-//! one growth refused. `serving` plays loads, a client and its queries on a cache: a refused load or client changes
+//! one growth refused. `networks` has a prefix become a local network, and
+//! `policies` a policy set. `serving` plays loads, a client and its queries on a cache: a refused load or client changes
 //! nothing, a refused response closes its client alone, and the same call is answered when it is made again; what one
 //! client has asked for takes no memory when another asks for it.
 #![tactic(auto)]
@@ -24,7 +25,11 @@ mod first_path;
 #[cfg(test)]
 mod many_prefixes;
 #[cfg(test)]
+mod networks;
+#[cfg(test)]
 mod payloads;
+#[cfg(test)]
+mod policies;
 #[cfg(test)]
 mod running;
 #[cfg(test)]

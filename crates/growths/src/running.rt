@@ -41,13 +41,22 @@ fn slot_of(event: Event<'_>) -> Option<u8> {
             Command::AddPeer(slot, _)
             | Command::RemovePeer(slot)
             | Command::Enable(slot)
-            | Command::Disable(slot),
+            | Command::Disable(slot)
+            | Command::UseIn(slot, _)
+            | Command::UseOut(slot, _),
         ) => Some(slot),
         Event::CacheUp
         | Event::CacheFail
         | Event::CacheBytes(_)
         | Event::Tick(_)
-        | Event::Command(Command::Reach(_, _)) => None,
+        | Event::Command(
+            Command::SetPolicy(_, _)
+            | Command::DropPolicy(_)
+            | Command::Network(_)
+            | Command::NoNetwork(_)
+            | Command::Reach(_, _)
+            | Command::NoReach(_),
+        ) => None,
     }
 }
 
@@ -112,7 +121,7 @@ fn judge(rt: &impl Abort, events: &[Event<'_>], answers: &[Result<Report, Refusa
     }
 }
 
-fn play<A: Allocator + Clone>(rt: &impl Abort, heap: A, events: &[Event<'_>]) -> Ending {
+fn play<A: Allocator + Clone + Copy>(rt: &impl Abort, heap: A, events: &[Event<'_>]) -> Ending {
     match run(heap, CONFIG, events) {
         Ok(trace) => judge(rt, events, trace.answers.as_slice()),
         Err(why) => {

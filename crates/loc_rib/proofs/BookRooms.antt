@@ -1,4 +1,4 @@
-use Rattle.std.proofs.Common.{◌≡◌, ◌==◌, ◌&&◌, ℕ, Bool, true, false, List, Option, Some, None, Result, Ok, Err, OnErr, OnOk, All, cond, inl, inr, refl, sym, ap, ◌∙◌, subst}
+use Rattle.std.proofs.Common.{◌≡◌, ◌==◌, ◌&&◌, ℕ, Bool, true, false, List, Option, Some, None, Result, Ok, Err, OnErr, OnOk, is_ok, All, cond, inl, inr, refl, sym, ap, ◌∙◌, subst}
 use Rattle.std.specs.Option.{IsSome, is_some}
 use Rattle.std.specs.Result.{is_err}
 use Rattle.std.specs.Cmp.{nat_cmp_is}
@@ -51,49 +51,6 @@ roomy_changed adj_in old new prefix changes h routed offers places same = record
         subst (λ q. IsSome (route_at adj_in s q)) (sym at) (by_route s _ refl (subst (λ q. IsSome (changed changes s (offer_at old s q))) at (subst (λ o. IsSome o) offer there)))
     here s p false is offer there = h.routed s p (subst (λ o. IsSome o) offer there)
 
--- a place that was made and isn't needed goes again
-pub roomy_left : (adj_in : RouteTable) (old made new : BookState) (slot : ℕ) (prefix : Prefix) → AreRoomy adj_in old → route_at adj_in slot prefix ≡ None
-    → ((s : ℕ) (p : Prefix) → offer_at made s p ≡ offer_at old s p) → ((s : ℕ) (p : Prefix) → has_place_at made s p ≡ cond (s == slot && is_prefix prefix p) true (has_place_at old s p))
-    → ((s : ℕ) (p : Prefix) → offer_at new s p ≡ cond (s == slot && is_prefix prefix p) None (offer_at made s p)) → ((s : ℕ) (p : Prefix) → has_place_at new s p ≡ cond (s == slot && is_prefix prefix p) false (has_place_at made s p))
-    → ((s : ℕ) (p : Prefix) → (s == slot && is_prefix prefix p) ≡ true → (s ≡ slot) × (p ≡ prefix)) → AreRoomy adj_in new
-roomy_left adj_in old made new slot prefix h none offers places left_offers left_places same = record {
-  places = λ s p. place_here s p (s == slot && is_prefix prefix p) refl (left_places s p) (places s p);
-  routed = λ s p there. routed_here s p (s == slot && is_prefix prefix p) refl (left_offers s p) there;
-}
-  where
-    place_here : (s : ℕ) (p : Prefix) (b : Bool) → (s == slot && is_prefix prefix p) ≡ b → has_place_at new s p ≡ cond b false (has_place_at made s p) → has_place_at made s p ≡ cond b true (has_place_at old s p)
-        → has_place_at new s p ≡ is_some (route_at adj_in s p)
-    place_here s p true is now was =
-        let at = same s p is in
-        let nothing : route_at adj_in s p ≡ None = ap (λ x. route_at adj_in x p) at.0 ∙ ap (λ q. route_at adj_in slot q) at.1 ∙ none in
-        now ∙ sym (ap is_some nothing)
-    place_here s p false is now was = now ∙ was ∙ h.places s p
-
-    routed_here : (s : ℕ) (p : Prefix) (b : Bool) → (s == slot && is_prefix prefix p) ≡ b → offer_at new s p ≡ cond b None (offer_at made s p) → IsSome (offer_at new s p) → IsSome (route_at adj_in s p)
-    routed_here s p true is now there = let never = subst (λ o. IsSome o) now there in absurd (cc)
-    routed_here s p false is now there = h.routed s p (subst (λ o. IsSome o) (now ∙ offers s p) there)
-
--- and no candidate was in it
-pub offers_left : (adj_in : RouteTable) (old made new : BookState) (slot : ℕ) (prefix : Prefix) → AreRoomy adj_in old → route_at adj_in slot prefix ≡ None
-    → ((s : ℕ) (p : Prefix) → offer_at made s p ≡ offer_at old s p) → ((s : ℕ) (p : Prefix) → offer_at new s p ≡ cond (s == slot && is_prefix prefix p) None (offer_at made s p))
-    → ((s : ℕ) (p : Prefix) → (s == slot && is_prefix prefix p) ≡ true → (s ≡ slot) × (p ≡ prefix)) → (s : ℕ) (p : Prefix) → offer_at new s p ≡ offer_at old s p
-offers_left adj_in old made new slot prefix h none offers left same s p = here (s == slot && is_prefix prefix p) refl (left s p)
-  where
-    nothing : (o : Option Candidate) → (IsSome o → ⊥) → o ≡ None
-    nothing None empty = refl
-    nothing (Some c) empty = absurd (empty refl)
-
-    never : s ≡ slot → p ≡ prefix → IsSome (offer_at old s p) → ⊥
-    never at there some =
-        let routed : IsSome (route_at adj_in s p) = h.routed s p some in
-        let absent : route_at adj_in s p ≡ None = ap (λ x. route_at adj_in x p) at ∙ ap (λ q. route_at adj_in slot q) there ∙ none in
-        let both = subst (λ o. IsSome o) absent routed in
-        cc
-
-    here : (b : Bool) → (s == slot && is_prefix prefix p) ≡ b → offer_at new s p ≡ cond b None (offer_at made s p) → offer_at new s p ≡ offer_at old s p
-    here true is now = let at = same s p is in now ∙ sym (nothing (offer_at old s p) (never at.0 at.1))
-    here false is now = now ∙ offers s p
-
 -- a place that was made for a route has it
 same_slot : (slot s : ℕ) → (slot == s) ≡ (s == slot)
 same_slot slot s =
@@ -127,6 +84,55 @@ both_equal Greater Greater = refl
 -- the route of a slot and a prefix is where its place is
 at_place : (slot : ℕ) (prefix : Prefix) (s : ℕ) (p : Prefix) → (s == slot && is_prefix prefix p) ≡ is_route slot prefix s p
 at_place slot prefix s p = ap (λ b. b && is_prefix prefix p) (sym (at_slot slot s)) ∙ sym (both_equal (prefix_cmp prefix p) (nat_cmp slot s))
+
+both_true : (a b : Bool) → (a && b) ≡ true → (a ≡ true) × (b ≡ true)
+both_true true b h = (refl, h)
+both_true false b h = absurd (cc)
+
+-- a place has one slot and one prefix
+pub same_place : (slot : ℕ) (prefix : Prefix) (s : ℕ) (p : Prefix) → (s == slot && is_prefix prefix p) ≡ true → (s ≡ slot) × (p ≡ prefix)
+same_place slot prefix s p is = let parts = both_true (s == slot) (is_prefix prefix p) is in (eqb-true s slot parts.0, sym (prefix_exact prefix p parts.1))
+
+-- a failure is no success
+pub not_ok : {T F : Type 0} (r : Result T F) → true ≡ is_err r → is_ok r ≡ false
+not_ok (Ok v) is = absurd (cc)
+not_ok (Err e) is = refl
+
+-- what is no failure is a success
+pub room_made : {T F : Type 0} (r : Result T F) (old made : BookState) (slot : ℕ) (prefix : Prefix) → false ≡ is_err r
+    → ((s : ℕ) (p : Prefix) → has_place_at made s p ≡ cond (is_ok r && (s == slot && is_prefix prefix p)) true (has_place_at old s p)) → (s : ℕ) (p : Prefix) → has_place_at made s p ≡ cond (s == slot && is_prefix prefix p) true (has_place_at old s p)
+room_made (Ok v) old made slot prefix is places s p = places s p
+room_made (Err e) old made slot prefix is places s p = absurd (cc)
+
+-- where there is no room for a candidate there was none, and so no route
+pub no_route_yet : {T F : Type 0} (r : Result T F) (adj_in : RouteTable) (old : BookState) (slot : ℕ) (prefix : Prefix) → AreRoomy adj_in old → (has_place_at old slot prefix ≡ true → is_ok r ≡ true)
+    → true ≡ is_err r → route_at adj_in slot prefix ≡ None
+no_route_yet r adj_in old slot prefix h there failed = none (route_at adj_in slot prefix) (has_place_at old slot prefix) refl (h.places slot prefix)
+  where
+    none : (o : Option PathAttributes) (b : Bool) → has_place_at old slot prefix ≡ b → b ≡ is_some o → o ≡ None
+    none None b at is = refl
+    none (Some x) true at is = let ok = there at in let err = not_ok r failed in absurd (cc)
+    none (Some x) false at is = absurd (cc)
+
+-- a route that came goes again
+pub routes_back : (adj_in middle routes : RouteTable) (slot : ℕ) (prefix : Prefix) (attrs : PathAttributes) → route_at adj_in slot prefix ≡ None
+    → ((s : ℕ) (p : Prefix) → route_at middle s p ≡ cond (is_route slot prefix s p) (Some attrs) (route_at adj_in s p))
+    → ((s : ℕ) (p : Prefix) → route_at routes s p ≡ cond (is_route slot prefix s p) None (route_at middle s p)) → (s : ℕ) (p : Prefix) → route_at routes s p ≡ route_at adj_in s p
+routes_back adj_in middle routes slot prefix attrs none came went s p = here (is_route slot prefix s p) refl (went s p) (came s p)
+  where
+    here : (b : Bool) → is_route slot prefix s p ≡ b → route_at routes s p ≡ cond b None (route_at middle s p) → route_at middle s p ≡ cond b (Some attrs) (route_at adj_in s p) → route_at routes s p ≡ route_at adj_in s p
+    here true is now was =
+        let at = same_place slot prefix s p (at_place slot prefix s p ∙ is) in
+        now ∙ sym (ap (λ x. route_at adj_in x p) at.0 ∙ ap (λ q. route_at adj_in slot q) at.1 ∙ none)
+    here false is now was = now ∙ was
+
+-- places of routes that are as others, which have them
+pub roomy_back : (adj_in routes : RouteTable) (old new : BookState) (slot : ℕ) (prefix : Prefix) (ok : Bool) → ok ≡ false → AreRoomy adj_in old → ((s : ℕ) (p : Prefix) → route_at routes s p ≡ route_at adj_in s p)
+    → ((s : ℕ) (p : Prefix) → offer_at new s p ≡ offer_at old s p) → ((s : ℕ) (p : Prefix) → has_place_at new s p ≡ cond (ok && (s == slot && is_prefix prefix p)) true (has_place_at old s p)) → AreRoomy routes new
+roomy_back adj_in routes old new slot prefix ok failed h same offers places = record {
+  places = λ s p. places s p ∙ ap (λ b. cond (b && (s == slot && is_prefix prefix p)) true (has_place_at old s p)) failed ∙ h.places s p ∙ ap is_some (sym (same s p));
+  routed = λ s p there. subst (λ o. IsSome o) (sym (same s p)) (h.routed s p (subst (λ o. IsSome o) (offers s p) there));
+}
 
 pub roomy_announced : (adj_in routes : RouteTable) (old made new : BookState) (slot : ℕ) (prefix : Prefix) (attrs : PathAttributes) (candidate : Option Candidate) → AreRoomy adj_in old
     → ((s : ℕ) (p : Prefix) → route_at routes s p ≡ cond (is_route slot prefix s p) (Some attrs) (route_at adj_in s p))
@@ -177,11 +183,3 @@ on_ok (Err e) P p is = absurd (cc)
 -- candidates that are as others are apart as they are
 pub apart_same : (slot : ℕ) (candidate : Option Candidate) (old new : ℕ → Option Candidate) → ((s : ℕ) → new s ≡ old s) → AreApart (λ s. cond (slot == s) candidate (old s)) → AreApart (λ s. cond (slot == s) candidate (new s))
 apart_same slot candidate old new same apart = subst {A = ℕ → Option Candidate} (λ f. AreApart (λ s. cond (slot == s) candidate (f s))) (λ i s. sym (same s) i) apart
-
-both_true : (a b : Bool) → (a && b) ≡ true → (a ≡ true) × (b ≡ true)
-both_true true b h = (refl, h)
-both_true false b h = absurd (cc)
-
--- a place has one slot and one prefix
-pub same_place : (slot : ℕ) (prefix : Prefix) (s : ℕ) (p : Prefix) → (s == slot && is_prefix prefix p) ≡ true → (s ≡ slot) × (p ≡ prefix)
-same_place slot prefix s p is = let parts = both_true (s == slot) (is_prefix prefix p) is in (eqb-true s slot parts.0, sym (prefix_exact prefix p parts.1))

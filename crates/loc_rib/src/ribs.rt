@@ -66,7 +66,7 @@ impl<A: Allocator + Clone, B: Book<A>> Ribs<A, B> {
         requires apart { AreApart (λ s. if slot == s then candidate else offer_at self.old.book s prefix) }
         ensures routes { OnOk result ((s : ℕ) (p : ThePrefix) → route_at self.new.adj_in s p ≡ (if is_route slot prefix s p then Some attrs.value else route_at self.old.adj_in s p)) }
         ensures offers { OnOk result ((s : ℕ) (p : ThePrefix) → offer_at self.new.book s p ≡ (if is_route slot prefix s p then candidate else offer_at self.old.book s p)) }
-        ensures err { OnErr result (((s : ℕ) (p : ThePrefix) → route_at self.new.adj_in s p ≡ route_at self.old.adj_in s p) × ((s : ℕ) (p : ThePrefix) → offer_at self.new.book s p ≡ offer_at self.old.book s p)) }
+        ensures err { OnErr result (((s : ℕ) (p : ThePrefix) → route_at self.new.adj_in s p ≡ route_at self.old.adj_in s p) × ((s : ℕ) (p : ThePrefix) → offer_at self.new.book s p ≡ offer_at self.old.book s p) × (rows_of self.new.book ≡ rows_of self.old.book)) }
         ensures others { (p : ThePrefix) → is_prefix prefix p ≡ false → best_at (rows_of self.new.book) p ≡ best_at (rows_of self.old.book) p }
         // A route that replaces another takes no memory.
         ensures absent { OnErr result (route_at self.old.adj_in slot prefix ≡ None) }
@@ -76,9 +76,11 @@ impl<A: Allocator + Clone, B: Book<A>> Ribs<A, B> {
         ensures same { offer_at self.old.book slot prefix ≡ candidate → self.new.chosen ≡ self.old.chosen }
         ensures refused { OnErr result (self.new.chosen ≡ self.old.chosen) }
     {
-        self.book.room(slot, prefix)?;
         if self.adj_in.announce(slot, prefix, attrs).is_err() {
-            self.book.leave(&mut self.meter, slot, prefix);
+            return Err(AllocError);
+        }
+        if self.book.room(slot, prefix).is_err() {
+            AdjIn::withdraw(&mut self.adj_in, slot, prefix);
             return Err(AllocError);
         }
         let change = Change { slot, candidate };

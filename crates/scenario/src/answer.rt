@@ -3,7 +3,7 @@
 use bgp_conf::PEER_SLOTS;
 use bgp_fsm::State;
 use net_prefix::{Prefix, Vrp};
-use speaker::{BestRoute, ClientState, Report};
+use speaker::{BestRoute, ClientState, LOCAL_SLOT, Report};
 use std::fmt;
 
 /// What was closed for want of memory: the slots, a bit each, and the cache session.
@@ -92,6 +92,9 @@ impl fmt::Display for Answer<'_> {
             Answer::Best(route) => {
                 let (prefix, slot) = (route.prefix, route.slot);
                 let (validity, degree) = (route.validity, route.degree);
+                if slot == LOCAL_SLOT {
+                    return write!(f, "{prefix} local {validity} {degree}");
+                }
                 write!(f, "{prefix} {slot} {validity} {degree}")
             }
             Answer::Route(prefix, octets) => {

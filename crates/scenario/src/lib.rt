@@ -12,6 +12,7 @@ mod answer;
 mod cache;
 mod fields;
 mod line;
+mod policy_line;
 mod script;
 
 pub use answer::Answer;

@@ -3,12 +3,13 @@ ghost use Rattle.std.specs.Prelude.{◌≡◌};
 ghost use Rattle.scenario.specs.declared.line.LineFault.TheVariants.{NoMemory};
 
 use crate::fields::{address, number};
+use crate::policy_line::rule_of;
 use bgp_attr::Mode;
-use bgp_conf::PeerConf;
+use bgp_conf::{Command, PeerConf};
 use hex::FromHexError;
 use net_prefix::{Asn, Prefix};
 use rtr_codec::Intervals;
-use speaker::Config;
+use speaker::{Config, Rule};
 use std::alloc::{AllocError, Global};
 use thiserror::Error;
 
@@ -30,16 +31,12 @@ pub enum Line<'a> {
 /// A line that a speaker answers.
 #[derive(Drop)]
 pub enum SpeakerLine<'a> {
-    /// `peer SLOT AS ADDRESS LOCAL active|passive HOLD IMPORT EXPORT`
-    Peer(u8, PeerConf<'a>),
-    /// `enable SLOT`
-    Enable(u8),
-    /// `disable SLOT`
-    Disable(u8),
-    /// `drop SLOT`
-    Drop(u8),
-    /// `reach PREFIX COST`
-    Reach(Prefix, u32),
+    /// `peer SLOT AS ADDRESS LOCAL active|passive HOLD IMPORT EXPORT`, `drop SLOT`, `enable SLOT`, `disable SLOT`,
+    /// `nopolicy NAME`, `use in SLOT NAME`, `use out SLOT NAME`, `network PREFIX`, `nonetwork PREFIX`, `reach PREFIX COST` or
+    /// `noreach PREFIX`
+    Obey(Command<'a>),
+    /// `policy NAME RULE ; RULE ..`
+    SetPolicy(&'a str, Vec<Rule>),
     /// `up SLOT`
     Up(u8),
     /// `fail SLOT`
@@ -124,6 +121,11 @@ impl Line<'_> {
                 let octets = octets(alloc, hex)?;
                 Ok(Line::Serve(CacheLine::Bytes(key, octets)))
             }
+            ["policy", name, words @ ..] => {
+                let name = name_of(name).ok_or(LineFault::BadLine)?;
+                let rules = rules_of(alloc, words)?;
+                Ok(Line::Drive(SpeakerLine::SetPolicy(name, rules)))
+            }
             words => line_of(words).ok_or(LineFault::BadLine),
         }
     }
@@ -138,6 +140,26 @@ fn octets(alloc: Global, hex: &str) -> Result<Vec<u8>, LineFault> {
         Err(FromHexError::OutOfMemory) => Err(LineFault::NoMemory),
         Err(_) => Err(LineFault::BadLine),
     }
+}
+
+// The rules between the words `;`: at least one.
+fn rules_of(alloc: Global, words: &[&str]) -> Result<Vec<Rule>, LineFault> {
+    let mut rules = Vec::new(alloc);
+    for words in words.split(|word| *word == ";") {
+        let rule = rule_of(words).ok_or(LineFault::BadLine)?;
+        if rules.push(rule).is_err() {
+            return Err(LineFault::NoMemory);
+        }
+    }
+    Ok(rules)
+}
+
+// A word that may name something: not an empty one.
+fn name_of<'a>(word: &&'a str) -> Option<&'a str> {
+    if word.is_empty() {
+        return None;
+    }
+    Some(*word)
 }
 
 fn line_of<'a>(words: &[&'a str]) -> Option<Line<'a>> {
@@ -167,11 +189,6 @@ fn line_of<'a>(words: &[&'a str]) -> Option<Line<'a>> {
 
 fn speaker_line<'a>(words: &[&'a str]) -> Option<SpeakerLine<'a>> {
     let line = match words {
-        ["peer", slot, words @ ..] => SpeakerLine::Peer(number(slot)?, peer(words)?),
-        ["enable", slot] => SpeakerLine::Enable(number(slot)?),
-        ["disable", slot] => SpeakerLine::Disable(number(slot)?),
-        ["drop", slot] => SpeakerLine::Drop(number(slot)?),
-        ["reach", prefix, cost] => SpeakerLine::Reach(Prefix::parse(prefix).ok()?, number(cost)?),
         ["up", slot] => SpeakerLine::Up(number(slot)?),
         ["fail", slot] => SpeakerLine::Fail(number(slot)?),
         ["rup"] => SpeakerLine::CacheUp,
@@ -180,26 +197,41 @@ fn speaker_line<'a>(words: &[&'a str]) -> Option<SpeakerLine<'a>> {
         ["tick", seconds] => SpeakerLine::Tick(number(seconds)?),
         ["take", slot, max] => SpeakerLine::Take(number(slot)?, number(max)?),
         ["show", words @ ..] => SpeakerLine::Show(table_of(words)?),
-        _ => return None,
+        words => SpeakerLine::Obey(command(words)?),
     };
     Some(line)
+}
+
+fn command<'a>(words: &[&'a str]) -> Option<Command<'a>> {
+    let command = match words {
+        ["peer", slot, words @ ..] => Command::AddPeer(number(slot)?, peer(words)?),
+        ["drop", slot] => Command::RemovePeer(number(slot)?),
+        ["enable", slot] => Command::Enable(number(slot)?),
+        ["disable", slot] => Command::Disable(number(slot)?),
+        ["nopolicy", name] => Command::DropPolicy(name_of(name)?),
+        ["use", "in", slot, name] => Command::UseIn(number(slot)?, name_of(name)?),
+        ["use", "out", slot, name] => Command::UseOut(number(slot)?, name_of(name)?),
+        ["network", prefix] => Command::Network(Prefix::parse(prefix).ok()?),
+        ["nonetwork", prefix] => Command::NoNetwork(Prefix::parse(prefix).ok()?),
+        ["reach", prefix, cost] => Command::Reach(Prefix::parse(prefix).ok()?, number(cost)?),
+        ["noreach", prefix] => Command::NoReach(Prefix::parse(prefix).ok()?),
+        _ => return None,
+    };
+    Some(command)
 }
 
 fn peer<'a>(words: &[&'a str]) -> Option<PeerConf<'a>> {
     let [asn, peer_address, local, mode, hold, import, export] = words else {
         return None;
     };
-    if import.is_empty() || export.is_empty() {
-        return None;
-    }
     Some(PeerConf {
         asn: Asn(number(asn)?),
         address: address(peer_address)?,
         local: address(local)?,
         mode: mode_of(mode)?,
         hold: number(hold)?,
-        import: *import,
-        export: *export,
+        import: name_of(import)?,
+        export: name_of(export)?,
     })
 }
 

@@ -240,19 +240,11 @@ impl Stage {
         };
         let room = self.taken.as_mut_slice();
         match line {
-            SpeakerLine::Peer(slot, conf) => command(
-                speaker,
-                Command::AddPeer(slot, conf),
-                writer,
-            )?,
-            SpeakerLine::Enable(slot) => command(speaker, Command::Enable(slot), writer)?,
-            SpeakerLine::Disable(slot) => command(speaker, Command::Disable(slot), writer)?,
-            SpeakerLine::Drop(slot) => command(speaker, Command::RemovePeer(slot), writer)?,
-            SpeakerLine::Reach(prefix, cost) => command(
-                speaker,
-                Command::Reach(prefix, cost),
-                writer,
-            )?,
+            SpeakerLine::Obey(command) => step(speaker, Event::Command(command), writer)?,
+            SpeakerLine::SetPolicy(name, rules) => {
+                let command = Command::SetPolicy(name, rules.as_slice());
+                step(speaker, Event::Command(command), writer)?
+            }
             SpeakerLine::Up(slot) => step(speaker, Event::Up(slot), writer)?,
             SpeakerLine::Fail(slot) => step(speaker, Event::Fail(slot), writer)?,
             SpeakerLine::Bytes(slot, octets) => {
@@ -275,14 +267,6 @@ impl Stage {
 /// Writes one line of answer.
 pub(crate) fn write_answer<W: Write>(writer: &mut W, answer: Answer<'_>) -> io::Result<()> {
     writeln!(writer, "{answer}")
-}
-
-fn command<W: Write>(
-    speaker: &mut Speaker,
-    command: Command<'_>,
-    writer: &mut W,
-) -> io::Result<()> {
-    step(speaker, Event::Command(command), writer)
 }
 
 fn step<W: Write>(speaker: &mut Speaker, event: Event<'_>, writer: &mut W) -> io::Result<()> {

@@ -23,10 +23,12 @@ use Rattle.net_prefix.specs.declared.prefix.Prefix.{Prefix}
 use Rattle.rib_in.specs.LatestRoutes.{route_at}
 use Rattle.rib_out.proofs.Prefixes.{is_prefix-refl}
 use Rattle.speaker.specs.AdjRibIn.{brought, is_among, is_only_withdrawn, route, sound_update, update_heard, word_if}
-use Rattle.speaker.specs.Choices.{is_touched, announced_if, announced_in, announced_to, choices_by, choices_on, choices_refused, how_many, is_routed, named_if, named_in, routes_held}
+use Rattle.bgp_conf.specs.Configuration.{is_network}
+use Rattle.speaker.proofs.KnownPrefixes.{IsKnown, network_among}
+use Rattle.speaker.specs.Choices.{is_known, is_touched, named_to, announced_if, announced_in, announced_to, choices_by, choices_on, choices_refused, how_many, is_routed, named_if, named_in, routes_held}
 use Rattle.speaker.specs.Chosen.{AreDifferent, Chooses, IsPart, OncePerPrefix}
 use Rattle.speaker.specs.RoutingState.{RoutingState}
-use Rattle.speaker.specs.Runs.{Run, history}
+use Rattle.speaker.specs.Runs.{Run, configuration_of, history}
 use Rattle.speaker.specs.SpeakerState.{SpeakerState}
 use Rattle.speaker.specs.declared.config.Config.{Config}
 use Rattle.speaker.proofs.Counting.{among_all, different_as, there_case}
@@ -259,20 +261,25 @@ slot_routed config r p (suc n) s low there =
           (or_second (is_some (route (history config n r) p)) (is_routed config r n p) later.0, among_behind p (announced_in (history config n r)) (announced_to config r n) later.1)
     ]
 
-pub most_known : (config : Config) (r : Run) (ps : List Prefix) → AreDifferent (λ p. (s : ℕ) × (s < 64) × IsSome (route (history config s r) p)) ps → length ps ≤ how_many (is_routed config r 64) (announced_to config r 64)
-most_known config r ps different =
-    most_of (is_routed config r 64) (announced_to config r 64) ps
-    (different_as (λ p. (s : ℕ) × (s < 64) × IsSome (route (history config s r) p)) (IsOne (is_routed config r 64) (announced_to config r 64)) ps (λ p there. slot_routed config r p 64 there.0 there.1 there.2) different)
+-- a known prefix is one of those that are counted
+known_one : (config : Config) (r : Run) (p : Prefix) → IsKnown config r p → IsOne (is_known config r) (named_to config r) p
+known_one config r p (inl there) =
+    let one = slot_routed config r p 64 there.0 there.1 there.2 in
+    (or_first (is_routed config r 64 p) (is_network (configuration_of config r) p) one.0, among_behind p (configuration_of config r).networks (announced_to config r 64) one.1)
+known_one config r p (inr local) =
+    (or_second (is_routed config r 64 p) (is_network (configuration_of config r) p) local, among_all p (configuration_of config r).networks (announced_to config r 64) (network_among p (configuration_of config r).networks local))
+
+pub most_known : (config : Config) (r : Run) (ps : List Prefix) → AreDifferent (IsKnown config r) ps → length ps ≤ how_many (is_known config r) (named_to config r)
+most_known config r ps different = most_of (is_known config r) (named_to config r) ps (different_as (IsKnown config r) (IsOne (is_known config r) (named_to config r)) ps (known_one config r) different)
 
 -- of them those that a change of the payloads concerns
 pub most_touched : (config : Config) (r : Run) (before after : List Vrp) (ps : List Prefix)
-    → AreDifferent (λ p. (is_touched before after p ≡ true) × ((s : ℕ) × (s < 64) × IsSome (route (history config s r) p))) ps
-    → length ps ≤ how_many (λ p. is_routed config r 64 p && is_touched before after p) (announced_to config r 64)
+    → AreDifferent (λ p. (is_touched before after p ≡ true) × IsKnown config r p) ps → length ps ≤ how_many (λ p. is_known config r p && is_touched before after p) (named_to config r)
 most_touched config r before after ps different =
-    let holds : Prefix → Bool = λ p. is_routed config r 64 p && is_touched before after p in
-    most_of holds (announced_to config r 64) ps
-    (different_as (λ p. (is_touched before after p ≡ true) × ((s : ℕ) × (s < 64) × IsSome (route (history config s r) p))) (IsOne holds (announced_to config r 64)) ps
-    (λ p there. let one = slot_routed config r p 64 there.1.0 there.1.1 there.1.2 in (and_both (is_routed config r 64 p) (is_touched before after p) one.0 there.0, one.1)) different)
+    let holds : Prefix → Bool = λ p. is_known config r p && is_touched before after p in
+    most_of holds (named_to config r) ps
+    (different_as (λ p. (is_touched before after p ≡ true) × IsKnown config r p) (IsOne holds (named_to config r)) ps
+    (λ p there. let one = known_one config r p there.1 in (and_both (is_known config r p) (is_touched before after p) one.0 there.0, one.1)) different)
   where
     and_both : (a b : Bool) → a ≡ true → b ≡ true → (a && b) ≡ true
     and_both true b is so = so

@@ -9,7 +9,7 @@ use Rattle.net_prefix.specs.declared.payload.Vrp.{Vrp}
 use Rattle.net_prefix.specs.declared.prefix.Prefix.{Prefix}
 use Rattle.origin_valid.specs.Validity.{validity}
 use Rattle.origin_valid.proofs.StretchLaws.{over_change, same_state}
-use Rattle.rib_in.specs.LatestRoutes.{HasRoute}
+use Rattle.rib_in.specs.LatestRoutes.{HasRoute, route_at}
 use Rattle.decision.specs.BookContents.{offer_at}
 use Rattle.net_prefix.specs.declared.transport.Transport.TheVariants.{Open as Connected}
 use Rattle.rtr_codec.specs.ClientTable.{Tick, in_force, initial, row, transport_of, Starved as Refuses}
@@ -32,6 +32,8 @@ use Rattle.speaker.proofs.Coming.{HasCome, Joins}
 use Rattle.speaker.proofs.Counting.{different_as}
 use Rattle.speaker.proofs.Events.{IsReady}
 use Rattle.speaker.proofs.KeptOffers.{kept_touched}
+use Rattle.speaker.proofs.KnownPrefixes.{IsKnown, known_of}
+use Rattle.speaker.specs.Tables.{network_route}
 use Rattle.speaker.proofs.Histories.{route_stays}
 use Rattle.speaker.proofs.Touches.{choices_from, choices_joined, choices_none, choices_octets, choices_twice, untouched}
 use Rattle.vrp_delta.specs.Delta.{change_between}
@@ -48,17 +50,10 @@ pub states_kept : (before after : List Vrp) (q : Prefix) → concerns before aft
 states_kept before after q out origin =
     sym (same_state before after (change_between before after) q origin (λ payload. sym (has-after_change before after payload)) (sym (concerned before after q) ∙ out))
 
--- a route that is kept is one of a slot's history
-slot_of_kept : (config : Config) (conf : Configuration) (now : ℕ) (k : List cached.Event) (histories : ℕ → List happens.Event) (most : ℕ) (r : Run) (s : SpeakerState) → HoldsBy config conf now k histories most s
-    → ((t : ℕ) (p : Prefix) → route (histories t) p ≡ route (history config t r) p) → (p : Prefix) → HasRoute s.adj_in p → (t : ℕ) × (t < 64) × IsSome (route (history config t r) p)
-slot_of_kept config conf now k histories most r s h routes p there =
-    let routed = h.kept.routed there.0 p there.1 in
-    (there.0, h.kept.below there.0 routed.0 routed.1, subst (λ o. IsSome o) ((h.slots there.0).routes_are p ∙ routes there.0 p) there.1)
-
 pub cache_moves : (config : Config) (conf : Configuration) (now : ℕ) (k1 k2 : List cached.Event) (histories : ℕ → List happens.Event) (most : ℕ) (r : Run) (old new : SpeakerState)
     → HoldsBy config conf now k1 histories most old → Revalidates old new → CacheAgrees config k2 new.cache → new.payloads ≡ in_force (cached.client k2)
-    → ((t : ℕ) (p : Prefix) → route (histories t) p ≡ route (history config t r) p) → HoldsBy config conf now k2 histories (most + choices_from config r k1 k2) new
-cache_moves config conf now k1 k2 histories most r old new h moves agrees payloads routes = record {
+    → ((t : ℕ) (p : Prefix) → route (histories t) p ≡ route (history config t r) p) → conf ≡ configuration_of config r → HoldsBy config conf now k2 histories (most + choices_from config r k1 k2) new
+cache_moves config conf now k1 k2 histories most r old new h moves agrees payloads routes same = record {
   config_is = moves.config ∙ h.config_is;
   moment = moves.moment ∙ h.moment;
   conf = moves.conf ∙ h.conf;
@@ -66,6 +61,7 @@ cache_moves config conf now k1 k2 histories most r old new h moves agrees payloa
   payloads = payloads;
   peers = rw moves.conf h.peers;
   slots = λ t. rw (moves.conf, moves.links, moves.adj_in) (h.slots t);
+  networks = λ p. ap (λ table. route_at table 64 p) moves.adj_in ∙ h.networks p ∙ ap (λ c. network_route c p) (sym moves.conf);
   kept = kept_touched (concerns old.payloads new.payloads) old new moves.conf moves.links moves.adj_in moves.made (states_kept old.payloads new.payloads) h.kept;
   chosen =
       let few = moves.chosen.2 in
@@ -76,10 +72,10 @@ cache_moves config conf now k1 k2 histories most r old new h moves agrees payloa
 }
   where
     here : (p : Prefix) → (concerns old.payloads new.payloads p ≡ true) × HasRoute old.adj_in p
-        → (is_touched (in_force (cached.client k1)) (in_force (cached.client k2)) p ≡ true) × ((s : ℕ) × (s < 64) × IsSome (route (history config s r) p))
+        → (is_touched (in_force (cached.client k1)) (in_force (cached.client k2)) p ≡ true) × IsKnown config r p
     here p both = (
       subst (λ before. is_touched before (in_force (cached.client k2)) p ≡ true) h.payloads (subst (λ after. is_touched old.payloads after p ≡ true) payloads (sym (concerned old.payloads new.payloads p) ∙ both.0)),
-      slot_of_kept config conf now k1 histories most r old h routes p both.1,
+      known_of config conf now k1 histories most r old h same routes p both.1,
     )
 
 -- ---- each event
@@ -93,7 +89,7 @@ revalidates_none s new is = record {
   links = ap (λ (x : SpeakerState). x.links) is;
   adj_in = ap (λ (x : SpeakerState). x.adj_in) is;
   made = record {
-    made = λ slot q session held. absurd (let never = sym (concerned s.payloads new.payloads q) ∙ held in let none = ap (λ x. is_touched s.payloads x q) (ap (λ (x : SpeakerState). x.payloads) is) ∙ untouched s.payloads q in cc);
+    made = λ slot q held. absurd (let never = sym (concerned s.payloads new.payloads q) ∙ held in let none = ap (λ x. is_touched s.payloads x q) (ap (λ (x : SpeakerState). x.payloads) is) ∙ untouched s.payloads q in cc);
     still = λ slot q out. ap (λ (x : SpeakerState). offer_at x.book slot q) is;
   };
   chosen = ([], tt, let same = ap (λ (x : SpeakerState). x.chosen) is in omega (arith, same));
@@ -111,6 +107,7 @@ begins config conf now k histories most s h few = record {
   payloads = h.payloads;
   peers = h.peers;
   slots = h.slots;
+  networks = h.networks;
   kept = h.kept;
   chosen = omega (arith, few);
 }
@@ -126,6 +123,7 @@ allowed config conf now k1 k2 histories m1 m2 s h same more = record {
   payloads = h.payloads ∙ ap (λ k. in_force (cached.client k)) (sym same);
   peers = h.peers;
   slots = h.slots;
+  networks = h.networks;
   kept = h.kept;
   chosen = let so_far = h.chosen in omega (arith, so_far, more);
 }
@@ -177,7 +175,7 @@ holds_cached config r call s t old new h few was is conf moment histories step p
     let agrees = becomes config (cache_history r) k2 old.cache new.cache s t was is h.cache step in
     let now = agreed_payloads config k2 new.cache t is agrees in
     let after = cache_moves config (configuration_of config r) (moment_after r) (cache_history r) k2 (λ slot. history config slot r) 0 r old new
-    (begins config (configuration_of config r) (moment_after r) (cache_history r) (λ slot. history config slot r) (choices_in config r) old h few) moves agrees (payloads ∙ ap in_force now.1.client) (λ slot p. refl) in
+    (begins config (configuration_of config r) (moment_after r) (cache_history r) (λ slot. history config slot r) (choices_in config r) old h few) moves agrees (payloads ∙ ap in_force now.1.client) (λ slot p. refl) refl in
     let P : Configuration → ℕ → (ℕ → List happens.Event) → Type 0 = λ c m hs. HoldsBy config c m k2 hs (choices_in config (turn call [] ∷ r)) new in
     subst (λ c. P c (moment_after (turn call [] ∷ r)) (λ slot. history config slot (turn call [] ∷ r))) (sym conf)
     (subst (λ m. P (configuration_of config r) m (λ slot. history config slot (turn call [] ∷ r))) (sym moment)
@@ -193,7 +191,7 @@ holds_cache_ticked config r now s t old new h was is step payloads moves =
     let k2 : List cached.Event = cached.Ticked now ∷ cache_history r in
     let agrees = becomes config (cache_history r) k2 old.cache new.cache s t was is h.cache step in
     let behind = agreed_payloads config k2 new.cache t is agrees in
-    let after = cache_moves config (configuration_of config r) now (cache_history r) k2 (λ slot. Ticked now ∷ history config slot r) 0 r old new h moves agrees (payloads ∙ ap in_force behind.1.client) (λ slot p. route_stays (history config slot r) p) in
+    let after = cache_moves config (configuration_of config r) now (cache_history r) k2 (λ slot. Ticked now ∷ history config slot r) 0 r old new h moves agrees (payloads ∙ ap in_force behind.1.client) (λ slot p. route_stays (history config slot r) p) refl in
     allowed config (configuration_of config r) now k2 k2 (λ slot. Ticked now ∷ history config slot r) (0 + choices_from config r (cache_history r) k2) (choices_cached config r (cache_history r) (cached.Ticked now)) new after refl (omega arith)
 
 -- octets come to it, up to the end of a PDU
@@ -207,7 +205,7 @@ cache_heard config r done piece s t old new h was is step payloads moves =
     let at : old.moment ≡ cached.moment_of k1 = h.moment ∙ sym (cache_moment (turn (Cache_bytes_call done) [] ∷ r)) in
     let agrees = becomes config k1 k2 old.cache new.cache s t was is h.cache (λ a. step k1 a at) in
     let now = agreed_payloads config k2 new.cache t is agrees in
-    let after = cache_moves config (configuration_of config r) (moment_after r) k1 k2 (λ slot. history config slot r) (choices_in config (turn (Cache_bytes_call done) [] ∷ r)) r old new h moves agrees (payloads ∙ ap in_force now.1.client) (λ slot p. refl) in
+    let after = cache_moves config (configuration_of config r) (moment_after r) k1 k2 (λ slot. history config slot r) (choices_in config (turn (Cache_bytes_call done) [] ∷ r)) r old new h moves agrees (payloads ∙ ap in_force now.1.client) (λ slot p. refl) refl in
     let joined = choices_joined config r done piece k in
     let few = choices_octets config r piece k1 in
     allowed config (configuration_of config r) (moment_after r) k2 (cached.onto (done ++ piece) k) (λ slot. history config slot r)
@@ -295,7 +293,7 @@ cache_starves config r done octets count s t old new h was is within starves pay
     let closed : SessionAgrees k3 t = octets_are_dropped (cached.Refused ∷ k2) t behind shut w.agrees in
     let agrees : CacheAgrees config k3 new.cache = subst (λ x. CacheAgrees config k3 x) (sym is) (had.0, closed) in
     let same : in_force (cached.client k3) ≡ in_force (cached.client (cached.Refused ∷ k2)) = ap in_force (sym closed.client ∙ w.agrees.client) in
-    let after = cache_moves config (configuration_of config r) (moment_after r) k1 k3 (λ slot. history config slot r) (choices_in config (turn (Cache_bytes_call done) [] ∷ r)) r old new h moves agrees (payloads ∙ ap in_force closed.client) (λ slot p. refl) in
+    let after = cache_moves config (configuration_of config r) (moment_after r) k1 k3 (λ slot. history config slot r) (choices_in config (turn (Cache_bytes_call done) [] ∷ r)) r old new h moves agrees (payloads ∙ ap in_force closed.client) (λ slot p. refl) refl in
     let few = starved_choices config r done piece behind k same in
     let join : cached.onto (done ++ piece) k ≡ k2 = pieces_join done piece k in
     let few_joined : choices_cached_on config r done k + choices_from config r k1 k3 ≤ choices_cached_on config r (done ++ piece) k + choices_cached config r (cached.onto (done ++ piece) k) cached.Refused =
@@ -329,6 +327,7 @@ agrees_handed config r octets cache old new a agrees is = subst (λ x. Agrees co
     payloads = a.holds.payloads;
     peers = a.holds.peers;
     slots = a.holds.slots;
+    networks = a.holds.networks;
     kept = a.holds.kept;
     chosen = omega arith;
   };
@@ -383,6 +382,7 @@ holds_none_ticked config r now opened s h none is =
         payloads = h.payloads ∙ ap in_force (had.1 ∙ sym has.1);
         peers = h.peers;
         slots = h.slots;
+        networks = h.networks;
         kept = h.kept;
         chosen = let so_far = h.chosen in omega (arith, so_far);
       },

@@ -1,9 +1,9 @@
-use Rattle.std.proofs.Common.{◌≡◌, ◌≢◌, ◌≤◌, ◌==◌, inl, inr, ℕ, Bool, true, false, nat_le, List, ◌∷◌, Option, Some, None, length, cond, refl, sym, ap, subst}
+use Rattle.std.proofs.Common.{◌≡◌, ◌≢◌, ◌≤◌, ◌==◌, ◌||◌, inl, inr, ℕ, Bool, true, false, nat_le, List, ◌∷◌, Option, Some, None, length, cond, refl, sym, ap, ◌∙◌, subst}
 use Rattle.std.specs.Bool.{OnTrue}
-use Rattle.std.specs.Option.{option_map, option_and_then, MatchOption}
+use Rattle.std.specs.Option.{IsSome, option_map, option_and_then, MatchOption}
 use Rattle.std.proofs.lemmas.Bool.{cases_eq, eq-eqb, ne_eqb, leb-true}
 use Rattle.bgp_attr.specs.AttributeSpelling.{attributes_spelling}
-use Rattle.bgp_attr.specs.PathAttributes.{PathAttributes, missing_of}
+use Rattle.bgp_attr.specs.PathAttributes.{PathAttributes}
 use Rattle.bgp_attr.specs.declared.peer.PeerKind.TheVariants.{External}
 use Rattle.bgp_conf.specs.Configuration.{Configuration, peer_at}
 use Rattle.bgp_conf.specs.declared.conf.ConfiguredPeer.{ConfiguredPeer}
@@ -11,7 +11,7 @@ use Rattle.bgp_peer.specs.SessionInputs as happens
 use Rattle.bgp_peer.specs.SessionInputs.{session, terms_of}
 use Rattle.decision.specs.declared.candidate.Candidate.{Candidate}
 use Rattle.decision.proofs.Laws.{selected_member}
-use Rattle.export_rules.specs.Export.{AreAccepted, IsSender, export_at, exported_of, fitting}
+use Rattle.export_rules.specs.Export.{AreAccepted, IsSender, announced_by, exported_of, fitting, in_front, is_internal}
 use Rattle.export_rules.specs.declared.export.ExportPeer.{ExportPeer}
 use Rattle.net_prefix.specs.declared.payload.Vrp.{Vrp}
 use Rattle.net_prefix.specs.declared.prefix.Prefix.{Prefix}
@@ -19,39 +19,45 @@ use Rattle.rib_in.specs.LatestRoutes.{RouteTable, route_at}
 use Rattle.speaker.specs.AdjRibIn.{route}
 use Rattle.speaker.specs.Agreement.{SlotAgrees, tables_after}
 use Rattle.speaker.specs.Candidates.{IsCandidate}
-use Rattle.speaker.specs.Export.{IsAccepted, IsExport, export_in, export_to, export_peer_of}
+use Rattle.speaker.specs.Export.{IsAccepted, IsExport, export_in, export_to, export_peer_of, exported_at, selected_of}
+use Rattle.bgp_conf.specs.PeerPolicies.{export_action}
+use Rattle.policy.specs.declared.rule.Action.{Action}
+use Rattle.policy.specs.declared.rule.Action.TheVariants.{Reject, Accept}
 use Rattle.speaker.specs.Linked.{Linked}
 use Rattle.speaker.specs.LocRib.{AreBest, IsBest, HasNoCandidate}
 use Rattle.speaker.specs.Queueing.{Queue, Service}
 use Rattle.speaker.specs.Runs.{Call, Run, turn, configuration_of, history, payloads_after, served_by}
 use Rattle.speaker.specs.SpeakerState.{SpeakerState}
-use Rattle.speaker.specs.Tables.{Tables, best_at}
+use Rattle.speaker.specs.Tables.{Tables, best_at, network_route, peer_route_at}
 use Rattle.speaker.specs.declared.config.Config.{Config}
 use Rattle.speaker.proofs.SlotStates.{slot_session}
+use Rattle.speaker.proofs.CandidateLists.{candidate_route}
+use Rattle.speaker.proofs.PeerRoutes.{peers_same}
+use Rattle.speaker.specs.Agreement.{route_under}
 
 -- From the slots to the whole: what the selection reads, what is exported, and what a call queues.
 
 -- the slots of a speaker are as these histories leave them
 abbrev pub SlotsAgree : Config → Configuration → (ℕ → Option Linked) → RouteTable → (ℕ → List happens.Event) → Type 0
-SlotsAgree config conf links adj_in histories = (s : ℕ) → SlotAgrees config (peer_at conf s) (links s) (route_at adj_in s) (histories s)
+SlotsAgree config conf links adj_in histories = (s : ℕ) → SlotAgrees config (peer_at conf s) (links s) (peer_route_at adj_in s) (histories s)
 
 -- one slot changes
 pub slots_changed : (config : Config) (conf conf2 : Configuration) (links links2 : ℕ → Option Linked) (adj_in adj_in2 : RouteTable) (hs hs2 : ℕ → List happens.Event) (slot : ℕ)
     → SlotsAgree config conf links adj_in hs
     → ((t : ℕ) → t ≢ slot → peer_at conf2 t ≡ peer_at conf t) → ((t : ℕ) → t ≢ slot → links2 t ≡ links t)
     → ((t : ℕ) → t ≢ slot → (p : Prefix) → route_at adj_in2 t p ≡ route_at adj_in t p) → ((t : ℕ) → t ≢ slot → hs2 t ≡ hs t)
-    → SlotAgrees config (peer_at conf2 slot) (links2 slot) (route_at adj_in2 slot) (hs2 slot) → SlotsAgree config conf2 links2 adj_in2 hs2
+    → SlotAgrees config (peer_at conf2 slot) (links2 slot) (peer_route_at adj_in2 slot) (hs2 slot) → SlotsAgree config conf2 links2 adj_in2 hs2
 slots_changed config conf conf2 links links2 adj_in adj_in2 hs hs2 slot all peers others routes histories here t =
     elim (cases_eq t slot) [
       | inl same ↦
-          let P : ℕ → Type 0 = λ s. SlotAgrees config (peer_at conf2 s) (links2 s) (route_at adj_in2 s) (hs2 s) in
+          let P : ℕ → Type 0 = λ s. SlotAgrees config (peer_at conf2 s) (links2 s) (peer_route_at adj_in2 s) (hs2 s) in
           subst P (sym same) here
       | inr other ↦
-          let P : Option ConfiguredPeer → Type 0 = λ x. SlotAgrees config x (links2 t) (route_at adj_in2 t) (hs2 t) in
-          let L : Option Linked → Type 0 = λ x. SlotAgrees config (peer_at conf t) x (route_at adj_in2 t) (hs2 t) in
+          let P : Option ConfiguredPeer → Type 0 = λ x. SlotAgrees config x (links2 t) (peer_route_at adj_in2 t) (hs2 t) in
+          let L : Option Linked → Type 0 = λ x. SlotAgrees config (peer_at conf t) x (peer_route_at adj_in2 t) (hs2 t) in
           let R : (Prefix → Option PathAttributes) → Type 0 = λ x. SlotAgrees config (peer_at conf t) (links t) x (hs2 t) in
-          let H : List happens.Event → Type 0 = λ x. SlotAgrees config (peer_at conf t) (links t) (route_at adj_in t) x in
-          subst P (sym (peers t other)) (subst L (sym (others t other)) (subst R (λ i p. sym (routes t other p) i) (subst H (sym (histories t other)) (all t))))
+          let H : List happens.Event → Type 0 = λ x. SlotAgrees config (peer_at conf t) (links t) (peer_route_at adj_in t) x in
+          subst P (sym (peers t other)) (subst L (sym (others t other)) (subst R (λ i p. sym (peers_same adj_in adj_in2 t (routes t other) p) i) (subst H (sym (histories t other)) (all t))))
     ]
 
 -- what the selection reads of these slots
@@ -64,31 +70,39 @@ slot_route config peer l routes h p a = sym (a.routes_are p)
 
 -- the run's tables are those that are kept
 pub tables_same : (config : Config) (r : Run) (conf : Configuration) (payloads : List Vrp) (links : ℕ → Option Linked) (adj_in : RouteTable) → configuration_of config r ≡ conf → payloads ≡ payloads_after r
-    → SlotsAgree config conf links adj_in (λ s. history config s r) → tables_after config r ≡ tables_in conf payloads links adj_in
-tables_same config r conf payloads links adj_in same none all = λ i. record {
+    → SlotsAgree config conf links adj_in (λ s. history config s r) → ((prefix : Prefix) → route_at adj_in 64 prefix ≡ network_route conf prefix) → tables_after config r ≡ tables_in conf payloads links adj_in
+tables_same config r conf payloads links adj_in same none all networks = λ i. record {
   conf = same i;
   payloads = sym none i;
-  sessions = λ s. slot_session config (peer_at conf s) (links s) (route_at adj_in s) (history config s r) (all s) i;
-  routes = λ s prefix. slot_route config (peer_at conf s) (links s) (route_at adj_in s) (history config s r) prefix (all s) i;
+  sessions = λ s. slot_session config (peer_at conf s) (links s) (peer_route_at adj_in s) (history config s r) (all s) i;
+  routes = λ s prefix. under s prefix i;
 }
+  where
+    under : (s : ℕ) (prefix : Prefix) → route_under (configuration_of config r) (λ t. history config t r) s prefix ≡ route_at adj_in s prefix
+    under s prefix = elim (cases_eq s 64) [
+      | inl local ↦ rw (eq-eqb s 64 local) (ap (λ c. network_route c prefix) same ∙ sym (networks prefix) ∙ ap (λ x. route_at adj_in x prefix) (sym local))
+      | inr other ↦
+          rw (ne_eqb s 64 other)
+          (slot_route config (peer_at conf s) (links s) (peer_route_at adj_in s) (history config s r) prefix (all s) ∙ ap (λ b. cond b None (route_at adj_in s prefix)) (ne_eqb s 64 other))
+    ]
 
 -- the kept tables give the export
 pub best_candidate : (t : Tables) (prefix : Prefix) (c : Candidate) → IsBest t prefix c → IsCandidate t prefix c
 best_candidate t prefix c best = (best.1 c).0 (selected_member best.0 (Some c) best.2)
 
 export_found : (t : Tables) (c : Candidate) (peer : ExportPeer) (prefix : Prefix) (found : Option PathAttributes) → IsBest t prefix c → t.routes c.slot prefix ≡ found
-    → IsExport t peer prefix (option_and_then (λ attrs. export_at c attrs peer) found)
-export_found t c peer prefix None best is = let candidate = best_candidate t prefix c best in let route_is = candidate.route in absurd (cc)
+    → IsExport t peer prefix (option_and_then (λ attrs. exported_at t.conf peer prefix c attrs) found)
+export_found t c peer prefix None best is = let route = candidate_route t prefix c (best_candidate t prefix c best) in let route_is = route.1 in absurd (cc)
 export_found t c peer prefix (Some attrs) best is = inl (c, attrs, best, is, refl)
 
 export_best : (t : Tables) (adj_in : RouteTable) (peer : ExportPeer) (prefix : Prefix) (found : Option Candidate)
     → ((s : ℕ) (p : Prefix) → t.routes s p ≡ route_at adj_in s p) → MatchOption found (HasNoCandidate t prefix) (λ c. IsBest t prefix c)
-    → IsExport t peer prefix (option_and_then (λ c. option_and_then (λ attrs. export_at c attrs peer) (route_at adj_in c.slot prefix)) found)
+    → IsExport t peer prefix (option_and_then (λ c. option_and_then (λ attrs. exported_at t.conf peer prefix c attrs) (route_at adj_in c.slot prefix)) found)
 export_best t adj_in peer prefix None routes none = inr (none, refl)
 export_best t adj_in peer prefix (Some c) routes best = export_found t c peer prefix (route_at adj_in c.slot prefix) best (routes c.slot prefix)
 
 pub export_is : (t : Tables) (loc_rib : Prefix → Option Candidate) (adj_in : RouteTable) (peer : ExportPeer) (prefix : Prefix)
-    → ((s : ℕ) (p : Prefix) → t.routes s p ≡ route_at adj_in s p) → AreBest t loc_rib → IsExport t peer prefix (export_in loc_rib adj_in peer prefix)
+    → ((s : ℕ) (p : Prefix) → t.routes s p ≡ route_at adj_in s p) → AreBest t loc_rib → IsExport t peer prefix (export_in t.conf loc_rib adj_in peer prefix)
 export_is t loc_rib adj_in peer prefix routes is = export_best t adj_in peer prefix (loc_rib prefix) routes (is prefix)
 
 -- what is exported fits a message
@@ -96,36 +110,59 @@ fitting_short : (b : Bool) (octets a : List ℕ) → nat_le (length octets) 4068
 fitting_short true octets a fits is = let same : octets ≡ a = cc in rw (← same) (leb-true (length octets) 4068 fits)
 fitting_short false octets a fits is = absurd (cc)
 
-export_at_short : (own : Bool) (octets a : List ℕ) → cond own None (fitting octets) ≡ Some a → length a ≤ 4068
-export_at_short true octets a is = absurd (cc)
-export_at_short false octets a is = fitting_short _ octets a refl is
+announced_short : (action : Action) (attrs : PathAttributes) (peer : ExportPeer) (a : List ℕ) → announced_by action attrs peer ≡ Some a → length a ≤ 4068
+announced_short Reject attrs peer a is = absurd (cc)
+announced_short (Accept degree med prepend) attrs peer a is = fitting_short _ (attributes_spelling (exported_of attrs peer med (in_front prepend))) a refl is
 
-found_short : (c : Candidate) (peer : ExportPeer) (found : Option PathAttributes) (a : List ℕ) → option_and_then (λ attrs. export_at c attrs peer) found ≡ Some a → length a ≤ 4068
-found_short c peer None a is = absurd (cc)
-found_short c peer (Some attrs) a is = export_at_short (c.slot == peer.slot) (attributes_spelling (exported_of attrs peer)) a is
+export_at_short : (own : Bool) (action : Action) (attrs : PathAttributes) (peer : ExportPeer) (a : List ℕ) → cond own None (announced_by action attrs peer) ≡ Some a → length a ≤ 4068
+export_at_short true action attrs peer a is = absurd (cc)
+export_at_short false action attrs peer a is = announced_short action attrs peer a is
 
-best_short : (adj_in : RouteTable) (peer : ExportPeer) (prefix : Prefix) (found : Option Candidate) (a : List ℕ)
-    → option_and_then (λ c. option_and_then (λ attrs. export_at c attrs peer) (route_at adj_in c.slot prefix)) found ≡ Some a → length a ≤ 4068
-best_short adj_in peer prefix None a is = absurd (cc)
-best_short adj_in peer prefix (Some c) a is = found_short c peer (route_at adj_in c.slot prefix) a is
+found_short : (conf : Configuration) (c : Candidate) (peer : ExportPeer) (prefix : Prefix) (found : Option PathAttributes) (a : List ℕ) → option_and_then (λ attrs. exported_at conf peer prefix c attrs) found ≡ Some a → length a ≤ 4068
+found_short conf c peer prefix None a is = absurd (cc)
+found_short conf c peer prefix (Some attrs) a is = export_at_short (c.slot == peer.slot || is_internal peer) (export_action conf peer.slot (selected_of conf.own prefix c attrs)) attrs peer a is
+
+best_short : (conf : Configuration) (adj_in : RouteTable) (peer : ExportPeer) (prefix : Prefix) (found : Option Candidate) (a : List ℕ)
+    → option_and_then (λ c. option_and_then (λ attrs. exported_at conf peer prefix c attrs) (route_at adj_in c.slot prefix)) found ≡ Some a → length a ≤ 4068
+best_short conf adj_in peer prefix None a is = absurd (cc)
+best_short conf adj_in peer prefix (Some c) a is = found_short conf c peer prefix (route_at adj_in c.slot prefix) a is
 
 peer_short : (s : SpeakerState) (t : ℕ) (found : Option ConfiguredPeer) (prefix : Prefix) (a : List ℕ)
-    → option_and_then (λ p. export_in (best_at s.loc_rib) s.adj_in (export_peer_of s.conf t p) prefix) found ≡ Some a → length a ≤ 4068
+    → option_and_then (λ p. export_in s.conf (best_at s.loc_rib) s.adj_in (export_peer_of s.conf t p) prefix) found ≡ Some a → length a ≤ 4068
 peer_short s t None prefix a is = absurd (cc)
-peer_short s t (Some p) prefix a is = best_short s.adj_in (export_peer_of s.conf t p) prefix (best_at s.loc_rib prefix) a is
+peer_short s t (Some p) prefix a is = best_short s.conf s.adj_in (export_peer_of s.conf t p) prefix (best_at s.loc_rib prefix) a is
 
 pub export_short : (s : SpeakerState) (t : ℕ) (prefix : Prefix) (a : List ℕ) → export_to s t prefix ≡ Some a → length a ≤ 4068
 export_short s t prefix a is = peer_short s t (peer_at s.conf t) prefix a is
 
 -- the export to a slot that is configured
-pub export_peer_found : (s : SpeakerState) (t : ℕ) (p : ConfiguredPeer) (prefix : Prefix) → peer_at s.conf t ≡ Some p → export_to s t prefix ≡ export_in (best_at s.loc_rib) s.adj_in (export_peer_of s.conf t p) prefix
-export_peer_found s t p prefix is = ap (λ found. option_and_then (λ x. export_in (best_at s.loc_rib) s.adj_in (export_peer_of s.conf t x) prefix) found) is
+pub export_peer_found : (s : SpeakerState) (t : ℕ) (p : ConfiguredPeer) (prefix : Prefix) → peer_at s.conf t ≡ Some p → export_to s t prefix ≡ export_in s.conf (best_at s.loc_rib) s.adj_in (export_peer_of s.conf t p) prefix
+export_peer_found s t p prefix is = ap (λ found. option_and_then (λ x. export_in s.conf (best_at s.loc_rib) s.adj_in (export_peer_of s.conf t x) prefix) found) is
+
+-- nothing is exported to an internal peer
+external_at : (own inside : Bool) (announced : Option (List ℕ)) (a : List ℕ) → cond (own || inside) None announced ≡ Some a → inside ≡ false
+external_at true inside announced a is = absurd (cc)
+external_at false true announced a is = absurd (cc)
+external_at false false announced a is = refl
+
+found_external : (conf : Configuration) (c : Candidate) (peer : ExportPeer) (prefix : Prefix) (found : Option PathAttributes) (a : List ℕ) → option_and_then (λ attrs. exported_at conf peer prefix c attrs) found ≡ Some a → is_internal peer ≡ false
+found_external conf c peer prefix None a is = absurd (cc)
+found_external conf c peer prefix (Some attrs) a is = external_at (c.slot == peer.slot) (is_internal peer) (announced_by (export_action conf peer.slot (selected_of conf.own prefix c attrs)) attrs peer) a is
+
+best_external : (conf : Configuration) (adj_in : RouteTable) (peer : ExportPeer) (prefix : Prefix) (found : Option Candidate) (a : List ℕ)
+    → option_and_then (λ c. option_and_then (λ attrs. exported_at conf peer prefix c attrs) (route_at adj_in c.slot prefix)) found ≡ Some a → is_internal peer ≡ false
+best_external conf adj_in peer prefix None a is = absurd (cc)
+best_external conf adj_in peer prefix (Some c) a is = found_external conf c peer prefix (route_at adj_in c.slot prefix) a is
+
+pub export_external : (s : SpeakerState) (t : ℕ) (p : ConfiguredPeer) (prefix : Prefix) (a : List ℕ) → peer_at s.conf t ≡ Some p → export_to s t prefix ≡ Some a → (p.asn.0 == s.conf.own.0) ≡ false
+export_external s t p prefix a configured is =
+    best_external s.conf s.adj_in (export_peer_of s.conf t p) prefix (best_at s.loc_rib prefix) a (sym (export_peer_found s t p prefix configured) ∙ is)
 
 -- what is written of the best route is good to the peer
 pub on_accepted : (b : Bool) (loc_rib : List (Prefix × Candidate)) (adj_in : RouteTable) (peer : ExportPeer) (p : Prefix) (octets : List ℕ) (c : Candidate) (attrs : PathAttributes)
-    → best_at loc_rib p ≡ Some c → route_at adj_in c.slot p ≡ Some attrs → OnTrue b (IsSender peer → missing_of (External peer.own) attrs ≡ None → AreAccepted peer.own octets)
+    → best_at loc_rib p ≡ Some c → route_at adj_in c.slot p ≡ Some attrs → OnTrue b (IsSender peer → IsSome attrs.origin → IsSome attrs.as_path → AreAccepted peer.own octets)
     → OnTrue b (IsAccepted loc_rib adj_in peer p octets)
-on_accepted true loc_rib adj_in peer p octets c attrs best route good = λ sender complete. good sender (complete c attrs best route)
+on_accepted true loc_rib adj_in peer p octets c attrs best route good = λ sender complete. let has = complete c attrs best route in good sender has.0 has.1
 on_accepted false loc_rib adj_in peer p octets c attrs best route good = tt
 
 -- the slot for which something is done

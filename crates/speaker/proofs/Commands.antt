@@ -1,21 +1,37 @@
-use Rattle.std.proofs.Common.{◌≡◌, ◌≢◌, ◌≤◌, ◌<◌, ◌+◌, ◌==◌, ◌&&◌, ◌||◌, ◌^◌, ℕ, Bool, true, false, List, [], ◌∷◌, length, Option, Some, None, Result, Ok, Err, OnErr, is_none, is_some, nat_le, cond, refl, sym, ap, ◌∙◌, subst, arith}
-use Rattle.std.proofs.lemmas.Bool.{eq-eqb, ne_eqb, eqb-true}
+use Rattle.std.proofs.Common.{◌≡◌, ◌≢◌, ◌≤◌, ◌<◌, ◌+◌, ◌==◌, ◌&&◌, ◌||◌, ◌^◌, ℕ, Bool, true, false, List, [], ◌∷◌, length, Option, Some, None, Result, Ok, Err, OnErr, OnOk, is_none, is_some, nat_le, cond, refl, sym, ap, ◌∙◌, subst, inl, inr, arith}
+use Rattle.std.proofs.lemmas.Bool.{cases_eq, eq-eqb, ne_eqb, eqb-true}
 use Rattle.std.proofs.lemmas.Bool.Decides.{nat_tests}
 use Rattle.std.proofs.lemmas.Grind.{common_steps}
 use Rattle.std.specs.BTreeMap.{is_at}
+use Rattle.std.specs.Borrow.{Bor}
+use Rattle.std.specs.BTreeSet.{insert_key}
+use Rattle.std.specs.Set.{remove_key}
+use Rattle.std.specs.List.{list_any}
 use Rattle.std.specs.Option.{IsSome, option_map}
-use Rattle.std.specs.Ordering.{nat_cmp}
-use Rattle.bgp_conf.proofs.PrefixOrder.{is_eq-nat_cmp}
-use Rattle.bgp_attr.specs.PathAttributes.{PathAttributes}
-use Rattle.bgp_conf.specs.Configuration.{AddressesDiffer, Configuration, peer_at}
-use Rattle.bgp_conf.specs.ConfAfter.{TakesMemory, conf_after, peer_after, configured_of}
+use Rattle.std.specs.Ordering.{is_eq, match_ordering, nat_cmp}
+use Rattle.std.specs.declared.cmp.Ordering.{Ordering}
+use Rattle.std.specs.declared.cmp.Ordering.TheVariants.{Less, Equal, Greater}
+use Rattle.net_prefix.specs.PrefixOrder.{prefix_cmp}
+use Rattle.rib_out.proofs.Prefixes.{is_prefix-refl}
+use Rattle.bgp_conf.proofs.PrefixOrder.{is_at-prefix_cmp, is_eq-nat_cmp}
+use Rattle.decision.specs.BookContents.{is_prefix}
+use Rattle.bgp_attr.specs.PathAttributes.{PathAttributes, originated}
+use Rattle.bgp_conf.specs.Configuration.{AddressesDiffer, Configuration, is_network, peer_at}
+use Rattle.bgp_conf.specs.ConfAfter.{TakesMemory, conf_after, exporting, importing, is_network_after, is_prefix as is_prefix_of, peer_after, configured_of}
 use Rattle.bgp_conf.specs.FirstRefusal.{first_refusal}
 use Rattle.bgp_conf.specs.declared.command.Command.{Command}
-use Rattle.bgp_conf.specs.declared.command.Command.TheVariants.{AddPeer, RemovePeer, Enable, Disable, Reach}
+use Rattle.bgp_conf.specs.declared.command.Command.TheVariants.{AddPeer, RemovePeer, Enable, Disable, SetPolicy, DropPolicy, UseIn, UseOut, Network, NoNetwork, Reach, NoReach}
 use Rattle.bgp_conf.specs.declared.command.PeerConf.{PeerConf}
 use Rattle.bgp_conf.specs.declared.conf.ConfiguredPeer.{ConfiguredPeer}
 use Rattle.bgp_conf.specs.declared.refusal.Refusal.{Refusal}
-use Rattle.bgp_conf.proofs.Accepted.{apart-from_accepted, external-from_accepted, is_host-from_accepted, peer_at-from_accepted, slot-from_accepted}
+use Rattle.bgp_attr.specs.AttributeFaults.{is_host}
+use Rattle.bgp_conf.proofs.PolicyActions.{import_action-DropPolicy, import_action-UseIn, import_action-UseOut, option_map-changed}
+use Rattle.bgp_conf.proofs.PeerLists.{lookup-with_changed}
+use Rattle.bgp_conf.specs.PeerPolicies.{import_action}
+use Rattle.policy.specs.PolicyNames.{name_of}
+use Rattle.policy.specs.declared.rule.Rule.{Rule}
+use Rattle.origin_valid.specs.Validity.{validity}
+use Rattle.bgp_conf.proofs.Accepted.{addressed-from_accepted, apart-from_accepted, is_host-from_accepted, peer_at-from_accepted, slot-from_accepted}
 use Rattle.bgp_fsm.specs.SessionTable.{effects_of}
 use Rattle.bgp_fsm.specs.StateTests.{is_established, is_message}
 use Rattle.bgp_fsm.specs.Transports.{is_closing, transport_of}
@@ -32,28 +48,32 @@ use Rattle.net_prefix.specs.declared.asn.Asn.{Asn}
 use Rattle.net_prefix.specs.declared.prefix.Prefix.{Prefix}
 use Rattle.net_prefix.specs.declared.transport.Transport.{Transport}
 use Rattle.net_prefix.specs.declared.transport.Transport.TheVariants.{Open as Connected}
-use Rattle.rib_in.specs.LatestRoutes.{HasRoute, route_at}
+use Rattle.rib_in.specs.LatestRoutes.{HasRoute, RouteTable, is_route, route_at}
 use Rattle.speaker.specs.AdjRibIn.{route}
 use Rattle.speaker.specs.Agreement.{CacheAgrees, SlotAgrees, IsTaken, Holds, HoldsBy}
 use Rattle.rtr_session.specs.SessionHistory as cached
 use Rattle.speaker.proofs.Histories.{no_route}
 use Rattle.speaker.proofs.SlotStates.{SlotIs, slot_agrees, configured_from, slot_from}
-use Rattle.speaker.specs.Choices.{choices_by, choices_in}
-use Rattle.speaker.specs.Chosen.{AreDifferent, Chooses}
+use Rattle.speaker.specs.Choices.{choices_by, choices_commanded, choices_in, how_many, is_known, named_to}
+use Rattle.speaker.specs.Chosen.{AreDifferent, Chooses, OncePerPrefix}
 use Rattle.speaker.specs.FirstRefusal.{refused_at, awaits_up, is_open}
 use Rattle.speaker.specs.Linked.{Linked}
-use Rattle.speaker.specs.Offers.{AreMadeAgain, IsSound, Offers}
-use Rattle.speaker.specs.Moves.{Moves, IsPut, moved}
-use Rattle.speaker.specs.Runs.{Call, Run, turn, Up_call, Fail_call, Bytes_call, Starved_call, Tick_call, Command_call, Take_call, Cache_up_call, Cache_fail_call, Cache_bytes_call, Cache_starved_call, Cache_take_call, cache_history, conf_called, configuration_of, history, moment_after, opened_commanded, terms_in}
-use Rattle.speaker.specs.SpeakerState.{SpeakerState}
-use Rattle.speaker.specs.Tables.{link_at, tables}
+use Rattle.speaker.specs.Offers.{AreKept, AreMadeAgain, AreMadeWhere, IsSound, Offers, read_in}
+use Rattle.speaker.specs.Moves.{Announces, Moves, IsPut, moved, resolves}
+use Rattle.speaker.specs.Runs.{Call, Run, turn, Up_call, Fail_call, Bytes_call, Starved_call, Tick_call, Command_call, Take_call, Cache_up_call, Cache_fail_call, Cache_bytes_call, Cache_starved_call, Cache_take_call, cache_history, commanded, conf_called, configuration_of, history, moment_after, opened_commanded, terms_in}
+use Rattle.speaker.specs.SpeakerState.{IsAsBefore, SpeakerState, tables_of}
+use Rattle.speaker.specs.Tables.{link_at, network_route, peer_route_at, session_at, tables}
 use Rattle.speaker.specs.declared.config.Config.{Config}
-use Rattle.speaker.proofs.AllowedChoices.{most_known, signal_few}
+use Rattle.speaker.proofs.AllowedChoices.{most_known, most_routes, signal_few}
 use Rattle.speaker.proofs.Calls.{slots_changed}
 use Rattle.speaker.proofs.Counting.{different_as}
-use Rattle.speaker.proofs.Events.{put_by, slot_is, slot_of}
+use Rattle.speaker.proofs.Events.{put_by, slot_is, slot_now, slot_of}
 use Rattle.speaker.proofs.Moments.{moment_same}
-use Rattle.speaker.proofs.KeptOffers.{kept_added, kept_again, moves_keep}
+use Rattle.speaker.proofs.KeptOffers.{IsAlike, taken_by, kept_added, kept_again, kept_conf, kept_gone, kept_network, kept_partly, moves_keep}
+use Rattle.speaker.proofs.KnownPrefixes.{IsKnown, known_of}
+use Rattle.speaker.proofs.PeerRoutes.{agrees_peers, peer_as}
+use Rattle.speaker.proofs.Places.{same_from_is_prefix}
+use Rattle.speaker.proofs.RouteChanges.{is_route-parts, second_true}
 use Rattle.speaker.proofs.SlotOctets.{slot_signalled}
 use Rattle.speaker.proofs.SoundOffers.{sound_conf}
 
@@ -78,7 +98,7 @@ accepted_configured (Some peer) linked takes h = ((peer, refl), accepted linked 
 -- a slot whose connection isn't still to be closed is configured
 pub peer_of : (config : Config) (r : Run) (slot : ℕ) (l : Linked) (s : SpeakerState) → Holds config r s → link_at s.links slot ≡ Some l → is_closing (transport_of l.peer.session) ≡ false → (peer : ConfiguredPeer) × (peer_at s.conf slot ≡ Some peer)
 peer_of config r slot l s h linked standing =
-    configured_from config (peer_at s.conf slot) (link_at s.links slot) l (route_at s.adj_in slot) (history config slot r) linked standing (h.slots slot)
+    configured_from config (peer_at s.conf slot) (link_at s.links slot) l (peer_route_at s.adj_in slot) (history config slot r) linked standing (h.slots slot)
 
 pub open_stands : (t : Transport) → is_open t ≡ true → (t ≡ Connected) × (is_closing t ≡ false)
 open_stands t is = (grind (arith, common_steps, is), grind (arith, common_steps, is))
@@ -107,7 +127,7 @@ pub signalled_by : (config : Config) (c1 c2 : Configuration) (now1 now2 : ℕ) (
     → Chooses slot (effects_of input l.peer.session).left old new → (most : ℕ) → old.chosen ≤ old.chosen_before + most → most + choices_by (h1 slot) (Signalled input) ≤ m2
     → HoldsBy config c2 now2 k2 h2 m2 new
 signalled_by config c1 c2 now1 now2 k1 k2 h1 h2 m1 m2 slot l input old new h conf moment cache at_moment peer configured stays linked is shut moves histories chooses most so_far allowed =
-    let here : SlotIs config peer l (route_at old.adj_in slot) (h1 slot) = slot_from config (peer_at old.conf slot) peer (link_at old.links slot) l (route_at old.adj_in slot) (h1 slot) configured linked (h.slots slot) in
+    let here : SlotIs config peer l (route_at old.adj_in slot) (h1 slot) = slot_now config c1 now1 k1 h1 m1 slot peer l old h configured linked in
     let at : h2 slot ≡ Signalled input ∷ h1 slot = histories slot ∙ rw (eq-eqb slot slot refl) refl in
     let other : input ≡ Up → is_established (session (h1 slot)).state ≡ false =
     λ up. not_yet (session (h1 slot)) _ refl (λ k. shut up (ap transport_of here.link.peer.session ∙ k)) in
@@ -174,37 +194,409 @@ holds_disable config r slot old new h may moves chooses so_far =
     let found = slot_of config r slot peer.0 old h peer.1 in
     holds_signalled config r (turn (Command_call (Disable slot)) [] ∷ r) slot found.0 Disabled old new h peer.0 peer.1 (λ x. refl) found.1 refl (λ e. cc) (moves found.0 found.1) refl refl refl (λ t. refl) (chooses found.0 found.1) 0 (omega (arith, so_far)) (omega arith)
 
--- a slot with a route is one of the 64
-slot_of_route : (config : Config) (r : Run) (s : SpeakerState) → Holds config r s → (p : Prefix) → HasRoute s.adj_in p → (t : ℕ) × (t < 64) × IsSome (route (history config t r) p)
-slot_of_route config r s h p there =
-    let routed = h.kept.routed there.0 p there.1 in
-    (there.0, h.kept.below there.0 routed.0 routed.1, subst (λ o. IsSome o) ((h.slots there.0).routes_are p) there.1)
+-- such a command leaves the peers and what happens to slots, and chooses once for each known prefix
+pub record Resolved (config : Config) (r : Run) (conf : Configuration) (command : Command) : Type 0 where
+  pub peers : (s : ℕ) → peer_after conf command s ≡ peer_at conf s
+  pub histories : (s : ℕ) → commanded config s command (history config s r) ≡ history config s r
+  pub opened : opened_commanded config r command ≡ 0
+  pub choices : choices_commanded config r command ≡ how_many (is_known config r) (named_to config r)
+  pub networks : (p : Prefix) → network_route (conf_after conf command) p ≡ network_route conf p
 
--- an entry of `reach`
-pub holds_reach : (config : Config) (r : Run) (prefix : Prefix) (cost : ℕ) (old new : SpeakerState) → Holds config r old → new.conf ≡ conf_after old.conf (Reach prefix cost)
-    → ((s : ℕ) → peer_at new.conf s ≡ peer_after old.conf (Reach prefix cost) s) → new.config ≡ old.config → new.moment ≡ old.moment → new.cache ≡ old.cache → new.payloads ≡ old.payloads → new.links ≡ old.links → new.adj_in ≡ old.adj_in
+pub resolved : (config : Config) (r : Run) (conf : Configuration) (command : Command) → resolves command ≡ true → Resolved config r conf command
+resolved config r conf (AddPeer slot peer) is = absurd (cc)
+resolved config r conf (RemovePeer slot) is = absurd (cc)
+resolved config r conf (Enable slot) is = absurd (cc)
+resolved config r conf (Disable slot) is = absurd (cc)
+resolved config r conf (SetPolicy name rules) is = absurd (cc)
+resolved config r conf (DropPolicy name) is = absurd (cc)
+resolved config r conf (UseIn slot name) is = absurd (cc)
+resolved config r conf (UseOut slot name) is = absurd (cc)
+resolved config r conf (Network prefix) is = absurd (cc)
+resolved config r conf (NoNetwork prefix) is = absurd (cc)
+resolved config r conf (Reach prefix cost) is = record { peers = λ s. refl; histories = λ s. refl; opened = refl; choices = refl; networks = λ p. refl }
+resolved config r conf (NoReach prefix) is = record { peers = λ s. refl; histories = λ s. refl; opened = refl; choices = refl; networks = λ p. refl }
+
+pub resolved_opened : (config : Config) (r : Run) (command : Command) → resolves command ≡ true → 0 ≡ opened_commanded config r command
+resolved_opened config r command is = sym (resolved config r (configuration_of config r) command is).opened
+
+-- so do the rules of a policy
+pub resolved_set : (config : Config) (r : Run) (conf : Configuration) (name : Bor (List ℕ)) (rules : Bor (List Rule)) → Resolved config r conf (SetPolicy name rules)
+resolved_set config r conf name rules = record { peers = λ s. refl; histories = λ s. refl; opened = refl; choices = refl; networks = λ p. refl }
+
+-- an entry of `reach` comes or goes, or a policy has other rules
+pub holds_resolved : (config : Config) (r : Run) (command : Command) (old new : SpeakerState) → Resolved config r old.conf command → Holds config r old → new.conf ≡ conf_after old.conf command
+    → ((s : ℕ) → peer_at new.conf s ≡ peer_after old.conf command s) → new.config ≡ old.config → new.moment ≡ old.moment → new.cache ≡ old.cache → new.payloads ≡ old.payloads → new.links ≡ old.links → new.adj_in ≡ old.adj_in
     → AreMadeAgain (tables new.conf new.payloads old.links old.adj_in) (offer_at old.book) (offer_at new.book)
     → (known : List Prefix) → AreDifferent (HasRoute old.adj_in) known → new.chosen ≤ old.chosen + length known → new.chosen_before ≡ old.chosen
-    → Holds config (turn (Command_call (Reach prefix cost)) [] ∷ r) new
-holds_reach config r prefix cost old new h conf peers config_same moment cache payloads links adj_in again known routed count counted = record {
-  config_is = config_same ∙ h.config_is;
-  moment = moment ∙ h.moment;
-  conf = conf ∙ ap (λ c. conf_after c (Reach prefix cost)) h.conf;
-  cache = subst (λ x. CacheAgrees config (cache_history r) x) (sym cache) h.cache;
-  payloads = payloads ∙ h.payloads;
-  peers = (h.peers.0, λ t peer at. h.peers.1 t peer (sym (peers t) ∙ at));
-  slots = λ t. let P : Option ConfiguredPeer → Type 0 = λ x. SlotAgrees config x (link_at old.links t) (route_at old.adj_in t) (history config t r) in
-      rw (links, adj_in) (subst P (sym (peers t)) (h.slots t));
-  kept = kept_again old new links adj_in again h.kept;
-  chosen = omega (arith, count, counted, most_known config r known (different_as (HasRoute old.adj_in) (λ p. (s : ℕ) × (s < 64) × IsSome (route (history config s r) p)) known (λ p there. slot_of_route config r old h p there) routed));
+    → Holds config (turn (Command_call command) [] ∷ r) new
+holds_resolved config r command old new so h conf peers config_same moment cache payloads links adj_in again known routed count counted =
+    let peers_same : (s : ℕ) → peer_at new.conf s ≡ peer_at old.conf s = λ s. peers s ∙ so.peers s in
+    let most = most_known config r known (different_as (HasRoute old.adj_in) (IsKnown config r) known (λ p there. known_of config (configuration_of config r) (moment_after r) (cache_history r) (λ t. history config t r) (choices_in config r) r old h refl (λ t q. refl) p there) routed) in
+    record {
+      config_is = config_same ∙ h.config_is;
+      moment = moment ∙ h.moment;
+      conf = conf ∙ ap (λ c. conf_after c command) h.conf;
+      cache = subst (λ x. CacheAgrees config (cache_history r) x) (sym cache) h.cache;
+      payloads = payloads ∙ h.payloads;
+      peers = (h.peers.0, λ t peer at. h.peers.1 t peer (sym (peers_same t) ∙ at));
+      slots = λ t. let P : Option ConfiguredPeer → Type 0 = λ x. SlotAgrees config x (link_at old.links t) (peer_route_at old.adj_in t) (history config t r) in
+          let H : List happens.Event → Type 0 = λ x. SlotAgrees config (peer_at new.conf t) (link_at old.links t) (peer_route_at old.adj_in t) x in
+          rw (links, adj_in) (subst H (sym (so.histories t)) (subst P (sym (peers_same t)) (h.slots t)));
+      networks = λ p. ap (λ table. route_at table 64 p) adj_in ∙ h.networks p ∙ sym (so.networks p) ∙ ap (λ c. network_route c p) (sym conf);
+      kept = kept_again old new links adj_in again h.kept;
+      chosen = omega (arith, count, counted, most, so.choices);
+    }
+
+-- ---- local networks
+
+-- a route of that slot is that of this prefix
+pub local_is : (network : Prefix) (s : ℕ) (p : Prefix) → is_route 64 network s p ≡ true → (s ≡ 64) × (network ≡ p)
+local_is network s p is =
+    let parts = sym (is_route-parts 64 network s p) ∙ is in
+    (eqb-true s 64 (first_true (s == 64) _ parts), same_from_is_prefix network p (second_true (s == 64) _ parts))
+  where
+    first_true : (a b : Bool) → (a && b) ≡ true → a ≡ true
+    first_true true b h = refl
+    first_true false b h = absurd (cc)
+
+local_off : (network : Prefix) (s : ℕ) (p : Prefix) (b : Bool) → is_route 64 network s p ≡ b → s ≢ 64 → b ≡ false
+local_off network s p true is other = absurd (other (local_is network s p is).0)
+local_off network s p false is other = refl
+
+-- both are one prefix, in the words of the order and of the configuration
+prefix_of_is : (network p : Prefix) → is_prefix_of network p ≡ is_prefix network p
+prefix_of_is network p = sym (is_at-prefix_cmp network p)
+
+prefix_of_same : (network p : Prefix) → is_prefix_of network p ≡ true → network ≡ p
+prefix_of_same network p is = same_from_is_prefix network p (sym (prefix_of_is network p) ∙ is)
+
+-- of slot 64 the order of prefixes decides
+local_at : (network p : Prefix) → is_route 64 network 64 p ≡ is_prefix network p
+local_at network p = is_route-parts 64 network 64 p
+
+-- the tables of local networks after a command
+network_put : (conf : Configuration) (network p : Prefix) (b : Bool) → is_network_after conf (Network network) p ≡ b → is_network (conf_after conf (Network network)) p ≡ is_network_after conf (Network network) p
+    → network_route (conf_after conf (Network network)) p ≡ cond b (Some originated) None
+network_put conf network p b is same = ap (λ x. cond x (Some originated) None) (same ∙ is)
+
+-- a network that comes and goes leaves the others
+key_back : (network : Prefix) (networks : List Prefix) → list_any (is_at (prefix_cmp network)) networks ≡ false → remove_key (is_at (prefix_cmp network)) (insert_key prefix_cmp networks network) ≡ networks
+key_back network [] none = rw (is_prefix-refl network) refl
+key_back network (q ∷ networks) none = by_order (key_back network networks) (prefix_cmp network q) refl
+  where
+    by_order : (list_any (is_at (prefix_cmp network)) networks ≡ false → remove_key (is_at (prefix_cmp network)) (insert_key prefix_cmp networks network) ≡ networks) → (o : Ordering) → prefix_cmp network q ≡ o → remove_key (is_at (prefix_cmp network)) (match_ordering o (network ∷ q ∷ networks) (q ∷ networks) (q ∷ insert_key prefix_cmp networks network)) ≡ q ∷ networks
+    by_order behind Less at = rw (is_prefix-refl network) refl
+    by_order behind Equal at = absurd (let here = ap is_eq at in cc)
+    by_order behind Greater at =
+        let off : is_at (prefix_cmp network) q ≡ false = ap is_eq at in
+        let rest : list_any (is_at (prefix_cmp network)) networks ≡ false = rw off at none in
+        rw off (ap (λ rest. q ∷ rest) (behind rest))
+
+pub network_restored : (conf : Configuration) (network : Prefix) → is_network conf network ≡ false → conf_after (conf_after conf (Network network)) (NoNetwork network) ≡ conf
+network_restored conf network none = ap (λ (networks : List Prefix). record conf { networks = networks }) (key_back network conf.networks none)
+
+-- memory was refused to a local network: all is as before
+pub before_restored : (network : Prefix) (old mid back new : SpeakerState) → is_network old.conf network ≡ false → mid ≡ record old { conf = conf_after old.conf (Network network) } → IsAsBefore mid back
+    → new ≡ record back { conf = conf_after back.conf (NoNetwork network) } → IsAsBefore old new
+before_restored network old mid back new none is before restored = record {
+  config = ap (λ (s : SpeakerState). s.config) restored ∙ before.config ∙ ap (λ (s : SpeakerState). s.config) is;
+  moment = ap (λ (s : SpeakerState). s.moment) restored ∙ before.moment ∙ ap (λ (s : SpeakerState). s.moment) is;
+  conf =
+      ap (λ (s : SpeakerState). s.conf) restored ∙ ap (λ c. conf_after c (NoNetwork network)) (before.conf ∙ ap (λ (s : SpeakerState). s.conf) is)
+      ∙ network_restored old.conf network none;
+  cache = ap (λ (s : SpeakerState). s.cache) restored ∙ before.cache ∙ ap (λ (s : SpeakerState). s.cache) is;
+  payloads = ap (λ (s : SpeakerState). s.payloads) restored ∙ before.payloads ∙ ap (λ (s : SpeakerState). s.payloads) is;
+  links = λ slot. ap (λ (s : SpeakerState). link_at s.links slot) restored ∙ before.links slot ∙ ap (λ (s : SpeakerState). link_at s.links slot) is;
+  routes = λ slot p. ap (λ (s : SpeakerState). route_at s.adj_in slot p) restored ∙ before.routes slot p ∙ ap (λ (s : SpeakerState). route_at s.adj_in slot p) is;
+  offers = λ slot p. ap (λ (s : SpeakerState). offer_at s.book slot p) restored ∙ before.offers slot p ∙ ap (λ (s : SpeakerState). offer_at s.book slot p) is;
+  loc_rib = ap (λ (s : SpeakerState). s.loc_rib) restored ∙ before.loc_rib ∙ ap (λ (s : SpeakerState). s.loc_rib) is;
+  chosen = ap (λ (s : SpeakerState). s.chosen) restored ∙ before.chosen ∙ ap (λ (s : SpeakerState). s.chosen) is;
+  chosen_before = ap (λ (s : SpeakerState). s.chosen_before) restored ∙ before.chosen_before ∙ ap (λ (s : SpeakerState). s.chosen_before) is;
 }
 
--- with a new peer each is one that was accepted
-added_taken : (own : Asn) (slot t : ℕ) (before : Option ConfiguredPeer) (peer found : ConfiguredPeer) → IsTaken own slot peer → (before ≡ Some found → IsTaken own t found)
-    → cond (t == slot) (Some peer) before ≡ Some found → IsTaken own t found
-added_taken own slot t before peer found new old at = by_slot (t == slot) refl at
+-- one that was there is there
+pub holds_there : (config : Config) (r : Run) (network : Prefix) (old new : SpeakerState) → Holds config r old → new ≡ record old { conf = conf_after old.conf (Network network); chosen_before = old.chosen }
+    → ((p : Prefix) → is_network (conf_after old.conf (Network network)) p ≡ is_network_after old.conf (Network network) p) → is_network old.conf network ≡ true → Holds config (turn (Command_call (Network network)) [] ∷ r) new
+holds_there config r network old new h is after there = subst (λ s. Holds config (turn (Command_call (Network network)) [] ∷ r) s) (sym is) (record {
+  config_is = h.config_is;
+  moment = h.moment;
+  conf = ap (λ c. conf_after c (Network network)) h.conf;
+  cache = h.cache;
+  payloads = h.payloads;
+  peers = h.peers;
+  slots = h.slots;
+  networks = λ p. h.networks p ∙ ap (λ b. cond b (Some originated) None) (sym (after p ∙ stays p (is_prefix_of network p) refl));
+  kept = kept_conf old (conf_after old.conf (Network network)) refl refl (λ s. refl) (λ s route. refl) h.kept;
+  chosen = omega arith;
+})
   where
-    by_slot : (b : Bool) → (t == slot) ≡ b → cond b (Some peer) before ≡ Some found → IsTaken own t found
+    stays : (p : Prefix) (b : Bool) → is_prefix_of network p ≡ b → is_network_after old.conf (Network network) p ≡ is_network old.conf p
+    stays p true same = rw same (sym (ap (λ q. is_network old.conf q) (sym (prefix_of_same network p same)) ∙ there))
+    stays p false other = rw other refl
+
+-- a prefix becomes one
+pub holds_network : (config : Config) (r : Run) (network : Prefix) (old mid new : SpeakerState) → Holds config r old → mid ≡ record old { conf = conf_after old.conf (Network network) }
+    → ((p : Prefix) → is_network mid.conf p ≡ is_network_after old.conf (Network network) p) → Announces network mid new → Holds config (turn (Command_call (Network network)) [] ∷ r) new
+holds_network config r network old mid new h is after comes = record {
+  config_is = comes.config ∙ same_config ∙ h.config_is;
+  moment = comes.moment ∙ same_moment ∙ h.moment;
+  conf = comes.conf ∙ same_conf ∙ ap (λ c. conf_after c (Network network)) h.conf;
+  cache = subst (λ x. CacheAgrees config (cache_history r) x) (sym (comes.cache ∙ same_cache)) h.cache;
+  payloads = comes.payloads ∙ same_payloads ∙ h.payloads;
+  peers = rw (comes.conf, same_conf) h.peers;
+  slots = λ t.
+      let R : (Prefix → Option PathAttributes) → Type 0 = λ x. SlotAgrees config (peer_at old.conf t) (link_at old.links t) x (history config t r) in
+      rw (comes.conf, same_conf, comes.links, same_links) (subst R (λ i p. sym (others t p) i) (h.slots t));
+  networks = λ p. comes.routes 64 p ∙ network_here p (is_prefix network p) refl;
+  kept = kept_announced;
+  chosen = let few = comes.chosen.1 in let before = comes.chosen_before in omega (arith, few, before);
+}
+  where
+    same_config : mid.config ≡ old.config
+    same_config = ap (λ (s : SpeakerState). s.config) is
+
+    same_moment : mid.moment ≡ old.moment
+    same_moment = ap (λ (s : SpeakerState). s.moment) is
+
+    same_conf : mid.conf ≡ conf_after old.conf (Network network)
+    same_conf = ap (λ (s : SpeakerState). s.conf) is
+
+    same_cache : mid.cache ≡ old.cache
+    same_cache = ap (λ (s : SpeakerState). s.cache) is
+
+    same_payloads : mid.payloads ≡ old.payloads
+    same_payloads = ap (λ (s : SpeakerState). s.payloads) is
+
+    same_links : mid.links ≡ old.links
+    same_links = ap (λ (s : SpeakerState). s.links) is
+
+    same_adj_in : mid.adj_in ≡ old.adj_in
+    same_adj_in = ap (λ (s : SpeakerState). s.adj_in) is
+
+    same_book : mid.book ≡ old.book
+    same_book = ap (λ (s : SpeakerState). s.book) is
+
+    routes_mid : (t : ℕ) (p : Prefix) → route_at mid.adj_in t p ≡ route_at old.adj_in t p
+    routes_mid t p = ap (λ table. route_at table t p) same_adj_in
+
+    route_off : (t : ℕ) (p : Prefix) → t ≢ 64 → route_at new.adj_in t p ≡ route_at old.adj_in t p
+    route_off t p other = comes.routes t p ∙ ap (λ b. cond b (Some originated) (route_at mid.adj_in t p)) (local_off network t p (is_route 64 network t p) refl other) ∙ routes_mid t p
+
+    others : (t : ℕ) (p : Prefix) → peer_route_at new.adj_in t p ≡ peer_route_at old.adj_in t p
+    others t p = elim (cases_eq t 64) [
+      | inl local ↦ rw (eq-eqb t 64 local) refl
+      | inr other ↦ rw (ne_eqb t 64 other) (route_off t p other)
+    ]
+
+    put_at : (p : Prefix) (b : Bool) → is_prefix_of network p ≡ b → is_network_after old.conf (Network network) p ≡ cond b true (is_network old.conf p)
+    put_at p b same = rw same refl
+
+    network_here : (p : Prefix) (b : Bool) → is_prefix network p ≡ b → cond (is_route 64 network 64 p) (Some originated) (route_at mid.adj_in 64 p) ≡ network_route new.conf p
+    network_here p true same =
+        ap (λ b. cond b (Some originated) (route_at mid.adj_in 64 p)) (local_at network p ∙ same)
+        ∙ sym (ap (λ b. cond b (Some originated) None) (ap (λ c. is_network c p) comes.conf ∙ after p ∙ put_at p true (prefix_of_is network p ∙ same)))
+    network_here p false other =
+        ap (λ b. cond b (Some originated) (route_at mid.adj_in 64 p)) (local_at network p ∙ other) ∙ routes_mid 64 p ∙ h.networks p
+        ∙ sym (ap (λ b. cond b (Some originated) None) (ap (λ c. is_network c p) comes.conf ∙ after p ∙ put_at p false (prefix_of_is network p ∙ other)))
+
+    kept_announced : AreKept (tables_of new) (offer_at new.book)
+    kept_announced =
+        let before : AreKept (tables_of (record old { conf = conf_after old.conf (Network network) })) (offer_at old.book) = kept_conf old (conf_after old.conf (Network network)) refl refl (λ s. refl) (λ s route. refl) h.kept in
+        let now : AreKept (tables_of mid) (offer_at mid.book) = subst (λ (s : SpeakerState). AreKept (tables_of s) (offer_at s.book)) (sym is) before in
+        let grown = kept_network mid.conf mid.payloads network (λ s. session_at mid.links s) mid.adj_in new.adj_in (offer_at mid.book) (offer_at new.book) (λ p q same. (local_is p 64 q same).1) (λ s p same. (local_is network s p same).0) comes.routes comes.offers now in
+        rw (comes.conf, comes.payloads, comes.links) grown
+
+-- a prefix is none any more
+pub holds_retracted : (config : Config) (r : Run) (network : Prefix) (old new : SpeakerState) → Holds config r old → new.conf ≡ conf_after old.conf (NoNetwork network)
+    → ((p : Prefix) → is_network new.conf p ≡ is_network_after old.conf (NoNetwork network) p)
+    → ((s : ℕ) (p : Prefix) → route_at new.adj_in s p ≡ cond (is_route 64 network s p) None (route_at old.adj_in s p)) → ((s : ℕ) (p : Prefix) → offer_at new.book s p ≡ cond (is_route 64 network s p) None (offer_at old.book s p))
+    → new.config ≡ old.config → new.moment ≡ old.moment → new.cache ≡ old.cache → new.payloads ≡ old.payloads → new.links ≡ old.links → new.chosen_before ≡ old.chosen_before → new.chosen ≤ old.chosen + 1 → old.chosen ≤ old.chosen_before
+    → Holds config (turn (Command_call (NoNetwork network)) [] ∷ r) new
+holds_retracted config r network old new h conf after routes offers config_same moment cache payloads links counted few so_far = record {
+  config_is = config_same ∙ h.config_is;
+  moment = moment ∙ h.moment;
+  conf = conf ∙ ap (λ c. conf_after c (NoNetwork network)) h.conf;
+  cache = subst (λ x. CacheAgrees config (cache_history r) x) (sym cache) h.cache;
+  payloads = payloads ∙ h.payloads;
+  peers = rw conf h.peers;
+  slots = λ t.
+      let R : (Prefix → Option PathAttributes) → Type 0 = λ x. SlotAgrees config (peer_at old.conf t) (link_at old.links t) x (history config t r) in
+      rw (conf, links) (subst R (λ i p. sym (others t p) i) (h.slots t));
+  networks = λ p. routes 64 p ∙ network_here p (is_prefix network p) refl;
+  kept = kept_gone_now;
+  chosen = omega (arith, few, so_far, counted);
+}
+  where
+    route_off : (t : ℕ) (p : Prefix) → t ≢ 64 → route_at new.adj_in t p ≡ route_at old.adj_in t p
+    route_off t p other = routes t p ∙ ap (λ b. cond b None (route_at old.adj_in t p)) (local_off network t p (is_route 64 network t p) refl other)
+
+    others : (t : ℕ) (p : Prefix) → peer_route_at new.adj_in t p ≡ peer_route_at old.adj_in t p
+    others t p = elim (cases_eq t 64) [
+      | inl local ↦ rw (eq-eqb t 64 local) refl
+      | inr other ↦ rw (ne_eqb t 64 other) (route_off t p other)
+    ]
+
+    out_at : (p : Prefix) (b : Bool) → is_prefix_of network p ≡ b → is_network_after old.conf (NoNetwork network) p ≡ cond b false (is_network old.conf p)
+    out_at p b same = rw same refl
+
+    network_here : (p : Prefix) (b : Bool) → is_prefix network p ≡ b → cond (is_route 64 network 64 p) None (route_at old.adj_in 64 p) ≡ network_route new.conf p
+    network_here p true same =
+        ap (λ b. cond b None (route_at old.adj_in 64 p)) (local_at network p ∙ same) ∙ sym (ap (λ b. cond b (Some originated) None) (after p ∙ out_at p true (prefix_of_is network p ∙ same)))
+    network_here p false other =
+        ap (λ b. cond b None (route_at old.adj_in 64 p)) (local_at network p ∙ other) ∙ h.networks p ∙ sym (ap (λ b. cond b (Some originated) None) (after p ∙ out_at p false (prefix_of_is network p ∙ other)))
+
+    kept_gone_now : AreKept (tables_of new) (offer_at new.book)
+    kept_gone_now =
+        let before : AreKept (tables_of (record old { conf = new.conf })) (offer_at old.book) = kept_conf old new.conf (ap (λ (c : Configuration). c.own) conf) (ap (λ (c : Configuration). c.reach) conf) (λ s. ap (λ c. option_map taken_by (peer_at c s)) conf) (λ s route. ap (λ c. import_action c s route) conf) h.kept in
+        let gone = kept_gone new.conf old.payloads (λ s. session_at old.links s) old.adj_in new.adj_in (offer_at old.book) (offer_at new.book) (λ s p. is_route 64 network s p) routes offers before in
+        rw (payloads, links) gone
+
+-- ---- policies
+
+-- a policy that no peer uses is dropped
+pub holds_dropped : (closing : ℕ) (config : Config) (r : Run) (name : Bor (List ℕ)) (old new : SpeakerState) → first_refusal old.conf closing (DropPolicy name) ≡ None → Holds config r old
+    → new ≡ record old { conf = conf_after old.conf (DropPolicy name) } → old.chosen ≤ old.chosen_before → Holds config (turn (Command_call (DropPolicy name)) [] ∷ r) new
+holds_dropped closing config r name old new may h is so_far = subst (λ s. Holds config (turn (Command_call (DropPolicy name)) [] ∷ r) s) (sym is) (record {
+  config_is = h.config_is;
+  moment = h.moment;
+  conf = ap (λ c. conf_after c (DropPolicy name)) h.conf;
+  cache = h.cache;
+  payloads = h.payloads;
+  peers = h.peers;
+  slots = h.slots;
+  networks = h.networks;
+  kept = kept_conf old (conf_after old.conf (DropPolicy name)) refl refl (λ s. refl) (λ s route. import_action-DropPolicy old.conf s route closing name may) h.kept;
+  chosen = omega (arith, so_far);
+})
+
+-- the addresses of a session
+abbrev pub addresses_of : ConfiguredPeer → ℕ × ℕ
+addresses_of peer = (peer.local, peer.address)
+
+-- they are those that the peer had
+importing_back : (f g : Option ConfiguredPeer) (p : ConfiguredPeer) → option_map addresses_of f ≡ option_map addresses_of g → f ≡ Some p
+    → (x : ConfiguredPeer) × (g ≡ Some x) × (x.local ≡ p.local) × (x.address ≡ p.address)
+importing_back f None p same is = absurd (let never = sym same ∙ ap (option_map addresses_of) is in cc)
+importing_back f (Some x) p same is =
+    let both : addresses_of x ≡ addresses_of p = some_one (sym same ∙ ap (option_map addresses_of) is) in
+    (x, refl, ap (λ (b : ℕ × ℕ). b.0) both, ap (λ (b : ℕ × ℕ). b.1) both)
+  where
+    some_one : {X : Type 0} {x y : X} → Some x ≡ Some y → x ≡ y
+    some_one is = cc
+
+-- what an import policy doesn't say of a slot is the same
+slot_importing : (config : Config) (found found2 : Option ConfiguredPeer) (linked : Option Linked) (routes : Prefix → Option PathAttributes) (h : List happens.Event) → option_map (terms_in config) found2 ≡ option_map (terms_in config) found
+    → SlotAgrees config found linked routes h → SlotAgrees config found2 linked routes h
+slot_importing config found found2 linked routes h same a = record { configured = same ∙ a.configured; there = a.there; link = a.link; vacant = a.vacant; routes_are = a.routes_are }
+
+-- a peer has another import policy: the candidates of the prefixes to which it has routes were made again
+pub holds_used : (closing : ℕ) (config : Config) (r : Run) (slot : ℕ) (name : Bor (List ℕ)) (old new : SpeakerState) → slot < 64 → first_refusal old.conf closing (UseIn slot name) ≡ None → Holds config r old
+    → new.conf ≡ conf_after old.conf (UseIn slot name) → new.config ≡ old.config → new.moment ≡ old.moment → new.cache ≡ old.cache → new.payloads ≡ old.payloads → new.links ≡ old.links → new.adj_in ≡ old.adj_in
+    → AreMadeWhere (tables new.conf new.payloads old.links old.adj_in) (λ q. is_some (route_at old.adj_in slot q)) (offer_at old.book) (offer_at new.book)
+    → OncePerPrefix (λ p. IsSome (route_at old.adj_in slot p)) old.chosen new.chosen → new.chosen_before ≡ old.chosen_before → old.chosen ≤ old.chosen_before
+    → Holds config (turn (Command_call (UseIn slot name)) [] ∷ r) new
+holds_used closing config r slot name old new within may h conf config_same moment cache payloads links adj_in made once counted so_far =
+    let after : (t : ℕ) → option_map (terms_in config) (peer_at new.conf t) ≡ option_map (terms_in config) (peer_at old.conf t) =
+    λ t. ap (λ c. option_map (terms_in config) (peer_at c t)) conf ∙ option_map-changed old.conf slot (importing (name_of name.now)) (terms_in config) (λ peer. refl) t in
+    let settings : (t : ℕ) → option_map addresses_of (peer_at new.conf t) ≡ option_map addresses_of (peer_at old.conf t) =
+    λ t. ap (λ c. option_map addresses_of (peer_at c t)) conf ∙ option_map-changed old.conf slot (importing (name_of name.now)) addresses_of (λ peer. refl) t in
+    let was : (p : Prefix) → route_at old.adj_in slot p ≡ route (history config slot r) p = λ p. sym (peer_as old.adj_in slot p within) ∙ (h.slots slot).routes_are p in
+    let few = most_routes (history config slot r) once.0 (different_as (λ p. IsSome (route_at old.adj_in slot p)) (λ p. IsSome (route (history config slot r) p)) once.0 (λ p there. subst (λ o. IsSome o) (was p) there) once.1) in
+    let most = once.2 in
+    record {
+      config_is = config_same ∙ h.config_is;
+      moment = moment ∙ h.moment;
+      conf = conf ∙ ap (λ c. conf_after c (UseIn slot name)) h.conf;
+      cache = subst (λ x. CacheAgrees config (cache_history r) x) (sym cache) h.cache;
+      payloads = payloads ∙ h.payloads;
+      peers = (
+        h.peers.0,
+        λ t peer at.
+            let back = importing_back (peer_at new.conf t) (peer_at old.conf t) peer (settings t) at in
+            let taken = h.peers.1 t back.0 back.1 in
+            record {
+              within = taken.within;
+              local = subst (λ a. is_host a ≡ true) back.2 taken.local;
+              apart = ap (λ a. a == peer.address) (sym back.2) ∙ ap (λ a. back.0.local == a) (sym back.3) ∙ taken.apart;
+            },
+      );
+      slots = λ t. let S : Option Linked → RouteTable → Type 0 = λ l table. SlotAgrees config (peer_at new.conf t) l (peer_route_at table t) (history config t r) in
+          subst (λ l. S (link_at l t) new.adj_in) (sym links) (subst (λ table. S (link_at old.links t) table) (sym adj_in)
+          (slot_importing config (peer_at old.conf t) (peer_at new.conf t) (link_at old.links t) (peer_route_at old.adj_in t) (history config t r) (after t) (h.slots t)));
+      networks = λ p. ap (λ table. route_at table 64 p) adj_in ∙ h.networks p ∙ ap (λ c. network_route c p) (sym conf);
+      kept =
+          kept_partly (λ q. is_some (route_at old.adj_in slot q)) old new links adj_in
+          (subst (λ l. AreMadeWhere (tables new.conf new.payloads l new.adj_in) (λ q. is_some (route_at old.adj_in slot q)) (offer_at old.book) (offer_at new.book)) (sym links)
+          (subst (λ table. AreMadeWhere (tables new.conf new.payloads old.links table) (λ q. is_some (route_at old.adj_in slot q)) (offer_at old.book) (offer_at new.book)) (sym adj_in) made))
+          alike h.kept;
+      chosen = omega (arith, few, most, counted, so_far);
+    }
+  where
+    none_there : {P : Type 0} (o : Option PathAttributes) → is_some o ≡ false → IsSome o → P
+    none_there None none there = absurd (cc)
+    none_there (Some x) none there = absurd (cc)
+
+    alike_off : (s : ℕ) (q : Prefix) → s ≢ slot → IsAlike (tables_of old) (tables_of new) s q
+    alike_off s q other = record {
+      own = ap (λ (c : Configuration). c.own) conf;
+      reach = ap (λ (c : Configuration). c.reach) conf;
+      peer = ap (option_map taken_by) (ap (λ c. peer_at c s) conf ∙ lookup-with_changed old.conf.peers slot s (importing (name_of name.now)) ∙ ap (λ b. cond b (option_map (importing (name_of name.now)) (peer_at old.conf slot)) (peer_at old.conf s)) (ne_eqb s slot other));
+      identifier = ap (λ t. option_map (λ (x : Session). x.identifier) (session_at t s)) links;
+      route = ap (λ t. route_at t s q) adj_in;
+      state = λ origin. ap (λ x. validity x q origin) payloads;
+      action = λ seen. ap (λ c. import_action c s seen) conf ∙ import_action-UseIn old.conf s seen slot name other;
+    }
+
+    alike : (s : ℕ) (q : Prefix) → is_some (route_at old.adj_in slot q) ≡ false → IsSome (route_at old.adj_in s q) → IsAlike (tables_of old) (tables_of new) s q
+    alike s q none there = elim (cases_eq s slot) [
+      | inl same ↦ none_there (route_at old.adj_in slot q) none (subst (λ x. IsSome (route_at old.adj_in x q)) same there)
+      | inr other ↦ alike_off s q other
+    ]
+
+-- a peer has another export policy: no candidate goes by it
+pub holds_exporting : (config : Config) (r : Run) (slot : ℕ) (name : Bor (List ℕ)) (old new : SpeakerState) → Holds config r old → new ≡ record old { conf = conf_after old.conf (UseOut slot name) } → old.chosen ≤ old.chosen_before
+    → Holds config (turn (Command_call (UseOut slot name)) [] ∷ r) new
+holds_exporting config r slot name old new h is so_far = subst (λ s. Holds config (turn (Command_call (UseOut slot name)) [] ∷ r) s) (sym is) (record {
+  config_is = h.config_is;
+  moment = h.moment;
+  conf = ap (λ c. conf_after c (UseOut slot name)) h.conf;
+  cache = h.cache;
+  payloads = h.payloads;
+  peers = (
+    h.peers.0,
+    λ t peer at.
+        let back = importing_back (peer_at (conf_after old.conf (UseOut slot name)) t) (peer_at old.conf t) peer (settings addresses_of (λ peer. refl) t) at in
+        let taken = h.peers.1 t back.0 back.1 in
+        record {
+          within = taken.within;
+          local = subst (λ a. is_host a ≡ true) back.2 taken.local;
+          apart = ap (λ a. a == peer.address) (sym back.2) ∙ ap (λ a. back.0.local == a) (sym back.3) ∙ taken.apart;
+        },
+  );
+  slots = λ t. slot_importing config (peer_at old.conf t) (peer_at (conf_after old.conf (UseOut slot name)) t) (link_at old.links t) (peer_route_at old.adj_in t) (history config t r) (settings (terms_in config) (λ peer. refl) t) (h.slots t);
+  networks = h.networks;
+  kept = kept_conf old (conf_after old.conf (UseOut slot name)) refl refl (settings taken_by (λ peer. refl)) (λ s route. import_action-UseOut old.conf s route slot name) h.kept;
+  chosen = omega (arith, so_far);
+})
+  where
+    settings : {X : Type 0} (f : ConfiguredPeer → X) → ((peer : ConfiguredPeer) → f (exporting (name_of name.now) peer) ≡ f peer) → (t : ℕ)
+        → option_map f (peer_at (conf_after old.conf (UseOut slot name)) t) ≡ option_map f (peer_at old.conf t)
+    settings f same t = option_map-changed old.conf slot (exporting (name_of name.now)) f same t
+
+-- a slot that has a peer is one of 64
+pub slot_used : (conf : Configuration) (slot : ℕ) (name : Bor (List ℕ)) (closing : ℕ) → first_refusal conf closing (UseIn slot name) ≡ None → slot < 64
+slot_used conf slot name closing may = within _ (nat_le 64 slot) refl may
+  where
+    within : (rest : Option Refusal) (b : Bool) → nat_le 64 slot ≡ b → cond (b || is_none (peer_at conf slot)) (Some Refusal.BadSlot) rest ≡ None → slot < 64
+    within rest true over h = absurd (cc)
+    within rest false under h = grind (arith, nat_tests, under)
+
+-- with a new peer each is one that was accepted
+added_taken : (slot t : ℕ) (before : Option ConfiguredPeer) (peer found : ConfiguredPeer) → IsTaken slot peer → (before ≡ Some found → IsTaken t found)
+    → cond (t == slot) (Some peer) before ≡ Some found → IsTaken t found
+added_taken slot t before peer found new old at = by_slot (t == slot) refl at
+  where
+    by_slot : (b : Bool) → (t == slot) ≡ b → cond b (Some peer) before ≡ Some found → IsTaken t found
     by_slot true same is = let this : peer ≡ found = cc in rw (eqb-true t slot same, ← this) new
     by_slot false other is = old is
 
@@ -214,7 +606,14 @@ own_after conf (AddPeer slot peer) = refl
 own_after conf (RemovePeer slot) = refl
 own_after conf (Enable slot) = refl
 own_after conf (Disable slot) = refl
+own_after conf (SetPolicy name rules) = refl
+own_after conf (DropPolicy name) = refl
+own_after conf (UseIn slot name) = refl
+own_after conf (UseOut slot name) = refl
+own_after conf (Network prefix) = refl
+own_after conf (NoNetwork prefix) = refl
 own_after conf (Reach prefix cost) = refl
+own_after conf (NoReach prefix) = refl
 
 own_called : (call : Call) (conf : Configuration) → (conf_called call conf).own ≡ conf.own
 own_called (Up_call slot) conf = refl
@@ -240,10 +639,9 @@ added_grows (Ok done) closing conf slot peer may = tt
 added_grows (Err why) closing conf slot peer may = peer_at-from_accepted conf closing slot peer may
 
 -- an accepted peer
-is_taken : (closing : ℕ) (config : Config) (r : Run) (slot : ℕ) (peer : PeerConf) (s : SpeakerState) → Holds config r s → first_refusal s.conf closing (AddPeer slot peer) ≡ None → IsTaken config.asn slot (configured_of peer)
+is_taken : (closing : ℕ) (config : Config) (r : Run) (slot : ℕ) (peer : PeerConf) (s : SpeakerState) → Holds config r s → first_refusal s.conf closing (AddPeer slot peer) ≡ None → IsTaken slot (configured_of peer)
 is_taken closing config r slot peer s h may = record {
   within = slot-from_accepted s.conf closing slot peer may;
-  external = ap (λ (own : Asn). peer.asn.0 == own.0) (sym (own_is config r) ∙ ap (λ (c : Configuration). c.own) (sym h.conf)) ∙ external-from_accepted s.conf closing slot peer may;
   local = is_host-from_accepted s.conf closing slot peer may;
   apart = apart-from_accepted s.conf closing slot peer may;
 }
@@ -257,32 +655,34 @@ holds_added closing config r slot peer old new h may conf peers put config_same 
     let free : peer_at old.conf slot ≡ None = peer_at-from_accepted old.conf closing slot peer may in
     let before = h.slots slot in
     let vacant : is_established (session (history config slot r)).state ≡ false = ap is_established (before.vacant (sym before.configured ∙ ap (option_map (terms_in config)) free)).0 in
+    let was : (p : Prefix) → route_at old.adj_in slot p ≡ route (history config slot r) p = λ p. sym (peer_as old.adj_in slot p (slot-from_accepted old.conf closing slot peer may)) ∙ before.routes_are p in
     record {
       config_is = config_same ∙ h.config_is;
       moment = moment ∙ h.moment;
       conf = conf ∙ ap (λ c. conf_after c (AddPeer slot peer)) h.conf;
       cache = subst (λ x. CacheAgrees config (cache_history r) x) (sym cache) h.cache;
       payloads = payloads ∙ h.payloads;
-      peers = (h.peers.0, λ t found at. added_taken config.asn slot t (peer_at old.conf t) (configured_of peer) found (is_taken closing config r slot peer old h may) (h.peers.1 t found) (sym (peers t) ∙ at));
+      peers = (h.peers.0, λ t found at. added_taken slot t (peer_at old.conf t) (configured_of peer) found (is_taken closing config r slot peer old h may) (h.peers.1 t found) (sym (peers t) ∙ at));
       slots =
           slots_changed config old.conf new.conf (link_at old.links) (link_at new.links) old.adj_in new.adj_in (λ t. history config t r) (λ t. history config t (turn (Command_call (AddPeer slot peer)) [] ∷ r)) slot h.slots
           (λ t other. peers t ∙ rw (ne_eqb t slot other) refl)
           (λ t other. put t ∙ rw (ne_eqb t slot other) refl)
           (λ t other p. ap (λ table. route_at table t p) adj_in)
           (λ t other. rw (ne_eqb t slot other) refl)
-          (rw (peers slot, put slot, adj_in, eq-eqb slot slot refl) (slot_agrees config (configured_of peer) _ (route_at old.adj_in slot) _ (record {
+          (rw (peers slot, put slot, adj_in, eq-eqb slot slot refl) (agrees_peers config (Some (configured_of peer)) _ old.adj_in slot _ (slot-from_accepted old.conf closing slot peer may) (slot_agrees config (configured_of peer) _ (route_at old.adj_in slot) _ (record {
             terms = refl;
             link = record {
               peer = agrees-new (history config slot r) (terms_in config (configured_of peer)).own peer.mode peer.asn;
               held = λ p. refl;
               silent = λ k new p. absurd (cc);
             };
-            routes_are = λ p. before.routes_are p ∙ no_route (history config slot r) p vacant;
-          })));
+            routes_are = λ p. was p ∙ no_route (history config slot r) p vacant;
+          }))));
+      networks = λ p. ap (λ table. route_at table 64 p) adj_in ∙ h.networks p ∙ ap (λ c. network_route c p) (sym conf);
       kept =
           kept_added slot (configured (terms_in config (configured_of peer)).own peer.mode) old new (offer_at old.book) (offer_at new.book) (slot-from_accepted old.conf closing slot peer may) put
-          (λ p. before.routes_are p ∙ no_route (history config slot r) p vacant)
-          (ap (λ (c : Configuration). c.own) conf) (ap (λ (c : Configuration). c.reach) conf) (λ t other. peers t ∙ rw (ne_eqb t slot other) refl)
+          (λ p. was p ∙ no_route (history config slot r) p vacant)
+          (ap (λ (c : Configuration). c.own) conf) (ap (λ (c : Configuration). c.reach) conf) (ap (λ (c : Configuration). c.policies) conf) (λ t other. peers t ∙ rw (ne_eqb t slot other) refl)
           payloads adj_in (ap (λ b. offer_at b) book) h.kept;
       chosen = omega (arith, few);
     }
@@ -290,8 +690,18 @@ holds_added closing config r slot peer old new h may conf peers put config_same 
 -- its slot had no candidates, since no peer was there
 pub sound_added : (closing : ℕ) (conf conf2 : Configuration) (offers : Offers) (slot : ℕ) (peer : PeerConf) → IsSound conf offers → AddressesDiffer conf2.peers → first_refusal conf closing (AddPeer slot peer) ≡ None
     → ((s : ℕ) → peer_at conf2 s ≡ peer_after conf (AddPeer slot peer) s) → IsSound conf2 offers
-sound_added closing conf conf2 offers slot peer sound addresses may peers = sound_conf conf conf2 offers sound addresses (λ s found at. still s found (s == slot) refl at)
+sound_added closing conf conf2 offers slot peer sound addresses may peers = sound_conf conf conf2 offers sound addresses (λ s found at. has_one s found (s == slot) refl (sym (peers s) ∙ at)) (λ s found at. still s found (s == slot) refl at)
   where
+    some_is : {X : Type 0} {x y : X} → Some x ≡ Some y → x ≡ y
+    some_is is = cc
+
+    has_one : (s : ℕ) (found : ConfiguredPeer) (b : Bool) → (s == slot) ≡ b → cond (s == slot) (Some (configured_of peer)) (peer_at conf s) ≡ Some found → found.address ≢ 0
+    has_one s found true same at none =
+        let this : configured_of peer ≡ found = some_is (ap (λ b. cond b (Some (configured_of peer)) (peer_at conf s)) (sym same) ∙ at) in
+        let here : peer.address ≡ 0 = ap (λ (x : ConfiguredPeer). x.address) this ∙ none in
+        let never = sym (addressed-from_accepted conf closing slot peer may) ∙ eq-eqb peer.address 0 here in cc
+    has_one s found false other at none = sound.addressed s found (ap (λ b. cond b (Some (configured_of peer)) (peer_at conf s)) (sym other) ∙ at) none
+
     still : (s : ℕ) (found : ConfiguredPeer) (b : Bool) → (s == slot) ≡ b → peer_at conf s ≡ Some found → peer_at conf2 s ≡ Some found
     still s found true same at = let free = peer_at-from_accepted conf closing slot peer may in let here = ap (λ x. peer_at conf x) (sym (eqb-true s slot same)) ∙ at in absurd (let never = sym free ∙ here in cc)
     still s found false other at = peers s ∙ ap (λ b. cond b (Some (configured_of peer)) (peer_at conf s)) other ∙ at

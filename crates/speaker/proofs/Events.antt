@@ -37,7 +37,7 @@ use Rattle.speaker.specs.Runs.{Call, Run, Turn, cache_history, cache_opened_by, 
 use Rattle.rtr_codec.specs.ClientTable.{in_force}
 use Rattle.rtr_session.specs.SessionHistory as cached
 use Rattle.speaker.specs.SpeakerState.{SpeakerState}
-use Rattle.speaker.specs.Tables.{link_at}
+use Rattle.speaker.specs.Tables.{network_route, link_at, peer_route_at}
 use Rattle.speaker.specs.declared.config.Config.{Config}
 use Rattle.speaker.proofs.AllowedChoices.{choices_append, choices_last, item_few, most_refused}
 use Rattle.speaker.proofs.Calls.{slots_changed}
@@ -49,6 +49,7 @@ use Rattle.speaker.proofs.Messages.{rest_kept}
 use Rattle.speaker.proofs.Moments.{moment_same, onto_stays}
 use Rattle.speaker.proofs.SlotEvents.{with_peer}
 use Rattle.speaker.proofs.SlotOctets.{agrees_dropped, slot_pushed, slot_signalled, slot_taken, slot_shut, WithRest}
+use Rattle.speaker.proofs.PeerRoutes.{agrees_peers, is_routes, not_local}
 
 -- What each event makes of the speaker, as the run with it has it.
 
@@ -56,8 +57,8 @@ use Rattle.speaker.proofs.SlotOctets.{agrees_dropped, slot_pushed, slot_signalle
 pub put_agrees : (config : Config) (c1 c2 : Configuration) (now1 now2 : ℕ) (k1 k2 : List cached.Event) (h1 h2 : ℕ → List happens.Event) (m1 m2 : ℕ) (slot : ℕ) (l : Linked) (old new : SpeakerState) → HoldsBy config c1 now1 k1 h1 m1 old → c2 ≡ c1 → now2 ≡ now1 → k2 ≡ k1
     → KeepsKept old new → KeepsRest old new → IsPut slot l old new → ((t : ℕ) → t ≢ slot → (p : Prefix) → route_at new.adj_in t p ≡ route_at old.adj_in t p)
     → ((t : ℕ) → t ≢ slot → h2 t ≡ h1 t) → new.chosen ≤ new.chosen_before + m2
-    → SlotAgrees config (peer_at old.conf slot) (Some l) (route_at new.adj_in slot) (h2 slot) → HoldsBy config c2 now2 k2 h2 m2 new
-put_agrees config c1 c2 now1 now2 k1 k2 h1 h2 m1 m2 slot l old new h conf moment cache kept keeps put routes histories few here = record {
+    → slot < 64 → SlotAgrees config (peer_at old.conf slot) (Some l) (route_at new.adj_in slot) (h2 slot) → HoldsBy config c2 now2 k2 h2 m2 new
+put_agrees config c1 c2 now1 now2 k1 k2 h1 h2 m1 m2 slot l old new h conf moment cache kept keeps put routes histories few low here = record {
   config_is = keeps.config ∙ h.config_is;
   moment = keeps.moment ∙ h.moment ∙ sym moment;
   conf = keeps.conf ∙ h.conf ∙ sym conf;
@@ -69,7 +70,8 @@ put_agrees config c1 c2 now1 now2 k1 k2 h1 h2 m1 m2 slot l old new h conf moment
       (λ t other. ap (λ c. peer_at c t) keeps.conf)
       (λ t other. put t ∙ off t other)
       routes histories
-      (rw (keeps.conf, put slot, eq-eqb slot slot refl) here);
+      (rw (keeps.conf, put slot, eq-eqb slot slot refl) (agrees_peers config (peer_at old.conf slot) (Some l) new.adj_in slot (h2 slot) low here));
+  networks = λ p. routes 64 (λ is. not_local slot low (sym is)) p ∙ h.networks p ∙ ap (λ c. network_route c p) (sym keeps.conf);
   kept = kept h.kept;
   chosen = few;
 }
@@ -82,7 +84,7 @@ pub put_by : (config : Config) (c1 c2 : Configuration) (now1 now2 : ℕ) (k1 k2 
     → ((t : ℕ) → t ≢ slot → h2 t ≡ h1 t) → new.chosen ≤ new.chosen_before + m2
     → (peer : ConfiguredPeer) → peer_at old.conf slot ≡ Some peer → SlotIs config peer l (route_at new.adj_in slot) (h2 slot) → HoldsBy config c2 now2 k2 h2 m2 new
 put_by config c1 c2 now1 now2 k1 k2 h1 h2 m1 m2 slot l old new h conf moment cache kept keeps put routes histories few peer configured here =
-    put_agrees config c1 c2 now1 now2 k1 k2 h1 h2 m1 m2 slot l old new h conf moment cache kept keeps put routes histories few
+    put_agrees config c1 c2 now1 now2 k1 k2 h1 h2 m1 m2 slot l old new h conf moment cache kept keeps put routes histories few (h.peers.1 slot peer configured).within
     (subst (λ found. SlotAgrees config found (Some l) (route_at new.adj_in slot) (h2 slot)) (sym configured) (slot_agrees config peer l (route_at new.adj_in slot) (h2 slot) here))
 
 pub holds_put : (config : Config) (r1 r2 : Run) (slot : ℕ) (l : Linked) (old new : SpeakerState) → Holds config r1 old → configuration_of config r2 ≡ configuration_of config r1 → moment_after r2 ≡ moment_after r1 → cache_history r2 ≡ cache_history r1
@@ -106,6 +108,7 @@ holds_begun config r s h = record {
   payloads = h.payloads;
   peers = h.peers;
   slots = h.slots;
+  networks = h.networks;
   kept = h.kept;
   chosen = omega arith;
 }
@@ -113,12 +116,18 @@ holds_begun config r s h = record {
 -- a configured slot is there
 pub slot_of : (config : Config) (r : Run) (slot : ℕ) (peer : ConfiguredPeer) (s : SpeakerState) → Holds config r s → peer_at s.conf slot ≡ Some peer
     → (l : Linked) × (link_at s.links slot ≡ Some l)
-slot_of config r slot peer s h configured = linked_from config (peer_at s.conf slot) peer (link_at s.links slot) (route_at s.adj_in slot) (history config slot r) configured (h.slots slot)
+slot_of config r slot peer s h configured = linked_from config (peer_at s.conf slot) peer (link_at s.links slot) (peer_route_at s.adj_in slot) (history config slot r) configured (h.slots slot)
+
+pub slot_now : (config : Config) (conf : Configuration) (now : ℕ) (k : List cached.Event) (hs : ℕ → List happens.Event) (most : ℕ) (slot : ℕ) (peer : ConfiguredPeer) (l : Linked) (s : SpeakerState) → HoldsBy config conf now k hs most s
+    → peer_at s.conf slot ≡ Some peer → link_at s.links slot ≡ Some l → SlotIs config peer l (route_at s.adj_in slot) (hs slot)
+slot_now config conf now k hs most slot peer l s h configured linked =
+    is_routes config peer l s.adj_in slot (hs slot) (h.peers.1 slot peer configured).within
+    (slot_from config (peer_at s.conf slot) peer (link_at s.links slot) l (peer_route_at s.adj_in slot) (hs slot) configured linked (h.slots slot))
 
 pub slot_is : (config : Config) (r : Run) (slot : ℕ) (peer : ConfiguredPeer) (l : Linked) (s : SpeakerState) → Holds config r s → peer_at s.conf slot ≡ Some peer → link_at s.links slot ≡ Some l
     → SlotIs config peer l (route_at s.adj_in slot) (history config slot r)
 slot_is config r slot peer l s h configured linked =
-    slot_from config (peer_at s.conf slot) peer (link_at s.links slot) l (route_at s.adj_in slot) (history config slot r) configured linked (h.slots slot)
+    slot_now config (configuration_of config r) (moment_after r) (cache_history r) (λ t. history config t r) (choices_in config r) slot peer l s h configured linked
 
 -- octets
 
@@ -406,7 +415,8 @@ holds_nothing config r slot s h few = record {
   cache = h.cache;
   payloads = h.payloads;
   peers = h.peers;
-  slots = λ t. let P : List happens.Event → Type 0 = λ x. SlotAgrees config (peer_at s.conf t) (link_at s.links t) (route_at s.adj_in t) x in subst P (sym (bytes_none config slot r t _ refl)) (h.slots t);
+  slots = λ t. let P : List happens.Event → Type 0 = λ x. SlotAgrees config (peer_at s.conf t) (link_at s.links t) (peer_route_at s.adj_in t) x in subst P (sym (bytes_none config slot r t _ refl)) (h.slots t);
+  networks = h.networks;
   kept = h.kept;
   chosen = omega (arith, few);
 }
@@ -431,7 +441,8 @@ holds_ticked config r now s h few = record {
   cache = h.cache;
   payloads = h.payloads;
   peers = h.peers;
-  slots = λ t. slot_ticked config (peer_at s.conf t) (link_at s.links t) (route_at s.adj_in t) (history config t r) now (h.slots t);
+  slots = λ t. slot_ticked config (peer_at s.conf t) (link_at s.links t) (peer_route_at s.adj_in t) (history config t r) now (h.slots t);
+  networks = h.networks;
   kept = h.kept;
   chosen = omega (arith, few);
 }
@@ -447,18 +458,19 @@ holds_dropped config r slot l octets s h linked shut few = record {
   payloads = h.payloads;
   peers = h.peers;
   slots = λ t. elim (cases_eq t slot) [
-    | inl same ↦ subst (λ x. SlotAgrees config (peer_at s.conf x) (link_at s.links x) (route_at s.adj_in x) (history config x (turn (Bytes_call slot octets) [] ∷ r))) (sym same) here
-    | inr other ↦ let P : List happens.Event → Type 0 = λ x. SlotAgrees config (peer_at s.conf t) (link_at s.links t) (route_at s.adj_in t) x in subst P (sym (bytes_off config slot octets r t other)) (h.slots t)
+    | inl same ↦ subst (λ x. SlotAgrees config (peer_at s.conf x) (link_at s.links x) (peer_route_at s.adj_in x) (history config x (turn (Bytes_call slot octets) [] ∷ r))) (sym same) here
+    | inr other ↦ let P : List happens.Event → Type 0 = λ x. SlotAgrees config (peer_at s.conf t) (link_at s.links t) (peer_route_at s.adj_in t) x in subst P (sym (bytes_off config slot octets r t other)) (h.slots t)
   ];
+  networks = h.networks;
   kept = h.kept;
   chosen = omega (arith, few);
 }
   where
-    here : SlotAgrees config (peer_at s.conf slot) (link_at s.links slot) (route_at s.adj_in slot) (history config slot (turn (Bytes_call slot octets) [] ∷ r))
+    here : SlotAgrees config (peer_at s.conf slot) (link_at s.links slot) (peer_route_at s.adj_in slot) (history config slot (turn (Bytes_call slot octets) [] ∷ r))
     here =
-        let before : SlotAgrees config (peer_at s.conf slot) (Some l) (route_at s.adj_in slot) (history config slot r) = subst (λ x. SlotAgrees config (peer_at s.conf slot) x (route_at s.adj_in slot) (history config slot r)) linked (h.slots slot) in
-        let P : List happens.Event → Type 0 = λ x. SlotAgrees config (peer_at s.conf slot) (link_at s.links slot) (route_at s.adj_in slot) x in
-        subst P (sym (bytes_at config slot octets r)) (subst (λ x. SlotAgrees config (peer_at s.conf slot) x (route_at s.adj_in slot) (onto octets (history config slot r))) (sym linked) (agrees_dropped config (peer_at s.conf slot) l (route_at s.adj_in slot) (history config slot r) octets shut before))
+        let before : SlotAgrees config (peer_at s.conf slot) (Some l) (peer_route_at s.adj_in slot) (history config slot r) = subst (λ x. SlotAgrees config (peer_at s.conf slot) x (peer_route_at s.adj_in slot) (history config slot r)) linked (h.slots slot) in
+        let P : List happens.Event → Type 0 = λ x. SlotAgrees config (peer_at s.conf slot) (link_at s.links slot) (peer_route_at s.adj_in slot) x in
+        subst P (sym (bytes_at config slot octets r)) (subst (λ x. SlotAgrees config (peer_at s.conf slot) x (peer_route_at s.adj_in slot) (onto octets (history config slot r))) (sym linked) (agrees_dropped config (peer_at s.conf slot) l (peer_route_at s.adj_in slot) (history config slot r) octets shut before))
 
 pub some_taken : (count : ℕ) (octets : List ℕ) → count ≤ length octets → count ≢ 0 → 0 < length (take count octets)
 some_taken count octets within some = omega (arith, length-take count octets, within, some)

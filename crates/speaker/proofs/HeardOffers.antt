@@ -59,16 +59,16 @@ apart_still slot found had has some p apart = subst (λ f. AreApart f) (λ i s. 
 
 -- behind the withdrawals
 pub apart_heard : (conf : Configuration) (payloads : List Vrp) (slot identifier : ℕ) (attrs : PathAttributes) (found : Option Candidate) (withdrawn : Prefix → Bool) (had mid : Offers) → IsSound conf had
-    → IsSet slot withdrawn (λ p. None) had mid → IsMade conf slot identifier attrs found → (p : Prefix) → AreApart (λ s. cond (slot == s) (judged_at conf.own payloads attrs found p) (mid s p))
+    → IsSet slot withdrawn (λ p. None) had mid → IsMade conf slot identifier attrs found → (p : Prefix) → AreApart (λ s. cond (slot == s) (judged_at conf payloads attrs found p) (mid s p))
 apart_heard conf payloads slot identifier attrs found withdrawn had mid sound gone made p =
-    apart_with conf slot (judged_at conf.own payloads attrs found p) mid (sound_gone conf had mid (λ s q. s == slot && withdrawn q) sound gone)
-    (judged_own conf slot found _ (made_own conf slot identifier attrs found made)) p
+    apart_with conf slot (judged_at conf payloads attrs found p) mid (sound_gone conf had mid (λ s q. s == slot && withdrawn q) sound gone)
+    (judged_own conf payloads attrs slot found p (made_own conf slot identifier attrs found made)) p
 
 pub sound_heard : (conf : Configuration) (payloads : List Vrp) (slot identifier : ℕ) (attrs : PathAttributes) (found : Option Candidate) (withdrawn : Prefix → Bool) (had mid has : Offers) → IsSound conf had
-    → IsSet slot withdrawn (λ p. None) had mid → IsMade conf slot identifier attrs found → AreSome slot (judged_at conf.own payloads attrs found) mid has → IsSound conf has
+    → IsSet slot withdrawn (λ p. None) had mid → IsMade conf slot identifier attrs found → AreSome slot (judged_at conf payloads attrs found) mid has → IsSound conf has
 sound_heard conf payloads slot identifier attrs found withdrawn had mid has sound gone made some =
-    sound_some conf slot (judged_at conf.own payloads attrs found) mid has (sound_gone conf had mid (λ s p. s == slot && withdrawn p) sound gone)
-    (λ p. judged_own conf slot found _ (made_own conf slot identifier attrs found made)) some
+    sound_some conf slot (judged_at conf payloads attrs found) mid has (sound_gone conf had mid (λ s p. s == slot && withdrawn p) sound gone)
+    (λ p. judged_own conf payloads attrs slot found p (made_own conf slot identifier attrs found made)) some
 
 pub sound_withdrawn : (conf : Configuration) (slot : ℕ) (withdrawn : Prefix → Bool) (had mid : Offers) → IsSound conf had → IsSet slot withdrawn (λ p. None) had mid → IsSound conf mid
 sound_withdrawn conf slot withdrawn had mid sound gone = sound_gone conf had mid (λ s p. s == slot && withdrawn p) sound gone
@@ -77,7 +77,7 @@ sound_withdrawn conf slot withdrawn had mid sound gone = sound_gone conf had mid
 pub on_kept : {T F : Type 0} (result : Result T F) (conf : Configuration) (payloads : List Vrp) (sender : Sender) (attrs : PathAttributes) (found : Option Candidate) (withdrawn announced : Prefix → Bool) (old mid new : RoutingState)
     → IsMade conf sender.slot sender.identifier attrs found
     → IsSet sender.slot withdrawn (λ p. None) (route_at old.adj_in) (route_at mid.adj_in) → IsSet sender.slot withdrawn (λ p. None) (offer_at old.book) (offer_at mid.book)
-    → OnOk result (IsSet sender.slot announced (λ p. Some attrs) (route_at mid.adj_in) (route_at new.adj_in)) → OnOk result (IsSet sender.slot announced (judged_at conf.own payloads attrs found) (offer_at mid.book) (offer_at new.book))
+    → OnOk result (IsSet sender.slot announced (λ p. Some attrs) (route_at mid.adj_in) (route_at new.adj_in)) → OnOk result (IsSet sender.slot announced (judged_at conf payloads attrs found) (offer_at mid.book) (offer_at new.book))
     → OnOk result (KeepsHeard conf payloads sender Established old new)
 on_kept (Err why) conf payloads sender attrs found withdrawn announced old mid new made routes_gone offers_gone routes offers = tt
 on_kept (Ok done) conf payloads sender attrs found withdrawn announced old mid new made routes_gone offers_gone routes offers =

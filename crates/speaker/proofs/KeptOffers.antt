@@ -1,11 +1,13 @@
-use Rattle.std.proofs.Common.{◌≡◌, ◌≢◌, ◌<◌, ◌==◌, ◌&&◌, ◌↔◌, ℕ, Bool, true, false, List, [], Option, Some, None, cond, refl, sym, ap, ◌∙◌, subst, inl, inr, arith}
+use Rattle.std.proofs.Common.{◌≡◌, ◌≢◌, ◌<◌, ◌==◌, ◌&&◌, ◌↔◌, ◌⊎◌, ℕ, Bool, true, false, List, [], Option, Some, None, cond, refl, sym, ap, ◌∙◌, subst, inl, inr, arith}
 use Rattle.std.proofs.lemmas.Grind.{common_steps}
 use Rattle.std.specs.List.Sorted.{IsStrictlySortedBy}
 use Rattle.std.specs.Map.{keys_of}
 use Rattle.std.specs.Option.{IsSome, MatchOption, option_map}
 use Rattle.std.proofs.lemmas.Bool.{cases_eq, eq-eqb, ne_eqb}
-use Rattle.bgp_attr.specs.PathAttributes.{PathAttributes}
+use Rattle.bgp_attr.specs.PathAttributes.{PathAttributes, originated}
+use Rattle.bgp_attr.specs.PeerKinds.{is_external, kind_between}
 use Rattle.bgp_conf.specs.Configuration.{Configuration, peer_at}
+use Rattle.bgp_conf.specs.declared.conf.ConfiguredPeer.{ConfiguredPeer}
 use Rattle.bgp_fsm.proofs.TableLaws.{keeps_identifier}
 use Rattle.bgp_fsm.specs.SessionTable.{effects_of, session_after}
 use Rattle.bgp_fsm.specs.StateTests.{is_established}
@@ -14,71 +16,137 @@ use Rattle.bgp_fsm.specs.declared.session.Session.{Session}
 use Rattle.bgp_peer.specs.Slot.{Slot, handed, pushed}
 use Rattle.decision.specs.BookContents.{IsBestOf, best_at, offer_at}
 use Rattle.decision.specs.declared.candidate.Candidate.{Candidate}
+use Rattle.bgp_conf.specs.PeerPolicies.{action_by, import_action}
+use Rattle.policy.specs.PolicyMeaning.{Route}
 use Rattle.net_prefix.specs.PrefixOrder.{prefix_cmp}
 use Rattle.net_prefix.specs.declared.asn.Asn.{Asn}
 use Rattle.net_prefix.specs.declared.payload.Vrp.{Vrp}
 use Rattle.net_prefix.specs.declared.prefix.Prefix.{Prefix}
 use Rattle.origin_valid.specs.Validity.{validity}
-use Rattle.rib_in.specs.LatestRoutes.{RouteTable, route_at}
-use Rattle.speaker.specs.Candidates.{IsCandidate, IsMade, HasNoneAt, IsOnlyCandidateAt, judged_at, origin_in, state_in}
+use Rattle.rib_in.specs.LatestRoutes.{RouteTable, is_route, route_at}
+use Rattle.speaker.specs.Candidates.{IsCandidate, IsCandidateOf, IsLocalCandidate, IsMade, IsPeerCandidate, HasNoneAt, IsOnlyCandidateAt, degree_of, judged_at, local_candidate, network_at, origin_in, seen_of, state_in, taken, with_state}
 use Rattle.speaker.specs.Linked.{Linked}
 use Rattle.speaker.specs.LocRib.{HasNoCandidate, IsBest, IsLocRib}
 use Rattle.speaker.specs.Moves.{Hands, IsPut, KeepsKept, Moves, Pushes, moved}
-use Rattle.speaker.specs.Offers.{AreKept, AreMadeAgain, AreMadeWhere, IsOffer, Offers, read_in}
+use Rattle.speaker.specs.Offers.{AreKept, AreMadeAgain, AreMadeWhere, IsOffer, IsSource, IsUp, Offers, read_in}
 use Rattle.speaker.specs.Serving.{IsStill, IsToldAt}
 use Rattle.speaker.specs.SpeakerState.{SpeakerState, tables_of}
 use Rattle.speaker.specs.Tables.{Tables, link_at, session_at, tables}
-use Rattle.speaker.proofs.CandidateLists.{candidate_made, none_routed}
+use Rattle.speaker.proofs.CandidateLists.{candidate_made, candidate_route, network_made, none_routed}
 
 -- What leaves a slot's candidate of a prefix as it is.
+
+-- a peer of the same settings and the same policies make of a route what they made
+pub same_action : (old new : Configuration) (slot : ℕ) (route : Route) → new.policies ≡ old.policies → peer_at new slot ≡ peer_at old slot → import_action new slot route ≡ import_action old slot route
+same_action old new slot route policies peer = λ i. action_by (λ x. x.import) (policies i) (peer i) route
+
+-- what a candidate of a peer goes by, beside the peer's import policy
+abbrev pub taken_by : ConfiguredPeer → Asn × ℕ × ℕ
+taken_by peer = (peer.asn, peer.address, peer.local)
 
 -- of this slot and prefix the selection reads the same in both tables
 pub record IsAlike (t u : Tables) (slot : ℕ) (prefix : Prefix) : Type 0 where
   pub own : u.conf.own ≡ t.conf.own
   pub reach : u.conf.reach ≡ t.conf.reach
-  pub peer : peer_at u.conf slot ≡ peer_at t.conf slot
+  pub peer : option_map taken_by (peer_at u.conf slot) ≡ option_map taken_by (peer_at t.conf slot)
   pub identifier : option_map (λ (s : Session). s.identifier) (u.sessions slot) ≡ option_map (λ (s : Session). s.identifier) (t.sessions slot)
   pub route : u.routes slot prefix ≡ t.routes slot prefix
   -- whatever its origin is
   pub state : (origin : Option Asn) → validity u.payloads prefix origin ≡ validity t.payloads prefix origin
+  -- whatever the route is
+  pub action : (route : Route) → import_action u.conf slot route ≡ import_action t.conf slot route
 
 alike_back : (t u : Tables) (slot : ℕ) (prefix : Prefix) → IsAlike t u slot prefix → IsAlike u t slot prefix
-alike_back t u slot prefix a = record { own = sym a.own; reach = sym a.reach; peer = sym a.peer; identifier = sym a.identifier; route = sym a.route; state = λ origin. sym (a.state origin) }
+alike_back t u slot prefix a = record { own = sym a.own; reach = sym a.reach; peer = sym a.peer; identifier = sym a.identifier; route = sym a.route; state = λ origin. sym (a.state origin); action = λ route. sym (a.action route) }
 
 identifier_of : (found : Option Session) (identifier : ℕ) → option_map (λ (s : Session). s.identifier) found ≡ Some identifier
     → (session : Session) × (found ≡ Some session) × (session.identifier ≡ identifier)
 identifier_of None identifier is = absurd (cc)
 identifier_of (Some session) identifier is = (session, refl, cc)
 
-candidate_alike : (t u : Tables) (prefix : Prefix) (c : Candidate) → IsAlike t u c.slot prefix → IsCandidate t prefix c → IsCandidate u prefix c
-candidate_alike t u prefix c a is =
+-- the peer that a candidate goes by
+pub taken_back : (found other : Option ConfiguredPeer) (peer : ConfiguredPeer) → option_map taken_by found ≡ option_map taken_by other → other ≡ Some peer
+    → (x : ConfiguredPeer) × (found ≡ Some x) × (x.asn ≡ peer.asn) × (x.address ≡ peer.address) × (x.local ≡ peer.local)
+taken_back None other peer same is = absurd (let never = same ∙ ap (option_map taken_by) is in cc)
+taken_back (Some x) other peer same is =
+    let both : taken_by x ≡ taken_by peer = one (same ∙ ap (option_map taken_by) is) in
+    (x, refl, ap (λ (b : Asn × ℕ × ℕ). b.0) both, ap (λ (b : Asn × ℕ × ℕ). b.1) both, ap (λ (b : Asn × ℕ × ℕ). b.2) both)
+  where
+    one : {X : Type 0} {x y : X} → Some x ≡ Some y → x ≡ y
+    one is = cc
+
+-- what attributes make is the same
+of_alike : (t u : Tables) (prefix : Prefix) (identifier other : ℕ) (attrs : PathAttributes) (c : Candidate) → IsAlike t u c.slot prefix → other ≡ identifier → IsCandidateOf t.conf identifier attrs c → IsCandidateOf u.conf other attrs c
+of_alike t u prefix identifier other attrs c a told made =
+    let now = taken_back (peer_at u.conf c.slot) (peer_at t.conf c.slot) made.peer a.peer made.configured in
+    record {
+      peer = now.0;
+      path = made.path;
+      next_hop = made.next_hop;
+      configured = now.1;
+      origin_is = made.origin_is;
+      path_is = made.path_is;
+      next_hop_is = made.next_hop_is;
+      without_own_as = rw a.own made.without_own_as;
+      not_own_address = λ own. made.not_own_address (own ∙ now.4);
+      resolves = rw a.reach made.resolves;
+      degree_is = ap (λ own. degree_of (kind_between own now.0.asn) attrs) a.own ∙ ap (λ asn. degree_of (kind_between t.conf.own asn) attrs) now.2 ∙ made.degree_is;
+      length_is = made.length_is;
+      neighbor_is = rw a.own made.neighbor_is;
+      med_is = made.med_is;
+      external_is = made.external_is ∙ sym (ap (λ own. is_external (kind_between own now.0.asn)) a.own ∙ ap (λ asn. is_external (kind_between t.conf.own asn)) now.2);
+      identifier_is = made.identifier_is ∙ sym told;
+      address_is = made.address_is ∙ sym now.3;
+    }
+
+-- its state is the same
+state_alike : (t u : Tables) (slot : ℕ) (prefix : Prefix) (attrs : PathAttributes) → IsAlike t u slot prefix → state_in u.conf.own u.payloads prefix attrs ≡ state_in t.conf.own t.payloads prefix attrs
+state_alike t u slot prefix attrs a = ap (λ own. state_in own u.payloads prefix attrs) a.own ∙ a.state (origin_in t.conf.own attrs)
+
+-- and so is what policies see of it
+seen_alike : (t u : Tables) (slot : ℕ) (prefix : Prefix) (attrs : PathAttributes) → IsAlike t u slot prefix → seen_of u.conf.own u.payloads slot prefix attrs ≡ seen_of t.conf.own t.payloads slot prefix attrs
+seen_alike t u slot prefix attrs a = λ i. record {
+  prefix = prefix;
+  state = state_alike t u slot prefix attrs a i;
+  origin = origin_in (a.own i) attrs;
+  path = attrs.as_path;
+  from = Some slot;
+}
+
+judged_alike : (t u : Tables) (prefix : Prefix) (attrs : PathAttributes) (c : Candidate) → IsAlike t u c.slot prefix → judged_at u.conf u.payloads attrs (Some c) prefix ≡ judged_at t.conf t.payloads attrs (Some c) prefix
+judged_alike t u prefix attrs c a =
+    ap (λ state. taken (import_action u.conf c.slot (seen_of u.conf.own u.payloads c.slot prefix attrs)) (with_state state c)) (state_alike t u c.slot prefix attrs a)
+    ∙ ap (λ action. taken action (with_state (state_in t.conf.own t.payloads prefix attrs) c))
+    (ap (import_action u.conf c.slot) (seen_alike t u c.slot prefix attrs a) ∙ a.action (seen_of t.conf.own t.payloads c.slot prefix attrs))
+
+peer_alike : (t u : Tables) (prefix : Prefix) (c : Candidate) → IsAlike t u c.slot prefix → IsPeerCandidate t prefix c → IsPeerCandidate u prefix c
+peer_alike t u prefix c a is =
     let found = identifier_of (u.sessions c.slot) is.session.identifier (a.identifier ∙ ap (option_map (λ (s : Session). s.identifier)) is.session_is) in
-    let made = is.made in
+    let at : IsAlike t u is.made.slot prefix = subst (λ s. IsAlike t u s prefix) (sym is.of_slot) a in
     record {
       session = found.0;
       attrs = is.attrs;
+      made = is.made;
       slot_is = is.slot_is;
       session_is = found.1;
       route = a.route ∙ is.route;
-      made = record {
-        peer = made.peer;
-        path = made.path;
-        next_hop = made.next_hop;
-        configured = a.peer ∙ made.configured;
-        origin_is = made.origin_is;
-        path_is = made.path_is;
-        next_hop_is = made.next_hop_is;
-        without_own_as = rw a.own made.without_own_as;
-        not_own_address = made.not_own_address;
-        resolves = rw a.reach made.resolves;
-        degree_is = made.degree_is;
-        length_is = made.length_is;
-        external_is = rw a.own made.external_is;
-        identifier_is = made.identifier_is ∙ sym found.2;
-        address_is = made.address_is;
-      };
-      judged = is.judged ∙ sym (a.state (origin_in t.conf.own is.attrs)) ∙ ap (λ own. state_in own u.payloads prefix is.attrs) (sym a.own);
+      of_slot = is.of_slot;
+      by_attrs = of_alike t u prefix is.session.identifier found.0.identifier is.attrs is.made at found.2 is.by_attrs;
+      judged = judged_alike t u prefix is.attrs is.made at ∙ is.judged;
     }
+
+local_alike : (t u : Tables) (prefix : Prefix) (c : Candidate) → IsAlike t u 64 prefix → IsLocalCandidate t prefix c → IsLocalCandidate u prefix c
+local_alike t u prefix c a is =
+    let judged : state_in t.conf.own t.payloads prefix is.attrs ≡ state_in u.conf.own u.payloads prefix is.attrs = sym (state_alike t u 64 prefix is.attrs a) in
+    record {
+      attrs = is.attrs;
+      route = a.route ∙ is.route;
+      made = is.made ∙ (λ i. with_state (judged i) (local_candidate (sym a.own i)));
+    }
+
+candidate_alike : (t u : Tables) (prefix : Prefix) (c : Candidate) → IsAlike t u c.slot prefix → IsCandidate t prefix c → IsCandidate u prefix c
+candidate_alike t u prefix c a (inl is) = inl (peer_alike t u prefix c a is)
+candidate_alike t u prefix c a (inr is) = inr (local_alike t u prefix c (subst (λ slot. IsAlike t u slot prefix) (ap (λ (x : Candidate). x.slot) is.made) a) is)
 
 candidate_at_slot : (t u : Tables) (slot : ℕ) (prefix : Prefix) (c : Candidate) → IsAlike t u slot prefix → c.slot ≡ slot → IsCandidate t prefix c → IsCandidate u prefix c
 candidate_at_slot t u slot prefix c a at is = candidate_alike t u prefix c (subst (λ s. IsAlike t u s prefix) (sym at) a) is
@@ -95,7 +163,8 @@ offer_alike t u slot prefix (Some c) a one = record {
 pub none_offered : (t : Tables) (slot : ℕ) (prefix : Prefix) (found : Option Candidate) → t.routes slot prefix ≡ None → IsOffer t slot prefix found → found ≡ None
 none_offered t slot prefix None nothing is = refl
 none_offered t slot prefix (Some c) nothing one =
-    let route = subst (λ s. t.routes s prefix ≡ Some one.is_one.attrs) one.at_slot one.is_one.route in
+    let found = candidate_route t prefix c one.is_one in
+    let route = subst (λ s. t.routes s prefix ≡ Some found.0) one.at_slot found.1 in
     absurd (cc)
 
 -- where there is no route in either table, nothing is kept
@@ -103,7 +172,20 @@ pub offer_unrouted : (t u : Tables) (slot : ℕ) (prefix : Prefix) (found : Opti
     → IsOffer t slot prefix found → IsOffer u slot prefix found
 offer_unrouted t u slot prefix found nothing still is =
     let none = none_offered t slot prefix found nothing is in
-    subst (λ f. IsOffer u slot prefix f) (sym none) (λ c at made. let route = subst (λ s. u.routes s prefix ≡ Some made.attrs) at made.route in cc)
+    subst (λ f. IsOffer u slot prefix f) (sym none) (none_routed u prefix slot still)
+
+-- a slot below 64 with a route is Established
+up_of : (t : Tables) (offers : Offers) (slot : ℕ) (p : Prefix) → AreKept t offers → slot < 64 → IsSome (t.routes slot p) → IsUp t slot
+up_of t offers slot p kept below there = elim (kept.routed slot p there) [ inl up ↦ up | inr local ↦ absurd (omega (arith, below, local)) ]
+
+-- the session of such a slot stays
+up_as : (t u : Tables) (s : ℕ) → u.sessions s ≡ t.sessions s → IsUp t s ⊎ (s ≡ 64) → IsUp u s ⊎ (s ≡ 64)
+up_as t u s same (inl up) = inl (up.0, same ∙ up.1, up.2)
+up_as t u s same (inr local) = inr local
+
+-- what has a route is where routes come from
+source_of : (t : Tables) (offers : Offers) (slot : ℕ) (p : Prefix) → AreKept t offers → IsSome (t.routes slot p) → IsSource t slot
+source_of t offers slot p kept there = elim (kept.routed slot p there) [ inl up ↦ inl (kept.below slot up.0 up.1, (up.0, up.1)) | inr local ↦ inr local ]
 
 some_once : {X : Type 0} {x y : X} → Some x ≡ Some y → x ≡ y
 some_once is = cc
@@ -147,7 +229,7 @@ kept_gone conf payloads sessions old new had has gone routes offers kept = recor
     made_here slot prefix true route offer = subst (λ f. IsOffer (read_in conf payloads sessions new) slot prefix f) (sym offer) (none_routed (read_in conf payloads sessions new) prefix slot route)
     made_here slot prefix false route offer =
         subst (λ f. IsOffer (read_in conf payloads sessions new) slot prefix f) (sym offer)
-        (offer_alike (read_in conf payloads sessions old) (read_in conf payloads sessions new) slot prefix (had slot prefix) (record { own = refl; reach = refl; peer = refl; identifier = refl; route = route; state = λ origin. refl }) (kept.made slot prefix))
+        (offer_alike (read_in conf payloads sessions old) (read_in conf payloads sessions new) slot prefix (had slot prefix) (record { own = refl; reach = refl; peer = refl; identifier = refl; route = route; state = λ origin. refl; action = λ seen. refl }) (kept.made slot prefix))
 
     routed_here : (slot : ℕ) (prefix : Prefix) (b : Bool) → route_at new slot prefix ≡ cond b None (route_at old slot prefix) → IsSome (route_at new slot prefix) → IsSome (route_at old slot prefix)
     routed_here slot prefix true route there = no_none (route_at new slot prefix) route there
@@ -157,7 +239,7 @@ kept_gone conf payloads sessions old new had has gone routes offers kept = recor
 pub kept_come : (conf : Configuration) (payloads : List Vrp) (slot identifier : ℕ) (attrs : PathAttributes) (found : Option Candidate) (old new : RouteTable) (had has : Offers) (come : ℕ → Prefix → Bool)
     → ((s : ℕ) (p : Prefix) → come s p ≡ true → s ≡ slot) → IsMade conf slot identifier attrs found
     → ((s : ℕ) (p : Prefix) → route_at new s p ≡ cond (come s p) (Some attrs) (route_at old s p))
-    → ((s : ℕ) (p : Prefix) → has s p ≡ cond (come s p) (judged_at conf.own payloads attrs found p) (had s p))
+    → ((s : ℕ) (p : Prefix) → has s p ≡ cond (come s p) (judged_at conf payloads attrs found p) (had s p))
     → (session : Session) → is_established session.state ≡ true → session.identifier ≡ identifier → (sessions : ℕ → Option Session) → sessions slot ≡ Some session
     → AreKept (read_in conf payloads sessions old) had → AreKept (read_in conf payloads sessions new) has
 kept_come conf payloads slot identifier attrs found old new had has come here made routes offers session established same sessions there kept = record {
@@ -166,21 +248,51 @@ kept_come conf payloads slot identifier attrs found old new had has come here ma
   below = kept.below;
 }
   where
-    made_there : (s : ℕ) (p : Prefix) → s ≡ slot → route_at new s p ≡ Some attrs → IsOffer (read_in conf payloads sessions new) s p (judged_at conf.own payloads attrs found p)
+    made_there : (s : ℕ) (p : Prefix) → s ≡ slot → route_at new s p ≡ Some attrs → IsOffer (read_in conf payloads sessions new) s p (judged_at conf payloads attrs found p)
     made_there s p slots route =
-        subst (λ x. IsOffer (read_in conf payloads sessions new) x p (judged_at conf.own payloads attrs found p)) (sym slots)
+        subst (λ x. IsOffer (read_in conf payloads sessions new) x p (judged_at conf payloads attrs found p)) (sym slots)
         (candidate_made (read_in conf payloads sessions new) p slot identifier session attrs found (kept.below slot session there) there (subst (λ x. route_at new x p ≡ Some attrs) slots route) (sym same) made)
 
-    made_here : (s : ℕ) (p : Prefix) (b : Bool) → come s p ≡ b → route_at new s p ≡ cond b (Some attrs) (route_at old s p) → has s p ≡ cond b (judged_at conf.own payloads attrs found p) (had s p)
+    made_here : (s : ℕ) (p : Prefix) (b : Bool) → come s p ≡ b → route_at new s p ≡ cond b (Some attrs) (route_at old s p) → has s p ≡ cond b (judged_at conf payloads attrs found p) (had s p)
         → IsOffer (read_in conf payloads sessions new) s p (has s p)
     made_here s p true is route offer = subst (λ f. IsOffer (read_in conf payloads sessions new) s p f) (sym offer) (made_there s p (here s p is) route)
     made_here s p false is route offer =
         subst (λ f. IsOffer (read_in conf payloads sessions new) s p f) (sym offer)
-        (offer_alike (read_in conf payloads sessions old) (read_in conf payloads sessions new) s p (had s p) (record { own = refl; reach = refl; peer = refl; identifier = refl; route = route; state = λ origin. refl }) (kept.made s p))
+        (offer_alike (read_in conf payloads sessions old) (read_in conf payloads sessions new) s p (had s p) (record { own = refl; reach = refl; peer = refl; identifier = refl; route = route; state = λ origin. refl; action = λ seen. refl }) (kept.made s p))
 
     routed_here : (s : ℕ) (p : Prefix) (b : Bool) → come s p ≡ b → route_at new s p ≡ cond b (Some attrs) (route_at old s p) → IsSome (route_at new s p)
-        → (x : Session) × (sessions s ≡ Some x) × (is_established x.state ≡ true)
-    routed_here s p true is route routed = (session, ap sessions (here s p is) ∙ there, established)
+        → ((x : Session) × (sessions s ≡ Some x) × (is_established x.state ≡ true)) ⊎ (s ≡ 64)
+    routed_here s p true is route routed = inl (session, ap sessions (here s p is) ∙ there, established)
+    routed_here s p false is route routed = kept.routed s p (some_if (route_at old s p) (route_at new s p) (sym route) routed)
+
+-- a local network comes, with the candidate that it makes
+pub kept_network : (conf : Configuration) (payloads : List Vrp) (network : Prefix) (sessions : ℕ → Option Session) (old new : RouteTable) (had has : Offers) → ((p q : Prefix) → is_route 64 p 64 q ≡ true → p ≡ q)
+    → ((s : ℕ) (p : Prefix) → is_route 64 network s p ≡ true → s ≡ 64)
+    → ((s : ℕ) (p : Prefix) → route_at new s p ≡ cond (is_route 64 network s p) (Some originated) (route_at old s p))
+    → ((s : ℕ) (p : Prefix) → has s p ≡ cond (is_route 64 network s p) (Some (network_at conf.own payloads originated network)) (had s p))
+    → AreKept (read_in conf payloads sessions old) had → AreKept (read_in conf payloads sessions new) has
+kept_network conf payloads network sessions old new had has one here routes offers kept = record {
+  made = λ s p. made_here s p (is_route 64 network s p) refl (routes s p) (offers s p);
+  routed = λ s p routed. routed_here s p (is_route 64 network s p) refl (routes s p) routed;
+  below = kept.below;
+}
+  where
+    made_here : (s : ℕ) (p : Prefix) (b : Bool) → is_route 64 network s p ≡ b → route_at new s p ≡ cond b (Some originated) (route_at old s p)
+        → has s p ≡ cond b (Some (network_at conf.own payloads originated network)) (had s p) → IsOffer (read_in conf payloads sessions new) s p (has s p)
+    made_here s p true is route offer =
+        let slots : s ≡ 64 = here s p is in
+        let same : network ≡ p = one network p (subst (λ x. is_route 64 network x p ≡ true) slots is) in
+        let made = network_made (read_in conf payloads sessions new) p originated (subst (λ x. route_at new x p ≡ Some originated) slots route) in
+        subst (λ f. IsOffer (read_in conf payloads sessions new) s p f) (sym offer)
+        (subst (λ x. IsOffer (read_in conf payloads sessions new) x p (Some (network_at conf.own payloads originated network))) (sym slots)
+        (subst (λ q. IsOffer (read_in conf payloads sessions new) 64 p (Some (network_at conf.own payloads originated q))) (sym same) made))
+    made_here s p false is route offer =
+        subst (λ f. IsOffer (read_in conf payloads sessions new) s p f) (sym offer)
+        (offer_alike (read_in conf payloads sessions old) (read_in conf payloads sessions new) s p (had s p) (record { own = refl; reach = refl; peer = refl; identifier = refl; route = route; state = λ origin. refl; action = λ seen. refl }) (kept.made s p))
+
+    routed_here : (s : ℕ) (p : Prefix) (b : Bool) → is_route 64 network s p ≡ b → route_at new s p ≡ cond b (Some originated) (route_at old s p) → IsSome (route_at new s p)
+        → ((x : Session) × (sessions s ≡ Some x) × (is_established x.state ≡ true)) ⊎ (s ≡ 64)
+    routed_here s p true is route routed = inr (here s p is)
     routed_here s p false is route routed = kept.routed s p (some_if (route_at old s p) (route_at new s p) (sym route) routed)
 
 -- nothing has changed at any route
@@ -199,10 +311,8 @@ kept_moved slot l input old new had has linked put conf payloads routes offers k
     | inr other ↦ made_there s p other
   ];
   routed = λ s p there. elim (cases_eq s slot) [
-    | inl same ↦ subst (λ x. (session : Session) × (session_at new.links x ≡ Some session) × (is_established session.state ≡ true)) (sym same) (routed_here p _ refl (subst (λ x. IsSome (route_at new.adj_in x p)) same there))
-    | inr other ↦
-        let before = kept.routed s p (some_if (route_at old.adj_in s p) (route_at new.adj_in s p) (sym (route_off s p other)) there) in
-        (before.0, session_off s other ∙ before.1, before.2)
+    | inl same ↦ inl (subst (λ x. (session : Session) × (session_at new.links x ≡ Some session) × (is_established session.state ≡ true)) (sym same) (routed_here p _ refl (subst (λ x. IsSome (route_at new.adj_in x p)) same there)))
+    | inr other ↦ up_as (tables_of old) (tables_of new) s (session_off s other) (kept.routed s p (some_if (route_at old.adj_in s p) (route_at new.adj_in s p) (sym (route_off s p other)) there))
   ];
   below = λ s session there. elim (cases_eq s slot) [
     | inl same ↦ subst (λ x. x < 64) (sym same) (kept.below slot l.peer.session (session_linked (link_at old.links slot) l linked))
@@ -246,14 +356,14 @@ kept_moved slot l input old new had has linked put conf payloads routes offers k
     made_there s p other =
         subst (λ f. IsOffer (tables_of new) s p f) (sym (offer_off s p other))
         (offer_alike (tables_of old) (tables_of new) s p (had s p)
-        (record { own = ap (λ (c : Configuration). c.own) conf; reach = ap (λ (c : Configuration). c.reach) conf; peer = ap (λ c. peer_at c s) conf; identifier = ap (option_map (λ (x : Session). x.identifier)) (session_off s other); route = route_off s p other; state = λ origin. ap (λ x. validity x p origin) payloads })
+        (record { own = ap (λ (c : Configuration). c.own) conf; reach = ap (λ (c : Configuration). c.reach) conf; peer = ap (λ c. option_map taken_by (peer_at c s)) conf; identifier = ap (option_map (λ (x : Session). x.identifier)) (session_off s other); route = route_off s p other; state = λ origin. ap (λ x. validity x p origin) payloads; action = λ seen. ap (λ c. import_action c s seen) conf })
         (kept.made s p))
 
     -- where it stays Established, so does its identifier
     stays : (p : Prefix) → (effects_of input l.peer.session).left ≡ false → IsSome (route_at old.adj_in slot p)
         → (is_established (session_after old.moment input l.peer.session).state ≡ true) × ((session_after old.moment input l.peer.session).identifier ≡ l.peer.session.identifier)
     stays p lasts there =
-        let before = kept.routed slot p there in
+        let before = up_of (tables_of old) had slot p kept (kept.below slot l.peer.session session_was) there in
         let same : before.0 ≡ l.peer.session = some_once (sym before.1 ∙ session_was) in
         let was : is_established l.peer.session.state ≡ true = sym (ap (λ (x : Session). is_established x.state) same) ∙ before.2 in
         let is : is_established (session_after old.moment input l.peer.session).state ≡ true = lasting old.moment input l.peer.session was lasts in
@@ -276,10 +386,11 @@ kept_moved slot l input old new had has linked put conf payloads routes offers k
         (record {
           own = ap (λ (c : Configuration). c.own) conf;
           reach = ap (λ (c : Configuration). c.reach) conf;
-          peer = ap (λ c. peer_at c slot) conf;
+          peer = ap (λ c. option_map taken_by (peer_at c slot)) conf;
           identifier = ap (option_map (λ (x : Session). x.identifier)) session_on ∙ ap Some lasts.1 ∙ sym (ap (option_map (λ (x : Session). x.identifier)) session_was);
           route = route_on p ∙ rw is refl;
           state = λ origin. ap (λ x. validity x p origin) payloads;
+          action = λ seen. ap (λ c. import_action c slot seen) conf;
         })
         (kept.made slot p))
 
@@ -340,23 +451,23 @@ kept_still_links old new had still kept =
 
 -- a peer is added to a slot that has no routes
 pub kept_added : (slot : ℕ) (peer : Slot) (old new : SpeakerState) (had has : Offers) → slot < 64 → IsPut slot (record { peer = peer; adj_out = [] }) old new → ((p : Prefix) → route_at old.adj_in slot p ≡ None)
-    → new.conf.own ≡ old.conf.own → new.conf.reach ≡ old.conf.reach → ((s : ℕ) → s ≢ slot → peer_at new.conf s ≡ peer_at old.conf s)
+    → new.conf.own ≡ old.conf.own → new.conf.reach ≡ old.conf.reach → new.conf.policies ≡ old.conf.policies → ((s : ℕ) → s ≢ slot → peer_at new.conf s ≡ peer_at old.conf s)
     → new.payloads ≡ old.payloads → new.adj_in ≡ old.adj_in → has ≡ had → AreKept (tables_of old) had → AreKept (tables_of new) has
-kept_added slot peer old new had has within put unrouted own reach peers payloads adj_in book kept = record {
+kept_added slot peer old new had has within put unrouted own reach policies peers payloads adj_in book kept = record {
   made = λ s p. subst (λ f. IsOffer (tables_of new) s p f) (ap (λ (o : Offers). o s p) (sym book)) (elim (cases_eq s slot) [
     | inl same ↦
         let was : route_at old.adj_in s p ≡ None = subst (λ x. route_at old.adj_in x p ≡ None) (sym same) (unrouted p) in
         offer_unrouted (tables_of old) (tables_of new) s p (had s p) was (route_same s p ∙ was) (kept.made s p)
     | inr other ↦
         offer_alike (tables_of old) (tables_of new) s p (had s p)
-        (record { own = own; reach = reach; peer = peers s other; identifier = ap (option_map (λ (x : Session). x.identifier)) (session_off s other); route = route_same s p; state = λ origin. ap (λ x. validity x p origin) payloads })
+        (record { own = own; reach = reach; peer = ap (option_map taken_by) (peers s other); identifier = ap (option_map (λ (x : Session). x.identifier)) (session_off s other); route = route_same s p; state = λ origin. ap (λ x. validity x p origin) payloads; action = λ seen. same_action old.conf new.conf s seen policies (peers s other) })
         (kept.made s p)
   ]);
   routed = λ s p there.
       let was = some_if (route_at old.adj_in s p) (route_at new.adj_in s p) (sym (route_same s p)) there in
       elim (cases_eq s slot) [
         | inl same ↦ no_none (route_at old.adj_in s p) (subst (λ x. route_at old.adj_in x p ≡ None) (sym same) (unrouted p)) was
-        | inr other ↦ let before = kept.routed s p was in (before.0, session_off s other ∙ before.1, before.2)
+        | inr other ↦ up_as (tables_of old) (tables_of new) s (session_off s other) (kept.routed s p was)
       ];
   below = λ s session there. elim (cases_eq s slot) [
     | inl same ↦ subst (λ x. x < 64) (sym same) within
@@ -371,12 +482,12 @@ kept_added slot peer old new had has within put unrouted own reach peers payload
     route_same s p = ap (λ t. route_at t s p) adj_in
 
 -- the candidates of all routes were made again
-pub kept_remade : (old new : SpeakerState) (had has : Offers) → ((slot : ℕ) (prefix : Prefix) → (session : Session) → session_at old.links slot ≡ Some session → slot < 64 → IsSome (route_at old.adj_in slot prefix) → IsOffer (tables_of new) slot prefix (has slot prefix))
+pub kept_remade : (old new : SpeakerState) (had has : Offers) → ((slot : ℕ) (prefix : Prefix) → IsSource (tables_of old) slot → IsSome (route_at old.adj_in slot prefix) → IsOffer (tables_of new) slot prefix (has slot prefix))
     → ((slot : ℕ) (prefix : Prefix) → route_at old.adj_in slot prefix ≡ None → has slot prefix ≡ had slot prefix)
     → new.links ≡ old.links → new.adj_in ≡ old.adj_in → AreKept (tables_of old) had → AreKept (tables_of new) has
 kept_remade old new had has remade still links adj_in kept = record {
   made = λ s p. made_here s p (route_at old.adj_in s p) refl;
-  routed = λ s p there. let before = kept.routed s p (some_if (route_at old.adj_in s p) (route_at new.adj_in s p) (ap (λ t. route_at t s p) (sym adj_in)) there) in (before.0, ap (λ t. session_at t s) links ∙ before.1, before.2);
+  routed = λ s p there. up_as (tables_of old) (tables_of new) s (ap (λ t. session_at t s) links) (kept.routed s p (some_if (route_at old.adj_in s p) (route_at new.adj_in s p) (ap (λ t. route_at t s p) (sym adj_in)) there));
   below = λ s session there. kept.below s session (ap (λ t. session_at t s) (sym links) ∙ there);
 }
   where
@@ -386,48 +497,66 @@ kept_remade old new had has remade still links adj_in kept = record {
         (offer_unrouted (tables_of old) (tables_of new) s p (had s p) is (ap (λ t. route_at t s p) adj_in ∙ is) (kept.made s p))
     made_here s p (Some attrs) is =
         let there : IsSome (route_at old.adj_in s p) = rw is refl in
-        let before = kept.routed s p there in
-        remade s p before.0 before.1 (kept.below s before.0 before.1) there
+        remade s p (source_of (tables_of old) had s p kept there) there
+
+-- a configuration that says the same of the selection
+pub kept_conf : (s : SpeakerState) (conf : Configuration) → conf.own ≡ s.conf.own → conf.reach ≡ s.conf.reach → ((slot : ℕ) → option_map taken_by (peer_at conf slot) ≡ option_map taken_by (peer_at s.conf slot)) → ((slot : ℕ) (route : Route) → import_action conf slot route ≡ import_action s.conf slot route) → AreKept (tables_of s) (offer_at s.book)
+    → AreKept (tables_of (record s { conf = conf })) (offer_at s.book)
+kept_conf s conf own reach peers action kept = record {
+  made = λ slot p.
+      offer_alike (tables_of s) (tables_of (record s { conf = conf })) slot p (offer_at s.book slot p)
+      (record { own = own; reach = reach; peer = peers slot; identifier = refl; route = refl; state = λ origin. refl; action = action slot }) (kept.made slot p);
+  routed = kept.routed;
+  below = kept.below;
+}
 
 -- with another configuration the candidates of all routes were made again
 pub kept_again : (old new : SpeakerState) → new.links ≡ old.links → new.adj_in ≡ old.adj_in → AreMadeAgain (tables new.conf new.payloads old.links old.adj_in) (offer_at old.book) (offer_at new.book) → KeepsKept old new
 kept_again old new links adj_in again =
     kept_remade old new (offer_at old.book) (offer_at new.book)
-    (λ slot prefix session linked below there.
-    subst (λ t. IsOffer t slot prefix (offer_at new.book slot prefix)) (λ i. tables new.conf new.payloads (sym links i) (sym adj_in i)) (again.made slot prefix session refl below linked there))
+    (λ slot prefix source there.
+    subst (λ t. IsOffer t slot prefix (offer_at new.book slot prefix)) (λ i. tables new.conf new.payloads (sym links i) (sym adj_in i)) (again.made slot prefix refl source there))
     (λ slot prefix none. again.still slot prefix (inr none)) links adj_in
 
--- the payloads in force change: the candidates of some prefixes are made again, and of the others no state changes
-pub kept_touched : (holds : Prefix → Bool) (old new : SpeakerState) → new.conf ≡ old.conf → new.links ≡ old.links → new.adj_in ≡ old.adj_in
-    → AreMadeWhere (tables new.conf new.payloads new.links new.adj_in) holds (offer_at old.book) (offer_at new.book)
-    → ((q : Prefix) → holds q ≡ false → (origin : Option Asn) → validity new.payloads q origin ≡ validity old.payloads q origin)
-    → AreKept (tables_of old) (offer_at old.book) → AreKept (tables_of new) (offer_at new.book)
-kept_touched holds old new conf links adj_in made states kept = record {
+-- the candidates of some prefixes are made again, and of the others nothing else is read
+pub kept_partly : (holds : Prefix → Bool) (old new : SpeakerState) → new.links ≡ old.links → new.adj_in ≡ old.adj_in → AreMadeWhere (tables new.conf new.payloads new.links new.adj_in) holds (offer_at old.book) (offer_at new.book)
+    → ((s : ℕ) (q : Prefix) → holds q ≡ false → IsSome (route_at old.adj_in s q) → IsAlike (tables_of old) (tables_of new) s q) → AreKept (tables_of old) (offer_at old.book) → AreKept (tables_of new) (offer_at new.book)
+kept_partly holds old new links adj_in made alike kept = record {
   made = λ s p. made_here s p (holds p) refl (route_at old.adj_in s p) refl;
-  routed = λ s p there. let before = kept.routed s p (some_if (route_at old.adj_in s p) (route_at new.adj_in s p) (ap (λ t. route_at t s p) (sym adj_in)) there) in (before.0, ap (λ t. session_at t s) links ∙ before.1, before.2);
+  routed = λ s p there. up_as (tables_of old) (tables_of new) s (ap (λ t. session_at t s) links) (kept.routed s p (some_if (route_at old.adj_in s p) (route_at new.adj_in s p) (ap (λ t. route_at t s p) (sym adj_in)) there));
   below = λ s session there. kept.below s session (ap (λ t. session_at t s) (sym links) ∙ there);
 }
   where
     made_here : (s : ℕ) (p : Prefix) (b : Bool) → holds p ≡ b → (found : Option PathAttributes) → route_at old.adj_in s p ≡ found → IsOffer (tables_of new) s p (offer_at new.book s p)
-    made_here s p false at found is =
-        subst (λ f. IsOffer (tables_of new) s p f) (sym (made.still s p (inl at)))
-        (offer_alike (tables_of old) (tables_of new) s p (offer_at old.book s p)
-        (record {
-          own = ap (λ (c : Configuration). c.own) conf;
-          reach = ap (λ (c : Configuration). c.reach) conf;
-          peer = ap (λ c. peer_at c s) conf;
-          identifier = ap (λ t. option_map (λ (x : Session). x.identifier) (session_at t s)) links;
-          route = ap (λ t. route_at t s p) adj_in;
-          state = states p at;
-        })
-        (kept.made s p))
-    made_here s p true at None is =
+    made_here s p b at None is =
         subst (λ f. IsOffer (tables_of new) s p f) (sym (made.still s p (inr (ap (λ t. route_at t s p) adj_in ∙ is))))
         (offer_unrouted (tables_of old) (tables_of new) s p (offer_at old.book s p) is (ap (λ t. route_at t s p) adj_in ∙ is) (kept.made s p))
+    made_here s p false at (Some attrs) is =
+        subst (λ f. IsOffer (tables_of new) s p f) (sym (made.still s p (inl at)))
+        (offer_alike (tables_of old) (tables_of new) s p (offer_at old.book s p) (alike s p at (rw is refl)) (kept.made s p))
     made_here s p true at (Some attrs) is =
         let there : IsSome (route_at old.adj_in s p) = rw is refl in
-        let before = kept.routed s p there in
-        made.made s p before.0 at (kept.below s before.0 before.1) (ap (λ t. session_at t s) links ∙ before.1) (some_if (route_at new.adj_in s p) (route_at old.adj_in s p) (ap (λ t. route_at t s p) adj_in) there)
+        let source = source_of (tables_of old) (offer_at old.book) s p kept there in
+        let sessions : session_at new.links s ≡ session_at old.links s = ap (λ t. session_at t s) links in
+        let now : IsSource (tables new.conf new.payloads new.links new.adj_in) s = elim source [ inl up ↦ inl (up.0, (up.1.0, sessions ∙ up.1.1)) | inr local ↦ inr local ] in
+        made.made s p at now (some_if (route_at new.adj_in s p) (route_at old.adj_in s p) (ap (λ t. route_at t s p) adj_in) there)
+
+-- the payloads in force change: of the other prefixes no state changes
+pub kept_touched : (holds : Prefix → Bool) (old new : SpeakerState) → new.conf ≡ old.conf → new.links ≡ old.links → new.adj_in ≡ old.adj_in
+    → AreMadeWhere (tables new.conf new.payloads new.links new.adj_in) holds (offer_at old.book) (offer_at new.book)
+    → ((q : Prefix) → holds q ≡ false → (origin : Option Asn) → validity new.payloads q origin ≡ validity old.payloads q origin)
+    → AreKept (tables_of old) (offer_at old.book) → AreKept (tables_of new) (offer_at new.book)
+kept_touched holds old new conf links adj_in made states kept =
+    kept_partly holds old new links adj_in made
+    (λ s p at there. record {
+      own = ap (λ (c : Configuration). c.own) conf;
+      reach = ap (λ (c : Configuration). c.reach) conf;
+      peer = ap (λ c. option_map taken_by (peer_at c s)) conf;
+      identifier = ap (λ t. option_map (λ (x : Session). x.identifier) (session_at t s)) links;
+      route = ap (λ t. route_at t s p) adj_in;
+      state = states p at;
+      action = λ seen. ap (λ c. import_action c s seen) conf;
+    }) kept
 
 -- Loc-RIB has the best of the candidates of all routes
 
@@ -455,25 +584,23 @@ pub kept_loc_rib : (t : Tables) (offers : Offers) (rows : List (Prefix × Candid
 kept_loc_rib t offers rows best rising kept = record { rising = rising; best = λ p. kept_best t offers p (best_at rows p) kept (best p) }
 
 -- a slot is without routes and candidates, and what is read of the others stays
-pub kept_without : (slot : ℕ) (old new : SpeakerState) → AreKept (tables_of old) (offer_at old.book) → new.conf.own ≡ old.conf.own → new.conf.reach ≡ old.conf.reach → new.payloads ≡ old.payloads
+pub kept_without : (slot : ℕ) (old new : SpeakerState) → AreKept (tables_of old) (offer_at old.book) → new.conf.own ≡ old.conf.own → new.conf.reach ≡ old.conf.reach → new.conf.policies ≡ old.conf.policies → new.payloads ≡ old.payloads
     → ((t : ℕ) → t ≢ slot → peer_at new.conf t ≡ peer_at old.conf t) → ((t : ℕ) → t ≢ slot → session_at new.links t ≡ session_at old.links t)
     → ((t : ℕ) → t ≢ slot → (p : Prefix) → route_at new.adj_in t p ≡ route_at old.adj_in t p) → ((p : Prefix) → route_at new.adj_in slot p ≡ None)
     → ((t : ℕ) → t ≢ slot → (p : Prefix) → offer_at new.book t p ≡ offer_at old.book t p) → ((p : Prefix) → offer_at new.book slot p ≡ None)
     → ((session : Session) → session_at new.links slot ≡ Some session → slot < 64) → AreKept (tables_of new) (offer_at new.book)
-kept_without slot old new kept own reach payloads peers sessions routes unrouted offers unoffered low = record {
+kept_without slot old new kept own reach policies payloads peers sessions routes unrouted offers unoffered low = record {
   made = λ t p. elim (cases_eq t slot) [
     | inl same ↦ subst (λ x. IsOffer (tables_of new) x p (offer_at new.book x p)) (sym same) (subst (λ f. IsOffer (tables_of new) slot p f) (sym (unoffered p)) (none_routed (tables_of new) p slot (unrouted p)))
     | inr other ↦
         subst (λ f. IsOffer (tables_of new) t p f) (sym (offers t other p))
         (offer_alike (tables_of old) (tables_of new) t p (offer_at old.book t p)
-        (record { own = own; reach = reach; peer = peers t other; identifier = ap (option_map (λ (x : Session). x.identifier)) (sessions t other); route = routes t other p; state = λ origin. ap (λ x. validity x p origin) payloads })
+        (record { own = own; reach = reach; peer = ap (option_map taken_by) (peers t other); identifier = ap (option_map (λ (x : Session). x.identifier)) (sessions t other); route = routes t other p; state = λ origin. ap (λ x. validity x p origin) payloads; action = λ seen. same_action old.conf new.conf t seen policies (peers t other) })
         (kept.made t p))
   ];
   routed = λ t p there. elim (cases_eq t slot) [
     | inl same ↦ no_none (route_at new.adj_in t p) (subst (λ x. route_at new.adj_in x p ≡ None) (sym same) (unrouted p)) there
-    | inr other ↦
-        let before = kept.routed t p (subst (λ o. IsSome o) (routes t other p) there) in
-        (before.0, sessions t other ∙ before.1, before.2)
+    | inr other ↦ up_as (tables_of old) (tables_of new) t (sessions t other) (kept.routed t p (subst (λ o. IsSome o) (routes t other p) there))
   ];
   below = λ t session there. elim (cases_eq t slot) [
     | inl same ↦ subst (λ x. x < 64) (sym same) (low session (subst (λ x. session_at new.links x ≡ Some session) same there))

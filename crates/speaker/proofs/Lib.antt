@@ -11,6 +11,8 @@ pub mod RemadeOffers
 pub mod SentPrefixes
 pub mod Histories
 pub mod SlotStates
+pub mod PeerRoutes
+pub mod KnownPrefixes
 pub mod SlotEvents
 pub mod SlotOctets
 pub mod QueuedUpdates

@@ -1,15 +1,22 @@
-use Rattle.std.proofs.Common.{◌≡◌, ◌≤◌, ◌<◌, ◌++◌, IfOk, IfErr, Bool, true, false, cond, List, [], ◌∷◌, Option, Some, None, Result, Ok, Err, refl, sym, ap, ◌∙◌, subst, arith}
+use Rattle.std.proofs.Common.{◌≡◌, ◌≤◌, ◌<◌, ◌++◌, ◌==◌, ℕ, IfOk, IfErr, Bool, true, false, cond, List, [], ◌∷◌, Option, Some, None, Result, Ok, Err, refl, sym, ap, ◌∙◌, subst, arith}
 use Rattle.std.specs.Option.{MatchOption, option_map}
 use Rattle.bgp_conf.specs.declared.refusal.Refusal.{Refusal}
 use Rattle.bgp_conf.specs.declared.refusal.Refusal.TheVariants.{NoMemory}
 use Rattle.decision.specs.BookContents.{offer_at}
 use Rattle.rib_in.specs.LatestRoutes.{route_at}
-use Rattle.speaker.specs.Agreement.{CacheAgrees, Agrees}
+use Rattle.bgp_attr.specs.PathAttributes.{PathAttributes}
+use Rattle.bgp_conf.specs.Configuration.{peer_at}
+use Rattle.net_prefix.specs.declared.prefix.Prefix.{Prefix}
+use Rattle.speaker.specs.Agreement.{CacheAgrees, Agrees, SlotAgrees, tables_after}
+use Rattle.speaker.specs.LocRib.{HasNoCandidate}
+use Rattle.speaker.specs.Tables.{link_at, network_route}
+use Rattle.speaker.proofs.CandidateLists.{none_routed}
+use Rattle.speaker.proofs.PeerRoutes.{peer_none, peers_same}
 use Rattle.rtr_session.specs.SessionState.{configured}
 use Rattle.speaker.specs.FirstRefusal.{refusal_in, refusal_of, Grows, LacksMemory}
 use Rattle.speaker.specs.Linked.{Linked}
 use Rattle.speaker.specs.Played.{Follows, GoesOn, IsPlayed, Point, beginning}
-use Rattle.speaker.specs.Runs.{cache_history, Run, Turn, asked, call_of, configuration_of, report_of}
+use Rattle.speaker.specs.Runs.{cache_history, history, Run, Turn, asked, call_of, configuration_of, report_of}
 use Rattle.speaker.specs.SpeakerState.{SpeakerState, IsAsBefore, started, tables_of}
 use Rattle.speaker.specs.declared.config.Config.{Config}
 use Rattle.speaker.specs.declared.event.Event.{Event}
@@ -24,6 +31,14 @@ use Rattle.speaker.proofs.WaitingLists.{nothing_rises}
 cache_starts : (config : Config) (b : Bool) → config.cache ≡ b → CacheAgrees config [] (cond b (Some configured) None)
 cache_starts config true is = (is, record { client = refl; reading = λ stands. absurd (cc); ring = refl })
 cache_starts config false is = (is, refl)
+
+-- before any call there are no routes and no local networks
+none_after : (config : Config) (prefix : Prefix) → HasNoCandidate (tables_after config []) prefix
+none_after config prefix c is = none_routed (tables_after config []) prefix c.slot (none (c.slot == 64)) c refl is
+  where
+    none : (b : Bool) → cond b (network_route (configuration_of config []) prefix) None ≡ None
+    none true = refl
+    none false = refl
 
 -- a speaker without peers is as no call leaves it
 pub agrees_new : (config : Config) → 0 < config.asn.0 → Agrees config [] (started config)
@@ -40,16 +55,17 @@ agrees_new config own = record {
       there = refl;
       link = λ l there. absurd (cc);
       vacant = λ none. (refl, refl);
-      routes_are = λ prefix. refl;
+      routes_are = λ prefix. peer_none slot prefix;
     };
     kept = record {
-      made = λ slot prefix. λ c at is. let none = is.made.configured in absurd (cc);
+      made = λ slot prefix. none_routed (tables_of (started config)) prefix slot refl;
       routed = λ slot prefix there. absurd (cc);
       below = λ slot session there. absurd (cc);
     };
+    networks = λ prefix. refl;
     chosen = omega arith;
   };
-  loc_rib = record { rising = nothing_rises; best = λ prefix c is. let none = is.made.configured in absurd (cc) };
+  loc_rib = record { rising = nothing_rises; best = λ prefix c is. none_after config prefix c is };
   settled = λ s peer configured. absurd (cc);
   thrifty = tt;
 }
@@ -73,8 +89,11 @@ agrees_same config r old new same a = record {
     cache = subst (λ x. CacheAgrees config (cache_history r) x) (sym same.cache) a.holds.cache;
     payloads = same.payloads ∙ a.holds.payloads;
     peers = rw same.conf a.holds.peers;
-    slots = λ t. rw (same.conf, same.links t, same.adj_in) (a.holds.slots t);
-    kept = kept_same (tables_of old) (tables_of new) (offer_at old.book) (offer_at new.book) tables (ap (λ b. offer_at b) same.book) a.holds.kept;
+    slots = λ t.
+        let R : (Prefix → Option PathAttributes) → Type 0 = λ x. SlotAgrees config (peer_at old.conf t) (link_at old.links t) x (history config t r) in
+        rw (same.conf, same.links t) (subst R (λ i p. sym (peers_same old.adj_in new.adj_in t (same.routes t) p) i) (a.holds.slots t));
+    networks = λ p. same.routes 64 p ∙ a.holds.networks p ∙ ap (λ c. network_route c p) (sym same.conf);
+    kept = kept_same (tables_of old) (tables_of new) (offer_at old.book) (offer_at new.book) tables (λ i s p. same.offers s p i) a.holds.kept;
     chosen = rw (same.chosen, same.chosen_before) a.holds.chosen;
   };
   loc_rib = rw same.loc_rib a.loc_rib;
@@ -87,7 +106,7 @@ agrees_same config r old new same a = record {
       conf = sym same.conf i;
       payloads = sym same.payloads i;
       sessions = λ s. option_map (λ (l : Linked). l.peer.session) (sym (same.links s) i);
-      routes = λ s p. route_at (sym same.adj_in i) s p;
+      routes = λ s p. sym (same.routes s p) i;
     }
 
 pub played_none : (config : Config) (s : SpeakerState) → Agrees config [] s → s ≡ started config → IsPlayed config [] [] s

@@ -1,10 +1,10 @@
-use Rattle.std.proofs.Common.{◌≡◌, ◌≢◌, ◌<◌, ◌≤◌, ◌+◌, ◌^◌, ◌==◌, ◌&&◌, ◌||◌, not, ℕ, Bool, true, false, List, [], ◌∷◌, length, Option, Some, None, Result, Ok, Err, OnOk, OnErr, cond, refl, sym, ap, ◌∙◌, subst, inl, inr, arith}
+use Rattle.std.proofs.Common.{◌≡◌, ◌≢◌, ◌<◌, ◌≤◌, ◌+◌, ◌^◌, ◌==◌, ◌&&◌, ◌||◌, ◌⊎◌, not, nat_lt, ℕ, Bool, true, false, List, [], ◌∷◌, length, Option, Some, None, Result, Ok, Err, OnOk, OnErr, cond, refl, sym, ap, ◌∙◌, subst, inl, inr, arith}
 use Rattle.std.specs.Borrow.{Bor}
 use Rattle.std.specs.Option.{IsSome, is_some, option_and_then, option_copied}
 use Rattle.std.specs.Ordering.{is_gt}
 use Rattle.std.proofs.lemmas.Slice.Eq.{bytes_eq-Decides}
 use Rattle.std.specs.Str.{bytes_eq}
-use Rattle.std.proofs.lemmas.Bool.{cases_eq, cases_lt, eq-eqb, eqb-true, ne_eqb}
+use Rattle.std.proofs.lemmas.Bool.{cases_eq, cases_lt, eq-eqb, eqb-true, lt-ltb, ltb-true, ne_eqb}
 use Rattle.bgp_attr.specs.PathAttributes.{PathAttributes}
 use Rattle.bgp_conf.specs.Configuration.{Configuration, peer_at}
 use Rattle.bgp_conf.specs.declared.conf.ConfiguredPeer.{ConfiguredPeer}
@@ -16,7 +16,6 @@ use Rattle.bgp_fsm.specs.declared.session.Session.{Session}
 use Rattle.bgp_peer.specs.Slot.{Slot}
 use Rattle.decision.specs.BookContents.{BookState, is_prefix, offer_at, rows_of}
 use Rattle.decision.specs.declared.candidate.Candidate.{Candidate}
-use Rattle.export_rules.specs.Export.{export_at}
 use Rattle.export_rules.specs.declared.export.ExportPeer.{ExportPeer}
 use Rattle.net_prefix.specs.PrefixOrder.{prefix_cmp, IsAbove}
 use Rattle.net_prefix.specs.declared.prefix.Prefix.{Prefix}
@@ -26,9 +25,9 @@ use Rattle.rib_out.specs.Waiting.{is_known, owed_at}
 use Rattle.rib_out.specs.declared.marks.Owed.{Owed}
 use Rattle.rib_out.specs.declared.waits.Waits.{Waits}
 use Rattle.rib_out.proofs.Prefixes.{is_prefix-refl}
-use Rattle.speaker.specs.Export.{export_in, export_peer_of}
+use Rattle.speaker.specs.Export.{export_in, export_peer_of, exported_at}
 use Rattle.speaker.specs.Linked.{Linked}
-use Rattle.speaker.specs.Marks.{AreKnown, AreMarked, AreMarkedBut, IsFollowed, IsReleased, IsUnmarked, mark_at, mark_of, owed_for}
+use Rattle.speaker.specs.Marks.{AreKnown, AreMarked, AreMarkedBut, AreMarkedFor, IsFollowed, IsReleased, IsUnmarked, mark_at, mark_of, owed_for}
 use Rattle.speaker.specs.Moves.{moved}
 use Rattle.speaker.specs.Queueing.{IsTold, rank_of}
 use Rattle.speaker.specs.RoutingState.{RoutingState}
@@ -48,16 +47,16 @@ pub mark_unlinked : (conf : Configuration) (links : List (ℕ × Linked)) (t : R
 mark_unlinked conf links t slot p none = ap (mark_of conf t.adj_in t.book slot p (peer_at conf slot)) none ∙ mark_unlinked_of conf t.adj_in t.book slot p (peer_at conf slot)
 
 -- where a prefix has the same best route and the same routes, the same is exported and owed
-pub export_alike : (t u : RoutingState) (peer : ExportPeer) (p : Prefix) → best_at (rows_of u.book) p ≡ best_at (rows_of t.book) p → ((s : ℕ) → route_at u.adj_in s p ≡ route_at t.adj_in s p)
-    → export_in (best_at (rows_of u.book)) u.adj_in peer p ≡ export_in (best_at (rows_of t.book)) t.adj_in peer p
-export_alike t u peer p best routes i = option_and_then (λ (c : Candidate). option_and_then (λ attrs. export_at c attrs peer) (routes c.slot i)) (best i)
+pub export_alike : (conf : Configuration) (t u : RoutingState) (peer : ExportPeer) (p : Prefix) → best_at (rows_of u.book) p ≡ best_at (rows_of t.book) p → ((s : ℕ) → route_at u.adj_in s p ≡ route_at t.adj_in s p)
+    → export_in conf (best_at (rows_of u.book)) u.adj_in peer p ≡ export_in conf (best_at (rows_of t.book)) t.adj_in peer p
+export_alike conf t u peer p best routes i = option_and_then (λ (c : Candidate). option_and_then (λ attrs. exported_at conf peer p c attrs) (routes c.slot i)) (best i)
 
 mark_alike_of : (conf : Configuration) (t u : RoutingState) (slot : ℕ) (p : Prefix) (peer : Option ConfiguredPeer) (linked : Option Linked) → best_at (rows_of u.book) p ≡ best_at (rows_of t.book) p
     → ((s : ℕ) → route_at u.adj_in s p ≡ route_at t.adj_in s p) → mark_of conf u.adj_in u.book slot p peer linked ≡ mark_of conf t.adj_in t.book slot p peer linked
 mark_alike_of conf t u slot p None linked best routes = refl
 mark_alike_of conf t u slot p (Some peer) None best routes = refl
 mark_alike_of conf t u slot p (Some peer) (Some l) best routes =
-    ap (λ e. cond (is_established l.peer.session.state) (owed_for e (held_at l.adj_out p)) None) (export_alike t u (export_peer_of conf slot peer) p best routes)
+    ap (λ e. cond (is_established l.peer.session.state) (owed_for e (held_at l.adj_out p)) None) (export_alike conf t u (export_peer_of conf slot peer) p best routes)
 
 pub mark_alike : (conf : Configuration) (links : List (ℕ × Linked)) (t u : RoutingState) (slot : ℕ) (p : Prefix) → best_at (rows_of u.book) p ≡ best_at (rows_of t.book) p
     → ((s : ℕ) → route_at u.adj_in s p ≡ route_at t.adj_in s p) → mark_at conf links u slot p ≡ mark_at conf links t slot p
@@ -274,11 +273,11 @@ mark_set conf links t u slot prefix l owed linked is set s p within idle = set s
     by_slot false slots b prefixes = refl
 
 -- a route that came, or was refused
-pub routes_either : {T F : Type 0} (result : Result T F) (slot : ℕ) (prefix : Prefix) (what : Option PathAttributes) (old new : RouteTable) (P : Type 0)
-    → OnOk result ((s : ℕ) (p : Prefix) → route_at new s p ≡ cond (is_route slot prefix s p) what (route_at old s p)) → OnErr result (((s : ℕ) (p : Prefix) → route_at new s p ≡ route_at old s p) × P)
+pub routes_either : {T F : Type 0} (result : Result T F) (slot : ℕ) (prefix : Prefix) (what : Option PathAttributes) (old new : RouteTable) (P Q : Type 0)
+    → OnOk result ((s : ℕ) (p : Prefix) → route_at new s p ≡ cond (is_route slot prefix s p) what (route_at old s p)) → OnErr result (((s : ℕ) (p : Prefix) → route_at new s p ≡ route_at old s p) × P × Q)
     → (s : ℕ) (p : Prefix) → is_prefix prefix p ≡ false → route_at new s p ≡ route_at old s p
-routes_either (Ok done) slot prefix what old new P came refused = routes_off slot prefix what old new came
-routes_either (Err why) slot prefix what old new P came refused = λ s p other. refused.0 s p
+routes_either (Ok done) slot prefix what old new P Q came refused = routes_off slot prefix what old new came
+routes_either (Err why) slot prefix what old new P Q came refused = λ s p other. refused.0 s p
 
 -- behind it each prefix with a route is known
 pub known_come : (links : List (ℕ × Linked)) (prefix : Prefix) (t u : RoutingState) → AreKnown links t → ((p : Prefix) → is_known u.waiting p ≡ cond (is_prefix prefix p) true (is_known t.waiting p))
@@ -293,26 +292,166 @@ known_come links prefix t u there known routes s p some = known p ∙ by_prefix 
 pub known_else : (prefix : Prefix) (old new : List (Prefix × Waits)) → ((p : Prefix) → is_known new p ≡ cond (is_prefix prefix p) true (is_known old p)) → (p : Prefix) → is_prefix prefix p ≡ false → is_known new p ≡ is_known old p
 known_else prefix old new known p other = known p ∙ ap (λ b. cond b true (is_known old p)) other
 
--- the slots but one, up to a prefix
-pub record EnteredUpTo (conf : Configuration) (links : List (ℕ × Linked)) (slot : ℕ) (first : RoutingState) (after : Option Prefix) (t : RoutingState) : Type 0 where
+-- the prefixes of one slot, up to this one
+pub record MarkedUpTo (done : ℕ → Bool) (conf : Configuration) (links : List (ℕ × Linked)) (slot : ℕ) (after : Option Prefix) (t : RoutingState) : Type 0 where
+  pub released : (p : Prefix) → IsReleased t p
+  pub others : (s : ℕ) (p : Prefix) → s < 64 → s ≢ slot → (done s ≡ true) ⊎ (best_at (rows_of t.book) p ≡ None) → owed_at t.waiting s p ≡ mark_at conf links t s p
+  pub none : (s : ℕ) (p : Prefix) → s < 64 → link_at links s ≡ None → owed_at t.waiting s p ≡ None
+  pub below : (q : Prefix) → rank_of q < reached after → owed_at t.waiting slot q ≡ mark_at conf links t slot q
+  pub above : (q : Prefix) → reached after ≤ rank_of q → best_at (rows_of t.book) q ≡ None → owed_at t.waiting slot q ≡ mark_at conf links t slot q
+
+-- so it is, whatever was marked before
+pub record SlotUpTo (conf : Configuration) (links : List (ℕ × Linked)) (slot : ℕ) (first : RoutingState) (after : Option Prefix) (t : RoutingState) : Type 0 where
   pub place : IsPlace after
   pub rest : t ≡ record first { waiting = t.waiting }
   pub there : AreKnown links t
-  pub released : (p : Prefix) → IsReleased t p
-  pub others : (s : ℕ) (p : Prefix) → s < 64 → s ≢ slot → owed_at t.waiting s p ≡ mark_at conf links t s p
-  pub below : (q : Prefix) → rank_of q < reached after → owed_at t.waiting slot q ≡ mark_at conf links t slot q
-  pub above : (q : Prefix) → reached after ≤ rank_of q → owed_at t.waiting slot q ≡ None
+  pub marked : (done : ℕ → Bool) → AreMarkedFor done conf links first → MarkedUpTo done conf links slot after t
 
-pub EnteredUpTo-none : (conf : Configuration) (links : List (ℕ × Linked)) (slot : ℕ) (t : RoutingState) → IsUnmarked conf links slot t → EnteredUpTo conf links slot t None t
-EnteredUpTo-none conf links slot t h = record {
+pub SlotUpTo-none : (conf : Configuration) (links : List (ℕ × Linked)) (slot : ℕ) (t : RoutingState) → slot < 64 → AreKnown links t → SlotUpTo conf links slot t None t
+SlotUpTo-none conf links slot t within there = record {
   place = tt;
   rest = refl;
+  there = there;
+  marked = λ done h. record {
+    released = h.released;
+    others = λ s p few other is. h.marks s p few is;
+    none = h.none;
+    below = λ q under. absurd (omega (arith, under));
+    above = λ q over none. h.marks slot q within (inr none);
+  };
+}
+
+apart_prefix : (p q : Prefix) → (p ≡ q → ⊥) → is_prefix p q ≡ false
+apart_prefix p q other = by_test (is_prefix p q) refl
+  where
+    by_test : (b : Bool) → is_prefix p q ≡ b → b ≡ false
+    by_test true is = absurd (other (same_from_is_prefix p q is))
+    by_test false is = refl
+
+-- the next prefix of Loc-RIB
+MarkedUpTo-more : (done : ℕ → Bool) (conf : Configuration) (links : List (ℕ × Linked)) (slot : ℕ) (t u : RoutingState) (after : Option Prefix) (p : Prefix) → slot < 64
+    → MarkedUpTo done conf links slot after t → IsAbove after p → ((q : Prefix) → IsAbove after q → IsSome (best_at (rows_of t.book) q) → is_gt (prefix_cmp p q) ≡ false)
+    → ((s : ℕ) × IsSome (route_at t.adj_in s p)) → u ≡ record t { waiting = u.waiting } → IsMark slot p conf links t u → ((q : Prefix) → is_known u.waiting q ≡ is_known t.waiting q) → MarkedUpTo done conf links slot (Some p) u
+MarkedUpTo-more done conf links slot t u after p within h above least routed rest marks known = record {
+  released = all_released p t u rest stays (λ q other. known q) released_here (λ q other. h.released q);
+  others = λ s q few other is. marks s q few (h.none s q few) ∙ mark_off_slot conf links t slot s p q other ∙ h.others s q few other (still s q is) ∙ sym (marks_of_rest conf links t u s q rest);
+  none = λ s q few unlinked. marks s q few (h.none s q few) ∙ none_here s q few unlinked (s == slot) (is_prefix p q);
+  below = λ q under. here q under ∙ sym (marks_of_rest conf links t u slot q rest);
+  above = λ q over none.
+      marks slot q within (h.none slot q within)
+      ∙ mark_off_prefix conf links t slot slot p q (apart_prefix p q (λ same. let rank : rank_of p ≡ rank_of q = (λ i. rank_of (same i)) in absurd (omega (arith, over, rank))))
+      ∙ h.above q (omega (arith, over, rank_from_above after p above)) (best_still q none) ∙ sym (marks_of_rest conf links t u slot q rest);
+}
+  where
+    best_still : (q : Prefix) → best_at (rows_of u.book) q ≡ None → best_at (rows_of t.book) q ≡ None
+    best_still q none = ap (λ (x : RoutingState). best_at (rows_of x.book) q) (sym rest) ∙ none
+
+    still : (s : ℕ) (q : Prefix) → (done s ≡ true) ⊎ (best_at (rows_of u.book) q ≡ None) → (done s ≡ true) ⊎ (best_at (rows_of t.book) q ≡ None)
+    still s q (inl is) = inl is
+    still s q (inr none) = inr (best_still q none)
+
+    stays : (s : ℕ) (q : Prefix) → s < 64 → is_prefix p q ≡ false → owed_at u.waiting s q ≡ owed_at t.waiting s q
+    stays s q few other = marks s q few (h.none s q few) ∙ mark_off_prefix conf links t slot s p q other
+
+    none_here : (s : ℕ) (q : Prefix) → s < 64 → link_at links s ≡ None → (a b : Bool) → cond (a && b) (mark_at conf links t s q) (owed_at t.waiting s q) ≡ None
+    none_here s q few unlinked true true = mark_unlinked conf links t s q unlinked
+    none_here s q few unlinked true false = h.none s q few unlinked
+    none_here s q few unlinked false b = h.none s q few unlinked
+
+    -- the prefix has a route
+    released_here : IsReleased u p
+    released_here = record { unknown = λ unrouted idle. no_none (route_at t.adj_in routed.0 p) (sym (routes_of_rest t u p rest routed.0) ∙ unrouted routed.0) routed.1 }
+
+    -- a prefix between the last one and this has no best route
+    was : (q : Prefix) → rank_of q < rank_of p → owed_at t.waiting slot q ≡ mark_at conf links t slot q
+    was q under = elim (cases_lt (rank_of q) (reached after)) [
+      | inl already ↦ h.below q already
+      | inr over ↦ h.above q over (none_between p q (best_at (rows_of t.book) q) (least q (above_from_rank after q over)) under)
+    ]
+
+    here : (q : Prefix) → rank_of q < reached (Some p) → owed_at u.waiting slot q ≡ mark_at conf links t slot q
+    here q under = elim (cases_lt (rank_of q) (rank_of p)) [
+      | inl before ↦
+          marks slot q within (h.none slot q within)
+          ∙ mark_off_prefix conf links t slot slot p q (apart_prefix p q (λ same. let rank : rank_of p ≡ rank_of q = (λ i. rank_of (same i)) in absurd (omega (arith, before, rank)))) ∙ was q before
+      | inr not_before ↦
+          let at : p ≡ q = same_from_rank p q (omega (arith, under, not_before)) in
+          subst (λ x. owed_at u.waiting slot x ≡ mark_at conf links t slot x) at (marks slot p within (h.none slot p within) ∙ mark_on conf links t slot p)
+    ]
+
+pub SlotUpTo-more : (conf : Configuration) (links : List (ℕ × Linked)) (slot : ℕ) (first t u : RoutingState) (after : Option Prefix) (p : Prefix) → slot < 64
+    → SlotUpTo conf links slot first after t → IsAbove after p → ((q : Prefix) → IsAbove after q → IsSome (best_at (rows_of t.book) q) → is_gt (prefix_cmp p q) ≡ false) → rank_of p < 2 ^ 38
+    → ((s : ℕ) × IsSome (route_at t.adj_in s p)) → u ≡ record t { waiting = u.waiting } → IsMark slot p conf links t u → ((q : Prefix) → is_known u.waiting q ≡ is_known t.waiting q) → SlotUpTo conf links slot first (Some p) u
+SlotUpTo-more conf links slot first t u after p within h above least place routed rest marks known = record {
+  place = place;
+  rest = rest ∙ ap (λ (x : RoutingState). record x { waiting = u.waiting }) h.rest;
+  there = known_of_rest links t u h.there rest (λ s q there. known q);
+  marked = λ done before. MarkedUpTo-more done conf links slot t u after p within (h.marked done before) above least routed rest marks known;
+}
+
+-- where no best route is above, the slot's marks are made
+pub SlotUpTo-all : (conf : Configuration) (links : List (ℕ × Linked)) (slot : ℕ) (first t : RoutingState) (after : Option Prefix) → SlotUpTo conf links slot first after t → ((q : Prefix) → IsAbove after q → best_at (rows_of t.book) q ≡ None)
+    → (done : ℕ → Bool) → AreMarkedFor done conf links first → AreMarkedFor (λ s. s == slot || done s) conf links t
+SlotUpTo-all conf links slot first t after h none done before =
+    let m = h.marked done before in
+    record {
+      there = h.there;
+      released = m.released;
+      marks = λ s p within is. elim (cases_eq s slot) [
+        | inl same ↦ subst (λ x. owed_at t.waiting x p ≡ mark_at conf links t x p) (sym same) (here m p)
+        | inr other ↦ m.others s p within other (of_others s p other is)
+      ];
+      none = m.none;
+    }
+  where
+    here : MarkedUpTo done conf links slot after t → (p : Prefix) → owed_at t.waiting slot p ≡ mark_at conf links t slot p
+    here m p = elim (cases_lt (rank_of p) (reached after)) [
+      | inl already ↦ m.below p already
+      | inr over ↦ m.above p over (none p (above_from_rank after p over))
+    ]
+
+    of_others : (s : ℕ) (p : Prefix) → s ≢ slot → ((s == slot || done s) ≡ true) ⊎ (best_at (rows_of t.book) p ≡ None) → (done s ≡ true) ⊎ (best_at (rows_of t.book) p ≡ None)
+    of_others s p other (inl is) = inl (sym (ap (λ b. b || done s) (ne_eqb s slot other)) ∙ is)
+    of_others s p other (inr no_best) = inr no_best
+
+-- more slots need marks than are known to have them
+pub marked_less : (most least : ℕ → Bool) (conf : Configuration) (links : List (ℕ × Linked)) (t : RoutingState) → ((s : ℕ) → s < 64 → least s ≡ true → most s ≡ true) → AreMarkedFor most conf links t → AreMarkedFor least conf links t
+marked_less most least conf links t more h = record {
   there = h.there;
   released = h.released;
-  others = h.others;
-  below = λ q under. absurd (omega (arith, under));
-  above = λ q over. h.none q;
+  marks = λ s p within is. h.marks s p within (in_most s p within is);
+  none = h.none;
 }
+  where
+    in_most : (s : ℕ) (p : Prefix) → s < 64 → (least s ≡ true) ⊎ (best_at (rows_of t.book) p ≡ None) → (most s ≡ true) ⊎ (best_at (rows_of t.book) p ≡ None)
+    in_most s p within (inl is) = inl (more s within is)
+    in_most s p within (inr none) = inr none
+
+-- the marks of all slots that are there are made
+pub all_marked : (done : ℕ → Bool) (conf : Configuration) (links : List (ℕ × Linked)) (t : RoutingState) → ((s : ℕ) → s < 64 → (done s ≡ true) ⊎ (link_at links s ≡ None)) → AreMarkedFor done conf links t → AreMarked conf links t
+all_marked done conf links t all h = record {
+  there = h.there;
+  released = h.released;
+  marks = λ s p within. by_slot s p within (all s within);
+}
+  where
+    by_slot : (s : ℕ) (p : Prefix) → s < 64 → (done s ≡ true) ⊎ (link_at links s ≡ None) → owed_at t.waiting s p ≡ mark_at conf links t s p
+    by_slot s p within (inl is) = h.marks s p within (inl is)
+    by_slot s p within (inr unlinked) = h.none s p within unlinked ∙ sym (mark_unlinked conf links t s p unlinked)
+
+-- whether another slot is meant
+abbrev pub is_other : ℕ → ℕ → Bool
+is_other slot s = not (s == slot)
+
+pub this_or_other : (slot s : ℕ) → (s == slot || is_other slot s) ≡ true
+this_or_other slot s = either (s == slot)
+  where
+    either : (b : Bool) → (b || not b) ≡ true
+    either true = refl
+    either false = refl
+
+pub other_is : (slot s : ℕ) → is_other slot s ≡ true → s ≢ slot
+other_is slot s is same = absurd (let never = sym (ap not (eq-eqb s slot same)) ∙ is in cc)
 
 none_either : (b : Bool) → cond b (owed_for None None) None ≡ None
 none_either true = refl
@@ -325,90 +464,83 @@ fresh_none_of conf t slot q None linked fresh none = refl
 fresh_none_of conf t slot q (Some peer) None fresh none = refl
 fresh_none_of conf t slot q (Some peer) (Some l) fresh none = rw (none, fresh l refl) (none_either (is_established l.peer.session.state))
 
-pub fresh_none : (conf : Configuration) (links : List (ℕ × Linked)) (t : RoutingState) (slot : ℕ) (q : Prefix) → ((l : Linked) → link_at links slot ≡ Some l → l.adj_out ≡ []) → best_at (rows_of t.book) q ≡ None
+fresh_none : (conf : Configuration) (links : List (ℕ × Linked)) (t : RoutingState) (slot : ℕ) (q : Prefix) → ((l : Linked) → link_at links slot ≡ Some l → l.adj_out ≡ []) → best_at (rows_of t.book) q ≡ None
     → mark_at conf links t slot q ≡ None
 fresh_none conf links t slot q fresh none = fresh_none_of conf t slot q (peer_at conf slot) (link_at links slot) fresh none
 
--- the next prefix of Loc-RIB
-pub EnteredUpTo-more : (conf : Configuration) (links : List (ℕ × Linked)) (slot : ℕ) (first t u : RoutingState) (after : Option Prefix) (p : Prefix) → slot < 64 → ((l : Linked) → link_at links slot ≡ Some l → l.adj_out ≡ [])
-    → EnteredUpTo conf links slot first after t → IsAbove after p → ((q : Prefix) → IsAbove after q → IsSome (best_at (rows_of t.book) q) → is_gt (prefix_cmp p q) ≡ false) → rank_of p < 2 ^ 38
-    → ((s : ℕ) × IsSome (route_at t.adj_in s p)) → u ≡ record t { waiting = u.waiting } → IsMark slot p conf links t u → ((q : Prefix) → is_known u.waiting q ≡ is_known t.waiting q) → EnteredUpTo conf links slot first (Some p) u
-EnteredUpTo-more conf links slot first t u after p within fresh h above least place routed rest marks known = record {
-  place = place;
-  rest = rest ∙ ap (λ (x : RoutingState). record x { waiting = u.waiting }) h.rest;
-  there = known_of_rest links t u h.there rest (λ s q there. known q);
-  released = all_released p t u rest stays (λ q other. known q) released_here (λ q other. h.released q);
-  others = λ s q few other.
-      marks s q few (λ none. h.others s q few other ∙ mark_unlinked conf links t s q none) ∙ mark_off_slot conf links t slot s p q other ∙ h.others s q few other ∙ sym (marks_of_rest conf links t u s q rest);
-  below = λ q under. here q under ∙ sym (marks_of_rest conf links t u slot q rest);
-  above = λ q over.
-      marks slot q within (λ none. h.above q (omega (arith, over, rank_from_above after p above)))
-      ∙ mark_off_prefix conf links t slot slot p q (apart q (λ same. let rank : rank_of p ≡ rank_of q = (λ i. rank_of (same i)) in absurd (omega (arith, over, rank)))) ∙ h.above q (omega (arith, over, rank_from_above after p above));
-}
-  where
-    apart : (q : Prefix) → (p ≡ q → ⊥) → is_prefix p q ≡ false
-    apart q other = by_test (is_prefix p q) refl
-      where
-        by_test : (b : Bool) → is_prefix p q ≡ b → b ≡ false
-        by_test true is = absurd (other (same_from_is_prefix p q is))
-        by_test false is = refl
-
-    -- a prefix between the last one and this has no best route
-    none_here : (q : Prefix) → reached after ≤ rank_of q → rank_of q < rank_of p → mark_at conf links t slot q ≡ None
-    none_here q over under = fresh_none conf links t slot q fresh (none_between p q (best_at (rows_of t.book) q) (least q (above_from_rank after q over)) under)
-
-    was : (q : Prefix) → rank_of q < rank_of p → owed_at t.waiting slot q ≡ mark_at conf links t slot q
-    was q under = elim (cases_lt (rank_of q) (reached after)) [
-      | inl already ↦ h.below q already
-      | inr over ↦ h.above q over ∙ sym (none_here q over under)
-    ]
-
-    idle : (q : Prefix) → link_at links slot ≡ None → owed_at t.waiting slot q ≡ None
-    idle q none = elim (cases_lt (rank_of q) (reached after)) [
-      | inl already ↦ h.below q already ∙ mark_unlinked conf links t slot q none
-      | inr over ↦ h.above q over
-    ]
-
-    idle_at : (s : ℕ) (q : Prefix) → s < 64 → link_at links s ≡ None → owed_at t.waiting s q ≡ None
-    idle_at s q few none = elim (cases_eq s slot) [
-      | inl same ↦ subst (λ x. owed_at t.waiting x q ≡ None) (sym same) (idle q (subst (λ x. link_at links x ≡ None) same none))
-      | inr other ↦ h.others s q few other ∙ mark_unlinked conf links t s q none
-    ]
-
-    stays : (s : ℕ) (q : Prefix) → s < 64 → is_prefix p q ≡ false → owed_at u.waiting s q ≡ owed_at t.waiting s q
-    stays s q few other = marks s q few (idle_at s q few) ∙ mark_off_prefix conf links t slot s p q other
-
-    -- the prefix has a route
-    released_here : IsReleased u p
-    released_here = record { unknown = λ unrouted idle. no_none (route_at t.adj_in routed.0 p) (sym (routes_of_rest t u p rest routed.0) ∙ unrouted routed.0) routed.1 }
-
-    here : (q : Prefix) → rank_of q < reached (Some p) → owed_at u.waiting slot q ≡ mark_at conf links t slot q
-    here q under = elim (cases_lt (rank_of q) (rank_of p)) [
-      | inl before ↦
-          marks slot q within (idle q)
-          ∙ mark_off_prefix conf links t slot slot p q (apart q (λ same. let rank : rank_of p ≡ rank_of q = (λ i. rank_of (same i)) in absurd (omega (arith, before, rank)))) ∙ was q before
-      | inr not_before ↦
-          let at : p ≡ q = same_from_rank p q (omega (arith, under, not_before)) in
-          subst (λ x. owed_at u.waiting slot x ≡ mark_at conf links t slot x) at (marks slot p within (idle p) ∙ mark_on conf links t slot p)
-    ]
-
--- where no best route is above, all is marked
-pub EnteredUpTo-all : (conf : Configuration) (links : List (ℕ × Linked)) (slot : ℕ) (first t : RoutingState) (after : Option Prefix) → ((l : Linked) → link_at links slot ≡ Some l → l.adj_out ≡ [])
-    → EnteredUpTo conf links slot first after t → ((q : Prefix) → IsAbove after q → best_at (rows_of t.book) q ≡ None) → AreMarked conf links t
-EnteredUpTo-all conf links slot first t after fresh h none = record {
+-- a slot whose peer holds nothing, and for which nothing waits
+pub marked_fresh : (conf : Configuration) (links : List (ℕ × Linked)) (slot : ℕ) (t : RoutingState) → ((l : Linked) → link_at links slot ≡ Some l → l.adj_out ≡ []) → IsUnmarked conf links slot t → AreMarkedFor (is_other slot) conf links t
+marked_fresh conf links slot t fresh h = record {
   there = h.there;
   released = h.released;
-  marks = λ s p within. elim (cases_eq s slot) [
-    | inl same ↦ subst (λ x. owed_at t.waiting x p ≡ mark_at conf links t x p) (sym same) (here p)
+  marks = λ s p within is. elim (cases_eq s slot) [
+    | inl same ↦ subst (λ x. owed_at t.waiting x p ≡ mark_at conf links t x p) (sym same) (here s p same is)
     | inr other ↦ h.others s p within other
+  ];
+  none = λ s p within unlinked. elim (cases_eq s slot) [
+    | inl same ↦ subst (λ x. owed_at t.waiting x p ≡ None) (sym same) (h.none p)
+    | inr other ↦ h.others s p within other ∙ mark_unlinked conf links t s p unlinked
   ];
 }
   where
-    here : (p : Prefix) → owed_at t.waiting slot p ≡ mark_at conf links t slot p
-    here p = elim (cases_lt (rank_of p) (reached after)) [
-      | inl already ↦ h.below p already
-      | inr over ↦ h.above p over ∙ sym (fresh_none conf links t slot p fresh (none p (above_from_rank after p over)))
+    here : (s : ℕ) (p : Prefix) → s ≡ slot → (is_other slot s ≡ true) ⊎ (best_at (rows_of t.book) p ≡ None) → owed_at t.waiting slot p ≡ mark_at conf links t slot p
+    here s p same (inl is) = absurd (other_is slot s is same)
+    here s p same (inr none) = h.none p ∙ sym (fresh_none conf links t slot p fresh none)
+
+-- the slots below this one are marked, where the others that are told routes by the policy are still to be marked
+pub record ExportersBelow (conf : Configuration) (links : List (ℕ × Linked)) (done : ℕ → Bool) (first : RoutingState) (n : ℕ) (t : RoutingState) : Type 0 where
+  pub rest : t ≡ record first { waiting = t.waiting }
+  pub marked : AreMarkedFor (λ s. nat_lt s n || done s) conf links t
+
+none_below : (s : ℕ) (b : Bool) → (nat_lt s 0 || b) ≡ true → b ≡ true
+none_below s true is = refl
+none_below s false is = absurd (below_zero s _ refl is)
+  where
+    below_zero : (s : ℕ) (b : Bool) → nat_lt s 0 ≡ b → (b || false) ≡ true → ⊥
+    below_zero s true low is = absurd (let under : s < 0 = ltb-true s 0 low in omega (arith, under))
+    below_zero s false low is = absurd (cc)
+
+pub ExportersBelow-none : (conf : Configuration) (links : List (ℕ × Linked)) (done : ℕ → Bool) (t : RoutingState) → AreMarkedFor done conf links t → ExportersBelow conf links done t 0 t
+ExportersBelow-none conf links done t h = record { rest = refl; marked = marked_less done (λ s. nat_lt s 0 || done s) conf links t (λ s few is. none_below s (done s) is) h }
+
+pub ExportersBelow-more : (conf : Configuration) (links : List (ℕ × Linked)) (done : ℕ → Bool) (first t u : RoutingState) (n : ℕ) → ExportersBelow conf links done first n t → u ≡ record t { waiting = u.waiting }
+    → AreMarkedFor (λ s. s == n || (nat_lt s n || done s)) conf links u → ExportersBelow conf links done first (n + 1) u
+ExportersBelow-more conf links done first t u n h rest marked = record {
+  rest = rest ∙ ap (λ (x : RoutingState). record x { waiting = u.waiting }) h.rest;
+  marked = marked_less (λ s. s == n || (nat_lt s n || done s)) (λ s. nat_lt s (n + 1) || done s) conf links u (λ s few is. one_more s (nat_lt s (n + 1)) (done s) refl is) marked;
+}
+  where
+    below : (s : ℕ) → s < n + 1 → (b : Bool) → (s == n || (nat_lt s n || b)) ≡ true
+    below s under b = elim (cases_eq s n) [
+      | inl same ↦ ap (λ x. x || (nat_lt s n || b)) (eq-eqb s n same)
+      | inr other ↦ let low : s < n = omega (arith, under, other) in ap (λ x. x || (nat_lt s n || b)) (ne_eqb s n other) ∙ ap (λ x. x || b) (lt-ltb s n low)
     ]
+
+    later : (s : ℕ) (a b : Bool) → (a || (b || true)) ≡ true
+    later s true b = refl
+    later s false true = refl
+    later s false false = refl
+
+    one_more : (s : ℕ) (a b : Bool) → nat_lt s (n + 1) ≡ a → (a || b) ≡ true → (s == n || (nat_lt s n || b)) ≡ true
+    one_more s true b low is = below s (ltb-true s (n + 1) low) b
+    one_more s false true low is = later s (s == n) (nat_lt s n)
+    one_more s false false low is = absurd (cc)
+
+-- a slot that needs no marks anew
+pub marked_this : (done : ℕ → Bool) (conf : Configuration) (links : List (ℕ × Linked)) (t : RoutingState) (slot : ℕ) → done slot ≡ true → AreMarkedFor done conf links t → AreMarkedFor (λ s. s == slot || done s) conf links t
+marked_this done conf links t slot here h = marked_less done (λ s. s == slot || done s) conf links t (λ s few is. elim (cases_eq s slot) [
+  | inl same ↦ subst (λ x. done x ≡ true) (sym same) here
+  | inr other ↦ sym (ap (λ b. b || done s) (ne_eqb s slot other)) ∙ is
+]) h
+
+-- so it is of one whose peer isn't told routes by the policy
+pub done_unless : (low exports : Bool) → exports ≡ false → (low || not exports) ≡ true
+done_unless true exports is = refl
+done_unless false true is = absurd (cc)
+done_unless false false is = refl
+
+pub ExportersBelow-all : (conf : Configuration) (links : List (ℕ × Linked)) (done : ℕ → Bool) (first t : RoutingState) (n : ℕ) → ((s : ℕ) → n ≤ s → s < 64 → link_at links s ≡ None) → ExportersBelow conf links done first n t → AreMarked conf links t
+ExportersBelow-all conf links done first t n all h = all_marked (λ s. nat_lt s n || done s) conf links t (λ s few. elim (cases_lt s n) [ inl low ↦ inl (ap (λ b. b || done s) (lt-ltb s n low)) | inr high ↦ inr (all s high few) ]) h.marked
 
 -- what is lent of it is there
 pub some_copied : {X : Type 0} (o : Option (Bor X)) (found : Option X) → is_some o ≡ true → option_copied o ≡ found → IsSome found
@@ -521,7 +653,7 @@ followed now conf t slot l input old new marked linked put = record {
 
 -- the slot's peer was told what is exported to it
 pub marked_told : (conf : Configuration) (t u : RoutingState) (slot : ℕ) (prefix : Prefix) (export : Option (List ℕ)) (l m : Linked) (old new : List (ℕ × Linked)) → AreMarked conf old t → link_at old slot ≡ Some l
-    → IsTold prefix export l m → IsNow slot m old new → ((peer : ConfiguredPeer) → peer_at conf slot ≡ Some peer → export_in (best_at (rows_of t.book)) t.adj_in (export_peer_of conf slot peer) prefix ≡ export)
+    → IsTold prefix export l m → IsNow slot m old new → ((peer : ConfiguredPeer) → peer_at conf slot ≡ Some peer → export_in conf (best_at (rows_of t.book)) t.adj_in (export_peer_of conf slot peer) prefix ≡ export)
     → u ≡ record t { waiting = u.waiting } → ((s : ℕ) (p : Prefix) → owed_at u.waiting s p ≡ cond (s == slot && is_prefix prefix p) None (owed_at t.waiting s p))
     → ((s : ℕ) (p : Prefix) → IsSome (route_at t.adj_in s p) → is_known u.waiting p ≡ is_known t.waiting p) → (((p : Prefix) → IsReleased t p) → (p : Prefix) → IsReleased u p) → AreMarked conf new u
 marked_told conf t u slot prefix export l m old new marked linked told put exported rest owed known released = record {
@@ -535,7 +667,7 @@ marked_told conf t u slot prefix export l m old new marked linked told put expor
   marks = λ s p within. owed s p ∙ here s p within ∙ ap (λ (x : RoutingState). mark_at conf new x s p) (sym rest);
 }
   where
-    of_told : (peer : Option ConfiguredPeer) → ((x : ConfiguredPeer) → peer ≡ Some x → export_in (best_at (rows_of t.book)) t.adj_in (export_peer_of conf slot x) prefix ≡ export)
+    of_told : (peer : Option ConfiguredPeer) → ((x : ConfiguredPeer) → peer ≡ Some x → export_in conf (best_at (rows_of t.book)) t.adj_in (export_peer_of conf slot x) prefix ≡ export)
         → None ≡ mark_of conf t.adj_in t.book slot prefix peer (Some m)
     of_told None is = refl
     of_told (Some x) is = rw (is x refl, told.held prefix, is_prefix-refl prefix) (sym (nothing_owed (is_established m.peer.session.state) export))

@@ -1,6 +1,6 @@
 use Rattle.std.proofs.Common.{◌≡◌, ◌==◌, ℕ, Bool, true, false, List, [], ◌∷◌, cond, refl, ap, ◌∙◌}
 use Rattle.bgp_conf.specs.declared.command.Command.{Command}
-use Rattle.bgp_conf.specs.declared.command.Command.TheVariants.{AddPeer, RemovePeer, Enable, Disable, Reach}
+use Rattle.bgp_conf.specs.declared.command.Command.TheVariants.{AddPeer, RemovePeer, Enable, Disable, SetPolicy, DropPolicy, UseIn, UseOut, Network, NoNetwork, Reach, NoReach}
 use Rattle.bgp_peer.specs.SessionInputs as happens
 use Rattle.bgp_fsm.specs.declared.input.Input.TheVariants.{NoMemory, Expires}
 use Rattle.bgp_fsm.specs.declared.timers.Timer.{Timer}
@@ -42,7 +42,14 @@ commanded_stays config s (AddPeer slot peer) h = either (s == slot) _ h (moment_
 commanded_stays config s (RemovePeer slot) h = either (s == slot) _ h (moment_of h) refl refl
 commanded_stays config s (Enable slot) h = either (s == slot) _ h (moment_of h) refl refl
 commanded_stays config s (Disable slot) h = either (s == slot) _ h (moment_of h) refl refl
+commanded_stays config s (SetPolicy name rules) h = refl
+commanded_stays config s (DropPolicy name) h = refl
+commanded_stays config s (UseIn slot name) h = refl
+commanded_stays config s (UseOut slot name) h = refl
+commanded_stays config s (Network prefix) h = refl
+commanded_stays config s (NoNetwork prefix) h = refl
 commanded_stays config s (Reach prefix cost) h = refl
+commanded_stays config s (NoReach prefix) h = refl
 
 called_moves : (config : Config) (s : ℕ) (call : Call) (h : List happens.Event) → moment_of (called config s call h) ≡ moment_called call (moment_of h)
 called_moves config s (Up_call slot) h = either (s == slot) _ h (moment_of h) refl refl

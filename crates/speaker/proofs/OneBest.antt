@@ -3,11 +3,10 @@ use Rattle.bgp_attr.specs.PathAttributes.{PathAttributes}
 use Rattle.decision.specs.declared.candidate.Candidate.{Candidate}
 use Rattle.decision.proofs.Laws.{selected_member}
 use Rattle.decision.proofs.SameMembers.{same_selected}
-use Rattle.export_rules.specs.Export.{export_at}
 use Rattle.export_rules.specs.declared.export.ExportPeer.{ExportPeer}
 use Rattle.net_prefix.specs.declared.prefix.Prefix.{Prefix}
 use Rattle.speaker.specs.Candidates.{AreCandidates, IsCandidate}
-use Rattle.speaker.specs.Export.{IsExport}
+use Rattle.speaker.specs.Export.{IsExport, exported_at}
 use Rattle.speaker.specs.LocRib.{AreBest, IsBest, HasNoCandidate}
 use Rattle.speaker.specs.Tables.{Tables}
 
@@ -38,11 +37,11 @@ pub same_loc_rib : (t : Tables) (a b : Prefix → Option Candidate) → AreBest 
 same_loc_rib t a b is also = λ i prefix. both_found t prefix (a prefix) (b prefix) (is prefix) (also prefix) i
 
 same_exported : (t : Tables) (peer : ExportPeer) (prefix : Prefix) (c d : Candidate) (one other : PathAttributes) (a b : Option (List ℕ)) → c ≡ d
-    → t.routes c.slot prefix ≡ Some one → t.routes d.slot prefix ≡ Some other → a ≡ export_at c one peer → b ≡ export_at d other peer → a ≡ b
+    → t.routes c.slot prefix ≡ Some one → t.routes d.slot prefix ≡ Some other → a ≡ exported_at t.conf peer prefix c one → b ≡ exported_at t.conf peer prefix d other → a ≡ b
 same_exported t peer prefix c d one other a b same route also is and =
     let attributes : Some one ≡ Some other = sym route ∙ ap (λ (x : Candidate). t.routes x.slot prefix) same ∙ also in
     let equal : one ≡ other = cc in
-    is ∙ (λ i. export_at (same i) (equal i) peer) ∙ sym and
+    is ∙ (λ i. exported_at t.conf peer prefix (same i) (equal i)) ∙ sym and
 
 -- a prefix has at most one export to a peer
 pub same_export : (t : Tables) (peer : ExportPeer) (prefix : Prefix) (a b : Option (List ℕ)) → IsExport t peer prefix a → IsExport t peer prefix b → a ≡ b

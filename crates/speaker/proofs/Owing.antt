@@ -38,8 +38,8 @@ owed_is s waiting slot l q marked rows within served =
     marked.marks slot q within
     ∙ ap (λ found. mark_of s.conf s.adj_in s.book slot q found (link_at s.links slot)) served.configured
     ∙ ap (λ found. mark_of s.conf s.adj_in s.book slot q (Some served.peer) found) served.linked
-    ∙ ap (λ state. cond (is_established state) (owed_for (export_in (best_at (rows_of s.book)) s.adj_in (export_peer_of s.conf slot served.peer) q) (held_at l.adj_out q)) None) served.established
-    ∙ ap (λ rows. owed_for (export_in (best_at rows) s.adj_in (export_peer_of s.conf slot served.peer) q) (held_at l.adj_out q)) rows
+    ∙ ap (λ state. cond (is_established state) (owed_for (export_in s.conf (best_at (rows_of s.book)) s.adj_in (export_peer_of s.conf slot served.peer) q) (held_at l.adj_out q)) None) served.established
+    ∙ ap (λ rows. owed_for (export_in s.conf (best_at rows) s.adj_in (export_peer_of s.conf slot served.peer) q) (held_at l.adj_out q)) rows
     ∙ ap (λ e. owed_for e (held_at l.adj_out q)) (sym (export_peer_found s slot served.peer q served.configured))
 
 -- a withdrawal waits just where something is held and nothing is exported
@@ -127,9 +127,9 @@ withdrawn_known s waiting slot l p marked rows within served gone held =
 
 -- what is exported to whoever the peer is
 pub exported_to : (s : SpeakerState) (slot : ℕ) (p : Prefix) (export : Option (List ℕ)) → rows_of s.book ≡ s.loc_rib → export_to s slot p ≡ export
-    → (peer : ConfiguredPeer) → peer_at s.conf slot ≡ Some peer → export_in (best_at (rows_of s.book)) s.adj_in (export_peer_of s.conf slot peer) p ≡ export
+    → (peer : ConfiguredPeer) → peer_at s.conf slot ≡ Some peer → export_in s.conf (best_at (rows_of s.book)) s.adj_in (export_peer_of s.conf slot peer) p ≡ export
 exported_to s slot p export rows is peer configured =
-    ap (λ r. export_in (best_at r) s.adj_in (export_peer_of s.conf slot peer) p) rows ∙ sym (export_peer_found s slot peer p configured) ∙ is
+    ap (λ r. export_in s.conf (best_at r) s.adj_in (export_peer_of s.conf slot peer) p) rows ∙ sym (export_peer_found s slot peer p configured) ∙ is
 
 -- what is withdrawn is held and isn't exported
 pub withdrawn_parts : (export held : Option (List ℕ)) → IsSome (withdrawn_of export held) → (export ≡ None) × IsSome held

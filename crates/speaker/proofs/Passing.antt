@@ -1,12 +1,13 @@
-use Rattle.std.proofs.Common.{◌≡◌, ◌≢◌, ◌≤◌, ◌<◌, ◌+◌, ◌==◌, ◌^◌, ℕ, Bool, true, false, List, [], ◌∷◌, Option, Some, None, length, cond, MatchOption, refl, sym, ap, ◌∙◌, subst, arith}
+use Rattle.std.proofs.Common.{◌≡◌, ◌≢◌, ◌≤◌, ◌<◌, ◌+◌, ◌==◌, ◌^◌, ℕ, Bool, true, false, List, [], ◌∷◌, Option, Some, None, length, cond, MatchOption, refl, sym, ap, ◌∙◌, subst, arith, inl, inr}
 use Rattle.std.specs.List.Sorted.{IsStrictlySortedBy}
 use Rattle.std.specs.Map.{keys_of}
 use Rattle.bgp_attr.specs.AsPath.{PathSegment}
-use Rattle.bgp_attr.specs.PathAttributes.{PathAttributes, missing_of}
+use Rattle.bgp_attr.specs.PathAttributes.{PathAttributes, originated}
 use Rattle.bgp_attr.specs.declared.attrs.Origin.{Origin}
 use Rattle.bgp_attr.specs.declared.peer.PeerKind.TheVariants.{External}
+use Rattle.std.specs.Option.{IsSome}
 use Rattle.net_prefix.specs.declared.asn.Asn.{Asn}
-use Rattle.bgp_conf.specs.Configuration.{Configuration, peer_at}
+use Rattle.bgp_conf.specs.Configuration.{Configuration, peer_at, is_network}
 use Rattle.bgp_conf.specs.declared.conf.ConfiguredPeer.{ConfiguredPeer}
 use Rattle.bgp_fsm.specs.SessionTable.{effects_of}
 use Rattle.bgp_fsm.specs.declared.input.Input.TheVariants.{NoMemory}
@@ -31,16 +32,16 @@ use Rattle.speaker.specs.Export.{IsAccepted, IsExport, export_to, export_peer_of
 use Rattle.speaker.specs.Held.{held, told_in}
 use Rattle.speaker.specs.Linked.{Linked}
 use Rattle.speaker.specs.LocRib.{HasNoCandidate, IsBest, IsLocRib}
-use Rattle.speaker.specs.Candidates.{IsCandidate}
+use Rattle.speaker.specs.Candidates.{IsCandidate, IsPeerCandidate}
 use Rattle.speaker.specs.Offers.{AreKept}
 use Rattle.speaker.specs.Moves.{Moves}
 use Rattle.speaker.specs.Queueing.{ComesFirst, Queue, Starves, Tells, IsServed, starved_in, update_saying, rank_of}
 use Rattle.speaker.specs.Runs.{payloads_after, Call, Run, turn, configuration_of, history}
 use Rattle.speaker.specs.Serving.{HasRoom, IsServedAt, IsShortAt, IsStill, IsToldAt}
 use Rattle.speaker.specs.SpeakerState.{SpeakerState, tables_of}
-use Rattle.speaker.specs.Tables.{Tables, best_at, link_at}
+use Rattle.speaker.specs.Tables.{Tables, best_at, link_at, network_route, peer_route_at}
 use Rattle.speaker.specs.declared.config.Config.{Config}
-use Rattle.speaker.proofs.Calls.{best_candidate, tables_same, export_is, export_peer_found, export_short, at_slot, off_slot}
+use Rattle.speaker.proofs.Calls.{best_candidate, tables_same, export_is, export_external, export_peer_found, export_short, at_slot, off_slot}
 use Rattle.speaker.proofs.Commands.{holds_signalled, own_is, peer_of}
 use Rattle.speaker.proofs.Events.{holds_put, slot_is}
 use Rattle.speaker.proofs.Histories.{route_stays}
@@ -77,27 +78,36 @@ tables_queued config call r queue slot u = λ i. record {
   conf = configuration_of config (turn call queue ∷ r);
   payloads = payloads_after (turn call queue ∷ r);
   sessions = λ s. same_session (s == slot) u (history config s (turn call queue ∷ r)) i;
-  routes = λ s prefix. same_route (s == slot) u (history config s (turn call queue ∷ r)) prefix i;
+  routes = λ s prefix. cond (s == 64) (network_route (configuration_of config (turn call queue ∷ r)) prefix) (same_route (s == slot) u (history config s (turn call queue ∷ r)) prefix i);
 }
 
--- a candidate's route lacks nothing
-nothing_missing : (own : Asn) (attrs : PathAttributes) (origin : Origin) (path : List PathSegment) (next_hop : ℕ) → attrs.origin ≡ Some origin → attrs.as_path ≡ Some path → attrs.next_hop ≡ Some next_hop
-    → missing_of (External own) attrs ≡ None
-nothing_missing own attrs origin path next_hop some_origin some_path some_next_hop = rw (some_origin, some_path, some_next_hop) refl
+-- a candidate's route has an ORIGIN and a path
+nothing_missing : (attrs : PathAttributes) (origin : Origin) (path : List PathSegment) → attrs.origin ≡ Some origin → attrs.as_path ≡ Some path → IsSome attrs.origin × IsSome attrs.as_path
+nothing_missing attrs origin path some_origin some_path = rw (some_origin, some_path) (refl, refl)
 
 same_attrs : (a b : PathAttributes) → Some a ≡ Some b → a ≡ b
 same_attrs a b is = cc
 
-candidate_complete : (own : Asn) (t : Tables) (p : Prefix) (c : Candidate) (attrs : PathAttributes) → IsCandidate t p c → t.routes c.slot p ≡ Some attrs → missing_of (External own) attrs ≡ None
-candidate_complete own t p c attrs is route_is =
+peer_complete : (t : Tables) (p : Prefix) (c : Candidate) (attrs : PathAttributes) → IsPeerCandidate t p c → t.routes c.slot p ≡ Some attrs → IsSome attrs.origin × IsSome attrs.as_path
+peer_complete t p c attrs is route_is =
     let same : is.attrs ≡ attrs = same_attrs is.attrs attrs (sym is.route ∙ route_is) in
-    subst (λ a. missing_of (External own) a ≡ None) same (nothing_missing own is.attrs c.origin is.made.path is.made.next_hop is.made.origin_is is.made.path_is is.made.next_hop_is)
+    subst (λ (a : PathAttributes). IsSome a.origin × IsSome a.as_path) same (nothing_missing is.attrs is.made.origin is.by_attrs.path is.by_attrs.origin_is is.by_attrs.path_is)
 
-best_complete : (own : Asn) (s : SpeakerState) (p : Prefix) → IsLocRib (tables_of s) s.loc_rib → (c : Candidate) (attrs : PathAttributes) → best_at s.loc_rib p ≡ Some c → route_at s.adj_in c.slot p ≡ Some attrs
-    → missing_of (External own) attrs ≡ None
-best_complete own s p chosen c attrs best =
+-- nor does a local network
+network_complete : (conf : Configuration) (p : Prefix) (attrs : PathAttributes) (b : Bool) → cond b (Some originated) None ≡ Some attrs → IsSome attrs.origin × IsSome attrs.as_path
+network_complete conf p attrs true is = let same : originated ≡ attrs = same_attrs originated attrs is in subst (λ (a : PathAttributes). IsSome a.origin × IsSome a.as_path) same (refl, refl)
+network_complete conf p attrs false is = absurd (cc)
+
+candidate_complete : (t : Tables) (p : Prefix) (c : Candidate) (attrs : PathAttributes) → ((q : Prefix) → t.routes 64 q ≡ network_route t.conf q) → IsCandidate t p c → t.routes c.slot p ≡ Some attrs → IsSome attrs.origin × IsSome attrs.as_path
+candidate_complete t p c attrs networks (inl is) route_is = peer_complete t p c attrs is route_is
+candidate_complete t p c attrs networks (inr is) route_is =
+    network_complete t.conf p attrs (is_network t.conf p) (sym (networks p) ∙ subst (λ slot. t.routes slot p ≡ Some attrs) (ap (λ (x : Candidate). x.slot) is.made) route_is)
+
+best_complete : (s : SpeakerState) (p : Prefix) → ((q : Prefix) → route_at s.adj_in 64 q ≡ network_route s.conf q) → IsLocRib (tables_of s) s.loc_rib → (c : Candidate) (attrs : PathAttributes) → best_at s.loc_rib p ≡ Some c → route_at s.adj_in c.slot p ≡ Some attrs
+    → IsSome attrs.origin × IsSome attrs.as_path
+best_complete s p networks chosen c attrs best =
     let B : Option Candidate → Type 0 = λ found. MatchOption found (HasNoCandidate (tables_of s) p) (λ c. IsBest (tables_of s) p c) in
-    candidate_complete own (tables_of s) p c attrs (best_candidate (tables_of s) p c (subst B best (chosen.best p)))
+    candidate_complete (tables_of s) p c attrs networks (best_candidate (tables_of s) p c (subst B best (chosen.best p)))
 
 -- the octets that the export to a slot has are good to its peer
 abbrev pub Accepts : SpeakerState → ℕ → Prefix → Option (List ℕ) → Type 0
@@ -108,7 +118,14 @@ is_good : (config : Config) (r : Run) (s : SpeakerState) (slot : ℕ) (p : Prefi
 is_good config r s slot p export peer holds chosen configured accepts a some =
     let own : s.conf.own ≡ config.asn = ap (λ (c : Configuration). c.own) holds.conf ∙ own_is config r in
     subst (λ asn. AreAccepted asn a) own
-    (accepts a some peer configured (record { own = rw own holds.peers.0; local = (holds.peers.1 slot peer configured).local }) (best_complete s.conf.own s p chosen))
+    (accepts a some peer configured (record { own = rw own holds.peers.0; local = (holds.peers.1 slot peer configured).local }) (best_complete s p holds.networks chosen))
+
+-- what is exported goes to an external peer
+outside : (config : Config) (r : Run) (s : SpeakerState) (slot : ℕ) (p : Prefix) (a : List ℕ) (peer : ConfiguredPeer) → Holds config r s → peer_at s.conf slot ≡ Some peer → export_to s slot p ≡ Some a
+    → (peer.asn.0 == config.asn.0) ≡ false
+outside config r s slot p a peer holds configured exported =
+    let own : s.conf.own ≡ config.asn = ap (λ (c : Configuration). c.own) holds.conf ∙ own_is config r in
+    subst (λ (asn : Asn). (peer.asn.0 == asn.0) ≡ false) own (export_external s slot peer p a configured exported)
 
 -- an UPDATE that says of a prefix what the export has and the peer doesn't hold is owed
 is_owed : (config : Config) (r : Run) (s : SpeakerState) (slot : ℕ) (p : Prefix) (export : Option (List ℕ)) (peer : ConfiguredPeer) (l : Linked) → Holds config r s
@@ -116,7 +133,7 @@ is_owed : (config : Config) (r : Run) (s : SpeakerState) (slot : ℕ) (p : Prefi
     → export_to s slot p ≡ export → ((a : List ℕ) → export ≡ Some a → length a ≤ 4068) → Accepts s slot p export → held_at l.adj_out p ≢ export
     → ((q : Prefix) → held_at l.adj_out q ≢ export_to s slot q → ComesFirst p export q (export_to s slot q)) → IsOwedIn config r slot (update_saying p export)
 is_owed config r s slot p export peer l holds loc_rib configured here place exported short accepts news order =
-    let tables : tables_after config r ≡ tables_of s = tables_same config r s.conf s.payloads (link_at s.links) s.adj_in (sym holds.conf) holds.payloads holds.slots in
+    let tables : tables_after config r ≡ tables_of s = tables_same config r s.conf s.payloads (link_at s.links) s.adj_in (sym holds.conf) holds.payloads holds.slots holds.networks in
     let chosen : IsLocRib (tables_of s) s.loc_rib = subst (λ t. IsLocRib t s.loc_rib) tables loc_rib in
     let E : Option (List ℕ) → Type 0 = λ e. IsExport (tables_after config r) (export_peer_of (configuration_of config r) slot peer) p e in
     let P : Prefix → Type 0 = λ q. IsNews config r slot peer q (told_in (update_saying p export) q) in
@@ -129,7 +146,7 @@ is_owed config r s slot p export peer l holds loc_rib configured here place expo
       configured = ap (λ c. peer_at c slot) (sym holds.conf) ∙ configured;
       is_update = saying_is_update p export short;
       faultless =
-          saying_faultless p export peer.asn config.asn short place (holds.peers.1 slot peer configured).external
+          saying_faultless p export peer.asn config.asn short place (λ a some. outside config r s slot p a peer holds configured (exported ∙ some))
           (is_good config r s slot p export peer holds chosen configured accepts);
       alone = (p, (export, refl));
       some = (p, saying_names p export place short);
@@ -191,7 +208,8 @@ queues_still now new still config call r queue passes =
           cache = passes.holds.cache;
           payloads = passes.holds.payloads;
           peers = passes.holds.peers;
-          slots = λ t. subst (λ l. SlotAgrees config (peer_at now.conf t) l (route_at now.adj_in t) (history config t (turn call queue ∷ r))) (sym (still.links t)) (passes.holds.slots t);
+          slots = λ t. subst (λ l. SlotAgrees config (peer_at now.conf t) l (peer_route_at now.adj_in t) (history config t (turn call queue ∷ r))) (sym (still.links t)) (passes.holds.slots t);
+          networks = passes.holds.networks;
           kept = kept_still_links now new (offer_at now.book) still passes.holds.kept;
           chosen = passes.holds.chosen;
         };
@@ -213,18 +231,18 @@ QueuesOn-more a b c first later config call r queue passes =
 -- a call that has queued nothing yet
 pub passes_first : (config : Config) (call : Call) (r : Run) (s : SpeakerState) → Holds config (turn call [] ∷ r) s → IsLocRib (tables_of s) s.loc_rib → Passes config call r [] s
 passes_first config call r s holds chosen =
-    let tables = tables_same config (turn call [] ∷ r) s.conf s.payloads (link_at s.links) s.adj_in (sym holds.conf) holds.payloads holds.slots in
+    let tables = tables_same config (turn call [] ∷ r) s.conf s.payloads (link_at s.links) s.adj_in (sym holds.conf) holds.payloads holds.slots holds.networks in
     record { holds = holds; loc_rib = subst (λ t. IsLocRib t s.loc_rib) (sym tables) chosen; owed = tt }
 
 -- a slot that is served holds the run's export
 served_slot : (config : Config) (r : Run) (s : SpeakerState) (slot : ℕ) (peer : ConfiguredPeer) (found : Option Linked) (links : ℕ → Option Linked) → links slot ≡ found
     → tables_after config r ≡ tables_of s → configuration_of config r ≡ s.conf → IsLocRib (tables_of s) s.loc_rib → peer_at s.conf slot ≡ Some peer
     → ((l : Linked) → links slot ≡ Some l → IsServed (export_to s slot) l)
-    → SlotAgrees config (Some peer) found (route_at s.adj_in slot) (history config slot r)
+    → SlotAgrees config (Some peer) found (peer_route_at s.adj_in slot) (history config slot r)
     → (session (history config slot r)).state ≡ Established → length (ring_of (history config slot r)) + 8192 ≤ 65536 → (prefix : Prefix)
     → IsExport (tables_after config r) (export_peer_of (configuration_of config r) slot peer) prefix (held (history config slot r) prefix)
 served_slot config r s slot peer None links is tables conf chosen configured served a established room prefix =
-    let there = linked_from config (Some peer) peer None (route_at s.adj_in slot) (history config slot r) refl a in
+    let there = linked_from config (Some peer) peer None (peer_route_at s.adj_in slot) (history config slot r) refl a in
     let never = there.1 in absurd (cc)
 served_slot config r s slot peer (Some l) links is tables conf chosen configured served a established room prefix =
     let state : l.peer.session.state ≡ Established = ap (λ (x : Session). x.state) (a.link l refl).peer.session ∙ established in
@@ -239,14 +257,14 @@ pub agrees_served : (config : Config) (call : Call) (r : Run) (queue : Queue) (s
 agrees_served config call r queue s passes fair thrifty served =
     let holds = passes.holds in
     let conf : configuration_of config (turn call queue ∷ r) ≡ s.conf = sym holds.conf in
-    let tables : tables_after config (turn call queue ∷ r) ≡ tables_of s = tables_same config (turn call queue ∷ r) s.conf s.payloads (link_at s.links) s.adj_in conf holds.payloads holds.slots in
+    let tables : tables_after config (turn call queue ∷ r) ≡ tables_of s = tables_same config (turn call queue ∷ r) s.conf s.payloads (link_at s.links) s.adj_in conf holds.payloads holds.slots holds.networks in
     let chosen : IsLocRib (tables_of s) s.loc_rib = subst (λ t. IsLocRib t s.loc_rib) tables passes.loc_rib in
     record {
       holds = holds;
       loc_rib = passes.loc_rib;
       settled = λ slot peer configured established room prefix.
           let here : peer_at s.conf slot ≡ Some peer = ap (λ c. peer_at c slot) (sym conf) ∙ configured in
-          let A : Option ConfiguredPeer → Type 0 = λ x. SlotAgrees config x (link_at s.links slot) (route_at s.adj_in slot) (history config slot (turn call queue ∷ r)) in
+          let A : Option ConfiguredPeer → Type 0 = λ x. SlotAgrees config x (link_at s.links slot) (peer_route_at s.adj_in slot) (history config slot (turn call queue ∷ r)) in
           served_slot config (turn call queue ∷ r) s slot peer _ (link_at s.links) refl tables conf chosen here (λ l linked. served slot (holds.peers.1 slot peer here).within peer l here linked) (subst A here (holds.slots slot)) established room prefix;
       thrifty = (fair, passes.owed, thrifty);
     }
@@ -254,7 +272,7 @@ agrees_served config call r queue s passes fair thrifty served =
 -- as the run stands, the slot's export has what its peer doesn't hold
 is_short : (config : Config) (r : Run) (s : SpeakerState) (slot : ℕ) → Holds config r s → IsLocRib (tables_after config r) s.loc_rib → IsShortAt s slot → IsShortIn config r slot
 is_short config r s slot holds loc_rib short =
-    let tables : tables_after config r ≡ tables_of s = tables_same config r s.conf s.payloads (link_at s.links) s.adj_in (sym holds.conf) holds.payloads holds.slots in
+    let tables : tables_after config r ≡ tables_of s = tables_same config r s.conf s.payloads (link_at s.links) s.adj_in (sym holds.conf) holds.payloads holds.slots holds.networks in
     let chosen : IsLocRib (tables_of s) s.loc_rib = subst (λ t. IsLocRib t s.loc_rib) tables loc_rib in
     let here = slot_is config r slot short.peer short.linked s holds short.configured short.is in
     let E : Option (List ℕ) → Type 0 = λ e. IsExport (tables_after config r) (export_peer_of (configuration_of config r) slot short.peer) short.prefix e in
@@ -277,7 +295,7 @@ pub queues_starved : (slot : ℕ) (old new : SpeakerState) → (short : IsShortA
 queues_starved slot old new short moves chooses best rising config call r queue passes =
     let holds : Holds config (turn call ((slot, Starves) ∷ queue) ∷ r) new =
     holds_signalled config (turn call queue ∷ r) (turn call ((slot, Starves) ∷ queue) ∷ r) slot short.linked NoMemory old new passes.holds short.peer short.configured (λ x. refl) short.is refl (λ e. cc) moves refl refl refl (λ t. refl) chooses (choices_in config (turn call queue ∷ r)) passes.holds.chosen (omega arith) in
-    let tables = tables_same config (turn call ((slot, Starves) ∷ queue) ∷ r) new.conf new.payloads (link_at new.links) new.adj_in (sym holds.conf) holds.payloads holds.slots in
+    let tables = tables_same config (turn call ((slot, Starves) ∷ queue) ∷ r) new.conf new.payloads (link_at new.links) new.adj_in (sym holds.conf) holds.payloads holds.slots holds.networks in
     record {
       holds = holds;
       loc_rib = subst (λ t. IsLocRib t new.loc_rib) (sym tables) (kept_loc_rib (tables_of new) (offer_at new.book) new.loc_rib best rising holds.kept);

@@ -150,12 +150,12 @@ one_named_in p place = All-cons (λ prefix. prefix.bits < 2 ^ 32) p [] (small_bi
 
 -- nor with the UPDATE that says it
 pub saying_faultless : (p : Prefix) (export : Option (List ℕ)) (peer own : Asn) (short : (a : List ℕ) → export ≡ Some a → length a ≤ 4068) → rank_of p < 2 ^ 38
-    → (peer.0 == own.0) ≡ false → IsGood own export → update_fault (kind_between peer own) (saying_is_update p export short).0 ≡ None
+    → ((a : List ℕ) → export ≡ Some a → (peer.0 == own.0) ≡ false) → IsGood own export → update_fault (kind_between peer own) (saying_is_update p export short).0 ≡ None
 unfolding saying_is_update update_message
 saying_faultless p None peer own short place other good =
     (written_says (kind_between peer own) (p ∷ []) [] [] (one_named_in p place) none_named_in (omega (arith, wire_short p)) (no_attributes (kind_between peer own)) (inl refl)).0
 saying_faultless p (Some a) peer own short place other good =
-    rw other (written_says (External own) [] (p ∷ []) a none_named_in (one_named_in p place) (omega (arith, wire_short p, short a refl)) (good a refl).faultless (inr (good a refl).complete)).0
+    rw (other a refl) (written_says (External own) [] (p ∷ []) a none_named_in (one_named_in p place) (omega (arith, wire_short p, short a refl)) (good a refl).faultless (inr (good a refl).complete)).0
 
 -- the slot after an UPDATE
 pub slot_queued : (config : Config) (peer : ConfiguredPeer) (p : Prefix) (export : Option (List ℕ)) (l new : Linked) (routes : Prefix → Option PathAttributes) (h : List Event)

@@ -24,7 +24,7 @@ cache_shown config h (Some session) agrees = rw agrees.0 (ap (λ c. Some (client
 -- an event
 pub refusal_same : (config : Config) (r : Run) (s : SpeakerState) (event : Event) → Agrees config r s → refusal_of s event ≡ refusal_in config r event
 refusal_same config r s event a =
-    let tables : tables_after config r ≡ tables_of s = tables_same config r s.conf s.payloads (link_at s.links) s.adj_in (sym a.holds.conf) a.holds.payloads a.holds.slots in
+    let tables : tables_after config r ≡ tables_of s = tables_same config r s.conf s.payloads (link_at s.links) s.adj_in (sym a.holds.conf) a.holds.payloads a.holds.slots a.holds.networks in
     ap (λ moment. refusal_by moment (cache_transport_of s) (tables_of s) event) a.holds.moment
     ∙ ap (λ transport. refusal_by (moment_after r) transport (tables_of s) event) (cache_shown config (cache_history r) s.cache a.holds.cache)
     ∙ ap (λ t. refusal_by (moment_after r) (cache_transport_after config r) t event) (sym tables)

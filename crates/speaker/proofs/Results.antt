@@ -1,4 +1,4 @@
-use Rattle.std.proofs.Common.{◌≡◌, ◌≤◌, ◌+◌, ◌↔◌, ℕ, nat_le, Bool, Result, Ok, Err, OnErr, OnOk, IsTrue, false, refl, true, arith}
+use Rattle.std.proofs.Common.{◌≡◌, ◌≤◌, ◌+◌, ◌↔◌, ℕ, nat_le, Bool, Result, Ok, Err, OnErr, OnOk, IsTrue, false, refl, true, sym, ◌∙◌, arith}
 use Rattle.std.proofs.lemmas.Bool.{leb-true, le-leb}
 use Rattle.bgp_peer.specs.PeerLimits.{ring_octets, room_for_update}
 use Rattle.std.specs.Bool.{OnTrue}
@@ -34,3 +34,10 @@ room_test free ring is = (
   λ yes. let low = leb-true room_for_update free yes in omega (arith, low, is),
   λ room. le-leb room_for_update free (omega (arith, room, is)),
 )
+
+-- what a test tells
+pub told_true : (r b : Bool) → r ≡ true → r ≡ b → b ≡ true
+told_true r b told is = sym is ∙ told
+
+pub told_false : (r b : Bool) → r ≡ false → r ≡ b → b ≡ false
+told_false r b told is = sym is ∙ told

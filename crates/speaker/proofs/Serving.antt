@@ -212,18 +212,18 @@ Walks-full done slot now l there full x is room q = absurd (full (subst HasRoom 
 
 -- the export to a slot that is configured
 export_given_at : (s : SpeakerState) (slot : ℕ) (peer : ExportPeer) (found : Option ConfiguredPeer) → Some peer ≡ option_map (export_peer_of s.conf slot) found
-    → (prefix : Prefix) → option_and_then (λ p. export_in (best_at s.loc_rib) s.adj_in (export_peer_of s.conf slot p) prefix) found ≡ export_in (best_at s.loc_rib) s.adj_in peer prefix
+    → (prefix : Prefix) → option_and_then (λ p. export_in s.conf (best_at s.loc_rib) s.adj_in (export_peer_of s.conf slot p) prefix) found ≡ export_in s.conf (best_at s.loc_rib) s.adj_in peer prefix
 export_given_at s slot peer None is prefix = absurd (cc)
 export_given_at s slot peer (Some p) is prefix = let same : peer ≡ export_peer_of s.conf slot p = cc in rw same refl
 
 pub export_given : (s : SpeakerState) (slot : ℕ) (peer : ExportPeer) → Some peer ≡ option_map (export_peer_of s.conf slot) (peer_at s.conf slot) → (prefix : Prefix)
-    → export_to s slot prefix ≡ export_in (best_at s.loc_rib) s.adj_in peer prefix
+    → export_to s slot prefix ≡ export_in s.conf (best_at s.loc_rib) s.adj_in peer prefix
 export_given s slot peer is prefix = export_given_at s slot peer (peer_at s.conf slot) is prefix
 
 -- so it is while only slots differ
 pub export_now : (first now : SpeakerState) (slot : ℕ) (peer : ExportPeer) → now ≡ record first { links = now.links } → Some peer ≡ option_map (export_peer_of first.conf slot) (peer_at first.conf slot)
-    → (prefix : Prefix) → export_to first slot prefix ≡ export_in (best_at now.loc_rib) now.adj_in peer prefix
-export_now first now slot peer rest is prefix = export_given first slot peer is prefix ∙ ap (λ (s : SpeakerState). export_in (best_at s.loc_rib) s.adj_in peer prefix) (sym rest)
+    → (prefix : Prefix) → export_to first slot prefix ≡ export_in now.conf (best_at now.loc_rib) now.adj_in peer prefix
+export_now first now slot peer rest is prefix = export_given first slot peer is prefix ∙ ap (λ (s : SpeakerState). export_in s.conf (best_at s.loc_rib) s.adj_in peer prefix) (sym rest)
 
 mapped : {X Y : Type 0} (f : X → Y) (o : Option X) (y : Y) → Some y ≡ option_map f o → (x : X) × (o ≡ Some x)
 mapped f None y is = absurd (cc)
@@ -271,7 +271,7 @@ had_by slot first now held exports q idle = subst (λ e. IsHad e q (held q)) exp
 -- what is exported and isn't held just so is announced
 pub Walks-announced : (slot : ℕ) (first now new : SpeakerState) (after : Option Prefix) (p : Prefix) (peer : ExportPeer) (octets : List ℕ) → (h : Walks (IsHad (export_to first slot)) slot first after now)
     → Some peer ≡ option_map (export_peer_of first.conf slot) (peer_at first.conf slot) → IsNext (λ q. announced_of (export_to now slot q) (held_at h.serves.after.adj_out q)) after (Some p) → rank_of p < 2 ^ 38 → HasRoomAt now slot
-    → export_in (best_at now.loc_rib) now.adj_in peer p ≡ Some octets → IsAccepted now.loc_rib now.adj_in peer p octets → IsToldAt slot p (Some octets) now new
+    → export_in now.conf (best_at now.loc_rib) now.adj_in peer p ≡ Some octets → IsAccepted now.loc_rib now.adj_in peer p octets → IsToldAt slot p (Some octets) now new
     → IsDoneAt (IsGone (export_to first slot)) first slot → Walks (IsHad (export_to first slot)) slot first (Some p) new
 Walks-announced slot first now new after p peer octets h is next place room some accepted told gone =
     let later = room h.serves.after h.serves.is in
@@ -289,7 +289,7 @@ Walks-announced slot first now new after p peer octets h is next place room some
 -- where nothing is exported there is nothing to be had
 pub Walks-had : (slot : ℕ) (first now : SpeakerState) (after : Option Prefix) (p : Prefix) (peer : ExportPeer) → (h : Walks (IsHad (export_to first slot)) slot first after now)
     → Some peer ≡ option_map (export_peer_of first.conf slot) (peer_at first.conf slot) → IsNext (λ q. announced_of (export_to now slot q) (held_at h.serves.after.adj_out q)) after (Some p) → rank_of p < 2 ^ 38
-    → export_in (best_at now.loc_rib) now.adj_in peer p ≡ None → Walks (IsHad (export_to first slot)) slot first (Some p) now
+    → export_in now.conf (best_at now.loc_rib) now.adj_in peer p ≡ None → Walks (IsHad (export_to first slot)) slot first (Some p) now
 Walks-had slot first now after p peer h is next place none =
     let exports : export_to now slot ≡ export_to first slot = ap (λ e. e slot) (export_kept first now h.serves.only.rest) in
     Walks-kept (IsHad (export_to first slot)) (λ q. announced_of (export_to now slot q) (held_at h.serves.after.adj_out q)) slot first now after p h (had_by slot first now (held_at h.serves.after.adj_out) exports) next place
@@ -314,7 +314,7 @@ Serves-still slot first now new h still =
 -- what memory is refused to is exported, and not held just so
 pub short_still : (slot : ℕ) (first now new : SpeakerState) (p : Prefix) (peer : ExportPeer) (octets : List ℕ) → (h : Serves slot first now) → slot < 64 → HasRoomAt now slot
     → Some peer ≡ option_map (export_peer_of first.conf slot) (peer_at first.conf slot) → IsSome (announced_of (export_to now slot p) (held_at h.after.adj_out p))
-    → export_in (best_at now.loc_rib) now.adj_in peer p ≡ Some octets → IsStill now new → IsShortAt new slot
+    → export_in now.conf (best_at now.loc_rib) now.adj_in peer p ≡ Some octets → IsStill now new → IsShortAt new slot
 short_still slot first now new p peer octets h within room is next some still =
     let by = served_by slot first now peer h is in
     let exports : export_to now slot p ≡ Some octets = ap (λ e. e slot p) (export_kept first now h.only.rest) ∙ export_now first now slot peer h.only.rest is p ∙ some in

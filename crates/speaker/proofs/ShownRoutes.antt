@@ -26,7 +26,7 @@ use Rattle.speaker.specs.Runs.{Run, cache_history, history}
 use Rattle.speaker.specs.Shown.{cache_state_after, cache_state_of, held_by}
 use Rattle.speaker.specs.SpeakerState.{SpeakerState, tables_of}
 use Rattle.speaker.specs.LocRib.{HasNoCandidate, IsBest, IsLocRib}
-use Rattle.speaker.specs.Tables.{Tables, best_at, configured_session, link_at, session_at}
+use Rattle.speaker.specs.Tables.{Tables, best_at, configured_session, link_at, session_at, peer_route_at}
 use Rattle.speaker.specs.declared.config.Config.{Config}
 use Rattle.speaker.proofs.Calls.{slot_route, tables_same}
 use Rattle.speaker.proofs.OneBest.{best_is_candidate, same_best}
@@ -41,21 +41,21 @@ held_of_slot config peer None routes h prefix a = rw (a.vacant (vacant_from h (s
 held_of_slot config peer (Some l) routes h prefix a = (a.link l refl).held prefix
 
 pub held_shown : (config : Config) (r : Run) (s : SpeakerState) (slot : ℕ) (prefix : Prefix) → Agrees config r s → held_at (held_by (link_at s.links slot)) prefix ≡ held (history config slot r) prefix
-held_shown config r s slot prefix a = held_of_slot config (peer_at s.conf slot) (link_at s.links slot) (route_at s.adj_in slot) (history config slot r) prefix (a.holds.slots slot)
+held_shown config r s slot prefix a = held_of_slot config (peer_at s.conf slot) (link_at s.links slot) (peer_route_at s.adj_in slot) (history config slot r) prefix (a.holds.slots slot)
 
 -- the routes that are kept of a slot are the run's
-pub routes_shown : (config : Config) (r : Run) (s : SpeakerState) (slot : ℕ) (prefix : Prefix) (found : Option PathAttributes) → found ≡ route_at s.adj_in slot prefix → Agrees config r s
+pub routes_shown : (config : Config) (r : Run) (s : SpeakerState) (slot : ℕ) (prefix : Prefix) (found : Option PathAttributes) → found ≡ peer_route_at s.adj_in slot prefix → Agrees config r s
     → found ≡ route (history config slot r) prefix
 routes_shown config r s slot prefix found is a =
-    is ∙ sym (slot_route config (peer_at s.conf slot) (link_at s.links slot) (route_at s.adj_in slot) (history config slot r) prefix (a.holds.slots slot))
+    is ∙ sym (slot_route config (peer_at s.conf slot) (link_at s.links slot) (peer_route_at s.adj_in slot) (history config slot r) prefix (a.holds.slots slot))
 
 -- the sessions of a run are those that are kept
 pub session_shown : (config : Config) (r : Run) (s : SpeakerState) (slot : ℕ) → Agrees config r s → (tables_after config r).sessions slot ≡ session_at s.links slot
-session_shown config r s slot a = ap (λ (t : Tables). t.sessions slot) (tables_same config r s.conf s.payloads (link_at s.links) s.adj_in (sym a.holds.conf) a.holds.payloads a.holds.slots)
+session_shown config r s slot a = ap (λ (t : Tables). t.sessions slot) (tables_same config r s.conf s.payloads (link_at s.links) s.adj_in (sym a.holds.conf) a.holds.payloads a.holds.slots a.holds.networks)
 
 -- the session of a configured slot
 pub configured_shown : (config : Config) (r : Run) (s : SpeakerState) (slot : ℕ) → Agrees config r s → configured_session (tables_after config r) slot ≡ configured_session (tables_of s) slot
-configured_shown config r s slot a = ap (λ t. configured_session t slot) (tables_same config r s.conf s.payloads (link_at s.links) s.adj_in (sym a.holds.conf) a.holds.payloads a.holds.slots)
+configured_shown config r s slot a = ap (λ t. configured_session t slot) (tables_same config r s.conf s.payloads (link_at s.links) s.adj_in (sym a.holds.conf) a.holds.payloads a.holds.slots a.holds.networks)
 
 -- a row of Loc-RIB is the best route of its prefix
 row_from_best : (t : Tables) (prefix : Prefix) (c : Candidate) (found : Option Candidate) → MatchOption found (HasNoCandidate t prefix) (λ x. IsBest t prefix x) → IsBest t prefix c → found ≡ Some c

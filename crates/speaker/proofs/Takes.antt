@@ -25,13 +25,16 @@ use Rattle.speaker.proofs.KeptOffers.{hands_keep}
 use Rattle.speaker.proofs.Passing.{passes_first, agrees_served}
 use Rattle.speaker.proofs.SlotEvents.{with_peer}
 use Rattle.speaker.proofs.SlotOctets.{agrees_handed}
+use Rattle.speaker.specs.Tables.{peer_route_at}
+use Rattle.speaker.proofs.PeerRoutes.{agrees_routes}
 
 -- Octets that are handed out.
 
 holds_handed : (config : Config) (r : Run) (slot : ℕ) (l : Linked) (count : ℕ) (old new : SpeakerState) → Holds config r old → link_at old.links slot ≡ Some l → Hands slot l count old new → old.chosen ≤ old.chosen_before
     → Holds config (turn (Take_call slot (take count l.peer.ring)) [] ∷ r) new
 holds_handed config r slot l count old new h linked hands so_far =
-    let before : SlotAgrees config (peer_at old.conf slot) (Some l) (route_at old.adj_in slot) (history config slot r) = subst (λ x. SlotAgrees config (peer_at old.conf slot) x (route_at old.adj_in slot) (history config slot r)) linked (h.slots slot) in
+    let low : slot < 64 = h.kept.below slot l.peer.session (ap (option_map (λ (x : Linked). x.peer.session)) linked) in
+    let before : SlotAgrees config (peer_at old.conf slot) (Some l) (route_at old.adj_in slot) (history config slot r) = agrees_routes config (peer_at old.conf slot) (Some l) old.adj_in slot (history config slot r) low (subst (λ x. SlotAgrees config (peer_at old.conf slot) x (peer_route_at old.adj_in slot) (history config slot r)) linked (h.slots slot)) in
     let here = agrees_handed config (peer_at old.conf slot) l (route_at old.adj_in slot) (history config slot r) count before in
     let on : history config slot (turn (Take_call slot (take count l.peer.ring)) [] ∷ r) ≡ Handed (take count l.peer.ring) ∷ history config slot r = rw (eq-eqb slot slot refl) refl in
     let H : List happens.Event → Type 0 = λ x. SlotAgrees config (peer_at old.conf slot) (Some (with_peer l (handed l.peer count))) (route_at new.adj_in slot) x in
@@ -41,7 +44,7 @@ holds_handed config r slot l count old new h linked hands so_far =
     put_agrees config (configuration_of config r) (configuration_of config after) (moment_after r) (moment_after after) (cache_history r) (cache_history after) (λ t. history config t r) (λ t. history config t after) (choices_in config r) (choices_in config after)
     slot (with_peer l (handed l.peer count)) old new h refl refl refl (hands_keep slot l count old new linked hands) hands.rest hands.links
     (λ t other p. ap (λ table. route_at table t p) hands.routes) (λ t other. rw (ne_eqb t slot other) refl)
-    (omega (arith, so_far, same, same_before))
+    (omega (arith, so_far, same, same_before)) low
     (subst H (sym on) (rw hands.routes here))
 
 handed_session : (slot t : ℕ) (l : Linked) (count : ℕ) (f : ℕ → Option Linked) → f slot ≡ Some l
@@ -71,7 +74,7 @@ passes_handed : (config : Config) (r : Run) (slot : ℕ) (l : Linked) (count : �
     → Passes config (Take_call slot (take count l.peer.ring)) r [] mid
 passes_handed config r slot l count old mid a linked hands so_far =
     let before : IsLocRib (tables_after config r) mid.loc_rib = rw hands.loc_rib a.loc_rib in
-    let tables = tables_same config r old.conf old.payloads (link_at old.links) old.adj_in (sym a.holds.conf) a.holds.payloads a.holds.slots ∙ tables_handed slot l count old mid linked hands in
+    let tables = tables_same config r old.conf old.payloads (link_at old.links) old.adj_in (sym a.holds.conf) a.holds.payloads a.holds.slots a.holds.networks ∙ tables_handed slot l count old mid linked hands in
     passes_first config (Take_call slot (take count l.peer.ring)) r mid (holds_handed config r slot l count old mid a.holds linked hands so_far) (subst (λ t. IsLocRib t mid.loc_rib) tables before)
 
 -- the count of the take begins

@@ -24,7 +24,7 @@ use Rattle.speaker.specs.Linked.{Linked}
 use Rattle.speaker.specs.Moves.{Moves}
 use Rattle.speaker.specs.Runs.{cache_history, Run, turn, Tick_call, configuration_of, history, opened_by, opened_to, opens_by, report_of}
 use Rattle.speaker.specs.SpeakerState.{SpeakerState}
-use Rattle.speaker.specs.Tables.{link_at}
+use Rattle.speaker.specs.Tables.{link_at, peer_route_at}
 use Rattle.speaker.specs.declared.config.Config.{Config}
 use Rattle.speaker.proofs.Commands.{signalled_by}
 use Rattle.rtr_session.specs.SessionHistory as cached
@@ -43,7 +43,8 @@ by_same config conf now k h1 h2 m1 m2 s same few h = record {
   cache = h.cache;
   payloads = h.payloads;
   peers = h.peers;
-  slots = λ t. let P : List happens.Event → Type 0 = λ x. SlotAgrees config (peer_at s.conf t) (link_at s.links t) (route_at s.adj_in t) x in subst P (sym (same t)) (h.slots t);
+  slots = λ t. let P : List happens.Event → Type 0 = λ x. SlotAgrees config (peer_at s.conf t) (link_at s.links t) (peer_route_at s.adj_in t) x in subst P (sym (same t)) (h.slots t);
+  networks = h.networks;
   kept = h.kept;
   chosen = let so_far = h.chosen in omega (arith, so_far, few);
 }
@@ -87,7 +88,7 @@ ends_none slot timer opened s is runs config conf k histories most moment h =
 -- the slot isn't there
 pub ends_vacant : (slot : ℕ) (timer : Timer) (opened : Bool) (s : SpeakerState) → opened ≡ false → link_at s.links slot ≡ None → EndsTimers (timer ∷ []) slot opened s s
 ends_vacant slot timer opened s is none =
-    ends_none slot timer opened s is (λ config conf k histories most h. vacant_stays config (peer_at s.conf slot) (link_at s.links slot) (route_at s.adj_in slot) (histories slot) timer s.moment (h.slots slot) none)
+    ends_none slot timer opened s is (λ config conf k histories most h. vacant_stays config (peer_at s.conf slot) (link_at s.links slot) (peer_route_at s.adj_in slot) (histories slot) timer s.moment (h.slots slot) none)
 
 -- the timer hasn't ended
 pub ends_later : (slot : ℕ) (timer : Timer) (opened : Bool) (l : Linked) (s : SpeakerState) → opened ≡ false → link_at s.links slot ≡ Some l → has_ended timer s.moment l.peer.session.timers ≡ false → EndsTimers (timer ∷ []) slot opened s s
@@ -100,7 +101,7 @@ pub ends_now : (slot : ℕ) (timer : Timer) (opened : Bool) (l : Linked) (old ne
 ends_now slot timer opened l old new linked runs moves chooses is config conf k histories most moment h =
     let session_is : l.peer.session ≡ session (histories slot) = ((h.slots slot).link l linked).peer.session in
     let on : has_ended timer old.moment (session (histories slot)).timers ≡ true = ap (λ (x : Session). has_ended timer old.moment x.timers) (sym session_is) ∙ runs in
-    let peer = configured_at (peer_at old.conf slot) (link_at old.links slot) (route_at old.adj_in slot) config (histories slot) (h.slots slot) on in
+    let peer = configured_at (peer_at old.conf slot) (link_at old.links slot) (peer_route_at old.adj_in slot) config (histories slot) (h.slots slot) on in
     let so_far = h.chosen in (
       signalled_by config conf conf old.moment old.moment k k histories (λ t. cond (t == slot) (ending timer old.moment (histories t)) (histories t)) most (most + choices_endings (timer ∷ []) old.moment (histories slot)) slot l (Expires timer) old new h refl refl refl moment peer.0 peer.1 (λ x. refl) linked
           refl (λ e. cc) moves (same on) chooses most so_far (rw on (omega arith)),

@@ -11,7 +11,7 @@ use Rattle.prefix_trie.specs.CoverWalks.{covers}
 use Rattle.rtr_codec.specs.ClientTable.{in_force}
 use Rattle.rtr_session.specs.SessionHistory as cached
 use Rattle.speaker.specs.AdjRibIn.{is_among}
-use Rattle.speaker.specs.Choices.{announced_to, choices_cached_on, how_many, is_routed, is_touched}
+use Rattle.speaker.specs.Choices.{choices_cached_on, how_many, is_touched, is_known, named_to}
 use Rattle.speaker.specs.Runs.{Run}
 use Rattle.speaker.specs.declared.config.Config.{Config}
 use Rattle.vrp_delta.specs.Delta.{lacked}
@@ -95,7 +95,7 @@ how_many_twice f g h (p ∷ ps) either =
 
 -- what one of them and another allow, where slots have routes as the run has them
 abbrev pub choices_from : Config → Run → List cached.Event → List cached.Event → ℕ
-choices_from config r k1 k2 = how_many (λ p. is_routed config r 64 p && is_touched (in_force (cached.client k1)) (in_force (cached.client k2)) p) (announced_to config r 64)
+choices_from config r k1 k2 = how_many (λ p. is_known config r p && is_touched (in_force (cached.client k1)) (in_force (cached.client k2)) p) (named_to config r)
 
 routed_twice : (r a b c : Bool) → (a ≡ true → (b || c) ≡ true) → (r && a) ≡ true → ((r && b) || (r && c)) ≡ true
 routed_twice true a b c either is = either is
@@ -107,13 +107,13 @@ routed_none false a is = refl
 
 pub choices_twice : (config : Config) (r : Run) (k1 k2 k3 : List cached.Event) → choices_from config r k1 k3 ≤ choices_from config r k1 k2 + choices_from config r k2 k3
 choices_twice config r k1 k2 k3 =
-    how_many_twice _ _ _ (announced_to config r 64)
-    (λ p is. routed_twice (is_routed config r 64 p) _ _ _ (touched_twice (in_force (cached.client k1)) (in_force (cached.client k2)) (in_force (cached.client k3)) p) is)
+    how_many_twice _ _ _ (named_to config r)
+    (λ p is. routed_twice (is_known config r p) _ _ _ (touched_twice (in_force (cached.client k1)) (in_force (cached.client k2)) (in_force (cached.client k3)) p) is)
 
 pub choices_none : (config : Config) (r : Run) (k1 k2 : List cached.Event) → in_force (cached.client k2) ≡ in_force (cached.client k1) → choices_from config r k1 k2 ≡ 0
 choices_none config r k1 k2 same =
-    none_held _ (announced_to config r 64)
-    (λ p. routed_none (is_routed config r 64 p) _ (ap (λ x. is_touched (in_force (cached.client k1)) x p) same ∙ untouched (in_force (cached.client k1)) p))
+    none_held _ (named_to config r)
+    (λ p. routed_none (is_known config r p) _ (ap (λ x. is_touched (in_force (cached.client k1)) x p) same ∙ untouched (in_force (cached.client k1)) p))
 
 -- octets one after another
 pub choices_octets : (config : Config) (r : Run) (octets : List ℕ) (k : List cached.Event) → choices_from config r k (cached.onto octets k) ≤ choices_cached_on config r octets k

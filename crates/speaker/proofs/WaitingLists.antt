@@ -13,14 +13,14 @@ use Rattle.bgp_fsm.specs.StateTests.{is_established}
 use Rattle.bgp_fsm.specs.declared.state.State.{State}
 use Rattle.bgp_fsm.specs.declared.state.State.TheVariants.{Idle, Connect, Active, OpenSent, OpenConfirm, Established}
 use Rattle.decision.specs.declared.candidate.Candidate.{Candidate}
-use Rattle.export_rules.specs.Export.{export_at}
 use Rattle.export_rules.specs.declared.export.ExportPeer.{ExportPeer}
 use Rattle.net_prefix.specs.PrefixOrder.{prefix_cmp}
 use Rattle.net_prefix.specs.declared.prefix.Prefix.{Prefix}
 use Rattle.net_prefix.proofs.PayloadSets.{prefix_cmp_total}
 use Rattle.rib_in.specs.LatestRoutes.{RouteTable, route_at}
 use Rattle.rib_out.specs.Held.{held_at, is_prefix}
-use Rattle.speaker.specs.Export.{export_in}
+use Rattle.speaker.specs.Export.{export_in, exported_at}
+use Rattle.bgp_conf.specs.Configuration.{Configuration}
 use Rattle.speaker.specs.Linked.{Linked}
 use Rattle.speaker.specs.Tables.{best_at}
 use Rattle.speaker.specs.Waiting.{is_same, differing, if_established, known_prefixes, waiting_at}
@@ -78,23 +78,23 @@ is_same-Decides (Some a) (Some b) =
     (λ e. ap Some (decides.0 e), λ e. decides.1 (cc))
 
 -- what is exported of a prefix is of its best route
-found_none : (adj_in : RouteTable) (peer : ExportPeer) (q : Prefix) (found : Option Candidate) (held : Option (List ℕ))
-    → not (is_same held (option_and_then (λ c. option_and_then (λ attrs. export_at c attrs peer) (route_at adj_in c.slot q)) found)) ≡ true → (is_some found || is_some held) ≡ true
-found_none adj_in peer q None None differs = absurd (cc)
-found_none adj_in peer q None (Some octets) differs = refl
-found_none adj_in peer q (Some c) held differs = refl
+found_none : (conf : Configuration) (adj_in : RouteTable) (peer : ExportPeer) (q : Prefix) (found : Option Candidate) (held : Option (List ℕ))
+    → not (is_same held (option_and_then (λ c. option_and_then (λ attrs. exported_at conf peer q c attrs) (route_at adj_in c.slot q)) found)) ≡ true → (is_some found || is_some held) ≡ true
+found_none conf adj_in peer q None None differs = absurd (cc)
+found_none conf adj_in peer q None (Some octets) differs = refl
+found_none conf adj_in peer q (Some c) held differs = refl
 
 passes_both : (a b : Bool) → (b ≡ true → a ≡ true) → (a && b) ≡ b
 passes_both true b h = refl
 passes_both false true h = h refl
 passes_both false false h = refl
 
-pub any_differing : (loc_rib : List (Prefix × Candidate)) (adj_in : RouteTable) (peer : ExportPeer) (held : List (Prefix × List ℕ)) (q : Prefix)
-    → list_any (is_prefix q) (differing (held_at held) (export_in (best_at loc_rib) adj_in peer) (known_prefixes loc_rib held)) ≡ not (is_same (held_at held q) (export_in (best_at loc_rib) adj_in peer q))
-any_differing loc_rib adj_in peer held q =
-    any_filter (λ prefix. not (is_same (held_at held prefix) (export_in (best_at loc_rib) adj_in peer prefix))) q (known_prefixes loc_rib held)
-    ∙ passes_both (list_any (is_prefix q) (known_prefixes loc_rib held)) (not (is_same (held_at held q) (export_in (best_at loc_rib) adj_in peer q)))
-    (λ differs. any_known loc_rib held q ∙ found_none adj_in peer q (best_at loc_rib q) (held_at held q) differs)
+pub any_differing : (conf : Configuration) (loc_rib : List (Prefix × Candidate)) (adj_in : RouteTable) (peer : ExportPeer) (held : List (Prefix × List ℕ)) (q : Prefix)
+    → list_any (is_prefix q) (differing (held_at held) (export_in conf (best_at loc_rib) adj_in peer) (known_prefixes loc_rib held)) ≡ not (is_same (held_at held q) (export_in conf (best_at loc_rib) adj_in peer q))
+any_differing conf loc_rib adj_in peer held q =
+    any_filter (λ prefix. not (is_same (held_at held prefix) (export_in conf (best_at loc_rib) adj_in peer prefix))) q (known_prefixes loc_rib held)
+    ∙ passes_both (list_any (is_prefix q) (known_prefixes loc_rib held)) (not (is_same (held_at held q) (export_in conf (best_at loc_rib) adj_in peer q)))
+    (λ differs. any_known loc_rib held q ∙ found_none conf adj_in peer q (best_at loc_rib q) (held_at held q) differs)
 
 not_true : (b : Bool) → not b ≡ true → b ≡ true → ⊥
 not_true true e f = cc
@@ -105,13 +105,13 @@ true_from_not true h = absurd (h refl)
 true_from_not false h = refl
 
 -- the known prefixes that differ are those of which other octets are held than are exported
-pub differing_is : (loc_rib : List (Prefix × Candidate)) (adj_in : RouteTable) (peer : ExportPeer) (held : List (Prefix × List ℕ)) (q : Prefix)
-    → Contains (differing (held_at held) (export_in (best_at loc_rib) adj_in peer) (known_prefixes loc_rib held)) q ↔ (held_at held q ≢ export_in (best_at loc_rib) adj_in peer q)
-differing_is loc_rib adj_in peer held q =
-    let test = any_differing loc_rib adj_in peer held q in
-    let decides = is_same-Decides (held_at held q) (export_in (best_at loc_rib) adj_in peer q) in (
-      λ listed same. not_true (is_same (held_at held q) (export_in (best_at loc_rib) adj_in peer q)) (sym test ∙ any_from_listed q _ listed) (decides.1 same),
-      λ differs. listed_from_any q _ (test ∙ true_from_not (is_same (held_at held q) (export_in (best_at loc_rib) adj_in peer q)) (λ e. differs (decides.0 e))),
+pub differing_is : (conf : Configuration) (loc_rib : List (Prefix × Candidate)) (adj_in : RouteTable) (peer : ExportPeer) (held : List (Prefix × List ℕ)) (q : Prefix)
+    → Contains (differing (held_at held) (export_in conf (best_at loc_rib) adj_in peer) (known_prefixes loc_rib held)) q ↔ (held_at held q ≢ export_in conf (best_at loc_rib) adj_in peer q)
+differing_is conf loc_rib adj_in peer held q =
+    let test = any_differing conf loc_rib adj_in peer held q in
+    let decides = is_same-Decides (held_at held q) (export_in conf (best_at loc_rib) adj_in peer q) in (
+      λ listed same. not_true (is_same (held_at held q) (export_in conf (best_at loc_rib) adj_in peer q)) (sym test ∙ any_from_listed q _ listed) (decides.1 same),
+      λ differs. listed_from_any q _ (test ∙ true_from_not (is_same (held_at held q) (export_in conf (best_at loc_rib) adj_in peer q)) (λ e. differs (decides.0 e))),
     )
 
 not_established : (state : State) → (state ≡ Established → IsTrue false) → is_established state ≡ false
@@ -123,25 +123,25 @@ not_established OpenConfirm never = refl
 not_established Established never = let impossible = never refl in cc
 
 -- nothing is listed of a slot that is there and whose session isn't Established
-pub none_listed : (loc_rib : List (Prefix × Candidate)) (adj_in : RouteTable) (peer : ExportPeer) (l : Linked) (found : Option ExportPeer) (link : Option Linked)
-    → Some peer ≡ found → Some l ≡ link → (l.peer.session.state ≡ Established → IsTrue false) → [] ≡ waiting_at loc_rib adj_in found link
-none_listed loc_rib adj_in peer l found link there linked never =
-    let all = differing (held_at l.adj_out) (export_in (best_at loc_rib) adj_in peer) (known_prefixes loc_rib l.adj_out) in
+pub none_listed : (conf : Configuration) (loc_rib : List (Prefix × Candidate)) (adj_in : RouteTable) (peer : ExportPeer) (l : Linked) (found : Option ExportPeer) (link : Option Linked)
+    → Some peer ≡ found → Some l ≡ link → (l.peer.session.state ≡ Established → IsTrue false) → [] ≡ waiting_at conf loc_rib adj_in found link
+none_listed conf loc_rib adj_in peer l found link there linked never =
+    let all = differing (held_at l.adj_out) (export_in conf (best_at loc_rib) adj_in peer) (known_prefixes loc_rib l.adj_out) in
     sym (ap (λ b. cond b all []) (not_established l.peer.session.state never))
-    ∙ ap (λ x. waiting_at loc_rib adj_in x (Some l)) there
-    ∙ ap (λ x. waiting_at loc_rib adj_in found x) linked
+    ∙ ap (λ x. waiting_at conf loc_rib adj_in x (Some l)) there
+    ∙ ap (λ x. waiting_at conf loc_rib adj_in found x) linked
 
 -- nothing is listed of a slot that isn't there
-pub none_there : (loc_rib : List (Prefix × Candidate)) (adj_in : RouteTable) (peer : ExportPeer) (found : Option ExportPeer) (link : Option Linked) → Some peer ≡ found → None ≡ link → [] ≡ waiting_at loc_rib adj_in found link
-none_there loc_rib adj_in peer found link there linked = ap (λ x. waiting_at loc_rib adj_in x None) there ∙ ap (λ x. waiting_at loc_rib adj_in found x) linked
+pub none_there : (conf : Configuration) (loc_rib : List (Prefix × Candidate)) (adj_in : RouteTable) (peer : ExportPeer) (found : Option ExportPeer) (link : Option Linked) → Some peer ≡ found → None ≡ link → [] ≡ waiting_at conf loc_rib adj_in found link
+none_there conf loc_rib adj_in peer found link there linked = ap (λ x. waiting_at conf loc_rib adj_in x None) there ∙ ap (λ x. waiting_at conf loc_rib adj_in found x) linked
 
 -- what is listed of a slot that is there and whose session is Established
-pub listed_of : (loc_rib : List (Prefix × Candidate)) (adj_in : RouteTable) (peer : ExportPeer) (l : Linked) (found : Option ExportPeer) (link : Option Linked) (prefixes : List Prefix)
+pub listed_of : (conf : Configuration) (loc_rib : List (Prefix × Candidate)) (adj_in : RouteTable) (peer : ExportPeer) (l : Linked) (found : Option ExportPeer) (link : Option Linked) (prefixes : List Prefix)
     → Some peer ≡ found → Some l ≡ link → l.peer.session.state ≡ Established
-    → prefixes ≡ differing (held_at l.adj_out) (export_in (best_at loc_rib) adj_in peer) (known_prefixes loc_rib l.adj_out) → prefixes ≡ waiting_at loc_rib adj_in found link
-listed_of loc_rib adj_in peer l found link prefixes there linked established is =
-    let all = differing (held_at l.adj_out) (export_in (best_at loc_rib) adj_in peer) (known_prefixes loc_rib l.adj_out) in
+    → prefixes ≡ differing (held_at l.adj_out) (export_in conf (best_at loc_rib) adj_in peer) (known_prefixes loc_rib l.adj_out) → prefixes ≡ waiting_at conf loc_rib adj_in found link
+listed_of conf loc_rib adj_in peer l found link prefixes there linked established is =
+    let all = differing (held_at l.adj_out) (export_in conf (best_at loc_rib) adj_in peer) (known_prefixes loc_rib l.adj_out) in
     is
     ∙ sym (ap (λ state. if_established state all) established)
-    ∙ ap (λ x. waiting_at loc_rib adj_in x (Some l)) there
-    ∙ ap (λ x. waiting_at loc_rib adj_in found x) linked
+    ∙ ap (λ x. waiting_at conf loc_rib adj_in x (Some l)) there
+    ∙ ap (λ x. waiting_at conf loc_rib adj_in found x) linked

@@ -17,7 +17,7 @@ use Rattle.speaker.specs.Linked.{Linked}
 use Rattle.speaker.specs.LocRib.{IsLocRib}
 use Rattle.speaker.specs.Runs.{Run, configuration_of, history}
 use Rattle.speaker.specs.SpeakerState.{SpeakerState, tables_of}
-use Rattle.speaker.specs.Tables.{Tables, best_at, link_at}
+use Rattle.speaker.specs.Tables.{Tables, best_at, link_at, peer_route_at}
 use Rattle.speaker.specs.Waiting.{IsWaitingIn, differing, known_prefixes, waiting_at, waiting_of}
 use Rattle.speaker.specs.declared.config.Config.{Config}
 use Rattle.speaker.proofs.Calls.{export_peer_found, tables_same}
@@ -47,18 +47,18 @@ in_established false prefixes q listed = absurd (none_listed q listed)
 run_export : (config : Config) (r : Run) (s : SpeakerState) (slot : ℕ) (peer : ConfiguredPeer) (q : Prefix) → Agrees config r s → peer_at s.conf slot ≡ Some peer
     → IsExport (tables_after config r) (export_peer_of (configuration_of config r) slot peer) q (export_to s slot q)
 run_export config r s slot peer q a configured =
-    let tables : tables_after config r ≡ tables_of s = tables_same config r s.conf s.payloads (link_at s.links) s.adj_in (sym a.holds.conf) a.holds.payloads a.holds.slots in
+    let tables : tables_after config r ≡ tables_of s = tables_same config r s.conf s.payloads (link_at s.links) s.adj_in (sym a.holds.conf) a.holds.payloads a.holds.slots a.holds.networks in
     let P : Tables → Type 0 = λ t. IsLocRib t s.loc_rib in
     export_of_run config r s slot peer q tables (sym a.holds.conf) (subst P tables a.loc_rib) configured
 
 -- what is listed waits after the run
 from_listed : (config : Config) (r : Run) (s : SpeakerState) (slot : ℕ) (q : Prefix) (peer : Option ConfiguredPeer) (found : Option Linked) → Agrees config r s
-    → peer_at s.conf slot ≡ peer → link_at s.links slot ≡ found → Contains (waiting_at s.loc_rib s.adj_in (option_map (export_peer_of s.conf slot) peer) found) q → IsWaitingIn config r slot q
+    → peer_at s.conf slot ≡ peer → link_at s.links slot ≡ found → Contains (waiting_at s.conf s.loc_rib s.adj_in (option_map (export_peer_of s.conf slot) peer) found) q → IsWaitingIn config r slot q
 from_listed config r s slot q None found a configured linked listed = absurd (none_listed q listed)
 from_listed config r s slot q (Some peer) None a configured linked listed = absurd (none_listed q listed)
 from_listed config r s slot q (Some peer) (Some l) a configured linked listed =
-    let parts = in_established (is_established l.peer.session.state) (differing (held_at l.adj_out) (export_in (best_at s.loc_rib) s.adj_in (export_peer_of s.conf slot peer)) (known_prefixes s.loc_rib l.adj_out)) q listed in
-    let differs = (differing_is s.loc_rib s.adj_in (export_peer_of s.conf slot peer) l.adj_out q).0 parts.1 in
+    let parts = in_established (is_established l.peer.session.state) (differing (held_at l.adj_out) (export_in s.conf (best_at s.loc_rib) s.adj_in (export_peer_of s.conf slot peer)) (known_prefixes s.loc_rib l.adj_out)) q listed in
+    let differs = (differing_is s.conf s.loc_rib s.adj_in (export_peer_of s.conf slot peer) l.adj_out q).0 parts.1 in
     let here = (a.holds.slots slot).link l linked in
     record {
       peer = peer;
@@ -73,15 +73,15 @@ from_listed config r s slot q (Some peer) (Some l) a configured linked listed =
 to_listed : (config : Config) (r : Run) (s : SpeakerState) (slot : ℕ) (q : Prefix) → Agrees config r s → IsWaitingIn config r slot q → Contains (waiting_of s slot) q
 to_listed config r s slot q a w =
     let configured : peer_at s.conf slot ≡ Some w.peer = ap (λ c. peer_at c slot) a.holds.conf ∙ w.configured in
-    let found = linked_from config (peer_at s.conf slot) w.peer (link_at s.links slot) (route_at s.adj_in slot) (history config slot r) configured (a.holds.slots slot) in
+    let found = linked_from config (peer_at s.conf slot) w.peer (link_at s.links slot) (peer_route_at s.adj_in slot) (history config slot r) configured (a.holds.slots slot) in
     let here = (a.holds.slots slot).link found.0 found.1 in
     let exports = same_export (tables_after config r) (export_peer_of (configuration_of config r) slot w.peer) q (export_to s slot q) w.export (run_export config r s slot w.peer q a configured) w.is_export in
-    let listed = (differing_is s.loc_rib s.adj_in (export_peer_of s.conf slot w.peer) found.0.adj_out q).1
+    let listed = (differing_is s.conf s.loc_rib s.adj_in (export_peer_of s.conf slot w.peer) found.0.adj_out q).1
     (λ same. w.differs (sym (here.held q) ∙ same ∙ sym (export_peer_found s slot w.peer q configured) ∙ exports)) in
     let up : is_established found.0.peer.session.state ≡ true = ap (λ (x : Session). is_established x.state) here.peer.session ∙ ap is_established w.established in
-    let B : Bool → Type 0 = λ b. Contains (cond b (differing (held_at found.0.adj_out) (export_in (best_at s.loc_rib) s.adj_in (export_peer_of s.conf slot w.peer)) (known_prefixes s.loc_rib found.0.adj_out)) []) q in
-    let L : Option Linked → Type 0 = λ l. Contains (waiting_at s.loc_rib s.adj_in (Some (export_peer_of s.conf slot w.peer)) l) q in
-    let C : Option ConfiguredPeer → Type 0 = λ peer. Contains (waiting_at s.loc_rib s.adj_in (option_map (export_peer_of s.conf slot) peer) (link_at s.links slot)) q in
+    let B : Bool → Type 0 = λ b. Contains (cond b (differing (held_at found.0.adj_out) (export_in s.conf (best_at s.loc_rib) s.adj_in (export_peer_of s.conf slot w.peer)) (known_prefixes s.loc_rib found.0.adj_out)) []) q in
+    let L : Option Linked → Type 0 = λ l. Contains (waiting_at s.conf s.loc_rib s.adj_in (Some (export_peer_of s.conf slot w.peer)) l) q in
+    let C : Option ConfiguredPeer → Type 0 = λ peer. Contains (waiting_at s.conf s.loc_rib s.adj_in (option_map (export_peer_of s.conf slot) peer) (link_at s.links slot)) q in
     subst C (sym configured) (subst L (sym found.1) (subst B (sym up) listed))
 
 -- for each run that the speaker agrees with, the list has what waits after it

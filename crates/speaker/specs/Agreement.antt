@@ -19,6 +19,7 @@ use Rattle.bgp_peer.specs.SentMessages.{ring_of, sent}
 use Rattle.bgp_peer.specs.SessionInputs as slot
 use Rattle.bgp_peer.specs.SessionInputs.{Ticked, endings, is_there, item_at, moment_of, occupant, onto, session, ticked}
 use Rattle.decision.specs.BookContents.{offer_at}
+use Rattle.decision.specs.declared.candidate.TheConstants.{LOCAL_SLOT}
 use Rattle.net_prefix.specs.declared.asn.Asn.{Asn}
 use Rattle.net_prefix.specs.declared.prefix.Prefix.{Prefix}
 use Rattle.net_prefix.specs.declared.transport.Transport.TheVariants.{Open as Connected}
@@ -42,17 +43,22 @@ use Rattle.speaker.specs.Offers.{AreKept}
 use Rattle.speaker.specs.Queueing.{ComesFirst, Queue, Service, Tells, Starves, starved_in, update_saying}
 use Rattle.speaker.specs.Runs.{Call, Run, turn, Up_call, Fail_call, Bytes_call, Starved_call, Tick_call, Command_call, Take_call, Cache_up_call, Cache_fail_call, Cache_bytes_call, Cache_starved_call, Cache_take_call, cache_history, configuration_of, history, moment_after, opened_to, opens_by, payloads_after, terms_in}
 use Rattle.speaker.specs.SpeakerState.{SpeakerState, tables_of}
-use Rattle.speaker.specs.Tables.{Tables, link_at}
+use Rattle.speaker.specs.Tables.{Tables, link_at, network_route, peer_route_at}
 use Rattle.speaker.specs.declared.config.Config.{Config}
 use Rattle.bgp_peer.specs.PeerLimits.{ring_octets, room_for_update}
 
--- what the selection reads after a run: the configuration, the payloads in force, the session of each slot that is there, the latest routes
+-- what stands under a slot: the latest routes of its peer, and under `LOCAL_SLOT` the local networks
+abbrev pub route_under : Configuration → (ℕ → List slot.Event) → ℕ → Prefix → Option PathAttributes
+route_under conf histories s prefix = if s == LOCAL_SLOT then network_route conf prefix else route (histories s) prefix
+
+-- what the selection reads after a run: the configuration, the payloads in force, the session of each slot that is there, the
+-- latest routes and the local networks
 abbrev pub tables_after : Config → Run → Tables
 tables_after config r = record {
   conf = configuration_of config r;
   payloads = payloads_after r;
   sessions = λ s. if is_there (history config s r) then Some (session (history config s r)) else None;
-  routes = λ s prefix. route (history config s r) prefix;
+  routes = λ s prefix. route_under (configuration_of config r) (λ t. history config t r) s prefix;
 }
 
 -- the slot and what its peer holds are as this history leaves them
@@ -158,17 +164,15 @@ abbrev pub IsThrifty : Config → Run → Type 0
 IsThrifty config [] = Unit {0}
 IsThrifty config (now ∷ r) = IsFair config r now.call × AreOwed config now.call r now.queued × IsThrifty config r
 
--- a peer that was accepted: it has one of the 64 slots, is in another AS than ours, and sees of us the address of a host
--- that isn't its own
-pub record IsTaken (own : Asn) (slot : ℕ) (peer : ConfiguredPeer) : Type 0 where
+-- a peer that was accepted: it has one of the 64 slots, and sees of us the address of a host that isn't its own
+pub record IsTaken (slot : ℕ) (peer : ConfiguredPeer) : Type 0 where
   pub within : slot < 64
-  pub external : (peer.asn.0 == own.0) ≡ false
   pub local : is_host peer.local ≡ true
   pub apart : (peer.local == peer.address) ≡ false
 
 -- our AS is no 0, and each peer was accepted
 abbrev pub AreTaken : Asn → Configuration → Type 0
-AreTaken own conf = (0 < own.0) × ((slot : ℕ) (peer : ConfiguredPeer) → peer_at conf slot ≡ Some peer → IsTaken own slot peer)
+AreTaken own conf = (0 < own.0) × ((slot : ℕ) (peer : ConfiguredPeer) → peer_at conf slot ≡ Some peer → IsTaken slot peer)
 
 -- the cache session is there just where the settings ask for one, and is as this history leaves it; where there is none
 -- nothing has happened to it
@@ -186,7 +190,9 @@ pub record HoldsBy (config : Config) (conf_is : Configuration) (now : ℕ) (cach
   pub cache : CacheAgrees config cached s.cache
   pub payloads : s.payloads ≡ in_force (client cached)
   pub peers : AreTaken config.asn s.conf
-  pub slots : (slot : ℕ) → SlotAgrees config (peer_at s.conf slot) (link_at s.links slot) (route_at s.adj_in slot) (histories slot)
+  pub slots : (slot : ℕ) → SlotAgrees config (peer_at s.conf slot) (link_at s.links slot) (peer_route_at s.adj_in slot) (histories slot)
+  -- the local networks are those of the configuration
+  pub networks : (prefix : Prefix) → route_at s.adj_in LOCAL_SLOT prefix ≡ network_route s.conf prefix
   -- the candidates that are kept are those of all routes
   pub kept : AreKept (tables_of s) (offer_at s.book)
   -- a best route was chosen in the last call so often at most

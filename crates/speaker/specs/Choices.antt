@@ -1,8 +1,9 @@
 -- How often a best route may be chosen, by what comes and goes (own, for RFC 4271 section 9.1).
 use Rattle.std.specs.Prelude.{◌+◌, ◌&&◌, ◌||◌, ℕ, zero, suc, Bool, true, not, List, [], ◌∷◌, ◌++◌, Option, Some, None, is_some, false, if◌then◌else◌}
 use Rattle.std.specs.List.{list_any}
+use Rattle.bgp_conf.specs.Configuration.{is_network}
 use Rattle.bgp_conf.specs.declared.command.Command.{Command}
-use Rattle.bgp_conf.specs.declared.command.Command.TheVariants.{AddPeer, RemovePeer, Enable, Disable, Reach}
+use Rattle.bgp_conf.specs.declared.command.Command.TheVariants.{AddPeer, RemovePeer, Enable, Disable, SetPolicy, DropPolicy, UseIn, UseOut, Network, NoNetwork, Reach, NoReach}
 use Rattle.bgp_fsm.specs.StateTests.{is_established}
 use Rattle.bgp_fsm.specs.declared.input.Input.TheVariants.{Start, Disable as Disabled, Remove as Removed, Up, Fail, NoMemory, Expires}
 use Rattle.bgp_fsm.specs.declared.timers.Timer.{Timer}
@@ -17,7 +18,7 @@ use Rattle.rtr_codec.specs.ClientTable.{in_force}
 use Rattle.rtr_session.specs.SessionHistory as cache
 use Rattle.speaker.specs.AdjRibIn.{brought, is_among, route}
 use Rattle.speaker.specs.Queueing.{Queue, Service, Tells, Starves}
-use Rattle.speaker.specs.Runs.{Call, Run, turn, Up_call, Fail_call, Bytes_call, Starved_call, Tick_call, Command_call, Take_call, Cache_up_call, Cache_fail_call, Cache_bytes_call, Cache_starved_call, Cache_take_call, cache_history, history}
+use Rattle.speaker.specs.Runs.{Call, Run, turn, Up_call, Fail_call, Bytes_call, Starved_call, Tick_call, Command_call, Take_call, Cache_up_call, Cache_fail_call, Cache_bytes_call, Cache_starved_call, Cache_take_call, cache_history, configuration_of, history}
 use Rattle.vrp_delta.specs.Delta.{lacked}
 use Rattle.speaker.specs.declared.config.Config.{Config}
 
@@ -77,6 +78,14 @@ abbrev pub announced_to : Config → Run → ℕ → List Prefix
 announced_to config r zero = []
 announced_to config r (suc s) = announced_in (history config s r) ++ announced_to config r s
 
+-- whether the prefix is known: some peer has announced it last and not withdrawn it, or it is a local network
+abbrev pub is_known : Config → Run → Prefix → Bool
+is_known config r p = is_routed config r 64 p || is_network (configuration_of config r) p
+
+-- the local networks, and the prefixes that the peers have announced
+abbrev pub named_to : Config → Run → List Prefix
+named_to config r = (configuration_of config r).networks ++ announced_to config r 64
+
 -- for the ends of these timers, where they have ended at this moment
 abbrev pub choices_endings : List Timer → ℕ → List slot.Event → ℕ
 choices_endings [] now h = 0
@@ -91,25 +100,33 @@ choices_to histories now (suc s) = choices_endings timers now (Ticked now ∷ hi
 abbrev pub is_touched : List Vrp → List Vrp → Prefix → Bool
 is_touched before after prefix = list_any (λ payload. covers payload.prefix prefix) (lacked before after ++ lacked after before)
 
--- for what happens to the cache session, coming next: once for each prefix with a route that is covered by a payload which
--- came into force or went
+-- for what happens to the cache session, coming next: once for each known prefix that is covered by a payload which came into
+-- force or went
 abbrev pub choices_cached : Config → Run → List cache.Event → cache.Event → ℕ
 choices_cached config r h e =
-    how_many (λ p. is_routed config r 64 p && is_touched (in_force (cache.client h)) (in_force (cache.client (e ∷ h))) p) (announced_to config r 64)
+    how_many (λ p. is_known config r p && is_touched (in_force (cache.client h)) (in_force (cache.client (e ∷ h))) p) (named_to config r)
 
 -- for octets that come to it, one after another
 abbrev pub choices_cached_on : Config → Run → List ℕ → List cache.Event → ℕ
 choices_cached_on config r [] h = 0
 choices_cached_on config r (octet ∷ octets) h = choices_cached config r h (cache.Octet octet) + choices_cached_on config r octets (cache.Octet octet ∷ h)
 
--- for a command: what enabling a peer (which ends no session), disabling or removing it is to its session, for an entry of
--- `reach` once for each prefix to which some slot has a route
+-- for a command: what enabling a peer (which ends no session), disabling or removing it is to its session, for the rules of a
+-- policy and an entry of `reach` that comes or goes once for each known prefix, for another import policy once for each prefix
+-- to which the slot has a route, and for a local network that comes or goes once
 abbrev pub choices_commanded : Config → Run → Command → ℕ
 choices_commanded config r (AddPeer s peer) = 0
 choices_commanded config r (RemovePeer s) = choices_by (history config s r) (Signalled Removed)
 choices_commanded config r (Enable s) = choices_by (history config s r) (Signalled Start)
 choices_commanded config r (Disable s) = choices_by (history config s r) (Signalled Disabled)
-choices_commanded config r (Reach prefix cost) = how_many (is_routed config r 64) (announced_to config r 64)
+choices_commanded config r (SetPolicy name rules) = how_many (is_known config r) (named_to config r)
+choices_commanded config r (DropPolicy name) = 0
+choices_commanded config r (UseIn s name) = routes_held (history config s r)
+choices_commanded config r (UseOut s name) = 0
+choices_commanded config r (Network prefix) = 1
+choices_commanded config r (NoNetwork prefix) = 1
+choices_commanded config r (Reach prefix cost) = how_many (is_known config r) (named_to config r)
+choices_commanded config r (NoReach prefix) = how_many (is_known config r) (named_to config r)
 
 -- for a call, up to its end; none for octets that are handed out
 abbrev pub choices_called : Config → Run → Call → ℕ

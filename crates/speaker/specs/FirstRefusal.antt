@@ -8,7 +8,7 @@ use Rattle.bgp_conf.specs.declared.refusal.Refusal.TheVariants.{BadSlot, ClockBa
 use Rattle.bgp_conf.specs.ConfAfter.{TakesMemory}
 use Rattle.bgp_conf.specs.Configuration.{Configuration}
 use Rattle.bgp_conf.specs.declared.command.Command.{Command}
-use Rattle.bgp_conf.specs.declared.command.Command.TheVariants.{AddPeer, RemovePeer, Enable, Disable, Reach}
+use Rattle.bgp_conf.specs.declared.command.Command.TheVariants.{AddPeer, RemovePeer, Enable, Disable, SetPolicy, DropPolicy, UseIn, UseOut, Network, NoNetwork, Reach, NoReach}
 use Rattle.bgp_conf.specs.FirstRefusal.{first_refusal}
 use Rattle.bgp_fsm.specs.Transports.{is_closing, transport_of}
 use Rattle.bgp_peer.specs.SessionInputs.{is_there}
@@ -76,7 +76,14 @@ closing_for t (AddPeer slot peer) = if nat_lt slot 64 && closes (t.sessions slot
 closing_for t (RemovePeer slot) = 0
 closing_for t (Enable slot) = 0
 closing_for t (Disable slot) = 0
+closing_for t (SetPolicy name rules) = 0
+closing_for t (DropPolicy name) = 0
+closing_for t (UseIn slot name) = 0
+closing_for t (UseOut slot name) = 0
+closing_for t (Network prefix) = 0
+closing_for t (NoNetwork prefix) = 0
 closing_for t (Reach prefix cost) = 0
+closing_for t (NoReach prefix) = 0
 
 -- the first refusal of an event by the moment, the transport of the cache session, the configuration and the sessions
 abbrev pub refusal_by : ℕ → Option Transport → Tables → Event → Option Refusal
@@ -113,7 +120,7 @@ take_refusal_of s slot = if is_some (link_at s.links slot) then None else Some B
 abbrev pub take_refusal_in : Config → Run → ℕ → Option Refusal
 take_refusal_in config r slot = if is_there (history config slot r) then None else Some BadSlot
 
--- the event takes memory of its own: a command that adds a peer or an entry of `reach`
+-- the event takes memory of its own: a command that adds a peer, a local network or an entry of `reach`, or sets a policy
 abbrev pub Grows : Configuration → Event → Type 0
 Grows conf (Up slot) = ⊥
 Grows conf (Fail slot) = ⊥

@@ -13,7 +13,7 @@ use Rattle.speaker.specs.Candidates.{IsCandidate, AreCandidates}
 abbrev pub IsBest : Tables → Prefix → Candidate → Type 0
 IsBest t prefix c = (cs : List Candidate) × AreCandidates t prefix cs × IsSelected cs c
 
--- no route of any slot makes a candidate of the prefix
+-- no route of any slot makes a candidate of the prefix, and it is no local network
 abbrev pub HasNoCandidate : Tables → Prefix → Type 0
 HasNoCandidate t prefix = (c : Candidate) → IsCandidate t prefix c → ⊥
 

@@ -1,5 +1,5 @@
 -- What waits of each prefix for each peer: what it is owed, so that it holds its export (our own, for RFC 4271 section 9.2).
-use Rattle.std.specs.Prelude.{◌≡◌, ◌≢◌, ◌<◌, ℕ, List, [], Option, Some, None, true, false, if◌then◌else◌}
+use Rattle.std.specs.Prelude.{◌≡◌, ◌≢◌, ◌<◌, ◌⊎◌, ℕ, Bool, List, [], Option, Some, None, true, false, if◌then◌else◌}
 use Rattle.std.specs.Option.{IsSome}
 use Rattle.std.specs.Str.{bytes_eq}
 use Rattle.bgp_conf.specs.Configuration.{Configuration, peer_at}
@@ -43,7 +43,7 @@ abbrev pub mark_of : Configuration → RouteTable → BookState → ℕ → Pref
 mark_of conf adj_in book slot prefix None linked = None
 mark_of conf adj_in book slot prefix (Some peer) None = None
 mark_of conf adj_in book slot prefix (Some peer) (Some l) =
-    if is_established l.peer.session.state then owed_for (export_in (best_at (rows_of book)) adj_in (export_peer_of conf slot peer) prefix) (held_at l.adj_out prefix) else None
+    if is_established l.peer.session.state then owed_for (export_in conf (best_at (rows_of book)) adj_in (export_peer_of conf slot peer) prefix) (held_at l.adj_out prefix) else None
 
 -- the same of these tables
 abbrev pub mark_at : Configuration → List (ℕ × Linked) → RoutingState → ℕ → Prefix → Option Owed
@@ -70,6 +70,14 @@ pub record AreMarkedBut (prefix : Prefix) (conf : Configuration) (links : List (
   pub released : (p : Prefix) → is_prefix prefix p ≡ false → IsReleased t p
   pub marks : (slot : ℕ) (p : Prefix) → slot < 64 → is_prefix prefix p ≡ false → owed_at t.waiting slot p ≡ mark_at conf links t slot p
   pub none : (slot : ℕ) → slot < 64 → link_at links slot ≡ None → owed_at t.waiting slot prefix ≡ None
+
+-- so it is of the slots of which this holds, and of the others where a prefix has no best route, so that nothing of it is
+-- exported; nothing waits where there is no slot
+pub record AreMarkedFor (done : ℕ → Bool) (conf : Configuration) (links : List (ℕ × Linked)) (t : RoutingState) : Type 0 where
+  pub there : AreKnown links t
+  pub released : (prefix : Prefix) → IsReleased t prefix
+  pub marks : (slot : ℕ) (prefix : Prefix) → slot < 64 → (done slot ≡ true) ⊎ (best_at (rows_of t.book) prefix ≡ None) → owed_at t.waiting slot prefix ≡ mark_at conf links t slot prefix
+  pub none : (slot : ℕ) (prefix : Prefix) → slot < 64 → link_at links slot ≡ None → owed_at t.waiting slot prefix ≡ None
 
 -- so it is of all slots but this one, for which nothing waits
 pub record IsUnmarked (conf : Configuration) (links : List (ℕ × Linked)) (slot : ℕ) (t : RoutingState) : Type 0 where

@@ -1,9 +1,11 @@
 -- What an input of a session makes of its slot and its routes (RFC 4271 sections 3.2 and 8.2.2).
-use Rattle.std.specs.Prelude.{◌≡◌, ◌≢◌, ◌||◌, ◌&&◌, ◌==◌, ℕ, Bool, List, [], min, length, Option, Some, None, if◌then◌else◌}
+use Rattle.std.specs.Borrow.{Bor}
+use Rattle.std.specs.Prelude.{◌≡◌, ◌≢◌, ◌≤◌, ◌+◌, ◌||◌, ◌&&◌, ◌==◌, ℕ, Bool, true, false, List, [], min, length, Option, Some, None, if◌then◌else◌}
 use Rattle.bgp_attr.specs.declared.peer.PeerKind.{PeerKind}
 use Rattle.bgp_conf.specs.ConfAfter.{conf_after}
 use Rattle.bgp_conf.specs.Configuration.{peer_at}
-use Rattle.bgp_conf.specs.declared.command.Command.TheVariants.{RemovePeer}
+use Rattle.bgp_conf.specs.declared.command.Command.{Command}
+use Rattle.bgp_conf.specs.declared.command.Command.TheVariants.{AddPeer, RemovePeer, Enable, Disable, SetPolicy, DropPolicy, UseIn, UseOut, Network, NoNetwork, Reach, NoReach}
 use Rattle.bgp_fsm.specs.SessionTable.{effects_of}
 use Rattle.bgp_fsm.specs.declared.input.Input.{Input}
 use Rattle.bgp_fsm.specs.declared.session.Effects.{Effects}
@@ -20,7 +22,11 @@ use Rattle.net_prefix.specs.declared.transport.Transport.{Transport}
 use Rattle.net_prefix.specs.declared.transport.Transport.TheVariants.{None as NoConnection, Opening, Listening, Open as Connected, Closing}
 use Rattle.net_prefix.specs.declared.prefix.Prefix.{Prefix}
 use Rattle.speaker.specs.AdjRibIn.{NeedsMemory, word_if, update_heard}
-use Rattle.rib_in.specs.LatestRoutes.{RouteTable, route_at}
+use Rattle.policy.specs.declared.rule.Rule.{Rule}
+use Rattle.rib_in.specs.LatestRoutes.{RouteTable, is_route, route_at}
+use Rattle.bgp_attr.specs.PathAttributes.{originated}
+use Rattle.decision.specs.declared.candidate.TheConstants.{LOCAL_SLOT}
+use Rattle.speaker.specs.Candidates.{network_at}
 use Rattle.speaker.specs.Chosen.{ChoosesHeard, Ends}
 use Rattle.speaker.specs.Linked.{Linked}
 use Rattle.speaker.specs.Offers.{AreKept}
@@ -28,6 +34,37 @@ use Rattle.speaker.specs.RoutingState.{RoutingState}
 use Rattle.speaker.specs.SpeakerState.{SpeakerState, tables_of}
 use Rattle.speaker.specs.Tables.{link_at}
 use Rattle.speaker.specs.declared.receiving.Sender.{Sender}
+
+-- whether the command changes how next hops resolve
+abbrev pub resolves : Command → Bool
+resolves (AddPeer slot peer) = false
+resolves (RemovePeer slot) = false
+resolves (Enable slot) = false
+resolves (Disable slot) = false
+resolves (SetPolicy name rules) = false
+resolves (DropPolicy name) = false
+resolves (UseIn slot name) = false
+resolves (UseOut slot name) = false
+resolves (Network prefix) = false
+resolves (NoNetwork prefix) = false
+resolves (Reach prefix cost) = true
+resolves (NoReach prefix) = true
+
+-- the command sets the rules of the policy of this name
+abbrev pub SetsPolicy : List ℕ → Command → Type 0
+SetsPolicy text command = (name : Bor (List ℕ)) × (rules : Bor (List Rule)) × (name.now ≡ text) × (command ≡ SetPolicy name rules)
+
+-- the command drops a policy
+abbrev pub DropsPolicy : Command → Type 0
+DropsPolicy command = (name : Bor (List ℕ)) × (command ≡ DropPolicy name)
+
+-- the command gives the slot's peer another import policy
+abbrev pub UsesIn : ℕ → Command → Type 0
+UsesIn slot command = (name : Bor (List ℕ)) × (command ≡ UseIn slot name)
+
+-- the command gives the slot's peer another export policy
+abbrev pub UsesOut : ℕ → Command → Type 0
+UsesOut slot command = (name : Bor (List ℕ)) × (command ≡ UseOut slot name)
 
 -- entering Established begins with nothing sent, and leaving it forgets what was sent
 abbrev pub adj_out_after : Effects → List (Prefix × List ℕ) → List (Prefix × List ℕ)
@@ -71,6 +108,19 @@ pub record Forgets (slot : ℕ) (old new : SpeakerState) : Type 0 where
   pub cache : new.cache ≡ old.cache
   pub payloads : new.payloads ≡ old.payloads
   pub chosen_before : new.chosen_before ≡ old.chosen_before
+
+-- a local network comes: its route, with the candidate that it makes, and nothing else changes
+pub record Announces (network : Prefix) (old new : SpeakerState) : Type 0 where
+  pub routes : (s : ℕ) (p : Prefix) → route_at new.adj_in s p ≡ (if is_route LOCAL_SLOT network s p then Some originated else route_at old.adj_in s p)
+  pub offers : (s : ℕ) (p : Prefix) → offer_at new.book s p ≡ (if is_route LOCAL_SLOT network s p then Some (network_at old.conf.own old.payloads originated network) else offer_at old.book s p)
+  pub links : new.links ≡ old.links
+  pub conf : new.conf ≡ old.conf
+  pub config : new.config ≡ old.config
+  pub moment : new.moment ≡ old.moment
+  pub cache : new.cache ≡ old.cache
+  pub payloads : new.payloads ≡ old.payloads
+  pub chosen : (old.chosen ≤ new.chosen) × (new.chosen ≤ old.chosen + 1)
+  pub chosen_before : new.chosen_before ≡ old.chosen
 
 -- the routes of a slot go where it leaves Established, and no other routes change
 abbrev pub IsDropped : Bool → ℕ → SpeakerState → SpeakerState → Type 0

@@ -3,7 +3,7 @@ use Rattle.std.specs.Prelude.{ℕ, zero, suc, ◌==◌, ◌^◌, ◌&&◌, ◌||
 use Rattle.bgp_conf.specs.Configuration.{Configuration}
 use Rattle.bgp_conf.specs.ConfAfter.{conf_after, configured_of}
 use Rattle.bgp_conf.specs.declared.command.Command.{Command}
-use Rattle.bgp_conf.specs.declared.command.Command.TheVariants.{AddPeer, RemovePeer, Enable, Disable, Reach}
+use Rattle.bgp_conf.specs.declared.command.Command.TheVariants.{AddPeer, RemovePeer, Enable, Disable, SetPolicy, DropPolicy, UseIn, UseOut, Network, NoNetwork, Reach, NoReach}
 use Rattle.bgp_conf.specs.declared.conf.ConfiguredPeer.{ConfiguredPeer}
 use Rattle.bgp_fsm.specs.declared.input.Input.TheVariants.{Start, Disable as Disabled, Remove as Removed, Up, Fail, NoMemory, Expires}
 use Rattle.bgp_fsm.specs.declared.timers.Timer.{Timer}
@@ -121,7 +121,7 @@ conf_called (Cache_take_call octets) conf = conf
 
 -- the configuration after a run
 abbrev pub configuration_of : Config → Run → Configuration
-configuration_of config [] = record { own = config.asn; peers = []; reach = [] }
+configuration_of config [] = record { own = config.asn; peers = []; policies = []; networks = []; reach = [] }
 configuration_of config (now ∷ r) = conf_called now.call (configuration_of config r)
 
 -- what a call makes of the moment
@@ -182,7 +182,14 @@ commanded config s (AddPeer slot peer) h = if s == slot then Configured (terms_i
 commanded config s (RemovePeer slot) h = if s == slot then Signalled Removed ∷ h else h
 commanded config s (Enable slot) h = if s == slot then Signalled Start ∷ h else h
 commanded config s (Disable slot) h = if s == slot then Signalled Disabled ∷ h else h
+commanded config s (SetPolicy name rules) h = h
+commanded config s (DropPolicy name) h = h
+commanded config s (UseIn slot name) h = h
+commanded config s (UseOut slot name) h = h
+commanded config s (Network prefix) h = h
+commanded config s (NoNetwork prefix) h = h
 commanded config s (Reach prefix cost) h = h
+commanded config s (NoReach prefix) h = h
 
 -- what a call is to a slot; want of memory stands in the place of the UPDATE to which memory was refused
 abbrev pub called : Config → ℕ → Call → List slot.Event → List slot.Event
@@ -230,7 +237,14 @@ opened_commanded config r (AddPeer slot peer) = 0
 opened_commanded config r (RemovePeer slot) = 0
 opened_commanded config r (Enable slot) = if (effects_of Start (session (history config slot r))).opened then 2 ^ slot else 0
 opened_commanded config r (Disable slot) = 0
+opened_commanded config r (SetPolicy name rules) = 0
+opened_commanded config r (DropPolicy name) = 0
+opened_commanded config r (UseIn slot name) = 0
+opened_commanded config r (UseOut slot name) = 0
+opened_commanded config r (Network prefix) = 0
+opened_commanded config r (NoNetwork prefix) = 0
 opened_commanded config r (Reach prefix cost) = 0
+opened_commanded config r (NoReach prefix) = 0
 
 -- those whose attempt begins in a call. No other input of a session begins one
 abbrev pub opened_by : Config → Run → Call → ℕ

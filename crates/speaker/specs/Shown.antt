@@ -1,10 +1,13 @@
 -- What operators see of the tables.
-use Rattle.std.specs.Prelude.{ℕ, List, [], Option, Some, None, unwrap_or, if◌then◌else◌}
+use Rattle.std.specs.Prelude.{ℕ, ◌==◌, List, [], Option, Some, None, unwrap_or, if◌then◌else◌}
 use Rattle.std.specs.Option.{option_map}
 use Rattle.bgp_fsm.specs.Transports.{transport_of}
 use Rattle.bgp_fsm.specs.declared.session.Session.{Session}
 use Rattle.decision.specs.declared.candidate.Candidate.{Candidate}
+use Rattle.bgp_attr.specs.PathAttributes.{PathAttributes}
+use Rattle.decision.specs.declared.candidate.TheConstants.{LOCAL_SLOT}
 use Rattle.net_prefix.specs.declared.prefix.Prefix.{Prefix}
+use Rattle.rib_in.specs.LatestRoutes.{RouteTable, routes_of}
 use Rattle.net_prefix.specs.declared.transport.Transport.{Transport}
 use Rattle.net_prefix.specs.declared.transport.Transport.TheVariants.{None as NoConnection}
 use Rattle.rtr_client.specs.Following.{state_of}
@@ -34,6 +37,10 @@ listed (Some held) = held
 abbrev pub held_by : Option Linked → List (Prefix × List ℕ)
 held_by None = []
 held_by (Some l) = l.adj_out
+
+-- the routes of a slot's peer; no local network came from one
+abbrev pub received_by : ℕ → RouteTable → List (Prefix × PathAttributes)
+received_by slot adj_in = if slot == LOCAL_SLOT then [] else routes_of slot adj_in
 
 -- the state of a cache session, where there is one
 abbrev pub cache_state_of : Option CacheSession → Option ClientState

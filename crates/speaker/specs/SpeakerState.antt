@@ -1,11 +1,11 @@
 -- A speaker, as others see it.
 use Rattle.std.specs.Prelude.{◌≡◌, ◌==◌, ◌||◌, ℕ, List, Bool, [], Option, Some, None, if◌then◌else◌}
 use Rattle.bgp_conf.specs.Configuration.{Configuration}
-use Rattle.decision.specs.BookContents.{BookState}
+use Rattle.decision.specs.BookContents.{BookState, offer_at}
 use Rattle.decision.specs.declared.candidate.Candidate.{Candidate}
 use Rattle.net_prefix.specs.declared.payload.Vrp.{Vrp}
 use Rattle.net_prefix.specs.declared.prefix.Prefix.{Prefix}
-use Rattle.rib_in.specs.LatestRoutes.{RouteTable}
+use Rattle.rib_in.specs.LatestRoutes.{RouteTable, route_at}
 use Rattle.rtr_codec.specs.ClientTable.{in_force}
 use Rattle.rtr_session.specs.SessionState.{Session as CacheSession, configured}
 use Rattle.speaker.specs.declared.config.Config.{Config}
@@ -37,7 +37,7 @@ abbrev pub started : Config → SpeakerState
 started config = record {
   config = config;
   moment = 0;
-  conf = record { own = config.asn; peers = []; reach = [] };
+  conf = record { own = config.asn; peers = []; policies = []; networks = []; reach = [] };
   cache = if config.cache then Some configured else None;
   payloads = [];
   links = [];
@@ -69,8 +69,8 @@ pub record IsAsBefore (old new : SpeakerState) : Type 0 where
   pub cache : new.cache ≡ old.cache
   pub payloads : new.payloads ≡ old.payloads
   pub links : (slot : ℕ) → link_at new.links slot ≡ link_at old.links slot
-  pub adj_in : new.adj_in ≡ old.adj_in
-  pub book : new.book ≡ old.book
+  pub routes : (slot : ℕ) (prefix : Prefix) → route_at new.adj_in slot prefix ≡ route_at old.adj_in slot prefix
+  pub offers : (slot : ℕ) (prefix : Prefix) → offer_at new.book slot prefix ≡ offer_at old.book slot prefix
   pub loc_rib : new.loc_rib ≡ old.loc_rib
   pub chosen : new.chosen ≡ old.chosen
   pub chosen_before : new.chosen_before ≡ old.chosen_before

@@ -4,7 +4,7 @@ use Rattle.std.specs.Map.{keys_of}
 use Rattle.std.specs.Set.{sorted_merge}
 use Rattle.std.specs.Option.{option_map}
 use Rattle.std.specs.Str.{bytes_eq}
-use Rattle.bgp_conf.specs.Configuration.{peer_at}
+use Rattle.bgp_conf.specs.Configuration.{Configuration, peer_at}
 use Rattle.bgp_conf.specs.declared.conf.ConfiguredPeer.{ConfiguredPeer}
 use Rattle.bgp_fsm.specs.declared.state.State.{State}
 use Rattle.bgp_fsm.specs.StateTests.{is_established}
@@ -59,12 +59,12 @@ abbrev pub if_established : State → List Prefix → List Prefix
 if_established state prefixes = if is_established state then prefixes else []
 
 -- the known prefixes that wait of this slot, as the tables stand
-abbrev pub waiting_at : List (Prefix × Candidate) → RouteTable → Option ExportPeer → Option Linked → List Prefix
-waiting_at loc_rib adj_in None found = []
-waiting_at loc_rib adj_in (Some peer) None = []
-waiting_at loc_rib adj_in (Some peer) (Some l) =
-    if_established l.peer.session.state (differing (held_at l.adj_out) (export_in (best_at loc_rib) adj_in peer) (known_prefixes loc_rib l.adj_out))
+abbrev pub waiting_at : Configuration → List (Prefix × Candidate) → RouteTable → Option ExportPeer → Option Linked → List Prefix
+waiting_at conf loc_rib adj_in None found = []
+waiting_at conf loc_rib adj_in (Some peer) None = []
+waiting_at conf loc_rib adj_in (Some peer) (Some l) =
+    if_established l.peer.session.state (differing (held_at l.adj_out) (export_in conf (best_at loc_rib) adj_in peer) (known_prefixes loc_rib l.adj_out))
 
 -- the known prefixes that wait of a slot
 abbrev pub waiting_of : SpeakerState → ℕ → List Prefix
-waiting_of s slot = waiting_at s.loc_rib s.adj_in (option_map (export_peer_of s.conf slot) (peer_at s.conf slot)) (link_at s.links slot)
+waiting_of s slot = waiting_at s.conf s.loc_rib s.adj_in (option_map (export_peer_of s.conf slot) (peer_at s.conf slot)) (link_at s.links slot)

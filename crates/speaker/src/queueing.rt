@@ -8,26 +8,28 @@ ghost use Rattle.decision.specs.BookContents.{rows_of};
 ghost use Rattle.export_rules.specs.Export.{Tells, most_attributes};
 ghost use Rattle.rib_out.specs.Held.{held_at};
 ghost use Rattle.speaker.specs.Agreement.{QueuesAll, QueuesOn, QueuesStarved};
-ghost use Rattle.speaker.specs.Export.{IsAccepted, export_in, export_peer_of, export_to};
+ghost use Rattle.speaker.specs.Export.{IsAccepted, received_from, export_in, export_peer_of, export_to, selected_of};
 ghost use Rattle.speaker.specs.Linked.{Linked};
 ghost use Rattle.speaker.specs.Marks.{IsServedBy, announced_of, withdrawn_of};
 ghost use Rattle.speaker.specs.Queueing.{IsTold, rank_of};
 ghost use Rattle.speaker.specs.Serving.{IsServedAt, IsShortAt, IsUpAt, HasRoom, HasRoomAt, IsOfSlot, IsStill, IsToldAt, Serves, Stand, IsDoneAt, IsGone, IsHad, IsNext, is_standing};
 ghost use Rattle.speaker.specs.Tables.{best_at, link_at};
 
+use crate::choosing::origin;
 use crate::event::only;
 use crate::link::Link;
 use crate::routing::slots_end;
 use crate::step::Speaker;
 use arrayvec::ArrayVec;
-use bgp_conf::Conf;
+use bgp_attr::Attrs;
+use bgp_conf::{Conf, SeenRoute};
 use bgp_fsm::Input;
 use bgp_msg::{MAX_MESSAGE, write_announcement, write_withdrawal};
 use bgp_peer::ROOM_FOR_UPDATE;
-use decision::Book;
+use decision::{Book, Candidate, LOCAL_SLOT};
 use export_rules::{ExportPeer, export_of};
 use loc_rib::Ribs;
-use net_prefix::Prefix;
+use net_prefix::{Asn, Prefix};
 use rib_out::Owed;
 use std::alloc::{AllocError, Allocator};
 
@@ -42,20 +44,22 @@ pub fn export_peer<A: Allocator + Clone>(conf: &Conf<A>, slot: u8) -> Option<Exp
     Some(ExportPeer {
         slot,
         own: conf.own(),
+        asn: peer.asn,
         local: peer.local,
     })
 }
 
-/// What is exported of a prefix: the best route, where there is one and it is exported to this peer. Answers
-/// false where nothing is; `octets` are then empty.
+/// What is exported of a prefix: the best route, where there is one and it is exported to this peer, by its export policy.
+/// Answers false where nothing is; `octets` are then empty.
 #[tactic(auto, using(crate::proofs::Calls::on_accepted))]
 pub fn export<A: Allocator + Clone, B: Book<A>>(
+    conf: &Conf<A>,
     ribs: &Ribs<A, B>,
     peer: &ExportPeer,
     prefix: Prefix,
     octets: &mut Octets,
 ) -> bool
-    ensures tells { Tells result octets.new.items (export_in (best_at (rows_of ribs.now.book)) ribs.now.adj_in peer.now prefix) }
+    ensures tells { Tells result octets.new.items (export_in conf.now (best_at (rows_of ribs.now.book)) ribs.now.adj_in peer.now prefix) }
     ensures small { OnTrue result (length octets.new.items ≤ most_attributes) }
     // The peer finds no fault with it.
     ensures accepted { OnTrue result (IsAccepted (rows_of ribs.now.book) ribs.now.adj_in peer.now prefix octets.new.items) }
@@ -67,7 +71,36 @@ pub fn export<A: Allocator + Clone, B: Book<A>>(
     let Some(attrs) = ribs.routes().get(route.slot, prefix) else {
         return false;
     };
-    export_of(&route, attrs, peer, octets)
+    let action = conf.export(peer.slot, &seen(conf.own(), prefix, &route, attrs));
+    export_of(&route, attrs, peer, action, octets)
+}
+
+// The best route of a prefix as export policies see it: as it was received.
+fn seen<'a, A: Allocator + Clone>(
+    own: Asn,
+    prefix: Prefix,
+    route: &Candidate,
+    attrs: &'a Attrs<A>,
+) -> SeenRoute<'a, A>
+    ensures { result ≡ selected_of own prefix route.now attrs.now }
+{
+    SeenRoute {
+        prefix,
+        state: route.validity,
+        origin: origin(own, attrs),
+        path: attrs.as_path(),
+        from: received_from(route.slot),
+    }
+}
+
+// The slot whose peer announced a route; none of a local network.
+fn received_from(slot: u8) -> Option<u8>
+    ensures { result ≡ received_from slot }
+{
+    if slot == LOCAL_SLOT {
+        return None;
+    }
+    Some(slot)
 }
 
 impl<A: Allocator + Clone, B: Book<A>> Speaker<A, B> {
@@ -186,7 +219,7 @@ impl<A: Allocator + Clone, B: Book<A>> Speaker<A, B> {
             if !self.has_room(slot) {
                 return Ok(());
             }
-            if export(&self.routing.ribs, peer, prefix, octets) {
+            if export(&self.conf, &self.routing.ribs, peer, prefix, octets) {
                 self.announce_at(slot, prefix, octets, message)?;
             }
             // Places rise, so the walk ends.

@@ -21,7 +21,7 @@ ghost use Rattle.speaker.specs.Marks.{AreMarked};
 ghost use Rattle.speaker.specs.Moves.{AreOf, IsHeard, KeepsOthers, TakesMemoryAt};
 ghost use Rattle.speaker.specs.Offers.{IsSound, KeepsHeard};
 
-use crate::choosing::{candidate, judge_origin};
+use crate::choosing::{candidate, judge_route};
 use crate::link::Link;
 use crate::queueing::Octets;
 use crate::routing::{Links, Routing};
@@ -279,19 +279,19 @@ fn announce_each<A: Allocator + Clone, B: Book<A>>(
     candidate: Option<Candidate>,
 ) -> Result<(), AllocError>
     requires named { IfSome candidate (λ c. c.slot ≡ slot) }
-    requires apart { (prefix : ThePrefix) → AreApart (λ s. if slot == s then judged_at conf.now.own payloads.now attrs.now.value candidate prefix else offer_at routing.old.book s prefix) }
+    requires apart { (prefix : ThePrefix) → AreApart (λ s. if slot == s then judged_at conf.now payloads.now attrs.now.value candidate prefix else offer_at routing.old.book s prefix) }
     requires marked { AreMarked conf.now links.now.entries routing.old }
     ensures marked { AreMarked conf.now links.now.entries routing.new }
     ensures routes { OnOk result ((s : ℕ) (prefix : ThePrefix) → route_at routing.new.adj_in s prefix ≡ (if s == slot && is_among prefix (front_prefixes prefixes.entry.octets.now).0 then Some attrs.now.value else route_at routing.old.adj_in s prefix)) }
-    ensures offers { OnOk result ((s : ℕ) (prefix : ThePrefix) → offer_at routing.new.book s prefix ≡ (if s == slot && is_among prefix (front_prefixes prefixes.entry.octets.now).0 then judged_at conf.now.own payloads.now attrs.now.value candidate prefix else offer_at routing.old.book s prefix)) }
+    ensures offers { OnOk result ((s : ℕ) (prefix : ThePrefix) → offer_at routing.new.book s prefix ≡ (if s == slot && is_among prefix (front_prefixes prefixes.entry.octets.now).0 then judged_at conf.now payloads.now attrs.now.value candidate prefix else offer_at routing.old.book s prefix)) }
     ensures others { OnErr result (KeepsOthers slot routing.old routing.new) }
     ensures chosen { OncePerPrefix (λ p. is_among p (front_prefixes prefixes.entry.octets.now).0 ≡ true) routing.old.chosen routing.new.chosen }
     ensures rises { routing.old.chosen ≤ routing.new.chosen }
     ensures announced { OnErr result ((p : ThePrefix) → IsSome (route_at routing.new.adj_in slot p) → IsSome (route_at routing.old.adj_in slot p) ⊎ (is_among p (front_prefixes prefixes.entry.octets.now).0 ≡ true)) }
-    ensures some { (s : ℕ) (prefix : ThePrefix) → ((s ≡ slot) × (offer_at routing.new.book s prefix ≡ judged_at conf.now.own payloads.now attrs.now.value candidate prefix)) ⊎ (offer_at routing.new.book s prefix ≡ offer_at routing.old.book s prefix) }
+    ensures some { (s : ℕ) (prefix : ThePrefix) → ((s ≡ slot) × (offer_at routing.new.book s prefix ≡ judged_at conf.now payloads.now attrs.now.value candidate prefix)) ⊎ (offer_at routing.new.book s prefix ≡ offer_at routing.old.book s prefix) }
 {
     for prefix in prefixes {
-        let judged = judge_origin(conf.own(), payloads, prefix, attrs, candidate);
+        let judged = judge_route(conf, payloads, prefix, attrs, candidate);
         routing.announce(conf, links, slot, prefix, attrs.clone()?, judged)?;
     }
     Ok(())

@@ -1,16 +1,18 @@
 //! The tables that routes go through: the routes that came with Loc-RIB, and what waits of each prefix for each peer.
-ghost use Rattle.std.specs.Prelude.{◌≡◌, ◌==◌, ◌&&◌, ◌<◌, ◌≤◌, ◌+◌, ◌-◌, ◌≢◌, ℕ, [], All, IfOk, OnOk, OnErr, IfSome, IfNone, None, Some, true, false, if◌then◌else◌};
+ghost use Rattle.std.specs.Prelude.{◌≡◌, ◌==◌, ◌&&◌, ◌||◌, ◌<◌, ◌≤◌, ◌+◌, ◌-◌, ◌≢◌, not, ℕ, Bool, [], All, IfOk, OnOk, OnErr, IfSome, IfNone, None, Some, true, false, if◌then◌else◌};
 ghost use Rattle.std.specs.Option.{IsSome};
 ghost use Rattle.std.specs.Ordering.{is_gt};
 ghost use Rattle.bgp_conf.specs.Configuration.{peer_at};
-ghost use Rattle.decision.specs.BookContents.{AreApart, changed, is_prefix, offer_at};
+ghost use Rattle.bgp_conf.specs.PeerPolicies.{exports_by};
+ghost use Rattle.policy.specs.PolicyNames.{is_policy_name, name_of};
+ghost use Rattle.decision.specs.BookContents.{AreApart, changed, is_prefix, offer_at, rows_of};
 ghost use Rattle.net_prefix.specs.PrefixOrder.{IsAbove, prefix_cmp};
 ghost use Rattle.net_prefix.specs.declared.prefix.Prefix.{Prefix as ThePrefix};
 ghost use Rattle.rib_in.specs.LatestRoutes.{is_route, route_at};
 ghost use Rattle.rib_out.specs.Waiting.{is_known, owed_at};
 ghost use Rattle.speaker.specs.Chosen.{Ends};
 ghost use Rattle.speaker.specs.Linked.{Linked};
-ghost use Rattle.speaker.specs.Marks.{AreMarked, AreMarkedBut, IsReleased, IsUnmarked, mark_at, mark_of};
+ghost use Rattle.speaker.specs.Marks.{AreKnown, AreMarked, AreMarkedBut, AreMarkedFor, IsReleased, IsUnmarked, mark_at, mark_of};
 ghost use Rattle.speaker.specs.RoutingState.{started};
 ghost use Rattle.speaker.specs.Tables.{link_at};
 
@@ -73,7 +75,7 @@ impl<A: Allocator + Clone, B: Book<A>> Routing<A, B> {
         requires marked { AreMarked conf.now links.now.entries self.old }
         ensures routes { OnOk result ((s : ℕ) (p : ThePrefix) → route_at self.new.adj_in s p ≡ (if is_route slot prefix s p then Some attrs.value else route_at self.old.adj_in s p)) }
         ensures offers { OnOk result ((s : ℕ) (p : ThePrefix) → offer_at self.new.book s p ≡ (if is_route slot prefix s p then candidate else offer_at self.old.book s p)) }
-        ensures err { OnErr result (((s : ℕ) (p : ThePrefix) → route_at self.new.adj_in s p ≡ route_at self.old.adj_in s p) × ((s : ℕ) (p : ThePrefix) → offer_at self.new.book s p ≡ offer_at self.old.book s p)) }
+        ensures err { OnErr result (((s : ℕ) (p : ThePrefix) → route_at self.new.adj_in s p ≡ route_at self.old.adj_in s p) × ((s : ℕ) (p : ThePrefix) → offer_at self.new.book s p ≡ offer_at self.old.book s p) × (rows_of self.new.book ≡ rows_of self.old.book)) }
         // A best route is chosen once at most, and never where the candidate stays or memory is refused.
         ensures chosen { self.new.chosen ≤ self.old.chosen + 1 }
         ensures same { offer_at self.old.book slot prefix ≡ candidate → self.new.chosen ≡ self.old.chosen }
@@ -177,6 +179,46 @@ impl<A: Allocator + Clone, B: Book<A>> Routing<A, B> {
         requires unmarked { IsUnmarked conf.now links.now.entries slot self.old }
         ensures rest { self.new ≡ record self.old { waiting = self.new.waiting } }
         ensures marked { AreMarked conf.now links.now.entries self.new }
+    {
+        self.mark_slot(conf, links, slot);
+    }
+
+    /// The peers that are told routes by the policy of this name wait for what they are owed by its rules.
+    pub fn mark_exporters(&mut self, conf: &Conf<A>, links: &Links<A>, name: &str)
+        requires name { is_policy_name name.now ≡ true }
+        requires there { AreKnown links.now.entries self.old }
+        requires marked { AreMarkedFor (λ s. not (exports_by conf.now s (name_of name.now))) conf.now links.now.entries self.old }
+        ensures rest { self.new ≡ record self.old { waiting = self.new.waiting } }
+        ensures marked { AreMarked conf.now links.now.entries self.new }
+    {
+        for slot in 0..slots_end(links) {
+            self.mark_exporter(conf, links, slot, name);
+        }
+    }
+
+    // The same of one slot's peer, where it is told routes by that policy.
+    fn mark_exporter(&mut self, conf: &Conf<A>, links: &Links<A>, slot: u8, name: &str)
+        requires name { is_policy_name name.now ≡ true }
+        requires slot { slot < 64 }
+        requires there { AreKnown links.now.entries self.old }
+        ensures there { AreKnown links.now.entries self.new }
+        ensures rest { self.new ≡ record self.old { waiting = self.new.waiting } }
+        ensures marked { (done : ℕ → Bool) → (exports_by conf.now slot (name_of name.now) ≡ false → done slot ≡ true) → AreMarkedFor done conf.now links.now.entries self.old
+            → AreMarkedFor (λ s. s == slot || done s) conf.now links.now.entries self.new }
+    {
+        if conf.exports_by(slot, name) {
+            self.mark_slot(conf, links, slot);
+        }
+    }
+
+    /// The slot's peer waits for what it is owed of each prefix with a best route, whatever was marked.
+    pub fn mark_slot(&mut self, conf: &Conf<A>, links: &Links<A>, slot: u8)
+        requires slot { slot < 64 }
+        requires there { AreKnown links.now.entries self.old }
+        ensures there { AreKnown links.now.entries self.new }
+        ensures rest { self.new ≡ record self.old { waiting = self.new.waiting } }
+        ensures marked { (done : ℕ → Bool) → AreMarkedFor done conf.now links.now.entries self.old
+            → AreMarkedFor (λ s. s == slot || done s) conf.now links.now.entries self.new }
     {
         let mut octets = Octets::new();
         let mut after = None;
@@ -298,7 +340,7 @@ fn owed<A: Allocator + Clone, B: Book<A>>(
     if link.peer.state() != State::Established {
         return None;
     }
-    if !export(ribs, &peer, prefix, octets) {
+    if !export(conf, ribs, &peer, prefix, octets) {
         return match link.adj_out.get(prefix) {
             Some(_) => Some(Owed::Withdrawal),
             None => None,

@@ -18,7 +18,7 @@ pub struct Trace<A: Allocator + Clone = Global> {
 }
 
 /// Plays events on a new speaker. Refused as `Speaker::new` is, and by 44.
-pub fn run<A: Allocator + Clone>(
+pub fn run<A: Allocator + Clone + Copy>(
     alloc: A,
     config: Config,
     events: &[Event<'_>],

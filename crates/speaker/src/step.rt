@@ -69,9 +69,8 @@ impl<A: Allocator + Clone, B: Book<A>> Model for Speaker<A, B> {
     ghost invariant = { λ s. IsSound s.conf (offer_at s.routing.book) × AreMarked s.conf s.links.entries s.routing × (s.payloads ≡ payloads_in s.cache) };
 }
 
-impl<A: Allocator + Clone, B: Book<A>> Speaker<A, B> {
-    ghost use Rattle.speaker.specs.SpeakerState.{SpeakerState, tables_of, started, is_out_of_range};
-    ghost use Rattle.speaker.specs.FirstRefusal.{cache_transport_of, refusal_of, take_refusal_of, LacksMemory};
+impl<A: Allocator + Clone + Copy, B: Book<A>> Speaker<A, B> {
+    ghost use Rattle.speaker.specs.SpeakerState.{started, is_out_of_range};
 
     /// A speaker without peers, whose cache session, where one is asked for, has begun its first connection attempt. Refused by
     /// 33 where the AS or the identifier is 0, and by 44.
@@ -114,6 +113,11 @@ impl<A: Allocator + Clone, B: Book<A>> Speaker<A, B> {
             chosen_before: 0,
         })
     }
+}
+
+impl<A: Allocator + Clone, B: Book<A>> Speaker<A, B> {
+    ghost use Rattle.speaker.specs.SpeakerState.{tables_of};
+    ghost use Rattle.speaker.specs.FirstRefusal.{cache_transport_of, refusal_of, take_refusal_of, LacksMemory};
 
     /// One event. A refusal leaves the speaker as it was. Where memory is refused to what a session needs, that
     /// session is closed, its routes go, and the report names its slot.

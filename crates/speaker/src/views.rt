@@ -19,17 +19,17 @@ ghost use Rattle.speaker.specs.FirstRefusal.{cache_transport_after, cache_transp
 ghost use Rattle.speaker.specs.Runs.{Run, history, payloads_after};
 ghost use Rattle.speaker.specs.declared.config.Config.{Config};
 ghost use Rattle.speaker.specs.SpeakerState.{tables_of};
-ghost use Rattle.speaker.specs.Tables.{configured_session, link_at, session_at};
-ghost use Rattle.rib_in.specs.LatestRoutes.{routes_of};
-ghost use Rattle.speaker.specs.Shown.{cache_state_after, cache_state_of, held_by, shown_of, transport_at, transport_or_none};
+ghost use Rattle.speaker.specs.Tables.{configured_session, link_at, peer_route_at, session_at};
+ghost use Rattle.speaker.specs.Shown.{cache_state_after, cache_state_of, held_by, received_by, shown_of, transport_at, transport_or_none};
 ghost use Rattle.speaker.specs.Waiting.{IsWaitingIn, waiting_of};
 ghost use Rattle.bgp_peer.specs.PeerLimits.{ring_octets, room_for_update};
 
 use crate::queueing::export_peer;
 use crate::step::Speaker;
 use crate::waiting::{Waiting, WaitingPrefixes};
+use bgp_attr::Attrs;
 use bgp_fsm::State;
-use decision::{Book, PlainBook};
+use decision::{Book, LOCAL_SLOT, PlainBook};
 use loc_rib::Rows;
 use net_prefix::{Prefix, Transport, Vrp};
 use origin_valid::Validity;
@@ -111,6 +111,37 @@ impl Iterator for Payloads<'_> {
                 Some(payload) => Some(*payload),
                 None => None,
             },
+            None => None,
+        }
+    }
+}
+
+/// The routes that a slot's peer has announced and not taken back, in rising order: each prefix with its attributes.
+#[derive(Drop)]
+pub struct AdjRibIn<'a, A: Allocator = Global> {
+    pub(crate) routes: Option<SlotRoutes<'a, A>>,
+}
+
+impl<'a, A: Allocator> Model for AdjRibIn<'a, A> {
+    ghost use Rattle.std.specs.Prelude.{List, [], unwrap_or};
+    ghost use Rattle.bgp_attr.specs.PathAttributes.{PathAttributes};
+    ghost use Rattle.net_prefix.specs.declared.prefix.Prefix.{Prefix};
+
+    ghost Value = { List (Prefix × PathAttributes) };
+
+    ghost view = { λ routes. unwrap_or routes.routes [] };
+}
+
+impl<'a, A: Allocator> Iterator for AdjRibIn<'a, A> {
+    type Item = (Prefix, &'a Attrs<A>);
+
+    ghost next_gives = { YieldsFirstBy (λ item. (item.0, item.1.now)) (λ rest. rest) };
+
+    ghost remaining = { item_count (λ rest. rest) };
+
+    fn next(&mut self) -> Option<(Prefix, &'a Attrs<A>)> {
+        match &mut self.routes {
+            Some(routes) => routes.next(),
             None => None,
         }
     }
@@ -268,13 +299,27 @@ impl<A: Allocator + Clone, B: Book<A>> Speaker<A, B> {
 
     /// The routes that a slot's peer has announced and not taken back, in rising order; none where the slot
     /// isn't configured.
-    pub fn adj_in(&self, slot: u8) -> SlotRoutes<'_, A>
+    pub fn adj_in(&self, slot: u8) -> AdjRibIn<'_, A>
         // Each prefix once.
         ensures rising { IsStrictlySortedBy prefix_cmp (keys_of result) }
-        ensures kept { result ≡ routes_of slot self.now.adj_in }
+        ensures kept { result ≡ received_by slot self.now.adj_in }
         ensures agrees { (config : Config) (r : Run) (prefix : ThePrefix) → Agrees config r self.now → lookup (is_prefix prefix) result ≡ route (history config slot r) prefix }
     {
-        self.routing.ribs.routes().routes_of(slot)
+        self.received_rows(slot)
+    }
+
+    // No local network came from a peer.
+    fn received_rows(&self, slot: u8) -> AdjRibIn<'_, A>
+        ensures all { result ≡ received_by slot self.now.adj_in }
+        ensures rising { IsStrictlySortedBy prefix_cmp (keys_of result) }
+        ensures found { (p : ThePrefix) → lookup (is_prefix p) result ≡ peer_route_at self.now.adj_in slot p }
+    {
+        if slot == LOCAL_SLOT {
+            return AdjRibIn { routes: None };
+        }
+        AdjRibIn {
+            routes: Some(self.routing.ribs.routes().routes_of(slot)),
+        }
     }
 
     /// What a slot's peer holds of what it was sent, in rising order; nothing where the slot isn't configured.
@@ -330,6 +375,6 @@ impl<A: Allocator + Clone, B: Book<A>> Speaker<A, B> {
         if !link.is_established() {
             return None;
         }
-        Some(Waiting::new(&self.routing.ribs, link, peer))
+        Some(Waiting::new(&self.conf, &self.routing.ribs, link, peer))
     }
 }

@@ -12,6 +12,7 @@ ghost use Rattle.speaker.specs.Waiting.{differing, first_of, is_same, known_pref
 
 use crate::link::Link;
 use crate::queueing::{Octets, export};
+use bgp_conf::Conf;
 use decision::{Book, PlainBook};
 use export_rules::ExportPeer;
 use loc_rib::{Ribs, Rows};
@@ -54,6 +55,7 @@ impl<A: Allocator + Clone, B: Book<A>> Iterator for WaitingPrefixes<'_, A, B> {
 /// The known prefixes of which an Established peer doesn't hold just what is exported to it.
 #[derive(Drop)]
 pub struct Waiting<'a, A: Allocator + Clone, B: Book<A>> {
+    conf: &'a Conf<A>,
     ribs: &'a Ribs<A, B>,
     adj_out: &'a AdjOut<A>,
     peer: ExportPeer,
@@ -71,16 +73,17 @@ impl<'a, A: Allocator + Clone, B: Book<A>> Model for Waiting<'a, A, B> {
 
     ghost Value = { List Prefix };
 
-    ghost view = { λ w. differing (held_at w.adj_out.now) (export_in (best_at (rows_of w.ribs.now.book)) w.ribs.now.adj_in w.peer) w.known };
+    ghost view = { λ w. differing (held_at w.adj_out.now) (export_in w.conf.now (best_at (rows_of w.ribs.now.book)) w.ribs.now.adj_in w.peer) w.known };
 }
 
 impl<'a, A: Allocator + Clone, B: Book<A>> Waiting<'a, A, B> {
     /// The prefixes that wait for the peer of this slot.
-    pub fn new(ribs: &'a Ribs<A, B>, link: &'a Link<A>, peer: ExportPeer) -> Self
-        ensures waiting { result ≡ differing (held_at link.now.adj_out) (export_in (best_at (rows_of ribs.now.book)) ribs.now.adj_in peer) (known_prefixes (rows_of ribs.now.book) link.now.adj_out) }
+    pub fn new(conf: &'a Conf<A>, ribs: &'a Ribs<A, B>, link: &'a Link<A>, peer: ExportPeer) -> Self
+        ensures waiting { result ≡ differing (held_at link.now.adj_out) (export_in conf.now (best_at (rows_of ribs.now.book)) ribs.now.adj_in peer) (known_prefixes (rows_of ribs.now.book) link.now.adj_out) }
         ensures rising { IsStrictlySortedBy prefix_cmp result }
     {
         Waiting {
+            conf,
             ribs,
             adj_out: &link.adj_out,
             peer,
@@ -99,7 +102,14 @@ impl<A: Allocator + Clone, B: Book<A>> Iterator for Waiting<'_, A, B> {
     fn next(&mut self) -> Option<Prefix> {
         let mut octets = Octets::new();
         while let Some(prefix) = self.known.next() {
-            if is_waiting(self.ribs, self.adj_out, &self.peer, prefix, &mut octets) {
+            if is_waiting(
+                self.conf,
+                self.ribs,
+                self.adj_out,
+                &self.peer,
+                prefix,
+                &mut octets,
+            ) {
                 return Some(prefix);
             }
         }
@@ -109,15 +119,16 @@ impl<A: Allocator + Clone, B: Book<A>> Iterator for Waiting<'_, A, B> {
 
 // Whether the peer doesn't hold of a prefix just what is exported to it.
 fn is_waiting<A: Allocator + Clone, B: Book<A>>(
+    conf: &Conf<A>,
     ribs: &Ribs<A, B>,
     adj_out: &AdjOut<A>,
     peer: &ExportPeer,
     prefix: Prefix,
     octets: &mut Octets,
 ) -> bool
-    ensures { result ≡ not (is_same (held_at adj_out.now prefix) (export_in (best_at (rows_of ribs.now.book)) ribs.now.adj_in peer.now prefix)) }
+    ensures { result ≡ not (is_same (held_at adj_out.now prefix) (export_in conf.now (best_at (rows_of ribs.now.book)) ribs.now.adj_in peer.now prefix)) }
 {
-    if export(ribs, peer, prefix, octets) {
+    if export(conf, ribs, peer, prefix, octets) {
         !adj_out.holds(prefix, octets.as_slice())
     } else {
         adj_out.get(prefix).is_some()

@@ -6,7 +6,7 @@ use std::alloc::{AllocError, Global};
 use std::test::Fail;
 
 // Lines that the language doesn't have.
-const BAD_LINES: [&str; 51] = [
+const BAD_LINES: [&str; 67] = [
     "hello",
     "speaker 65000 192.0.2.1 nocache",
     "speaker 65000 192.0.2.1 cache",
@@ -39,6 +39,22 @@ const BAD_LINES: [&str; 51] = [
     "reach 192.0.2.0/33 10",
     "reach 192.0.2.0 10",
     "reach 192.0.2.0/24 4294967296",
+    "noreach",
+    "noreach 192.0.2.1/24",
+    "noreach 192.0.2.0/24 10",
+    "network",
+    "network 192.0.2.0",
+    "network 192.0.2.1/24",
+    "network 192.0.2.0/33",
+    "network 192.0.2.0/24 10",
+    "nonetwork",
+    "nonetwork 192.0.2.1/24",
+    "nonetwork 192.0.2.0/24 10",
+    "use in 0",
+    "use out 0",
+    "use out 0 ",
+    "use out 0 all all",
+    "use 0 all",
     "bytes 0",
     "bytes 0 ",
     "bytes 0 F",
@@ -117,8 +133,6 @@ refused 40
 refused 43
 > peer 2 65003 192.0.2.12 192.0.2.1 passive 180 all all
 refused 45
-> peer 2 65000 192.0.2.13 192.0.2.1 passive 180 all all
-refused 33
 > peer 2 0 192.0.2.13 192.0.2.1 passive 180 all all
 refused 33
 > peer 2 65003 192.0.2.13 0.0.0.1 passive 180 all all
@@ -143,6 +157,10 @@ refused 30
 refused 30
 > enable 2
 refused 40
+> nonetwork 192.0.2.0/24
+refused 30
+> noreach 192.0.2.0/25
+refused 30
 > show sessions
 0 Active
 1 Active

@@ -29,15 +29,27 @@ mod cuts;
 #[cfg(test)]
 mod export;
 #[cfg(test)]
+mod export_policies;
+#[cfg(test)]
 mod faults;
 #[cfg(test)]
 mod header_faults;
 #[cfg(test)]
+mod internal_peers;
+#[cfg(test)]
 mod large_messages;
+#[cfg(test)]
+mod neighbor_meds;
+#[cfg(test)]
+mod networks;
 #[cfg(test)]
 mod open_faults;
 #[cfg(test)]
 mod payload_list;
+#[cfg(test)]
+mod policies;
+#[cfg(test)]
+mod reach_entries;
 #[cfg(test)]
 mod removal;
 #[cfg(test)]
@@ -46,6 +58,8 @@ mod retries;
 mod selection;
 #[cfg(test)]
 mod sessions;
+#[cfg(test)]
+mod sixty_four_peers;
 #[cfg(test)]
 mod timers;
 #[cfg(test)]

@@ -16,14 +16,14 @@ loop-prefix-init g c =
 
 pub announce-requires-clause-apart : goal.announce-requires-clause-apart
 announce-requires-clause-apart g c =
-    let judged : c.judge_origin-judged.result ≡ judged_at c.args.conf.now.own c.args.payloads.now c.args.attrs.now.value c.args.candidate c.in-Some.prefix = rw (c.own.ensures, c.deref.ensures) at c.judge_origin-judged.ensures in
+    let judged : c.judge_route-judged.result ≡ judged_at c.args.conf.now c.args.payloads.now c.args.attrs.now.value c.args.candidate c.in-Some.prefix = rw c.deref.ensures at c.judge_route-judged.ensures in
     subst (λ found. AreApart (λ s. cond (c.args.slot == s) found (offer_at c.loop-prefix.routing.book s c.in-Some.prefix))) (sym judged)
     (apart_still _ _ _ _ c.loop-prefix.invariant.2 c.in-Some.prefix (c.requires.apart c.in-Some.prefix))
 
 pub loop-prefix-preserved : goal.loop-prefix-preserved
 loop-prefix-preserved g c =
     let h = c.loop-prefix.invariant in
-    let judged : c.judge_origin-judged.result ≡ judged_at c.args.conf.now.own c.args.payloads.now c.args.attrs.now.value c.args.candidate c.in-Some.prefix = rw (c.own.ensures, c.deref.ensures) at c.judge_origin-judged.ensures in
+    let judged : c.judge_route-judged.result ≡ judged_at c.args.conf.now c.args.payloads.now c.args.attrs.now.value c.args.candidate c.in-Some.prefix = rw c.deref.ensures at c.judge_route-judged.ensures in
     let offers = rw judged at c.in_ok-announce.ensures.offers in
     let again : is_among c.in-Some.prefix c.loop-prefix.yielded ≡ true → c.announce.new.self.chosen ≡ c.loop-prefix.routing.chosen = λ there. c.in_ok-announce.ensures.same (set_here _ _ _ _ _ _ _ _ c.in-Some.prefix h.1 there refl ∙ sym judged) in
     let before = h.5 in

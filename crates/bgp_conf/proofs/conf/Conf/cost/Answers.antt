@@ -1,7 +1,14 @@
-use Rattle.std.proofs.Common.{arith}
+use Rattle.bgp_conf.proofs.Longest.{IsCost-last}
 use Rattle.bgp_conf.proofs.conf.Conf.cost.Goals as goal
 
 pub returns-in-Some : goal.returns-in-Some
 returns-in-Some g c =
-    let found = c.in-Some.ensures in
-    (found.0, found.1, found.2, λ prefix covering. omega (arith, found.3, c.loop-host_bits.invariant prefix covering))
+    let rising = rw (← c.self.view_is) at c.reach_rises.ensures in
+    let last = IsCost-last c.self.inside.reach c.args.next_hop c.covering.result c.last.result rising c.covering.ensures.left c.last.ensures.ran in
+    rw (← c.self.view_is, c.cost.view_is) (rw c.in-Some.is at last)
+
+pub returns-in-None : goal.returns-in-None
+returns-in-None g c =
+    let rising = rw (← c.self.view_is) at c.reach_rises.ensures in
+    let last = IsCost-last c.self.inside.reach c.args.next_hop c.covering.result c.last.result rising c.covering.ensures.left c.last.ensures.ran in
+    rw (← c.self.view_is) (rw c.in-None.is at last)

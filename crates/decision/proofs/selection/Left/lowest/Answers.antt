@@ -8,7 +8,7 @@ returns-in-Some-clause-left c =
     let before = c.args.self in
     let pushed : c.push.new.self.items ≡ before.bounds.items ++ record { step = c.args.step; most = c.in-Some.most } ∷ [] = search rules in
     rw pushed
-    (left_more before.degree before.bounds.items c.args.step c.in-Some.most before.candidates.now
+    (left_more before.candidates.now before.degree before.bounds.items before.tied c.args.step c.in-Some.most
     ∙ step_keeps c.args.step (left_of before) c.in-Some.most (sym c.lowest_key.ensures ∙ c.in-Some.is))
 
 pub returns-in-None-clause-left : goal.returns-in-None-clause-left

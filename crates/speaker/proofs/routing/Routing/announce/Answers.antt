@@ -1,4 +1,6 @@
-use Rattle.std.proofs.Common.{Some, refl}
+use Rattle.std.proofs.Common.{◌≡◌, ℕ, Some, refl}
+use Rattle.decision.specs.BookContents.{offer_at, rows_of}
+use Rattle.net_prefix.specs.declared.prefix.Prefix.{Prefix}
 use Rattle.speaker.specs.RoutingState.{RoutingState}
 use Rattle.speaker.proofs.Marking.{known_come, known_else, marked_but, marked_same, routes_either}
 use Rattle.speaker.proofs.routing.Routing.announce.Goals as goal
@@ -18,6 +20,6 @@ refresh-requires-clause-marked g c =
     let marked = rw (← c.self.view_is) at c.requires.marked in
     let old : RoutingState = record { adj_in = c.self.inside.ribs.adj_in; book = c.self.inside.ribs.book; chosen = c.self.inside.ribs.chosen; waiting = c.self.inside.waiting } in
     let new : RoutingState = record { adj_in = c.announce-announced.new.self.adj_in; book = c.announce-announced.new.self.book; chosen = c.announce-announced.new.self.chosen; waiting = c.add.new.self } in
-    let routes = routes_either c.announce-announced.result c.args.slot c.args.prefix (Some c.args.attrs.value) old.adj_in new.adj_in _ c.announce-announced.ensures.routes c.announce-announced.ensures.err in
+    let routes = routes_either c.announce-announced.result c.args.slot c.args.prefix (Some c.args.attrs.value) old.adj_in new.adj_in ((s : ℕ) (p : Prefix) → offer_at new.book s p ≡ offer_at old.book s p) (rows_of new.book ≡ rows_of old.book) c.announce-announced.ensures.routes c.announce-announced.ensures.err in
     marked_but c.args.conf.now c.args.links.now.entries c.args.prefix old new marked c.in_ok-add.ensures.owed c.announce-announced.ensures.others routes
     (known_come c.args.links.now.entries c.args.prefix old new marked.there c.in_ok-add.ensures.known routes) (known_else c.args.prefix old.waiting new.waiting c.in_ok-add.ensures.known)

@@ -14,7 +14,8 @@ invariant_of-self-in-Ok g c =
     let put : IsNow c.args.slot c.in_ok-link.link c.self.inside.links.entries c.insert.new.self.entries = put_inserted c.args.slot c.in_ok-link.link c.in_ok-link.link _ _ c.in_ok-before.ensures.updates.0 refl in
     let down : is_established c.in_ok-link.link.peer.session.state ≡ false = ap (λ (l : Linked). is_established l.peer.session.state) c.in_ok-link.ensures in
     let own : c.apply.new.self.own ≡ c.self.inside.conf.own = ap (λ (x : Configuration). x.own) (rw c.requires.adds at c.in-Ok.ensures.ok) in
-    let added = marked_added _ c.self.inside.conf c.apply.new.self c.self.inside.links.entries _ c.self.inside.routing c.args.slot c.args.conf.now c.in_ok-link.link c.self.invariant.1 may own (rw c.requires.adds at c.in-Ok.ensures.peers) put down in
+    let policies : c.apply.new.self.policies ≡ c.self.inside.conf.policies = ap (λ (x : Configuration). x.policies) (rw c.requires.adds at c.in-Ok.ensures.ok) in
+    let added = marked_added _ c.self.inside.conf c.apply.new.self c.self.inside.links.entries _ c.self.inside.routing c.args.slot c.args.conf.now c.in_ok-link.link c.self.invariant.1 may own policies (rw c.requires.adds at c.in-Ok.ensures.peers) put down in
     (sound_added _ _ _ _ c.args.slot c.args.conf.now c.self.invariant.0 (c.in-Ok.ensures.addresses _ accepted c.self.invariant.0.addresses) may (rw c.requires.adds at c.in-Ok.ensures.peers), added, c.self.invariant.2)
 
 pub invariant_of-self-in-Err : goal.invariant_of-self-in-Err
@@ -44,8 +45,8 @@ returns-in-Err-clause-err g c =
       cache = refl;
       payloads = refl;
       links = put_back c.args.slot c.in_ok-link.link c.in_ok-before.before _ _ _ c.in_ok-before.ensures.updates.0 c.put_back.ensures c.in_ok-before.ensures.old;
-      adj_in = refl;
-      book = refl;
+      routes = λ s p. refl;
+      offers = λ s p. refl;
       loc_rib = refl;
       chosen = refl;
       chosen_before = refl;

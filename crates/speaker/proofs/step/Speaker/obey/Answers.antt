@@ -1,6 +1,6 @@
 use Rattle.std.proofs.Common.{arith, refl, subst, sym}
 use Rattle.std.specs.Option.{IsSome}
-use Rattle.speaker.proofs.Commands.{added_grows, enable_opens, holds_disable, holds_enable, holds_reach, slot_low, some_from_not}
+use Rattle.speaker.proofs.Commands.{added_grows, enable_opens, holds_disable, holds_enable, slot_low, some_from_not}
 use Rattle.speaker.proofs.Events.{begun, holds_begun}
 use Rattle.speaker.proofs.step.Speaker.obey.Goals as goal
 
@@ -27,13 +27,6 @@ returns-in-Disable-clause-ok g c = λ config r holds.
 pub returns-in-AddPeer-clause-memory : goal.returns-in-AddPeer-clause-memory
 returns-in-AddPeer-clause-memory g c = rw c.in-AddPeer.is (added_grows c.add_peer.result _ c.args.self.now.conf c.in-AddPeer.slot c.in-AddPeer.conf (rw c.in-AddPeer.is at c.requires))
 
-pub returns-in_ok-apply-in-Reach-clause-ok : goal.returns-in_ok-apply-in-Reach-clause-ok
-returns-in_ok-apply-in-Reach-clause-ok g c = λ config r holds.
-    let conf = rw c.in-Reach.is at c.in_ok-apply-in-Reach.ensures.ok in
-    let peers = rw c.in-Reach.is at c.in_ok-apply-in-Reach.ensures.peers in
-    let here = rw (← c.self.view_is) at holds in
-    rw (c.in-Reach.is, c.chosen-self-inside.ensures) (holds_reach config r c.in-Reach.field-0 c.in-Reach.field-1 _ _ here conf peers refl refl refl refl refl c.choose_again.ensures.routes c.choose_again.ensures.made c.choose_again.ensures.chosen.0 c.choose_again.ensures.chosen.1 c.choose_again.ensures.chosen.2 refl, refl)
-
 pub remove_peer-requires-clause-configured : goal.remove_peer-requires-clause-configured
 remove_peer-requires-clause-configured g c =
     let found = some_from_not _ _ _ (rw c.in-RemovePeer.is at c.requires) in
@@ -42,3 +35,23 @@ remove_peer-requires-clause-configured g c =
 pub returns-in-RemovePeer-clause-ok : goal.returns-in-RemovePeer-clause-ok
 returns-in-RemovePeer-clause-ok g c = λ config r holds.
     rw c.in-RemovePeer.is ((rw c.begin_count-in-RemovePeer.ensures at c.remove_peer.ensures.removed) config r (holds_begun config r c.args.self.now holds) (omega arith), refl)
+
+pub returns-in-NoNetwork-clause-ok : goal.returns-in-NoNetwork-clause-ok
+returns-in-NoNetwork-clause-ok g c = λ config r holds.
+    let ok = rw c.begin_count-in-NoNetwork.ensures at c.retract.ensures.ok in
+    (ok config r (holds_begun config r c.args.self.now holds) (omega arith), rw c.in-NoNetwork.is refl)
+
+pub returns-in-DropPolicy-clause-ok : goal.returns-in-DropPolicy-clause-ok
+returns-in-DropPolicy-clause-ok g c = λ config r holds.
+    let ok = rw c.begin_count-in-DropPolicy.ensures at c.drop_policy.ensures.ok in
+    (ok config r (holds_begun config r c.args.self.now holds) (omega arith), rw c.in-DropPolicy.is refl)
+
+pub returns-in-UseIn-clause-ok : goal.returns-in-UseIn-clause-ok
+returns-in-UseIn-clause-ok g c = λ config r holds.
+    let ok = rw c.begin_count-in-UseIn.ensures at c.use_in.ensures.ok in
+    (ok config r (holds_begun config r c.args.self.now holds) (omega arith), rw c.in-UseIn.is refl)
+
+pub returns-in-UseOut-clause-ok : goal.returns-in-UseOut-clause-ok
+returns-in-UseOut-clause-ok g c = λ config r holds.
+    let ok = rw c.begin_count-in-UseOut.ensures at c.use_out.ensures.ok in
+    (ok config r (holds_begun config r c.args.self.now holds) (omega arith), rw c.in-UseOut.is refl)

@@ -7,4 +7,4 @@ use Rattle.speaker.proofs.waiting.Waiting.new.Goals as goal
 
 pub returns-clause-rising : goal.returns-clause-rising
 returns-clause-rising g c =
-    differing_rises (held_at c.link.inside.adj_out) (export_in (best_at (rows_of c.args.ribs.now.book)) c.args.ribs.now.adj_in c.args.peer) c.new.result c.new.ensures.rising
+    differing_rises (held_at c.link.inside.adj_out) (export_in c.args.conf.now (best_at (rows_of c.args.ribs.now.book)) c.args.ribs.now.adj_in c.args.peer) c.new.result c.new.ensures.rising

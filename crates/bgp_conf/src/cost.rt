@@ -1,0 +1,24 @@
+//! The interior cost of a `reach` entry.
+
+use prefix_trie::Marked;
+use std::marker::Model;
+
+/// The interior cost of the next hops under a prefix.
+#[derive(Drop)]
+pub(crate) struct Cost(pub(crate) u32);
+
+impl Model for Cost {
+    ghost use Rattle.std.specs.Prelude.{ℕ};
+
+    ghost Value = { ℕ };
+
+    ghost view = { λ c. c.0 };
+}
+
+impl Marked for Cost {
+    type Marks = ();
+
+    ghost marks_of = { λ _. tt };
+
+    fn marks(&self) {}
+}

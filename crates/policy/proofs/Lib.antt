@@ -1,0 +1,4 @@
+pub mod NameTexts
+pub mod FirstRule
+pub mod TableLaws
+mod Tables

@@ -1,0 +1,5 @@
+pub mod PolicyMeaning
+pub mod FirstRule
+pub mod PolicyNames
+pub mod PolicyTable
+pub mod PolicyRefusals
