@@ -65,24 +65,37 @@ fn connections_at<W: Wire + Drop>(turns: &mut CacheLoop<W>, now: u64) -> Result<
     Ok(turns.connections())
 }
 
-// Whether the connection stands as long as it sends so, and is gone at a last moment.
-fn is_gone_at<R>(rt: &R, sendings: &[Sending], last: u64) -> Result<bool, Fail>
+// Whether the router's connection stands as long as it sends so, and is gone at a last moment.
+fn loses<R>(
+    turns: &mut CacheLoop<NetWire<'_, R>>,
+    router: &mut TcpStream,
+    sendings: &[Sending],
+    last: u64,
+) -> Result<bool, Fail>
 where
     R: Net<Listener = TcpListener, Stream = TcpStream> + AllocGlobal,
 {
-    let cache = Cache::new(rt.alloc(), 7, Intervals::USUAL)?;
-    let wire = NetWire::listening(rt, "127.0.0.1:0".parse()?)?;
-    let address = wire.local_address().ok_or("no address")?;
-    let mut turns = CacheLoop::new(rt.alloc(), wire, cache)?;
-    let mut router = TcpStream::connect(rt, address)?;
-    let mut stands = connections_at(&mut turns, 0)? == 1;
+    let mut stands = connections_at(turns, 0)? == 1;
     for sending in sendings {
         router.write_all(sending.octets)?;
-        stands = stands && connections_at(&mut turns, sending.now)? == 1;
+        stands = stands && connections_at(turns, sending.now)? == 1;
     }
     turns.turn(last)?;
     let went = RouterEvent::Went(router.local_addr()?, Parting::Overdue);
     Ok(stands && turns.wire().events().contains(&went) && turns.connections() == 0)
+}
+
+// The same of a router that connects.
+fn is_gone_at<R>(rt: &R, sendings: &[Sending], last: u64) -> Result<bool, Fail>
+where
+    R: Net<Listener = TcpListener, Stream = TcpStream> + AllocGlobal,
+{
+    let wire = NetWire::listening(rt, "127.0.0.1:0".parse()?)?;
+    let address = wire.local_address().ok_or("no address")?;
+    let cache = Cache::new(rt.alloc(), 7, Intervals::USUAL)?;
+    let mut turns = CacheLoop::new(rt.alloc(), wire, cache)?;
+    let mut router = TcpStream::connect(rt, address)?;
+    loses(&mut turns, &mut router, sendings, last)
 }
 
 #[test]

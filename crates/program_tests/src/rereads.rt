@@ -6,6 +6,7 @@ use rtr_codec::Intervals;
 use std::alloc::AllocGlobal;
 use std::io::{self, ErrorKind, Read, Write};
 use std::net::{Net, SocketAddr, TcpListener, TcpStream};
+use std::process::Abort;
 use std::test::Fail;
 
 const RESET_QUERY: [u8; 8] = [1, 2, 0, 0, 0, 0, 0, 8];
@@ -69,62 +70,99 @@ where
     Ok(heard)
 }
 
+// Whether just these octets come to a router.
+fn hears<R, W: Wire + Drop>(
+    rt: &R,
+    served: &mut ServedList<W>,
+    router: &mut TcpStream,
+    octets: &[u8],
+) -> Result<bool, Fail>
+where
+    R: AllocGlobal,
+{
+    Ok(heard(rt, served, router)?.as_slice() == octets)
+}
+
 // Reads a list again.
 fn reread<W: Wire + Drop>(rt: &impl AllocGlobal, served: &mut ServedList<W>, text: &str) -> Reread {
     served.reread(rt.alloc(), Ok(text.as_bytes()))
 }
 
-// Reads one again that isn't there.
-fn reread_none<W: Wire + Drop>(rt: &impl AllocGlobal, served: &mut ServedList<W>) -> Reread {
-    let missing: io::Result<&[u8]> = Err(io::Error::from(ErrorKind::NotFound));
-    served.reread(rt.alloc(), missing)
+// Whether the list is published under the serial when it is read again.
+fn is_published<W: Wire + Drop>(
+    rt: &impl AllocGlobal,
+    served: &mut ServedList<W>,
+    text: &str,
+    serial: u32,
+) -> bool {
+    matches!(reread(rt, served, text), Reread::Published(told) if told == serial)
 }
 
-// What a router that comes anew hears.
-fn heard_anew<R>(
+// Whether a list that isn't there is refused.
+fn is_missing<W: Wire + Drop>(rt: &impl AllocGlobal, served: &mut ServedList<W>) -> bool {
+    let missing: io::Result<&[u8]> = Err(io::Error::from(ErrorKind::NotFound));
+    matches!(
+        served.reread(rt.alloc(), missing),
+        Reread::Refused(ListFault::NoFile)
+    )
+}
+
+// Whether just these octets come to a router that comes anew.
+fn hears_anew<R>(
     rt: &R,
     served: &mut ServedList<NetWire<'_, R>>,
     address: SocketAddr,
-) -> Result<Vec<u8>, Fail>
+    octets: &[u8],
+) -> Result<bool, Fail>
 where
     R: Net<Listener = TcpListener, Stream = TcpStream> + AllocGlobal,
 {
     let mut router = router(rt, address)?;
-    heard(rt, served, &mut router)
+    hears(rt, served, &mut router, octets)
 }
 
 fn serving_none<R>(rt: &R) -> Result<ServedList<NetWire<'_, R>>, Fail>
 where
     R: Net<Listener = TcpListener, Stream = TcpStream> + AllocGlobal,
 {
-    let cache = Cache::new(rt.alloc(), 7, Intervals::USUAL)?;
     let wire = NetWire::listening(rt, "127.0.0.1:0".parse()?)?;
+    let cache = Cache::new(rt.alloc(), 7, Intervals::USUAL)?;
     Ok(ServedList::new(CacheLoop::new(rt.alloc(), wire, cache)?, 0, 0))
+}
+
+// The first list is served, and a router stays; it and others hear of each change.
+fn follow<R>(
+    rt: &R,
+    served: &mut ServedList<NetWire<'_, R>>,
+    staying: &mut TcpStream,
+    address: SocketAddr,
+) -> Result<(), Fail>
+where
+    R: Net<Listener = TcpListener, Stream = TcpStream> + AllocGlobal + Abort,
+{
+    assert!(rt; hears(rt, served, staying, &list(0, 1))?);
+    assert!(rt; is_published(rt, served, SECOND, 2));
+    assert!(rt; hears(rt, served, staying, &notify(2))?);
+    assert!(rt; hears_anew(rt, served, address, &list(1, 2))?);
+    assert!(rt; matches!(reread(rt, served, EQUAL), Reread::Same));
+    assert!(rt;
+        matches!(
+            reread(rt, served, FAULTY),
+            Reread::Refused(ListFault::Row(_))
+        )
+    );
+    assert!(rt; is_missing(rt, served));
+    assert!(rt; hears(rt, served, staying, &[])?);
+    assert!(rt; hears_anew(rt, served, address, &list(1, 2))?);
+    assert_eq!(rt; (served.serial(), served.payloads()), (2, 1));
+    Ok(())
 }
 
 #[test]
 fn routers_follow_a_list_that_changes(rt: HostRuntime) -> Result<(), Fail> {
     let mut served = serving_none(&rt)?;
     let address = served.turns().wire().local_address().ok_or("no address")?;
-    assert_eq!(rt; reread(&rt, &mut served, FIRST), Reread::Published(1));
+    assert!(rt; is_published(&rt, &mut served, FIRST, 1));
     let mut staying = router(&rt, address)?;
-    assert!(rt; heard(&rt, &mut served, &mut staying)?.as_slice() == list(0, 1).as_slice());
-    assert_eq!(rt; reread(&rt, &mut served, SECOND), Reread::Published(2));
-    assert!(rt; heard(&rt, &mut served, &mut staying)?.as_slice() == notify(2).as_slice());
-    assert!(rt; heard_anew(&rt, &mut served, address)?.as_slice() == list(1, 2).as_slice());
-    assert_eq!(rt; reread(&rt, &mut served, EQUAL), Reread::Same);
-    assert!(rt;
-        matches!(
-            reread(&rt, &mut served, FAULTY),
-            Reread::Refused(ListFault::Row(_))
-        )
-    );
-    assert_eq!(rt;
-        reread_none(&rt, &mut served),
-        Reread::Refused(ListFault::NoFile)
-    );
-    assert!(rt; heard(&rt, &mut served, &mut staying)?.is_empty());
-    assert!(rt; heard_anew(&rt, &mut served, address)?.as_slice() == list(1, 2).as_slice());
-    assert_eq!(rt; (served.serial(), served.payloads()), (2, 1));
-    Ok(())
+    follow(&rt, &mut served, &mut staying, address)
 }
