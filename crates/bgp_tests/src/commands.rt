@@ -39,63 +39,59 @@ fn refusals_have_their_numbers(rt: HostRuntime) {
     }
 }
 
-// Makes the tables after a command that nothing refuses.
-fn obey(conf: &mut Conf, command: &Command<'_>) -> Result<(), Fail> {
-    conf.check(command, 0)?;
-    Ok(conf.apply(command)?)
+// Whether nothing refuses the command; then the tables are those after it.
+fn obeys(conf: &mut Conf, command: &Command<'_>) -> bool {
+    conf.check(command, 0).is_ok() && conf.apply(command).is_ok()
+}
+
+// Whether the command is refused so, where no connection is closing.
+fn refuses(conf: &Conf, command: &Command<'_>, why: Refusal) -> bool {
+    conf.check(command, 0) == Err(why)
 }
 
 #[test]
 fn a_peer_is_configured_once(rt: HostRuntime) -> Result<(), Fail> {
+    let all = PolicyName::new("all")?;
     let mut conf = Conf::new(rt.alloc(), Asn(65000))?;
     assert_eq!(rt; conf.own(), Asn(65000));
-    assert_eq!(rt; conf.check(&Command::Enable(0), 0), Err(Refusal::BadSlot));
+    assert!(rt; refuses(&conf, &Command::Enable(0), Refusal::BadSlot));
     let command = Command::AddPeer(0, PEER);
-    assert_eq!(rt; conf.check(&command, 1), Err(Refusal::SlotTaken));
-    assert_eq!(rt; conf.check(&command, 2), Ok(()));
-    obey(&mut conf, &command)?;
+    assert!(rt; matches!(conf.check(&command, 1), Err(Refusal::SlotTaken)));
+    assert!(rt; conf.check(&command, 2).is_ok());
+    assert!(rt; obeys(&mut conf, &command));
     let peer = ConfiguredPeer {
         asn: Asn(65001),
         address: 0xc000_020b,
         local: 0xc000_0201,
         mode: Mode::Passive,
         hold: 180,
-        import: PolicyName::new("all")?,
-        export: PolicyName::new("all")?,
+        import: all,
+        export: all,
     };
     assert_eq!(rt; conf.peer(0), Some(peer));
     assert_eq!(rt; conf.peer(1), None);
-    assert_eq!(rt; conf.check(&Command::Enable(0), 0), Ok(()));
-    assert_eq!(rt; conf.check(&command, 0), Err(Refusal::SlotTaken));
-    assert_eq!(rt;
-        conf.check(&Command::AddPeer(1, PEER), 0),
-        Err(Refusal::AddressTaken)
-    );
+    assert!(rt; conf.check(&Command::Enable(0), 0).is_ok());
+    assert!(rt; refuses(&conf, &command, Refusal::SlotTaken));
+    assert!(rt; refuses(&conf, &Command::AddPeer(1, PEER), Refusal::AddressTaken));
     Ok(())
 }
 
 #[test]
 fn a_removed_peer_leaves_its_slot_and_its_address(rt: HostRuntime) -> Result<(), Fail> {
     let mut conf = Conf::new(rt.alloc(), Asn(65000))?;
-    assert_eq!(rt;
-        conf.check(&Command::RemovePeer(0), 0),
-        Err(Refusal::BadSlot)
-    );
-    assert_eq!(rt; conf.check(&Command::Disable(0), 0), Err(Refusal::BadSlot));
-    obey(&mut conf, &Command::AddPeer(0, PEER))?;
-    obey(&mut conf, &Command::Disable(0))?;
+    assert!(rt; refuses(&conf, &Command::RemovePeer(0), Refusal::BadSlot));
+    assert!(rt; refuses(&conf, &Command::Disable(0), Refusal::BadSlot));
+    assert!(rt; obeys(&mut conf, &Command::AddPeer(0, PEER)));
+    assert!(rt; obeys(&mut conf, &Command::Disable(0)));
     assert!(rt; conf.peer(0).is_some());
-    obey(&mut conf, &Command::RemovePeer(0))?;
+    assert!(rt; obeys(&mut conf, &Command::RemovePeer(0)));
     assert_eq!(rt; conf.peer(0), None);
     let active = PeerConf {
         mode: Mode::Active,
         ..PEER
     };
-    obey(&mut conf, &Command::AddPeer(1, active))?;
-    assert_eq!(rt;
-        conf.check(&Command::AddPeer(0, PEER), 0),
-        Err(Refusal::AddressTaken)
-    );
+    assert!(rt; obeys(&mut conf, &Command::AddPeer(1, active)));
+    assert!(rt; refuses(&conf, &Command::AddPeer(0, PEER), Refusal::AddressTaken));
     Ok(())
 }
 
@@ -156,15 +152,17 @@ fn many_rules(alloc: Global) -> Result<Vec<Rule>, Fail> {
 }
 
 // Whether each command in turn is refused as its row says, or obeyed where the row says nothing.
-fn plays(conf: &mut Conf, rows: &[(Command<'_>, Option<Refusal>)]) -> Result<bool, Fail> {
+fn plays(conf: &mut Conf, rows: &[(Command<'_>, Option<Refusal>)]) -> bool {
     for (command, refusal) in rows {
-        match conf.check(command, 0) {
-            Ok(()) if refusal.is_none() => conf.apply(command)?,
-            Err(why) if *refusal == Some(why) => {}
-            _ => return Ok(false),
+        let is_as_said = match refusal {
+            Some(why) => refuses(conf, command, *why),
+            None => obeys(conf, command),
+        };
+        if !is_as_said {
+            return false;
         }
     }
-    Ok(true)
+    true
 }
 
 // Whether this becomes of the routes of the slots' peers, with these states of their origins.
@@ -202,17 +200,14 @@ fn a_peer_can_be_of_the_own_as(rt: HostRuntime) -> Result<(), Fail> {
         asn: Asn(65000),
         ..PEER
     };
-    obey(&mut conf, &Command::AddPeer(0, internal))?;
+    assert!(rt; obeys(&mut conf, &Command::AddPeer(0, internal)));
     assert_eq!(rt; conf.peer(0).map(|peer| peer.asn), Some(Asn(65000)));
     let nobody = PeerConf {
         asn: Asn(0),
         address: 0xc000_020c,
         ..PEER
     };
-    assert_eq!(rt;
-        conf.check(&Command::AddPeer(1, nobody), 0),
-        Err(Refusal::Range)
-    );
+    assert!(rt; refuses(&conf, &Command::AddPeer(1, nobody), Refusal::Range));
     Ok(())
 }
 
@@ -220,7 +215,7 @@ fn a_peer_can_be_of_the_own_as(rt: HostRuntime) -> Result<(), Fail> {
 fn a_policy_has_a_name(rt: HostRuntime) -> Result<(), Fail> {
     let conf = Conf::new(rt.alloc(), Asn(65000))?;
     let command = Command::AddPeer(63, PeerConf { import: "", ..PEER });
-    assert_eq!(rt; conf.check(&command, 0), Err(Refusal::Range));
+    assert!(rt; refuses(&conf, &command, Refusal::Range));
     Ok(())
 }
 
@@ -254,14 +249,14 @@ fn peers_have_policies_that_are_there(rt: HostRuntime) -> Result<(), Fail> {
         (Command::UseIn(1, "unknown"), Some(Refusal::UnknownName)),
         (Command::UseOut(1, "unknown"), Some(Refusal::UnknownName)),
     ];
-    assert!(rt; plays(&mut conf, &rows)?);
+    assert!(rt; plays(&mut conf, &rows));
     Ok(())
 }
 
 #[test]
 fn what_no_policy_may_be_is_refused(rt: HostRuntime) -> Result<(), Fail> {
-    let mut conf = Conf::new(rt.alloc(), Asn(65000))?;
     let many = many_rules(rt.alloc())?;
+    let mut conf = Conf::new(rt.alloc(), Asn(65000))?;
     let rows = [
         (Command::SetPolicy("Preferred", &many), Some(Refusal::Range)),
         (
@@ -272,7 +267,7 @@ fn what_no_policy_may_be_is_refused(rt: HostRuntime) -> Result<(), Fail> {
         (Command::SetPolicy("all", &RULES), Some(Refusal::InUse)),
         (Command::SetPolicy("none", &RULES), Some(Refusal::InUse)),
     ];
-    assert!(rt; plays(&mut conf, &rows)?);
+    assert!(rt; plays(&mut conf, &rows));
     Ok(())
 }
 
@@ -295,7 +290,7 @@ fn a_policy_that_is_used_stays(rt: HostRuntime) -> Result<(), Fail> {
         (Command::DropPolicy("preferred"), None),
         (Command::DropPolicy("preferred"), Some(Refusal::UnknownName)),
     ];
-    assert!(rt; plays(&mut conf, &rows)?);
+    assert!(rt; plays(&mut conf, &rows));
     Ok(())
 }
 
@@ -306,13 +301,13 @@ fn a_peer_takes_its_routes_by_another_policy(rt: HostRuntime) -> Result<(), Fail
         (Command::AddPeer(0, PEER), None),
         (Command::SetPolicy("preferred", &RULES), None),
     ];
-    assert!(rt; plays(&mut conf, &rows)?);
+    assert!(rt; plays(&mut conf, &rows));
     let routes = [
         (0, Validity::Invalid, ACCEPT),
         (1, Validity::Valid, Action::Reject),
     ];
     assert!(rt; imports(&conf, &routes));
-    obey(&mut conf, &Command::UseIn(0, "preferred"))?;
+    assert!(rt; obeys(&mut conf, &Command::UseIn(0, "preferred")));
     let routes = [
         (0, Validity::Invalid, Action::Reject),
         (0, Validity::Valid, PREFER),
@@ -330,7 +325,7 @@ fn a_peer_is_told_routes_by_another_policy(rt: HostRuntime) -> Result<(), Fail> 
         (Command::SetPolicy("preferred", &RULES), None),
         (Command::UseOut(0, "preferred"), None),
     ];
-    assert!(rt; plays(&mut conf, &rows)?);
+    assert!(rt; plays(&mut conf, &rows));
     let routes = [
         (0, Validity::Invalid, Action::Reject),
         (0, Validity::Valid, PREFER),
@@ -343,13 +338,17 @@ fn a_peer_is_told_routes_by_another_policy(rt: HostRuntime) -> Result<(), Fail> 
     Ok(())
 }
 
-// The tables after these entries, each an address, a length and a cost.
-fn conf_with(alloc: Global, entries: &[(u32, u8, u32)]) -> Result<Conf, Fail> {
-    let mut conf = Conf::new(alloc, Asn(65000))?;
+// Whether these entries are taken, each an address, a length and a cost.
+fn reaches(conf: &mut Conf, entries: &[(u32, u8, u32)]) -> bool {
     for (bits, len, cost) in entries {
-        obey(&mut conf, &Command::Reach(Prefix::new(*bits, *len)?, *cost))?;
+        let Ok(prefix) = Prefix::new(*bits, *len) else {
+            return false;
+        };
+        if !obeys(conf, &Command::Reach(prefix, *cost)) {
+            return false;
+        }
     }
-    Ok(conf)
+    true
 }
 
 // The later entry of a prefix stands in place of the earlier one.
@@ -362,51 +361,46 @@ const ENTRIES: [(u32, u8, u32); 4] = [
 
 #[test]
 fn the_longest_entry_tells_the_cost(rt: HostRuntime) -> Result<(), Fail> {
-    let conf = conf_with(rt.alloc(), &ENTRIES)?;
-    for (next_hop, cost) in [
-        (0x0a01_0203, Some(1)),
-        (0x0a01_0204, Some(9)),
-        (0x0a02_0204, Some(5)),
-        (0x0b00_0000, None),
-    ] {
-        assert_eq!(rt; conf.cost(next_hop), cost);
-    }
+    let mut conf = Conf::new(rt.alloc(), Asn(65000))?;
+    assert!(rt; reaches(&mut conf, &ENTRIES));
+    assert_eq!(rt; conf.cost(0x0a01_0203), Some(1));
+    assert_eq!(rt; conf.cost(0x0a01_0204), Some(9));
+    assert_eq!(rt; conf.cost(0x0a02_0204), Some(5));
+    assert_eq!(rt; conf.cost(0x0b00_0000), None);
     Ok(())
 }
 
 #[test]
 fn an_entry_that_goes_tells_no_cost(rt: HostRuntime) -> Result<(), Fail> {
-    let mut conf = conf_with(rt.alloc(), &ENTRIES)?;
     let longer = Prefix::new(0x0a01_0000, 16)?;
-    obey(&mut conf, &Command::NoReach(longer))?;
+    let mut conf = Conf::new(rt.alloc(), Asn(65000))?;
+    assert!(rt; reaches(&mut conf, &ENTRIES));
+    assert!(rt; obeys(&mut conf, &Command::NoReach(longer)));
     assert_eq!(rt; conf.cost(0x0a01_0204), Some(5));
     assert_eq!(rt; conf.cost(0x0a01_0203), Some(1));
-    assert_eq!(rt;
-        conf.check(&Command::NoReach(longer), 0),
-        Err(Refusal::UnknownName)
-    );
-    obey(&mut conf, &Command::Reach(longer, 6))?;
+    assert!(rt; refuses(&conf, &Command::NoReach(longer), Refusal::UnknownName));
+    assert!(rt; obeys(&mut conf, &Command::Reach(longer, 6)));
     assert_eq!(rt; conf.cost(0x0a01_0204), Some(6));
     Ok(())
 }
 
 #[test]
 fn a_network_comes_and_goes(rt: HostRuntime) -> Result<(), Fail> {
-    let mut conf = Conf::new(rt.alloc(), Asn(65000))?;
     let network = Prefix::new(0xc633_6400, 24)?;
+    let (inner, outer) = (Prefix::new(0xc633_6400, 25)?, Prefix::new(0xc633_6400, 23)?);
     let goes = Command::NoNetwork(network);
+    let mut conf = Conf::new(rt.alloc(), Asn(65000))?;
     assert!(rt; !conf.is_network(network));
-    assert_eq!(rt; conf.check(&goes, 0), Err(Refusal::UnknownName));
-    obey(&mut conf, &Command::Network(network))?;
+    assert!(rt; refuses(&conf, &goes, Refusal::UnknownName));
+    assert!(rt; obeys(&mut conf, &Command::Network(network)));
     assert!(rt; conf.is_network(network));
-    assert!(rt; !conf.is_network(Prefix::new(0xc633_6400, 25)?));
-    assert!(rt; !conf.is_network(Prefix::new(0xc633_6400, 23)?));
+    assert!(rt; !conf.is_network(inner) && !conf.is_network(outer));
     // A second time changes nothing.
-    obey(&mut conf, &Command::Network(network))?;
+    assert!(rt; obeys(&mut conf, &Command::Network(network)));
     assert!(rt; conf.is_network(network));
-    obey(&mut conf, &goes)?;
+    assert!(rt; obeys(&mut conf, &goes));
     assert!(rt; !conf.is_network(network));
-    assert_eq!(rt; conf.check(&goes, 0), Err(Refusal::UnknownName));
+    assert!(rt; refuses(&conf, &goes, Refusal::UnknownName));
     Ok(())
 }
 
@@ -421,47 +415,41 @@ fn prefixes(alloc: Global, count: usize) -> Result<Vec<Prefix>, Fail> {
 
 #[test]
 fn there_are_4096_networks_at_most(rt: HostRuntime) -> Result<(), Fail> {
-    let mut conf = Conf::new(rt.alloc(), Asn(65000))?;
     let one_more = Prefix::new(0xc633_6400, 24)?;
     let all = prefixes(rt.alloc(), MAX_NETWORKS)?;
     assert_eq!(rt; all.len(), 4_096);
+    let mut conf = Conf::new(rt.alloc(), Asn(65000))?;
     for prefix in all.as_slice() {
-        obey(&mut conf, &Command::Network(*prefix))?;
+        assert!(rt; obeys(&mut conf, &Command::Network(*prefix)));
     }
-    assert_eq!(rt;
-        conf.check(&Command::Network(one_more), 0),
-        Err(Refusal::TooMany)
-    );
     // One that is there is taken, and one that goes leaves its place.
-    obey(&mut conf, &Command::Network(all[0]))?;
-    obey(&mut conf, &Command::NoNetwork(all[4_095]))?;
-    obey(&mut conf, &Command::Network(one_more))?;
-    assert_eq!(rt;
-        conf.check(&Command::Network(all[4_095]), 0),
-        Err(Refusal::TooMany)
-    );
+    let rows = [
+        (Command::Network(one_more), Some(Refusal::TooMany)),
+        (Command::Network(all[0]), None),
+        (Command::NoNetwork(all[4_095]), None),
+        (Command::Network(one_more), None),
+        (Command::Network(all[4_095]), Some(Refusal::TooMany)),
+    ];
+    assert!(rt; plays(&mut conf, &rows));
     Ok(())
 }
 
 #[test]
 fn there_are_4096_entries_at_most(rt: HostRuntime) -> Result<(), Fail> {
-    let mut conf = Conf::new(rt.alloc(), Asn(65000))?;
     let one_more = Prefix::new(0xc633_6400, 24)?;
     let all = prefixes(rt.alloc(), MAX_REACH)?;
     assert_eq!(rt; all.len(), 4_096);
+    let mut conf = Conf::new(rt.alloc(), Asn(65000))?;
     for prefix in all.as_slice() {
-        obey(&mut conf, &Command::Reach(*prefix, 10))?;
+        assert!(rt; obeys(&mut conf, &Command::Reach(*prefix, 10)));
     }
-    assert_eq!(rt;
-        conf.check(&Command::Reach(one_more, 10), 0),
-        Err(Refusal::TooMany)
-    );
-    obey(&mut conf, &Command::Reach(all[0], 11))?;
-    obey(&mut conf, &Command::NoReach(all[4_095]))?;
-    obey(&mut conf, &Command::Reach(one_more, 10))?;
-    assert_eq!(rt;
-        conf.check(&Command::Reach(all[4_095], 10), 0),
-        Err(Refusal::TooMany)
-    );
+    let rows = [
+        (Command::Reach(one_more, 10), Some(Refusal::TooMany)),
+        (Command::Reach(all[0], 11), None),
+        (Command::NoReach(all[4_095]), None),
+        (Command::Reach(one_more, 10), None),
+        (Command::Reach(all[4_095], 10), Some(Refusal::TooMany)),
+    ];
+    assert!(rt; plays(&mut conf, &rows));
     Ok(())
 }

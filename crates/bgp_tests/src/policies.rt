@@ -56,6 +56,17 @@ fn announced(prefix: Prefix, path: Option<&AsPath>) -> SeenRoute<'_> {
     }
 }
 
+// One whose origin is invalid.
+fn invalid(prefix: Prefix) -> SeenRoute<'static> {
+    SeenRoute {
+        prefix,
+        state: Validity::Invalid,
+        origin: Some(Asn(65001)),
+        path: None,
+        from: Some(3),
+    }
+}
+
 // A local network, without an origin.
 fn network(prefix: Prefix) -> SeenRoute<'static> {
     SeenRoute {
@@ -67,33 +78,37 @@ fn network(prefix: Prefix) -> SeenRoute<'static> {
     }
 }
 
-// What the policy of this name makes of the route, whichever way the route goes.
-fn action(
-    rt: &impl Abort,
-    policies: &Policies,
-    name: &str,
-    route: &SeenRoute<'_>,
-) -> Result<Action, Fail> {
-    let name = PolicyName::new(name)?;
-    let action = policies.import(name, route);
-    assert_eq!(rt; policies.export(name, route), action);
-    Ok(action)
+// Whether the policy of this name makes this of the route, whichever way the route goes.
+fn makes(policies: &Policies, name: &str, route: &SeenRoute<'_>, action: Action) -> bool {
+    let Ok(name) = PolicyName::new(name) else {
+        return false;
+    };
+    policies.import(name, route) == action && policies.export(name, route) == action
+}
+
+// Whether the rules are set.
+fn sets(policies: &mut Policies, name: &str, rules: &[Rule]) -> bool {
+    policies.set(name, rules).is_ok()
 }
 
 // Whether a rule of this condition matches the route.
-fn is_match(
-    rt: &impl Abort,
-    alloc: Global,
-    condition: Condition,
-    route: &SeenRoute<'_>,
-) -> Result<bool, Fail> {
+fn is_match(alloc: Global, condition: Condition, route: &SeenRoute<'_>) -> bool {
     let mut policies = Policies::new(alloc);
     let rule = Rule {
         condition,
         action: ACCEPT,
     };
-    policies.set("one", &[rule])?;
-    Ok(action(rt, &policies, "one", route)? == ACCEPT)
+    sets(&mut policies, "one", &[rule]) && makes(&policies, "one", route, ACCEPT)
+}
+
+// Whether a rule of each condition matches the route where its row says so.
+fn are_matches(alloc: Global, rows: &[(Condition, bool)], route: &SeenRoute<'_>) -> bool {
+    for (condition, expected) in rows {
+        if is_match(alloc, *condition, route) != *expected {
+            return false;
+        }
+    }
+    true
 }
 
 // The prefixes within one, of lengths from the least to the greatest.
@@ -137,8 +152,8 @@ fn a_rule_asks_for_prefixes_and_lengths(rt: HostRuntime) -> Result<(), Fail> {
     let wide = Prefix::new(0x0a00_0000, 8)?;
     let inner = Prefix::new(0x0a01_0000, 16)?;
     let beside = Prefix::new(0x0b00_0000, 8)?;
-    let route = announced(inner, None);
-    for (condition, expected) in [
+    let longer = Prefix::new(0x0a01_0000, 17)?;
+    let rows = [
         (ANY, true),
         (within(wide, 8, 32), true),
         (within(wide, 16, 16), true),
@@ -146,10 +161,9 @@ fn a_rule_asks_for_prefixes_and_lengths(rt: HostRuntime) -> Result<(), Fail> {
         (within(wide, 0, 15), false),
         (within(inner, 0, 32), true),
         (within(beside, 0, 32), false),
-        (within(Prefix::new(0x0a01_0000, 17)?, 0, 32), false),
-    ] {
-        assert_eq!(rt; is_match(&rt, rt.alloc(), condition, &route)?, expected);
-    }
+        (within(longer, 0, 32), false),
+    ];
+    assert!(rt; are_matches(rt.alloc(), &rows, &announced(inner, None)));
     Ok(())
 }
 
@@ -157,7 +171,7 @@ fn a_rule_asks_for_prefixes_and_lengths(rt: HostRuntime) -> Result<(), Fail> {
 fn a_rule_asks_for_what_a_route_has(rt: HostRuntime) -> Result<(), Fail> {
     let attrs = shared(&rt, rt.alloc())?;
     let route = announced(Prefix::new(0x0a01_0000, 16)?, attrs.as_path());
-    for (condition, expected) in [
+    let rows = [
         (of_state(Validity::Valid), true),
         (of_state(Validity::Invalid), false),
         (of_state(Validity::NotFound), false),
@@ -167,25 +181,23 @@ fn a_rule_asks_for_what_a_route_has(rt: HostRuntime) -> Result<(), Fail> {
         (through(65002), false),
         (from_slot(3), true),
         (from_slot(4), false),
-    ] {
-        assert_eq!(rt; is_match(&rt, rt.alloc(), condition, &route)?, expected);
-    }
+    ];
+    assert!(rt; are_matches(rt.alloc(), &rows, &route));
     Ok(())
 }
 
 #[test]
 fn what_a_route_lacks_meets_no_test(rt: HostRuntime) -> Result<(), Fail> {
     let route = network(Prefix::new(0x0a01_0000, 16)?);
-    assert!(rt; is_match(&rt, rt.alloc(), ANY, &route)?);
-    for condition in [
-        of_origin(0),
-        of_origin(65001),
-        through(65001),
-        from_slot(0),
-        from_slot(63),
-    ] {
-        assert!(rt; !is_match(&rt, rt.alloc(), condition, &route)?);
-    }
+    let rows = [
+        (ANY, true),
+        (of_origin(0), false),
+        (of_origin(65001), false),
+        (through(65001), false),
+        (from_slot(0), false),
+        (from_slot(63), false),
+    ];
+    assert!(rt; are_matches(rt.alloc(), &rows, &route));
     Ok(())
 }
 
@@ -197,17 +209,13 @@ fn a_rule_asks_for_all_of_its_tests(rt: HostRuntime) -> Result<(), Fail> {
         ..from_slot(3)
     };
     let route = announced(prefix, None);
-    assert!(rt; is_match(&rt, rt.alloc(), both, &route)?);
-    let invalid = SeenRoute {
-        state: Validity::Invalid,
-        ..announced(prefix, None)
-    };
-    assert!(rt; !is_match(&rt, rt.alloc(), both, &invalid)?);
+    assert!(rt; is_match(rt.alloc(), both, &route));
+    assert!(rt; !is_match(rt.alloc(), both, &invalid(prefix)));
     let elsewhere = SeenRoute {
         from: Some(4),
         ..announced(prefix, None)
     };
-    assert!(rt; !is_match(&rt, rt.alloc(), both, &elsewhere)?);
+    assert!(rt; !is_match(rt.alloc(), both, &elsewhere));
     Ok(())
 }
 
@@ -233,60 +241,55 @@ fn the_first_rule_that_matches_decides(rt: HostRuntime) -> Result<(), Fail> {
         },
         REJECT_ALL,
     ];
-    let mut policies = Policies::new(rt.alloc());
-    policies.set("by-state", &rules)?;
     let prefix = Prefix::new(0x0a01_0000, 16)?;
-    let invalid = SeenRoute {
-        state: Validity::Invalid,
-        ..announced(prefix, None)
-    };
-    for (route, expected) in [
-        (invalid, Action::Reject),
-        (announced(prefix, None), all_set),
-        (network(prefix), of_degree(100)),
-    ] {
-        assert_eq!(rt; action(&rt, &policies, "by-state", &route)?, expected);
-    }
+    let mut policies = Policies::new(rt.alloc());
+    assert!(rt; sets(&mut policies, "by-state", &rules));
+    assert!(rt; makes(&policies, "by-state", &invalid(prefix), Action::Reject));
+    assert!(rt; makes(&policies, "by-state", &announced(prefix, None), all_set));
+    assert!(rt; makes(&policies, "by-state", &network(prefix), of_degree(100)));
     Ok(())
 }
 
 #[test]
 fn no_match_rejects(rt: HostRuntime) -> Result<(), Fail> {
-    let mut policies = Policies::new(rt.alloc());
+    let route = announced(Prefix::new(0x0a01_0000, 16)?, None);
     let rule = Rule {
         condition: from_slot(4),
         action: ACCEPT,
     };
-    policies.set("from-4", &[rule, rule])?;
-    policies.set("empty", &[])?;
-    let route = announced(Prefix::new(0x0a01_0000, 16)?, None);
+    let mut policies = Policies::new(rt.alloc());
+    assert!(rt; sets(&mut policies, "from-4", &[rule, rule]));
+    assert!(rt; sets(&mut policies, "empty", &[]));
     for name in ["from-4", "empty", "none", "unknown"] {
-        assert_eq!(rt; action(&rt, &policies, name, &route)?, Action::Reject);
+        assert!(rt; makes(&policies, name, &route, Action::Reject));
     }
-    assert_eq!(rt; action(&rt, &policies, "all", &route)?, ACCEPT);
+    assert!(rt; makes(&policies, "all", &route, ACCEPT));
     Ok(())
 }
 
-fn knows(policies: &Policies, name: &str) -> Result<bool, Fail> {
-    Ok(policies.knows(PolicyName::new(name)?))
+fn knows(policies: &Policies, name: &str) -> bool {
+    match PolicyName::new(name) {
+        Ok(name) => policies.knows(name),
+        Err(_) => false,
+    }
 }
 
 #[test]
 fn a_policy_is_replaced_and_dropped(rt: HostRuntime) -> Result<(), Fail> {
     let route = announced(Prefix::new(0x0a01_0000, 16)?, None);
     let mut policies = Policies::new(rt.alloc());
-    assert!(rt; knows(&policies, "all")? && knows(&policies, "none")?);
-    assert!(rt; !knows(&policies, "peer")?);
-    policies.set("peer", &[ACCEPT_ALL])?;
-    policies.set("other", &[ACCEPT_ALL, REJECT_ALL])?;
-    assert_eq!(rt; action(&rt, &policies, "peer", &route)?, ACCEPT);
-    policies.set("peer", &[REJECT_ALL, ACCEPT_ALL])?;
-    assert_eq!(rt; action(&rt, &policies, "peer", &route)?, Action::Reject);
-    assert_eq!(rt; action(&rt, &policies, "other", &route)?, ACCEPT);
-    policies.drop_name("peer", false)?;
-    assert!(rt; !knows(&policies, "peer")? && knows(&policies, "other")?);
-    assert_eq!(rt; action(&rt, &policies, "peer", &route)?, Action::Reject);
-    assert_eq!(rt; action(&rt, &policies, "other", &route)?, ACCEPT);
+    assert!(rt; knows(&policies, "all") && knows(&policies, "none"));
+    assert!(rt; !knows(&policies, "peer"));
+    assert!(rt; sets(&mut policies, "peer", &[ACCEPT_ALL]));
+    assert!(rt; sets(&mut policies, "other", &[ACCEPT_ALL, REJECT_ALL]));
+    assert!(rt; makes(&policies, "peer", &route, ACCEPT));
+    assert!(rt; sets(&mut policies, "peer", &[REJECT_ALL, ACCEPT_ALL]));
+    assert!(rt; makes(&policies, "peer", &route, Action::Reject));
+    assert!(rt; makes(&policies, "other", &route, ACCEPT));
+    assert!(rt; policies.drop_name("peer", false).is_ok());
+    assert!(rt; !knows(&policies, "peer") && knows(&policies, "other"));
+    assert!(rt; makes(&policies, "peer", &route, Action::Reject));
+    assert!(rt; makes(&policies, "other", &route, ACCEPT));
     Ok(())
 }
 
@@ -435,7 +438,7 @@ fn there_are_64_policies_at_most(rt: HostRuntime) -> Result<(), Fail> {
 #[test]
 fn what_is_built_in_or_used_stays(rt: HostRuntime) -> Result<(), Fail> {
     let mut policies = Policies::new(rt.alloc());
-    policies.set("peer", &[ACCEPT_ALL])?;
+    assert!(rt; sets(&mut policies, "peer", &[ACCEPT_ALL]));
     let in_use = Some(PolicyRefusal::InUse);
     for name in ["all", "none"] {
         is_refused(&rt, &mut policies, name, in_use);
@@ -478,34 +481,55 @@ fn of_network<A: Allocator + Clone>(
     policies.export(name, &route)
 }
 
-// Sets policies, and each again with other rules, and asks again where a growth is refused. Answers how often one was.
-fn fill<A: Allocator + Clone>(rt: &impl Abort, mut policies: Policies<A>) -> Result<u32, Fail> {
+#[rattlefmt::skip]
+const SETTINGS: [(&str, Rule); 7] = [
+    ("a", ACCEPT_ALL),
+    ("b", ACCEPT_ALL),
+    ("c", ACCEPT_ALL),
+    ("d", ACCEPT_ALL),
+    ("e", ACCEPT_ALL),
+    ("b", REJECT_ALL),
+    ("e", REJECT_ALL),
+];
+
+// Sets a policy of one rule, and again where a growth is refused. Answers whether one was.
+fn is_set_again<A: Allocator + Clone>(
+    rt: &impl Abort,
+    policies: &mut Policies<A>,
+    text: &str,
+    rule: Rule,
+) -> Result<bool, Fail> {
     let prefix = Prefix::new(0x0a01_0000, 16)?;
-    let mut refused = 0u32;
-    for (text, rule) in [
-        ("a", ACCEPT_ALL),
-        ("b", ACCEPT_ALL),
-        ("c", ACCEPT_ALL),
-        ("d", ACCEPT_ALL),
-        ("e", ACCEPT_ALL),
-        ("b", REJECT_ALL),
-        ("e", REJECT_ALL),
-    ] {
-        let name = PolicyName::new(text)?;
-        let (known, before) = (policies.knows(name), of_network(&policies, name, prefix));
-        if let Err(refusal) = policies.set(text, &[rule]) {
-            refused = refused.saturating_add(1);
+    let name = PolicyName::new(text)?;
+    let (known, before) = (policies.knows(name), of_network(policies, name, prefix));
+    let refused = match policies.set(text, &[rule]) {
+        Ok(()) => false,
+        Err(refusal) => {
             assert_eq!(rt; refusal.number(), 44);
-            assert_eq!(rt; policies.knows(name), known);
-            assert_eq!(rt; of_network(&policies, name, prefix), before);
+            assert!(rt; policies.knows(name) == known);
+            assert!(rt; of_network(policies, name, prefix) == before);
             policies.set(text, &[rule])?;
+            true
         }
-        assert_eq!(rt; of_network(&policies, name, prefix), rule.action);
+    };
+    assert!(rt; of_network(policies, name, prefix) == rule.action);
+    Ok(refused)
+}
+
+// Sets policies, and some again with other rules. Answers how often a growth was refused.
+fn fill<A: Allocator + Clone>(rt: &impl Abort, policies: &mut Policies<A>) -> Result<u32, Fail> {
+    let mut refused = 0u32;
+    for (text, rule) in &SETTINGS {
+        if is_set_again(rt, policies, text, *rule)? {
+            refused = refused.saturating_add(1);
+        }
     }
-    assert_eq!(rt;
-        of_network(&policies, PolicyName::new("a")?, prefix),
-        ACCEPT
+    let first = of_network(
+        policies,
+        PolicyName::new("a")?,
+        Prefix::new(0x0a01_0000, 16)?,
     );
+    assert!(rt; first == ACCEPT);
     policies.drop_name("b", false)?;
     Ok(refused)
 }
@@ -514,7 +538,7 @@ fn fill<A: Allocator + Clone>(rt: &impl Abort, mut policies: Policies<A>) -> Res
 fn a_refused_growth_leaves_the_policies(rt: HostRuntime) -> Result<(), Fail> {
     for nth in 1..1_000u64 {
         let heap = Refusing::new(rt.alloc(), nth);
-        let refused = fill(&rt, Policies::new(&heap))?;
+        let refused = fill(&rt, &mut Policies::new(&heap))?;
         if !heap.has_refused() {
             assert_eq!(rt; refused, 0);
             assert!(rt; nth > 7);

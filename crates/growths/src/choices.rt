@@ -34,8 +34,17 @@ fn step(rt: &impl Abort, speaker: &mut Speaker<Global>, event: Event<'_>) {
     assert_eq!(rt; speaker.step(event), Ok(Report::NOTHING));
 }
 
-fn refuses(rt: &impl Abort, speaker: &mut Speaker<Global>, event: Event<'_>, why: Refusal) {
-    assert_eq!(rt; speaker.step(event), Err(why));
+// Whether the event isn't expected.
+fn is_unexpected(speaker: &mut Speaker<Global>, event: Event<'_>) -> bool {
+    matches!(speaker.step(event), Err(Refusal::NotExpected))
+}
+
+// Each command, with how often a best route is chosen for it.
+fn obey(rt: &impl Abort, speaker: &mut Speaker<Global>, commands: &[(Command<'_>, u64)]) {
+    for (command, chosen) in commands {
+        step(rt, speaker, Event::Command(*command));
+        assert_eq!(rt; speaker.chosen(), *chosen);
+    }
 }
 
 fn take(rt: &impl Abort, speaker: &mut Speaker<Global>, octets: &[u8]) {
@@ -59,8 +68,9 @@ fn play(rt: &impl Abort, speaker: &mut Speaker<Global>, calls: &[Call<'_>]) {
 
 #[test]
 fn a_best_route_is_chosen_once_for_a_route_that_comes_or_goes(rt: HostRuntime) -> Result<(), Fail> {
+    let calls = calls(Prefix::parse(REACHABLE)?);
     let mut speaker = Speaker::new(rt.alloc(), CONFIG)?;
-    play(&rt, &mut speaker, &calls(Prefix::parse(REACHABLE)?));
+    play(&rt, &mut speaker, &calls);
     Ok(())
 }
 
@@ -68,12 +78,9 @@ fn a_best_route_is_chosen_once_for_a_route_that_comes_or_goes(rt: HostRuntime) -
 fn a_prefix_that_is_withdrawn_and_announced_is_chosen_for_once(
     rt: HostRuntime,
 ) -> Result<(), Fail> {
+    let calls = calls(Prefix::parse(REACHABLE)?);
     let mut speaker = Speaker::new(rt.alloc(), CONFIG)?;
-    play(
-        &rt,
-        &mut speaker,
-        &calls(Prefix::parse(REACHABLE)?)[..UP_TO_ROUTE],
-    );
+    play(&rt, &mut speaker, &calls[..UP_TO_ROUTE]);
     step(&rt, &mut speaker, Event::Bytes(0, &REPLACED));
     assert_eq!(rt; speaker.chosen(), 1);
     Ok(())
@@ -81,13 +88,10 @@ fn a_prefix_that_is_withdrawn_and_announced_is_chosen_for_once(
 
 #[test]
 fn a_refused_call_leaves_the_count(rt: HostRuntime) -> Result<(), Fail> {
+    let calls = calls(Prefix::parse(REACHABLE)?);
     let mut speaker = Speaker::new(rt.alloc(), CONFIG)?;
-    play(
-        &rt,
-        &mut speaker,
-        &calls(Prefix::parse(REACHABLE)?)[..UP_TO_ROUTE],
-    );
-    refuses(&rt, &mut speaker, Event::Up(0), Refusal::NotExpected);
+    play(&rt, &mut speaker, &calls[..UP_TO_ROUTE]);
+    assert!(rt; is_unexpected(&mut speaker, Event::Up(0)));
     assert_eq!(rt; speaker.chosen(), 1);
     step(&rt, &mut speaker, Event::Tick(1));
     assert_eq!(rt; speaker.chosen(), 0);
@@ -98,12 +102,12 @@ fn a_refused_call_leaves_the_count(rt: HostRuntime) -> Result<(), Fail> {
 // that goes or comes changes the candidate of the peer's route alone.
 #[test]
 fn a_command_chooses_where_it_changes_a_candidate(rt: HostRuntime) -> Result<(), Fail> {
-    let mut speaker = Speaker::new(rt.alloc(), CONFIG)?;
     let reachable = Prefix::parse(REACHABLE)?;
-    play(&rt, &mut speaker, &calls(reachable)[..UP_TO_ROUTE]);
     let there = Prefix::parse(ANNOUNCED_PREFIX)?;
     let alone = Prefix::parse("198.51.100.0/24")?;
-    for (command, chosen) in [
+    let mut speaker = Speaker::new(rt.alloc(), CONFIG)?;
+    play(&rt, &mut speaker, &calls(reachable)[..UP_TO_ROUTE]);
+    let commands = [
         (Command::Network(there), 1),
         (Command::Network(there), 0),
         (Command::Network(alone), 1),
@@ -111,10 +115,8 @@ fn a_command_chooses_where_it_changes_a_candidate(rt: HostRuntime) -> Result<(),
         (Command::Reach(reachable, 10), 1),
         (Command::NoNetwork(there), 1),
         (Command::NoNetwork(alone), 1),
-    ] {
-        step(&rt, &mut speaker, Event::Command(command));
-        assert_eq!(rt; speaker.chosen(), chosen);
-    }
+    ];
+    obey(&rt, &mut speaker, &commands);
     Ok(())
 }
 
@@ -123,23 +125,18 @@ fn a_command_chooses_where_it_changes_a_candidate(rt: HostRuntime) -> Result<(),
 fn another_policy_of_a_peer_chooses_for_the_routes_that_it_takes(
     rt: HostRuntime,
 ) -> Result<(), Fail> {
+    let calls = calls(Prefix::parse(REACHABLE)?);
     let mut speaker = Speaker::new(rt.alloc(), CONFIG)?;
-    play(
-        &rt,
-        &mut speaker,
-        &calls(Prefix::parse(REACHABLE)?)[..UP_TO_ROUTE],
-    );
+    play(&rt, &mut speaker, &calls[..UP_TO_ROUTE]);
     step(&rt, &mut speaker, Event::Bytes(0, &TWO_MORE));
-    for (command, chosen) in [
+    let commands = [
         (Command::UseOut(1, "none"), 0),
         (Command::UseOut(1, "all"), 0),
         (Command::UseIn(1, "none"), 0),
         (Command::UseIn(0, "none"), 3),
         (Command::UseOut(0, "none"), 0),
         (Command::UseIn(0, "all"), 3),
-    ] {
-        step(&rt, &mut speaker, Event::Command(command));
-        assert_eq!(rt; speaker.chosen(), chosen);
-    }
+    ];
+    obey(&rt, &mut speaker, &commands);
     Ok(())
 }

@@ -49,6 +49,13 @@ fn update(number: u16) -> [u8; 47] {
     ]
 }
 
+// The events are taken, and nothing of them is reported.
+fn take_all<A: Allocator + Clone>(rt: &impl Abort, speaker: &mut Speaker<A>, events: &[Event<'_>]) {
+    for event in events {
+        assert_eq!(rt; speaker.step(*event), Ok(Report::NOTHING));
+    }
+}
+
 // A peer is configured and its session comes up.
 fn open<'a, A: Allocator + Clone>(
     rt: &impl Abort,
@@ -57,15 +64,14 @@ fn open<'a, A: Allocator + Clone>(
     peer: PeerConf<'a>,
     open: &'a [u8],
 ) {
-    for event in [
+    let events = [
         Event::Command(Command::AddPeer(slot, peer)),
         Event::Command(Command::Enable(slot)),
         Event::Up(slot),
         Event::Bytes(slot, open),
         Event::Bytes(slot, &KEEPALIVE),
-    ] {
-        assert_eq!(rt; speaker.step(event), Ok(Report::NOTHING));
-    }
+    ];
+    take_all(rt, speaker, &events);
     assert_eq!(rt; speaker.session(slot), Some(State::Established));
 }
 
@@ -115,31 +121,38 @@ fn has_routes<A: Allocator + Clone>(
     assert_eq!(rt; speaker.adj_in(0).take(MOST_ROUTES).count(), wanted);
 }
 
-// Plays all with the heap; answers the slot that was closed, a bit each, or 0.
+// Plays all on a new speaker; answers the slot that was closed, a bit each, or 0.
+fn play_on(
+    rt: &impl Abort,
+    alloc: Global,
+    speaker: &mut Speaker<&Refusing<Global>>,
+    prefixes: u16,
+) -> Result<u64, Fail> {
+    let reachable = Event::Command(Command::Reach(Prefix::parse(REACHABLE)?, 10));
+    take_all(rt, speaker, &[reachable]);
+    open(rt, speaker, 0, FIRST_PEER, &FIRST_OPEN);
+    open(rt, speaker, 1, SECOND_PEER, &SECOND_OPEN);
+    open(rt, speaker, 2, THIRD_PEER, &THIRD_OPEN);
+    let closed = announce_all(rt, alloc, speaker, prefixes)?;
+    let slot = match closed.as_slice() {
+        [] => 0,
+        [slot] => *slot,
+        _ => panic!(rt; "more than one was closed"),
+    };
+    stand_but(rt, speaker, slot);
+    has_routes(rt, speaker, slot, prefixes);
+    Ok(slot)
+}
+
+// Plays all with the heap.
 fn play(
     rt: &impl Abort,
     alloc: Global,
     heap: &Refusing<Global>,
     prefixes: u16,
 ) -> Result<u64, Fail> {
-    let mut speaker: Speaker<&Refusing<Global>> = match Speaker::new(heap, CONFIG) {
-        Ok(speaker) => speaker,
-        Err(_) => panic!(rt; "no speaker"),
-    };
-    let reachable = Event::Command(Command::Reach(Prefix::parse(REACHABLE)?, 10));
-    assert_eq!(rt; speaker.step(reachable), Ok(Report::NOTHING));
-    open(rt, &mut speaker, 0, FIRST_PEER, &FIRST_OPEN);
-    open(rt, &mut speaker, 1, SECOND_PEER, &SECOND_OPEN);
-    open(rt, &mut speaker, 2, THIRD_PEER, &THIRD_OPEN);
-    let closed = announce_all(rt, alloc, &mut speaker, prefixes)?;
-    let slot = match closed.as_slice() {
-        [] => 0,
-        [slot] => *slot,
-        _ => panic!(rt; "more than one was closed"),
-    };
-    stand_but(rt, &speaker, slot);
-    has_routes(rt, &speaker, slot, prefixes);
-    Ok(slot)
+    let mut speaker: Speaker<&Refusing<Global>> = Speaker::new(heap, CONFIG)?;
+    play_on(rt, alloc, &mut speaker, prefixes)
 }
 
 // The first refused request that closes the slot, a bit each.

@@ -6,9 +6,12 @@ use crate::first_path::{
 use net_prefix::{Prefix, Transport};
 use refusing::Refusing;
 use speaker::{BestRoute, Command, Event, LOCAL_SLOT, Refusal, Report, Speaker, State, Validity};
-use std::alloc::{AllocError, Global};
+use std::alloc::{AllocError, Allocator, Global};
 use std::process::Abort;
 use std::test::Fail;
+
+// More routes than there are: a bound for the walk over a table.
+const MOST_ROUTES: usize = 100;
 
 // A prefix that no peer announces.
 const ANOTHER_PREFIX: &str = "198.51.100.0/24";
@@ -44,7 +47,10 @@ pub struct Shown {
     chosen: u64,
 }
 
-pub fn look_at(alloc: Global, speaker: &OverRefusing<'_>) -> Result<Shown, AllocError> {
+pub fn look_at<A: Allocator + Clone>(
+    alloc: Global,
+    speaker: &Speaker<A>,
+) -> Result<Shown, AllocError> {
     Ok(Shown {
         sessions: [speaker.session(0), speaker.session(1)],
         transports: [speaker.transport(0), speaker.transport(1)],
@@ -56,19 +62,33 @@ pub fn look_at(alloc: Global, speaker: &OverRefusing<'_>) -> Result<Shown, Alloc
     })
 }
 
-fn announced(
-    alloc: Global,
-    speaker: &OverRefusing<'_>,
-    slot: u8,
-) -> Result<Vec<Prefix>, AllocError> {
-    speaker
-        .adj_in(slot)
-        .map(|(prefix, _)| prefix)
-        .collect(alloc)
+/// Whether the speaker shows just this.
+pub fn shows(alloc: Global, speaker: &OverRefusing<'_>, shown: &Shown) -> Result<bool, AllocError> {
+    Ok(look_at(alloc, speaker)? == *shown)
 }
 
-fn held(alloc: Global, speaker: &OverRefusing<'_>, slot: u8) -> Result<Vec<Prefix>, AllocError> {
-    speaker.held(slot).map(|(prefix, _)| prefix).collect(alloc)
+fn announced<A: Allocator + Clone>(
+    alloc: Global,
+    speaker: &Speaker<A>,
+    slot: u8,
+) -> Result<Vec<Prefix>, AllocError> {
+    let mut prefixes = Vec::new(alloc);
+    for (prefix, _) in speaker.adj_in(slot).take(MOST_ROUTES) {
+        prefixes.push(prefix)?;
+    }
+    Ok(prefixes)
+}
+
+fn held<A: Allocator + Clone>(
+    alloc: Global,
+    speaker: &Speaker<A>,
+    slot: u8,
+) -> Result<Vec<Prefix>, AllocError> {
+    let mut prefixes = Vec::new(alloc);
+    for (prefix, _) in speaker.held(slot).take(MOST_ROUTES) {
+        prefixes.push(prefix)?;
+    }
+    Ok(prefixes)
 }
 
 /// Whether the calls are over before the heap refuses a growth. Nothing refuses them but that.
@@ -118,12 +138,24 @@ fn is_there(
     Ok(())
 }
 
+/// Whether the command is obeyed, and nothing of it is reported.
+pub fn obeys(speaker: &mut OverRefusing<'_>, command: Command<'_>) -> bool {
+    matches!(speaker.step(Event::Command(command)), Ok(Report::NOTHING))
+}
+
+/// Whether the command names what isn't there.
+pub fn is_unknown(speaker: &mut OverRefusing<'_>, command: Command<'_>) -> bool {
+    matches!(
+        speaker.step(Event::Command(command)),
+        Err(Refusal::UnknownName)
+    )
+}
+
 // The network goes.
 fn goes(rt: &impl Abort, speaker: &mut OverRefusing<'_>, network: Prefix) {
-    let event = Event::Command(Command::NoNetwork(network));
-    assert_eq!(rt; speaker.step(event), Ok(Report::NOTHING));
+    assert!(rt; obeys(speaker, Command::NoNetwork(network)));
     assert!(rt; speaker.loc_rib().all(|best| best.slot != LOCAL_SLOT));
-    assert_eq!(rt; speaker.step(event), Err(Refusal::UnknownName));
+    assert!(rt; is_unknown(speaker, Command::NoNetwork(network)));
 }
 
 // The command was refused: there is no network, and the same command is obeyed.
@@ -134,12 +166,57 @@ fn comes_again(
     network: Prefix,
     before: &Shown,
 ) -> Result<(), Fail> {
-    assert_eq!(rt; look_at(alloc, speaker)?, *before);
-    let goes = Event::Command(Command::NoNetwork(network));
-    assert_eq!(rt; speaker.step(goes), Err(Refusal::UnknownName));
-    let comes = Event::Command(Command::Network(network));
-    assert_eq!(rt; speaker.step(comes), Ok(Report::NOTHING));
+    assert!(rt; shows(alloc, speaker, before)?);
+    assert!(rt; is_unknown(speaker, Command::NoNetwork(network)));
+    assert!(rt; obeys(speaker, Command::Network(network)));
     is_there(rt, alloc, speaker, network, before.sessions)
+}
+
+// The command comes to a speaker that showed this before it.
+fn originate(
+    rt: &impl Abort,
+    alloc: Global,
+    speaker: &mut OverRefusing<'_>,
+    network: Prefix,
+    before: &Shown,
+) -> Result<Ending, Fail> {
+    let up = Some(State::Established);
+    let idle = Some(State::Idle);
+    let (ending, sessions) = match speaker.step(Event::Command(Command::Network(network))) {
+        Err(why) => {
+            assert!(rt; matches!(why, Refusal::NoMemory));
+            comes_again(rt, alloc, speaker, network, before)?;
+            return Ok(Ending::Refused);
+        }
+        Ok(Report::NOTHING) => (Ending::Whole, [up, up]),
+        Ok(FIRST_CLOSED) => (Ending::ClosedFirst, [idle, up]),
+        Ok(report) => {
+            assert_eq!(rt; report, SECOND_CLOSED);
+            (Ending::ClosedSecond, [up, idle])
+        }
+    };
+    is_there(rt, alloc, speaker, network, sessions)?;
+    Ok(ending)
+}
+
+// Plays the calls and the command on a new speaker.
+fn play_on(
+    rt: &impl Abort,
+    alloc: Global,
+    heap: &Refusing<Global>,
+    speaker: &mut OverRefusing<'_>,
+    calls: &[Call<'_>],
+    network: Prefix,
+) -> Result<Ending, Fail> {
+    if !are_granted(rt, speaker, heap, calls) {
+        return Ok(Ending::Earlier);
+    }
+    let before = look_at(alloc, speaker)?;
+    let ending = originate(rt, alloc, speaker, network, &before)?;
+    if ending != Ending::Whole {
+        goes(rt, speaker, network);
+    }
+    Ok(ending)
 }
 
 // Plays the calls and the command on a speaker over the heap.
@@ -151,34 +228,7 @@ fn play(
     network: Prefix,
 ) -> Result<Ending, Fail> {
     let mut speaker: OverRefusing<'_> = Speaker::new(heap, CONFIG)?;
-    if !are_granted(rt, &mut speaker, heap, calls) {
-        return Ok(Ending::Earlier);
-    }
-    let before = look_at(alloc, &speaker)?;
-    let up = Some(State::Established);
-    let idle = Some(State::Idle);
-    let ending = match speaker.step(Event::Command(Command::Network(network))) {
-        Err(why) => {
-            assert_eq!(rt; why, Refusal::NoMemory);
-            comes_again(rt, alloc, &mut speaker, network, &before)?;
-            Ending::Refused
-        }
-        Ok(Report::NOTHING) => {
-            is_there(rt, alloc, &speaker, network, [up, up])?;
-            return Ok(Ending::Whole);
-        }
-        Ok(FIRST_CLOSED) => {
-            is_there(rt, alloc, &speaker, network, [idle, up])?;
-            Ending::ClosedFirst
-        }
-        Ok(report) => {
-            assert_eq!(rt; report, SECOND_CLOSED);
-            is_there(rt, alloc, &speaker, network, [up, idle])?;
-            Ending::ClosedSecond
-        }
-    };
-    goes(rt, &mut speaker, network);
-    Ok(ending)
+    play_on(rt, alloc, heap, &mut speaker, calls, network)
 }
 
 // How the command ends, by n, until nothing is refused.

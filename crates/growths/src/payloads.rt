@@ -72,10 +72,11 @@ enum Ending {
 
 // The cache sends octets. Whether the session was closed for want of memory.
 fn hears(rt: &impl Abort, speaker: &mut OverRefusing<'_>, octets: &[u8]) -> bool {
-    let answer = speaker.step(Event::CacheBytes(octets));
-    let starved = answer == Ok(CLOSED);
-    assert!(rt; starved || answer == Ok(Report::NOTHING));
-    starved
+    match speaker.step(Event::CacheBytes(octets)) {
+        Ok(CLOSED) => true,
+        Ok(Report::NOTHING) => false,
+        _ => panic!(rt; "octets were answered so"),
+    }
 }
 
 // The origins of the payloads in force, in their order.
@@ -101,6 +102,25 @@ fn takes_query(speaker: &mut OverRefusing<'_>) {
 }
 
 // A load and a change of it, on a new connection.
+fn play_on(rt: &impl Abort, speaker: &mut OverRefusing<'_>) -> Ending {
+    assert!(rt; matches!(speaker.step(Event::CacheUp), Ok(Report::NOTHING)));
+    takes_query(speaker);
+    if hears(rt, speaker, &LOAD) {
+        has_closed(rt, speaker, &[]);
+        return Ending::ClosedLoading;
+    }
+    shows(rt, speaker, &[65_001, 65_002]);
+    assert!(rt; !hears(rt, speaker, &NOTIFY));
+    takes_query(speaker);
+    if hears(rt, speaker, &CHANGE) {
+        has_closed(rt, speaker, &[65_001, 65_002]);
+        return Ending::ClosedChanging;
+    }
+    shows(rt, speaker, &[65_003, 65_002]);
+    Ending::Whole
+}
+
+// The same on a new speaker over the heap.
 fn play(rt: &impl Abort, heap: &Refusing<Global>) -> Ending {
     let mut speaker: OverRefusing<'_> = match Speaker::new(heap, WITH_CACHE) {
         Ok(speaker) => speaker,
@@ -109,21 +129,7 @@ fn play(rt: &impl Abort, heap: &Refusing<Global>) -> Ending {
             return Ending::NotBegun;
         }
     };
-    assert_eq!(rt; speaker.step(Event::CacheUp), Ok(Report::NOTHING));
-    takes_query(&mut speaker);
-    if hears(rt, &mut speaker, &LOAD) {
-        has_closed(rt, &mut speaker, &[]);
-        return Ending::ClosedLoading;
-    }
-    shows(rt, &speaker, &[65_001, 65_002]);
-    assert!(rt; !hears(rt, &mut speaker, &NOTIFY));
-    takes_query(&mut speaker);
-    if hears(rt, &mut speaker, &CHANGE) {
-        has_closed(rt, &mut speaker, &[65_001, 65_002]);
-        return Ending::ClosedChanging;
-    }
-    shows(rt, &speaker, &[65_003, 65_002]);
-    Ending::Whole
+    play_on(rt, &mut speaker)
 }
 
 // How it ends, by n, until nothing is refused.

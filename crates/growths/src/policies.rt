@@ -3,7 +3,7 @@
 use crate::first_path::{
     ANNOUNCED_PREFIX, CONFIG, Call, REACHABLE, SECOND_CLOSED, UP_TO_ROUTE, calls,
 };
-use crate::networks::{OverRefusing, Shown, are_granted, look_at};
+use crate::networks::{OverRefusing, Shown, are_granted, is_unknown, look_at, obeys, shows};
 use net_prefix::Prefix;
 use refusing::Refusing;
 use speaker::{
@@ -25,6 +25,9 @@ enum Ending {
     // The second peer's session was closed.
     ClosedSecond,
 }
+
+// The policy by which the first peer's routes are taken.
+const IN_USE: &str = "first";
 
 // Each route.
 const ANY: Condition = Condition {
@@ -54,15 +57,13 @@ fn rejects() -> [Rule; 1] {
     }]
 }
 
-// The second peer's routes can be taken by the policy where it is known.
-fn is_known(rt: &impl Abort, speaker: &mut OverRefusing<'_>, name: &str, known: bool) {
-    let wanted = if known {
-        Ok(Report::NOTHING)
+// Whether the second peer's routes can be taken by the policy, which is so where it is known.
+fn is_known(speaker: &mut OverRefusing<'_>, name: &str, known: bool) -> bool {
+    if known {
+        obeys(speaker, Command::UseIn(1, name))
     } else {
-        Err(Refusal::UnknownName)
-    };
-    let uses = Event::Command(Command::UseIn(1, name));
-    assert_eq!(rt; speaker.step(uses), wanted);
+        is_unknown(speaker, Command::UseIn(1, name))
+    }
 }
 
 // The first peer's route is there as received. It is the best one until its policy rejects it.
@@ -79,7 +80,70 @@ fn is_shown(rt: &impl Abort, shown: &Shown, announced: Prefix, rejected: bool) {
     assert_eq!(rt; shown.held_by_second.is_empty(), rejected);
 }
 
-// Plays the calls and the command on a speaker over the heap. The policy of this name rejects each route from then on.
+// Whether the calls are over before the heap refuses a growth, and the first peer's routes are taken by a policy.
+fn is_prepared(
+    rt: &impl Abort,
+    speaker: &mut OverRefusing<'_>,
+    heap: &Refusing<Global>,
+    calls: &[Call<'_>],
+) -> bool {
+    let accepts = accepts();
+    let taken_by_a_policy = [
+        Call::Step(Event::Command(Command::SetPolicy(IN_USE, &accepts))),
+        Call::Step(Event::Command(Command::UseIn(0, IN_USE))),
+    ];
+    are_granted(rt, speaker, heap, calls) && are_granted(rt, speaker, heap, &taken_by_a_policy)
+}
+
+// The policy of this name rejects each route from now on. This is what the speaker showed before it.
+fn rejects_all(
+    rt: &impl Abort,
+    alloc: Global,
+    speaker: &mut OverRefusing<'_>,
+    name: &str,
+    before: &Shown,
+) -> Result<Ending, Fail> {
+    let rejects = rejects();
+    match speaker.step(Event::Command(Command::SetPolicy(name, &rejects))) {
+        Err(why) => {
+            assert!(rt; matches!(why, Refusal::NoMemory));
+            assert_eq!(rt; why.number(), 44);
+            assert!(rt; shows(alloc, speaker, before)?);
+            assert!(rt; is_known(speaker, name, name == IN_USE));
+            assert!(rt; obeys(speaker, Command::SetPolicy(name, &rejects)));
+            Ok(Ending::Refused)
+        }
+        Ok(Report::NOTHING) => Ok(Ending::Whole),
+        Ok(report) => {
+            assert_eq!(rt; report, SECOND_CLOSED);
+            Ok(Ending::ClosedSecond)
+        }
+    }
+}
+
+// The command on a speaker that is prepared.
+fn play_on(
+    rt: &impl Abort,
+    alloc: Global,
+    speaker: &mut OverRefusing<'_>,
+    name: &str,
+) -> Result<Ending, Fail> {
+    let announced = Prefix::parse(ANNOUNCED_PREFIX)?;
+    let before = look_at(alloc, speaker)?;
+    is_shown(rt, &before, announced, false);
+    let ending = rejects_all(rt, alloc, speaker, name, &before)?;
+    let after = look_at(alloc, speaker)?;
+    is_shown(rt, &after, announced, name == IN_USE);
+    assert_eq!(rt; after.sessions[0], Some(State::Established));
+    assert_eq!(rt;
+        after.sessions[1] == Some(State::Established),
+        ending != Ending::ClosedSecond
+    );
+    assert!(rt; is_known(speaker, name, true));
+    Ok(ending)
+}
+
+// Plays the calls and the command on a speaker over the heap.
 fn play(
     rt: &impl Abort,
     alloc: Global,
@@ -87,48 +151,11 @@ fn play(
     calls: &[Call<'_>],
     name: &str,
 ) -> Result<Ending, Fail> {
-    let announced = Prefix::parse(ANNOUNCED_PREFIX)?;
-    let in_use = name == "first";
-    let accepts = accepts();
-    let rejects = rejects();
-    // The first peer's routes are taken by a policy.
-    let taken_by_a_policy = [
-        Call::Step(Event::Command(Command::SetPolicy("first", &accepts))),
-        Call::Step(Event::Command(Command::UseIn(0, "first"))),
-    ];
     let mut speaker: OverRefusing<'_> = Speaker::new(heap, CONFIG)?;
-    if !are_granted(rt, &mut speaker, heap, calls)
-        || !are_granted(rt, &mut speaker, heap, &taken_by_a_policy)
-    {
+    if !is_prepared(rt, &mut speaker, heap, calls) {
         return Ok(Ending::Earlier);
     }
-    let before = look_at(alloc, &speaker)?;
-    is_shown(rt, &before, announced, false);
-    let sets = Event::Command(Command::SetPolicy(name, &rejects));
-    let ending = match speaker.step(sets) {
-        Err(why) => {
-            assert_eq!(rt; why, Refusal::NoMemory);
-            assert_eq!(rt; why.number(), 44);
-            assert_eq!(rt; look_at(alloc, &speaker)?, before);
-            is_known(rt, &mut speaker, name, in_use);
-            assert_eq!(rt; speaker.step(sets), Ok(Report::NOTHING));
-            Ending::Refused
-        }
-        Ok(Report::NOTHING) => Ending::Whole,
-        Ok(report) => {
-            assert_eq!(rt; report, SECOND_CLOSED);
-            Ending::ClosedSecond
-        }
-    };
-    let shown = look_at(alloc, &speaker)?;
-    is_shown(rt, &shown, announced, in_use);
-    assert_eq!(rt; shown.sessions[0], Some(State::Established));
-    assert_eq!(rt;
-        shown.sessions[1] == Some(State::Established),
-        ending != Ending::ClosedSecond
-    );
-    is_known(rt, &mut speaker, name, true);
-    Ok(ending)
+    play_on(rt, alloc, &mut speaker, name)
 }
 
 // How the command ends, by n, until nothing is refused.
@@ -158,7 +185,7 @@ fn a_refused_policy_stays_unknown(rt: HostRuntime) -> Result<(), Fail> {
 
 #[test]
 fn a_policy_whose_rules_are_refused_keeps_those_that_it_has(rt: HostRuntime) -> Result<(), Fail> {
-    let endings = endings(&rt, rt.alloc(), "first")?;
+    let endings = endings(&rt, rt.alloc(), IN_USE)?;
     assert!(rt; endings.contains(&Ending::Refused));
     Ok(())
 }

@@ -163,6 +163,7 @@ fn a_run_goes_on_behind_a_refused_growth(rt: HostRuntime) -> Result<(), Fail> {
 
 #[test]
 fn a_run_shows_the_route_of_its_peer(rt: HostRuntime) -> Result<(), Fail> {
+    let prefix = Prefix::parse(ANNOUNCED_PREFIX)?;
     let all = calls(Prefix::parse(REACHABLE)?);
     let mut events = events_of(rt.alloc(), &all[..UP_TO_ROUTE])?;
     events.push(Event::Up(0))?;
@@ -176,7 +177,7 @@ fn a_run_shows_the_route_of_its_peer(rt: HostRuntime) -> Result<(), Fail> {
     assert_eq!(rt; trace.speaker.session(0), Some(State::Established));
     assert_eq!(rt; trace.speaker.transport(0), Transport::Open);
     let best = BestRoute {
-        prefix: Prefix::parse(ANNOUNCED_PREFIX)?,
+        prefix,
         slot: 0,
         degree: 100,
         validity: Validity::NotFound,

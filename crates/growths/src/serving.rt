@@ -140,27 +140,35 @@ fn again<A: Allocator + Clone>(rt: &impl Abort, cache: &mut Cache<A>, call: Call
     ending
 }
 
-// Plays the calls on a cache over the heap.
-fn play<B: Allocator>(rt: &impl Abort, heap: &Refusing<B>, calls: &[Call<'_>]) -> Ending {
-    let mut cache = match Cache::new(heap, 7, Intervals::USUAL) {
-        Ok(cache) => cache,
-        Err(why) => {
-            assert_eq!(rt; why, CacheRefusal::NoMemory);
-            return Ending::Cache;
-        }
-    };
+// Plays the calls on a new cache.
+fn play_on<A: Allocator + Clone>(
+    rt: &impl Abort,
+    cache: &mut Cache<A>,
+    calls: &[Call<'_>],
+) -> Ending {
     let mut ending = Ending::Nothing;
     for call in calls {
-        match answer_to(&mut cache, *call) {
+        match answer_to(cache, *call) {
             Answer::AsWithMemory => {}
             answer => {
                 assert_eq!(rt; answer, Answer::NoMemory);
-                assert!(rt; heap.has_refused() && ending == Ending::Nothing);
-                ending = again(rt, &mut cache, *call);
+                assert!(rt; ending == Ending::Nothing);
+                ending = again(rt, cache, *call);
             }
         }
     }
     ending
+}
+
+// Plays the calls on a cache over the heap.
+fn play<B: Allocator>(rt: &impl Abort, heap: &Refusing<B>, calls: &[Call<'_>]) -> Ending {
+    match Cache::new(heap, 7, Intervals::USUAL) {
+        Ok(mut cache) => play_on(rt, &mut cache, calls),
+        Err(why) => {
+            assert_eq!(rt; why, CacheRefusal::NoMemory);
+            Ending::Cache
+        }
+    }
 }
 
 fn one_payload(alloc: Global, prefix: &str) -> Result<BTreeSet<Vrp>, Fail> {

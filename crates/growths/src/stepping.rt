@@ -131,35 +131,54 @@ fn lacks_second(rt: &impl Abort, before: &Shown, after: &Shown) -> Result<(), Fa
 fn behind(
     rt: &impl Abort,
     alloc: Global,
-    mut speaker: OverRefusing<'_>,
+    speaker: &mut OverRefusing<'_>,
     calls: &[Call<'_>],
     answer: Answer,
     before: &Shown,
 ) -> Result<Ending, Fail> {
-    let after = look_at(alloc, &speaker)?;
     let Some((_, later)) = calls.split_first() else {
         return Ok(Ending::Whole);
     };
+    let after = look_at(alloc, speaker)?;
     match answer {
         Answer::NoMemory => {
             assert_eq!(rt; after, *before);
-            goes_on(rt, &mut speaker, calls);
+            goes_on(rt, speaker, calls);
             Ok(Ending::Refused)
         }
         Answer::ClosedFirst => {
             lacks_first(rt, before, &after);
-            goes_on(rt, &mut speaker, &first_again());
-            goes_on(rt, &mut speaker, later);
+            goes_on(rt, speaker, &first_again());
+            goes_on(rt, speaker, later);
             Ok(Ending::ClosedFirst)
         }
         Answer::ClosedSecond => {
             lacks_second(rt, before, &after)?;
-            goes_on(rt, &mut speaker, &second_again());
-            goes_on(rt, &mut speaker, later);
+            goes_on(rt, speaker, &second_again());
+            goes_on(rt, speaker, later);
             Ok(Ending::ClosedSecond)
         }
         Answer::AsWithMemory | Answer::Other => panic!(rt; "a refused growth was answered so"),
     }
+}
+
+// Plays the calls on a new speaker.
+fn play_on(
+    rt: &impl Abort,
+    alloc: Global,
+    heap: &Refusing<Global>,
+    speaker: &mut OverRefusing<'_>,
+    calls: &[Call<'_>],
+) -> Result<Ending, Fail> {
+    for (place, call) in calls.iter().enumerate() {
+        let before = look_at(alloc, speaker)?;
+        let answer = answer_to(speaker, *call);
+        if heap.has_refused() {
+            return behind(rt, alloc, speaker, &calls[place..], answer, &before);
+        }
+        assert_eq!(rt; answer, Answer::AsWithMemory);
+    }
+    Ok(Ending::Whole)
 }
 
 // Plays the calls on a speaker over the heap.
@@ -176,15 +195,7 @@ fn play(
             return Ok(Ending::NotBegun);
         }
     };
-    for (place, call) in calls.iter().enumerate() {
-        let before = look_at(alloc, &speaker)?;
-        let answer = answer_to(&mut speaker, *call);
-        if heap.has_refused() {
-            return behind(rt, alloc, speaker, &calls[place..], answer, &before);
-        }
-        assert_eq!(rt; answer, Answer::AsWithMemory);
-    }
-    Ok(Ending::Whole)
+    play_on(rt, alloc, heap, &mut speaker, calls)
 }
 
 // How the calls end, by n, until none is refused.

@@ -88,6 +88,7 @@ fn octets_are_handed_out_as_many_as_fit(rt: HostRuntime) -> Result<(), Fail> {
 
 #[test]
 fn a_load_is_in_force_from_its_last_octet(rt: HostRuntime) -> Result<(), Fail> {
+    let first = first()?;
     let mut router = Router::new(rt.alloc())?;
     router.up(100);
     assert!(rt; router.hear(&LOAD[..51], 100));
@@ -95,14 +96,15 @@ fn a_load_is_in_force_from_its_last_octet(rt: HostRuntime) -> Result<(), Fail> {
     assert!(rt; router.has(&[]));
     assert!(rt; router.hear(&LOAD[51..], 100));
     assert_eq!(rt; router.session.state(), ClientState::Synced);
-    assert!(rt; router.has(&[first()?]));
-    assert!(rt; router.has_changed(&[], &[first()?]));
+    assert!(rt; router.has(&[first]));
+    assert!(rt; router.has_changed(&[], &[first]));
     Ok(())
 }
 
 // The first octets of a PDU tell how long it is.
 #[test]
 fn a_pdu_is_taken_by_its_header_and_then_its_rest(rt: HostRuntime) -> Result<(), Fail> {
+    let first = first()?;
     let mut router = Router::new(rt.alloc())?;
     router.up(100);
     let mut rest: &[u8] = &LOAD;
@@ -114,32 +116,35 @@ fn a_pdu_is_taken_by_its_header_and_then_its_rest(rt: HostRuntime) -> Result<(),
         rest = &rest[heard.count..];
     }
     assert!(rt; rest.is_empty());
-    assert!(rt; router.has(&[first()?]));
+    assert!(rt; router.has(&[first]));
     Ok(())
 }
 
 #[test]
 fn a_change_is_asked_for_when_the_refresh_timer_ends(rt: HostRuntime) -> Result<(), Fail> {
+    let first = first()?;
+    let second = second()?;
     let mut router = loaded(&rt, rt.alloc())?;
     assert!(rt; !router.tick(3_699));
     assert!(rt; router.hands_out(&[]));
     assert!(rt; !router.tick(3_700));
     assert!(rt; router.hands_out(&SERIAL_QUERY));
     assert!(rt; router.hear(&CHANGE, 3_700));
-    assert!(rt; router.has(&[second()?]));
-    assert!(rt; router.has_changed(&[first()?], &[second()?]));
+    assert!(rt; router.has(&[second]));
+    assert!(rt; router.has_changed(&[first], &[second]));
     Ok(())
 }
 
 #[test]
 fn payloads_expire(rt: HostRuntime) -> Result<(), Fail> {
+    let first = first()?;
     let mut router = loaded(&rt, rt.alloc())?;
     router.tick(7_299);
-    assert!(rt; router.has(&[first()?]));
+    assert!(rt; router.has(&[first]));
     assert!(rt; router.has_changed(&[], &[]));
     router.tick(7_300);
     assert!(rt; router.has(&[]));
-    assert!(rt; router.has_changed(&[first()?], &[]));
+    assert!(rt; router.has_changed(&[first], &[]));
     assert_eq!(rt; router.session.transport(), Transport::Closing);
     assert_eq!(rt; router.session.state(), ClientState::Off);
     Ok(())
@@ -147,18 +152,20 @@ fn payloads_expire(rt: HostRuntime) -> Result<(), Fail> {
 
 #[test]
 fn a_fault_is_reported_and_closes(rt: HostRuntime) -> Result<(), Fail> {
+    let first = first()?;
     let mut router = loaded(&rt, rt.alloc())?;
     assert!(rt; router.hear(&UNKNOWN, 200));
     assert_eq!(rt; router.session.transport(), Transport::Closing);
     assert_eq!(rt; router.session.state(), ClientState::Off);
     assert!(rt; router.hands_out(&UNSUPPORTED));
-    assert!(rt; router.has(&[first()?]));
+    assert!(rt; router.has(&[first]));
     Ok(())
 }
 
 // The PDU that was cut off and the query that was not taken are dropped with their connection.
 #[test]
 fn a_connection_that_fails_is_opened_again(rt: HostRuntime) -> Result<(), Fail> {
+    let second = second()?;
     let mut router = loaded(&rt, rt.alloc())?;
     router.tick(3_700);
     assert!(rt; router.hear(&CHANGE[..30], 3_700));
@@ -171,6 +178,6 @@ fn a_connection_that_fails_is_opened_again(rt: HostRuntime) -> Result<(), Fail> 
     router.up(4_400);
     assert!(rt; router.hands_out(&SERIAL_QUERY));
     assert!(rt; router.hear(&CHANGE, 4_400));
-    assert!(rt; router.has(&[second()?]));
+    assert!(rt; router.has(&[second]));
     Ok(())
 }

@@ -6,6 +6,7 @@ use rtr_client::ClientState;
 use rtr_codec::Intervals;
 use std::alloc::Global;
 use std::collections::BTreeSet;
+use std::process::Abort;
 use std::test::Fail;
 
 // So many payloads that their response fills the ring of a client more than once.
@@ -68,14 +69,24 @@ fn holds(router: &Router<Global>, set: &BTreeSet<Vrp>) -> bool {
     router.session.state() == ClientState::Synced && router.session.payloads().iter().eq(set.iter())
 }
 
+// Whether the router gets the payloads of the cache in pieces of so many octets.
+fn gets(
+    cache: &mut Cache,
+    router: &mut Router<Global>,
+    set: &BTreeSet<Vrp>,
+    piece: &mut [u8],
+) -> Result<bool, Fail> {
+    asking(cache, router, set)?;
+    let carried = carry_down(cache, router, piece, 100)?;
+    Ok(carried == RESPONSE_OCTETS && holds(router, set))
+}
+
 // Whether a router gets all payloads in pieces of so many octets.
 fn gets_all(alloc: Global, piece: &mut [u8]) -> Result<bool, Fail> {
     let set = payloads(alloc, 0, PAYLOADS)?;
     let mut cache = Cache::new(alloc, 7, Intervals::USUAL)?;
     let mut router = Router::new(alloc)?;
-    asking(&mut cache, &mut router, &set)?;
-    let carried = carry_down(&mut cache, &mut router, piece, 100)?;
-    Ok(carried == RESPONSE_OCTETS && holds(&router, &set))
+    gets(&mut cache, &mut router, &set, piece)
 }
 
 #[test]
@@ -96,43 +107,71 @@ fn a_response_comes_whole_in_pieces_of_4096(rt: HostRuntime) -> Result<(), Fail>
     Ok(())
 }
 
-// A list is published while a response is on its way. The router has the older one first, and asks for what changed.
+// Whether the router takes the next octets that the cache hands out.
+fn hears_next(
+    cache: &mut Cache,
+    router: &mut Router<Global>,
+    piece: &mut [u8],
+) -> Result<bool, CacheRefusal> {
+    let count = cache.take(0, piece)?;
+    Ok(router.hear(&piece[..count], 100))
+}
+
+// The new list is published while the response of the old one is on its way. The router has the old one first, and asks
+// for what changed.
+fn changes(
+    rt: &impl Abort,
+    cache: &mut Cache,
+    router: &mut Router<Global>,
+    old: &BTreeSet<Vrp>,
+    new: &BTreeSet<Vrp>,
+) -> Result<(), Fail> {
+    let mut piece = [0; 4_096];
+    asking(cache, router, old)?;
+    assert!(rt; hears_next(cache, router, &mut piece)?);
+    let _ = step(cache, CacheEvent::Load(new))?;
+    let _ = carry_down(cache, router, &mut piece, 100)?;
+    assert!(rt; holds(router, old));
+    assert!(rt; !router.tick(3_700));
+    carry_up(cache, router)?;
+    let _ = carry_down(cache, router, &mut piece, 3_700)?;
+    assert!(rt; holds(router, new));
+    Ok(())
+}
+
 #[test]
 fn a_response_goes_on_with_its_own_version(rt: HostRuntime) -> Result<(), Fail> {
     let old = payloads(rt.alloc(), 0, PAYLOADS)?;
     let new = payloads(rt.alloc(), 1, PAYLOADS)?;
     let mut cache = Cache::new(rt.alloc(), 7, Intervals::USUAL)?;
     let mut router = Router::new(rt.alloc())?;
-    asking(&mut cache, &mut router, &old)?;
-    let mut piece = [0; 4_096];
-    let count = cache.take(0, &mut piece)?;
-    assert!(rt; router.hear(&piece[..count], 100));
-    let _ = step(&mut cache, CacheEvent::Load(&new))?;
-    let _ = carry_down(&mut cache, &mut router, &mut piece, 100)?;
-    assert!(rt; holds(&router, &old));
-    assert!(rt; !router.tick(3_700));
-    carry_up(&mut cache, &mut router)?;
-    let _ = carry_down(&mut cache, &mut router, &mut piece, 3_700)?;
-    assert!(rt; holds(&router, &new));
-    Ok(())
+    changes(&rt, &mut cache, &mut router, &old, &new)
 }
 
 // The connection is lost in the midst of a response: nothing of it is in force. The next one brings all.
+fn comes_again(
+    rt: &impl Abort,
+    cache: &mut Cache,
+    router: &mut Router<Global>,
+    set: &BTreeSet<Vrp>,
+) -> Result<(), Fail> {
+    let mut piece = [0; 4_096];
+    asking(cache, router, set)?;
+    assert!(rt; hears_next(cache, router, &mut piece)?);
+    let _ = step(cache, CacheEvent::Down(0))?;
+    router.fail(200);
+    assert!(rt; router.has(&[]));
+    assert!(rt; router.tick(800));
+    asking(cache, router, set)?;
+    let _ = carry_down(cache, router, &mut piece, 800)?;
+    assert!(rt; holds(router, set));
+    Ok(())
+}
+
 #[test]
 fn a_response_that_is_cut_is_not_in_force(rt: HostRuntime) -> Result<(), Fail> {
     let set = payloads(rt.alloc(), 0, PAYLOADS)?;
     let mut cache = Cache::new(rt.alloc(), 7, Intervals::USUAL)?;
     let mut router = Router::new(rt.alloc())?;
-    asking(&mut cache, &mut router, &set)?;
-    let mut piece = [0; 4_096];
-    let count = cache.take(0, &mut piece)?;
-    assert!(rt; router.hear(&piece[..count], 100));
-    let _ = step(&mut cache, CacheEvent::Down(0))?;
-    router.fail(200);
-    assert!(rt; router.has(&[]));
-    assert!(rt; router.tick(800));
-    asking(&mut cache, &mut router, &set)?;
-    let _ = carry_down(&mut cache, &mut router, &mut piece, 800)?;
-    assert!(rt; holds(&router, &set));
-    Ok(())
+    comes_again(&rt, &mut cache, &mut router, &set)
 }
