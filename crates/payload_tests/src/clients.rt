@@ -65,20 +65,18 @@ fn end_of_data(serial: u32) -> Pdu<'static> {
 
 // A response to a Reset Query, of two payloads, at the moment 100. Answers whether memory was refused.
 fn load_all<A: Allocator + Clone>(router: &mut Router<A>) -> Result<bool, Fail> {
-    let (one, two) = (one()?, two()?);
     let response = router.hear(Pdu::CacheResponse { session: 7 }, 100);
-    let first = router.hear(Pdu::Announcement(two), 100);
-    let second = router.hear(Pdu::Announcement(one), 100);
+    let first = router.hear(Pdu::Announcement(two()?), 100);
+    let second = router.hear(Pdu::Announcement(one()?), 100);
     let end = router.hear(end_of_data(3), 100);
     Ok(response.starved || first.starved || second.starved || end.starved)
 }
 
 // A response to a Serial Query, in which one payload leaves and another comes, at the moment 200.
 fn load_change<A: Allocator + Clone>(router: &mut Router<A>) -> Result<bool, Fail> {
-    let (one, three) = (one()?, three()?);
     let response = router.hear(Pdu::CacheResponse { session: 7 }, 200);
-    let first = router.hear(Pdu::Withdrawal(one), 200);
-    let second = router.hear(Pdu::Announcement(three), 200);
+    let first = router.hear(Pdu::Withdrawal(one()?), 200);
+    let second = router.hear(Pdu::Announcement(three()?), 200);
     let end = router.hear(end_of_data(4), 200);
     Ok(response.starved || first.starved || second.starved || end.starved)
 }
@@ -92,18 +90,17 @@ fn notify() -> Pdu<'static> {
 
 #[test]
 fn a_load_is_in_force_from_its_end_of_data(rt: HostRuntime) -> Result<(), Fail> {
-    let one = one()?;
     let mut router = Router::new(rt.alloc())?;
     assert_eq!(rt; router.client.transport(), Transport::Opening);
     assert_eq!(rt; router.step(Input::Up, 100).pdu, Some(Pdu::ResetQuery));
     assert_eq!(rt; router.client.state(), ClientState::Asked);
     router.hear(Pdu::CacheResponse { session: 7 }, 100);
-    router.hear(Pdu::Announcement(one), 100);
+    router.hear(Pdu::Announcement(one()?), 100);
     assert_eq!(rt; router.client.state(), ClientState::Loading);
     assert!(rt; router.has(&[]));
     router.hear(end_of_data(3), 100);
-    assert!(rt; router.has(&[one]));
-    assert!(rt; router.client.changed().announced.iter().eq(&[one]));
+    assert!(rt; router.has(&[one()?]));
+    assert!(rt; router.client.changed().announced.iter().eq(&[one()?]));
     let base = Base {
         session: 7,
         serial: 3,
@@ -115,7 +112,6 @@ fn a_load_is_in_force_from_its_end_of_data(rt: HostRuntime) -> Result<(), Fail> 
 
 #[test]
 fn a_change_is_loaded_onto_what_is_in_force(rt: HostRuntime) -> Result<(), Fail> {
-    let (one, two, three) = (one()?, two()?, three()?);
     let mut router = Router::new(rt.alloc())?;
     router.step(Input::Up, 100);
     assert!(rt; !load_all(&mut router)?);
@@ -125,55 +121,58 @@ fn a_change_is_loaded_onto_what_is_in_force(rt: HostRuntime) -> Result<(), Fail>
     };
     assert_eq!(rt; router.hear(notify(), 200).pdu, Some(query));
     assert!(rt; !load_change(&mut router)?);
-    assert!(rt; router.has(&[two, three]));
-    assert!(rt; router.client.changed().withdrawn.iter().eq(&[one]));
-    assert!(rt; router.client.changed().announced.iter().eq(&[three]));
+    assert!(rt; router.has(&[two()?, three()?]));
+    assert!(rt; router.client.changed().withdrawn.iter().eq(&[one()?]));
+    assert!(rt; router.client.changed().announced.iter().eq(&[three()?]));
     Ok(())
 }
 
 #[test]
 fn payloads_expire(rt: HostRuntime) -> Result<(), Fail> {
-    let (one, two) = (one()?, two()?);
     let mut router = Router::new(rt.alloc())?;
     router.step(Input::Up, 100);
     assert!(rt; !load_all(&mut router)?);
     router.step(Input::Fail, 200);
     assert!(rt; router.step(Input::Tick, 800).opened);
     router.step(Input::Tick, 7_299);
-    assert!(rt; router.has(&[one, two]));
+    assert!(rt; router.has(&[one()?, two()?]));
     router.step(Input::Tick, 7_300);
     assert!(rt; router.has(&[]));
-    assert!(rt; router.client.changed().withdrawn.iter().eq(&[one, two]));
+    assert!(rt;
+        router
+            .client
+            .changed()
+            .withdrawn
+            .iter()
+            .eq(&[one()?, two()?])
+    );
     assert_eq!(rt; router.client.state(), ClientState::Opening);
     Ok(())
 }
 
 // Two loads, of which a growth may be refused: its load is in force not at all, and the other as it was.
-fn load_twice<A: Allocator + Clone>(rt: &impl Abort, router: &mut Router<A>) -> Result<bool, Fail> {
-    let (one, two, three) = (one()?, two()?, three()?);
+fn load_twice<A: Allocator + Clone>(
+    rt: &impl Abort,
+    router: Result<Router<A>, AllocError>,
+) -> Result<bool, Fail> {
+    let Ok(mut router) = router else {
+        return Ok(true);
+    };
     router.step(Input::Up, 100);
-    if load_all(router)? {
+    if load_all(&mut router)? {
         assert!(rt; router.has(&[]));
         assert_eq!(rt; router.client.transport(), Transport::Closing);
         return Ok(true);
     }
-    assert!(rt; router.has(&[one, two]));
+    assert!(rt; router.has(&[one()?, two()?]));
     router.hear(notify(), 200);
-    if load_change(router)? {
-        assert!(rt; router.has(&[one, two]));
+    if load_change(&mut router)? {
+        assert!(rt; router.has(&[one()?, two()?]));
         assert_eq!(rt; router.client.transport(), Transport::Closing);
         return Ok(true);
     }
-    assert!(rt; router.has(&[two, three]));
+    assert!(rt; router.has(&[two()?, three()?]));
     Ok(false)
-}
-
-// The same of a new router, which may be refused itself.
-fn is_starved<A: Allocator + Clone>(rt: &impl Abort, alloc: A) -> Result<bool, Fail> {
-    match Router::new(alloc) {
-        Ok(mut router) => load_twice(rt, &mut router),
-        Err(_) => Ok(true),
-    }
 }
 
 #[test]
@@ -181,7 +180,7 @@ fn a_refused_growth_keeps_no_part_of_a_load(rt: HostRuntime) -> Result<(), Fail>
     let mut left = true;
     for nth in 1..100u64 {
         let heap = Refusing::new(rt.alloc(), nth);
-        let starved = is_starved(&rt, &heap)?;
+        let starved = load_twice(&rt, Router::new(&heap))?;
         left = heap.has_refused();
         assert_eq!(rt; starved, left, "{nth}");
         if !left {

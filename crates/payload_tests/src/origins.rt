@@ -128,57 +128,32 @@ fn has_just<A: Allocator>(
     Ok(true)
 }
 
-// All payloads come, go and come again.
-fn come_twice(
-    rt: &impl Abort,
-    trie: &mut PayloadTrie,
-    none: &BTreeSet<Vrp>,
-    all: &BTreeSet<Vrp>,
-) -> Result<(), Fail>
-    requires { (trie.old ≡ none.now.keys) × (none.now.keys ≡ []) }
-{
-    let prefix = Prefix::new(0x0a00_0000, 16)?;
-    follow(trie, none, all)?;
-    assert!(rt; has_just(trie, all, &PAYLOADS)?);
-    assert!(rt; has_states(trie, &ROUTES)?);
-    trie.clear();
-    assert!(rt; has_just(trie, none, &PAYLOADS)?);
-    assert!(rt; trie.state(&prefix, Some(Asn(65001))) == Validity::NotFound);
-    follow(trie, none, all)?;
-    assert!(rt; has_states(trie, &ROUTES)?);
-    Ok(())
-}
-
 #[test]
 fn states_are_those_of_all_payloads(rt: HostRuntime) -> Result<(), Fail> {
-    let all = set_of(rt.alloc(), &PAYLOADS)?;
+    let mut trie = PayloadTrie::new(rt.alloc());
     let none = BTreeSet::new(rt.alloc());
-    come_twice(&rt, &mut PayloadTrie::new(rt.alloc()), &none, &all)
-}
-
-// All payloads come, and change into the later ones.
-fn change_to<A: Allocator + Clone>(
-    rt: &impl Abort,
-    trie: &mut PayloadTrie<A>,
-    none: &BTreeSet<Vrp>,
-    all: &BTreeSet<Vrp>,
-    later: &BTreeSet<Vrp>,
-) -> Result<(), Fail>
-    requires { trie.old ≡ none.now.keys }
-{
-    follow(trie, none, all)?;
-    follow(trie, all, later)?;
-    assert!(rt; has_just(trie, later, &PAYLOADS)? && has_just(trie, later, &LATER)?);
-    assert!(rt; has_states(trie, &LATER_ROUTES)?);
+    let all = set_of(rt.alloc(), &PAYLOADS)?;
+    follow(&mut trie, &none, &all)?;
+    assert!(rt; has_just(&trie, &all, &PAYLOADS)?);
+    assert!(rt; has_states(&trie, &ROUTES)?);
+    trie.clear();
+    assert!(rt; has_just(&trie, &none, &PAYLOADS)?);
+    assert!(rt; trie.state(&Prefix::new(0x0a00_0000, 16)?, Some(Asn(65001))) == Validity::NotFound);
+    follow(&mut trie, &none, &all)?;
+    assert!(rt; has_states(&trie, &ROUTES)?);
     Ok(())
 }
 
 #[test]
 fn a_change_concerns_the_prefixes_that_no_other_covers(rt: HostRuntime) -> Result<(), Fail> {
+    let mut trie = PayloadTrie::new(rt.alloc());
+    let none = BTreeSet::new(rt.alloc());
     let all = set_of(rt.alloc(), &PAYLOADS)?;
     let later = set_of(rt.alloc(), &LATER)?;
-    let none = BTreeSet::new(rt.alloc());
-    change_to(&rt, &mut PayloadTrie::new(rt.alloc()), &none, &all, &later)?;
+    follow(&mut trie, &none, &all)?;
+    follow(&mut trie, &all, &later)?;
+    assert!(rt; has_just(&trie, &later, &PAYLOADS)? && has_just(&trie, &later, &LATER)?);
+    assert!(rt; has_states(&trie, &LATER_ROUTES)?);
     let delta = Delta::between(&all, &later)?;
     let mut concerned = affected(&delta);
     for (bits, len) in STRETCHES {
@@ -211,15 +186,15 @@ fn refusals_of<A: Allocator + Clone>(
 // Fills the trie and changes it, and answers how often a growth was refused.
 fn refusals_in<A: Allocator + Clone>(
     rt: &impl Abort,
-    trie: &mut PayloadTrie<A>,
+    mut trie: PayloadTrie<A>,
     none: &BTreeSet<Vrp>,
     all: &BTreeSet<Vrp>,
     later: &BTreeSet<Vrp>,
 ) -> Result<u32, Fail>
-    requires { trie.old ≡ none.now.keys }
+    requires { trie ≡ none.now.keys }
 {
-    let first = refusals_of(rt, trie, none, all)?;
-    let second = refusals_of(rt, trie, all, later)?;
+    let first = refusals_of(rt, &mut trie, none, all)?;
+    let second = refusals_of(rt, &mut trie, all, later)?;
     Ok(first.saturating_add(second))
 }
 
@@ -232,7 +207,7 @@ fn a_refused_growth_leaves_the_payloads(rt: HostRuntime) -> Result<(), Fail> {
     let mut left = true;
     for nth in 1..100u64 {
         let heap = Refusing::new(rt.alloc(), nth);
-        let refused = refusals_in(&rt, &mut PayloadTrie::new(&heap), &none, &all, &later)?;
+        let refused = refusals_in(&rt, PayloadTrie::new(&heap), &none, &all, &later)?;
         left = heap.has_refused();
         if !left {
             assert_eq!(rt; refused, 0);

@@ -42,16 +42,14 @@ fn tells_change<A: Allocator + Clone>(
     serial: u32,
 ) -> Result<(), Fail> {
     let oldest = serial.saturating_sub(64).max(1);
-    let comes = set_with_as(alloc, serial)?;
-    let leaves = set_with_as(alloc, oldest)?;
     let change = match versions.delta_from(oldest) {
         Ok(change) => change,
         Err(_) => versions.delta_from(oldest)?,
     };
     match change {
         Some(delta) if oldest < serial => {
-            assert!(rt; delta.announced.iter().eq(&comes));
-            assert!(rt; delta.withdrawn.iter().eq(&leaves));
+            assert!(rt; delta.announced.iter().eq(&set_with_as(alloc, serial)?));
+            assert!(rt; delta.withdrawn.iter().eq(&set_with_as(alloc, oldest)?));
         }
         Some(delta) => assert!(rt; delta.announced.is_empty() && delta.withdrawn.is_empty()),
         None => assert_eq!(rt; serial, 0),
@@ -59,35 +57,23 @@ fn tells_change<A: Allocator + Clone>(
     Ok(())
 }
 
-// Publishes the set to which a growth was refused.
-fn publish_again<A: Allocator + Clone>(
-    rt: &impl Abort,
-    alloc: Global,
-    versions: &mut Versions<A>,
-    set: &BTreeSet<Vrp>,
-    asn: u32,
-) -> Result<(), Fail> {
-    let before = asn.saturating_sub(1);
-    is_newest(rt, alloc, versions, before)?;
-    tells_change(rt, alloc, versions, before)?;
-    assert_eq!(rt; versions.publish(set), Ok(asn));
-    tells_change(rt, alloc, versions, asn)
-}
-
 // Publishes set after set, and each again where a growth is refused. Answers how often one was.
 fn publish_all<A: Allocator + Clone>(
     rt: &impl Abort,
     alloc: Global,
-    versions: &mut Versions<A>,
+    mut versions: Versions<A>,
 ) -> Result<u32, Fail> {
     let mut refused = 0u32;
     for asn in 1..=PUBLISHED {
         let set = set_with_as(alloc, asn)?;
         if versions.publish(&set).is_err() {
             refused = refused.saturating_add(1);
-            publish_again(rt, alloc, versions, &set, asn)?;
+            is_newest(rt, alloc, &versions, asn - 1)?;
+            tells_change(rt, alloc, &versions, asn - 1)?;
+            assert_eq!(rt; versions.publish(&set), Ok(asn));
+            tells_change(rt, alloc, &versions, asn)?;
         }
-        is_newest(rt, alloc, versions, asn)?;
+        is_newest(rt, alloc, &versions, asn)?;
     }
     Ok(refused)
 }
@@ -98,7 +84,7 @@ fn a_refused_growth_that_is_asked_for_again_changes_nothing(rt: HostRuntime) -> 
     let mut left = true;
     for nth in 1..2_000u64 {
         let heap = Refusing::new(rt.alloc(), nth);
-        let refused = publish_all(&rt, rt.alloc(), &mut Versions::new(&heap))?;
+        let refused = publish_all(&rt, rt.alloc(), Versions::new(&heap))?;
         left = heap.has_refused();
         if !left {
             assert_eq!(rt; refused, 0);
@@ -117,7 +103,7 @@ fn a_refused_growth_leaves_the_versions(rt: HostRuntime) -> Result<(), Fail> {
     for nth in 1..2_000u64 {
         let behind = Refusing::new(rt.alloc(), nth);
         let heap = Refusing::new(&behind, nth);
-        let refused = publish_all(&rt, rt.alloc(), &mut Versions::new(&heap))?;
+        let refused = publish_all(&rt, rt.alloc(), Versions::new(&heap))?;
         left = heap.has_refused();
         if !left {
             assert_eq!(rt; refused, 0);
