@@ -56,14 +56,14 @@ fn announced(prefix: Prefix, path: Option<&AsPath>) -> SeenRoute<'_> {
     }
 }
 
-// One whose origin is invalid.
-fn invalid(prefix: Prefix) -> SeenRoute<'static> {
+// A route without a path whose origin is AS 65001, of this state, that the slot announced.
+fn of_slot(slot: u8, prefix: Prefix, state: Validity) -> SeenRoute<'static> {
     SeenRoute {
         prefix,
-        state: Validity::Invalid,
+        state,
         origin: Some(Asn(65001)),
         path: None,
-        from: Some(3),
+        from: Some(slot),
     }
 }
 
@@ -210,11 +210,9 @@ fn a_rule_asks_for_all_of_its_tests(rt: HostRuntime) -> Result<(), Fail> {
     };
     let route = announced(prefix, None);
     assert!(rt; is_match(rt.alloc(), both, &route));
-    assert!(rt; !is_match(rt.alloc(), both, &invalid(prefix)));
-    let elsewhere = SeenRoute {
-        from: Some(4),
-        ..announced(prefix, None)
-    };
+    let invalid = of_slot(3, prefix, Validity::Invalid);
+    assert!(rt; !is_match(rt.alloc(), both, &invalid));
+    let elsewhere = of_slot(4, prefix, Validity::Valid);
     assert!(rt; !is_match(rt.alloc(), both, &elsewhere));
     Ok(())
 }
@@ -244,7 +242,14 @@ fn the_first_rule_that_matches_decides(rt: HostRuntime) -> Result<(), Fail> {
     let prefix = Prefix::new(0x0a01_0000, 16)?;
     let mut policies = Policies::new(rt.alloc());
     assert!(rt; sets(&mut policies, "by-state", &rules));
-    assert!(rt; makes(&policies, "by-state", &invalid(prefix), Action::Reject));
+    assert!(rt;
+        makes(
+            &policies,
+            "by-state",
+            &of_slot(3, prefix, Validity::Invalid),
+            Action::Reject
+        )
+    );
     assert!(rt; makes(&policies, "by-state", &announced(prefix, None), all_set));
     assert!(rt; makes(&policies, "by-state", &network(prefix), of_degree(100)));
     Ok(())
