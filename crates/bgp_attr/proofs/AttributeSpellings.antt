@@ -1,13 +1,13 @@
-use Rattle.std.proofs.Common.{◌≡◌, ◌||◌, Bool, true, false, cond, ℕ, List, [], ◌∷◌, ◌++◌, length, map, Option, Some, None, inl, inr, refl, sym, ap, subst, ◌∙◌, append-nil}
+use Rattle.std.proofs.Common.{◌≡◌, ◌||◌, ◌/◌, ◌^◌, Bool, true, false, cond, ℕ, List, [], ◌∷◌, ◌++◌, length, map, Option, Some, None, inl, inr, refl, sym, ap, subst, ◌∙◌, append-nil}
 use Rattle.std.specs.Prelude.{◌==◌, bit_and, is_none, is_some, nat_eq, not, slice_index, MatchOption, ⊤}
 use Rattle.std.specs.List.{AllByRecursion, IsDistinct, find}
 use Rattle.std.specs.Option.{option_and_then, option_map}
 use Rattle.std.proofs.lemmas.Bool.{cases_eq, eq-eqb, eqb-false, eqb-true, ne_eqb}
 use Rattle.std.proofs.lemmas.Option.{same_Some}
 use Rattle.bgp_attr.specs.AsPath.{PathSegment}
-use Rattle.bgp_attr.specs.AttributeFaults.{Fault, attribute_fault, attribute_tests, attributes_fault, cut_fault, fault_among, first_fault, has_code, is_no_host, known_tests, or_else, type_tests, AttributeFlags, AttributeLength, InvalidNextHop, InvalidOrigin, MalformedAsPath, MalformedAttributeList, UnrecognizedWellKnown}
+use Rattle.bgp_attr.specs.AttributeFaults.{Fault, attribute_fault, attribute_tests, attributes_fault, cut_fault, fault_among, first_fault, has_code, is_host, is_no_host, known_tests, or_else, type_tests, AttributeFlags, AttributeLength, InvalidNextHop, InvalidOrigin, MalformedAsPath, MalformedAttributeList, UnrecognizedWellKnown}
 use Rattle.bgp_attr.specs.AttributeReading.{attributes_from, attributes_in, number_in, origin_in, taken_of, value_taken}
-use Rattle.bgp_attr.specs.AttributeSpelling.{AreLawful, HasClass, SpellsAttributes, value_in}
+use Rattle.bgp_attr.specs.AttributeSpelling.{AreLawful, HasClass, IsHost, SpellsAttributes, value_in}
 use Rattle.bgp_attr.specs.AttributeTable.{class_flags_of, class_of, is_taken, octet_of, type_of, types}
 use Rattle.bgp_attr.specs.PathAttributes.{PathAttributes, origin_at}
 use Rattle.bgp_attr.specs.PathReading.{is_malformed_path, path_at}
@@ -21,7 +21,7 @@ use Rattle.bgp_attr.specs.declared.peer.PeerKind.{PeerKind}
 use Rattle.bgp_attr.proofs.Faults.{first_fault-none, or_else-none}
 use Rattle.bgp_attr.proofs.Octets.{octets-left, octets-right}
 use Rattle.bgp_attr.proofs.PathSpellings.{or_false}
-use Rattle.bgp_attr.proofs.SoundValues.{IsGood, IsSound, aggregator_is_read, aggregator_is_spelled, as_path_is_read, as_path_is_spelled, mark_is_read, mark_is_spelled, next_hop_is_read, next_hop_is_spelled, not_false, number_is_read, number_is_spelled, origin_is_read, origin_is_spelled, value_sound}
+use Rattle.bgp_attr.proofs.SoundValues.{IsGood, IsSound, aggregator_is_read, aggregator_is_spelled, as_path_is_read, as_path_is_spelled, mark_is_read, mark_is_spelled, next_hop_is_read, next_hop_is_spelled, no_host_false, not_false, number_is_read, number_is_spelled, origin_is_read, origin_is_spelled, value_sound}
 use Rattle.bgp_attr.proofs.SplitSpellings.{is_split, split_of-front}
 use Rattle.bgp_attr.proofs.UnknownLists.{unknown_is_read, unknown_is_spelled}
 
@@ -440,3 +440,11 @@ faultless_spelled kind octets fits h =
         aggregator = aggregator.lawful;
       };
     }
+
+host_sound : (o : Option ℕ) → MatchOption o ⊤ IsHost → MatchOption o ⊤ (λ address. is_host address ≡ true)
+host_sound None h = tt
+host_sound (Some address) h = ap not (no_host_false (address / 2 ^ 24) h.1 h.2 h.3)
+
+-- a next hop without fault is the address of a host
+pub next_hop_sound : (kind : PeerKind) (octets : List ℕ) → AreOctets octets → attributes_fault kind octets ≡ None → MatchOption (attributes_in kind octets).next_hop ⊤ (λ address. is_host address ≡ true)
+next_hop_sound kind octets fits h = host_sound (attributes_in kind octets).next_hop (faultless_spelled kind octets fits h).lawful.next_hop

@@ -58,7 +58,7 @@ as_path_sound : (kind : PeerKind) (o : Option (List PathSegment)) → IsLawfulPa
 as_path_sound kind None lawful = tt
 as_path_sound kind (Some path) lawful = path_good kind path lawful.0 lawful.1
 
-no_host_false : (octet : ℕ) → 0 < octet → octet ≢ 127 → octet < 224 → is_no_host octet ≡ false
+pub no_host_false : (octet : ℕ) → 0 < octet → octet ≢ 127 → octet < 224 → is_no_host octet ≡ false
 no_host_false octet some other small =
     let first : (octet == 0) ≡ false = ne_eqb octet 0 (λ e. omega arith) in
     let second : (octet == 127) ≡ false = ne_eqb octet 127 other in

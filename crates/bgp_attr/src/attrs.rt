@@ -1,6 +1,7 @@
 //! The attributes of an UPDATE.
-ghost use Rattle.std.specs.Prelude.{◌≡◌, ◌<◌, ◌^◌, MatchOption, ⊤};
+ghost use Rattle.std.specs.Prelude.{◌≡◌, ◌<◌, ◌^◌, MatchOption, ⊤, true};
 ghost use Rattle.std.specs.Option.{option_copied};
+ghost use Rattle.bgp_attr.specs.AttributeFaults.{is_host};
 ghost use Rattle.bgp_attr.specs.PathAttributes.{PathAttributes, origin_at, origin_octet, originated, missing_of};
 ghost use Rattle.bgp_attr.specs.UnknownAttributes.{ArePassedOn, unknown_or_none};
 ghost use Rattle.bgp_attr.specs.Written.{attributes_of};
@@ -49,7 +50,7 @@ impl Origin {
     }
 }
 
-/// The attributes that came and were taken, each at most once.
+/// The attributes that came and were taken, each at most once. A next hop is the address of a host.
 #[derive(Drop)]
 pub struct Attrs<A: Allocator = Global> {
     pub(crate) origin: Option<Origin>,
@@ -63,12 +64,16 @@ pub struct Attrs<A: Allocator = Global> {
 }
 
 impl<A: Allocator> Model for Attrs<A> {
+    ghost use Rattle.std.specs.Prelude.{◌≡◌, MatchOption, ⊤, true};
+    ghost use Rattle.bgp_attr.specs.AttributeFaults.{is_host};
     ghost use Rattle.bgp_attr.specs.PathAttributes.{PathAttributes};
     ghost use Rattle.bgp_attr.specs.UnknownAttributes.{unknown_or_none};
 
     ghost Value = { PathAttributes };
 
     ghost view = { λ a. record { origin = a.origin; as_path = a.as_path; next_hop = a.next_hop; multi_exit_disc = a.multi_exit_disc; local_pref = a.local_pref; atomic_aggregate = a.atomic_aggregate; aggregator = a.aggregator; unknown = unknown_or_none a.unknown } };
+
+    ghost invariant = { λ a. MatchOption a.next_hop ⊤ (λ address. is_host address ≡ true) };
 }
 
 impl<A: Allocator> Attrs<A> {
@@ -105,7 +110,8 @@ impl<A: Allocator> Attrs<A> {
 
     /// NEXT_HOP.
     pub fn next_hop(&self) -> Option<u32>
-        ensures { result ≡ self.now.next_hop }
+        ensures value { result ≡ self.now.next_hop }
+        ensures host { MatchOption self.now.next_hop ⊤ (λ address. is_host address ≡ true) }
     {
         self.next_hop
     }

@@ -156,13 +156,14 @@ pub fn is_host(address: u32) -> bool
     !matches!(address >> 24, 0 | 127 | 224..=u32::MAX)
 }
 
-// The attributes by their codes.
+// The attributes by their codes, where the octets have no fault.
 #[tactic(auto, unfolding(crate::specs::AttributeReading::attributes_in))]
 fn take_attributes<A: Allocator + Clone>(
     alloc: &A,
     octets: &[u8],
     kind: PeerKind,
 ) -> Result<Attrs<A>, AllocError>
+    requires { attributes_fault kind octets.now ≡ None }
     ensures found { IfOk result (λ attrs. attrs ≡ attributes_in kind octets.now) }
     ensures memory { OnErr result (IsSome (value_taken kind type.AsPath (split_of octets.now).0) ⊎ (0 < length (unknown_in (split_of octets.now).0))) }
 {

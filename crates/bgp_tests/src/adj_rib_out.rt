@@ -1,16 +1,16 @@
 //! The table on its happy path, and a refused growth.
 use net_prefix::Prefix;
 use refusing::Refusing;
-use rib_out::AdjOut;
+use rib_out::{AdjOut, RecentOctets, SharedOctets};
 use std::alloc::{Allocator, Global};
 use std::process::Abort;
 use std::test::Fail;
 
 // The table after these announcements.
 fn table_of(alloc: Global, announced: &[(Prefix, &[u8])]) -> Result<AdjOut, Fail> {
-    let mut table = AdjOut::new(alloc)?;
+    let mut table = AdjOut::new(alloc);
     for (prefix, octets) in announced {
-        table.announce(*prefix, octets)?;
+        table.announce(*prefix, SharedOctets::of(alloc, octets)?)?;
     }
     Ok(table)
 }
@@ -49,15 +49,17 @@ fn the_peer_holds_what_it_was_last_sent(rt: HostRuntime) -> Result<(), Fail> {
     Ok(())
 }
 
-// Fills the table, and asks again where a growth is refused. Answers how often one was.
-fn fill<A: Allocator + Clone>(rt: &impl Abort, heap: A) -> Result<u32, Fail> {
-    let Ok(mut table) = AdjOut::new(heap) else {
-        return Ok(1);
-    };
+// Fills the table with one list of octets, and asks again where a growth is refused. Answers how often one was.
+fn fill<A: Allocator + Clone>(
+    rt: &impl Abort,
+    heap: A,
+    octets: &SharedOctets<A>,
+) -> Result<u32, Fail> {
+    let mut table = AdjOut::new(heap);
     let mut refused = 0u32;
     for number in 0..64u32 {
         let prefix = Prefix::new(number * 256, 24)?;
-        if table.announce(prefix, &[7; 40]).is_err() {
+        if table.announce(prefix, octets.share()?).is_err() {
             refused = refused.saturating_add(1);
             assert!(rt; table.get(prefix).is_none());
             let mut held = 0u32;
@@ -66,7 +68,7 @@ fn fill<A: Allocator + Clone>(rt: &impl Abort, heap: A) -> Result<u32, Fail> {
                 held = held.saturating_add(1);
             }
             assert_eq!(rt; held, number);
-            assert!(rt; table.announce(prefix, &[7; 40]).is_ok());
+            assert!(rt; table.announce(prefix, octets.share()?).is_ok());
         }
     }
     Ok(refused)
@@ -76,11 +78,26 @@ fn fill<A: Allocator + Clone>(rt: &impl Abort, heap: A) -> Result<u32, Fail> {
 fn a_refused_growth_leaves_the_table(rt: HostRuntime) -> Result<(), Fail> {
     for nth in 1..1_000u64 {
         let heap = Refusing::new(rt.alloc(), nth);
-        let refused = fill(&rt, &heap)?;
+        let Ok(octets) = SharedOctets::of(&heap, &[7; 40]) else {
+            continue;
+        };
+        let refused = fill(&rt, &heap, &octets)?;
         if !heap.has_refused() {
             assert_eq!(rt; refused, 0);
             return Ok(());
         }
     }
     panic!(rt; "no end");
+}
+
+// Octets that were announced lately are kept once.
+#[test]
+fn peers_share_what_was_announced_lately(rt: HostRuntime) -> Result<(), Fail> {
+    let mut recent = RecentOctets::new(rt.alloc())?;
+    let first = recent.shared(&[7; 40])?;
+    let second = recent.shared(&[7; 40])?;
+    let other = recent.shared(&[8; 40])?;
+    assert!(rt; first.as_slice().as_ptr() == second.as_slice().as_ptr());
+    assert_eq!(rt; other.as_slice(), [8; 40].as_slice());
+    Ok(())
 }

@@ -1,4 +1,4 @@
-//! A route of AS 65001 as AS 65000 sends it on.
+//! A route of AS 65001 as AS 65000 sends it on, to other ASes and to its own.
 
 use arrayvec::ArrayVec;
 use bgp_attr::{Attrs, Origin, PeerKind, read_attrs};
@@ -29,6 +29,15 @@ const ORIGINATED: [u8; 20] = [
     0x40, 0x01, 0x01, 0x00,
     0x40, 0x02, 0x06, 0x02, 0x01, 0x00, 0x00, 0xfd, 0xe8,
     0x40, 0x03, 0x04, 192, 0, 2, 1,
+];
+
+// The same to the own AS: an empty path, and LOCAL_PREF 100.
+#[rattlefmt::skip]
+const ORIGINATED_INSIDE: [u8; 21] = [
+    0x40, 0x01, 0x01, 0x00,
+    0x40, 0x02, 0x00,
+    0x40, 0x03, 0x04, 192, 0, 2, 1,
+    0x40, 0x05, 0x04, 0, 0, 0, 100,
 ];
 
 // The own AS three times, and MULTI_EXIT_DISC 5.
@@ -73,6 +82,27 @@ const ROUTE: Candidate = Candidate {
     validity: Validity::NotFound,
 };
 
+const NETWORK: Candidate = Candidate {
+    slot: 64,
+    degree: 1 << 32,
+    path_length: 0,
+    origin: Origin::Igp,
+    neighbor: Asn(65000),
+    med: None,
+    external: false,
+    cost: 0,
+    identifier: 0,
+    address: 0,
+    validity: Validity::NotFound,
+};
+
+const INTERNAL: ExportPeer = ExportPeer {
+    slot: 1,
+    own: Asn(65000),
+    asn: Asn(65000),
+    local: 0xc000_0201,
+};
+
 const PEER: ExportPeer = ExportPeer {
     slot: 1,
     own: Asn(65000),
@@ -112,35 +142,98 @@ fn sends_on_with_own_as_and_address(rt: HostRuntime) {
     }
 }
 
+// Whether an internal peer is sent the route of these attributes by this action, as these octets and these behind them.
+fn is_sent_inside(
+    attrs: &Attrs,
+    route: &Candidate,
+    action: Action,
+    octets: &[u8],
+    behind: &[u8],
+) -> bool {
+    let mut out = ArrayVec::new();
+    export_of(route, attrs, &INTERNAL, action, &mut out)
+        && out.len() == octets.len() + behind.len()
+        && out.as_slice().starts_with(octets)
+        && out.as_slice().ends_with(behind)
+}
+
+// Path and next hop as they came, MULTI_EXIT_DISC too where no rule sets another, and the degree as LOCAL_PREF; a rule's
+// own ASes are left out.
 #[test]
-fn sends_nothing_to_an_internal_peer(rt: HostRuntime) -> Result<(), Fail> {
-    let attrs = read_attrs(&rt.alloc(), &RECEIVED, PeerKind::External(Asn(65001)))?;
-    let internal = ExportPeer {
-        asn: Asn(65000),
-        ..PEER
+fn sends_a_route_to_its_own_as(rt: HostRuntime) -> Result<(), Fail> {
+    let mut octets = Vec::from_slice(rt.alloc(), &RECEIVED)?;
+    let attrs = read_attrs(
+        &rt.alloc(),
+        octets.as_slice(),
+        PeerKind::External(Asn(65001)),
+    )?;
+    let preferred = Candidate {
+        degree: 200,
+        ..ROUTE
+    };
+    assert!(rt;
+        is_sent_inside(
+            &attrs,
+            &preferred,
+            ACCEPT,
+            &RECEIVED,
+            &[0x40, 5, 4, 0, 0, 0, 200]
+        )
+    );
+    assert!(rt;
+        is_sent_inside(
+            &attrs,
+            &ROUTE,
+            setting(5, 2),
+            &RECEIVED,
+            &[0x80, 4, 4, 0, 0, 0, 5, 0x40, 5, 4, 0, 0, 0, 100]
+        )
+    );
+    octets.extend_from_slice(&[0x80, 4, 4, 0, 0, 0, 10])?;
+    let attrs = read_attrs(
+        &rt.alloc(),
+        octets.as_slice(),
+        PeerKind::External(Asn(65001)),
+    )?;
+    assert!(rt;
+        is_sent_inside(
+            &attrs,
+            &ROUTE,
+            ACCEPT,
+            octets.as_slice(),
+            &[0x40, 5, 4, 0, 0, 0, 100]
+        )
+    );
+    Ok(())
+}
+
+// What an internal peer announced goes to other ASes alone.
+#[test]
+fn sends_no_route_from_inside_to_its_own_as(rt: HostRuntime) -> Result<(), Fail> {
+    let attrs = read_attrs(&rt.alloc(), &RECEIVED, PeerKind::Internal)?;
+    let inside = Candidate {
+        external: false,
+        ..ROUTE
     };
     let mut out = ArrayVec::new();
-    assert!(rt; export_of(&ROUTE, &attrs, &PEER, ACCEPT, &mut out));
-    assert!(rt; !export_of(&ROUTE, &attrs, &internal, ACCEPT, &mut out) && out.is_empty());
-    let network = Candidate { slot: 64, ..ROUTE };
-    assert!(rt; !export_of(&network, &attrs, &internal, ACCEPT, &mut out) && out.is_empty());
+    assert!(rt; !export_of(&inside, &attrs, &INTERNAL, ACCEPT, &mut out) && out.is_empty());
+    assert!(rt; export_of(&inside, &attrs, &PEER, ACCEPT, &mut out) && out.as_slice() == &SENT[..]);
     Ok(())
+}
+
+#[test]
+fn sends_a_local_network_to_its_own_as(rt: HostRuntime) {
+    let originated = Attrs::originated(rt.alloc());
+    assert!(rt; is_sent_inside(&originated, &NETWORK, ACCEPT, &ORIGINATED_INSIDE, &[]));
 }
 
 // What this speaker originates has an empty path, and no next hop of its own.
 #[test]
 fn sends_a_local_network_with_its_own_as_alone(rt: HostRuntime) {
-    let network = Candidate {
-        slot: 64,
-        path_length: 0,
-        neighbor: Asn(65000),
-        external: false,
-        ..ROUTE
-    };
     let mut out = ArrayVec::new();
     assert!(rt;
         export_of(
-            &network,
+            &NETWORK,
             &Attrs::originated(rt.alloc()),
             &PEER,
             ACCEPT,

@@ -1,7 +1,7 @@
 //! What a peer is sent of a best route (RFC 4271 sections 5.1 and 9.1.3).
 //!
-//! `export_of` writes the attributes with which a best route goes on to an external peer by an action of that peer's
-//! export policy, or answers that it doesn't. What the peer was sent stands above. No call takes memory.
+//! `export_of` writes the attributes with which a best route goes on to a peer, external or internal, by an action of that
+//! peer's export policy, or answers that it doesn't. What the peer was sent stands above. No call takes memory.
 #![tactic(auto)]
 
 mod export;

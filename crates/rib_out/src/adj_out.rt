@@ -1,5 +1,5 @@
 //! One peer's Adj-RIB-Out.
-ghost use Rattle.std.specs.Prelude.{◌≡◌, [], None, Some, OnOk, OnErr, IfOk, IfSome, IfNone, IsSome, IsTrue, ◌↔◌, false, if◌then◌else◌};
+ghost use Rattle.std.specs.Prelude.{◌≡◌, [], None, Some, OnOk, OnErr, IfSome, IfNone, IsSome, IsTrue, ◌↔◌, false, if◌then◌else◌};
 ghost use Rattle.std.specs.Option.{option_copied};
 ghost use Rattle.std.specs.Ordering.{is_gt};
 ghost use Rattle.std.specs.declared.cmp.Ordering.TheVariants.{Less};
@@ -8,47 +8,17 @@ ghost use Rattle.net_prefix.specs.declared.prefix.Prefix.{Prefix};
 ghost use Rattle.rib_out.specs.Held.{held_at, is_prefix, IsRising};
 ghost use Rattle.net_prefix.specs.PrefixOrder.{prefix_cmp, IsAbove};
 
+use crate::shared::SharedOctets;
 use net_prefix::Prefix;
 use std::alloc::{AllocError, Allocator, Global};
 use std::collections::{BTreeMap, btree_map};
 use std::marker::Model;
 use std::ops::Bound;
 
-/// The octets of a route's attributes.
-#[derive(Drop)]
-struct Octets<A: Allocator> {
-    octets: Vec<u8, A>,
-}
-
-impl<A: Allocator> Model for Octets<A> {
-    ghost use Rattle.std.specs.Prelude.{List, ℕ};
-
-    ghost Value = { List ℕ };
-
-    ghost view = { λ s. s.octets.items };
-}
-
-impl<A: Allocator> Octets<A> {
-    fn of(alloc: A, octets: &[u8]) -> Result<Self, AllocError>
-        ensures { IfOk result (λ copy. copy ≡ octets.now) }
-    {
-        Ok(Octets {
-            octets: Vec::from_slice(alloc, octets)?,
-        })
-    }
-
-    fn as_slice(&self) -> &[u8]
-        ensures { result.now ≡ self.now }
-    {
-        self.octets.as_slice()
-    }
-}
-
 /// What one peer was sent: the octets of the attributes of each prefix that it holds.
 #[derive(Drop)]
 pub struct AdjOut<A: Allocator = Global> {
-    alloc: A,
-    routes: BTreeMap<Prefix, Octets<A>, A>,
+    routes: BTreeMap<Prefix, SharedOctets<A>, A>,
 }
 
 impl<A: Allocator> Model for AdjOut<A> {
@@ -62,11 +32,12 @@ impl<A: Allocator> Model for AdjOut<A> {
 
 impl<A: Allocator + Clone> AdjOut<A> {
     /// A peer that holds nothing.
-    pub fn new(alloc: A) -> Result<Self, AllocError>
-        ensures { IfOk result (λ table. table ≡ []) }
+    pub fn new(alloc: A) -> Self
+        ensures { result ≡ [] }
     {
-        let routes = BTreeMap::new(alloc.clone()?);
-        Ok(AdjOut { alloc, routes })
+        AdjOut {
+            routes: BTreeMap::new(alloc),
+        }
     }
 
     /// The octets that the peer holds of a prefix.
@@ -90,12 +61,11 @@ impl<A: Allocator + Clone> AdjOut<A> {
     }
 
     /// The peer was sent a route with these attributes.
-    pub fn announce(&mut self, prefix: Prefix, octets: &[u8]) -> Result<(), AllocError>
-        ensures ok { OnOk result ((q : Prefix) → held_at self.new q ≡ (if is_prefix prefix q then Some octets.now else held_at self.old q)) }
+    pub fn announce(&mut self, prefix: Prefix, octets: SharedOctets<A>) -> Result<(), AllocError>
+        ensures ok { OnOk result ((q : Prefix) → held_at self.new q ≡ (if is_prefix prefix q then Some octets else held_at self.old q)) }
         ensures err { OnErr result (self.new ≡ self.old) }
     {
-        let held = Octets::of(self.alloc.clone()?, octets)?;
-        match self.routes.insert(prefix, held) {
+        match self.routes.insert(prefix, octets) {
             Ok(_) => Ok(()),
             Err(_) => Err(AllocError),
         }
@@ -168,7 +138,7 @@ impl<A: Allocator + Clone> AdjOut<A> {
 /// The prefixes that a peer holds, with the octets of their attributes.
 #[derive(Drop)]
 pub struct HeldRoutes<'a, A: Allocator = Global> {
-    rest: btree_map::Iter<'a, Prefix, Octets<A>>,
+    rest: btree_map::Iter<'a, Prefix, SharedOctets<A>>,
 }
 
 impl<'a, A: Allocator> Model for HeldRoutes<'a, A> {

@@ -2,7 +2,8 @@
 //!
 //! `AdjOut` keeps, for each prefix that a peer was told of and that wasn't withdrawn since, the octets of the
 //! attributes that went with it (RFC 4271 section 3.2). Only `announce` takes memory, and where it gets none the
-//! table stays as it was.
+//! table stays as it was. The octets are `SharedOctets`, which `RecentOctets` gives to many prefixes and many peers: a
+//! list that was announced lately is kept once for all that are told it.
 //!
 //! `Waiting` keeps, for each known prefix, which slots a withdrawal of it waits for, and which an announcement. Making
 //! the record of a prefix takes memory, and marking takes none. The next prefix of which something waits for a slot is
@@ -13,10 +14,12 @@
 
 mod adj_out;
 mod marks;
+mod shared;
 mod slots;
 mod waiting;
 mod waits;
 
 pub use adj_out::{AdjOut, HeldRoutes};
 pub use marks::Owed;
+pub use shared::{RecentOctets, SharedOctets};
 pub use waiting::Waiting;

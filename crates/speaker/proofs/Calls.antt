@@ -4,14 +4,14 @@ use Rattle.std.specs.Option.{IsSome, option_map, option_and_then, MatchOption}
 use Rattle.std.proofs.lemmas.Bool.{cases_eq, eq-eqb, ne_eqb, leb-true}
 use Rattle.bgp_attr.specs.AttributeSpelling.{attributes_spelling}
 use Rattle.bgp_attr.specs.PathAttributes.{PathAttributes}
-use Rattle.bgp_attr.specs.declared.peer.PeerKind.TheVariants.{External}
+use Rattle.bgp_attr.specs.PeerKinds.{kind_between}
 use Rattle.bgp_conf.specs.Configuration.{Configuration, peer_at}
 use Rattle.bgp_conf.specs.declared.conf.ConfiguredPeer.{ConfiguredPeer}
 use Rattle.bgp_peer.specs.SessionInputs as happens
 use Rattle.bgp_peer.specs.SessionInputs.{session, terms_of}
 use Rattle.decision.specs.declared.candidate.Candidate.{Candidate}
 use Rattle.decision.proofs.Laws.{selected_member}
-use Rattle.export_rules.specs.Export.{AreAccepted, IsSender, announced_by, exported_of, fitting, in_front, is_internal}
+use Rattle.export_rules.specs.Export.{AreAccepted, IsComplete, IsSender, announced_by, is_kept_from, sent_of}
 use Rattle.export_rules.specs.declared.export.ExportPeer.{ExportPeer}
 use Rattle.net_prefix.specs.declared.payload.Vrp.{Vrp}
 use Rattle.net_prefix.specs.declared.prefix.Prefix.{Prefix}
@@ -110,17 +110,17 @@ fitting_short : (b : Bool) (octets a : List ℕ) → nat_le (length octets) 4068
 fitting_short true octets a fits is = let same : octets ≡ a = cc in rw (← same) (leb-true (length octets) 4068 fits)
 fitting_short false octets a fits is = absurd (cc)
 
-announced_short : (action : Action) (attrs : PathAttributes) (peer : ExportPeer) (a : List ℕ) → announced_by action attrs peer ≡ Some a → length a ≤ 4068
-announced_short Reject attrs peer a is = absurd (cc)
-announced_short (Accept degree med prepend) attrs peer a is = fitting_short _ (attributes_spelling (exported_of attrs peer med (in_front prepend))) a refl is
+announced_short : (action : Action) (c : Candidate) (attrs : PathAttributes) (peer : ExportPeer) (a : List ℕ) → announced_by action c attrs peer ≡ Some a → length a ≤ 4068
+announced_short Reject c attrs peer a is = absurd (cc)
+announced_short (Accept degree med prepend) c attrs peer a is = fitting_short _ (attributes_spelling (sent_of c attrs peer med prepend)) a refl is
 
-export_at_short : (own : Bool) (action : Action) (attrs : PathAttributes) (peer : ExportPeer) (a : List ℕ) → cond own None (announced_by action attrs peer) ≡ Some a → length a ≤ 4068
-export_at_short true action attrs peer a is = absurd (cc)
-export_at_short false action attrs peer a is = announced_short action attrs peer a is
+export_at_short : (kept : Bool) (action : Action) (c : Candidate) (attrs : PathAttributes) (peer : ExportPeer) (a : List ℕ) → cond kept None (announced_by action c attrs peer) ≡ Some a → length a ≤ 4068
+export_at_short true action c attrs peer a is = absurd (cc)
+export_at_short false action c attrs peer a is = announced_short action c attrs peer a is
 
 found_short : (conf : Configuration) (c : Candidate) (peer : ExportPeer) (prefix : Prefix) (found : Option PathAttributes) (a : List ℕ) → option_and_then (λ attrs. exported_at conf peer prefix c attrs) found ≡ Some a → length a ≤ 4068
 found_short conf c peer prefix None a is = absurd (cc)
-found_short conf c peer prefix (Some attrs) a is = export_at_short (c.slot == peer.slot || is_internal peer) (export_action conf peer.slot (selected_of conf.own prefix c attrs)) attrs peer a is
+found_short conf c peer prefix (Some attrs) a is = export_at_short (is_kept_from c peer) (export_action conf peer.slot (selected_of conf.own prefix c attrs)) c attrs peer a is
 
 best_short : (conf : Configuration) (adj_in : RouteTable) (peer : ExportPeer) (prefix : Prefix) (found : Option Candidate) (a : List ℕ)
     → option_and_then (λ c. option_and_then (λ attrs. exported_at conf peer prefix c attrs) (route_at adj_in c.slot prefix)) found ≡ Some a → length a ≤ 4068
@@ -139,30 +139,11 @@ export_short s t prefix a is = peer_short s t (peer_at s.conf t) prefix a is
 pub export_peer_found : (s : SpeakerState) (t : ℕ) (p : ConfiguredPeer) (prefix : Prefix) → peer_at s.conf t ≡ Some p → export_to s t prefix ≡ export_in s.conf (best_at s.loc_rib) s.adj_in (export_peer_of s.conf t p) prefix
 export_peer_found s t p prefix is = ap (λ found. option_and_then (λ x. export_in s.conf (best_at s.loc_rib) s.adj_in (export_peer_of s.conf t x) prefix) found) is
 
--- nothing is exported to an internal peer
-external_at : (own inside : Bool) (announced : Option (List ℕ)) (a : List ℕ) → cond (own || inside) None announced ≡ Some a → inside ≡ false
-external_at true inside announced a is = absurd (cc)
-external_at false true announced a is = absurd (cc)
-external_at false false announced a is = refl
-
-found_external : (conf : Configuration) (c : Candidate) (peer : ExportPeer) (prefix : Prefix) (found : Option PathAttributes) (a : List ℕ) → option_and_then (λ attrs. exported_at conf peer prefix c attrs) found ≡ Some a → is_internal peer ≡ false
-found_external conf c peer prefix None a is = absurd (cc)
-found_external conf c peer prefix (Some attrs) a is = external_at (c.slot == peer.slot) (is_internal peer) (announced_by (export_action conf peer.slot (selected_of conf.own prefix c attrs)) attrs peer) a is
-
-best_external : (conf : Configuration) (adj_in : RouteTable) (peer : ExportPeer) (prefix : Prefix) (found : Option Candidate) (a : List ℕ)
-    → option_and_then (λ c. option_and_then (λ attrs. exported_at conf peer prefix c attrs) (route_at adj_in c.slot prefix)) found ≡ Some a → is_internal peer ≡ false
-best_external conf adj_in peer prefix None a is = absurd (cc)
-best_external conf adj_in peer prefix (Some c) a is = found_external conf c peer prefix (route_at adj_in c.slot prefix) a is
-
-pub export_external : (s : SpeakerState) (t : ℕ) (p : ConfiguredPeer) (prefix : Prefix) (a : List ℕ) → peer_at s.conf t ≡ Some p → export_to s t prefix ≡ Some a → (p.asn.0 == s.conf.own.0) ≡ false
-export_external s t p prefix a configured is =
-    best_external s.conf s.adj_in (export_peer_of s.conf t p) prefix (best_at s.loc_rib prefix) a (sym (export_peer_found s t p prefix configured) ∙ is)
-
 -- what is written of the best route is good to the peer
 pub on_accepted : (b : Bool) (loc_rib : List (Prefix × Candidate)) (adj_in : RouteTable) (peer : ExportPeer) (p : Prefix) (octets : List ℕ) (c : Candidate) (attrs : PathAttributes)
-    → best_at loc_rib p ≡ Some c → route_at adj_in c.slot p ≡ Some attrs → OnTrue b (IsSender peer → IsSome attrs.origin → IsSome attrs.as_path → AreAccepted peer.own octets)
+    → best_at loc_rib p ≡ Some c → route_at adj_in c.slot p ≡ Some attrs → OnTrue b (IsSender peer → IsComplete c attrs → AreAccepted (kind_between peer.asn peer.own) octets)
     → OnTrue b (IsAccepted loc_rib adj_in peer p octets)
-on_accepted true loc_rib adj_in peer p octets c attrs best route good = λ sender complete. let has = complete c attrs best route in good sender has.0 has.1
+on_accepted true loc_rib adj_in peer p octets c attrs best route good = λ sender complete. good sender (complete c attrs best route)
 on_accepted false loc_rib adj_in peer p octets c attrs best route good = tt
 
 -- the slot for which something is done

@@ -1,12 +1,12 @@
 use Rattle.std.proofs.Common.{◌≡◌, ◌≢◌, ◌≤◌, ◌<◌, ◌+◌, ◌==◌, ◌^◌, ℕ, Bool, true, false, List, [], ◌∷◌, Option, Some, None, length, cond, MatchOption, refl, sym, ap, ◌∙◌, subst, arith, inl, inr}
+use Rattle.std.proofs.lemmas.Bool.{eq-eqb}
 use Rattle.std.specs.List.Sorted.{IsStrictlySortedBy}
 use Rattle.std.specs.Map.{keys_of}
 use Rattle.bgp_attr.specs.AsPath.{PathSegment}
 use Rattle.bgp_attr.specs.PathAttributes.{PathAttributes, originated}
+use Rattle.bgp_attr.specs.PeerKinds.{kind_between}
 use Rattle.bgp_attr.specs.declared.attrs.Origin.{Origin}
-use Rattle.bgp_attr.specs.declared.peer.PeerKind.TheVariants.{External}
 use Rattle.std.specs.Option.{IsSome}
-use Rattle.net_prefix.specs.declared.asn.Asn.{Asn}
 use Rattle.bgp_conf.specs.Configuration.{Configuration, peer_at, is_network}
 use Rattle.bgp_conf.specs.declared.conf.ConfiguredPeer.{ConfiguredPeer}
 use Rattle.bgp_fsm.specs.SessionTable.{effects_of}
@@ -19,7 +19,7 @@ use Rattle.bgp_peer.specs.SessionInputs.{Queued, session, is_there}
 use Rattle.bgp_peer.proofs.Agreeing.{ring-is}
 use Rattle.decision.specs.BookContents.{IsBestOf, offer_at}
 use Rattle.decision.specs.declared.candidate.Candidate.{Candidate}
-use Rattle.export_rules.specs.Export.{AreAccepted}
+use Rattle.export_rules.specs.Export.{AreAccepted, IsComplete}
 use Rattle.net_prefix.specs.PrefixOrder.{prefix_cmp}
 use Rattle.net_prefix.specs.declared.prefix.Prefix.{Prefix}
 use Rattle.rib_in.specs.LatestRoutes.{route_at}
@@ -41,7 +41,7 @@ use Rattle.speaker.specs.Serving.{HasRoom, IsServedAt, IsShortAt, IsStill, IsTol
 use Rattle.speaker.specs.SpeakerState.{SpeakerState, tables_of}
 use Rattle.speaker.specs.Tables.{Tables, best_at, link_at, network_route, peer_route_at}
 use Rattle.speaker.specs.declared.config.Config.{Config}
-use Rattle.speaker.proofs.Calls.{best_candidate, tables_same, export_is, export_external, export_peer_found, export_short, at_slot, off_slot}
+use Rattle.speaker.proofs.Calls.{best_candidate, tables_same, export_is, export_peer_found, export_short, at_slot, off_slot}
 use Rattle.speaker.proofs.Commands.{holds_signalled, own_is, peer_of}
 use Rattle.speaker.proofs.Events.{holds_put, slot_is}
 use Rattle.speaker.proofs.Histories.{route_stays}
@@ -81,30 +81,36 @@ tables_queued config call r queue slot u = λ i. record {
   routes = λ s prefix. cond (s == 64) (network_route (configuration_of config (turn call queue ∷ r)) prefix) (same_route (s == slot) u (history config s (turn call queue ∷ r)) prefix i);
 }
 
--- a candidate's route has an ORIGIN and a path
-nothing_missing : (attrs : PathAttributes) (origin : Origin) (path : List PathSegment) → attrs.origin ≡ Some origin → attrs.as_path ≡ Some path → IsSome attrs.origin × IsSome attrs.as_path
-nothing_missing attrs origin path some_origin some_path = rw (some_origin, some_path) (refl, refl)
+-- a candidate's route has what every peer needs of it
+nothing_missing : (c : Candidate) (attrs : PathAttributes) (origin : Origin) (path : List PathSegment) (next_hop : ℕ) → attrs.origin ≡ Some origin → attrs.as_path ≡ Some path → attrs.next_hop ≡ Some next_hop → IsComplete c attrs
+nothing_missing c attrs origin path next_hop some_origin some_path some_next_hop = rw (some_origin, some_path, some_next_hop) (record { origin = refl; as_path = refl; next_hop = λ other. refl })
 
 same_attrs : (a b : PathAttributes) → Some a ≡ Some b → a ≡ b
 same_attrs a b is = cc
 
-peer_complete : (t : Tables) (p : Prefix) (c : Candidate) (attrs : PathAttributes) → IsPeerCandidate t p c → t.routes c.slot p ≡ Some attrs → IsSome attrs.origin × IsSome attrs.as_path
+peer_complete : (t : Tables) (p : Prefix) (c : Candidate) (attrs : PathAttributes) → IsPeerCandidate t p c → t.routes c.slot p ≡ Some attrs → IsComplete c attrs
 peer_complete t p c attrs is route_is =
     let same : is.attrs ≡ attrs = same_attrs is.attrs attrs (sym is.route ∙ route_is) in
-    subst (λ (a : PathAttributes). IsSome a.origin × IsSome a.as_path) same (nothing_missing is.attrs is.made.origin is.by_attrs.path is.by_attrs.origin_is is.by_attrs.path_is)
+    subst (λ (a : PathAttributes). IsComplete c a) same (nothing_missing c is.attrs is.made.origin is.by_attrs.path is.by_attrs.next_hop is.by_attrs.origin_is is.by_attrs.path_is is.by_attrs.next_hop_is)
 
--- nor does a local network
-network_complete : (conf : Configuration) (p : Prefix) (attrs : PathAttributes) (b : Bool) → cond b (Some originated) None ≡ Some attrs → IsSome attrs.origin × IsSome attrs.as_path
-network_complete conf p attrs true is = let same : originated ≡ attrs = same_attrs originated attrs is in subst (λ (a : PathAttributes). IsSome a.origin × IsSome a.as_path) same (refl, refl)
-network_complete conf p attrs false is = absurd (cc)
+-- so has a local network, of which the next hop is told where the route is
+local_is : (slot : ℕ) → slot ≡ 64 → (slot == 64) ≡ false → (next_hop : Option ℕ) → IsSome next_hop
+local_is slot is other next_hop = let found : (slot == 64) ≡ true = eq-eqb slot 64 is in absurd (cc)
 
-candidate_complete : (t : Tables) (p : Prefix) (c : Candidate) (attrs : PathAttributes) → ((q : Prefix) → t.routes 64 q ≡ network_route t.conf q) → IsCandidate t p c → t.routes c.slot p ≡ Some attrs → IsSome attrs.origin × IsSome attrs.as_path
+network_complete : (conf : Configuration) (p : Prefix) (c : Candidate) (attrs : PathAttributes) (b : Bool) → c.slot ≡ 64 → cond b (Some originated) None ≡ Some attrs → IsComplete c attrs
+network_complete conf p c attrs true at is =
+    let same : originated ≡ attrs = same_attrs originated attrs is in
+    subst (λ (a : PathAttributes). IsComplete c a) same (record { origin = refl; as_path = refl; next_hop = λ other. local_is c.slot at other None })
+network_complete conf p c attrs false at is = absurd (cc)
+
+candidate_complete : (t : Tables) (p : Prefix) (c : Candidate) (attrs : PathAttributes) → ((q : Prefix) → t.routes 64 q ≡ network_route t.conf q) → IsCandidate t p c → t.routes c.slot p ≡ Some attrs → IsComplete c attrs
 candidate_complete t p c attrs networks (inl is) route_is = peer_complete t p c attrs is route_is
 candidate_complete t p c attrs networks (inr is) route_is =
-    network_complete t.conf p attrs (is_network t.conf p) (sym (networks p) ∙ subst (λ slot. t.routes slot p ≡ Some attrs) (ap (λ (x : Candidate). x.slot) is.made) route_is)
+    let at : c.slot ≡ 64 = ap (λ (x : Candidate). x.slot) is.made in
+    network_complete t.conf p c attrs (is_network t.conf p) at (sym (networks p) ∙ subst (λ slot. t.routes slot p ≡ Some attrs) at route_is)
 
 best_complete : (s : SpeakerState) (p : Prefix) → ((q : Prefix) → route_at s.adj_in 64 q ≡ network_route s.conf q) → IsLocRib (tables_of s) s.loc_rib → (c : Candidate) (attrs : PathAttributes) → best_at s.loc_rib p ≡ Some c → route_at s.adj_in c.slot p ≡ Some attrs
-    → IsSome attrs.origin × IsSome attrs.as_path
+    → IsComplete c attrs
 best_complete s p networks chosen c attrs best =
     let B : Option Candidate → Type 0 = λ found. MatchOption found (HasNoCandidate (tables_of s) p) (λ c. IsBest (tables_of s) p c) in
     candidate_complete (tables_of s) p c attrs networks (best_candidate (tables_of s) p c (subst B best (chosen.best p)))
@@ -114,18 +120,11 @@ abbrev pub Accepts : SpeakerState → ℕ → Prefix → Option (List ℕ) → T
 Accepts s slot p export = (a : List ℕ) → export ≡ Some a → (peer : ConfiguredPeer) → peer_at s.conf slot ≡ Some peer → IsAccepted s.loc_rib s.adj_in (export_peer_of s.conf slot peer) p a
 
 is_good : (config : Config) (r : Run) (s : SpeakerState) (slot : ℕ) (p : Prefix) (export : Option (List ℕ)) (peer : ConfiguredPeer) → Holds config r s → IsLocRib (tables_of s) s.loc_rib
-    → peer_at s.conf slot ≡ Some peer → Accepts s slot p export → IsGood config.asn export
+    → peer_at s.conf slot ≡ Some peer → Accepts s slot p export → IsGood (kind_between peer.asn config.asn) export
 is_good config r s slot p export peer holds chosen configured accepts a some =
     let own : s.conf.own ≡ config.asn = ap (λ (c : Configuration). c.own) holds.conf ∙ own_is config r in
-    subst (λ asn. AreAccepted asn a) own
+    subst (λ asn. AreAccepted (kind_between peer.asn asn) a) own
     (accepts a some peer configured (record { own = rw own holds.peers.0; local = (holds.peers.1 slot peer configured).local }) (best_complete s p holds.networks chosen))
-
--- what is exported goes to an external peer
-outside : (config : Config) (r : Run) (s : SpeakerState) (slot : ℕ) (p : Prefix) (a : List ℕ) (peer : ConfiguredPeer) → Holds config r s → peer_at s.conf slot ≡ Some peer → export_to s slot p ≡ Some a
-    → (peer.asn.0 == config.asn.0) ≡ false
-outside config r s slot p a peer holds configured exported =
-    let own : s.conf.own ≡ config.asn = ap (λ (c : Configuration). c.own) holds.conf ∙ own_is config r in
-    subst (λ (asn : Asn). (peer.asn.0 == asn.0) ≡ false) own (export_external s slot peer p a configured exported)
 
 -- an UPDATE that says of a prefix what the export has and the peer doesn't hold is owed
 is_owed : (config : Config) (r : Run) (s : SpeakerState) (slot : ℕ) (p : Prefix) (export : Option (List ℕ)) (peer : ConfiguredPeer) (l : Linked) → Holds config r s
@@ -146,7 +145,7 @@ is_owed config r s slot p export peer l holds loc_rib configured here place expo
       configured = ap (λ c. peer_at c slot) (sym holds.conf) ∙ configured;
       is_update = saying_is_update p export short;
       faultless =
-          saying_faultless p export peer.asn config.asn short place (λ a some. outside config r s slot p a peer holds configured (exported ∙ some))
+          saying_faultless p export (kind_between peer.asn config.asn) short place
           (is_good config r s slot p export peer holds chosen configured accepts);
       alone = (p, (export, refl));
       some = (p, saying_names p export place short);

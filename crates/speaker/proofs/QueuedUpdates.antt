@@ -4,8 +4,7 @@ use Rattle.std.proofs.lemmas.List.Elements.{All-cons}
 use Rattle.std.proofs.lemmas.Bool.{le-leb}
 use Rattle.std.proofs.lemmas.List.{length-take}
 use Rattle.bgp_attr.specs.PathAttributes.{PathAttributes}
-use Rattle.bgp_attr.specs.PeerKinds.{kind_between}
-use Rattle.bgp_attr.specs.declared.peer.PeerKind.TheVariants.{External}
+use Rattle.bgp_attr.specs.declared.peer.PeerKind.{PeerKind}
 use Rattle.bgp_conf.specs.declared.conf.ConfiguredPeer.{ConfiguredPeer}
 use Rattle.bgp_fsm.specs.declared.session.Session.{Session}
 use Rattle.bgp_fsm.specs.declared.state.State.TheVariants.{Established}
@@ -23,7 +22,6 @@ use Rattle.bgp_peer.specs.SentMessages.{sent}
 use Rattle.bgp_peer.specs.SessionInputs.{Event, Queued, session}
 use Rattle.bgp_peer.proofs.Agreeing.{agrees-queue}
 use Rattle.export_rules.specs.Export.{AreAccepted}
-use Rattle.net_prefix.specs.declared.asn.Asn.{Asn}
 use Rattle.net_prefix.specs.PrefixSpelling.{spelling_of, address_octets, octets_for}
 use Rattle.net_prefix.specs.declared.prefix.Prefix.{Prefix}
 use Rattle.rib_out.proofs.Prefixes.{is_prefix-refl}
@@ -138,9 +136,9 @@ told_by_it false export is = absurd (cc)
 pub saying_says : (p : Prefix) (export : Option (List ℕ)) → rank_of p < 2 ^ 38 → ((a : List ℕ) → export ≡ Some a → length a ≤ 4068) → told_in (update_saying p export) p ≡ export
 saying_says p export place short = saying_tells p export None p place short ∙ told_by_it (is_prefix p p) export (is_prefix-refl p)
 
--- a peer in another AS finds no fault with what is exported
-abbrev pub IsGood : Asn → Option (List ℕ) → Type 0
-IsGood own export = (a : List ℕ) → export ≡ Some a → AreAccepted own a
+-- who hears this side as such a peer finds no fault with what is exported
+abbrev pub IsGood : PeerKind → Option (List ℕ) → Type 0
+IsGood kind export = (a : List ℕ) → export ≡ Some a → AreAccepted kind a
 
 none_named_in : All (λ (prefix : Prefix). prefix.bits < 2 ^ 32) []
 none_named_in k d h = absurd (omega (arith, h))
@@ -149,13 +147,13 @@ one_named_in : (p : Prefix) → rank_of p < 2 ^ 38 → All (λ prefix. prefix.bi
 one_named_in p place = All-cons (λ prefix. prefix.bits < 2 ^ 32) p [] (small_bits p place) none_named_in
 
 -- nor with the UPDATE that says it
-pub saying_faultless : (p : Prefix) (export : Option (List ℕ)) (peer own : Asn) (short : (a : List ℕ) → export ≡ Some a → length a ≤ 4068) → rank_of p < 2 ^ 38
-    → ((a : List ℕ) → export ≡ Some a → (peer.0 == own.0) ≡ false) → IsGood own export → update_fault (kind_between peer own) (saying_is_update p export short).0 ≡ None
+pub saying_faultless : (p : Prefix) (export : Option (List ℕ)) (kind : PeerKind) (short : (a : List ℕ) → export ≡ Some a → length a ≤ 4068) → rank_of p < 2 ^ 38
+    → IsGood kind export → update_fault kind (saying_is_update p export short).0 ≡ None
 unfolding saying_is_update update_message
-saying_faultless p None peer own short place other good =
-    (written_says (kind_between peer own) (p ∷ []) [] [] (one_named_in p place) none_named_in (omega (arith, wire_short p)) (no_attributes (kind_between peer own)) (inl refl)).0
-saying_faultless p (Some a) peer own short place other good =
-    rw (other a refl) (written_says (External own) [] (p ∷ []) a none_named_in (one_named_in p place) (omega (arith, wire_short p, short a refl)) (good a refl).faultless (inr (good a refl).complete)).0
+saying_faultless p None kind short place good =
+    (written_says kind (p ∷ []) [] [] (one_named_in p place) none_named_in (omega (arith, wire_short p)) (no_attributes kind) (inl refl)).0
+saying_faultless p (Some a) kind short place good =
+    (written_says kind [] (p ∷ []) a none_named_in (one_named_in p place) (omega (arith, wire_short p, short a refl)) (good a refl).faultless (inr (good a refl).complete)).0
 
 -- the slot after an UPDATE
 pub slot_queued : (config : Config) (peer : ConfiguredPeer) (p : Prefix) (export : Option (List ℕ)) (l new : Linked) (routes : Prefix → Option PathAttributes) (h : List Event)

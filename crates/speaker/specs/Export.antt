@@ -1,13 +1,14 @@
 -- What each peer is sent of Loc-RIB (RFC 4271 sections 3.2 and 9.1.3).
 use Rattle.std.specs.Prelude.{◌≡◌, ◌==◌, ◌⊎◌, ℕ, List, Option, Some, None, if◌then◌else◌}
-use Rattle.std.specs.Option.{IsSome, option_and_then}
+use Rattle.std.specs.Option.{option_and_then}
 use Rattle.bgp_attr.specs.PathAttributes.{PathAttributes}
+use Rattle.bgp_attr.specs.PeerKinds.{kind_between}
 use Rattle.bgp_conf.specs.Configuration.{Configuration, peer_at}
 use Rattle.bgp_conf.specs.PeerPolicies.{export_action}
 use Rattle.bgp_conf.specs.declared.conf.ConfiguredPeer.{ConfiguredPeer}
 use Rattle.decision.specs.declared.candidate.Candidate.{Candidate}
 use Rattle.decision.specs.declared.candidate.TheConstants.{LOCAL_SLOT}
-use Rattle.export_rules.specs.Export.{AreAccepted, IsSender, export_at}
+use Rattle.export_rules.specs.Export.{AreAccepted, IsComplete, IsSender, export_at}
 use Rattle.export_rules.specs.declared.export.ExportPeer.{ExportPeer}
 use Rattle.net_prefix.specs.declared.asn.Asn.{Asn}
 use Rattle.net_prefix.specs.declared.prefix.Prefix.{Prefix}
@@ -51,10 +52,10 @@ export_in conf loc_rib adj_in peer prefix =
 abbrev pub export_to : SpeakerState → ℕ → Prefix → Option (List ℕ)
 export_to s slot prefix = option_and_then (λ peer. export_in s.conf (best_at s.loc_rib) s.adj_in (export_peer_of s.conf slot peer) prefix) (peer_at s.conf slot)
 
--- the peer finds no fault with these octets of attributes, where the best route of the prefix has an ORIGIN and an AS_PATH
+-- the peer finds no fault with these octets of attributes, where the best route of the prefix has what every peer needs of it
 -- (RFC 4271 section 6.3)
 abbrev pub IsAccepted : List (Prefix × Candidate) → RouteTable → ExportPeer → Prefix → List ℕ → Type 0
 IsAccepted loc_rib adj_in peer prefix octets =
     IsSender peer
-    → ((c : Candidate) (attrs : PathAttributes) → best_at loc_rib prefix ≡ Some c → route_at adj_in c.slot prefix ≡ Some attrs → IsSome attrs.origin × IsSome attrs.as_path)
-    → AreAccepted peer.own octets
+    → ((c : Candidate) (attrs : PathAttributes) → best_at loc_rib prefix ≡ Some c → route_at adj_in c.slot prefix ≡ Some attrs → IsComplete c attrs)
+    → AreAccepted (kind_between peer.asn peer.own) octets

@@ -34,7 +34,7 @@ impl<A: Allocator + Clone> Link<A> {
     pub fn new(alloc: A, own: Open, mode: Mode) -> Result<Self, AllocError>
         ensures { IfOk result (λ l. l ≡ record { peer = configured own mode; adj_out = [] }) }
     {
-        let adj_out = AdjOut::new(alloc.clone()?)?;
+        let adj_out = AdjOut::new(alloc.clone()?);
         let peer = Peer::new(alloc, own, mode)?;
         Ok(Link { peer, adj_out })
     }

@@ -30,7 +30,7 @@ use decision::{Book, Candidate, LOCAL_SLOT};
 use export_rules::{ExportPeer, export_of};
 use loc_rib::Ribs;
 use net_prefix::{Asn, Prefix};
-use rib_out::Owed;
+use rib_out::{Owed, RecentOctets};
 use std::alloc::{AllocError, Allocator};
 
 /// The octets of one message, or of its attributes.
@@ -299,7 +299,7 @@ impl<A: Allocator + Clone, B: Book<A>> Speaker<A, B> {
         let Some(link) = self.links.get_mut(&slot) else {
             return Ok(());
         };
-        announce(link, prefix, octets, message)?;
+        announce(link, &mut self.recent, prefix, octets, message)?;
         self.routing.told(slot, prefix);
         Ok(())
     }
@@ -326,6 +326,7 @@ fn withdraw<A: Allocator + Clone>(link: &mut Link<A>, prefix: Prefix, message: &
 
 fn announce<A: Allocator + Clone>(
     link: &mut Link<A>,
+    recent: &mut RecentOctets<A>,
     prefix: Prefix,
     octets: &Octets,
     message: &mut Octets,
@@ -337,7 +338,8 @@ fn announce<A: Allocator + Clone>(
     ensures err { OnErr result (link.new ≡ link.old) }
 {
     let _place = place(prefix);
-    link.adj_out.announce(prefix, octets.as_slice())?;
+    let held = recent.shared(octets.as_slice())?;
+    link.adj_out.announce(prefix, held)?;
     write_announcement(octets.as_slice(), &[prefix], message);
     link.peer.queue(message.as_slice());
     Ok(())

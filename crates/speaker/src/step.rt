@@ -20,6 +20,7 @@ use bgp_fsm::Input;
 use decision::{Book, PlainBook};
 use net_prefix::{Asn, Transport};
 use origin_valid::PayloadTrie;
+use rib_out::RecentOctets;
 use rtr_session::CacheSession;
 use std::alloc::{AllocError, Allocator, Global};
 use std::collections::BTreeMap;
@@ -36,6 +37,8 @@ pub struct Speaker<A: Allocator + Clone = Global, B: Book<A> = PlainBook<A>> {
     pub(crate) payloads: PayloadTrie<A>,
     pub(crate) links: BTreeMap<u8, Link<A>, A>,
     pub(crate) routing: Routing<A, B>,
+    // What was announced lately, for peers to share.
+    pub(crate) recent: RecentOctets<A>,
     // The moment of the last tick.
     pub(crate) moment: u64,
     // How often a best route was chosen before the last call that wasn't refused.
@@ -101,6 +104,7 @@ impl<A: Allocator + Clone + Copy, B: Book<A>> Speaker<A, B> {
         let payloads = PayloadTrie::new(alloc.clone()?);
         let links = BTreeMap::new(alloc.clone()?);
         let routing = Routing::new(alloc.clone()?)?;
+        let recent = RecentOctets::new(alloc.clone()?)?;
         Ok(Speaker {
             alloc,
             config,
@@ -109,6 +113,7 @@ impl<A: Allocator + Clone + Copy, B: Book<A>> Speaker<A, B> {
             payloads,
             links,
             routing,
+            recent,
             moment: 0,
             chosen_before: 0,
         })

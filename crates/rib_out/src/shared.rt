@@ -1,0 +1,121 @@
+//! Octets of attributes that many prefixes and many peers share.
+ghost use Rattle.std.specs.Prelude.{◌≡◌, ◌<◌, IfOk};
+
+use std::alloc::{AllocError, Allocator, Global};
+use std::collections::BTreeMap;
+use std::marker::Model;
+use std::rc::Rc;
+
+/// How many lists of octets are kept for others to share.
+pub const RECENT_LISTS: u32 = 4096;
+
+/// The octets of a route's attributes.
+#[derive(Drop)]
+struct Octets<A: Allocator> {
+    octets: Vec<u8, A>,
+}
+
+impl<A: Allocator> Model for Octets<A> {
+    ghost use Rattle.std.specs.Prelude.{List, ℕ};
+
+    ghost Value = { List ℕ };
+
+    ghost view = { λ s. s.octets.items };
+}
+
+/// The octets of a route's attributes, held once for all that share them.
+#[derive(Drop)]
+pub struct SharedOctets<A: Allocator = Global> {
+    octets: Rc<Octets<A>, A>,
+}
+
+impl<A: Allocator> Model for SharedOctets<A> {
+    ghost use Rattle.std.specs.Prelude.{List, ℕ};
+
+    ghost Value = { List ℕ };
+
+    ghost view = { λ s. s.octets.value };
+}
+
+impl<A: Allocator + Clone> SharedOctets<A> {
+    /// A copy of these octets, which nobody shares yet.
+    pub fn of(alloc: A, octets: &[u8]) -> Result<Self, AllocError>
+        ensures { IfOk result (λ copy. copy ≡ octets.now) }
+    {
+        let copy = Octets {
+            octets: Vec::from_slice(alloc.clone()?, octets)?,
+        };
+        Ok(SharedOctets {
+            octets: Rc::new(alloc, copy)?,
+        })
+    }
+
+    /// The same octets for one more to hold. No memory is taken.
+    pub fn share(&self) -> Result<Self, AllocError>
+        ensures { IfOk result (λ other. other ≡ self.now) }
+    {
+        Ok(SharedOctets {
+            octets: self.octets.clone()?,
+        })
+    }
+}
+
+impl<A: Allocator> SharedOctets<A> {
+    /// The octets.
+    pub fn as_slice(&self) -> &[u8]
+        ensures { result.now ≡ self.now }
+    {
+        self.octets.octets.as_slice()
+    }
+}
+
+/// Octets that were announced lately, so that the next who is told the same shares them.
+#[derive(Drop)]
+pub struct RecentOctets<A: Allocator = Global> {
+    alloc: A,
+    // By a number made of the octets: of two lists with one number the later one is kept.
+    lists: BTreeMap<u32, SharedOctets<A>, A>,
+}
+
+impl<A: Allocator> Model for RecentOctets<A> {
+    ghost use Rattle.std.specs.Prelude.{⊤};
+
+    ghost Value = { ⊤ };
+
+    ghost view = { λ _. tt };
+}
+
+impl<A: Allocator + Clone> RecentOctets<A> {
+    /// Nothing was announced yet.
+    pub fn new(alloc: A) -> Result<Self, AllocError> {
+        let lists = BTreeMap::new(alloc.clone()?);
+        Ok(RecentOctets { alloc, lists })
+    }
+
+    /// These octets, shared with those who were told the same lately.
+    pub fn shared(&mut self, octets: &[u8]) -> Result<SharedOctets<A>, AllocError>
+        ensures { IfOk result (λ shared. shared ≡ octets.now) }
+    {
+        let number = number_of(octets);
+        if let Some(recent) = self.lists.get(&number)
+            && recent.as_slice() == octets
+        {
+            return recent.share();
+        }
+        let shared = SharedOctets::of(self.alloc.clone()?, octets)?;
+        // Where memory is refused to keep them, none shares them.
+        let _kept = self.lists.insert(number, shared.share()?);
+        Ok(shared)
+    }
+}
+
+// A number below `RECENT_LISTS` made of the octets.
+fn number_of(octets: &[u8]) -> u32
+    ensures { result < 4096 }
+{
+    let mut number: u32 = 0;
+    for octet in octets.iter() {
+        number = number.wrapping_mul(31).wrapping_add(u32::from(*octet));
+    }
+    (number ^ number >> 16) % RECENT_LISTS
+}
