@@ -103,9 +103,10 @@ impl<A: Allocator + Clone> RecentOctets<A> {
             return recent.share();
         }
         let shared = SharedOctets::of(self.alloc.clone()?, octets)?;
-        // Where memory is refused to keep them, none shares them.
-        let _kept = self.lists.insert(number, shared.share()?);
-        Ok(shared)
+        match self.lists.insert(number, shared.share()?) {
+            Ok(_) => Ok(shared),
+            Err(_) => Err(AllocError),
+        }
     }
 }
 

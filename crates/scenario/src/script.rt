@@ -64,9 +64,21 @@ pub fn play<R: BufRead + Drop, W: Write>(
 {
     let mut stage = Stage::new(alloc)?;
     let mut text = Vec::new(alloc);
+    play_lines(&mut reader, &mut stage, &mut text, writer)
+}
+
+// Plays the lines, each read into the text.
+fn play_lines<R: BufRead + Drop, W: Write>(
+    reader: &mut R,
+    stage: &mut Stage,
+    text: &mut Vec<u8>,
+    writer: &mut W,
+) -> Result<(), PlayFault>
+    ensures { IfErr result CountsFromOne }
+{
     for number in 1..u64::MAX {
         text.clear();
-        if reader.read_until(b'\n', &mut text)? == 0 {
+        if reader.read_until(b'\n', text)? == 0 {
             return stage.end();
         }
         stage.play_line(number, text.as_slice(), writer)?;

@@ -14,7 +14,7 @@ use Rattle.policy.specs.declared.rule.Action.TheVariants.{Reject, Accept}
 use Rattle.bgp_fsm.specs.declared.session.Session.{Session}
 use Rattle.origin_valid.specs.declared.validity.Validity.{Validity}
 use Rattle.speaker.specs.Tables.{Tables}
-use Rattle.speaker.specs.Candidates.{IsCandidateOf, IsCandidate, IsLocalCandidate, IsMade, IsPeerCandidate, MakesNone, HasNoneAt, IsOnlyCandidateAt, degree_by, degree_of, judged_at, network_at, seen_of, state_in, taken, with_state}
+use Rattle.speaker.specs.Candidates.{IsCandidateOf, IsCandidate, IsMade, IsPeerCandidate, MakesNone, HasNoneAt, degree_by, degree_of, judged_at, network_at, seen_of, state_in, taken, with_state}
 use Rattle.speaker.specs.Offers.{IsOffer, IsRemade, LacksRoute}
 use Rattle.decision.specs.declared.book.Change.{Change}
 use Rattle.std.specs.Option.{MatchOption, option_map}

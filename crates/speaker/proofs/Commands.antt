@@ -1,4 +1,4 @@
-use Rattle.std.proofs.Common.{◌≡◌, ◌≢◌, ◌≤◌, ◌<◌, ◌+◌, ◌==◌, ◌&&◌, ◌||◌, ◌^◌, ℕ, Bool, true, false, List, [], ◌∷◌, length, Option, Some, None, Result, Ok, Err, OnErr, OnOk, is_none, is_some, nat_le, cond, refl, sym, ap, ◌∙◌, subst, inl, inr, arith}
+use Rattle.std.proofs.Common.{◌≡◌, ◌≢◌, ◌≤◌, ◌<◌, ◌+◌, ◌==◌, ◌&&◌, ◌||◌, ◌^◌, ℕ, Bool, true, false, List, [], ◌∷◌, length, Option, Some, None, Result, Ok, Err, OnErr, is_none, is_some, nat_le, cond, refl, sym, ap, ◌∙◌, subst, inl, inr, arith}
 use Rattle.std.proofs.lemmas.Bool.{cases_eq, eq-eqb, ne_eqb, eqb-true}
 use Rattle.std.proofs.lemmas.Bool.Decides.{nat_tests}
 use Rattle.std.proofs.lemmas.Grind.{common_steps}
@@ -44,7 +44,6 @@ use Rattle.bgp_peer.specs.SessionInputs.{Signalled, Terms, moment_of, session, s
 use Rattle.bgp_peer.specs.Slot.{configured}
 use Rattle.bgp_peer.proofs.Agreeing.{agrees-new}
 use Rattle.decision.specs.BookContents.{offer_at}
-use Rattle.net_prefix.specs.declared.asn.Asn.{Asn}
 use Rattle.net_prefix.specs.declared.prefix.Prefix.{Prefix}
 use Rattle.net_prefix.specs.declared.transport.Transport.{Transport}
 use Rattle.net_prefix.specs.declared.transport.Transport.TheVariants.{Open as Connected}
@@ -53,12 +52,12 @@ use Rattle.speaker.specs.AdjRibIn.{route}
 use Rattle.speaker.specs.Agreement.{CacheAgrees, SlotAgrees, IsTaken, Holds, HoldsBy}
 use Rattle.rtr_session.specs.SessionHistory as cached
 use Rattle.speaker.proofs.Histories.{no_route}
-use Rattle.speaker.proofs.SlotStates.{SlotIs, slot_agrees, configured_from, slot_from}
+use Rattle.speaker.proofs.SlotStates.{SlotIs, slot_agrees, configured_from}
 use Rattle.speaker.specs.Choices.{choices_by, choices_commanded, choices_in, how_many, is_known, named_to}
 use Rattle.speaker.specs.Chosen.{AreDifferent, Chooses, OncePerPrefix}
 use Rattle.speaker.specs.FirstRefusal.{refused_at, awaits_up, is_open}
 use Rattle.speaker.specs.Linked.{Linked}
-use Rattle.speaker.specs.Offers.{AreKept, AreMadeAgain, AreMadeWhere, IsSound, Offers, read_in}
+use Rattle.speaker.specs.Offers.{AreKept, AreMadeAgain, AreMadeWhere, IsSound, Offers}
 use Rattle.speaker.specs.Moves.{Announces, Moves, IsPut, moved, resolves}
 use Rattle.speaker.specs.Runs.{Call, Run, turn, Up_call, Fail_call, Bytes_call, Starved_call, Tick_call, Command_call, Take_call, Cache_up_call, Cache_fail_call, Cache_bytes_call, Cache_starved_call, Cache_take_call, cache_history, commanded, conf_called, configuration_of, history, moment_after, opened_commanded, terms_in}
 use Rattle.speaker.specs.SpeakerState.{IsAsBefore, SpeakerState, tables_of}

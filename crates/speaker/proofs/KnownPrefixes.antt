@@ -1,8 +1,8 @@
-use Rattle.std.proofs.Common.{◌≡◌, ◌<◌, ◌⊎◌, ◌||◌, ℕ, Bool, true, false, List, [], ◌∷◌, Option, Some, None, cond, refl, sym, ap, ◌∙◌, subst, inl, inr}
+use Rattle.std.proofs.Common.{◌≡◌, ◌<◌, ◌⊎◌, ◌||◌, ℕ, Bool, true, false, List, [], ◌∷◌, Some, None, cond, refl, sym, ap, ◌∙◌, subst, inl, inr}
 use Rattle.std.specs.BTreeMap.{is_at}
 use Rattle.std.specs.List.{list_any}
 use Rattle.std.specs.Option.{IsSome}
-use Rattle.bgp_attr.specs.PathAttributes.{PathAttributes, originated}
+use Rattle.bgp_attr.specs.PathAttributes.{originated}
 use Rattle.bgp_conf.specs.Configuration.{Configuration, is_network}
 use Rattle.bgp_peer.specs.SessionInputs as happens
 use Rattle.net_prefix.specs.PrefixOrder.{prefix_cmp}

@@ -32,6 +32,7 @@ pub mod ShownRoutes
 pub mod MergedPrefixes
 pub mod WaitingLists
 pub mod OneBest
+pub mod OtherSessions
 pub mod Moments
 pub mod WaitingRuns
 pub mod Marking
@@ -45,3 +46,4 @@ pub mod CacheSteps
 pub mod Touches
 pub mod Stretching
 pub mod TouchedStretches
+pub mod ToldDegrees

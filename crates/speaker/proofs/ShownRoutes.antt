@@ -12,7 +12,6 @@ use Rattle.net_prefix.specs.PayloadSets.{IsPayloadSet}
 use Rattle.net_prefix.specs.PrefixOrder.{prefix_cmp}
 use Rattle.net_prefix.specs.declared.prefix.Prefix.{Prefix}
 use Rattle.net_prefix.proofs.PayloadSets.{prefix_cmp_total}
-use Rattle.rib_in.specs.LatestRoutes.{route_at}
 use Rattle.rib_out.specs.Held.{held_at, is_prefix}
 use Rattle.rtr_client.specs.Following.{state_of}
 use Rattle.rtr_session.specs.SessionHistory as cached

@@ -16,7 +16,6 @@ use Rattle.bgp_fsm.specs.declared.timers.Timer.TheVariants.{Hold, ConnectRetry, 
 use Rattle.bgp_peer.specs.SessionInputs as happens
 use Rattle.bgp_peer.specs.SessionInputs.{Signalled, Ticked, ending, endings, moment_of, session, ticked, timers}
 use Rattle.net_prefix.specs.declared.prefix.Prefix.{Prefix}
-use Rattle.rib_in.specs.LatestRoutes.{route_at}
 use Rattle.speaker.specs.Agreement.{EndsAll, EndsTimers, Holds, HoldsBy, SlotAgrees}
 use Rattle.speaker.specs.Choices.{choices_cached, choices_endings, choices_in, choices_to}
 use Rattle.speaker.specs.Chosen.{Chooses}

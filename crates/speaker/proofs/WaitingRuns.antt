@@ -8,7 +8,6 @@ use Rattle.bgp_fsm.specs.declared.state.State.{State}
 use Rattle.bgp_fsm.specs.declared.state.State.TheVariants.{Idle, Connect, Active, OpenSent, OpenConfirm, Established}
 use Rattle.bgp_peer.specs.SentMessages.{ring_of}
 use Rattle.net_prefix.specs.declared.prefix.Prefix.{Prefix}
-use Rattle.rib_in.specs.LatestRoutes.{route_at}
 use Rattle.rib_out.specs.Held.{held_at}
 use Rattle.speaker.specs.Agreement.{Agrees, tables_after}
 use Rattle.speaker.specs.Export.{IsExport, export_in, export_peer_of, export_to}

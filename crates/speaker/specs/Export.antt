@@ -1,5 +1,5 @@
 -- What each peer is sent of Loc-RIB (RFC 4271 sections 3.2 and 9.1.3).
-use Rattle.std.specs.Prelude.{◌≡◌, ◌==◌, ◌⊎◌, ℕ, List, Option, Some, None, if◌then◌else◌}
+use Rattle.std.specs.Prelude.{◌≡◌, ◌==◌, ◌<◌, ◌^◌, ◌⊎◌, ℕ, List, Option, Some, None, MatchOption, ⊤, if◌then◌else◌}
 use Rattle.std.specs.Option.{option_and_then}
 use Rattle.bgp_attr.specs.PathAttributes.{PathAttributes}
 use Rattle.bgp_attr.specs.PeerKinds.{kind_between}
@@ -13,6 +13,8 @@ use Rattle.export_rules.specs.declared.export.ExportPeer.{ExportPeer}
 use Rattle.net_prefix.specs.declared.asn.Asn.{Asn}
 use Rattle.net_prefix.specs.declared.prefix.Prefix.{Prefix}
 use Rattle.policy.specs.PolicyMeaning.{Route}
+use Rattle.policy.specs.declared.rule.Action.{Action}
+use Rattle.policy.specs.declared.rule.Action.TheVariants.{Reject, Accept}
 use Rattle.rib_in.specs.LatestRoutes.{RouteTable, route_at}
 use Rattle.speaker.specs.Candidates.{origin_in}
 use Rattle.speaker.specs.LocRib.{IsBest, HasNoCandidate}
@@ -59,3 +61,8 @@ IsAccepted loc_rib adj_in peer prefix octets =
     IsSender peer
     → ((c : Candidate) (attrs : PathAttributes) → best_at loc_rib prefix ≡ Some c → route_at adj_in c.slot prefix ≡ Some attrs → IsComplete c attrs)
     → AreAccepted (kind_between peer.asn peer.own) octets
+
+-- four octets say the degree of preference that an action sets, if it sets one
+abbrev pub SetsDegree : Action → Type 0
+SetsDegree Reject = Unit {0}
+SetsDegree (Accept degree med prepend) = MatchOption degree ⊤ (λ n. n < 2 ^ 32)

@@ -21,3 +21,4 @@ pub mod Marks
 pub mod Choices
 pub mod Chosen
 pub mod CacheMoves
+pub mod Concerned

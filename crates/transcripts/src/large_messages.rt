@@ -252,3 +252,67 @@ fn the_limit_counts_an_as_put_in_front_of_1000(rt: HostRuntime) -> Result<(), Fa
         )?,
     )
 }
+
+// Eight more ASes of an export policy: the first nine make a segment of their own before a full one, and eight of them do
+// before one that takes one more.
+#[test]
+fn eight_more_ases_begin_a_segment(rt: HostRuntime) -> Result<(), Fail> {
+    let alloc = rt.alloc();
+    let full = path_of(alloc, &[("0000FDE9", 70_000, 70_254)])?;
+    let received = format!(in alloc;
+        "> policy more accept prepend 8\nok\n> use out 1 more\nok\n> bytes 0 M 0428 02 0000 040D 40010100 500203FE 02FF {full} 400304C000020B 180A0001\nok\n"
+    )?;
+    let own = "0000FDE8".repeat(alloc, 8)?;
+    let sent = format!(in alloc;
+        "> take 1 9999\nout M 044E 02 0000 0433 40010100 50020424 0209 {own} 0000FDE8 02FF {full} 400304C0000201 180A0001\n"
+    )?;
+    let short = path_of(alloc, &[("0000FDE9", 70_000, 70_253)])?;
+    let joined = format!(in alloc;
+        "> bytes 0 M 0424 02 0000 0409 40010100 500203FA 02FE {short} 400304C000020B 180A0001\nok\n> take 1 9999\nout M 044A 02 0000 042F 40010100 50020420 0208 {own} 02FF 0000FDE8 {short} 400304C0000201 180A0001\n"
+    )?;
+    let of_256 = format!(in alloc;
+        "> bytes 0 M 042E 02 0000 0413 40010100 50020404 0201 0000FDE9 02FF {full} 400304C000020B 180A0001\nok\n> take 1 9999\nout M 0452 02 0000 0437 40010100 50020428 020A {own} 0000FDE8 0000FDE9 02FF {full} 400304C0000201 180A0001\n"
+    )?;
+    plays(
+        &rt,
+        alloc,
+        &[
+            TWO_PEERS,
+            BOTH_COME_UP,
+            received.as_str(),
+            sent.as_str(),
+            joined.as_str(),
+            of_256.as_str(),
+        ],
+    )
+}
+
+// A route of 4,068 octets of attributes as they are sent once: with an AS more they don't fit, and it is withdrawn.
+#[test]
+fn an_as_more_is_too_much(rt: HostRuntime) -> Result<(), Fail> {
+    let alloc = rt.alloc();
+    let value = "AB".repeat(alloc, 4_040)?;
+    let mut transcript = Transcript::read(alloc, ESTABLISHED)?;
+    transcript.send(
+        &format!(in alloc; "M 0FFB 02 0000 0FE0 {RECEIVED} D0630FC8 {value} 180A0001")?,
+    )?;
+    transcript.take(
+        1,
+        &format!(in alloc; "M 0FFF 02 0000 0FE4 {SENT} F0630FC8 {value} 180A0001")?,
+    )?;
+    transcript.add(ONE_AS_MORE)?;
+    transcript.play(&rt, alloc)
+}
+
+const ONE_AS_MORE: &str = "
+> policy more accept prepend 1
+ok
+> use out 1 more
+ok
+> take 1 9999
+out M 001B 02 0004 180A0001 0000
+> show held 1
+end
+> show waiting 1
+end
+";

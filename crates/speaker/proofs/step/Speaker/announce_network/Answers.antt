@@ -1,4 +1,4 @@
-use Rattle.std.proofs.Common.{◌≡◌, Some, false, refl, sym, ap, ◌∙◌, subst, ◌∙◌}
+use Rattle.std.proofs.Common.{◌≡◌, Some, false, refl, sym, ◌∙◌, subst, ◌∙◌}
 use Rattle.std.proofs.lemmas.Result.{err_from_is_err_and}
 use Rattle.bgp_attr.specs.PathAttributes.{originated}
 use Rattle.decision.specs.BookContents.{offer_at}

@@ -1,5 +1,5 @@
-use Rattle.std.proofs.Common.{◌≡◌, refl, sym, subst}
-use Rattle.bgp_conf.specs.ConfAfter.{TakesMemory, conf_after}
+use Rattle.std.proofs.Common.{refl, sym, subst}
+use Rattle.bgp_conf.specs.ConfAfter.{conf_after}
 use Rattle.bgp_conf.specs.declared.command.Command.TheVariants.{DropPolicy}
 use Rattle.decision.specs.BookContents.{offer_at}
 use Rattle.speaker.specs.Offers.{IsSound}

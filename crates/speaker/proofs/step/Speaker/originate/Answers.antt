@@ -1,4 +1,4 @@
-use Rattle.std.proofs.Common.{◌≡◌, ◌∙◌, true, false, refl, sym, ap}
+use Rattle.std.proofs.Common.{◌≡◌, true, false, refl}
 use Rattle.bgp_conf.specs.Configuration.{is_network}
 use Rattle.speaker.proofs.Commands.{before_restored, holds_network, holds_there}
 use Rattle.speaker.proofs.Results.{OnErr-got, OnOk-got, OnOk-sure, told_false, told_true}

@@ -1,6 +1,4 @@
-use Rattle.std.proofs.Common.{◌≡◌, refl, sym, ap}
-use Rattle.bgp_conf.specs.ConfAfter.{conf_after}
-use Rattle.bgp_conf.specs.declared.command.Command.TheVariants.{NoNetwork}
+use Rattle.std.proofs.Common.{refl}
 use Rattle.decision.specs.BookContents.{offer_at}
 use Rattle.rib_in.specs.LatestRoutes.{is_route}
 use Rattle.speaker.proofs.Commands.{holds_retracted}

@@ -1,4 +1,4 @@
-use Rattle.std.proofs.Common.{◌≡◌, ◌∙◌, ap, refl, sym, subst}
+use Rattle.std.proofs.Common.{◌∙◌, ap, refl}
 use Rattle.bgp_conf.proofs.PolicyActions.{is_policy_name-from_accepted}
 use Rattle.bgp_conf.specs.declared.command.Command.TheVariants.{SetPolicy}
 use Rattle.speaker.specs.RoutingState.{RoutingState}

@@ -1,4 +1,4 @@
-use Rattle.std.proofs.Common.{◌≡◌, refl, sym, subst}
+use Rattle.std.proofs.Common.{refl}
 use Rattle.decision.specs.BookContents.{offer_at}
 use Rattle.speaker.proofs.AddedMarks.{marked_importing}
 use Rattle.speaker.proofs.Commands.{holds_used, slot_used}

@@ -1,10 +1,9 @@
-use Rattle.std.proofs.Common.{Some, None, ◌≡◌, refl, rules, subst, ap}
+use Rattle.std.proofs.Common.{Some, None, ◌≡◌, refl, rules, subst}
 use Rattle.decision.specs.BookContents.{rows_of}
 use Rattle.rib_out.specs.Held.{held_at}
 use Rattle.std.specs.Option.{option_map}
 use Rattle.bgp_conf.specs.Configuration.{peer_at}
 use Rattle.speaker.specs.Export.{export_in, export_peer_of}
-use Rattle.speaker.specs.RoutingState.{RoutingState}
 use Rattle.speaker.specs.Tables.{best_at, link_at}
 use Rattle.speaker.specs.Waiting.{differing, known_prefixes}
 use Rattle.bgp_fsm.specs.declared.state.State.TheVariants.{Established}
