@@ -29,7 +29,10 @@ pub use bgp_fsm::State;
 pub use config::Config;
 pub use decision::LOCAL_SLOT;
 pub use event::{Event, Report};
-pub use laws::{degrees_are_told, each_slot_starves_once, moments_are_of_the_run, one_export, other_sessions_stay, refusals_are_of_the_run};
+pub use laws::{
+    degrees_are_told, each_slot_starves_once, moments_are_of_the_run, one_export,
+    other_sessions_stay, refusals_are_of_the_run,
+};
 pub use net_prefix::Transport;
 pub use origin_valid::Validity;
 pub use rtr_client::ClientState;

@@ -293,9 +293,9 @@ fn an_as_more_is_too_much(rt: HostRuntime) -> Result<(), Fail> {
     let alloc = rt.alloc();
     let value = "AB".repeat(alloc, 4_040)?;
     let mut transcript = Transcript::read(alloc, ESTABLISHED)?;
-    transcript.send(
-        &format!(in alloc; "M 0FFB 02 0000 0FE0 {RECEIVED} D0630FC8 {value} 180A0001")?,
-    )?;
+    transcript.send(&format!(in alloc;
+        "M 0FFB 02 0000 0FE0 {RECEIVED} D0630FC8 {value} 180A0001"
+    )?)?;
     transcript.take(
         1,
         &format!(in alloc; "M 0FFF 02 0000 0FE4 {SENT} F0630FC8 {value} 180A0001")?,
