@@ -90,14 +90,22 @@ fn a_refused_growth_leaves_the_table(rt: HostRuntime) -> Result<(), Fail> {
     panic!(rt; "no end");
 }
 
-// Octets that were announced lately are kept once.
+// Whether octets that were announced lately take no memory, and others do.
+fn shares<A: Allocator + Clone>(recent: &mut RecentOctets<A>) -> bool {
+    recent.shared(&[7; 40]).is_ok() && recent.shared(&[8; 40]).is_err()
+}
+
+// The first n for which the first octets find memory is one more than they ask for: the next request is refused.
 #[test]
 fn peers_share_what_was_announced_lately(rt: HostRuntime) -> Result<(), Fail> {
-    let mut recent = RecentOctets::new(rt.alloc())?;
-    let first = recent.shared(&[7; 40])?;
-    let second = recent.shared(&[7; 40])?;
-    let other = recent.shared(&[8; 40])?;
-    assert!(rt; first.as_slice().as_ptr() == second.as_slice().as_ptr());
-    assert_eq!(rt; other.as_slice(), [8; 40].as_slice());
-    Ok(())
+    for nth in 1..1_000u64 {
+        let heap = Refusing::new(rt.alloc(), nth);
+        let mut recent = RecentOctets::new(&heap)?;
+        if recent.shared(&[7; 40]).is_ok() {
+            assert!(rt; shares(&mut recent));
+            assert!(rt; heap.has_refused());
+            return Ok(());
+        }
+    }
+    panic!(rt; "no end");
 }

@@ -42,7 +42,7 @@ fn open_of(slot: u8) -> [u8; 37] {
     let [high, low] = asn_of(slot).to_be_bytes();
     [
         255, 255, 255, 255, 255, 255, 255, 255, 255, 255, 255, 255, 255, 255, 255, 255,
-        0x00, 0x25, 0x01, 0x04, high, low, 0x00, 0x00, 0x01, 0x01, 0x01, 1 + slot,
+        0x00, 0x25, 0x01, 0x04, high, low, 0x00, 0x00, 0x01, 0x01, 0x01, slot.wrapping_add(1),
         0x08, 0x02, 0x06, 0x41, 0x04, 0x00, 0x00, high, low,
     ]
 }
@@ -66,13 +66,18 @@ fn are_taken<A: Allocator + Clone>(speaker: &mut Speaker<A>, events: &[Event<'_>
     true
 }
 
-// Whether the peer of a slot is configured and its session comes up.
-fn comes_up<A: Allocator + Clone>(speaker: &mut Speaker<A>, slot: u8) -> bool {
+// Whether a peer is configured in a slot and its session comes up.
+fn comes_up<'a, A: Allocator + Clone>(
+    speaker: &mut Speaker<A>,
+    slot: u8,
+    peer: PeerConf<'a>,
+    open: &'a [u8],
+) -> bool {
     let events = [
-        Event::Command(Command::AddPeer(slot, peer_of(slot))),
+        Event::Command(Command::AddPeer(slot, peer)),
         Event::Command(Command::Enable(slot)),
         Event::Up(slot),
-        Event::Bytes(slot, &open_of(slot)),
+        Event::Bytes(slot, open),
         Event::Bytes(slot, &KEEPALIVE),
     ];
     are_taken(speaker, &events)
@@ -84,7 +89,7 @@ fn all_come_up<A: Allocator + Clone>(speaker: &mut Speaker<A>, reachable: Prefix
         return false;
     }
     for slot in 0..PEERS {
-        if !comes_up(speaker, slot) {
+        if !comes_up(speaker, slot, peer_of(slot), &open_of(slot)) {
             return false;
         }
     }
