@@ -9,7 +9,7 @@ ghost use Rattle.bgp_attr.specs.Written.{attributes_of, path_of};
 ghost use Rattle.bgp_attr.specs.AsPath.{prepended};
 ghost use Rattle.bgp_attr.specs.declared.peer.PeerKind.TheVariants.{External, Internal};
 ghost use Rattle.std.specs.Option.{option_map};
-ghost use Rattle.export_rules.specs.Export.{AreAccepted, AreGood, IsComplete, IsSender, Tells, export_at, exported_of, fitting, in_front, is_from_inside, is_internal, is_kept_from, is_local, local_pref_of, med_inside, next_hop_inside, passed_inside};
+ghost use Rattle.export_rules.specs.Export.{AreAccepted, AreGood, IsComplete, IsSender, Tells, export_at, exported_of, fitting, in_front, is_from_inside, is_internal, is_kept_from, is_local, local_pref_of, med_inside, most_attributes, next_hop_inside, passed_inside};
 ghost use Rattle.arrayvec.specs.ArrayVec.{array_vec_len};
 
 use arrayvec::ArrayVec;
@@ -22,6 +22,11 @@ use std::alloc::Allocator;
 /// The octets of attributes with which an UPDATE of one prefix fits in a message:
 /// 4,096 without 19 of the header, 4 of the two lengths, and 5 of the prefix (RFC 4271 sections 4.1 and 4.3).
 pub const MAX_EXPORTED_ATTRIBUTES: usize = 4068;
+
+/// The limit is what a message of one prefix holds.
+pub fn limit_is_of_a_message()
+    ensures { MAX_EXPORTED_ATTRIBUTES ≡ most_attributes }
+{}
 
 // Own choice: the LOCAL_PREF of a local network, towards internal peers.
 const LOCAL_NETWORK_PREF: u32 = 100;
@@ -96,7 +101,7 @@ pub fn export_of<A: Allocator>(
     ensures back { route.now.slot ≡ peer.now.slot → result ≡ false }
     ensures inside { is_internal peer.now ≡ true → is_from_inside route.now ≡ true → result ≡ false }
     ensures rejected { action ≡ Action.Reject → result ≡ false }
-    ensures small { OnTrue result (array_vec_len out.new ≤ MAX_EXPORTED_ATTRIBUTES) }
+    ensures small { OnTrue result (array_vec_len out.new ≤ most_attributes) }
     ensures nothing { OnFalse result (out.new.items ≡ []) }
     // The peer finds no fault with it.
     ensures accepted { OnTrue result (IsSender peer.now → IsComplete route.now attrs.now → AreAccepted (kind_between peer.now.asn peer.now.own) out.new.items) }

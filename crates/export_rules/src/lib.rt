@@ -6,4 +6,4 @@
 
 mod export;
 
-pub use export::{ExportPeer, MAX_EXPORTED_ATTRIBUTES, export_of};
+pub use export::{ExportPeer, MAX_EXPORTED_ATTRIBUTES, export_of, limit_is_of_a_message};

@@ -7,7 +7,7 @@ use std::marker::Model;
 use std::rc::Rc;
 
 /// How many lists of octets are kept for others to share.
-pub const RECENT_LISTS: u32 = 4096;
+pub const RECENT_LISTS: u32 = 16_384;
 
 /// The octets of a route's attributes.
 #[derive(Drop)]
@@ -110,13 +110,13 @@ impl<A: Allocator + Clone> RecentOctets<A> {
     }
 }
 
-// A number below `RECENT_LISTS` made of the octets.
+// A number below `RECENT_LISTS` made of the octets (the hash FNV-1a).
 fn number_of(octets: &[u8]) -> u32
-    ensures { result < 4096 }
+    ensures { result < 16384 }
 {
-    let mut number: u32 = 0;
+    let mut number: u32 = 0x811C_9DC5;
     for octet in octets.iter() {
-        number = number.wrapping_mul(31).wrapping_add(u32::from(*octet));
+        number = (number ^ u32::from(*octet)).wrapping_mul(0x0100_0193);
     }
     (number ^ number >> 16) % RECENT_LISTS
 }

@@ -19,6 +19,7 @@ ghost use Rattle.speaker.specs.SpeakerState.{SpeakerState};
 ghost use Rattle.speaker.specs.Tables.{Tables};
 ghost use Rattle.speaker.specs.declared.config.Config.{Config};
 ghost use Rattle.speaker.specs.declared.event.Event.{Event};
+ghost use Rattle.speaker.specs.declared.event.TheConstants.Report.{NOTHING};
 
 /// A prefix has at most one best route, so that there is one Loc-RIB, and at most one export to a peer.
 pub fn one_export()
@@ -55,4 +56,9 @@ pub fn other_sessions_stay()
 /// At the end of a call memory is refused to a slot at most once: to 64 slots at most, one after another.
 pub fn each_slot_starves_once()
     ensures { (config : Config) (r : Run) (call : Call) (queue : Queue) (slot : ℕ) → AreOwed config call r ((slot, Starves) ∷ queue) → has_slot (starved_in queue) slot ≡ false }
+{}
+
+/// The report of nothing tells of nothing.
+pub fn nothing_is_reported()
+    ensures { NOTHING ≡ record { opened = 0; starved = 0; cache_opened = false; cache_starved = false } }
 {}

@@ -30,8 +30,8 @@ pub use config::Config;
 pub use decision::LOCAL_SLOT;
 pub use event::{Event, Report};
 pub use laws::{
-    degrees_are_told, each_slot_starves_once, moments_are_of_the_run, one_export,
-    other_sessions_stay, refusals_are_of_the_run,
+    degrees_are_told, each_slot_starves_once, moments_are_of_the_run, nothing_is_reported,
+    one_export, other_sessions_stay, refusals_are_of_the_run,
 };
 pub use net_prefix::Transport;
 pub use origin_valid::Validity;
