@@ -152,18 +152,36 @@ fn measure_payloads(
     tell_payloads(rt, speaker, "change", some.as_slice(), sizes.changes)
 }
 
+// Measures all phases, one after another. False where a call is refused.
+fn measure_all(
+    rt: &HostRuntime,
+    measured: &mut Measured,
+    sizes: Sizes,
+    scattered: bool,
+    announce: Phase<'_>,
+    withdraw: Phase<'_>,
+) -> io::Result<bool> {
+    Ok(
+        measured.tell(rt, "announce", announce)?
+            && measured.tell(rt, "withdraw", withdraw)?
+            && measured.tell(rt, "announce again", announce)?
+            && measure_payloads(rt, &mut measured.speaker, sizes, scattered)?
+            && measured.tell(rt, "fall", Phase::Lose)?,
+    )
+}
+
 /// Measures a new speaker. False where one of its calls is refused.
 pub fn measure(rt: &HostRuntime, sizes: Sizes, scattered: bool) -> io::Result<bool> {
     let alloc = rt.alloc();
-    let per_update = sizes.per_update;
-    let prefixes: Vec<u32> = (0..sizes.prefixes)
-        .map(|number| prefix_of(number, scattered))
-        .collect(alloc)?;
-    let announced = updates(alloc, Change::Announce, prefixes.as_slice(), per_update)?;
-    let withdrawn = updates(alloc, Change::Withdraw, prefixes.as_slice(), per_update)?;
     let Ok(reachable) = Prefix::parse("192.0.2.0/24") else {
         return Ok(false);
     };
+    let prefixes: Vec<u32> = (0..sizes.prefixes)
+        .map(|number| prefix_of(number, scattered))
+        .collect(alloc)?;
+    let per_update = sizes.per_update;
+    let announced = updates(alloc, Change::Announce, prefixes.as_slice(), per_update)?;
+    let withdrawn = updates(alloc, Change::Withdraw, prefixes.as_slice(), per_update)?;
     let Ok(speaker) = established(alloc, reachable) else {
         return Ok(false);
     };
@@ -173,11 +191,5 @@ pub fn measure(rt: &HostRuntime, sizes: Sizes, scattered: bool) -> io::Result<bo
     };
     let announce = Phase::Send(announced.as_slice());
     let withdraw = Phase::Send(withdrawn.as_slice());
-    Ok(
-        measured.tell(rt, "announce", announce)?
-            && measured.tell(rt, "withdraw", withdraw)?
-            && measured.tell(rt, "announce again", announce)?
-            && measure_payloads(rt, &mut measured.speaker, sizes, scattered)?
-            && measured.tell(rt, "fall", Phase::Lose)?,
-    )
+    measure_all(rt, &mut measured, sizes, scattered, announce, withdraw)
 }
