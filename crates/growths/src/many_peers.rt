@@ -119,10 +119,31 @@ enum Ending {
     Told,
     // The first peer was closed, and nobody holds it.
     FirstClosed,
-    // One of the others was closed, and all but it hold the route.
+    // One of the others was closed and told why, and all but it hold the route.
     OtherClosed,
     // What should not be.
     Wrong,
+}
+
+// The NOTIFICATION of a session that is closed for want of memory: Cease, Out of Resources (RFC 4486).
+#[rattlefmt::skip]
+const OUT_OF_RESOURCES: [u8; 21] = [
+    255, 255, 255, 255, 255, 255, 255, 255, 255, 255, 255, 255, 255, 255, 255, 255,
+    0x00, 0x15, 0x03, 0x06, 0x08,
+];
+
+// Whether the peer of the only slot of this set is told so, behind our OPEN and KEEPALIVE and nothing else.
+fn is_told_why<A: Allocator + Clone>(speaker: &mut Speaker<A>, slots: u64) -> bool {
+    let mut buf = [0u8; 100];
+    for slot in 0..PEERS {
+        if slots == 1 << slot {
+            return match speaker.take(slot, &mut buf) {
+                Ok((77, _)) => buf.get(56..77) == Some(&OUT_OF_RESOURCES[..]),
+                _ => false,
+            };
+        }
+    }
+    false
 }
 
 // How many slots a set has: 2 stands for more.
@@ -140,10 +161,11 @@ fn announced<A: Allocator + Clone>(speaker: &mut Speaker<A>) -> Ending {
     let Ok(report) = speaker.step(Event::Bytes(0, &UPDATE)) else {
         return Ending::Wrong;
     };
-    match (report.starved, count_of(report.starved), holders(speaker)) {
+    let starved = report.starved;
+    match (starved, count_of(starved), holders(speaker)) {
         (0, _, 63) => Ending::Told,
         (1, _, 0) => Ending::FirstClosed,
-        (_, 1, 62) => Ending::OtherClosed,
+        (_, 1, 62) if is_told_why(speaker, starved) => Ending::OtherClosed,
         _ => Ending::Wrong,
     }
 }
