@@ -50,7 +50,7 @@ med_inside (Some med) received = Some med
 med_inside None received = received
 
 -- LOCAL_PREF: the degree of preference, and of a local network 100 (RFC 4271 section 5.1.5; the 100 is an own choice). Four octets
--- say it, so a greater degree would be the greatest that they say; no peer's route has one
+-- say it, so a greater degree would be the greatest that they say
 abbrev pub local_pref_of : Candidate → ℕ
 local_pref_of route = if is_local route then 100 else min route.degree (2 ^ 32 - 1)
 

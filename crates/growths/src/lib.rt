@@ -10,10 +10,10 @@
 //! all of them. `taking` has a growth refused to what follows a take, which hands its octets out all the same and
 //! closes the session. `payloads` has a cache send a load and a change of it: a refused growth closes the cache session
 //! alone, and what is in force stays. `many_prefixes` has two thousand prefixes told to two peers whose rings fill, and
-//! one growth refused; `many_peers` one route told to 63 peers, each of which is refused its growth once. `networks` has a prefix become a local network, and
-//! `policies` a policy set. `serving` plays loads, a client and its queries on a cache: a refused load or client changes
-//! nothing, a refused response closes its client alone, and the same call is answered when it is made again; what one
-//! client has asked for takes no memory when another asks for it.
+//! one growth refused; `many_peers` one route told to 63 peers, each of which is refused its growth once. `networks` has
+//! a prefix become a local network, and `policies` a policy set. `serving` plays loads, a client and its queries on a
+//! cache: a refused load or client changes nothing, a refused response closes its client alone, and the same call is
+//! answered when it is made again; what one client has asked for takes no memory when another asks for it.
 #![tactic(auto)]
 
 #[cfg(test)]

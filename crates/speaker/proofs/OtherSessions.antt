@@ -2,21 +2,26 @@
 use Rattle.std.proofs.Common.{◌≡◌, ◌≢◌, ◌==◌, ◌||◌, ◌^◌, ℕ, Bool, true, false, List, [], ◌∷◌, cond, refl, sym, ap, ◌∙◌}
 use Rattle.std.proofs.lemmas.Nat.{or_comm}
 use Rattle.std.proofs.lemmas.Nat.Bits.{bit_at-zero}
-use Rattle.std.specs.Int.Bits.{bit_or}
+use Rattle.std.specs.Int.Bits.{bit_or, or_zero_l}
 use Rattle.bgp_conf.specs.declared.command.Command.{Command}
 use Rattle.bgp_conf.specs.declared.command.Command.TheVariants.{AddPeer, RemovePeer, Enable, Disable, SetPolicy, DropPolicy, UseIn, UseOut, Network, NoNetwork, Reach, NoReach}
 use Rattle.bgp_fsm.specs.declared.session.Session.{Session}
 use Rattle.bgp_fsm.specs.declared.state.State.{State}
 use Rattle.bgp_fsm.specs.declared.state.State.TheVariants.{Idle, Connect, Active, OpenSent, OpenConfirm, Established}
 use Rattle.bgp_fsm.specs.SessionTable.{row_at}
+use Rattle.bgp_fsm.specs.StateTests.{is_established}
+use Rattle.bgp_fsm.specs.Transports.{transport_of}
+use Rattle.bgp_fsm.proofs.TableLaws.{established_stands, no_memory_closes}
 use Rattle.bgp_fsm.specs.declared.input.Input.TheVariants.{NoMemory}
-use Rattle.bgp_peer.specs.SessionInputs.{Event, Signalled, moment_of, session}
+use Rattle.bgp_peer.specs.SessionInputs.{Event, Octet, Signalled, moment_of, onto, session}
+use Rattle.bgp_peer.proofs.Agreeing.{shut_octet}
+use Rattle.net_prefix.specs.declared.transport.Transport.TheVariants.{Open as Connected}
 use Rattle.rib_out.specs.Slots.{has_slot}
 use Rattle.rib_out.proofs.SlotBits.{has_slot-with}
 use Rattle.speaker.specs.Agreement.{AreOwed}
 use Rattle.speaker.specs.Concerned.{is_call_for, is_command_for}
 use Rattle.speaker.specs.Queueing.{Queue, Service, Starves, Tells, starved_in, with_starved}
-use Rattle.speaker.specs.Runs.{Call, Run, turn, called, commanded, history, queued_on, served_by, Up_call, Fail_call, Bytes_call, Starved_call, Tick_call, Command_call, Take_call, Cache_up_call, Cache_fail_call, Cache_bytes_call, Cache_starved_call, Cache_take_call}
+use Rattle.speaker.specs.Runs.{Call, Run, turn, called, commanded, history, queued_on, report_of, served_by, starved_by, Up_call, Fail_call, Bytes_call, Starved_call, Tick_call, Command_call, Take_call, Cache_up_call, Cache_fail_call, Cache_bytes_call, Cache_starved_call, Cache_take_call}
 use Rattle.speaker.specs.declared.config.Config.{Config}
 
 not_here : (b : Bool) (more h : List Event) → b ≡ false → cond b more h ≡ h
@@ -75,9 +80,25 @@ queue_stays s (now ∷ queue) h none =
     let here = served_stays (s == now.0) now.1 now.0 (starved_in queue) s (queued_on s queue h) refl none in
     here.0 ∙ queue_stays s queue h here.1
 
-pub other_stays : (config : Config) (r : Run) (call : Call) (queue : Queue) (s : ℕ) → is_call_for call s ≡ false → has_slot (starved_in queue) s ≡ false
+-- a slot that the report doesn't name is refused none
+unreported : (call : Call) (slots s : ℕ) → has_slot (bit_or (starved_by call) slots) s ≡ false → has_slot slots s ≡ false
+unreported (Up_call slot) slots s none = ap (λ set. has_slot set s) (sym (or_zero_l slots)) ∙ none
+unreported (Fail_call slot) slots s none = ap (λ set. has_slot set s) (sym (or_zero_l slots)) ∙ none
+unreported (Bytes_call slot octets) slots s none = ap (λ set. has_slot set s) (sym (or_zero_l slots)) ∙ none
+unreported (Starved_call slot before octet behind) slots s none = (neither (s == slot) (has_slot slots s) (sym (starved_too slot slots s) ∙ none)).1
+unreported (Tick_call now) slots s none = ap (λ set. has_slot set s) (sym (or_zero_l slots)) ∙ none
+unreported (Command_call command) slots s none = ap (λ set. has_slot set s) (sym (or_zero_l slots)) ∙ none
+unreported (Take_call slot octets) slots s none = ap (λ set. has_slot set s) (sym (or_zero_l slots)) ∙ none
+unreported Cache_up_call slots s none = ap (λ set. has_slot set s) (sym (or_zero_l slots)) ∙ none
+unreported Cache_fail_call slots s none = ap (λ set. has_slot set s) (sym (or_zero_l slots)) ∙ none
+unreported (Cache_bytes_call octets) slots s none = ap (λ set. has_slot set s) (sym (or_zero_l slots)) ∙ none
+unreported (Cache_starved_call before octet behind) slots s none = ap (λ set. has_slot set s) (sym (or_zero_l slots)) ∙ none
+unreported (Cache_take_call octets) slots s none = ap (λ set. has_slot set s) (sym (or_zero_l slots)) ∙ none
+
+pub other_stays : (config : Config) (r : Run) (call : Call) (queue : Queue) (s : ℕ) → is_call_for call s ≡ false → has_slot (report_of config r (turn call queue)).starved s ≡ false
     → session (history config s (turn call queue ∷ r)) ≡ session (history config s r)
-other_stays config r call queue s other none = queue_stays s queue (called config s call (history config s r)) none ∙ ap session (call_stays config s call (history config s r) other)
+other_stays config r call queue s other none =
+    queue_stays s queue (called config s call (history config s r)) (unreported call (starved_in queue) s none) ∙ ap session (call_stays config s call (history config s r) other)
 
 -- want of memory leaves no session Established
 row_down : (now : ℕ) (state : State) (s : Session) → s.state ≡ state → ((row_at state NoMemory s).0 now).state ≢ Established
@@ -106,6 +127,54 @@ not_twice : (b : Bool) → (b ≡ true → ⊥) → b ≡ false
 not_twice true never = absurd (never refl)
 not_twice false never = refl
 
--- so memory is refused to a slot once at most
-pub starves_once : (config : Config) (r : Run) (call : Call) (queue : Queue) (s : ℕ) → AreOwed config call r ((s, Starves) ∷ queue) → has_slot (starved_in queue) s ≡ false
-starves_once config r call queue s owed = not_twice (has_slot (starved_in queue) s) (λ some. queue_down s queue (called config s call (history config s r)) some owed.0.established)
+-- what is queued and refused leaves a session that isn't Established so
+served_low : (b : Bool) (service : Service) (h : List Event) → (session h).state ≢ Established → (session (cond b (served_by service ∷ h) h)).state ≢ Established
+served_low true (Tells update) h low = low
+served_low true Starves h low = row_down (moment_of (Signalled NoMemory ∷ h)) (session h).state (session h) refl
+served_low false service h low = low
+
+queue_low : (s : ℕ) (queue : Queue) (h : List Event) → (session h).state ≢ Established → (session (queued_on s queue h)).state ≢ Established
+queue_low s [] h low = low
+queue_low s (now ∷ queue) h low = served_low (s == now.0) now.1 (queued_on s queue h) (queue_low s queue h low)
+
+-- octets behind a closing leave it closed
+shut_onto : (h : List Event) (octets : List ℕ) → transport_of (session h) ≢ Connected → transport_of (session (onto octets h)) ≢ Connected
+shut_onto h [] shut = shut
+shut_onto h (octet ∷ octets) shut = shut_onto (Octet octet ∷ h) octets (λ stands. shut (ap transport_of (sym (shut_octet h octet _ refl shut).0) ∙ stands))
+
+shut_low : (s : Session) → transport_of s ≢ Connected → s.state ≢ Established
+shut_low s shut up = shut (established_stands s (ap is_established up))
+
+closed_low : (h : List Event) (behind : List ℕ) → (session (onto behind (Signalled NoMemory ∷ h))).state ≢ Established
+closed_low h behind = shut_low (session (onto behind (Signalled NoMemory ∷ h))) (shut_onto (Signalled NoMemory ∷ h) behind (no_memory_closes (moment_of (Signalled NoMemory ∷ h)) (session h)))
+
+-- the slot to which memory was refused in the call itself isn't Established at its end
+not_again : (b : Bool) (s : ℕ) (queue : Queue) (h before : List Event) (behind : List ℕ)
+    → (session (queued_on s queue (cond b (onto behind (Signalled NoMemory ∷ before)) h))).state ≡ Established → b ≡ false
+not_again true s queue h before behind up = absurd (queue_low s queue (onto behind (Signalled NoMemory ∷ before)) (closed_low before behind) up)
+not_again false s queue h before behind up = refl
+
+none_of : (a b : Bool) → a ≡ false → b ≡ false → (a || b) ≡ false
+none_of a b first other = ap (λ (x : Bool). x || b) first ∙ other
+
+-- so in a call memory is refused to a slot once at most
+starves_apart : (config : Config) (call : Call) (queue : Queue) (s : ℕ) (h : List Event) → (session (queued_on s queue (called config s call h))).state ≡ Established → has_slot (starved_in queue) s ≡ false
+    → has_slot (bit_or (starved_by call) (starved_in queue)) s ≡ false
+starves_apart config (Up_call slot) queue s h up none = ap (λ set. has_slot set s) (or_zero_l (starved_in queue)) ∙ none
+starves_apart config (Fail_call slot) queue s h up none = ap (λ set. has_slot set s) (or_zero_l (starved_in queue)) ∙ none
+starves_apart config (Bytes_call slot octets) queue s h up none = ap (λ set. has_slot set s) (or_zero_l (starved_in queue)) ∙ none
+starves_apart config (Starved_call slot before octet behind) queue s h up none =
+    starved_too slot (starved_in queue) s ∙ none_of (s == slot) (has_slot (starved_in queue) s) (not_again (s == slot) s queue h (onto before h) behind up) none
+starves_apart config (Tick_call now) queue s h up none = ap (λ set. has_slot set s) (or_zero_l (starved_in queue)) ∙ none
+starves_apart config (Command_call command) queue s h up none = ap (λ set. has_slot set s) (or_zero_l (starved_in queue)) ∙ none
+starves_apart config (Take_call slot octets) queue s h up none = ap (λ set. has_slot set s) (or_zero_l (starved_in queue)) ∙ none
+starves_apart config Cache_up_call queue s h up none = ap (λ set. has_slot set s) (or_zero_l (starved_in queue)) ∙ none
+starves_apart config Cache_fail_call queue s h up none = ap (λ set. has_slot set s) (or_zero_l (starved_in queue)) ∙ none
+starves_apart config (Cache_bytes_call octets) queue s h up none = ap (λ set. has_slot set s) (or_zero_l (starved_in queue)) ∙ none
+starves_apart config (Cache_starved_call before octet behind) queue s h up none = ap (λ set. has_slot set s) (or_zero_l (starved_in queue)) ∙ none
+starves_apart config (Cache_take_call octets) queue s h up none = ap (λ set. has_slot set s) (or_zero_l (starved_in queue)) ∙ none
+
+pub starves_once : (config : Config) (r : Run) (call : Call) (queue : Queue) (s : ℕ) → AreOwed config call r ((s, Starves) ∷ queue) → has_slot (report_of config r (turn call queue)).starved s ≡ false
+starves_once config r call queue s owed =
+    starves_apart config call queue s (history config s r) owed.0.established
+    (not_twice (has_slot (starved_in queue) s) (λ some. queue_down s queue (called config s call (history config s r)) some owed.0.established))

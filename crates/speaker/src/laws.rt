@@ -13,8 +13,8 @@ ghost use Rattle.speaker.specs.Concerned.{is_call_for};
 ghost use Rattle.speaker.specs.Export.{IsExport, SetsDegree};
 ghost use Rattle.speaker.specs.FirstRefusal.{refusal_in, refusal_of, take_refusal_in, take_refusal_of};
 ghost use Rattle.speaker.specs.LocRib.{AreBest, IsBest};
-ghost use Rattle.speaker.specs.Queueing.{Queue, Starves, starved_in};
-ghost use Rattle.speaker.specs.Runs.{Call, Run, history, moment_after, turn};
+ghost use Rattle.speaker.specs.Queueing.{Queue, Starves};
+ghost use Rattle.speaker.specs.Runs.{Call, Run, history, moment_after, report_of, turn};
 ghost use Rattle.speaker.specs.SpeakerState.{SpeakerState};
 ghost use Rattle.speaker.specs.Tables.{Tables};
 ghost use Rattle.speaker.specs.declared.config.Config.{Config};
@@ -49,13 +49,15 @@ pub fn moments_are_of_the_run()
 /// A call changes no session but those that it is for and those of which its report says that memory was refused: a tick
 /// is for all, what comes to the cache session for none.
 pub fn other_sessions_stay()
-    ensures { (config : Config) (r : Run) (call : Call) (queue : Queue) (slot : ℕ) → is_call_for call slot ≡ false → has_slot (starved_in queue) slot ≡ false
+    ensures { (config : Config) (r : Run) (call : Call) (queue : Queue) (slot : ℕ) → is_call_for call slot ≡ false → has_slot (report_of config r (turn call queue)).starved slot ≡ false
         → session (history config slot (turn call queue ∷ r)) ≡ session (history config slot r) }
 {}
 
-/// At the end of a call memory is refused to a slot at most once: to 64 slots at most, one after another.
+/// In a call memory is refused to a slot at most once: one to which it is refused at the end of the call isn't among those that
+/// the report of what the call did before names. So a call closes 64 sessions for it at most.
 pub fn each_slot_starves_once()
-    ensures { (config : Config) (r : Run) (call : Call) (queue : Queue) (slot : ℕ) → AreOwed config call r ((slot, Starves) ∷ queue) → has_slot (starved_in queue) slot ≡ false }
+    ensures { (config : Config) (r : Run) (call : Call) (queue : Queue) (slot : ℕ) → AreOwed config call r ((slot, Starves) ∷ queue)
+        → has_slot (report_of config r (turn call queue)).starved slot ≡ false }
 {}
 
 /// The report of nothing tells of nothing.
