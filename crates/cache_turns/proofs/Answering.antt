@@ -7,8 +7,8 @@ use Rattle.cache_turns.specs.Serving.{Answers, Connection, GoesOn, Reads, Sides,
 use Rattle.cache_turns.specs.declared.link.Visit.{Visit}
 use Rattle.cache_turns.specs.declared.link.Visit.TheVariants.{Stays}
 use Rattle.cache_turns.specs.declared.patience.Moments.{Moments}
-use Rattle.cache_turns.specs.declared.wire.Received.{Received}
-use Rattle.cache_turns.specs.declared.wire.Received.TheVariants.{Octets as Came, Nothing as NoneCame, End, Fault as ReadFault}
+use Rattle.wires.specs.declared.wire.Received.{Received}
+use Rattle.wires.specs.declared.wire.Received.TheVariants.{Octets as Came, Nothing as NoneCame, End, Fault as ReadFault}
 
 -- a client that the cache hasn't closed leaves its connection as it is
 pub open_stays : (between : Transport) → between ≢ transport.Closing → found_at_rest between ≡ Stays

@@ -1,6 +1,7 @@
 -- What connections carry, one step of a turn after another.
 use Rattle.std.proofs.Common.{◌≡◌, ◌≢◌, ◌≤◌, ◌<◌, ◌-◌, ◌^◌, ℕ, zero, suc, Bool, true, false, List, [], ◌∷◌, ◌++◌, refl, sym, ap, subst, ◌∙◌, append_assoc, append-nil, inl, inr, ◌⊎◌, Option, Some, None, Result, Ok, Err, arith}
 use Rattle.std.proofs.lemmas.Bool.{cases_eq}
+use Rattle.std.specs.declared.net.socket_addr.SocketAddr.{SocketAddr}
 use Rattle.std.proofs.lemmas.Option.{same_Some}
 use Rattle.rtr_cache.specs.declared.other_session.OtherSession.{OtherSession}
 use Rattle.rtr_cache.specs.CacheState.{CacheState, ComesUp as CacheComesUp, client_at, empty_cache, tells_client}
@@ -9,23 +10,26 @@ use Rattle.rtr_cache.specs.ClientHistory.{CameUp, IsRun, StaysUp, Ticked, Turn, 
 use Rattle.rtr_cache.specs.declared.event.CacheReport.{CacheReport}
 use Rattle.rtr_cache.proofs.TellingHistories.{told_from_empty}
 use Rattle.rtr_codec.specs.declared.intervals.Intervals.{Intervals}
-use Rattle.cache_turns.specs.Calls.{WireCall, Accept, Close}
-use Rattle.cache_turns.specs.Carrying.{CarriesWhole, given, heard, taken}
+use Rattle.cache_turns.specs.Carrying.{CarriesWhole, heard}
 use Rattle.cache_turns.specs.Patience.{arriving_at}
 use Rattle.cache_turns.specs.Serving.{Connection, Sides, judged}
-use Rattle.cache_turns.specs.Turns.{Accepts, ComesUp, Counts, GoesDown, IsTold, LacksMemory, LinksStay, OtherLinksStay, Stops, TakesTurn, TakesTurns, TellsCache, Turns, VisitsBelow, VisitsConnection, VisitsLink, idle, link_at, link_left, parting_for, settled, sides}
-use Rattle.cache_turns.specs.Wires.{WireState, nothing_told, one_more}
-use Rattle.cache_turns.specs.declared.fault.LoopFault.{LoopFault}
-use Rattle.cache_turns.specs.declared.fault.LoopFault.TheVariants as stop
+use Rattle.cache_turns.specs.Turns.{Accepts, ComesUp, GoesDown, IsTold, LacksMemory, LinksStay, OtherLinksStay, Stops, TakesTurn, TakesTurns, TellsCache, Turns, VisitsBelow, VisitsConnection, VisitsLink, idle, link_at, link_left, parting_for, settled, sides}
 use Rattle.cache_turns.specs.declared.link.Visit.{Visit}
+use Rattle.cache_turns.specs.declared.link.Visit.TheVariants.{Stays, Faulty, Ended, Closed, Overdue}
 use Rattle.cache_turns.specs.declared.patience.Moments.{Moments}
 use Rattle.cache_turns.specs.declared.patience.Patience.{Patience}
-use Rattle.cache_turns.specs.declared.wire.Parting.{Parting}
-use Rattle.cache_turns.specs.declared.wire.Parting.TheVariants as parting
-use Rattle.cache_turns.specs.declared.link.Visit.TheVariants.{Stays, Faulty, Ended, Closed, Overdue}
+use Rattle.cache_turns.proofs.Effects.{AreOf, Silent, handed-on, heard-on, silent, up-on}
 use Rattle.cache_turns.proofs.Exchanges.{Carries, Visited, run_on, serves_carries}
-use Rattle.cache_turns.proofs.Counting.{goes_on, goes_on_by_one}
-use Rattle.cache_turns.proofs.Effects.{AreOf, AreOfSocket, IsIdle, Silent, given-on, handed-on, heard-on, idle_socket, silent, taken-on, up-on}
+use Rattle.wires.specs.Calls.{WireCall, Accept, Close}
+use Rattle.wires.specs.Carried.{given, taken}
+use Rattle.wires.specs.Counts.{Counts}
+use Rattle.wires.specs.Wires.{WireState, nothing_told, one_more}
+use Rattle.wires.specs.declared.fault.LoopFault.{LoopFault}
+use Rattle.wires.specs.declared.fault.LoopFault.TheVariants as stop
+use Rattle.wires.specs.declared.wire.Parting.{Parting}
+use Rattle.wires.specs.declared.wire.Parting.TheVariants as parting
+use Rattle.wires.proofs.Counting.{goes_on, goes_on_by_one}
+use Rattle.wires.proofs.Sockets.{AreOfSocket, IsIdle, given-on, idle_on, idle_socket, taken-on}
 
 -- the connection of a client, over all calls since the client came up
 record IsCarried (first : CacheState) (turns : Sides) (key : ℕ) (link : Connection) : Type 0 where
@@ -77,14 +81,14 @@ record AreCarried (first : CacheState) (turns : Turns) : Type 0 where
   pub before : List Turn
   pub made : IsRun first before turns.cache
   pub each : (key : ℕ) (link : Connection) → link_at turns key ≡ Some link → IsCarried first (sides turns) key link
-  pub numbered : (key : ℕ) (link : Connection) → link_at turns key ≡ Some link → link.number < turns.counts.wire.arrivals
+  pub numbered : (key : ℕ) (link : Connection) → link_at turns key ≡ Some link → link.number < turns.counts.wire.sockets
   pub apart : (key other : ℕ) (link another : Connection) → other ≢ key → link_at turns key ≡ Some link → link_at turns other ≡ Some another → another.number ≢ link.number
-  pub unused : (number : ℕ) → turns.counts.wire.arrivals ≤ number → IsIdle number turns.counts.wire.calls
+  pub unused : (number : ℕ) → turns.counts.wire.sockets ≤ number → IsIdle number turns.counts.wire.calls
 
 -- the connection under a key, where calls are of it alone
 record IsHere (first : CacheState) (old new : Turns) (key : ℕ) (link : Connection) : Type 0 where
   pub carried : IsCarried first (sides new) key link
-  pub numbered : link.number < new.counts.wire.arrivals
+  pub numbered : link.number < new.counts.wire.sockets
   pub apart : (other : ℕ) (another : Connection) → other ≢ key → link_at old other ≡ Some another → another.number ≢ link.number
 
 -- a step that changes the connection of one key alone
@@ -93,19 +97,12 @@ record Changes (first : CacheState) (old : Turns) (key : ℕ) (new : Turns) : Ty
   pub calls : List WireCall
   pub run : IsRun old.cache history new.cache
   pub asks : new.counts.wire.calls ≡ calls ++ old.counts.wire.calls
-  pub arrivals : old.counts.wire.arrivals ≤ new.counts.wire.arrivals
+  pub sockets : old.counts.wire.sockets ≤ new.counts.wire.sockets
   pub quiet : (other : ℕ) (another : Connection) → other ≢ key → link_at old other ≡ Some another → Silent other history
   pub rests : (other : ℕ) (another : Connection) → other ≢ key → link_at old other ≡ Some another → IsIdle another.number calls
-  pub unused : (number : ℕ) → new.counts.wire.arrivals ≤ number → IsIdle number calls
+  pub unused : (number : ℕ) → new.counts.wire.sockets ≤ number → IsIdle number calls
   pub others : OtherLinksStay old key new
   pub here : (link : Connection) → link_at new key ≡ Some link → IsHere first old new key link
-
-idle_on : (number : ℕ) (before after all : List WireCall) → all ≡ after ++ before → IsIdle number before → IsIdle number after → IsIdle number all
-idle_on number before after all is first second =
-    record {
-      gives = ap (given number) is ∙ (given-on number before after ∙ (ap (λ (l : List ℕ). l ++ given number after) first.gives ∙ second.gives));
-      takes = ap (taken number) is ∙ (taken-on number before after ∙ (ap (λ (l : List ℕ). l ++ taken number after) first.takes ∙ second.takes));
-    }
 
 changed : (first : CacheState) (old new : Turns) (key : ℕ) → AreCarried first old → Changes first old key new → AreCarried first new
 changed first old new key are step =
@@ -115,7 +112,7 @@ changed first old new key are step =
       each = λ other link is. each other link is (cases_eq other key);
       numbered = λ other link is. numbered other link is (cases_eq other key);
       apart = λ one other link another differs is there. apart one other link another differs is there (cases_eq one key) (cases_eq other key);
-      unused = λ number come. idle_on number old.counts.wire.calls step.calls new.counts.wire.calls step.asks (are.unused number (omega (arith, come, step.arrivals))) (step.unused number come);
+      unused = λ number come. idle_on number old.counts.wire.calls step.calls new.counts.wire.calls step.asks (are.unused number (omega (arith, come, step.sockets))) (step.unused number come);
     }
   where
     before_it : (other : ℕ) (link : Connection) → other ≢ key → link_at new other ≡ Some link → link_at old other ≡ Some link
@@ -128,11 +125,11 @@ changed first old new key are step =
         let old_is = before_it other link differs is in
         carried_beside first (sides old) (sides new) other link step.history step.calls (are.each other link old_is) step.run step.asks (step.quiet other link differs old_is) (step.rests other link differs old_is)
 
-    numbered : (other : ℕ) (link : Connection) → link_at new other ≡ Some link → (other ≡ key) ⊎ (other ≡ key → ⊥) → link.number < new.counts.wire.arrivals
+    numbered : (other : ℕ) (link : Connection) → link_at new other ≡ Some link → (other ≡ key) ⊎ (other ≡ key → ⊥) → link.number < new.counts.wire.sockets
     numbered other link is (inl same) = (step.here link (ap (λ (k : ℕ). link_at new k) (sym same) ∙ is)).numbered
     numbered other link is (inr differs) =
         let below = are.numbered other link (before_it other link differs is) in
-        omega (arith, below, step.arrivals)
+        omega (arith, below, step.sockets)
 
     apart : (one other : ℕ) (link another : Connection) → other ≢ one → link_at new one ≡ Some link → link_at new other ≡ Some another → (one ≡ key) ⊎ (one ≡ key → ⊥) → (other ≡ key) ⊎ (other ≡ key → ⊥) → another.number ≢ link.number
     apart one other link another differs is there (inl first_same) (inl second_same) = absurd (differs (second_same ∙ sym first_same))
@@ -149,7 +146,7 @@ pub record Passes (old new : Turns) : Type 0 where
   pub calls : List WireCall
   pub run : IsRun old.cache history new.cache
   pub asks : new.counts.wire.calls ≡ calls ++ old.counts.wire.calls
-  pub arrivals : old.counts.wire.arrivals ≤ new.counts.wire.arrivals
+  pub sockets : old.counts.wire.sockets ≤ new.counts.wire.sockets
   pub quiet : (other : ℕ) (another : Connection) → link_at old other ≡ Some another → Silent other history
   pub rests : (number : ℕ) → IsIdle number calls
   pub links : LinksStay old new
@@ -162,7 +159,7 @@ passed first old new are step =
       calls = step.calls;
       run = step.run;
       asks = step.asks;
-      arrivals = step.arrivals;
+      sockets = step.sockets;
       quiet = λ other another _ is. step.quiet other another is;
       rests = λ other another _ _. step.rests another.number;
       unused = λ number _. step.rests number;
@@ -174,7 +171,7 @@ passed first old new are step =
     here link is =
         record {
           carried = carried_beside first (sides old) (sides new) 0 link step.history step.calls (are.each 0 link is) step.run step.asks (step.quiet 0 link is) (step.rests link.number);
-          numbered = (let below = are.numbered 0 link is in omega (arith, below, step.arrivals));
+          numbered = (let below = are.numbered 0 link is in omega (arith, below, step.sockets));
           apart = λ other another differs there. are.apart 0 other link another differs is there;
         }
 
@@ -203,24 +200,24 @@ visit_changes first now old new key link are there v = by_visit v.visit refl v.t
     c : Carries key link.number link.waiting met.waits (sides old) v.behind
     c = met.carries
 
-    change : (history : List Turn) (calls : List WireCall) → IsRun old.cache history new.cache → new.counts.wire.calls ≡ calls ++ old.counts.wire.calls → new.counts.wire.arrivals ≡ old.counts.wire.arrivals → AreOf key history → AreOfSocket link.number calls → ((after : Connection) → link_at new key ≡ Some after → IsHere first old new key after) → Changes first old key new
-    change history calls run asks arrivals of_client of_socket here =
+    change : (history : List Turn) (calls : List WireCall) → IsRun old.cache history new.cache → new.counts.wire.calls ≡ calls ++ old.counts.wire.calls → new.counts.wire.sockets ≡ old.counts.wire.sockets → AreOf key history → AreOfSocket link.number calls → ((after : Connection) → link_at new key ≡ Some after → IsHere first old new key after) → Changes first old key new
+    change history calls run asks sockets of_client of_socket here =
         record {
           history = history;
           calls = calls;
           run = run;
           asks = asks;
-          arrivals = omega (arith, arrivals);
+          sockets = omega (arith, sockets);
           quiet = λ other another differs is. silent key other history of_client differs;
           rests = λ other another differs is. idle_socket link.number another.number calls of_socket (are.apart key other link another differs there is);
-          unused = λ number come. idle_socket link.number number calls of_socket (λ same. let below = are.numbered key link there in absurd (omega (arith, come, arrivals, below, same)));
+          unused = λ number come. idle_socket link.number number calls of_socket (λ same. let below = are.numbered key link there in absurd (omega (arith, come, sockets, below, same)));
           others = v.others;
           here = here;
         }
 
     stays : v.visit ≡ Stays → new.cache ≡ v.behind.cache → new.counts.wire ≡ v.behind.wire → link_at new key ≡ Some kept → Changes first old key new
     stays is same_cache same_wire stands =
-        change c.history c.calls run asks arrivals c.of_client c.of_socket here
+        change c.history c.calls run asks sockets c.of_client c.of_socket here
       where
         run : IsRun old.cache c.history new.cache
         run = subst (λ (s : CacheState). IsRun old.cache c.history s) (sym same_cache) c.run
@@ -228,8 +225,8 @@ visit_changes first now old new key link are there v = by_visit v.visit refl v.t
         asks : new.counts.wire.calls ≡ c.calls ++ old.counts.wire.calls
         asks = ap (λ (w : WireState). w.calls) same_wire ∙ c.asks
 
-        arrivals : new.counts.wire.arrivals ≡ old.counts.wire.arrivals
-        arrivals = ap (λ (w : WireState). w.arrivals) same_wire ∙ c.arrivals
+        sockets : new.counts.wire.sockets ≡ old.counts.wire.sockets
+        sockets = ap (λ (w : WireState). w.sockets) same_wire ∙ c.sockets
 
         here : (after : Connection) → link_at new key ≡ Some after → IsHere first old new key after
         here after is_after =
@@ -238,25 +235,25 @@ visit_changes first now old new key link are there v = by_visit v.visit refl v.t
               carried =
                   carried_on first (sides old) (sides new) key link.number link.waiting v.left.waiting link.moments v.left.moments c.history c.calls (are.each key link there) run asks c.up c.hears
                   (c.takes ∙ ap (λ (l : List ℕ). taken link.number c.calls ++ l) (met.stays (judged_stays _ v.attends.found (sym v.attends.judges ∙ is))));
-              numbered = (let below = are.numbered key link there in omega (arith, below, arrivals));
+              numbered = (let below = are.numbered key link there in omega (arith, below, sockets));
               apart = λ other another differs is_there. are.apart key other link another differs there is_there;
             })
 
-    lost : (why : Parting) → new.counts.wire.calls ≡ Close link.number why ∷ v.behind.wire.calls → new.counts.wire.arrivals ≡ v.behind.wire.arrivals → GoesDown v.behind.cache key new.cache → link_at new key ≡ None → Changes first old key new
-    lost why asks arrivals down gone =
+    lost : (why : Parting) → new.counts.wire.calls ≡ Close link.number why ∷ v.behind.wire.calls → new.counts.wire.sockets ≡ v.behind.wire.sockets → GoesDown v.behind.cache key new.cache → link_at new key ≡ None → Changes first old key new
+    lost why asks sockets down gone =
         change (turn_of v.behind.cache (WentDown key down.0) ∷ c.history) (Close link.number why ∷ c.calls) (c.run, down.1)
         (asks ∙ ap (λ (l : List WireCall). Close link.number why ∷ l) c.asks)
-        (arrivals ∙ c.arrivals)
+        (sockets ∙ c.sockets)
         (refl, c.of_client)
         (tt, c.of_socket)
         (λ after is. absurd (let wrong : Some after ≡ None = sym is ∙ gone in cc))
 
     by_visit : (visit : Visit) → v.visit ≡ visit → TellsCache visit v.behind.cache key new.cache → new.counts.wire ≡ (settled visit link.number (record old.counts { wire = v.behind.wire })).wire → link_at new key ≡ link_left visit v.left → Changes first old key new
     by_visit Stays is tells wire stands = stays is tells wire (stands ∙ ap (λ (l : Connection). Some l) same)
-    by_visit Faulty is tells wire stands = lost parting.Failed (ap (λ (w : WireState). w.calls) wire) (ap (λ (w : WireState). w.arrivals) wire) tells stands
-    by_visit Ended is tells wire stands = lost parting.Ended (ap (λ (w : WireState). w.calls) wire) (ap (λ (w : WireState). w.arrivals) wire) tells stands
-    by_visit Closed is tells wire stands = lost parting.Closed (ap (λ (w : WireState). w.calls) wire) (ap (λ (w : WireState). w.arrivals) wire) tells stands
-    by_visit Overdue is tells wire stands = lost parting.Overdue (ap (λ (w : WireState). w.calls) wire) (ap (λ (w : WireState). w.arrivals) wire) tells stands
+    by_visit Faulty is tells wire stands = lost parting.Failed (ap (λ (w : WireState). w.calls) wire) (ap (λ (w : WireState). w.sockets) wire) tells stands
+    by_visit Ended is tells wire stands = lost parting.Ended (ap (λ (w : WireState). w.calls) wire) (ap (λ (w : WireState). w.sockets) wire) tells stands
+    by_visit Closed is tells wire stands = lost parting.Closed (ap (λ (w : WireState). w.calls) wire) (ap (λ (w : WireState). w.sockets) wire) tells stands
+    by_visit Overdue is tells wire stands = lost parting.Overdue (ap (λ (w : WireState). w.calls) wire) (ap (λ (w : WireState). w.sockets) wire) tells stands
 
 visit_carries : (first : CacheState) (now : ℕ) (old new : Turns) (key : ℕ) (link : Option Connection) → AreCarried first old → link_at old key ≡ link → VisitsLink now old key link new → AreCarried first new
 visit_carries first now old new key None are is same = subst (λ (t : Turns). AreCarried first t) (sym same) are
@@ -267,39 +264,39 @@ visits_carry first now zero old new are same = subst (λ (t : Turns). AreCarried
 visits_carry first now (suc key) old new are v =
     visit_carries first now v.0 new key (link_at v.0 key) (visits_carry first now key old v.0 are v.1) refl v.2
 
-idle_accept : (number : ℕ) → IsIdle number (Accept ∷ [])
-idle_accept number = record { gives = refl; takes = refl }
+idle_accept : (from : Option SocketAddr) (number : ℕ) → IsIdle number (Accept from ∷ [])
+idle_accept from number = record { gives = refl; takes = refl }
 
 quiet_none : (key : ℕ) → Silent key []
 quiet_none key = record { hears = refl; hands = refl; up = tt }
 
 -- a connection comes up: it has carried nothing, and its client has heard nothing
-comes_changes : (first : CacheState) (now : ℕ) (old new : Turns) → AreCarried first old → (comes : ComesUp now old new) → new.counts.wire.arrivals < 2 ^ 64 - 1 → Changes first old comes.key new
+comes_changes : (first : CacheState) (now : ℕ) (old new : Turns) → AreCarried first old → (comes : ComesUp now old new) → new.counts.wire.sockets < 2 ^ 64 - 1 → Changes first old comes.key new
 comes_changes first now old new are comes below =
     record {
       history = history;
-      calls = Accept ∷ [];
+      calls = Accept (Some comes.address) ∷ [];
       run = (refl, comes.comes);
       asks = asks;
-      arrivals = omega (arith, arrivals, goes_on count);
+      sockets = omega (arith, sockets, goes_on count);
       quiet = λ other another differs is. record { hears = refl; hands = refl; up = (tt, tt) };
-      rests = λ other another _ _. idle_accept another.number;
-      unused = λ number _. idle_accept number;
+      rests = λ other another _ _. idle_accept (Some comes.address) another.number;
+      unused = λ number _. idle_accept (Some comes.address) number;
       others = comes.others;
       here = λ link is. subst (λ (l : Connection). IsHere first old new comes.key l) (same_Some (record { number = count; waiting = []; moments = arriving_at now }) link (sym comes.here ∙ is)) newcomer;
     }
   where
     count : ℕ
-    count = old.counts.wire.arrivals
+    count = old.counts.wire.sockets
 
     history : List Turn
     history = turn_of old.cache (CameUp (Ok (tells_client comes.key))) ∷ []
 
-    asks : new.counts.wire.calls ≡ Accept ∷ old.counts.wire.calls
+    asks : new.counts.wire.calls ≡ Accept (Some comes.address) ∷ old.counts.wire.calls
     asks = ap (λ (c : Counts). c.wire.calls) comes.counts
 
-    arrivals : new.counts.wire.arrivals ≡ one_more count
-    arrivals = ap (λ (c : Counts). c.wire.arrivals) comes.counts
+    sockets : new.counts.wire.sockets ≡ one_more count
+    sockets = ap (λ (c : Counts). c.wire.sockets) comes.counts
 
     up : CacheComesUp old.cache (Ok (tells_client comes.key)) new.cache
     up = comes.comes.0
@@ -311,7 +308,7 @@ comes_changes first now old new are comes below =
     fresh = ap (client_at new.cache) same_key ∙ up.5
 
     unseen : IsIdle count new.counts.wire.calls
-    unseen = idle_on count old.counts.wire.calls (Accept ∷ []) new.counts.wire.calls asks (are.unused count (omega arith)) (idle_accept count)
+    unseen = idle_on count old.counts.wire.calls (Accept (Some comes.address) ∷ []) new.counts.wire.calls asks (are.unused count (omega arith)) (idle_accept (Some comes.address) count)
 
     newcomer : IsHere first old new comes.key (record { number = count; waiting = []; moments = arriving_at now })
     newcomer =
@@ -327,7 +324,7 @@ comes_changes first now old new are comes below =
             hears = sym unseen.gives;
             takes = ap (λ (l : List ℕ). l ++ []) (sym unseen.takes);
           };
-          numbered = omega (arith, arrivals, goes_on_by_one count (subst (λ (n : ℕ). n < 2 ^ 64 - 1) arrivals below));
+          numbered = omega (arith, sockets, goes_on_by_one count (subst (λ (n : ℕ). n < 2 ^ 64 - 1) sockets below));
           apart = λ other another differs there same. let under = are.numbered other another there in absurd (omega (arith, under, same));
         }
 
@@ -335,10 +332,10 @@ lacks_passes : (old new : Turns) → LacksMemory old new → Passes old new
 lacks_passes old new lacks =
     record {
       history = turn_of lacks.told (WentDown lacks.key lacks.goes.0) ∷ turn_of old.cache (CameUp (Ok (tells_client lacks.key))) ∷ [];
-      calls = Close old.counts.wire.arrivals parting.NoMemory ∷ Accept ∷ [];
+      calls = Close old.counts.wire.sockets parting.NoMemory ∷ Accept (Some lacks.address) ∷ [];
       run = ((refl, lacks.comes), lacks.goes.1);
       asks = ap (λ (c : Counts). c.wire.calls) lacks.counts;
-      arrivals = omega (arith, ap (λ (c : Counts). c.wire.arrivals) lacks.counts, goes_on old.counts.wire.arrivals);
+      sockets = omega (arith, ap (λ (c : Counts). c.wire.sockets) lacks.counts, goes_on old.counts.wire.sockets);
       quiet = λ other another is. record { hears = refl; hands = refl; up = (λ same. away other another is same, (tt, tt)) };
       rests = λ number. record { gives = refl; takes = refl };
       links = lacks.links;
@@ -353,21 +350,21 @@ pub accepts_passes : (now : ℕ) (old new : Turns) → Accepts now old new → (
 accepts_passes now old new (inl none) =
     inr (record {
       history = [];
-      calls = Accept ∷ [];
+      calls = Accept None ∷ [];
       run = ap (λ (t : Turns). t.cache) none;
       asks = ap (λ (t : Turns). t.counts.wire.calls) none;
-      arrivals = omega (arith, ap (λ (t : Turns). t.counts.wire.arrivals) none);
+      sockets = omega (arith, ap (λ (t : Turns). t.counts.wire.sockets) none);
       quiet = λ other another is. quiet_none other;
-      rests = idle_accept;
+      rests = idle_accept None;
       links = λ key. ap (λ (t : Turns). link_at t key) none;
     })
 accepts_passes now old new (inr (inl away)) =
     inr (record {
       history = turn_of old.cache (CameUp (Err away.why)) ∷ [];
-      calls = Close old.counts.wire.arrivals (parting_for away.why) ∷ Accept ∷ [];
+      calls = Close old.counts.wire.sockets (parting_for away.why) ∷ Accept (Some away.address) ∷ [];
       run = (refl, away.refused);
       asks = ap (λ (c : Counts). c.wire.calls) away.counts;
-      arrivals = omega (arith, ap (λ (c : Counts). c.wire.arrivals) away.counts, goes_on old.counts.wire.arrivals);
+      sockets = omega (arith, ap (λ (c : Counts). c.wire.sockets) away.counts, goes_on old.counts.wire.sockets);
       quiet = λ other another is. record { hears = refl; hands = refl; up = (tt, tt) };
       rests = λ number. record { gives = refl; takes = refl };
       links = away.links;
@@ -379,12 +376,12 @@ pub stops_passes : (old new : Turns) → Stops old stop.Accept new → Passes ol
 stops_passes old new same =
     record {
       history = [];
-      calls = Accept ∷ [];
+      calls = Accept None ∷ [];
       run = ap (λ (t : Turns). t.cache) same;
       asks = ap (λ (t : Turns). t.counts.wire.calls) same;
-      arrivals = omega (arith, ap (λ (t : Turns). t.counts.wire.arrivals) same);
+      sockets = omega (arith, ap (λ (t : Turns). t.counts.wire.sockets) same);
       quiet = λ other another is. quiet_none other;
-      rests = idle_accept;
+      rests = idle_accept None;
       links = λ key. ap (λ (t : Turns). link_at t key) same;
     }
 
@@ -395,63 +392,63 @@ tick_passes now old new told =
       calls = [];
       run = (refl, told.ticks);
       asks = ap (λ (t : Turns). t.counts.wire.calls) told.same;
-      arrivals = omega (arith, ap (λ (t : Turns). t.counts.wire.arrivals) told.same);
+      sockets = omega (arith, ap (λ (t : Turns). t.counts.wire.sockets) told.same);
       quiet = λ other another is. record { hears = refl; hands = refl; up = (tt, tt) };
       rests = λ number. record { gives = refl; takes = refl };
       links = λ key. ap (λ (t : Turns). link_at t key) told.same;
     }
 
 -- no visit lets a connection in
-settled_arrives : (visit : Visit) (number : ℕ) (counts : Counts) → (settled visit number counts).wire.arrivals ≡ counts.wire.arrivals
+settled_arrives : (visit : Visit) (number : ℕ) (counts : Counts) → (settled visit number counts).wire.sockets ≡ counts.wire.sockets
 settled_arrives Stays number counts = refl
 settled_arrives Faulty number counts = refl
 settled_arrives Ended number counts = refl
 settled_arrives Closed number counts = refl
 settled_arrives Overdue number counts = refl
 
-visits_arrive : (now places : ℕ) (old new : Turns) → VisitsBelow now places old new → new.counts.wire.arrivals ≡ old.counts.wire.arrivals
-visits_arrive now zero old new same = ap (λ (t : Turns). t.counts.wire.arrivals) same
+visits_arrive : (now places : ℕ) (old new : Turns) → VisitsBelow now places old new → new.counts.wire.sockets ≡ old.counts.wire.sockets
+visits_arrive now zero old new same = ap (λ (t : Turns). t.counts.wire.sockets) same
 visits_arrive now (suc key) old new v = by_link (link_at v.0 key) v.2 ∙ visits_arrive now key old v.0 v.1
   where
-    by_link : (link : Option Connection) → VisitsLink now v.0 key link new → new.counts.wire.arrivals ≡ v.0.counts.wire.arrivals
-    by_link None same = ap (λ (t : Turns). t.counts.wire.arrivals) same
+    by_link : (link : Option Connection) → VisitsLink now v.0 key link new → new.counts.wire.sockets ≡ v.0.counts.wire.sockets
+    by_link None same = ap (λ (t : Turns). t.counts.wire.sockets) same
     by_link (Some link) visited =
-        ap (λ (c : Counts). c.wire.arrivals) visited.counts
+        ap (λ (c : Counts). c.wire.sockets) visited.counts
         ∙ (settled_arrives visited.visit link.number (record v.0.counts { wire = visited.behind.wire })
-        ∙ (serves_carries key link (sides v.0) visited.attends.found visited.left.waiting visited.behind visited.attends.stands.serves).carries.arrivals)
+        ∙ (serves_carries key link (sides v.0) visited.attends.found visited.left.waiting visited.behind visited.attends.stands.serves).carries.sockets)
 
-accepts_arrive : (now : ℕ) (old new : Turns) → (ComesUp now old new) ⊎ (Passes old new) → old.counts.wire.arrivals ≤ new.counts.wire.arrivals
-accepts_arrive now old new (inl comes) = omega (arith, ap (λ (c : Counts). c.wire.arrivals) comes.counts, goes_on old.counts.wire.arrivals)
-accepts_arrive now old new (inr passes) = passes.arrivals
+accepts_arrive : (now : ℕ) (old new : Turns) → (ComesUp now old new) ⊎ (Passes old new) → old.counts.wire.sockets ≤ new.counts.wire.sockets
+accepts_arrive now old new (inl comes) = omega (arith, ap (λ (c : Counts). c.wire.sockets) comes.counts, goes_on old.counts.wire.sockets)
+accepts_arrive now old new (inr passes) = passes.sockets
 
-accepts_carry : (first : CacheState) (now : ℕ) (old new : Turns) → AreCarried first old → (ComesUp now old new) ⊎ (Passes old new) → new.counts.wire.arrivals < 2 ^ 64 - 1 → AreCarried first new
+accepts_carry : (first : CacheState) (now : ℕ) (old new : Turns) → AreCarried first old → (ComesUp now old new) ⊎ (Passes old new) → new.counts.wire.sockets < 2 ^ 64 - 1 → AreCarried first new
 accepts_carry first now old new are (inl comes) below = changed first old new comes.key are (comes_changes first now old new are comes below)
 accepts_carry first now old new are (inr passes) below = passed first old new are passes
 
-turn_arrives : (now : ℕ) (old new : Turns) (result : Result (Unit {0}) LoopFault) → TakesTurn now old result new → old.counts.wire.arrivals ≤ new.counts.wire.arrivals
+turn_arrives : (now : ℕ) (old new : Turns) (result : Result (Unit {0}) LoopFault) → TakesTurn now old result new → old.counts.wire.sockets ≤ new.counts.wire.sockets
 turn_arrives now old new (Ok nothing) turn =
-    omega (arith, accepts_arrive now old turn.admitted (accepts_passes now old turn.admitted turn.accepts), visits_arrive now _ turn.admitted turn.visited turn.visits, (tick_passes now turn.visited new turn.tells).arrivals)
-turn_arrives now old new (Err stop.Accept) stops = (stops_passes old new stops).arrivals
+    omega (arith, accepts_arrive now old turn.admitted (accepts_passes now old turn.admitted turn.accepts), visits_arrive now _ turn.admitted turn.visited turn.visits, (tick_passes now turn.visited new turn.tells).sockets)
+turn_arrives now old new (Err stop.Accept) stops = (stops_passes old new stops).sockets
 
-turn_carries : (first : CacheState) (now : ℕ) (old new : Turns) (result : Result (Unit {0}) LoopFault) → AreCarried first old → TakesTurn now old result new → new.counts.wire.arrivals < 2 ^ 64 - 1 → AreCarried first new
+turn_carries : (first : CacheState) (now : ℕ) (old new : Turns) (result : Result (Unit {0}) LoopFault) → AreCarried first old → TakesTurn now old result new → new.counts.wire.sockets < 2 ^ 64 - 1 → AreCarried first new
 turn_carries first now old new (Ok nothing) are turn below =
     let ticks = tick_passes now turn.visited new turn.tells in
-    let come : turn.admitted.counts.wire.arrivals < 2 ^ 64 - 1 = omega (arith, below, visits_arrive now _ turn.admitted turn.visited turn.visits, ticks.arrivals) in
+    let come : turn.admitted.counts.wire.sockets < 2 ^ 64 - 1 = omega (arith, below, visits_arrive now _ turn.admitted turn.visited turn.visits, ticks.sockets) in
     passed first turn.visited new
     (visits_carry first now _ turn.admitted turn.visited
     (accepts_carry first now old turn.admitted are (accepts_passes now old turn.admitted turn.accepts) come) turn.visits)
     ticks
 turn_carries first now old new (Err stop.Accept) are stops below = passed first old new are (stops_passes old new stops)
 
-turns_arrive : (moments : List ℕ) (old new : Turns) → TakesTurns moments old new → old.counts.wire.arrivals ≤ new.counts.wire.arrivals
-turns_arrive [] old new same = omega (arith, ap (λ (t : Turns). t.counts.wire.arrivals) same)
+turns_arrive : (moments : List ℕ) (old new : Turns) → TakesTurns moments old new → old.counts.wire.sockets ≤ new.counts.wire.sockets
+turns_arrive [] old new same = omega (arith, ap (λ (t : Turns). t.counts.wire.sockets) same)
 turns_arrive (now ∷ moments) old new turns =
     omega (arith, turn_arrives now old turns.0 turns.1 turns.2, turns_arrive moments turns.0 new turns.3)
 
-turns_carry : (first : CacheState) (moments : List ℕ) (old new : Turns) → AreCarried first old → TakesTurns moments old new → new.counts.wire.arrivals < 2 ^ 64 - 1 → AreCarried first new
+turns_carry : (first : CacheState) (moments : List ℕ) (old new : Turns) → AreCarried first old → TakesTurns moments old new → new.counts.wire.sockets < 2 ^ 64 - 1 → AreCarried first new
 turns_carry first [] old new are same below = subst (λ (t : Turns). AreCarried first t) (sym same) are
 turns_carry first (now ∷ moments) old new are turns below =
-    let come : turns.0.counts.wire.arrivals < 2 ^ 64 - 1 = omega (arith, below, turns_arrive moments turns.0 new turns.3) in
+    let come : turns.0.counts.wire.sockets < 2 ^ 64 - 1 = omega (arith, below, turns_arrive moments turns.0 new turns.3) in
     turns_carry first moments turns.0 new (turn_carries first now old turns.0 turns.1 are turns.2 come) turns.3 below
 
 at_first : (patience : Patience) (first : CacheState) (before : List Turn) (cache : CacheState) → IsRun first before cache → AreCarried first (idle patience cache nothing_told)
@@ -466,7 +463,7 @@ at_first patience first before cache made =
     }
 
 -- each connection carries whole versions
-pub carries_whole : (session : ℕ) (intervals : Intervals) (other_session : OtherSession) (before : List Turn) (patience : Patience) (cache : CacheState) (moments : List ℕ) (new : Turns) (key : ℕ) (link : Connection) → IsRun (empty_cache session intervals other_session) before cache → TakesTurns moments (idle patience cache nothing_told) new → new.counts.wire.arrivals < 2 ^ 64 - 1 → link_at new key ≡ Some link → CarriesWhole (empty_cache session intervals other_session) new key link
+pub carries_whole : (session : ℕ) (intervals : Intervals) (other_session : OtherSession) (before : List Turn) (patience : Patience) (cache : CacheState) (moments : List ℕ) (new : Turns) (key : ℕ) (link : Connection) → IsRun (empty_cache session intervals other_session) before cache → TakesTurns moments (idle patience cache nothing_told) new → new.counts.wire.sockets < 2 ^ 64 - 1 → link_at new key ≡ Some link → CarriesWhole (empty_cache session intervals other_session) new key link
 carries_whole session intervals other_session before patience cache moments new key link made turns below is =
     let first = empty_cache session intervals other_session in
     let c = (turns_carry first moments (idle patience cache nothing_told) new (at_first patience first before cache made) turns below).each key link is in

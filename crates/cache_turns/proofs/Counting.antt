@@ -1,76 +1,21 @@
 -- What turns count, one step after another: the clients lost are those of the wire's faults, of its ends of input and of the loop's closes.
-use Rattle.std.proofs.Common.{◌≡◌, ◌<◌, ◌≤◌, ◌+◌, ◌-◌, ◌^◌, ℕ, zero, suc, Bool, false, true, List, [], ◌∷◌, refl, sym, ap, ◌∙◌, subst, arith, inl, inr, Option, Some, None, Result, Ok, Err}
+use Rattle.std.proofs.Common.{◌≡◌, ℕ, zero, suc, Bool, false, true, List, [], ◌∷◌, refl, sym, ap, ◌∙◌, subst, arith, inl, inr, Option, Some, None, Result, Ok, Err}
 use Rattle.net_prefix.specs.declared.transport.Transport.{Transport}
 use Rattle.net_prefix.specs.declared.transport.Transport.TheVariants as transport
 use Rattle.rtr_cache.specs.CacheState.{client_at, transport_of}
 use Rattle.cache_turns.specs.Serving.{Answers, Connection, GoesOn, Reads, Serves, Sides, found_at_rest, found_by_write, judged}
-use Rattle.cache_turns.specs.Turns.{Accepts, AreBelowGreatest, Counts, LosesNoMore, TakesTurn, Turned, Turns, VisitsBelow, VisitsLink, link_at, settled, sides}
-use Rattle.cache_turns.specs.Wires.{WireState, one_more, reading, writing}
-use Rattle.cache_turns.specs.declared.fault.LoopFault.{LoopFault}
-use Rattle.cache_turns.specs.declared.fault.LoopFault.TheVariants.{Accept}
+use Rattle.cache_turns.specs.Turns.{Accepts, TakesTurn, Turned, Turns, VisitsBelow, VisitsLink, link_at, settled, sides}
 use Rattle.cache_turns.specs.declared.link.Visit.{Visit}
 use Rattle.cache_turns.specs.declared.link.Visit.TheVariants.{Stays, Faulty, Ended, Closed, Overdue}
-use Rattle.cache_turns.specs.declared.wire.Received.{Received}
-use Rattle.cache_turns.specs.declared.wire.Received.TheVariants.{Octets as Came, Nothing as NoneCame, End, Fault as ReadFault}
-use Rattle.cache_turns.specs.declared.wire.Sent.{Sent}
-use Rattle.cache_turns.specs.declared.wire.Sent.TheVariants.{Octets as Went, Nothing as NoneWent, Fault as WriteFault}
-
--- no count falls
-record Rises (old new : Counts) : Type 0 where
-  pub lost : old.lost ≤ new.lost
-  pub closed : old.closed ≤ new.closed
-  pub faults : old.wire.faults ≤ new.wire.faults
-  pub ends : old.wire.ends ≤ new.wire.ends
-
--- what a loop lost beyond its start is what faults, ends and closes rose together
-record LosesAsCounted (old new : Counts) : Type 0 where
-  pub rises : Rises old new
-  pub lost : AreBelowGreatest new → new.lost + (old.wire.faults + old.wire.ends + old.closed) ≡ old.lost + (new.wire.faults + new.wire.ends + new.closed)
-
--- nothing is lost where these counts stay
-loses_nothing : (old new : Counts) → new.lost ≡ old.lost → new.closed ≡ old.closed → new.wire.faults ≡ old.wire.faults → new.wire.ends ≡ old.wire.ends → LosesAsCounted old new
-loses_nothing old new lost closed faults ends =
-    record {
-      rises = record { lost = omega (arith, lost); closed = omega (arith, closed); faults = omega (arith, faults); ends = omega (arith, ends) };
-      lost = λ _. omega (arith, lost, closed, faults, ends);
-    }
-
-loses_none : (counts : Counts) → LosesAsCounted counts counts
-loses_none counts = loses_nothing counts counts refl refl refl refl
-
--- a count that is below the greatest was so before
-below_rises : (old new : Counts) → Rises old new → AreBelowGreatest new → AreBelowGreatest old
-below_rises old new rises below =
-    record {
-      lost = omega (arith, rises.lost, below.lost);
-      closed = omega (arith, rises.closed, below.closed);
-      faults = omega (arith, rises.faults, below.faults);
-      ends = omega (arith, rises.ends, below.ends);
-    }
-
-rises_both : (old mid new : Counts) → Rises old mid → Rises mid new → Rises old new
-rises_both old mid new first second =
-    record {
-      lost = omega (arith, first.lost, second.lost);
-      closed = omega (arith, first.closed, second.closed);
-      faults = omega (arith, first.faults, second.faults);
-      ends = omega (arith, first.ends, second.ends);
-    }
-
--- what one visit loses and what the next ones lose add up
-loses_both : (old mid new : Counts) → LosesAsCounted old mid → LosesAsCounted mid new → LosesAsCounted old new
-loses_both old mid new first second =
-    record {
-      rises = rises_both old mid new first.rises second.rises;
-      lost = λ below. omega (arith, first.lost (below_rises mid new second.rises below), second.lost below);
-    }
-
--- a count that goes on
-pub goes_on : (count : ℕ) → count ≤ one_more count
-goes_on count = grind arith
-
-pub goes_on_by_one : (count : ℕ) → one_more count < 2 ^ 64 - 1 → one_more count ≡ count + 1
-goes_on_by_one count below = grind arith
+use Rattle.wires.specs.Counts.{Counts, LosesNoMore}
+use Rattle.wires.specs.Wires.{WireState, one_more, reading, writing}
+use Rattle.wires.specs.declared.fault.LoopFault.{LoopFault}
+use Rattle.wires.specs.declared.fault.LoopFault.TheVariants.{Accept}
+use Rattle.wires.specs.declared.wire.Received.{Received}
+use Rattle.wires.specs.declared.wire.Received.TheVariants.{Octets as Came, Nothing as NoneCame, End, Fault as ReadFault}
+use Rattle.wires.specs.declared.wire.Sent.{Sent}
+use Rattle.wires.specs.declared.wire.Sent.TheVariants.{Octets as Went, Nothing as NoneWent, Fault as WriteFault}
+use Rattle.wires.proofs.Counting.{LosesAsCounted, counted_as, goes_on, loses_both, loses_by_close, loses_by_end, loses_by_fault, loses_none, loses_nothing, no_more}
 
 -- what the wire has told behind a visit that finds this
 record Counted (faults ends : ℕ) (new : WireState) : Type 0 where
@@ -146,31 +91,10 @@ judged_tells true Overdue visit old new is told = tells_found visit Overdue old 
 -- a visit loses as it counts
 settles : (visit : Visit) (number : ℕ) (counts : Counts) (wire : WireState) → Tells visit counts.wire wire → LosesAsCounted counts (settled visit number (record counts { wire = wire }))
 settles Stays number counts wire told = loses_nothing _ _ refl refl told.faults_are told.ends_are
-settles Faulty number counts wire told =
-    let faults : counts.wire.faults ≤ wire.faults = subst (λ (n : ℕ). counts.wire.faults ≤ n) (sym told.faults_are) (goes_on counts.wire.faults) in
-    record {
-      rises = record { lost = goes_on counts.lost; closed = omega arith; faults = faults; ends = omega (arith, told.ends_are) };
-      lost = λ below. omega (arith, goes_on_by_one counts.lost below.lost, told.faults_are ∙ goes_on_by_one counts.wire.faults (subst (λ (n : ℕ). n < 2 ^ 64 - 1) told.faults_are below.faults), told.ends_are);
-    }
-settles Ended number counts wire told =
-    let ends : counts.wire.ends ≤ wire.ends = subst (λ (n : ℕ). counts.wire.ends ≤ n) (sym told.ends_are) (goes_on counts.wire.ends) in
-    record {
-      rises = record { lost = goes_on counts.lost; closed = omega arith; faults = omega (arith, told.faults_are); ends = ends };
-      lost = λ below. omega (arith, goes_on_by_one counts.lost below.lost, told.ends_are ∙ goes_on_by_one counts.wire.ends (subst (λ (n : ℕ). n < 2 ^ 64 - 1) told.ends_are below.ends), told.faults_are);
-    }
-settles Closed number counts wire told =
-    record {
-      rises = record { lost = goes_on counts.lost; closed = goes_on counts.closed; faults = omega (arith, told.faults_are); ends = omega (arith, told.ends_are) };
-      lost = λ below. omega (arith, goes_on_by_one counts.lost below.lost, goes_on_by_one counts.closed below.closed, told.faults_are, told.ends_are);
-    }
-settles Overdue number counts wire told =
-    record {
-      rises = record { lost = goes_on counts.lost; closed = goes_on counts.closed; faults = omega (arith, told.faults_are); ends = omega (arith, told.ends_are) };
-      lost = λ below. omega (arith, goes_on_by_one counts.lost below.lost, goes_on_by_one counts.closed below.closed, told.faults_are, told.ends_are);
-    }
-
-counted_as : (old mid new : Counts) → new ≡ mid → LosesAsCounted old mid → LosesAsCounted old new
-counted_as old mid new same loses = subst (λ (c : Counts). LosesAsCounted old c) (sym same) loses
+settles Faulty number counts wire told = loses_by_fault _ _ refl refl told.faults_are told.ends_are
+settles Ended number counts wire told = loses_by_end _ _ refl refl told.faults_are told.ends_are
+settles Closed number counts wire told = loses_by_close _ _ refl refl told.faults_are told.ends_are
+settles Overdue number counts wire told = loses_by_close _ _ refl refl told.faults_are told.ends_are
 
 visit_loses : (now : ℕ) (old new : Turns) (key : ℕ) (link : Option Connection) → VisitsLink now old key link new → LosesAsCounted old.counts new.counts
 visit_loses now old new key None same = counted_as _ _ _ (ap (λ (t : Turns). t.counts) same) (loses_none old.counts)
@@ -193,9 +117,6 @@ accepting_loses now old new (inr (inr (inr comes))) = counted_as _ _ _ comes.cou
 turned_loses : (now : ℕ) (old new : Turns) → Turned now old new → LosesAsCounted old.counts new.counts
 turned_loses now old new turn =
     counted_as _ _ _ (ap (λ (t : Turns). t.counts) turn.tells.same) (loses_both _ _ _ (accepting_loses now old turn.admitted turn.accepts) (visits_lose now _ turn.admitted turn.visited turn.visits))
-
-no_more : (old new : Counts) → LosesAsCounted old new → LosesNoMore old new
-no_more old new loses = λ below. omega (arith, loses.lost below)
 
 -- a turn loses no more than is counted
 pub turn_loses_no_more : (now : ℕ) (old new : Turns) (result : Result (Unit {0}) LoopFault) → TakesTurn now old result new → LosesNoMore old.counts new.counts

@@ -4,17 +4,19 @@ use Rattle.std.proofs.lemmas.Bool.{eq-eqb}
 use Rattle.rtr_cache.specs.CacheState.{CacheState}
 use Rattle.rtr_cache.specs.ClientHistory.{Heard, IsRun, StaysUp, Took, Turn, handed_by, handed_out, turn_of}
 use Rattle.rtr_cache.specs.declared.refusal.CacheRefusal.{CacheRefusal}
-use Rattle.cache_turns.specs.Calls.{WireCall, Read, Write}
-use Rattle.cache_turns.specs.Carrying.{given, given_by, heard, taken, taken_by}
+use Rattle.cache_turns.specs.Carrying.{heard}
 use Rattle.cache_turns.specs.Serving.{Answers, Connection, GoesOn, Reads, Serves, Sides, Takes, left_by, taken_by as taken_of}
-use Rattle.cache_turns.specs.Wires.{WireState, writing}
 use Rattle.cache_turns.specs.declared.link.Visit.{Visit}
 use Rattle.cache_turns.specs.declared.link.Visit.TheVariants.{Stays, Faulty, Ended}
-use Rattle.cache_turns.specs.declared.wire.Received.{Received}
-use Rattle.cache_turns.specs.declared.wire.Received.TheVariants.{Octets as Came, Nothing as NoneCame, End, Fault as ReadFault}
-use Rattle.cache_turns.specs.declared.wire.Sent.{Sent}
-use Rattle.cache_turns.specs.declared.wire.Sent.TheVariants.{Octets as Went, Nothing as NoneWent, Fault as WriteFault}
-use Rattle.cache_turns.proofs.Effects.{AreOf, AreOfSocket, IsOfSocket, are-on, are_socket-on, chosen, given-on, handed-on, heard-on, taken-on, up-on}
+use Rattle.cache_turns.proofs.Effects.{AreOf, are-on, handed-on, heard-on, up-on}
+use Rattle.wires.specs.Calls.{WireCall, Read, Write}
+use Rattle.wires.specs.Carried.{given, given_by, taken, taken_by}
+use Rattle.wires.specs.Wires.{WireState, writing}
+use Rattle.wires.specs.declared.wire.Received.{Received}
+use Rattle.wires.specs.declared.wire.Received.TheVariants.{Octets as Came, Nothing as NoneCame, End, Fault as ReadFault}
+use Rattle.wires.specs.declared.wire.Sent.{Sent}
+use Rattle.wires.specs.declared.wire.Sent.TheVariants.{Octets as Went, Nothing as NoneWent, Fault as WriteFault}
+use Rattle.wires.proofs.Sockets.{AreOfSocket, IsOfSocket, are_socket-on, chosen, given-on, taken-on}
 
 -- a run goes on by another
 pub run_on : (start mid end : CacheState) (before after : List Turn) → IsRun start before mid → IsRun mid after end → IsRun start (after ++ before) end
@@ -27,7 +29,7 @@ pub record Carries (key number : ℕ) (waiting left : List ℕ) (old new : Sides
   pub calls : List WireCall
   pub run : IsRun old.cache history new.cache
   pub asks : new.wire.calls ≡ calls ++ old.wire.calls
-  pub arrivals : new.wire.arrivals ≡ old.wire.arrivals
+  pub sockets : new.wire.sockets ≡ old.wire.sockets
   pub of_client : AreOf key history
   pub of_socket : AreOfSocket number calls
   pub up : StaysUp key history
@@ -41,7 +43,7 @@ carries_on key number waiting between left old mid new first second =
       calls = second.calls ++ first.calls;
       run = run_on old.cache mid.cache new.cache first.history second.history first.run second.run;
       asks = second.asks ∙ ap (λ (l : List WireCall). second.calls ++ l) first.asks ∙ sym (append_assoc second.calls first.calls old.wire.calls);
-      arrivals = second.arrivals ∙ first.arrivals;
+      sockets = second.sockets ∙ first.sockets;
       of_client = are-on key first.history second.history first.of_client second.of_client;
       of_socket = are_socket-on number first.calls second.calls first.of_socket second.of_socket;
       up = up-on key first.history second.history first.up second.up;
@@ -57,14 +59,14 @@ carries_on key number waiting between left old mid new first second =
     }
 
 -- a call of the wire alone
-wire_carries : (key number : ℕ) (waiting left : List ℕ) (old new : Sides) (call : WireCall) → new.cache ≡ old.cache → new.wire.calls ≡ call ∷ old.wire.calls → new.wire.arrivals ≡ old.wire.arrivals → IsOfSocket number call → given_by number call ≡ [] → waiting ≡ taken_by number call ++ left → Carries key number waiting left old new
-wire_carries key number waiting left old new call same asks arrivals is gives takes =
+wire_carries : (key number : ℕ) (waiting left : List ℕ) (old new : Sides) (call : WireCall) → new.cache ≡ old.cache → new.wire.calls ≡ call ∷ old.wire.calls → new.wire.sockets ≡ old.wire.sockets → IsOfSocket number call → given_by number call ≡ [] → waiting ≡ taken_by number call ++ left → Carries key number waiting left old new
+wire_carries key number waiting left old new call same asks sockets is gives takes =
     record {
       history = [];
       calls = call ∷ [];
       run = same;
       asks = asks;
-      arrivals = arrivals;
+      sockets = sockets;
       of_client = tt;
       of_socket = (is, tt);
       up = tt;
@@ -80,7 +82,7 @@ nothing_carries key number waiting left old new same stays =
       calls = [];
       run = ap (λ (s : Sides). s.cache) same;
       asks = ap (λ (s : Sides). s.wire.calls) same;
-      arrivals = ap (λ (s : Sides). s.wire.arrivals) same;
+      sockets = ap (λ (s : Sides). s.wire.sockets) same;
       of_client = tt;
       of_socket = tt;
       up = tt;
@@ -95,7 +97,7 @@ reads_carries (Came count) key number waiting old new reads =
       calls = Read number reads.buf (Came count) ∷ [];
       run = (refl, reads.hears.1);
       asks = ap (λ (w : WireState). w.calls) reads.asks;
-      arrivals = ap (λ (w : WireState). w.arrivals) reads.asks;
+      sockets = ap (λ (w : WireState). w.sockets) reads.asks;
       of_client = (refl, tt);
       of_socket = (refl, tt);
       up = (tt, tt);
@@ -103,11 +105,11 @@ reads_carries (Came count) key number waiting old new reads =
       takes = append-nil waiting;
     }
 reads_carries NoneCame key number waiting old new reads =
-    wire_carries key number waiting waiting old new (Read number reads.buf NoneCame) reads.hears (ap (λ (w : WireState). w.calls) reads.asks) (ap (λ (w : WireState). w.arrivals) reads.asks) refl refl refl
+    wire_carries key number waiting waiting old new (Read number reads.buf NoneCame) reads.hears (ap (λ (w : WireState). w.calls) reads.asks) (ap (λ (w : WireState). w.sockets) reads.asks) refl refl refl
 reads_carries End key number waiting old new reads =
-    wire_carries key number waiting waiting old new (Read number reads.buf End) reads.hears (ap (λ (w : WireState). w.calls) reads.asks) (ap (λ (w : WireState). w.arrivals) reads.asks) refl refl refl
+    wire_carries key number waiting waiting old new (Read number reads.buf End) reads.hears (ap (λ (w : WireState). w.calls) reads.asks) (ap (λ (w : WireState). w.sockets) reads.asks) refl refl refl
 reads_carries ReadFault key number waiting old new reads =
-    wire_carries key number waiting waiting old new (Read number reads.buf ReadFault) reads.hears (ap (λ (w : WireState). w.calls) reads.asks) (ap (λ (w : WireState). w.arrivals) reads.asks) refl refl refl
+    wire_carries key number waiting waiting old new (Read number reads.buf ReadFault) reads.hears (ap (λ (w : WireState). w.calls) reads.asks) (ap (λ (w : WireState). w.sockets) reads.asks) refl refl refl
 
 taken_handed : (key : ℕ) (buf handed : List ℕ) (result : Result ℕ CacheRefusal) → taken_of result handed ≡ handed_by key (Took key buf result handed)
 taken_handed key buf handed (Ok count) = sym (chosen _ (take count handed) [] (eq-eqb key key refl))
@@ -121,7 +123,7 @@ takes_carries key number [] octets wire old new takes =
       calls = [];
       run = (refl, hands.makes);
       asks = refl;
-      arrivals = refl;
+      sockets = refl;
       of_client = (refl, tt);
       of_socket = tt;
       up = (tt, tt);
@@ -138,7 +140,7 @@ write_leaves (Went count) number octets =
 write_leaves NoneWent number octets = refl
 write_leaves WriteFault number octets = refl
 
-write_arrives : (sent : Sent) (number : ℕ) (octets : List ℕ) (wire : WireState) → (writing number octets sent wire).arrivals ≡ wire.arrivals
+write_arrives : (sent : Sent) (number : ℕ) (octets : List ℕ) (wire : WireState) → (writing number octets sent wire).sockets ≡ wire.sockets
 write_arrives (Went count) number octets wire = refl
 write_arrives NoneWent number octets wire = refl
 write_arrives WriteFault number octets wire = refl
@@ -165,7 +167,7 @@ answers_carry key link old visit left new answers =
         let writes = answers.some (λ none. let wrong : octet ∷ octets ≡ [] = sym is ∙ none in cc) in
         wire_carries key link.number answers.octets left mid new (Write link.number answers.octets writes.sent) refl
         (ap (λ (w : WireState). w.calls) writes.asks ∙ write_calls writes.sent link.number answers.octets old.wire)
-        (ap (λ (w : WireState). w.arrivals) writes.asks ∙ write_arrives writes.sent link.number answers.octets old.wire)
+        (ap (λ (w : WireState). w.sockets) writes.asks ∙ write_arrives writes.sent link.number answers.octets old.wire)
         refl refl
         (write_leaves writes.sent link.number answers.octets ∙ ap (λ (l : List ℕ). taken_by link.number (Write link.number answers.octets writes.sent) ++ l) (sym writes.leaves))
 

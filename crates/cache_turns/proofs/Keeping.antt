@@ -7,12 +7,12 @@ use Rattle.rtr_cache.specs.declared.event.CacheReport.{CacheReport}
 use Rattle.rtr_cache.specs.declared.refusal.CacheRefusal.{CacheRefusal}
 use Rattle.cache_turns.specs.Serving.{Connection, GoesOn, Hears, Serves, Sides, Takes}
 use Rattle.cache_turns.specs.Turns.{Accepts, TakesTurn, TakesTurns, TellsCache, Turns, VisitsBelow, VisitsLink, link_at, sides}
-use Rattle.cache_turns.specs.declared.fault.LoopFault.{LoopFault}
-use Rattle.cache_turns.specs.declared.fault.LoopFault.TheVariants.{Accept}
 use Rattle.cache_turns.specs.declared.link.Visit.{Visit}
 use Rattle.cache_turns.specs.declared.link.Visit.TheVariants.{Stays, Faulty, Ended, Closed, Overdue}
-use Rattle.cache_turns.specs.declared.wire.Received.{Received}
-use Rattle.cache_turns.specs.declared.wire.Received.TheVariants.{Octets as Came, Nothing as NoneCame, End, Fault as ReadFault}
+use Rattle.wires.specs.declared.fault.LoopFault.{LoopFault}
+use Rattle.wires.specs.declared.fault.LoopFault.TheVariants.{Accept}
+use Rattle.wires.specs.declared.wire.Received.{Received}
+use Rattle.wires.specs.declared.wire.Received.TheVariants.{Octets as Came, Nothing as NoneCame, End, Fault as ReadFault}
 
 abbrev Keeps : CacheState → CacheState → Type 0
 Keeps old new = new.shared.kept ≡ old.shared.kept

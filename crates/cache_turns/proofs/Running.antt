@@ -4,12 +4,12 @@ use Rattle.rtr_cache.specs.CacheState.{CacheState, tells_client}
 use Rattle.rtr_cache.specs.ClientHistory.{Call, CameUp, IsRun, Makes, Turn, WentDown, turn_of}
 use Rattle.cache_turns.specs.Serving.{Connection}
 use Rattle.cache_turns.specs.Turns.{ComesUp, TakesTurn, TakesTurns, TellsCache, Turns, VisitsBelow, VisitsLink, link_at, sides}
-use Rattle.cache_turns.specs.declared.fault.LoopFault.{LoopFault}
-use Rattle.cache_turns.specs.declared.fault.LoopFault.TheVariants.{Accept}
 use Rattle.cache_turns.specs.declared.link.Visit.{Visit}
 use Rattle.cache_turns.specs.declared.link.Visit.TheVariants.{Stays, Faulty, Ended, Closed, Overdue}
 use Rattle.cache_turns.proofs.Carrying.{Passes, accepts_passes, stops_passes, tick_passes}
 use Rattle.cache_turns.proofs.Exchanges.{run_on, serves_carries}
+use Rattle.wires.specs.declared.fault.LoopFault.{LoopFault}
+use Rattle.wires.specs.declared.fault.LoopFault.TheVariants.{Accept}
 
 -- calls of a cache lead from one state of it to another
 abbrev Leads : CacheState → CacheState → Type 0

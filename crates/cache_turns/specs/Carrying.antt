@@ -1,31 +1,11 @@
 -- What a socket carries over all turns, beside what its client heard and what the cache handed out for it.
-use Rattle.std.specs.Prelude.{◌≡◌, ◌==◌, ◌++◌, ℕ, if◌then◌else◌, List, [], ◌∷◌, Some, take}
+use Rattle.std.specs.Prelude.{◌≡◌, ◌==◌, ◌++◌, ℕ, if◌then◌else◌, List, [], ◌∷◌, Some}
 use Rattle.rtr_cache.specs.CacheState.{CacheState, client_at}
 use Rattle.rtr_cache.specs.CacheTable.{fresh_conn}
 use Rattle.rtr_cache.specs.ClientHistory.{Call, Heard, IsRun, IsToldWhole, StaysUp, Turn, handed_out}
-use Rattle.cache_turns.specs.Calls.{WireCall, Read, Write}
 use Rattle.cache_turns.specs.Serving.{Connection}
 use Rattle.cache_turns.specs.Turns.{Turns}
-use Rattle.cache_turns.specs.declared.wire.Received.TheVariants.{Octets as Came}
-use Rattle.cache_turns.specs.declared.wire.Sent.TheVariants.{Octets as Went}
-
--- the octets that a call of the wire gave of the socket of this number, and those of all calls
-abbrev pub given_by : ℕ → WireCall → List ℕ
-given_by number (Read other buf (Came count)) = if other == number then take count buf else []
-given_by number call = []
-
-abbrev pub given : ℕ → List WireCall → List ℕ
-given number [] = []
-given number (call ∷ earlier) = given number earlier ++ given_by number call
-
--- the octets that it took
-abbrev pub taken_by : ℕ → WireCall → List ℕ
-taken_by number (Write other octets (Went count)) = if other == number then take count octets else []
-taken_by number call = []
-
-abbrev pub taken : ℕ → List WireCall → List ℕ
-taken number [] = []
-taken number (call ∷ earlier) = taken number earlier ++ taken_by number call
+use Rattle.wires.specs.Carried.{given, taken}
 
 -- the octets that the client of the key hears by a call of the cache, and by all calls
 abbrev pub heard_by : ℕ → Call → List ℕ

@@ -8,16 +8,16 @@ use Rattle.rtr_cache.specs.ClientHistory.{Heard, Makes, Took}
 use Rattle.rtr_cache.specs.declared.event.CacheReport.{CacheReport}
 use Rattle.rtr_cache.specs.declared.refusal.CacheRefusal.{CacheRefusal}
 use Rattle.cache_turns.specs.Patience.{heard_at, outlasts}
-use Rattle.cache_turns.specs.TurnOctets.{turn_octets}
-use Rattle.cache_turns.specs.Wires.{FitsIn, WireState, reading, writing}
 use Rattle.cache_turns.specs.declared.link.Visit.{Visit}
 use Rattle.cache_turns.specs.declared.link.Visit.TheVariants.{Stays, Faulty, Ended, Closed, Overdue}
 use Rattle.cache_turns.specs.declared.patience.Moments.{Moments}
 use Rattle.cache_turns.specs.declared.patience.Patience.{Patience}
-use Rattle.cache_turns.specs.declared.wire.Received.{Received}
-use Rattle.cache_turns.specs.declared.wire.Received.TheVariants.{Octets as Came, Nothing as NoneCame, End, Fault as ReadFault}
-use Rattle.cache_turns.specs.declared.wire.Sent.{Sent}
-use Rattle.cache_turns.specs.declared.wire.Sent.TheVariants.{Octets as Went, Nothing as NoneWent, Fault as WriteFault}
+use Rattle.wires.specs.TurnOctets.{turn_octets}
+use Rattle.wires.specs.Wires.{FitsIn, WireState, reading, writing}
+use Rattle.wires.specs.declared.wire.Received.{Received}
+use Rattle.wires.specs.declared.wire.Received.TheVariants.{Octets as Came, Nothing as NoneCame, End, Fault as ReadFault}
+use Rattle.wires.specs.declared.wire.Sent.{Sent}
+use Rattle.wires.specs.declared.wire.Sent.TheVariants.{Octets as Went, Nothing as NoneWent, Fault as WriteFault}
 
 -- a connection: the number of its socket, what was taken of the cache for it and not yet written, and when it came and was heard
 pub record Connection : Type 0 where

@@ -1,27 +1,23 @@
 -- A turn: the wire is asked for a connection, which is let in or closed, each connection is visited once, and the cache is told the moment.
-use Rattle.std.specs.Prelude.{◌≡◌, ◌≢◌, ◌⊎◌, ◌≤◌, ◌<◌, ◌+◌, ◌-◌, ◌^◌, ℕ, zero, suc, List, [], ◌∷◌, length, Option, Some, None, IsSome, Result, Ok, Err, slice_index_or}
+use Rattle.std.specs.Prelude.{◌≡◌, ◌≢◌, ◌⊎◌, ℕ, zero, suc, List, [], ◌∷◌, length, Option, Some, None, IsSome, Result, Ok, Err, slice_index_or}
+use Rattle.std.specs.declared.net.socket_addr.SocketAddr.{SocketAddr}
 use Rattle.rtr_cache.specs.CacheState.{CacheState, client_at, tells_client}
 use Rattle.rtr_cache.specs.ClientHistory.{CameUp, Makes, Ticked, WentDown}
 use Rattle.rtr_cache.specs.declared.event.CacheReport.{CacheReport}
 use Rattle.rtr_cache.specs.declared.refusal.CacheRefusal.{CacheRefusal}
 use Rattle.rtr_cache.specs.declared.refusal.CacheRefusal.TheVariants.{Full}
-use Rattle.cache_turns.specs.Calls.{Accept}
 use Rattle.cache_turns.specs.Patience.{arriving_at}
 use Rattle.cache_turns.specs.Serving.{Attends, Connection, Sides}
-use Rattle.cache_turns.specs.Wires.{WireState, accept_failing, arriving, calling, closing, one_more}
-use Rattle.cache_turns.specs.declared.fault.LoopFault.{LoopFault}
-use Rattle.cache_turns.specs.declared.fault.LoopFault.TheVariants as stop
 use Rattle.cache_turns.specs.declared.link.Visit.{Visit}
 use Rattle.cache_turns.specs.declared.link.Visit.TheVariants.{Stays, Faulty, Ended, Closed, Overdue}
 use Rattle.cache_turns.specs.declared.patience.Patience.{Patience}
-use Rattle.cache_turns.specs.declared.wire.Parting.{Parting}
-use Rattle.cache_turns.specs.declared.wire.Parting.TheVariants as parting
-
--- what a loop counts, and what its wire does
-pub record Counts : Type 0 where
-  pub lost : ℕ  -- connections of which the cache was told that they are gone
-  pub closed : ℕ  -- connections closed since the cache had closed the session and said all, or since their clients were silent for too long
-  pub wire : WireState
+use Rattle.wires.specs.Calls.{Accept}
+use Rattle.wires.specs.Counts.{Counts, closing_it, counts_of_wire, losing}
+use Rattle.wires.specs.Wires.{WireState, accept_failing, arriving, calling, closing}
+use Rattle.wires.specs.declared.fault.LoopFault.{LoopFault}
+use Rattle.wires.specs.declared.fault.LoopFault.TheVariants as stop
+use Rattle.wires.specs.declared.wire.Parting.{Parting}
+use Rattle.wires.specs.declared.wire.Parting.TheVariants as parting
 
 -- a loop: how long its clients may be silent, what is counted, its cache, and the connection of each client under the client's key
 pub record Turns : Type 0 where
@@ -53,13 +49,9 @@ LinksStay old new = (key : ℕ) → link_at new key ≡ link_at old key
 abbrev pub OtherLinksStay : Turns → ℕ → Turns → Type 0
 OtherLinksStay old key new = (other : ℕ) → other ≢ key → link_at new other ≡ link_at old other
 
--- what calls of the wire make of the counts
-abbrev pub counts_of_wire : (WireState → WireState) → Counts → Counts
-counts_of_wire call counts = record counts { wire = call counts.wire }
-
 -- no connection waits
 abbrev pub NoneComes : Turns → Turns → Type 0
-NoneComes old new = new ≡ record old { counts = counts_of_wire (calling Accept) old.counts }
+NoneComes old new = new ≡ record old { counts = counts_of_wire (calling (Accept None)) old.counts }
 
 -- the cache is told that a client is gone
 abbrev pub GoesDown : CacheState → ℕ → CacheState → Type 0
@@ -72,18 +64,20 @@ parting_for other = parting.NoMemory
 
 -- a connection comes whose client the cache refuses, and is closed
 pub record TurnsAway (old new : Turns) : Type 0 where
+  pub address : SocketAddr
   pub why : CacheRefusal
   pub patience : new.patience ≡ old.patience
-  pub counts : new.counts ≡ counts_of_wire (λ wire. closing wire.arrivals (parting_for why) (arriving wire)) old.counts
+  pub counts : new.counts ≡ counts_of_wire (λ wire. closing wire.sockets (parting_for why) (arriving address wire)) old.counts
   pub refused : Makes old.cache (CameUp (Err why)) new.cache
   pub links : LinksStay old new
 
 -- a connection comes for which there is no memory: its client comes up, the connection is closed, and the client goes again
 pub record LacksMemory (old new : Turns) : Type 0 where
+  pub address : SocketAddr
   pub key : ℕ
   pub told : CacheState
   pub patience : new.patience ≡ old.patience
-  pub counts : new.counts ≡ counts_of_wire (λ wire. closing wire.arrivals parting.NoMemory (arriving wire)) old.counts
+  pub counts : new.counts ≡ counts_of_wire (λ wire. closing wire.sockets parting.NoMemory (arriving address wire)) old.counts
   pub comes : Makes old.cache (CameUp (Ok (tells_client key))) told
   pub goes : GoesDown told key new.cache
   pub before : link_at old key ≡ None
@@ -91,12 +85,13 @@ pub record LacksMemory (old new : Turns) : Type 0 where
 
 -- a connection comes, and stands under the key of its client
 pub record ComesUp (now : ℕ) (old new : Turns) : Type 0 where
+  pub address : SocketAddr
   pub key : ℕ
   pub patience : new.patience ≡ old.patience
-  pub counts : new.counts ≡ counts_of_wire arriving old.counts
+  pub counts : new.counts ≡ counts_of_wire (arriving address) old.counts
   pub comes : Makes old.cache (CameUp (Ok (tells_client key))) new.cache
   pub before : link_at old key ≡ None
-  pub here : link_at new key ≡ Some (record { number = old.counts.wire.arrivals; waiting = []; moments = arriving_at now })
+  pub here : link_at new key ≡ Some (record { number = old.counts.wire.sockets; waiting = []; moments = arriving_at now })
   pub others : OtherLinksStay old key new
 
 -- accepting goes well: no connection comes, or one is closed, or one is let in
@@ -112,15 +107,7 @@ abbrev pub Admits : ℕ → Turns → Result (Unit {0}) LoopFault → Turns → 
 Admits now old (Ok nothing) new = Accepts now old new
 Admits now old (Err fault) new = Stops old fault new
 
--- a client is lost, and its socket closed
-abbrev pub losing : ℕ → Parting → Counts → Counts
-losing number why counts = record counts { lost = one_more counts.lost; wire = closing number why counts.wire }
-
--- and counted as closed
-abbrev pub closing_it : ℕ → Parting → Counts → Counts
-closing_it number why counts = losing number why (record counts { closed = one_more counts.closed })
-
--- what a visit that found this is counted as
+-- what a visit that found this is counted as: one that ends is lost, and closed on this side where the cache had closed it and said all, or where its client was silent for too long
 abbrev pub settled : Visit → ℕ → Counts → Counts
 settled Stays number counts = counts
 settled Faulty number counts = losing number parting.Failed counts
@@ -197,16 +184,3 @@ abbrev pub TakesTurns : List ℕ → Turns → Turns → Type 0
 TakesTurns [] old new = new ≡ old
 TakesTurns (now ∷ moments) old new =
     (mid : Turns) × (result : Result (Unit {0}) LoopFault) × TakesTurn now old result mid × TakesTurns moments mid new
-
--- no count is at the greatest u64
-pub record AreBelowGreatest (counts : Counts) : Type 0 where
-  pub lost : counts.lost < 2 ^ 64 - 1
-  pub closed : counts.closed < 2 ^ 64 - 1
-  pub faults : counts.wire.faults < 2 ^ 64 - 1
-  pub ends : counts.wire.ends < 2 ^ 64 - 1
-
--- what a loop lost beyond its start is no more than what faults, ends and closes rose together
-abbrev pub LosesNoMore : Counts → Counts → Type 0
-LosesNoMore old new =
-    AreBelowGreatest new
-    → new.lost + (old.wire.faults + old.wire.ends + old.closed) ≤ old.lost + (new.wire.faults + new.wire.ends + new.closed)

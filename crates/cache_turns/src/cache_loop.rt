@@ -4,26 +4,22 @@ ghost use Rattle.rtr_cache.specs.CacheState.{OthersStay, client_at, tells_client
 ghost use Rattle.rtr_cache.specs.ClientHistory.{CameUp, Loaded, Makes};
 ghost use Rattle.rtr_cache.specs.declared.refusal.CacheRefusal.{CacheRefusal};
 ghost use Rattle.cache_turns.specs.Holding.{held, holding_of};
-ghost use Rattle.cache_turns.specs.TurnOctets.{turn_octets};
-ghost use Rattle.cache_turns.specs.Turns.{Admits, GoesDown, IsTold, LinksStay, OtherLinksStay, TakesTurn, TellsCache, Visits, VisitsAll, closing_it, counts_of_wire, idle, link_at, link_left, losing, parting_for, settled};
-ghost use Rattle.cache_turns.specs.Wires.{closing};
-ghost use Rattle.cache_turns.specs.declared.wire.Parting.TheVariants.{NoMemory};
+ghost use Rattle.cache_turns.specs.Turns.{Admits, GoesDown, IsTold, LinksStay, OtherLinksStay, TakesTurn, TellsCache, Visits, VisitsAll, idle, link_at, link_left, parting_for, settled};
+ghost use Rattle.wires.specs.Counts.{closing_it, counts_of_wire, losing};
+ghost use Rattle.wires.specs.TurnOctets.{turn_octets};
+ghost use Rattle.wires.specs.Wires.{closing};
+ghost use Rattle.wires.specs.declared.wire.Parting.TheVariants.{NoMemory};
 
-use crate::fault::LoopFault;
 use crate::holding::{Holding, holding_of};
 use crate::link::{Link, Visit};
-use crate::outgoing::Outgoing;
 use crate::patience::Patience;
-use crate::wire::{Accepted, Parting, Wire};
 use net_prefix::Vrp;
 use rtr_cache::{Cache, CacheEvent, CacheRefusal, CacheReport};
 use std::alloc::{AllocError, Allocator, Global};
 use std::collections::BTreeSet;
 use std::marker::Model;
 use std::time::Duration;
-
-/// The most octets that a turn reads of a connection, and the most that wait to be written to it.
-pub const TURN_OCTETS: usize = 4_096;
+use wires::{Accepted, LoopFault, Outgoing, Parting, TURN_OCTETS, Wire};
 
 /// A cache and the connections of its clients.
 #[derive(Drop)]
@@ -216,7 +212,7 @@ impl<W: Wire + Drop, A: Allocator + Clone> CacheLoop<W, A> {
         tell_gone(&mut self.cache, client as u64);
     }
 
-    #[tactic(auto, unfolding(crate::specs::TurnOctets::turn_octets))]
+    #[tactic(auto, unfolding(wires::specs::TurnOctets::turn_octets))]
     fn visit_all(&mut self, now: u64)
         ensures { VisitsAll now self.old self.new }
     {

@@ -4,12 +4,13 @@ ghost use Rattle.rtr_cache.specs.CacheState.{CacheState, empty_cache};
 ghost use Rattle.rtr_cache.specs.declared.other_session.OtherSession.{OtherSession};
 ghost use Rattle.rtr_codec.specs.declared.intervals.Intervals.{Intervals};
 ghost use Rattle.rtr_cache.specs.ClientHistory.{IsRun, Turn};
-ghost use Rattle.cache_turns.specs.Turns.{LosesNoMore, TakesTurn, TakesTurns, Turns, idle, link_at};
+ghost use Rattle.cache_turns.specs.Turns.{TakesTurn, TakesTurns, Turns, idle, link_at};
 ghost use Rattle.cache_turns.specs.Carrying.{CarriesWhole};
 ghost use Rattle.cache_turns.specs.Serving.{Connection};
-ghost use Rattle.cache_turns.specs.Wires.{nothing_told};
-ghost use Rattle.cache_turns.specs.declared.fault.LoopFault.{LoopFault};
 ghost use Rattle.cache_turns.specs.declared.patience.Patience.{Patience};
+ghost use Rattle.wires.specs.Counts.{LosesNoMore};
+ghost use Rattle.wires.specs.Wires.{nothing_told};
+ghost use Rattle.wires.specs.declared.fault.LoopFault.{LoopFault};
 
 /// A turn loses no more clients than the wire told faults and ends of input and the loop closed connections of clients
 /// that the cache had closed, while no count is at the greatest u64.
@@ -31,5 +32,5 @@ pub fn turns_publish_nothing()
 /// connection has heard just what its socket gave, and what its socket took and what waits for it is just what the
 /// cache handed out for it, which with what is queued are whole PDUs, each response of one published version.
 pub fn connections_carry_whole_versions()
-    ensures { (session : ℕ) (intervals : Intervals) (other_session : OtherSession) (before : List Turn) (patience : Patience) (cache : CacheState) (moments : List ℕ) (new : Turns) (key : ℕ) (link : Connection) → IsRun (empty_cache session intervals other_session) before cache → TakesTurns moments (idle patience cache nothing_told) new → new.counts.wire.arrivals < 2 ^ 64 - 1 → link_at new key ≡ Some link → CarriesWhole (empty_cache session intervals other_session) new key link }
+    ensures { (session : ℕ) (intervals : Intervals) (other_session : OtherSession) (before : List Turn) (patience : Patience) (cache : CacheState) (moments : List ℕ) (new : Turns) (key : ℕ) (link : Connection) → IsRun (empty_cache session intervals other_session) before cache → TakesTurns moments (idle patience cache nothing_told) new → new.counts.wire.sockets < 2 ^ 64 - 1 → link_at new key ≡ Some link → CarriesWhole (empty_cache session intervals other_session) new key link }
 {}

@@ -1,21 +1,20 @@
 //! One client's connection.
-ghost use Rattle.std.specs.Prelude.{◌≡◌, ◌≢◌, [], IsSome, Result, length};
-ghost use Rattle.rtr_cache.specs.CacheState.{OthersStay, client_at, transport_of};
+ghost use Rattle.std.specs.Prelude.{◌≡◌, ◌≤◌, IsSome, Result, length, take};
+ghost use Rattle.rtr_cache.specs.CacheState.{OthersStay, client_at};
 ghost use Rattle.rtr_cache.specs.ClientHistory.{Heard, Makes};
 ghost use Rattle.rtr_cache.specs.declared.event.CacheReport.{CacheReport};
 ghost use Rattle.rtr_cache.specs.declared.refusal.CacheRefusal.{CacheRefusal};
 ghost use Rattle.cache_turns.specs.Patience.{arriving_at};
-ghost use Rattle.cache_turns.specs.Serving.{Answers, Attends, Reads, Stands, Writes, heard_by, is_over, judged};
-ghost use Rattle.cache_turns.specs.TurnOctets.{turn_octets};
-ghost use Rattle.cache_turns.specs.Wires.{closing};
+ghost use Rattle.cache_turns.specs.Serving.{Answers, Attends, HandsOut, Reads, Stands, Takes, Writes, heard_by, is_over, judged};
+ghost use Rattle.wires.specs.TurnOctets.{turn_octets};
+ghost use Rattle.wires.specs.Wires.{closing};
 
-use crate::outgoing::Outgoing;
 use crate::patience::{Moments, Patience};
-use crate::wire::{Parting, Received, Sent, Wire};
 use net_prefix::Transport;
 use rtr_cache::{Cache, CacheEvent};
 use std::alloc::{Allocator, Global};
 use std::marker::Model;
+use wires::{Outgoing, Parting, Received, Sent, Wire};
 
 /// What a visit to a connection found.
 #[derive(Clone, Copy, Debug, PartialEq, Eq)]
@@ -115,7 +114,7 @@ impl<W: Wire, A: Allocator + Clone> Link<W, A> {
         ensures there { IsSome (client_at cache.old client) → IsSome (client_at cache.new client) }
     {
         match self.receive(client, now, wire, cache, buf) {
-            Received::Octets(_) | Received::Nothing => self.answer(client, wire, cache),
+            Received::Octets(_) | Received::Nothing => self.answer(client, wire, cache, buf),
             Received::End => Visit::Ended,
             Received::Fault => Visit::Faulty,
         }
@@ -153,13 +152,14 @@ impl<W: Wire, A: Allocator + Clone> Link<W, A> {
     }
 
     // Takes what is to be written, where all that was taken is written, and writes it.
-    fn answer(&mut self, client: u64, wire: &mut W, cache: &mut Cache<A>) -> Visit
+    fn answer(&mut self, client: u64, wire: &mut W, cache: &mut Cache<A>, buf: &mut [u8]) -> Visit
+        requires { length buf.old ≡ turn_octets }
         ensures answers { Answers client self.old (record { wire = W.state wire.old; cache = cache.old }) result self.new.waiting (record { wire = W.state wire.new; cache = cache.new }) }
         ensures same { self.new ≡ record self.old { waiting = self.new.waiting } }
         ensures others { OthersStay cache.old client cache.new }
         ensures there { IsSome (client_at cache.old client) → IsSome (client_at cache.new client) }
     {
-        self.outgoing.refill(cache, client);
+        refill(&mut self.outgoing, cache, client, buf);
         if self.outgoing.is_empty() {
             return match cache.transport(client) {
                 Transport::Closing => Visit::Closed,
@@ -192,4 +192,36 @@ fn hear<A: Allocator + Clone>(cache: &mut Cache<A>, client: u64, octets: &[u8])
     ensures there { IsSome (client_at cache.old client) → IsSome (client_at cache.new client) }
 {
     let _report = cache.step(CacheEvent::<Global>::Bytes(client, octets));
+}
+
+// Takes what the cache has queued for the client, as much as fits, where nothing waits.
+fn refill<A: Allocator + Clone>(
+    outgoing: &mut Outgoing<A>,
+    cache: &mut Cache<A>,
+    client: u64,
+    buf: &mut [u8],
+)
+    requires { length buf.old ≡ turn_octets }
+    ensures takes { Takes client outgoing.old cache.old outgoing.new cache.new }
+    ensures others { OthersStay cache.old client cache.new }
+    ensures there { IsSome (client_at cache.old client) → IsSome (client_at cache.new client) }
+{
+    if outgoing.is_empty() {
+        let count = take_into(cache, client, buf);
+        outgoing.hold(&buf[..count]);
+    }
+}
+
+// Takes what the cache has queued for the client, as much as the buffer holds.
+fn take_into<A: Allocator + Clone>(cache: &mut Cache<A>, client: u64, buf: &mut [u8]) -> usize
+    requires { length buf.old ≡ turn_octets }
+    ensures bound { result ≤ length buf.new }
+    ensures hands_out { HandsOut client cache.old (take result buf.new) cache.new }
+    ensures others { OthersStay cache.old client cache.new }
+    ensures there { IsSome (client_at cache.old client) → IsSome (client_at cache.new client) }
+{
+    match cache.take(client, buf) {
+        Ok(count) => count,
+        Err(_) => 0,
+    }
 }

@@ -1,5 +1,5 @@
 -- How many payloads the newest version has, behind a set that was handed in.
-use Rattle.std.proofs.Common.{◌≡◌, ℕ, Bool, true, false, if◌then◌else◌, List, [], ◌∷◌, refl, ap, take, length}
+use Rattle.std.proofs.Common.{◌≡◌, Bool, true, false, if◌then◌else◌, List, [], ◌∷◌, refl, ap, take, length}
 use Rattle.vrp_delta.proofs.Published.{same_set-Decides}
 use Rattle.vrp_delta.specs.Versions.{Version, is_newest_set, kept_after, kept_versions, next_version}
 use Rattle.net_prefix.specs.declared.payload.Vrp.{Vrp}

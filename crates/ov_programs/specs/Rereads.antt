@@ -10,7 +10,7 @@ use Rattle.vrp_csv.specs.declared.fault.CsvFault.{CsvFault}
 use Rattle.vrp_csv.specs.declared.list.Loaded.{Loaded}
 use Rattle.vrp_delta.specs.Versions.{Version, is_newest_set, newest_serial, serial_after}
 use Rattle.cache_turns.specs.Turns.{TakesTurn, Turns}
-use Rattle.cache_turns.specs.declared.fault.LoopFault.{LoopFault}
+use Rattle.wires.specs.declared.fault.LoopFault.{LoopFault}
 use Rattle.ov_programs.specs.declared.reread.ListFault.{ListFault}
 use Rattle.ov_programs.specs.declared.reread.ListFault.TheVariants.{NoFile, Row, NoMemory}
 use Rattle.ov_programs.specs.declared.reread.Reread.{Reread}

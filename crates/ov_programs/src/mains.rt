@@ -1,8 +1,9 @@
-//! What the programs' mains do.
+//! What the main of `ovcache` does.
 ghost use Rattle.std.specs.Prelude.{◌≡◌, ◌≢◌, ◌≤◌, ℕ, List, Err, IfErr, IfOk, false};
 ghost use Rattle.ov_programs.specs.Rereads.{IsNewest};
 ghost use Rattle.ov_programs.specs.Words.{IsCall};
 
+use crate::ending::end;
 use crate::every::Every;
 use crate::fault::ExitFault;
 use crate::journal::{LogLine, log};
@@ -11,7 +12,7 @@ use crate::reread::{ListFault, Reread};
 use crate::served_list::ServedList;
 use crate::settings::{CacheSettings, SessionSource};
 use crate::words::read_words;
-use cache_turns::{CacheLoop, Wire};
+use cache_turns::CacheLoop;
 use rtr_cache::{Cache, CacheEvent};
 use std::alloc::AllocGlobal;
 use std::fs;
@@ -20,9 +21,10 @@ use std::net::{Net, TcpListener, TcpStream};
 use std::rt::{Clock, Files};
 use std::time::{Duration, Instant, SystemTime};
 use vrp_csv::read_list;
+use wires::Wire;
 
 /// How long a program rests at most between two turns (own choice).
-const REST_MILLISECONDS: u64 = 50;
+pub(crate) const REST_MILLISECONDS: u64 = 50;
 
 /// `ovcache SETTINGS TURNS`: a cache that serves the list of its settings for so many turns. Its output is the log, and
 /// stays as it is where the settings ask for none; a fault has its line on `errors`. The answer is the exit status.
@@ -39,14 +41,7 @@ where
     ensures output { ((path : List ℕ) (turns : ℕ) → ¬ (IsCall words.now path turns)) → output.new ≡ output.old }
     ensures silent { result ≡ 0 → errors.new ≡ errors.old }
 {
-    match run_cache(rt, words, output) {
-        Ok(()) => 0,
-        Err(fault) => {
-            // Where errors can't be written, the status is all that tells.
-            let _told = writeln!(errors, "ovcache: {fault}");
-            fault.status()
-        }
-    }
+    end("ovcache", run_cache(rt, words, output), errors)
 }
 
 fn run_cache<R, O: Write>(rt: &R, words: &[String], output: &mut O) -> Result<(), ExitFault>

@@ -1,7 +1,7 @@
 //! What a wire sees of routers.
-use cache_turns::Parting;
 use std::net::SocketAddr;
 use thiserror::Error;
+use wires::Parting;
 
 /// What a wire sees of routers.
 #[derive(Clone, Copy, Debug, PartialEq, Eq, Error)]

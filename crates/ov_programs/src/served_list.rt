@@ -6,7 +6,7 @@ ghost use Rattle.ov_programs.specs.Rereads.{IsNewest, Publishes, Rereads, Reread
 
 use crate::every::Every;
 use crate::reread::{ListFault, Reread};
-use cache_turns::{CacheLoop, LoopFault, Wire};
+use cache_turns::CacheLoop;
 use net_prefix::Vrp;
 use std::alloc::Global;
 use std::collections::BTreeSet;
@@ -14,6 +14,7 @@ use std::io::{self, Read};
 use std::marker::Model;
 use std::time::Duration;
 use vrp_csv::read_list;
+use wires::{LoopFault, Wire};
 
 /// The turns of a cache, and what it serves.
 #[derive(Drop)]

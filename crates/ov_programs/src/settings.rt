@@ -1,32 +1,14 @@
-//! The settings of the programs, in TOML.
+//! The settings of a cache.
 ghost use Rattle.std.specs.Prelude.{◌≡◌, ◌≤◌, ◌<◌, IfOk, IfSome, true};
 ghost use Rattle.rtr_codec.specs.Intervals.{are_lawful};
 
+use crate::keys::{SettingsFault, address_of, number_of, read_table, text_of};
 use cache_turns::Patience;
 use rtr_cache::OtherSession;
 use rtr_codec::Intervals;
-use std::alloc::{AllocError, AllocFailed, Global};
+use std::alloc::Global;
 use std::net::SocketAddr;
-use std::str;
-use thiserror::Error;
 use toml::Table;
-
-/// Why settings can't be had of a text.
-#[derive(Clone, Copy, Debug, PartialEq, Eq, Error)]
-pub enum SettingsFault {
-    /// The text isn't TOML, lacks a key, or a key has a value that it can't have.
-    #[error("the settings are no settings")]
-    Settings,
-    /// There is no memory to read them.
-    #[error("there is no memory for the settings")]
-    NoMemory,
-}
-
-impl From<AllocError> for SettingsFault {
-    fn from(_error: AllocError) -> SettingsFault {
-        SettingsFault::NoMemory
-    }
-}
 
 /// Where a cache's session id comes from.
 #[derive(Clone, Copy, Debug, PartialEq, Eq)]
@@ -70,13 +52,8 @@ impl CacheSettings {
         ensures reread { IfOk result (λ settings. IfSome settings.reread (λ seconds. 1 ≤ seconds)) }
         ensures status { IfOk result (λ settings. IfSome settings.status (λ seconds. 1 ≤ seconds)) }
     {
-        let Ok(text) = str::from_utf8(octets) else {
-            return Err(SettingsFault::Settings);
-        };
-        let table = read_table(alloc, text)?;
-        let Ok(listen) = text_of(&table, "listen")?.parse::<SocketAddr>() else {
-            return Err(SettingsFault::Settings);
-        };
+        let table = read_table(alloc, octets)?;
+        let listen = address_of(&table, "listen")?;
         let csv = String::from_str(alloc, text_of(&table, "csv")?)?;
         let session = session_of(&table)?;
         let other_session = other_session_of(&table)?;
@@ -96,26 +73,6 @@ impl CacheSettings {
             log,
             status,
         })
-    }
-}
-
-// The table that a text spells.
-fn read_table(alloc: Global, text: &str) -> Result<Table, SettingsFault> {
-    match toml::table_from_str(alloc, text) {
-        Ok(table) => Ok(table),
-        Err(error) if error.is_memory() => Err(SettingsFault::NoMemory),
-        Err(_) => Err(SettingsFault::Settings),
-    }
-}
-
-// The text at a key that has to be there.
-fn text_of<'a>(table: &'a Table, key: &str) -> Result<&'a str, SettingsFault> {
-    let Some(value) = table.get(key) else {
-        return Err(SettingsFault::Settings);
-    };
-    match value.as_str() {
-        Some(text) => Ok(text),
-        None => Err(SettingsFault::Settings),
     }
 }
 
@@ -177,20 +134,6 @@ fn patience_of(table: &Table, intervals: Intervals) -> Result<Patience, Settings
         return Err(SettingsFault::Settings);
     }
     Ok(patience)
-}
-
-// The number at a key, if the key is there.
-fn number_of(table: &Table, key: &str) -> Result<Option<u32>, SettingsFault> {
-    let Some(value) = table.get(key) else {
-        return Ok(None);
-    };
-    let Some(number) = value.as_integer() else {
-        return Err(SettingsFault::Settings);
-    };
-    match u32::try_from(number) {
-        Ok(number) => Ok(Some(number)),
-        Err(_) => Err(SettingsFault::Settings),
-    }
 }
 
 // The seconds at a key, if the key is there: one at least.

@@ -1,29 +1,32 @@
 //! Plays a script of scenario lines from standard input, and answers on standard output.
 //!
-//! Exit status 0 at the end of the script; 1 at a bad line, with its number on standard error; 2 where input or
-//! output fails, or where memory is wanting outside the speaker.
+//! Exit status 0 at the end of the script; 1 where there are words behind the program's name, or at a bad line, with its
+//! number on standard error; 2 where input or output fails, or where memory is wanting outside the speaker.
 #![tactic(auto)]
 
-use scenario::{PlayFault, play};
-use std::io::{self, BufReader, LineWriter};
+use ov_programs::main_play;
+use std::io::{BufReader, LineWriter};
 use std::process::ExitCode;
+use std::{env, io};
 
-fn run(rt: &HostRuntime) -> Result<(), PlayFault> {
-    let reader = BufReader::new(rt.alloc(), rt.reader())?;
-    let mut writer = LineWriter::new(rt.alloc(), io::writer(rt))?;
-    play(rt.alloc(), reader, &mut writer)
+// The words behind the program's name.
+fn words(rt: &HostRuntime) -> io::Result<Vec<String>> {
+    Ok(env::args(rt)?.skip(1).collect(rt.alloc())?)
+}
+
+fn run(rt: &HostRuntime) -> io::Result<u8> {
+    let words = words(rt)?;
+    let input = BufReader::new(rt.alloc(), rt.reader())?;
+    let mut output = LineWriter::new(rt.alloc(), io::writer(rt))?;
+    let mut errors = rt.stderr();
+    let status = main_play(rt, words.as_slice(), input, &mut output, &mut errors);
+    Ok(status)
 }
 
 fn main(rt: HostRuntime) -> io::Result<ExitCode> {
-    match run(&rt) {
-        Ok(()) => Ok(ExitCode::SUCCESS),
-        Err(PlayFault::BadLine(number)) => {
-            eprintln!(rt; "ovplay: line {number}: bad line")?;
-            Ok(ExitCode::from(1))
-        }
-        Err(PlayFault::Device | PlayFault::NoMemory) => {
-            eprintln!(rt; "ovplay: device")?;
-            Ok(ExitCode::from(2))
-        }
-    }
+    let Ok(status) = run(&rt) else {
+        eprintln!(rt; "ovplay: device")?;
+        return Ok(ExitCode::from(2));
+    };
+    Ok(ExitCode::from(status))
 }

@@ -1,11 +1,13 @@
 //! Each call of a wire fails once: its client is gone, and all others go on.
 ghost use Rattle.std.specs.Prelude.{◌≡◌, ◌≤◌, if◌then◌else◌, length};
-ghost use Rattle.cache_turns.specs.Calls.{call_of};
-ghost use Rattle.cache_turns.specs.Wires.{FitsIn, FitsInSent, calling, failing, told_by_read, told_by_write};
+ghost use Rattle.wires.specs.Calls.{call_of};
+ghost use Rattle.wires.specs.Wires.{FitsIn, FitsInSent, calling, failing, told_by_read, told_by_write};
 
 use cache_turns::Holding;
 use net_prefix::{Asn, Prefix, Vrp};
-use ov_programs::{Accepted, CacheLoop, Log, LoopFault, Note, Parting, Received, Sent, Wire};
+use ov_programs::{
+    Accepted, Attempt, CacheLoop, Log, LoopFault, Note, Parting, Received, Sent, Wire,
+};
 use refusing::Refusing;
 use rtr_cache::{Cache, CacheEvent, CacheRefusal};
 use rtr_codec::Intervals;
@@ -144,7 +146,7 @@ struct MemoryWire {
     faults: u64,
     accept_faults: u64,
     ends: u64,
-    arrivals: u64,
+    sockets: u64,
     octets_in: u64,
     octets_out: u64,
     log: Log,
@@ -155,14 +157,15 @@ struct MemoryWire {
 struct Plug {
     router: usize,
     number: u64,
+    address: SocketAddr,
 }
 
 impl Model for MemoryWire {
-    ghost use Rattle.cache_turns.specs.Wires.{WireState};
+    ghost use Rattle.wires.specs.Wires.{WireState};
 
     ghost Value = { WireState };
 
-    ghost view = { λ wire. record { faults = wire.faults; accept_faults = wire.accept_faults; ends = wire.ends; arrivals = wire.arrivals; octets_in = wire.octets_in; octets_out = wire.octets_out; calls = wire.log.calls } };
+    ghost view = { λ wire. record { faults = wire.faults; accept_faults = wire.accept_faults; ends = wire.ends; sockets = wire.sockets; octets_in = wire.octets_in; octets_out = wire.octets_out; calls = wire.log.calls } };
 }
 
 impl MemoryWire {
@@ -180,7 +183,7 @@ impl MemoryWire {
             faults: 0,
             accept_faults: 0,
             ends: 0,
-            arrivals: 0,
+            sockets: 0,
             octets_in: 0,
             octets_out: 0,
             log: Log::new(),
@@ -254,23 +257,40 @@ impl Wire for MemoryWire {
 
     ghost number = { λ plug. plug.number };
 
+    ghost address = { λ plug. plug.address };
+
+    fn connect(&mut self, to: SocketAddr) -> Option<Plug> {
+        self.faults = self.faults.saturating_add(1);
+        self.note(&Note::Connect(to));
+        None
+    }
+
+    fn attempt(&mut self, socket: &mut Plug) -> Attempt {
+        self.faults = self.faults.saturating_add(1);
+        self.note(&Note::Try(socket.number, Attempt::Fault));
+        Attempt::Fault
+    }
+
     fn accept(&mut self) -> Accepted<Plug> {
-        self.note(&Note::Accept);
         if self.fails(Call::Accept) {
+            self.note(&Note::Accept(None));
             self.accept_faults = self.accept_faults.saturating_add(1);
             return Accepted::Fault;
         }
         if self.accepted >= self.routers.len() {
+            self.note(&Note::Accept(None));
             return Accepted::Nothing;
         }
+        let address = SocketAddr::V4(SocketAddrV4::new(Ipv4Addr::LOCALHOST, 0));
         let plug = Plug {
             router: self.accepted,
-            number: self.arrivals,
+            number: self.sockets,
+            address,
         };
         self.accepted += 1;
-        self.arrivals = self.arrivals.saturating_add(1);
-        let address = SocketAddrV4::new(Ipv4Addr::LOCALHOST, 0);
-        Accepted::Connection(plug, SocketAddr::V4(address))
+        self.sockets = self.sockets.saturating_add(1);
+        self.note(&Note::Accept(Some(address)));
+        Accepted::Connection(plug, address)
     }
 
     fn read(&mut self, socket: &mut Plug, buf: &mut [u8]) -> Received {

@@ -1,12 +1,10 @@
 //! Each text of `ovcache` with its exit status.
 
+use crate::ended::{Program, run, run_with};
 use crate::stage::{Stage, path_of};
-use ov_programs::main_cache;
-use std::alloc::AllocGlobal;
 use std::fs;
-use std::net::{Net, TcpListener, TcpStream};
+use std::net::{TcpListener, TcpStream};
 use std::os::fd::OwnedFd;
-use std::rt::{Clock, Files};
 use std::test::Fail;
 
 const LIST: &str = "ASN,IP Prefix,Max Length,Trust Anchor\nAS65002,10.0.0.0/16,24,ta\n";
@@ -14,67 +12,17 @@ const LIST: &str = "ASN,IP Prefix,Max Length,Trust Anchor\nAS65002,10.0.0.0/16,2
 // All but the list's path.
 const SETTINGS: &str = "listen = \"127.0.0.1:0\"\nsession = 7\n";
 
-// What the program printed, and its exit status.
-#[derive(Drop)]
-struct Ended {
-    output: Vec<u8>,
-    errors: Vec<u8>,
-    status: u8,
-}
-
-impl Ended {
-    fn is(&self, status: u8, errors: &str) -> bool {
-        self.status == status
-            && self.output.is_empty()
-            && self.errors.as_slice() == errors.as_bytes()
-    }
-}
-
-fn run<R>(rt: &R, words: &[&str]) -> Result<Ended, Fail>
-where
-    R: Net<Listener = TcpListener, Stream = TcpStream> + Files + Clock + AllocGlobal,
-{
-    let mut strings = Vec::new(rt.alloc());
-    for word in words {
-        strings.push(String::from_str(rt.alloc(), word)?)?;
-    }
-    let mut output = Vec::new(rt.alloc());
-    let mut errors = Vec::new(rt.alloc());
-    let status = main_cache(rt, strings.as_slice(), &mut output, &mut errors);
-    Ok(Ended {
-        output,
-        errors,
-        status,
-    })
-}
-
-// Runs on settings with the path of this list.
-fn run_with(
-    rt: &HostRuntime,
-    name: &str,
-    settings: &str,
-    list: &str,
-    turns: &str,
-) -> Result<Ended, Fail> {
-    let list_path = path_of(rt, format!(in rt.alloc(); "{name}.csv")?.as_str())?;
-    let settings_path = path_of(rt, format!(in rt.alloc(); "{name}.toml")?.as_str())?;
-    fs::write(rt, list_path.as_str(), list)?;
-    let text = format!(in rt.alloc(); "csv = \"{list_path}\"\n{settings}")?;
-    fs::write(rt, settings_path.as_str(), text.as_str())?;
-    let ended = run(rt, &[settings_path.as_str(), turns])?;
-    fs::remove_file(rt, list_path.as_str())?;
-    fs::remove_file(rt, settings_path.as_str())?;
-    Ok(ended)
-}
-
 #[test]
 fn wrong_words_are_arguments(rt: HostRuntime) -> Result<(), Fail> {
     let wrong = "ovcache: arguments\n";
-    assert!(rt; run(&rt, &[])?.is(1, wrong));
-    assert!(rt; run(&rt, &["no_such_file"])?.is(1, wrong));
-    assert!(rt; run(&rt, &["no_such_file", "1", "2"])?.is(1, wrong));
+    assert!(rt; run(&rt, Program::Cache, &[])?.is(1, wrong));
+    assert!(rt; run(&rt, Program::Cache, &["no_such_file"])?.is(1, wrong));
+    assert!(rt; run(&rt, Program::Cache, &["no_such_file", "1", "2"])?.is(1, wrong));
     for turns in ["", "+1", "-1", " 1", "1a", "0x1", "18446744073709551616"] {
-        assert!(rt; run(&rt, &["no_such_file", turns])?.is(1, wrong), "{turns}");
+        assert!(rt;
+            run(&rt, Program::Cache, &["no_such_file", turns])?.is(1, wrong),
+            "{turns}"
+        );
     }
     Ok(())
 }
@@ -123,11 +71,11 @@ const BAD_SETTINGS: [&str; 27] = [
 #[test]
 fn settings_are_told(rt: HostRuntime) -> Result<(), Fail> {
     for settings in GOOD_SETTINGS {
-        let ended = run_with(&rt, "good", settings, LIST, "2")?;
+        let ended = run_with(&rt, Program::Cache, "good", settings, LIST, "2")?;
         assert!(rt; ended.is(0, ""), "{settings}");
     }
     for settings in BAD_SETTINGS {
-        let ended = run_with(&rt, "bad", settings, "no list", "2")?;
+        let ended = run_with(&rt, Program::Cache, "bad", settings, "no list", "2")?;
         assert!(rt; ended.is(1, "ovcache: settings\n"), "{settings}");
     }
     Ok(())
@@ -138,9 +86,16 @@ fn a_refused_list_is_told_before_the_port_is_taken(rt: HostRuntime) -> Result<()
     let holder = TcpListener::bind(&rt, "127.0.0.1:0")?;
     let address = holder.local_addr()?;
     let taken = format!(in rt.alloc(); "listen = \"{address}\"\nsession = 7\n")?;
-    let ended = run_with(&rt, "refused", taken.as_str(), "no list", "2")?;
+    let ended = run_with(
+        &rt,
+        Program::Cache,
+        "refused",
+        taken.as_str(),
+        "no list",
+        "2",
+    )?;
     assert!(rt; ended.is(1, "ovcache: settings\n"));
-    let ended = run_with(&rt, "taken", taken.as_str(), LIST, "2")?;
+    let ended = run_with(&rt, Program::Cache, "taken", taken.as_str(), LIST, "2")?;
     assert!(rt; ended.is(2, "ovcache: device\n"));
     Ok(())
 }
@@ -148,12 +103,14 @@ fn a_refused_list_is_told_before_the_port_is_taken(rt: HostRuntime) -> Result<()
 #[test]
 fn a_file_that_cant_be_read_is_a_device(rt: HostRuntime) -> Result<(), Fail> {
     let settings_path = path_of(&rt, "missing.toml")?;
-    assert!(rt; run(&rt, &[settings_path.as_str(), "2"])?.is(2, "ovcache: device\n"));
+    assert!(rt;
+        run(&rt, Program::Cache, &[settings_path.as_str(), "2"])?.is(2, "ovcache: device\n")
+    );
     let text = format!(in rt.alloc(); "csv = \"no_such_list\"\n{SETTINGS}")?;
     fs::write(&rt, settings_path.as_str(), text.as_str())?;
-    let ended = run(&rt, &[settings_path.as_str(), "2"])?;
+    let ended = run(&rt, Program::Cache, &[settings_path.as_str(), "2"])?;
     fs::write(&rt, settings_path.as_str(), SETTINGS)?;
-    let lacking = run(&rt, &[settings_path.as_str(), "2"])?;
+    let lacking = run(&rt, Program::Cache, &[settings_path.as_str(), "2"])?;
     fs::remove_file(&rt, settings_path.as_str())?;
     assert!(rt; ended.is(2, "ovcache: device\n"));
     assert!(rt; lacking.is(1, "ovcache: settings\n"));
@@ -172,8 +129,8 @@ fn a_turn_that_cant_accept_is_a_device(rt: HostRuntime) -> Result<(), Fail> {
     // What listens is a socket of a connection.
     let deaf = TcpListener::from(OwnedFd::from(connected));
     let stage = Stage::new(&rt, &deaf, &[]);
-    let without = run(&stage, &[settings_path.as_str(), "0"])?;
-    let with = run(&stage, &[settings_path.as_str(), "1"])?;
+    let without = run(&stage, Program::Cache, &[settings_path.as_str(), "0"])?;
+    let with = run(&stage, Program::Cache, &[settings_path.as_str(), "1"])?;
     fs::remove_file(&rt, list_path.as_str())?;
     fs::remove_file(&rt, settings_path.as_str())?;
     assert!(rt; without.is(0, ""));

@@ -1,1 +1,4 @@
+pub mod CommandFaults
+pub mod FileLines
+pub mod ObeyedCommands
 pub mod OutsideFaults

@@ -1,1 +1,4 @@
+pub mod CommandFaults
+pub mod FileLines
 pub mod LineNumbers
+pub mod ObeyedCommands

@@ -5,6 +5,7 @@ use bgp_fsm::State;
 use net_prefix::{Prefix, Vrp};
 use speaker::{BestRoute, ClientState, LOCAL_SLOT, Report};
 use std::fmt;
+use std::io::{self, Write};
 
 /// What was closed for want of memory: the slots, a bit each, and the cache session.
 #[derive(Clone, Copy)]
@@ -61,6 +62,11 @@ pub enum Answer<'a> {
     Waiting(Prefix),
     /// `end` of a table.
     End,
+}
+
+/// Writes one line of answer.
+pub(crate) fn write_answer<W: Write>(writer: &mut W, answer: Answer<'_>) -> io::Result<()> {
+    writeln!(writer, "{answer}")
 }
 
 impl fmt::Display for Answer<'_> {

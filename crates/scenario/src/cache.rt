@@ -1,9 +1,8 @@
 //! The cache of a script, and the list that is being handed in.
 ghost use Rattle.std.specs.Prelude.{◌≤◌, IfSome};
 
-use crate::answer::{Answer, Starved};
+use crate::answer::{Answer, Starved, write_answer};
 use crate::line::CacheLine;
-use crate::script::write_answer;
 use rtr_cache::{Cache, CacheEvent, CacheRefusal, CacheReport};
 use rtr_codec::Intervals;
 use std::alloc::{AllocError, Global};

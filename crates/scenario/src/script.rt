@@ -2,23 +2,20 @@
 ghost use Rattle.std.specs.Prelude.{◌≤◌, IfErr};
 ghost use Rattle.scenario.specs.LineNumbers.{IsOutside, NamesLine, CountsFromOne};
 
-use crate::answer::{Answer, Starved};
+use crate::answer::{Answer, Starved, write_answer};
 use crate::cache::ScriptCache;
-use crate::line::{CacheLine, Line, LineFault, SpeakerLine, Table};
-use arrayvec::ArrayVec;
-use bgp_attr::write_attrs;
-use bgp_conf::{Command, PEER_SLOTS};
+use crate::line::{CacheLine, Line, LineFault, SpeakerLine};
+use crate::reading::{ascii_text, is_passed_over, is_want_of_memory, read_line, without_line_end};
+use crate::tables::show;
+use bgp_conf::Command;
 use rtr_codec::Intervals;
 use speaker::{Config, Event, Speaker};
 use std::alloc::{AllocError, Global};
-use std::io::{self, BufRead, ErrorKind, Write};
+use std::io::{self, BufRead, Write};
 use thiserror::Error;
 
 /// The most octets that one `take` or `ctake` hands out: as many as a ring holds.
 const MAX_TAKE: usize = 65_536;
-
-/// More rows than a table has, since each takes memory: a bound that the walk over a table can't reach.
-const MAX_ROWS: usize = usize::MAX;
 
 /// What ends a run before the end of its script.
 #[derive(Clone, Copy, Debug, PartialEq, Eq, Error)]
@@ -46,7 +43,7 @@ impl From<io::Error> for PlayFault {
     ghost from_gives = { λ _ fault. IsOutside fault };
 
     fn from(error: io::Error) -> PlayFault {
-        if error.kind() == ErrorKind::OutOfMemory {
+        if is_want_of_memory(&error) {
             PlayFault::NoMemory
         } else {
             PlayFault::Device
@@ -77,29 +74,12 @@ fn play_lines<R: BufRead + Drop, W: Write>(
     ensures { IfErr result CountsFromOne }
 {
     for number in 1..u64::MAX {
-        text.clear();
-        if reader.read_until(b'\n', text)? == 0 {
+        if !read_line(reader, text)? {
             return stage.end();
         }
         stage.play_line(number, text.as_slice(), writer)?;
     }
     Err(PlayFault::Device)
-}
-
-// A line without its line feed and the carriage return before that.
-fn without_line_end(text: &[u8]) -> &[u8] {
-    match text {
-        [text @ .., b'\r', b'\n'] | [text @ .., b'\n'] => text,
-        _ => text,
-    }
-}
-
-// The text of ASCII octets.
-fn ascii_text(octets: &[u8]) -> Option<&str> {
-    if !octets.is_ascii() {
-        return None;
-    }
-    std::str::from_utf8(octets).ok()
 }
 
 // What a script has made so far: its speaker and its cache, and room for what they hand out.
@@ -141,7 +121,7 @@ impl Stage {
             }
             return Ok(());
         }
-        if text.is_empty() || text.starts_with(b"#") {
+        if is_passed_over(line) {
             return Ok(());
         }
         let Some(text) = ascii_text(text) else {
@@ -276,11 +256,6 @@ impl Stage {
     }
 }
 
-/// Writes one line of answer.
-pub(crate) fn write_answer<W: Write>(writer: &mut W, answer: Answer<'_>) -> io::Result<()> {
-    writeln!(writer, "{answer}")
-}
-
 fn step<W: Write>(speaker: &mut Speaker, event: Event<'_>, writer: &mut W) -> io::Result<()> {
     match speaker.step(event) {
         Ok(report) => write_answer(writer, Answer::Done(Starved::of(&report))),
@@ -317,65 +292,4 @@ fn take_cache<W: Write>(
     let count = speaker.take_cache(&mut room[..most]);
     let octets = &room[..count.min(room.len())];
     write_answer(writer, Answer::Out(octets, Starved::NOTHING))
-}
-
-fn show<W: Write>(speaker: &Speaker, table: Table, writer: &mut W) -> io::Result<()> {
-    match table {
-        Table::Sessions => show_sessions(speaker, writer)?,
-        Table::Rib => show_rib(speaker, writer)?,
-        Table::Payloads => show_payloads(speaker, writer)?,
-        Table::In(slot) => show_in(speaker, slot, writer)?,
-        Table::Held(slot) => show_held(speaker, slot, writer)?,
-        Table::Waiting(slot) => show_waiting(speaker, slot, writer)?,
-    }
-    write_answer(writer, Answer::End)
-}
-
-fn show_sessions<W: Write>(speaker: &Speaker, writer: &mut W) -> io::Result<()> {
-    for slot in 0..PEER_SLOTS {
-        if let Some(state) = speaker.session(slot) {
-            write_answer(writer, Answer::Session(slot, state))?;
-        }
-    }
-    if let Some(state) = speaker.cache_session() {
-        write_answer(writer, Answer::CacheSession(state))?;
-    }
-    Ok(())
-}
-
-fn show_rib<W: Write>(speaker: &Speaker, writer: &mut W) -> io::Result<()> {
-    for route in speaker.loc_rib().take(MAX_ROWS) {
-        write_answer(writer, Answer::Best(route))?;
-    }
-    Ok(())
-}
-
-fn show_payloads<W: Write>(speaker: &Speaker, writer: &mut W) -> io::Result<()> {
-    for payload in speaker.payloads().take(MAX_ROWS) {
-        write_answer(writer, Answer::Payload(payload))?;
-    }
-    Ok(())
-}
-
-fn show_in<W: Write>(speaker: &Speaker, slot: u8, writer: &mut W) -> io::Result<()> {
-    let mut octets = ArrayVec::new();
-    for (prefix, attrs) in speaker.adj_in(slot).take(MAX_ROWS) {
-        write_attrs(&attrs.as_received(), &mut octets);
-        write_answer(writer, Answer::Route(prefix, octets.as_slice()))?;
-    }
-    Ok(())
-}
-
-fn show_held<W: Write>(speaker: &Speaker, slot: u8, writer: &mut W) -> io::Result<()> {
-    for (prefix, octets) in speaker.held(slot).take(MAX_ROWS) {
-        write_answer(writer, Answer::Route(prefix, octets))?;
-    }
-    Ok(())
-}
-
-fn show_waiting<W: Write>(speaker: &Speaker, slot: u8, writer: &mut W) -> io::Result<()> {
-    for prefix in speaker.waiting(slot).take(MAX_ROWS) {
-        write_answer(writer, Answer::Waiting(prefix))?;
-    }
-    Ok(())
 }

@@ -1,8 +1,8 @@
 use Rattle.scenario.proofs.OutsideFaults.{counts-named, counts-outside}
 use Rattle.scenario.proofs.script.play_lines.Goals as goal
 
-pub returns-in_err-read_until : goal.returns-in_err-read_until
-returns-in_err-read_until g c = counts-outside c.from_residual.result c.from_residual.ensures.1
+pub returns-in_err-read_line : goal.returns-in_err-read_line
+returns-in_err-read_line g c = counts-outside c.from_residual.result c.from_residual.ensures.1
 
 pub returns-in_err-play_line : goal.returns-in_err-play_line
 returns-in_err-play_line g c =

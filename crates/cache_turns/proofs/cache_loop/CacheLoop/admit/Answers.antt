@@ -1,15 +1,15 @@
 use Rattle.std.proofs.Common.{ap, subst, inl, inr}
 use Rattle.cache_turns.specs.Turns.{LacksMemory, Turns}
-use Rattle.cache_turns.specs.Wires.{WireState}
 use Rattle.cache_turns.proofs.Admitting.{lacked}
+use Rattle.wires.specs.Wires.{WireState}
 use Rattle.cache_turns.proofs.cache_loop.CacheLoop.admit.Goals as goal
 
 pub returns-in-Err-room_for : goal.returns-in-Err-room_for
 returns-in-Err-room_for g c =
     inr (inr (inl (subst (λ (t : Turns). LacksMemory t c.send_away.new.self) c.self.view_is
-    (lacked (before (g.W.Wire.state c.self.inside.wire)) (before (g.W.Wire.state c.accept.new.self)) c.new_client.new.self c.room_for.new.self c.send_away.new.self c.in-Ok.client (g.W.Wire.number c.in-Connection.socket)
+    (lacked _ (before (g.W.Wire.state c.self.inside.wire)) (before (g.W.Wire.state c.accept.new.self)) c.new_client.new.self c.room_for.new.self c.send_away.new.self c.in-Ok.client (g.W.Wire.number c.in-Connection.socket)
     (ap before c.in-Connection.ensures.tells)
-    c.in-Connection.ensures.numbered
+    c.in-Connection.ensures.socket.number_is
     c.new_client.ensures.same
     c.in-Ok.ensures.comes
     c.in-Ok.ensures.unused

@@ -1,7 +1,7 @@
 use Rattle.std.proofs.Common.{refl, sym, subst}
 use Rattle.cache_turns.specs.Serving.{GoesOn, Sides}
-use Rattle.cache_turns.specs.declared.wire.Received.{Received}
 use Rattle.cache_turns.proofs.Answering.{answered, served}
+use Rattle.wires.specs.declared.wire.Received.{Received}
 use Rattle.cache_turns.proofs.link.Link.serve.Goals as goal
 
 pub returns-in-Octets-clause-stands : goal.returns-in-Octets-clause-stands

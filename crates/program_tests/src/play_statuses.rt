@@ -1,0 +1,79 @@
+//! Each text of `ovplay` with its exit status.
+
+use ov_programs::main_play;
+use std::alloc::AllocGlobal;
+use std::io::{self, BufRead, BufReader, ErrorKind, Read};
+use std::test::Fail;
+
+// Scripts with the exit status, and with what is printed: the answers, and the errors behind them.
+#[rattlefmt::skip]
+const SCRIPTS: [(&str, u8, &str); 5] = [
+    ("", 0, ""),
+    ("# nothing\n\nspeaker 65000 192.0.2.1 nocache\nshow rib", 0, "ok\nend\n"),
+    ("speaker 65000 192.0.2.1 nocache\n\nenable 0\nno line\n", 1, "ok\nrefused 40\novplay: line 4: bad line\n"),
+    ("show rib\n", 1, "ovplay: line 1: bad line\n"),
+    ("cache 7 3600 600 7200\nload\n", 1, "ok\novplay: line 2: bad line\n"),
+];
+
+// Whether the script leads to this status, and to what is printed.
+fn ends<R: AllocGlobal, I: BufRead + Drop>(
+    rt: &R,
+    words: &[String],
+    script: I,
+    status: u8,
+    printed: &str,
+) -> Result<bool, Fail> {
+    let mut output = Vec::new(rt.alloc());
+    let mut errors = Vec::new(rt.alloc());
+    let ended = main_play(rt, words, script, &mut output, &mut errors);
+    output.extend_from_slice(errors.as_slice())?;
+    Ok(ended == status && output.as_slice() == printed.as_bytes())
+}
+
+#[test]
+fn scripts_are_told(rt: HostRuntime) -> Result<(), Fail> {
+    for (script, status, printed) in SCRIPTS {
+        let octets = script.as_bytes();
+        assert!(rt; ends(&rt, &[], octets, status, printed)?, "{script}");
+    }
+    Ok(())
+}
+
+#[test]
+fn words_are_arguments(rt: HostRuntime) -> Result<(), Fail> {
+    let words = [String::from_str(rt.alloc(), "script")?];
+    let script = "show rib\n".as_bytes();
+    assert!(rt; ends(&rt, &words, script, 1, "ovplay: arguments\n")?);
+    Ok(())
+}
+
+// A device that gives its octets, and then fails.
+#[derive(Drop)]
+struct Failing<'a> {
+    octets: &'a [u8],
+}
+
+impl Read for Failing<'_> {
+    fn read(&mut self, buf: &mut [u8]) -> io::Result<usize> {
+        if self.octets.is_empty() {
+            return Err(io::Error::from(ErrorKind::BrokenPipe));
+        }
+        self.octets.read(buf)
+    }
+}
+
+#[test]
+fn a_failing_device_is_told(rt: HostRuntime) -> Result<(), Fail> {
+    let octets = "speaker 65000 192.0.2.1 nocache\nshow r".as_bytes();
+    let input = BufReader::new(rt.alloc(), Failing { octets })?;
+    assert!(rt; ends(&rt, &[], input, 2, "ok\novplay: device\n")?);
+    let mut errors = Vec::new(rt.alloc());
+    // Three octets fit, of which the first answer takes two.
+    let mut room = [0; 3];
+    let mut output = room.as_mut_slice();
+    let script = "speaker 65000 192.0.2.1 nocache\nshow rib\n".as_bytes();
+    let status = main_play(&rt, &[], script, &mut output, &mut errors);
+    assert_eq!(rt; status, 2);
+    assert!(rt; errors.as_slice() == "ovplay: device\n".as_bytes());
+    Ok(())
+}

@@ -1,0 +1,7 @@
+mod Asking
+mod Carrying
+mod Counting
+mod Effects
+mod Exchanges
+mod Places
+mod Stepping

@@ -1,0 +1,5 @@
+pub mod Carrying
+pub mod Ends
+pub mod Serving
+pub mod Sessions
+pub mod Turns

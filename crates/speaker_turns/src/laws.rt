@@ -1,0 +1,31 @@
+//! What follows of turns.
+ghost use Rattle.std.specs.Prelude.{◌≡◌, ◌<◌, ◌-◌, ◌^◌, ◌++◌, ℕ, List, Result, Ok, Some, length, true};
+ghost use Rattle.speaker.specs.Agreement.{Agrees};
+ghost use Rattle.speaker.specs.Runs.{Run};
+ghost use Rattle.speaker.specs.declared.config.Config.{Config};
+ghost use Rattle.wires.specs.Counts.{LosesJust, LosesNoMore};
+ghost use Rattle.wires.specs.declared.fault.LoopFault.{LoopFault};
+ghost use Rattle.speaker_turns.specs.Carrying.{CarriesOwn, IsFresh};
+ghost use Rattle.speaker_turns.specs.Ends.{place_count};
+ghost use Rattle.speaker_turns.specs.Serving.{Connection};
+ghost use Rattle.speaker_turns.specs.Turns.{TakesTurn, TakesTurns, Turns, place_at};
+
+/// A turn that goes well loses just as many connections, and attempts at one, as the wire told faults and ends of input and the
+/// loop closed connections of sessions that the speaker had closed, while no count is at the greatest u64; one that can't
+/// accept loses no more.
+pub fn as_many_are_lost_as_are_counted()
+    ensures well { (now : ℕ) (old new : Turns) (done : Unit {0}) → TakesTurn now old (Ok done) new → LosesJust old.counts new.counts }
+    ensures any { (now : ℕ) (old new : Turns) (result : Result (Unit {0}) LoopFault) → TakesTurn now old result new → LosesNoMore old.counts new.counts }
+{}
+
+/// Whatever turns are taken, the speaker is as calls of it leave it: for every run that it agreed with, it agrees with that run
+/// followed by theirs.
+pub fn turns_are_calls_of_the_speaker()
+    ensures { (moments : List ℕ) (old new : Turns) → length old.places ≡ place_count → TakesTurns moments old new → (config : Config) (r : Run) → Agrees config r old.speaker → (more : Run) × Agrees config (more ++ r) new.speaker }
+{}
+
+/// Over any turns from the beginning on, while no more sockets came than a u64 counts: each session has heard just what its own
+/// socket gave, and what its socket took and what waits for it is just what the speaker handed out for it, in order.
+pub fn sessions_carry_their_own_octets()
+    ensures { (config : Config) (r : Run) (moments : List ℕ) (start new : Turns) (key : ℕ) (line : Connection) → Agrees config r start.speaker → length start.places ≡ place_count → IsFresh start → TakesTurns moments start new → new.counts.wire.sockets < 2 ^ 64 - 1 → (place_at new key).line ≡ Some line → line.is_up ≡ true → CarriesOwn config r new key line }
+{}

@@ -1,0 +1,29 @@
+//! The turns of a speaker over sockets that don't wait.
+//!
+//! `SpeakerLoop` serves the sessions of a `speaker` (RFC 4271, and RFC 8210 towards a cache) over a `Wire`, which keeps each
+//! of its calls in mind, with the answer. A turn returns whatever the wire does, and takes no memory of its own: it begins to
+//! connect where a session's attempt has begun, asks for a connection once and lets in one at most, visits each connection
+//! once, and tells the speaker the moment (`specs/Turns.antt`). A visit reads once, into a buffer of 4,096 octets, and the
+//! session hears just what its own socket gave. Then it writes once, where there is anything to write: it offers all octets
+//! that wait, or where none wait those that the speaker hands out; what doesn't go waits, and while octets wait nothing more
+//! is taken of the speaker (`specs/Serving.antt`). A connection ends where its socket has told a fault or the end of its
+//! input, or where the speaker has closed its session and all that was said is written, or wasn't for a minute; an attempt
+//! where it fails or the speaker doesn't want it any more. Each of these ends is counted as lost, but for what isn't wanted.
+#![tactic(auto)]
+
+mod end;
+mod laws;
+mod line;
+mod place;
+mod serving;
+mod sessions;
+mod speaker_loop;
+
+pub use end::End;
+pub use laws::{
+    as_many_are_lost_as_are_counted, sessions_carry_their_own_octets,
+    turns_are_calls_of_the_speaker,
+};
+pub use line::CLOSING_SECONDS;
+pub use place::Visit;
+pub use speaker_loop::SpeakerLoop;

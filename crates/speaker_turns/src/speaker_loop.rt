@@ -1,0 +1,248 @@
+//! The turns of a speaker: sessions connect, hear and are answered.
+ghost use Rattle.std.specs.Prelude.{◌≡◌, ◌<◌, ℕ, IfOk, MatchOption, OnOk, length, replicate, []};
+ghost use Rattle.wires.specs.TurnOctets.{turn_octets};
+ghost use Rattle.speaker_turns.specs.Ends.{place_count};
+ghost use Rattle.speaker_turns.specs.Serving.{Begins, Visits};
+ghost use Rattle.speaker_turns.specs.Turns.{Admits, AtAll, AtPlace, AwaitsAt, GivesWay, IsTold, TakesTurn, counted, idle, vacant, with_remote};
+
+use crate::end::{End, PLACES};
+use crate::place::{Place, Visit};
+use crate::sessions::tick;
+use speaker::{Report, Speaker};
+use std::alloc::{AllocError, Allocator, Global};
+use std::marker::Model;
+use std::net::SocketAddr;
+use std::time::Duration;
+use wires::{Accepted, LoopFault, Parting, TURN_OCTETS, Wire};
+
+/// A speaker and the connections of its sessions.
+#[derive(Drop)]
+pub struct SpeakerLoop<W: Wire, A: Allocator + Clone = Global> {
+    wire: W,
+    speaker: Speaker<A>,
+    // That of the slot s stands at s, and that of the cache behind them.
+    places: Vec<Place<W, A>, A>,
+    lost: u64,
+    closed: u64,
+}
+
+impl<W: Wire, A: Allocator + Clone> Model for SpeakerLoop<W, A> {
+    ghost use Rattle.std.specs.Prelude.{◌≡◌, length};
+    ghost use Rattle.speaker_turns.specs.Ends.{place_count};
+    ghost use Rattle.speaker_turns.specs.Turns.{Turns};
+
+    ghost Value = { Turns };
+
+    ghost view = { λ l. record { counts = record { lost = l.lost; closed = l.closed; wire = W.state l.wire }; speaker = l.speaker; places = l.places.items } };
+
+    ghost invariant = { λ l. length l.places.items ≡ place_count };
+}
+
+impl<W: Wire + Drop> SpeakerLoop<W> {
+    /// The turns of this speaker on this wire, before the first. Of no session it is known where its other side is.
+    pub fn new(alloc: Global, wire: W, speaker: Speaker) -> Result<Self, AllocError>
+        ensures { IfOk result (λ turns. turns ≡ idle speaker (W.state wire)) }
+    {
+        let mut places = Vec::new(alloc.clone()?);
+        make_places(&mut places, &alloc)?;
+        Ok(SpeakerLoop {
+            wire,
+            speaker,
+            places,
+            lost: 0,
+            closed: 0,
+        })
+    }
+}
+
+impl<W: Wire + Drop, A: Allocator + Clone> SpeakerLoop<W, A> {
+    /// The other side of the session is there: attempts go to this address, and a connection that comes from it is the session's,
+    /// whatever its port.
+    pub fn set_remote(&mut self, end: End, remote: SocketAddr)
+        ensures { self.new ≡ with_remote end remote self.old }
+    {
+        let place = end.place();
+        if place < self.places.len() {
+            self.places[place].set_remote(remote);
+        }
+    }
+
+    /// One turn: attempts begin where sessions ask for them, a connection that waits is accepted, what came on each is handed
+    /// to its session and what the speaker has queued for it goes out, and the speaker is told the moment. A moment before the
+    /// last one tells it nothing.
+    pub fn turn(&mut self, now: u64) -> Result<(), LoopFault>
+        ensures { TakesTurn now self.old result self.new }
+    {
+        self.begin_all();
+        self.admit()?;
+        self.visit_all(now);
+        self.tell(now);
+        Ok(())
+    }
+
+    /// The speaker.
+    pub fn speaker(&self) -> &Speaker<A>
+        ensures { result.now ≡ self.now.speaker }
+    {
+        &self.speaker
+    }
+
+    /// How many connections, and attempts at one, were lost: for each the speaker was told that it is gone. It stays at the
+    /// greatest u64, as the next one does.
+    pub fn lost(&self) -> u64
+        ensures { result ≡ self.now.counts.lost }
+    {
+        self.lost
+    }
+
+    /// How many connections were closed since the speaker had closed their session.
+    pub fn closed(&self) -> u64
+        ensures { result ≡ self.now.counts.closed }
+    {
+        self.closed
+    }
+
+    /// Rests until a turn may find something to do, or so long.
+    pub fn wait(&mut self, most: Duration)
+        ensures { self.new ≡ self.old }
+    {
+        self.wire.wait(most);
+    }
+
+    /// The wire.
+    pub fn wire(&self) -> &W
+        ensures { W.state result.now ≡ self.now.counts.wire }
+    {
+        &self.wire
+    }
+
+    // Begins to connect wherever a session has begun an attempt.
+    fn begin_all(&mut self)
+        ensures { AtAll Begins self.old self.new }
+    {
+        for place in 0..self.places.len() {
+            self.begin(place);
+        }
+    }
+
+    fn begin(&mut self, place: usize)
+        requires { place < length self.old.places }
+        ensures { AtPlace Begins self.old place self.new }
+    {
+        let visit = self.places[place].begin(End::at(place), &mut self.wire, &mut self.speaker);
+        self.count(visit);
+    }
+
+    // Accepts a connection that waits. One for which no session waits is closed.
+    fn admit(&mut self) -> Result<(), LoopFault>
+        ensures { Admits self.old result self.new }
+    {
+        let (socket, address) = match self.wire.accept() {
+            Accepted::Connection(socket, address) => (socket, address),
+            Accepted::Nothing => return Ok(()),
+            Accepted::Fault => return Err(LoopFault::Accept),
+        };
+        match self.place_for(address) {
+            Some(place) => self.places[place].admit(
+                End::at(place),
+                socket,
+                &mut self.wire,
+                &mut self.speaker,
+            ),
+            None => self.wire.close(socket, Parting::NoPlace),
+        }
+        Ok(())
+    }
+
+    // The first place whose session waits for a connection from this address.
+    fn place_for(&self, address: SocketAddr) -> Option<usize>
+        ensures { MatchOption result ((key : ℕ) → key < length self.now.places → AwaitsAt self.now.speaker self.now.places address key → ⊥) (λ place. (place < length self.now.places) × AwaitsAt self.now.speaker self.now.places address place × ((key : ℕ) → key < place → AwaitsAt self.now.speaker self.now.places address key → ⊥)) }
+    {
+        for place in 0..self.places.len() {
+            if self.places[place].awaits(End::at(place), &self.speaker, address) {
+                return Some(place);
+            }
+        }
+        None
+    }
+
+    #[tactic(auto, unfolding(wires::specs::TurnOctets::turn_octets))]
+    fn visit_all(&mut self, now: u64)
+        ensures { AtAll (Visits now) self.old self.new }
+    {
+        let mut buf = [0; TURN_OCTETS];
+        for place in 0..self.places.len() {
+            self.visit(place, now, &mut buf);
+        }
+    }
+
+    fn visit(&mut self, place: usize, now: u64, buf: &mut [u8])
+        requires place { place < length self.old.places }
+        requires room { length buf.old ≡ turn_octets }
+        ensures visits { AtPlace (Visits now) self.old place self.new }
+        ensures room { length buf.new ≡ turn_octets }
+    {
+        let visit = self.places[place].visit(
+            End::at(place),
+            now,
+            &mut self.wire,
+            &mut self.speaker,
+            buf,
+        );
+        self.count(visit);
+    }
+
+    // Counts what happened at a place.
+    fn count(&mut self, visit: Visit)
+        ensures { self.new ≡ record self.old { counts = counted visit self.old.counts } }
+    {
+        match visit {
+            Visit::Stays | Visit::Unwanted => {}
+            Visit::Faulty | Visit::Ended => self.lost = self.lost.saturating_add(1),
+            Visit::Closed | Visit::Overdue => {
+                self.lost = self.lost.saturating_add(1);
+                self.closed = self.closed.saturating_add(1);
+            }
+        }
+    }
+
+    // Tells the speaker the moment. Attempts that it begins again take the place of those that stand.
+    fn tell(&mut self, now: u64)
+        ensures { IsTold now self.old self.new }
+    {
+        let report = tick(&mut self.speaker, now);
+        self.give_way_all(&report);
+    }
+
+    fn give_way_all(&mut self, report: &Report)
+        ensures { AtAll (GivesWay report.now) self.old self.new }
+    {
+        for place in 0..self.places.len() {
+            self.give_way(place, report);
+        }
+    }
+
+    fn give_way(&mut self, place: usize, report: &Report)
+        requires { place < length self.old.places }
+        ensures { AtPlace (GivesWay report.now) self.old place self.new }
+    {
+        let end = End::at(place);
+        let visit = self.places[place].give_way(report, end, &mut self.wire, &self.speaker);
+        self.count(visit);
+    }
+}
+
+// Makes the places, where there are none.
+#[tactic(auto, unfolding(crate::specs::Ends::place_count))]
+fn make_places<W: Wire, A: Allocator + Clone>(
+    made: &mut Vec<Place<W, A>, A>,
+    alloc: &A,
+) -> Result<(), AllocError>
+    requires { made.old.items ≡ [] }
+    ensures { OnOk result (made.new.items ≡ replicate place_count vacant) }
+{
+    for count in 0..PLACES {
+        made.push(Place::new(alloc.clone()?)?)?;
+    }
+    Ok(())
+}

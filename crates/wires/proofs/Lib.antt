@@ -1,0 +1,4 @@
+pub mod Counting
+pub mod Sockets
+pub mod Waiting
+pub mod Walks
