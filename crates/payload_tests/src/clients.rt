@@ -43,16 +43,22 @@ impl<A: Allocator + Clone> Router<A> {
     }
 }
 
-fn one() -> Result<Vrp, Fail> {
-    payload(TEN, 16, 16, 65_001)
+// The payloads that come and go.
+#[derive(Clone, Copy)]
+struct Three {
+    one: Vrp,
+    two: Vrp,
+    three: Vrp,
 }
 
-fn two() -> Result<Vrp, Fail> {
-    payload(TEN, 16, 24, 65_001)
-}
-
-fn three() -> Result<Vrp, Fail> {
-    payload(TEN, 24, 24, 65_002)
+impl Three {
+    fn new() -> Result<Self, Fail> {
+        Ok(Three {
+            one: payload(TEN, 16, 16, 65_001)?,
+            two: payload(TEN, 16, 24, 65_001)?,
+            three: payload(TEN, 24, 24, 65_002)?,
+        })
+    }
 }
 
 fn end_of_data(serial: u32) -> Pdu<'static> {
@@ -64,21 +70,21 @@ fn end_of_data(serial: u32) -> Pdu<'static> {
 }
 
 // A response to a Reset Query, of two payloads, at the moment 100. Answers whether memory was refused.
-fn load_all<A: Allocator + Clone>(router: &mut Router<A>) -> Result<bool, Fail> {
+fn load_all<A: Allocator + Clone>(router: &mut Router<A>, vrps: Three) -> bool {
     let response = router.hear(Pdu::CacheResponse { session: 7 }, 100);
-    let first = router.hear(Pdu::Announcement(two()?), 100);
-    let second = router.hear(Pdu::Announcement(one()?), 100);
+    let first = router.hear(Pdu::Announcement(vrps.two), 100);
+    let second = router.hear(Pdu::Announcement(vrps.one), 100);
     let end = router.hear(end_of_data(3), 100);
-    Ok(response.starved || first.starved || second.starved || end.starved)
+    response.starved || first.starved || second.starved || end.starved
 }
 
 // A response to a Serial Query, in which one payload leaves and another comes, at the moment 200.
-fn load_change<A: Allocator + Clone>(router: &mut Router<A>) -> Result<bool, Fail> {
+fn load_change<A: Allocator + Clone>(router: &mut Router<A>, vrps: Three) -> bool {
     let response = router.hear(Pdu::CacheResponse { session: 7 }, 200);
-    let first = router.hear(Pdu::Withdrawal(one()?), 200);
-    let second = router.hear(Pdu::Announcement(three()?), 200);
+    let first = router.hear(Pdu::Withdrawal(vrps.one), 200);
+    let second = router.hear(Pdu::Announcement(vrps.three), 200);
     let end = router.hear(end_of_data(4), 200);
-    Ok(response.starved || first.starved || second.starved || end.starved)
+    response.starved || first.starved || second.starved || end.starved
 }
 
 fn notify() -> Pdu<'static> {
@@ -88,99 +94,123 @@ fn notify() -> Pdu<'static> {
     }
 }
 
-#[test]
-fn a_load_is_in_force_from_its_end_of_data(rt: HostRuntime) -> Result<(), Fail> {
-    let mut router = Router::new(rt.alloc())?;
+fn loads<A: Allocator + Clone>(rt: &impl Abort, router: &mut Router<A>, vrps: Three) {
     assert_eq!(rt; router.client.transport(), Transport::Opening);
     assert_eq!(rt; router.step(Input::Up, 100).pdu, Some(Pdu::ResetQuery));
     assert_eq!(rt; router.client.state(), ClientState::Asked);
     router.hear(Pdu::CacheResponse { session: 7 }, 100);
-    router.hear(Pdu::Announcement(one()?), 100);
+    router.hear(Pdu::Announcement(vrps.one), 100);
     assert_eq!(rt; router.client.state(), ClientState::Loading);
     assert!(rt; router.has(&[]));
     router.hear(end_of_data(3), 100);
-    assert!(rt; router.has(&[one()?]));
-    assert!(rt; router.client.changed().announced.iter().eq(&[one()?]));
+    assert!(rt; router.has(&[vrps.one]));
+    assert!(rt; router.client.changed().announced.iter().eq(&[vrps.one]));
     let base = Base {
         session: 7,
         serial: 3,
     };
     assert_eq!(rt; router.client.base(), Some(base));
     assert_eq!(rt; router.client.state(), ClientState::Synced);
-    Ok(())
 }
 
 #[test]
-fn a_change_is_loaded_onto_what_is_in_force(rt: HostRuntime) -> Result<(), Fail> {
+fn a_load_is_in_force_from_its_end_of_data(rt: HostRuntime) -> Result<(), Fail> {
+    let vrps = Three::new()?;
     let mut router = Router::new(rt.alloc())?;
+    loads(&rt, &mut router, vrps);
+    Ok(())
+}
+
+fn changes<A: Allocator + Clone>(rt: &impl Abort, router: &mut Router<A>, vrps: Three) {
     router.step(Input::Up, 100);
-    assert!(rt; !load_all(&mut router)?);
+    assert!(rt; !load_all(router, vrps));
     let query = Pdu::SerialQuery {
         session: 7,
         serial: 3,
     };
     assert_eq!(rt; router.hear(notify(), 200).pdu, Some(query));
-    assert!(rt; !load_change(&mut router)?);
-    assert!(rt; router.has(&[two()?, three()?]));
-    assert!(rt; router.client.changed().withdrawn.iter().eq(&[one()?]));
-    assert!(rt; router.client.changed().announced.iter().eq(&[three()?]));
+    assert!(rt; !load_change(router, vrps));
+    assert!(rt; router.has(&[vrps.two, vrps.three]));
+    assert!(rt; router.client.changed().withdrawn.iter().eq(&[vrps.one]));
+    assert!(rt; router.client.changed().announced.iter().eq(&[vrps.three]));
+}
+
+#[test]
+fn a_change_is_loaded_onto_what_is_in_force(rt: HostRuntime) -> Result<(), Fail> {
+    let vrps = Three::new()?;
+    let mut router = Router::new(rt.alloc())?;
+    changes(&rt, &mut router, vrps);
     Ok(())
+}
+
+fn expires<A: Allocator + Clone>(rt: &impl Abort, router: &mut Router<A>, vrps: Three) {
+    router.step(Input::Up, 100);
+    assert!(rt; !load_all(router, vrps));
+    router.step(Input::Fail, 200);
+    assert!(rt; router.step(Input::Tick, 800).opened);
+    router.step(Input::Tick, 7_299);
+    assert!(rt; router.has(&[vrps.one, vrps.two]));
+    router.step(Input::Tick, 7_300);
+    assert!(rt; router.has(&[]));
+    let gone = [vrps.one, vrps.two];
+    assert!(rt; router.client.changed().withdrawn.iter().eq(&gone));
+    assert_eq!(rt; router.client.state(), ClientState::Opening);
 }
 
 #[test]
 fn payloads_expire(rt: HostRuntime) -> Result<(), Fail> {
+    let vrps = Three::new()?;
     let mut router = Router::new(rt.alloc())?;
-    router.step(Input::Up, 100);
-    assert!(rt; !load_all(&mut router)?);
-    router.step(Input::Fail, 200);
-    assert!(rt; router.step(Input::Tick, 800).opened);
-    router.step(Input::Tick, 7_299);
-    assert!(rt; router.has(&[one()?, two()?]));
-    router.step(Input::Tick, 7_300);
-    assert!(rt; router.has(&[]));
-    assert!(rt;
-        router
-            .client
-            .changed()
-            .withdrawn
-            .iter()
-            .eq(&[one()?, two()?])
-    );
-    assert_eq!(rt; router.client.state(), ClientState::Opening);
+    expires(&rt, &mut router, vrps);
     Ok(())
 }
 
-// Two loads, of which a growth may be refused: its load is in force not at all, and the other as it was.
+// A load of a client, of which a growth may be refused: then it isn't in force, and the connection closes. Answers whether
+// one was.
+fn begins<A: Allocator + Clone>(rt: &impl Abort, router: &mut Router<A>, vrps: Three) -> bool {
+    router.step(Input::Up, 100);
+    let starved = load_all(router, vrps);
+    if starved {
+        assert!(rt; router.has(&[]));
+        assert_eq!(rt; router.client.transport(), Transport::Closing);
+    } else {
+        assert!(rt; router.has(&[vrps.one, vrps.two]));
+    }
+    starved
+}
+
+// A second load, of which a growth may be refused: then the first stays in force.
+fn goes_on<A: Allocator + Clone>(rt: &impl Abort, router: &mut Router<A>, vrps: Three) -> bool {
+    router.hear(notify(), 200);
+    let starved = load_change(router, vrps);
+    if starved {
+        assert!(rt; router.has(&[vrps.one, vrps.two]));
+        assert_eq!(rt; router.client.transport(), Transport::Closing);
+    } else {
+        assert!(rt; router.has(&[vrps.two, vrps.three]));
+    }
+    starved
+}
+
+// Two loads; answers whether memory was refused.
 fn load_twice<A: Allocator + Clone>(
     rt: &impl Abort,
     router: Result<Router<A>, AllocError>,
-) -> Result<bool, Fail> {
-    let Ok(mut router) = router else {
-        return Ok(true);
-    };
-    router.step(Input::Up, 100);
-    if load_all(&mut router)? {
-        assert!(rt; router.has(&[]));
-        assert_eq!(rt; router.client.transport(), Transport::Closing);
-        return Ok(true);
+    vrps: Three,
+) -> bool {
+    match router {
+        Ok(mut router) => begins(rt, &mut router, vrps) || goes_on(rt, &mut router, vrps),
+        Err(_) => true,
     }
-    assert!(rt; router.has(&[one()?, two()?]));
-    router.hear(notify(), 200);
-    if load_change(&mut router)? {
-        assert!(rt; router.has(&[one()?, two()?]));
-        assert_eq!(rt; router.client.transport(), Transport::Closing);
-        return Ok(true);
-    }
-    assert!(rt; router.has(&[two()?, three()?]));
-    Ok(false)
 }
 
 #[test]
 fn a_refused_growth_keeps_no_part_of_a_load(rt: HostRuntime) -> Result<(), Fail> {
+    let vrps = Three::new()?;
     let mut left = true;
     for nth in 1..100u64 {
         let heap = Refusing::new(rt.alloc(), nth);
-        let starved = load_twice(&rt, Router::new(&heap))?;
+        let starved = load_twice(&rt, Router::new(&heap), vrps);
         left = heap.has_refused();
         assert_eq!(rt; starved, left, "{nth}");
         if !left {

@@ -128,39 +128,70 @@ fn has_just<A: Allocator>(
     Ok(true)
 }
 
-#[test]
-fn states_are_those_of_all_payloads(rt: HostRuntime) -> Result<(), Fail> {
-    let mut trie = PayloadTrie::new(rt.alloc());
-    let none = BTreeSet::new(rt.alloc());
-    let all = set_of(rt.alloc(), &PAYLOADS)?;
-    follow(&mut trie, &none, &all)?;
-    assert!(rt; has_just(&trie, &all, &PAYLOADS)?);
-    assert!(rt; has_states(&trie, &ROUTES)?);
+// Fills the payloads, clears them, and fills them again.
+fn is_filled_again(
+    rt: &impl Abort,
+    trie: &mut PayloadTrie,
+    none: &BTreeSet<Vrp>,
+    all: &BTreeSet<Vrp>,
+) -> Result<(), Fail>
+    requires { (trie.old ≡ none.now.keys) × (none.now.keys ≡ []) }
+{
+    follow(trie, none, all)?;
+    assert!(rt; has_just(trie, all, &PAYLOADS)?);
+    assert!(rt; has_states(trie, &ROUTES)?);
     trie.clear();
-    assert!(rt; has_just(&trie, &none, &PAYLOADS)?);
-    assert!(rt; trie.state(&Prefix::new(0x0a00_0000, 16)?, Some(Asn(65001))) == Validity::NotFound);
-    follow(&mut trie, &none, &all)?;
-    assert!(rt; has_states(&trie, &ROUTES)?);
+    assert!(rt; has_just(trie, none, &PAYLOADS)?);
+    let ten = Prefix::new(0x0a00_0000, 16)?;
+    assert!(rt; trie.state(&ten, Some(Asn(65001))) == Validity::NotFound);
+    follow(trie, none, all)?;
+    assert!(rt; has_states(trie, &ROUTES)?);
     Ok(())
 }
 
 #[test]
-fn a_change_concerns_the_prefixes_that_no_other_covers(rt: HostRuntime) -> Result<(), Fail> {
-    let mut trie = PayloadTrie::new(rt.alloc());
-    let none = BTreeSet::new(rt.alloc());
+fn states_are_those_of_all_payloads(rt: HostRuntime) -> Result<(), Fail> {
     let all = set_of(rt.alloc(), &PAYLOADS)?;
-    let later = set_of(rt.alloc(), &LATER)?;
-    follow(&mut trie, &none, &all)?;
-    follow(&mut trie, &all, &later)?;
-    assert!(rt; has_just(&trie, &later, &PAYLOADS)? && has_just(&trie, &later, &LATER)?);
-    assert!(rt; has_states(&trie, &LATER_ROUTES)?);
-    let delta = Delta::between(&all, &later)?;
-    let mut concerned = affected(&delta);
+    let none = BTreeSet::new(rt.alloc());
+    let mut trie = PayloadTrie::new(rt.alloc());
+    is_filled_again(&rt, &mut trie, &none, &all)
+}
+
+// Fills the payloads and changes them.
+fn is_changed(
+    rt: &impl Abort,
+    trie: &mut PayloadTrie,
+    none: &BTreeSet<Vrp>,
+    all: &BTreeSet<Vrp>,
+    later: &BTreeSet<Vrp>,
+) -> Result<(), Fail>
+    requires { trie.old ≡ none.now.keys }
+{
+    follow(trie, none, all)?;
+    follow(trie, all, later)?;
+    assert!(rt; has_just(trie, later, &PAYLOADS)? && has_just(trie, later, &LATER)?);
+    assert!(rt; has_states(trie, &LATER_ROUTES)?);
+    Ok(())
+}
+
+// Goes over what a change concerns.
+fn concerns(rt: &impl Abort, delta: &Delta) -> Result<(), Fail> {
+    let mut concerned = affected(delta);
     for (bits, len) in STRETCHES {
         assert!(rt; concerned.next() == Some(Prefix::new(bits, len)?));
     }
     assert!(rt; concerned.next().is_none());
     Ok(())
+}
+
+#[test]
+fn a_change_concerns_the_prefixes_that_no_other_covers(rt: HostRuntime) -> Result<(), Fail> {
+    let all = set_of(rt.alloc(), &PAYLOADS)?;
+    let later = set_of(rt.alloc(), &LATER)?;
+    let none = BTreeSet::new(rt.alloc());
+    let mut trie = PayloadTrie::new(rt.alloc());
+    is_changed(&rt, &mut trie, &none, &all, &later)?;
+    concerns(&rt, &Delta::between(&all, &later)?)
 }
 
 // Makes the change, and again where a growth is refused, which leaves the payloads. Answers how often one was.

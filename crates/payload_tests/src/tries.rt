@@ -74,19 +74,25 @@ fn entries_are_found_in_the_order_of_prefixes(rt: HostRuntime) -> Result<(), Fai
     Ok(())
 }
 
-#[test]
-fn an_entry_is_changed_and_taken_out(rt: HostRuntime) -> Result<(), Fail> {
-    let mut trie = Trie::new(rt.alloc());
-    fill(&mut trie)?;
-    let top = Prefix::new(0x0a00_0000, 8)?;
-    let missing = Prefix::new(0x0b00_0000, 8)?;
+// Changes the value of a prefix, and takes it out; another one isn't there.
+fn is_changed(rt: &impl Abort, trie: &mut Trie<Slots>, top: Prefix, missing: Prefix) {
     assert!(rt; trie.update(&top, |slots: &mut Slots| slots.0 = 64));
     assert!(rt; !trie.update(&missing, |slots: &mut Slots| slots.0 = 64));
     assert!(rt; trie.marked_after(None, 64) == Some(top));
     assert!(rt; trie.remove(&top) == Some(Slots(64)));
     assert!(rt; trie.remove(&top).is_none() && trie.remove(&missing).is_none());
     assert!(rt; trie.marked_after(None, 64).is_none());
-    assert!(rt; trie.len() == 5 && trie.get(&Prefix::new(0x0a01_0000, 16)?).is_some());
+}
+
+#[test]
+fn an_entry_is_changed_and_taken_out(rt: HostRuntime) -> Result<(), Fail> {
+    let top = Prefix::new(0x0a00_0000, 8)?;
+    let missing = Prefix::new(0x0b00_0000, 8)?;
+    let below = Prefix::new(0x0a01_0000, 16)?;
+    let mut trie = Trie::new(rt.alloc());
+    fill(&mut trie)?;
+    is_changed(&rt, &mut trie, top, missing);
+    assert!(rt; trie.len() == 5 && trie.get(&below).is_some());
     Ok(())
 }
 
@@ -108,26 +114,37 @@ fn comes<'a, I: Iterator<Item = (Prefix, &'a Slots)>>(
     entries.next().is_none()
 }
 
-#[test]
-fn entries_come_in_the_order_of_prefixes(rt: HostRuntime) -> Result<(), Fail> {
-    let mut trie = Trie::new(rt.alloc());
-    assert!(rt; comes(trie.iter(), &[]));
-    fill(&mut trie)?;
+// Goes over all entries, and over those that each prefix covers.
+fn come_in_order(rt: &impl Abort, trie: &Trie<Slots>, above: &[Prefix; 6]) {
     assert!(rt; comes(trie.iter(), &ENTRIES));
-    assert!(rt; comes(trie.covered(&Prefix::new(0, 0)?), &ENTRIES));
-    assert!(rt; comes(trie.covered(&Prefix::new(0x0a00_0000, 8)?), &ENTRIES[1..5]));
-    assert!(rt; comes(trie.covered(&Prefix::new(0x0a00_0000, 9)?), &ENTRIES[2..4]));
-    assert!(rt; comes(trie.covered(&Prefix::new(0x0a80_0000, 9)?), &ENTRIES[4..5]));
-    assert!(rt; comes(trie.covered(&Prefix::new(0xc000_0000, 2)?), &ENTRIES[5..]));
-    assert!(rt; comes(trie.covered(&Prefix::new(0x0a01_0100, 24)?), &[]));
-    Ok(())
+    assert!(rt; comes(trie.covered(&above[0]), &ENTRIES));
+    assert!(rt; comes(trie.covered(&above[1]), &ENTRIES[1..5]));
+    assert!(rt; comes(trie.covered(&above[2]), &ENTRIES[2..4]));
+    assert!(rt; comes(trie.covered(&above[3]), &ENTRIES[4..5]));
+    assert!(rt; comes(trie.covered(&above[4]), &ENTRIES[5..]));
+    assert!(rt; comes(trie.covered(&above[5]), &[]));
 }
 
 #[test]
-fn what_covers_a_prefix_comes_shortest_first(rt: HostRuntime) -> Result<(), Fail> {
+fn entries_come_in_the_order_of_prefixes(rt: HostRuntime) -> Result<(), Fail> {
+    let above = [
+        Prefix::new(0, 0)?,
+        Prefix::new(0x0a00_0000, 8)?,
+        Prefix::new(0x0a00_0000, 9)?,
+        Prefix::new(0x0a80_0000, 9)?,
+        Prefix::new(0xc000_0000, 2)?,
+        Prefix::new(0x0a01_0100, 24)?,
+    ];
     let mut trie = Trie::new(rt.alloc());
+    assert!(rt; comes(trie.iter(), &[]));
     fill(&mut trie)?;
-    let mut covering = trie.covering(&Prefix::new(0x0a01_0100, 24)?);
+    come_in_order(&rt, &trie, &above);
+    Ok(())
+}
+
+// Goes over what covers a prefix.
+fn covers(rt: &impl Abort, trie: &Trie<Slots>, prefix: &Prefix) -> Result<(), Fail> {
+    let mut covering = trie.covering(prefix);
     assert!(rt; covering.visited() == 0);
     for (bits, len, marks) in [ENTRIES[0], ENTRIES[1], ENTRIES[3]] {
         assert!(rt; covering.next() == Some((Prefix::new(bits, len)?, &Slots(marks))));
@@ -135,6 +152,14 @@ fn what_covers_a_prefix_comes_shortest_first(rt: HostRuntime) -> Result<(), Fail
     assert!(rt; covering.next().is_none());
     assert!(rt; 3 <= covering.visited() && covering.visited() <= 33);
     Ok(())
+}
+
+#[test]
+fn what_covers_a_prefix_comes_shortest_first(rt: HostRuntime) -> Result<(), Fail> {
+    let prefix = Prefix::new(0x0a01_0100, 24)?;
+    let mut trie = Trie::new(rt.alloc());
+    fill(&mut trie)?;
+    covers(&rt, &trie, &prefix)
 }
 
 // In this order each is put at another place: into nothing, over what is in its lower half, behind and before all

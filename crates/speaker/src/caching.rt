@@ -1,12 +1,12 @@
 //! What happens to the cache session: its connection stands or fails, octets and moments come, octets are handed out. Where
 //! the payloads in force change, the routes that this concerns are judged again.
-ghost use Rattle.std.specs.Prelude.{◌≡◌, ◌≢◌, ◌≤◌, ◌<◌, ◌++◌, ℕ, List, [], ◌∷◌, Some, false, true, length, min, take, drop};
+ghost use Rattle.std.specs.Prelude.{◌≡◌, ◌≢◌, ◌≤◌, ◌<◌, ◌++◌, ℕ, List, [], ◌∷◌, Some, None, IfOk, false, true, if◌then◌else◌, length, min, take, drop};
 ghost use Rattle.std.specs.Option.{IsSome};
 ghost use Rattle.std.specs.Bool.{OnTrue};
 ghost use Rattle.bgp_peer.specs.SessionInputs.{Ticked};
 ghost use Rattle.net_prefix.specs.declared.payload.Vrp.{Vrp as ThePayload};
 ghost use Rattle.rtr_session.specs.SessionHistory.{opens_at};
-ghost use Rattle.rtr_session.specs.SessionState.{Session as TheSession};
+ghost use Rattle.rtr_session.specs.SessionState.{Session as TheSession, configured};
 ghost use Rattle.speaker.specs.Agreement.{Agrees, CacheHears, CacheHearsUntil, Holds, HoldsBy};
 ghost use Rattle.speaker.specs.CacheMoves.{RevalidatesFrom, KeepsCache, last_change};
 ghost use Rattle.speaker.specs.Choices.{choices_cached};
@@ -19,7 +19,8 @@ use crate::choosing::choose_touched;
 use crate::step::Speaker;
 use decision::Book;
 use net_prefix::Transport;
-use std::alloc::Allocator;
+use rtr_session::CacheSession;
+use std::alloc::{AllocError, Allocator};
 
 impl<A: Allocator + Clone, B: Book<A>> Speaker<A, B> {
     /// The connection of the cache session is there.
@@ -145,4 +146,17 @@ impl<A: Allocator + Clone, B: Book<A>> Speaker<A, B> {
             None => 0,
         }
     }
+}
+
+/// The session with a cache, where one is asked for.
+pub(crate) fn session_for<A: Allocator + Clone + Copy>(
+    alloc: A,
+    is_asked_for: bool,
+) -> Result<Option<CacheSession<A>>, AllocError>
+    ensures { IfOk result (λ session. session ≡ (if is_asked_for then Some configured else None)) }
+{
+    if !is_asked_for {
+        return Ok(None);
+    }
+    Ok(Some(CacheSession::new(alloc)?))
 }

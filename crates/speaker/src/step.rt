@@ -11,6 +11,7 @@ ghost use Rattle.speaker.specs.Tables.{configured_session, link_at, session_at};
 ghost use Rattle.speaker.specs.Linked.{Linked};
 ghost use Rattle.speaker.specs.Queueing.{Queue, starved_in};
 
+use crate::caching::session_for;
 use crate::config::Config;
 use crate::event::{Event, Report, only};
 use crate::link::Link;
@@ -96,22 +97,17 @@ impl<A: Allocator + Clone + Copy, B: Book<A>> Speaker<A, B> {
     fn empty(alloc: A, config: Config) -> Result<Self, AllocError>
         ensures { IfOk result (λ s. s ≡ started config) }
     {
-        let conf = Conf::new(alloc.clone()?, config.asn)?;
-        let cache = match config.cache {
-            true => Some(CacheSession::new(alloc.clone()?)?),
-            false => None,
-        };
-        let payloads = PayloadTrie::new(alloc.clone()?);
-        let links = BTreeMap::new(alloc.clone()?);
-        let routing = Routing::new(alloc.clone()?)?;
-        let recent = RecentOctets::new(alloc.clone()?)?;
+        let recent = RecentOctets::new(alloc)?;
+        let cache = session_for(alloc, config.cache)?;
+        let conf = Conf::new(alloc, config.asn)?;
+        let routing = Routing::new(alloc)?;
         Ok(Speaker {
             alloc,
             config,
             conf,
             cache,
-            payloads,
-            links,
+            payloads: PayloadTrie::new(alloc),
+            links: BTreeMap::new(alloc),
             routing,
             recent,
             moment: 0,
