@@ -1,14 +1,14 @@
 //! The table on its happy path, and a refused growth.
-ghost use Rattle.std.specs.Prelude.{◌<◌};
+ghost use Rattle.std.specs.Prelude.{◌<◌, ◌≤◌};
 
+use crate::given::prefix_of;
 use bgp_attr::{Attrs, PeerKind, read_attrs};
 use net_prefix::{Asn, Prefix};
 use refusing::Refusing;
-use rib_in::{AdjIn, RibFault};
+use rib_in::{AdjIn, RibFault, SlotRoutes};
 use std::alloc::{Allocator, Global};
 use std::process::Abort;
 use std::rc::Rc;
-use std::test::Fail;
 
 // ORIGIN IGP, AS_PATH 65001, and NEXT_HOP 192.0.2.1.
 const ATTRIBUTES: [u8; 20] = [
@@ -16,21 +16,43 @@ const ATTRIBUTES: [u8; 20] = [
 ];
 
 /// The attributes, to be shared by routes.
-pub fn shared<A: Allocator + Clone>(rt: &impl Abort, alloc: A) -> Result<Rc<Attrs<A>, A>, Fail> {
+pub fn shared<A: Allocator + Clone>(rt: &impl Abort, alloc: A) -> Rc<Attrs<A>, A> {
     let Ok(attrs) = read_attrs(&alloc, &ATTRIBUTES, PeerKind::External(Asn(65001))) else {
         panic!(rt; "the attributes are good");
     };
-    Ok(Rc::new(alloc, attrs)?)
+    match Rc::new(alloc, attrs) {
+        Ok(shared) => shared,
+        Err(_) => panic!(rt; "no memory"),
+    }
+}
+
+// Announces a route. Answers why it wasn't taken, if it wasn't.
+fn announce<A: Allocator + Clone>(
+    rt: &impl Abort,
+    table: &mut AdjIn<A>,
+    attrs: &Rc<Attrs<A>, A>,
+    slot: u8,
+    prefix: Prefix,
+) -> Option<RibFault> {
+    match attrs.clone() {
+        Ok(attrs) => table.announce(slot, prefix, attrs).err(),
+        Err(_) => panic!(rt; "too many clones"),
+    }
+}
+
+// Announces these routes, each a slot and a prefix.
+fn announce_all(rt: &impl Abort, table: &mut AdjIn, attrs: &Rc<Attrs>, routes: &[(u8, Prefix)]) {
+    for (slot, prefix) in routes {
+        assert!(rt; announce(rt, table, attrs, *slot, *prefix).is_none());
+    }
 }
 
 // The table of these routes, each a slot and a prefix.
-fn table_of(rt: &impl Abort, alloc: Global, routes: &[(u8, Prefix)]) -> Result<AdjIn, Fail> {
-    let attrs = shared(rt, alloc)?;
+fn table_of(rt: &impl Abort, alloc: Global, routes: &[(u8, Prefix)]) -> AdjIn {
+    let attrs = shared(rt, alloc);
     let mut table = AdjIn::new(alloc);
-    for (slot, prefix) in routes {
-        table.announce(*slot, *prefix, attrs.clone()?)?;
-    }
-    Ok(table)
+    announce_all(rt, &mut table, &attrs, routes);
+    table
 }
 
 // The prefixes of the table, each after the one before it.
@@ -45,6 +67,26 @@ fn has_prefixes(table: &AdjIn, prefixes: &[Prefix]) -> bool {
     table.prefix_after(after).is_none()
 }
 
+// Whether the next of the slot's routes is to this prefix, by each of both ways to find it.
+fn is_next_route(
+    table: &AdjIn,
+    routes: &mut SlotRoutes<'_>,
+    slot: u8,
+    after: Option<Prefix>,
+    prefix: Prefix,
+) -> bool
+    requires { slot < 64 }
+{
+    match routes.next() {
+        Some((found, attrs)) => {
+            found == prefix
+                && attrs.next_hop() == Some(0xc000_0201)
+                && table.slot_prefix_after(slot, after) == Some(found)
+        }
+        None => false,
+    }
+}
+
 // Whether these are just the prefixes to which the slot has a route, by each of both ways to find them.
 fn has_routes(table: &AdjIn, slot: u8, prefixes: &[Prefix]) -> bool
     requires { slot < 64 }
@@ -52,16 +94,10 @@ fn has_routes(table: &AdjIn, slot: u8, prefixes: &[Prefix]) -> bool
     let mut after = None;
     let mut routes = table.routes_of(slot);
     for prefix in prefixes {
-        let Some((found, attrs)) = routes.next() else {
-            return false;
-        };
-        if found != *prefix || attrs.next_hop() != Some(0xc000_0201) {
+        if !is_next_route(table, &mut routes, slot, after, *prefix) {
             return false;
         }
-        if table.slot_prefix_after(slot, after) != Some(found) {
-            return false;
-        }
-        after = Some(found);
+        after = Some(*prefix);
     }
     table.slot_prefix_after(slot, after).is_none() && routes.next().is_none()
 }
@@ -78,30 +114,47 @@ fn has_route(table: &AdjIn, slot: u8, prefix: Prefix) -> bool {
     table.get(slot, prefix).is_some()
 }
 
-#[test]
-fn the_latest_route_of_each_slot_is_kept(rt: HostRuntime) -> Result<(), Fail> {
-    let low = Prefix::new(0x0a00_0000, 16)?;
-    let high = Prefix::new(0x0a00_0000, 24)?;
-    let mut table = table_of(&rt, rt.alloc(), &[(1, high), (0, low), (1, low)])?;
-    assert!(rt; has_route(&table, 1, low) && !has_route(&table, 0, high));
-    assert!(rt; has_prefixes(&table, &[low, high]));
+// Of the routes (1, high), (0, low) and (1, low).
+fn keeps_the_latest(rt: &impl Abort, table: &mut AdjIn, low: Prefix, high: Prefix) {
+    assert!(rt; has_route(table, 1, low) && !has_route(table, 0, high));
+    assert!(rt; has_prefixes(table, &[low, high]));
     assert!(rt; table.is_routed(low) && table.is_routed(high));
     table.withdraw(1, high);
-    assert!(rt; !has_route(&table, 1, high) && !table.is_routed(high));
+    assert!(rt; !has_route(table, 1, high) && !table.is_routed(high));
     table.drop_slot(1);
     assert!(rt; table.is_routed(low));
-    assert!(rt; has_prefixes(&table, &[low]) && !has_route(&table, 1, low));
-    assert!(rt; has_routes(&table, 0, &[low]));
+    assert!(rt; has_prefixes(table, &[low]) && !has_route(table, 1, low));
+    assert!(rt; has_routes(table, 0, &[low]));
     table.drop_slot(0);
-    assert!(rt; has_prefixes(&table, &[]));
-    Ok(())
+    assert!(rt; has_prefixes(table, &[]));
 }
 
 #[test]
-fn the_routes_of_a_slot_are_found(rt: HostRuntime) -> Result<(), Fail> {
-    let low = Prefix::new(0x0a00_0000, 16)?;
-    let middle = Prefix::new(0x0a00_0000, 24)?;
-    let high = Prefix::new(0xc000_0200, 24)?;
+fn the_latest_route_of_each_slot_is_kept(rt: HostRuntime) {
+    let low = prefix_of(&rt, 0x0a00_0000, 16);
+    let high = prefix_of(&rt, 0x0a00_0000, 24);
+    let mut table = table_of(&rt, rt.alloc(), &[(1, high), (0, low), (1, low)]);
+    keeps_the_latest(&rt, &mut table, low, high);
+}
+
+// Of slots 2, 9 and 63, which have routes.
+fn finds_routes(rt: &impl Abort, table: &mut AdjIn, low: Prefix, middle: Prefix, high: Prefix) {
+    assert!(rt; has_routes(table, 2, &[low, high]));
+    assert!(rt; has_routes(table, 9, &[low]));
+    assert!(rt; has_routes(table, 63, &[low, middle]));
+    assert!(rt; has_routes(table, 8, &[]));
+    table.withdraw(2, low);
+    assert!(rt; has_routes(table, 2, &[high]) && has_routes(table, 9, &[low]));
+    table.drop_slot(63);
+    assert!(rt; has_routes(table, 63, &[]) && has_routes(table, 9, &[low]));
+    assert!(rt; has_prefixes(table, &[low, high]));
+}
+
+#[test]
+fn the_routes_of_a_slot_are_found(rt: HostRuntime) {
+    let low = prefix_of(&rt, 0x0a00_0000, 16);
+    let middle = prefix_of(&rt, 0x0a00_0000, 24);
+    let high = prefix_of(&rt, 0xc000_0200, 24);
     let routes = [
         (9, low),
         (63, low),
@@ -110,71 +163,95 @@ fn the_routes_of_a_slot_are_found(rt: HostRuntime) -> Result<(), Fail> {
         (63, middle),
         (9, low),
     ];
-    let mut table = table_of(&rt, rt.alloc(), &routes)?;
-    assert!(rt; has_routes(&table, 2, &[low, high]));
-    assert!(rt; has_routes(&table, 9, &[low]));
-    assert!(rt; has_routes(&table, 63, &[low, middle]));
-    assert!(rt; has_routes(&table, 8, &[]));
-    table.withdraw(2, low);
-    assert!(rt; has_routes(&table, 2, &[high]) && has_routes(&table, 9, &[low]));
-    table.drop_slot(63);
-    assert!(rt; has_routes(&table, 63, &[]) && has_routes(&table, 9, &[low]));
-    assert!(rt; has_prefixes(&table, &[low, high]));
-    Ok(())
+    let mut table = table_of(&rt, rt.alloc(), &routes);
+    finds_routes(&rt, &mut table, low, middle, high);
+}
+
+// Of slots 64 and 255, and of slot 0, which has a mark.
+fn has_routes_without_marks(rt: &impl Abort, table: &mut AdjIn, low: Prefix, high: Prefix) {
+    assert!(rt; count_routes(table, 64) == 2 && has_routes(table, 0, &[low]));
+    table.drop_slot(64);
+    assert!(rt; !has_route(table, 64, low) && !has_route(table, 64, high));
+    assert!(rt; has_route(table, 255, low) && has_prefixes(table, &[low]));
+    table.drop_slot(255);
+    assert!(rt; has_routes(table, 0, &[low]));
 }
 
 #[test]
-fn a_slot_without_a_mark_has_routes_too(rt: HostRuntime) -> Result<(), Fail> {
-    let low = Prefix::new(0x0a00_0000, 16)?;
-    let high = Prefix::new(0xc000_0200, 24)?;
-    let mut table = table_of(
-        &rt,
-        rt.alloc(),
-        &[(64, low), (0, low), (255, low), (64, high)],
-    )?;
-    assert!(rt; count_routes(&table, 64) == 2 && has_routes(&table, 0, &[low]));
-    table.drop_slot(64);
-    assert!(rt; !has_route(&table, 64, low) && !has_route(&table, 64, high));
-    assert!(rt; has_route(&table, 255, low) && has_prefixes(&table, &[low]));
-    table.drop_slot(255);
-    assert!(rt; has_routes(&table, 0, &[low]));
-    Ok(())
+fn a_slot_without_a_mark_has_routes_too(rt: HostRuntime) {
+    let low = prefix_of(&rt, 0x0a00_0000, 16);
+    let high = prefix_of(&rt, 0xc000_0200, 24);
+    let routes = [(64, low), (0, low), (255, low), (64, high)];
+    let mut table = table_of(&rt, rt.alloc(), &routes);
+    has_routes_without_marks(&rt, &mut table, low, high);
+}
+
+// Announces a route, and again where a growth is refused, behind so many others. Answers whether one was.
+fn is_announced_again<A: Allocator + Clone>(
+    rt: &impl Abort,
+    table: &mut AdjIn<A>,
+    attrs: &Rc<Attrs<A>, A>,
+    route: (u8, Prefix),
+    before: u32,
+) -> bool {
+    let (slot, prefix) = route;
+    let Some(fault) = announce(rt, table, attrs, slot, prefix) else {
+        return false;
+    };
+    assert_eq!(rt; fault.number(), 20);
+    assert!(rt; table.get(slot, prefix).is_none());
+    let kept = count_routes(table, 0).saturating_add(count_routes(table, 1));
+    assert_eq!(rt; kept, before);
+    assert!(rt; announce(rt, table, attrs, slot, prefix).is_none());
+    true
 }
 
 // Fills the table, and asks again where a growth is refused. Answers how often one was.
 fn fill<A: Allocator + Clone>(
     rt: &impl Abort,
-    mut table: AdjIn<A>,
+    table: &mut AdjIn<A>,
     attrs: &Rc<Attrs<A>, A>,
-) -> Result<u32, Fail> {
+) -> u32 {
     let mut refused = 0u32;
     for number in 0..64u32 {
         // Two routes to each prefix, the one of the higher slot first.
         let slot = 1 - number as u8 % 2;
-        let prefix = Prefix::new(number / 2 * 256, 24)?;
-        if let Err(fault) = table.announce(slot, prefix, attrs.clone()?) {
+        let prefix = prefix_of(rt, number / 2 * 256, 24);
+        if is_announced_again(rt, table, attrs, (slot, prefix), number) {
             refused = refused.saturating_add(1);
-            assert_eq!(rt; fault.number(), 20);
-            assert!(rt; table.get(slot, prefix).is_none());
-            let kept = count_routes(&table, 0).saturating_add(count_routes(&table, 1));
-            assert_eq!(rt; kept, number);
-            table.announce(slot, prefix, attrs.clone()?)?;
         }
     }
-    Ok(refused)
+    refused
+}
+
+// Fills a table from one heap with routes from another. Answers how often a growth was refused.
+fn refusals_in<A: Allocator + Clone>(rt: &impl Abort, heap: A, ample: A) -> u32 {
+    let attrs = shared(rt, ample);
+    fill(rt, &mut AdjIn::new(heap), &attrs)
+}
+
+// Fills a table from a heap that refuses the nth request. Answers whether it did.
+fn is_filled(rt: &impl Abort, alloc: Global, nth: u64) -> bool
+    requires { 1 ≤ nth }
+{
+    let heap = Refusing::new(alloc, nth);
+    let ample = Refusing::new(alloc, u64::MAX);
+    let refused = refusals_in(rt, &heap, &ample);
+    let left = heap.has_refused();
+    if !left {
+        assert_eq!(rt; refused, 0);
+    }
+    left
 }
 
 #[test]
-fn a_refused_growth_leaves_the_table(rt: HostRuntime) -> Result<(), Fail> {
+fn a_refused_growth_leaves_the_table(rt: HostRuntime) {
+    let mut left = true;
     for nth in 1..1_000u64 {
-        let heap = Refusing::new(rt.alloc(), nth);
-        let ample = Refusing::new(rt.alloc(), u64::MAX);
-        let attrs = shared(&rt, &ample)?;
-        let refused = fill(&rt, AdjIn::new(&heap), &attrs)?;
-        if !heap.has_refused() {
-            assert_eq!(rt; refused, 0);
-            return Ok(());
+        left = is_filled(&rt, rt.alloc(), nth);
+        if !left {
+            break;
         }
     }
-    panic!(rt; "no end");
+    assert!(rt; !left);
 }

@@ -1,18 +1,32 @@
 //! The table on its happy path, and a refused growth.
+ghost use Rattle.std.specs.Prelude.{◌≤◌};
+
+use crate::given::prefix_of;
 use net_prefix::Prefix;
 use refusing::Refusing;
 use rib_out::{AdjOut, RecentOctets, SharedOctets};
-use std::alloc::{Allocator, Global};
+use std::alloc::{AllocError, Allocator, Global};
 use std::process::Abort;
-use std::test::Fail;
+
+// Announces the octets. Answers whether they were taken.
+fn announce<A: Allocator + Clone>(
+    table: &mut AdjOut<A>,
+    prefix: Prefix,
+    octets: Result<SharedOctets<A>, AllocError>,
+) -> bool {
+    match octets {
+        Ok(octets) => table.announce(prefix, octets).is_ok(),
+        Err(_) => false,
+    }
+}
 
 // The table after these announcements.
-fn table_of(alloc: Global, announced: &[(Prefix, &[u8])]) -> Result<AdjOut, Fail> {
+fn table_of(rt: &impl Abort, alloc: Global, announced: &[(Prefix, &[u8])]) -> AdjOut {
     let mut table = AdjOut::new(alloc);
     for (prefix, octets) in announced {
-        table.announce(*prefix, SharedOctets::of(alloc, octets)?)?;
+        assert!(rt; announce(&mut table, *prefix, SharedOctets::of(alloc, octets)));
     }
-    Ok(table)
+    table
 }
 
 // Whether the octets of a prefix are all that the peer holds.
@@ -29,83 +43,142 @@ fn is_next(table: &AdjOut, after: Option<Prefix>, prefix: Option<Prefix>) -> boo
     table.prefix_after(after) == prefix
 }
 
-#[test]
-fn the_peer_holds_what_it_was_last_sent(rt: HostRuntime) -> Result<(), Fail> {
-    let low = Prefix::new(0x0a00_0000, 16)?;
-    let high = Prefix::new(0x0a00_0000, 24)?;
-    let mut table = table_of(
-        rt.alloc(),
-        &[(high, b"three"), (low, b"one"), (low, b"two")],
-    )?;
+// Of a low prefix, to which one and then two was announced, and a high one.
+fn holds_the_last(rt: &impl Abort, table: &mut AdjOut, low: Prefix, high: Prefix) {
     assert!(rt; table.holds(low, b"two"));
     assert!(rt; !table.holds(low, b"one"));
-    assert!(rt; is_next(&table, None, Some(low)));
-    assert!(rt; is_next(&table, Some(low), Some(high)));
+    assert!(rt; is_next(table, None, Some(low)));
+    assert!(rt; is_next(table, Some(low), Some(high)));
     table.withdraw(low);
     assert!(rt; table.get(low).is_none());
-    assert!(rt; holds_alone(&table, high, b"three"));
+    assert!(rt; holds_alone(table, high, b"three"));
     table.clear();
-    assert!(rt; is_next(&table, None, None));
-    Ok(())
+    assert!(rt; is_next(table, None, None));
+}
+
+#[test]
+fn the_peer_holds_what_it_was_last_sent(rt: HostRuntime) {
+    let low = prefix_of(&rt, 0x0a00_0000, 16);
+    let high = prefix_of(&rt, 0x0a00_0000, 24);
+    let announced: [(Prefix, &[u8]); 3] = [(high, b"three"), (low, b"one"), (low, b"two")];
+    let mut table = table_of(&rt, rt.alloc(), &announced);
+    holds_the_last(&rt, &mut table, low, high);
+}
+
+// How many prefixes the peer holds, each with these octets.
+fn count_held<A: Allocator + Clone>(rt: &impl Abort, table: &AdjOut<A>, all: &[u8]) -> u32 {
+    let mut held = 0u32;
+    for (_, octets) in table.held() {
+        assert!(rt; octets == all);
+        held = held.saturating_add(1);
+    }
+    held
+}
+
+// Announces a prefix, and again where a growth is refused, behind so many others. Answers whether one was.
+fn is_announced_again<A: Allocator + Clone>(
+    rt: &impl Abort,
+    table: &mut AdjOut<A>,
+    octets: &SharedOctets<A>,
+    prefix: Prefix,
+    before: u32,
+) -> bool {
+    let refused = !announce(table, prefix, octets.share());
+    if refused {
+        assert!(rt; table.get(prefix).is_none());
+        assert_eq!(rt; count_held(rt, table, &[7; 40]), before);
+        assert!(rt; announce(table, prefix, octets.share()));
+    }
+    refused
 }
 
 // Fills the table with one list of octets, and asks again where a growth is refused. Answers how often one was.
 fn fill<A: Allocator + Clone>(
     rt: &impl Abort,
-    heap: A,
+    table: &mut AdjOut<A>,
     octets: &SharedOctets<A>,
-) -> Result<u32, Fail> {
-    let mut table = AdjOut::new(heap);
+) -> u32 {
     let mut refused = 0u32;
     for number in 0..64u32 {
-        let prefix = Prefix::new(number * 256, 24)?;
-        if table.announce(prefix, octets.share()?).is_err() {
+        let prefix = prefix_of(rt, number * 256, 24);
+        if is_announced_again(rt, table, octets, prefix, number) {
             refused = refused.saturating_add(1);
-            assert!(rt; table.get(prefix).is_none());
-            let mut held = 0u32;
-            for (_, octets) in table.held() {
-                assert_eq!(rt; octets, [7; 40].as_slice());
-                held = held.saturating_add(1);
-            }
-            assert_eq!(rt; held, number);
-            assert!(rt; table.announce(prefix, octets.share()?).is_ok());
         }
     }
-    Ok(refused)
+    refused
+}
+
+// Where the octets found memory, fills the table with them.
+fn refusals_in<A: Allocator + Clone>(
+    rt: &impl Abort,
+    mut table: AdjOut<A>,
+    octets: Result<SharedOctets<A>, AllocError>,
+) -> u32 {
+    match octets {
+        Ok(octets) => fill(rt, &mut table, &octets),
+        Err(_) => 1,
+    }
+}
+
+// Fills a table from a heap that refuses the nth request. Answers whether it did.
+fn is_filled(rt: &impl Abort, alloc: Global, nth: u64) -> bool
+    requires { 1 ≤ nth }
+{
+    let heap = Refusing::new(alloc, nth);
+    let octets = SharedOctets::of(&heap, &[7; 40]);
+    let refused = refusals_in(rt, AdjOut::new(&heap), octets);
+    let left = heap.has_refused();
+    if !left {
+        assert_eq!(rt; refused, 0);
+    }
+    left
 }
 
 #[test]
-fn a_refused_growth_leaves_the_table(rt: HostRuntime) -> Result<(), Fail> {
+fn a_refused_growth_leaves_the_table(rt: HostRuntime) {
+    let mut left = true;
     for nth in 1..1_000u64 {
-        let heap = Refusing::new(rt.alloc(), nth);
-        let Ok(octets) = SharedOctets::of(&heap, &[7; 40]) else {
-            continue;
-        };
-        let refused = fill(&rt, &heap, &octets)?;
-        if !heap.has_refused() {
-            assert_eq!(rt; refused, 0);
-            return Ok(());
+        left = is_filled(&rt, rt.alloc(), nth);
+        if !left {
+            break;
         }
     }
-    panic!(rt; "no end");
+    assert!(rt; !left);
 }
 
-// Whether octets that were announced lately take no memory, and others do.
-fn shares<A: Allocator + Clone>(recent: &mut RecentOctets<A>) -> bool {
-    recent.shared(&[7; 40]).is_ok() && recent.shared(&[8; 40]).is_err()
+// Whether the first octets find memory. Then octets that were announced lately take none, and others do.
+fn shares<A: Allocator + Clone>(rt: &impl Abort, recent: &mut RecentOctets<A>) -> bool {
+    let is_first = recent.shared(&[7; 40]).is_ok();
+    if is_first {
+        assert!(rt; recent.shared(&[7; 40]).is_ok() && recent.shared(&[8; 40]).is_err());
+    }
+    is_first
+}
+
+// Asks a heap that refuses the nth request. Answers whether the first octets found memory.
+fn is_shared(rt: &impl Abort, alloc: Global, nth: u64) -> bool
+    requires { 1 ≤ nth }
+{
+    let heap = Refusing::new(alloc, nth);
+    let Ok(mut recent) = RecentOctets::new(&heap) else {
+        panic!(rt; "no memory");
+    };
+    let found = shares(rt, &mut recent);
+    if found {
+        assert!(rt; heap.has_refused());
+    }
+    found
 }
 
 // The first n for which the first octets find memory is one more than they ask for: the next request is refused.
 #[test]
-fn peers_share_what_was_announced_lately(rt: HostRuntime) -> Result<(), Fail> {
+fn peers_share_what_was_announced_lately(rt: HostRuntime) {
+    let mut found = false;
     for nth in 1..1_000u64 {
-        let heap = Refusing::new(rt.alloc(), nth);
-        let mut recent = RecentOctets::new(&heap)?;
-        if recent.shared(&[7; 40]).is_ok() {
-            assert!(rt; shares(&mut recent));
-            assert!(rt; heap.has_refused());
-            return Ok(());
+        found = is_shared(&rt, rt.alloc(), nth);
+        if found {
+            break;
         }
     }
-    panic!(rt; "no end");
+    assert!(rt; found);
 }

@@ -7,6 +7,7 @@ use bgp_attr::{
 };
 use net_prefix::Asn;
 use std::alloc::Global;
+use std::process::Abort;
 use std::test::Fail;
 
 const PEER: PeerKind = PeerKind::External(Asn(65001));
@@ -108,12 +109,19 @@ const FAULTS: [(&str, &[u8], Option<u8>); 33] = [
     ("flags before length",      &[0x40, 4, 0],                                   Some(4)),
 ];
 
+/// The attributes of these octets, which have no fault.
+pub fn attrs_of(rt: &impl Abort, alloc: Global, octets: &[u8], kind: PeerKind) -> Attrs {
+    match read_attrs(&alloc, octets, kind) {
+        Ok(attrs) => attrs,
+        Err(_) => panic!(rt; "a fault"),
+    }
+}
+
 #[test]
-fn what_came_is_written_again(rt: HostRuntime) -> Result<(), Fail> {
-    let attrs = read_attrs(&rt.alloc(), &RECEIVED, PEER)?;
+fn what_came_is_written_again(rt: HostRuntime) {
+    let attrs = attrs_of(&rt, rt.alloc(), &RECEIVED, PEER);
     assert!(rt; is_whole(&attrs));
     assert!(rt; is_written_as(&attrs.as_received(), &RECEIVED));
-    Ok(())
 }
 
 // Whether ORIGIN and NEXT_HOP are those that came, and none is missing.
@@ -129,12 +137,11 @@ fn is_written_as(attrs: &AttrsToWrite<'_>, octets: &[u8]) -> bool {
 }
 
 #[test]
-fn each_type_is_read_and_written(rt: HostRuntime) -> Result<(), Fail> {
-    let attrs = read_attrs(&rt.alloc(), &ALL, PeerKind::Internal)?;
+fn each_type_is_read_and_written(rt: HostRuntime) {
+    let attrs = attrs_of(&rt, rt.alloc(), &ALL, PeerKind::Internal);
     assert!(rt; has_all(&attrs) && attrs.local_pref() == Some(200));
     assert!(rt; has_unknown(&attrs));
     assert!(rt; is_written_as(&attrs.as_received(), &ALL_WRITTEN));
-    Ok(())
 }
 
 // Whether the attributes are those that came, LOCAL_PREF aside.
@@ -162,54 +169,60 @@ fn has_unknown(attrs: &Attrs) -> bool {
 }
 
 #[test]
-fn local_pref_of_an_external_peer_is_dropped(rt: HostRuntime) -> Result<(), Fail> {
-    let attrs = read_attrs(&rt.alloc(), &ALL, PEER)?;
+fn local_pref_of_an_external_peer_is_dropped(rt: HostRuntime) {
+    let unchecked = local_pref_of(&rt, rt.alloc(), &[0xC0, 5, 1, 0]);
+    assert!(rt; unchecked.is_none());
+    let attrs = attrs_of(&rt, rt.alloc(), &ALL, PEER);
     assert!(rt; has_all(&attrs) && attrs.local_pref().is_none());
-    let unchecked = read_attrs(&rt.alloc(), &[0xC0, 5, 1, 0], PEER)?;
-    assert!(rt; unchecked.local_pref().is_none());
-    Ok(())
+}
+
+// LOCAL_PREF of these attributes.
+fn local_pref_of(rt: &impl Abort, alloc: Global, octets: &[u8]) -> Option<u32> {
+    attrs_of(rt, alloc, octets, PEER).local_pref()
 }
 
 #[test]
-fn an_internal_peer_sends_local_pref(rt: HostRuntime) -> Result<(), Fail> {
-    let attrs = read_attrs(&rt.alloc(), &RECEIVED, PeerKind::Internal)?;
+fn an_internal_peer_sends_local_pref(rt: HostRuntime) {
+    let attrs = attrs_of(&rt, rt.alloc(), &RECEIVED, PeerKind::Internal);
     assert!(rt; attrs.missing(PeerKind::Internal) == Some(AttributeType::LocalPref));
     assert!(rt; attrs.missing(PEER).is_none());
     assert!(rt; AttributeType::LocalPref.is_taken(PeerKind::Internal));
     assert!(rt; !AttributeType::LocalPref.is_taken(PEER));
-    Ok(())
 }
 
 #[test]
-fn a_long_unknown_attribute_is_passed_on_as_partial(rt: HostRuntime) -> Result<(), Fail> {
-    let mut octets = vec![in rt.alloc(); 0xD0, 0x63, 0x0F, 0xC8]?;
-    octets.resize(4_044, 0xAB)?;
-    let attrs = read_attrs(&rt.alloc(), octets.as_slice(), PEER)?;
-    octets[0] = 0xF0;
-    assert!(rt; is_written_as(&attrs.as_received(), octets.as_slice()));
-    Ok(())
+fn a_long_unknown_attribute_is_passed_on_as_partial(rt: HostRuntime) {
+    let attrs = attrs_of(&rt, rt.alloc(), &long_unknown(0xD0), PEER);
+    assert!(rt; is_written_as(&attrs.as_received(), &long_unknown(0xF0)));
+}
+
+// An unknown attribute with these flags, of 4,040 octets.
+fn long_unknown(flags: u8) -> [u8; 4_044] {
+    let mut octets = [0xAB; 4_044];
+    octets[0] = flags;
+    octets[1] = 0x63;
+    octets[2] = 0x0F;
+    octets[3] = 0xC8;
+    octets
 }
 
 #[test]
-fn several_spellings_are_read_alike(rt: HostRuntime) -> Result<(), Fail> {
-    let attrs = read_attrs(&rt.alloc(), &SPELLED_OTHERWISE, PEER)?;
+fn several_spellings_are_read_alike(rt: HostRuntime) {
+    let attrs = attrs_of(&rt, rt.alloc(), &SPELLED_OTHERWISE, PEER);
     assert!(rt; is_written_as(&attrs.as_received(), &RECEIVED));
-    Ok(())
 }
 
 #[test]
-fn a_missing_next_hop_is_told(rt: HostRuntime) -> Result<(), Fail> {
-    let attrs = read_attrs(&rt.alloc(), &RECEIVED[..13], PEER)?;
+fn a_missing_next_hop_is_told(rt: HostRuntime) {
+    let attrs = attrs_of(&rt, rt.alloc(), &RECEIVED[..13], PEER);
     assert_eq!(rt; attrs.missing(PEER), Some(AttributeType::NextHop));
-    Ok(())
 }
 
 #[test]
-fn a_path_is_told_by_its_segments(rt: HostRuntime) -> Result<(), Fail> {
-    let attrs = read_attrs(&rt.alloc(), &WITH_A_SET, PEER)?;
+fn a_path_is_told_by_its_segments(rt: HostRuntime) {
+    let attrs = attrs_of(&rt, rt.alloc(), &WITH_A_SET, PEER);
     assert_eq!(rt; attrs.missing(PEER), Some(AttributeType::Origin));
     assert!(rt; attrs.as_path().is_some_and(is_the_path_with_a_set));
-    Ok(())
 }
 
 fn is_the_path_with_a_set(path: &AsPath) -> bool {
@@ -228,56 +241,59 @@ fn is_the_path_with_a_set(path: &AsPath) -> bool {
 }
 
 #[test]
-fn an_as_joins_the_first_sequence(rt: HostRuntime) -> Result<(), Fail> {
-    let attrs = read_attrs(&rt.alloc(), &RECEIVED, PEER)?;
+fn an_as_joins_the_first_sequence(rt: HostRuntime) {
+    let attrs = attrs_of(&rt, rt.alloc(), &RECEIVED, PEER);
     let mut out = ArrayVec::new();
     assert!(rt; write_prepended(&attrs, &mut out) && out.as_slice() == PREPENDED.as_slice());
-    Ok(())
+}
+
+// A path of one segment, which is full.
+fn full_segment(alloc: Global) -> Result<Vec<u8>, Fail> {
+    let mut octets = vec![in alloc; 0x50, 2, 0x03, 0xFE, 2, 0xFF]?;
+    for _ in 0..255 {
+        octets.extend_from_slice(&[0, 0, 0xFD, 0xE9])?;
+    }
+    Ok(octets)
 }
 
 #[test]
 fn an_as_begins_a_segment_before_a_full_one(rt: HostRuntime) -> Result<(), Fail> {
-    let mut octets = vec![in rt.alloc(); 0x50, 2, 0x03, 0xFE, 2, 0xFF]?;
-    for _ in 0..255 {
-        octets.extend_from_slice(&[0, 0, 0xFD, 0xE9])?;
-    }
-    let attrs = read_attrs(&rt.alloc(), octets.as_slice(), PEER)?;
+    let octets = full_segment(rt.alloc())?;
+    let attrs = attrs_of(&rt, rt.alloc(), octets.as_slice(), PEER);
     let mut out = ArrayVec::new();
     assert!(rt; write_prepended(&attrs, &mut out));
     assert!(rt; out.as_slice().starts_with(&BEHIND_A_FULL_SEGMENT));
     Ok(())
 }
 
-// The subcode of the first fault of these attributes, which have one.
-fn subcode_of(alloc: Global, octets: &[u8]) -> Result<Option<u8>, Fail> {
+// The first fault of these attributes, which have one.
+fn fault_of<'a>(rt: &impl Abort, alloc: Global, octets: &'a [u8]) -> UpdateFault<'a> {
     match read_attrs(&alloc, octets, PEER) {
-        Ok(_) => Err(Fail::new("no fault")),
-        Err(fault) => Ok(fault.subcode()),
+        Ok(_) => panic!(rt; "no fault"),
+        Err(fault) => fault,
     }
 }
 
 #[test]
-fn the_first_fault_is_told(rt: HostRuntime) -> Result<(), Fail> {
+fn the_first_fault_is_told(rt: HostRuntime) {
     for (what, octets, wanted) in &FAULTS {
-        assert_eq!(rt; subcode_of(rt.alloc(), octets)?, *wanted, "{what}");
+        assert_eq!(rt;
+            fault_of(&rt, rt.alloc(), octets).subcode(),
+            *wanted,
+            "{what}"
+        );
     }
-    Ok(())
 }
 
 #[test]
-fn a_fault_tells_the_whole_attribute(rt: HostRuntime) -> Result<(), Fail> {
+fn a_fault_tells_the_whole_attribute(rt: HostRuntime) {
     let octets = [0x40, 3, 4, 0xC0, 0, 2, 0x0B, 0x40, 1, 1, 3];
-    let Err(fault) = read_attrs(&rt.alloc(), &octets, PEER) else {
-        return Err(Fail::new("origin 3"));
-    };
+    let fault = fault_of(&rt, rt.alloc(), &octets);
     assert!(rt; is_told(&fault, &[0x40, 1, 1, 3]));
-    let Err(unknown) = read_attrs(&rt.alloc(), &[0x50, 99, 0, 1, 7], PEER) else {
-        return Err(Fail::new("an unknown well-known attribute"));
-    };
+    let unknown = fault_of(&rt, rt.alloc(), &[0x50, 99, 0, 1, 7]);
     assert!(rt; is_told(&unknown, &[0x50, 99, 0, 1, 7]));
     assert!(rt; is_told(&UpdateFault::MissingWellKnown(AttributeType::NextHop), &[3]));
     assert!(rt; fault.number().is_none() && UpdateFault::NoMemory.number() == Some(21));
-    Ok(())
 }
 
 // Whether the fault is told as one of an UPDATE, with this data.
@@ -286,18 +302,16 @@ fn is_told(fault: &UpdateFault<'_>, data: &[u8]) -> bool {
 }
 
 #[test]
-fn an_internal_path_begins_with_any_as(rt: HostRuntime) -> Result<(), Fail> {
-    let empty = read_attrs(&rt.alloc(), &[0x40, 2, 0], PeerKind::Internal)?;
-    assert_eq!(rt; length_of_path(&empty), Some(0));
+fn an_internal_path_begins_with_any_as(rt: HostRuntime) {
+    assert_eq!(rt; length_of_path(&rt, rt.alloc(), &[0x40, 2, 0]), Some(0));
     let other = [0x40, 2, 6, 2, 1, 0, 0, 0, 1];
-    let attrs = read_attrs(&rt.alloc(), &other, PeerKind::Internal)?;
-    assert_eq!(rt; length_of_path(&attrs), Some(1));
-    Ok(())
+    assert_eq!(rt; length_of_path(&rt, rt.alloc(), &other), Some(1));
 }
 
-fn length_of_path(attrs: &Attrs) -> Option<u32> {
-    let path = attrs.as_path()?;
-    Some(path.length())
+// The length of the path of these attributes, which came from an internal peer.
+fn length_of_path(rt: &impl Abort, alloc: Global, octets: &[u8]) -> Option<u32> {
+    let attrs = attrs_of(rt, alloc, octets, PeerKind::Internal);
+    attrs.as_path().map(AsPath::length)
 }
 
 #[test]

@@ -1,16 +1,16 @@
 //! The best route of each prefix as candidates come, change and go, and a refused growth.
-ghost use Rattle.std.specs.Prelude.{◌≡◌, IfSome};
+ghost use Rattle.std.specs.Prelude.{◌≡◌, ◌≤◌, IfSome};
 ghost use Rattle.bgp_tests.specs.Addressed.{AreAddressed};
 ghost use Rattle.decision.specs.BookContents.{offer_at};
 
+use crate::given::prefix_of;
 use bgp_attr::Origin;
 use decision::{Book, Candidate, Change, Meter, PlainBook};
 use net_prefix::{Asn, Prefix};
 use origin_valid::Validity;
 use refusing::Refusing;
-use std::alloc::{AllocError, Allocator};
+use std::alloc::{AllocError, Allocator, Global};
 use std::process::Abort;
-use std::test::Fail;
 
 /// A candidate of this degree of preference, if there is one. Its peer's address is the slot.
 pub fn candidate(slot: u8, degree: Option<u64>) -> Option<Candidate>
@@ -83,100 +83,176 @@ fn row_after<A: Allocator + Clone, B: Book<A>>(
     }
 }
 
+// The slot's candidate comes or goes as `offer` says. Then the best one is of this slot, and so many choices were made.
+fn turns<A: Allocator + Clone, B: Book<A>>(
+    rt: &impl Abort,
+    book: &mut B,
+    meter: &mut Meter,
+    prefix: Prefix,
+    offered: (u8, Option<u64>),
+    best: (Option<u8>, u64),
+)
+    requires { AreAddressed (offer_at (B.kept book.old)) }
+    ensures { AreAddressed (offer_at (B.kept book.new)) }
+{
+    assert!(rt; offer(book, meter, prefix, offered.0, offered.1).is_ok());
+    is_best(rt, book, meter, prefix, best);
+}
+
+// The best one is of this slot, and so many choices were made.
+fn is_best<A: Allocator + Clone, B: Book<A>>(
+    rt: &impl Abort,
+    book: &B,
+    meter: &Meter,
+    prefix: Prefix,
+    best: (Option<u8>, u64),
+) {
+    assert_eq!(rt; slot_of_best(book, prefix), best.0);
+    assert_eq!(rt; meter.count(), best.1);
+}
+
 // The best of two slots' candidates at a prefix, as they come, change and go.
 fn follows_its_candidates<A: Allocator + Clone, B: Book<A>>(
     rt: &impl Abort,
-    mut book: B,
+    book: &mut B,
     prefix: Prefix,
-) -> Result<(), Fail>
-    requires { AreAddressed (offer_at (B.kept book)) }
+)
+    requires { AreAddressed (offer_at (B.kept book.old)) }
 {
     let mut meter = Meter::new();
-    offer(&mut book, &mut meter, prefix, 1, Some(100))?;
-    assert_eq!(rt; slot_of_best(&book, prefix), Some(1));
-    offer(&mut book, &mut meter, prefix, 2, Some(200))?;
-    assert_eq!(rt; slot_of_best(&book, prefix), Some(2));
-    assert_eq!(rt; meter.count(), 2);
+    turns(rt, book, &mut meter, prefix, (1, Some(100)), (Some(1), 1));
+    turns(rt, book, &mut meter, prefix, (2, Some(200)), (Some(2), 2));
 
     // The same candidate again is no change.
-    offer(&mut book, &mut meter, prefix, 2, Some(200))?;
-    assert_eq!(rt; meter.count(), 2);
+    turns(rt, book, &mut meter, prefix, (2, Some(200)), (Some(2), 2));
 
     // The best one goes, and its place stays; then the other one goes with its place.
-    offer(&mut book, &mut meter, prefix, 2, None)?;
-    assert_eq!(rt; slot_of_best(&book, prefix), Some(1));
-    leave(&mut book, &mut meter, prefix, 1);
-    assert_eq!(rt; slot_of_best(&book, prefix), None);
-    assert_eq!(rt; meter.count(), 4);
+    turns(rt, book, &mut meter, prefix, (2, None), (Some(1), 3));
+    leave(book, &mut meter, prefix, 1);
+    is_best(rt, book, &meter, prefix, (None, 4));
 
     // A place without a candidate goes without a choice.
-    leave(&mut book, &mut meter, prefix, 2);
-    assert_eq!(rt; meter.count(), 4);
-    Ok(())
+    leave(book, &mut meter, prefix, 2);
+    is_best(rt, book, &meter, prefix, (None, 4));
+}
+
+// An empty book.
+fn book_of<A: Allocator + Clone>(rt: &impl Abort, alloc: A) -> PlainBook<A>
+    ensures { AreAddressed (offer_at result) }
+{
+    match PlainBook::empty(alloc) {
+        Ok(book) => book,
+        Err(_) => panic!(rt; "no memory"),
+    }
 }
 
 #[test]
-fn a_withdrawn_best_gives_way_to_the_next(rt: HostRuntime) -> Result<(), Fail> {
-    let book = PlainBook::empty(rt.alloc())?;
-    follows_its_candidates(&rt, book, Prefix::new(0x0a00_0000, 16)?)
+fn a_withdrawn_best_gives_way_to_the_next(rt: HostRuntime) {
+    let prefix = prefix_of(&rt, 0x0a00_0000, 16);
+    let mut book = book_of(&rt, rt.alloc());
+    follows_its_candidates(&rt, &mut book, prefix);
+}
+
+// The prefix and the slot of the first row above a prefix, or of all, are these.
+fn is_row<A: Allocator + Clone, B: Book<A>>(
+    rt: &impl Abort,
+    book: &B,
+    after: Option<Prefix>,
+    row: Option<(Prefix, u8)>,
+) {
+    assert_eq!(rt; row_after(book, after), row);
 }
 
 // The rows of a book with candidates at two prefixes, and a place at one between them.
 fn shows_rows<A: Allocator + Clone, B: Book<A>>(
     rt: &impl Abort,
-    mut book: B,
+    book: &B,
     low: Prefix,
     middle: Prefix,
     high: Prefix,
-) -> Result<(), Fail>
-    requires { AreAddressed (offer_at (B.kept book)) }
+) {
+    is_row(rt, book, None, Some((low, 3)));
+    is_row(rt, book, Some(low), Some((high, 3)));
+    is_row(rt, book, Some(middle), Some((high, 3)));
+    is_row(rt, book, Some(high), None);
+}
+
+// Makes those candidates and that place.
+fn make_rows<A: Allocator + Clone, B: Book<A>>(
+    book: &mut B,
+    low: Prefix,
+    middle: Prefix,
+    high: Prefix,
+) -> Result<(), AllocError>
+    requires { AreAddressed (offer_at (B.kept book.old)) }
 {
     let mut meter = Meter::new();
-    offer(&mut book, &mut meter, high, 3, Some(100))?;
-    offer(&mut book, &mut meter, low, 3, Some(100))?;
-    book.room(3, middle)?;
-    assert_eq!(rt; row_after(&book, None), Some((low, 3)));
-    assert_eq!(rt; row_after(&book, Some(low)), Some((high, 3)));
-    assert_eq!(rt; row_after(&book, Some(middle)), Some((high, 3)));
-    assert_eq!(rt; row_after(&book, Some(high)), None);
-    Ok(())
+    offer(book, &mut meter, high, 3, Some(100))?;
+    offer(book, &mut meter, low, 3, Some(100))?;
+    book.room(3, middle)
 }
 
 #[test]
-fn the_rows_rise(rt: HostRuntime) -> Result<(), Fail> {
-    let low = Prefix::new(0x0a00_0000, 16)?;
-    let middle = Prefix::new(0x0a00_0000, 24)?;
-    let high = Prefix::new(0x0a01_0000, 16)?;
-    let book = PlainBook::empty(rt.alloc())?;
-    shows_rows(&rt, book, low, middle, high)
+fn the_rows_rise(rt: HostRuntime) {
+    let low = prefix_of(&rt, 0x0a00_0000, 16);
+    let middle = prefix_of(&rt, 0x0a00_0000, 24);
+    let high = prefix_of(&rt, 0x0a01_0000, 16);
+    let mut book = book_of(&rt, rt.alloc());
+    assert!(rt; make_rows(&mut book, low, middle, high).is_ok());
+    shows_rows(&rt, &book, low, middle, high);
+}
+
+// Makes a place, and asks again where a growth is refused. Answers whether one was.
+fn is_made_again<A: Allocator + Clone, B: Book<A>>(
+    rt: &impl Abort,
+    book: &mut B,
+    slot: u8,
+    prefix: Prefix,
+) -> bool {
+    let refused = book.room(slot, prefix).is_err();
+    if refused {
+        assert_eq!(rt; slot_of_best(book, prefix), None);
+        assert!(rt; book.room(slot, prefix).is_ok());
+    }
+    refused
 }
 
 // Makes a place at each of some prefixes, and asks again where a growth is refused. Answers how often one was.
-fn fill<A: Allocator + Clone, B: Book<A>>(rt: &impl Abort, mut book: B) -> Result<u32, Fail> {
+fn fill<A: Allocator + Clone, B: Book<A>>(rt: &impl Abort, book: &mut B) -> u32 {
     let mut refused = 0u32;
     for number in 0..32u32 {
-        let prefix = Prefix::new(number * 256, 24)?;
+        let prefix = prefix_of(rt, number * 256, 24);
         for slot in 0..4u8 {
-            if book.room(slot, prefix).is_err() {
+            if is_made_again(rt, book, slot, prefix) {
                 refused = refused.saturating_add(1);
-                assert_eq!(rt; slot_of_best(&book, prefix), None);
-                book.room(slot, prefix)?;
             }
         }
     }
-    Ok(refused)
+    refused
+}
+
+// Fills a book from a heap that refuses the nth request. Answers whether it did.
+fn is_filled(rt: &impl Abort, alloc: Global, nth: u64) -> bool
+    requires { 1 ≤ nth }
+{
+    let heap = Refusing::new(alloc, nth);
+    let mut book = book_of(rt, &heap);
+    let refused = fill(rt, &mut book);
+    let left = heap.has_refused();
+    if !left {
+        assert_eq!(rt; refused, 0);
+    }
+    left
 }
 
 #[test]
-fn a_refused_place_is_asked_for_again(rt: HostRuntime) -> Result<(), Fail> {
+fn a_refused_place_is_asked_for_again(rt: HostRuntime) {
+    let mut left = true;
     for nth in 2..1_000u64 {
-        let heap = Refusing::new(rt.alloc(), nth);
-        let book = PlainBook::empty(&heap)?;
-        let refused = fill(&rt, book)?;
-        if !heap.has_refused() {
-            assert_eq!(rt; refused, 0);
-            return Ok(());
+        left = is_filled(&rt, rt.alloc(), nth);
+        if !left {
+            break;
         }
     }
-    panic!(rt; "no end");
+    assert!(rt; !left);
 }

@@ -1,5 +1,6 @@
 //! A route of AS 65001 as AS 65000 sends it on, to other ASes and to its own.
 
+use crate::attributes::attrs_of;
 use arrayvec::ArrayVec;
 use bgp_attr::{Attrs, Origin, PeerKind, read_attrs};
 use decision::Candidate;
@@ -8,6 +9,7 @@ use net_prefix::Asn;
 use origin_valid::Validity;
 use policy::Action;
 use std::alloc::Global;
+use std::process::Abort;
 use std::test::Fail;
 
 #[rattlefmt::skip]
@@ -15,6 +17,15 @@ const RECEIVED: [u8; 20] = [
     0x40, 0x01, 0x01, 0x00,
     0x40, 0x02, 0x06, 0x02, 0x01, 0x00, 0x00, 0xfd, 0xe9,
     0x40, 0x03, 0x04, 192, 0, 2, 11,
+];
+
+// The same with MULTI_EXIT_DISC 10.
+#[rattlefmt::skip]
+const WITH_DISC: [u8; 27] = [
+    0x40, 0x01, 0x01, 0x00,
+    0x40, 0x02, 0x06, 0x02, 0x01, 0x00, 0x00, 0xfd, 0xe9,
+    0x40, 0x03, 0x04, 192, 0, 2, 11,
+    0x80, 4, 4, 0, 0, 0, 10,
 ];
 
 #[rattlefmt::skip]
@@ -157,60 +168,33 @@ fn is_sent_inside(
         && out.as_slice().ends_with(behind)
 }
 
+// Whether the route of these octets, which have a MULTI_EXIT_DISC, goes on inside as it came.
+fn is_sent_as_it_came(rt: &impl Abort, alloc: Global, octets: &[u8]) -> bool {
+    let attrs = attrs_of(rt, alloc, octets, PeerKind::External(Asn(65001)));
+    let behind = [0x40, 5, 4, 0, 0, 0, 100];
+    is_sent_inside(&attrs, &ROUTE, ACCEPT, octets, &behind)
+}
+
 // Path and next hop as they came, MULTI_EXIT_DISC too where no rule sets another, and the degree as LOCAL_PREF; a rule's
 // own ASes are left out.
 #[test]
-fn sends_a_route_to_its_own_as(rt: HostRuntime) -> Result<(), Fail> {
-    let mut octets = Vec::from_slice(rt.alloc(), &RECEIVED)?;
-    let attrs = read_attrs(
-        &rt.alloc(),
-        octets.as_slice(),
-        PeerKind::External(Asn(65001)),
-    )?;
+fn sends_a_route_to_its_own_as(rt: HostRuntime) {
+    assert!(rt; is_sent_as_it_came(&rt, rt.alloc(), &WITH_DISC));
+    let attrs = attrs_of(&rt, rt.alloc(), &RECEIVED, PeerKind::External(Asn(65001)));
     let preferred = Candidate {
         degree: 200,
         ..ROUTE
     };
-    assert!(rt;
-        is_sent_inside(
-            &attrs,
-            &preferred,
-            ACCEPT,
-            &RECEIVED,
-            &[0x40, 5, 4, 0, 0, 0, 200]
-        )
-    );
-    assert!(rt;
-        is_sent_inside(
-            &attrs,
-            &ROUTE,
-            setting(5, 2),
-            &RECEIVED,
-            &[0x80, 4, 4, 0, 0, 0, 5, 0x40, 5, 4, 0, 0, 0, 100]
-        )
-    );
-    octets.extend_from_slice(&[0x80, 4, 4, 0, 0, 0, 10])?;
-    let attrs = read_attrs(
-        &rt.alloc(),
-        octets.as_slice(),
-        PeerKind::External(Asn(65001)),
-    )?;
-    assert!(rt;
-        is_sent_inside(
-            &attrs,
-            &ROUTE,
-            ACCEPT,
-            octets.as_slice(),
-            &[0x40, 5, 4, 0, 0, 0, 100]
-        )
-    );
-    Ok(())
+    let degree = [0x40, 5, 4, 0, 0, 0, 200];
+    assert!(rt; is_sent_inside(&attrs, &preferred, ACCEPT, &RECEIVED, &degree));
+    let set = [0x80, 4, 4, 0, 0, 0, 5, 0x40, 5, 4, 0, 0, 0, 100];
+    assert!(rt; is_sent_inside(&attrs, &ROUTE, setting(5, 2), &RECEIVED, &set));
 }
 
 // What an internal peer announced goes to other ASes alone.
 #[test]
-fn sends_no_route_from_inside_to_its_own_as(rt: HostRuntime) -> Result<(), Fail> {
-    let attrs = read_attrs(&rt.alloc(), &RECEIVED, PeerKind::Internal)?;
+fn sends_no_route_from_inside_to_its_own_as(rt: HostRuntime) {
+    let attrs = attrs_of(&rt, rt.alloc(), &RECEIVED, PeerKind::Internal);
     let inside = Candidate {
         external: false,
         ..ROUTE
@@ -218,7 +202,6 @@ fn sends_no_route_from_inside_to_its_own_as(rt: HostRuntime) -> Result<(), Fail>
     let mut out = ArrayVec::new();
     assert!(rt; !export_of(&inside, &attrs, &INTERNAL, ACCEPT, &mut out) && out.is_empty());
     assert!(rt; export_of(&inside, &attrs, &PEER, ACCEPT, &mut out) && out.as_slice() == &SENT[..]);
-    Ok(())
 }
 
 #[test]
@@ -253,54 +236,44 @@ fn is_sent_with(attrs: &Attrs, action: Action, octets: usize, behind: &[u8]) -> 
 }
 
 #[test]
-fn sends_on_what_is_not_its_own(rt: HostRuntime) -> Result<(), Fail> {
-    let mut octets = Vec::from_slice(rt.alloc(), &RECEIVED)?;
-    octets.extend_from_slice(&FURTHER)?;
-    let attrs = read_attrs(&rt.alloc(), octets.as_slice(), PeerKind::Internal)?;
+fn sends_on_what_is_not_its_own(rt: HostRuntime) {
+    let mut octets: ArrayVec<u8, 52> = ArrayVec::new();
+    assert!(rt; octets.try_extend_from_slice(&RECEIVED).is_ok());
+    assert!(rt; octets.try_extend_from_slice(&FURTHER).is_ok());
+    let attrs = attrs_of(&rt, rt.alloc(), octets.as_slice(), PeerKind::Internal);
     assert!(rt; is_sent_with(&attrs, ACCEPT, 42, &FURTHER_SENT));
     // What a rule sets stands in the place of the MULTI_EXIT_DISC that came.
-    assert!(rt;
-        is_sent_with(
-            &attrs,
-            setting(0, 0),
-            49,
-            &[0x80, 4, 4, 0, 0, 0, 0, 0x40, 6, 0]
-        )
-    );
-    Ok(())
+    let set = [0x80, 4, 4, 0, 0, 0, 0, 0x40, 6, 0];
+    assert!(rt; is_sent_with(&attrs, setting(0, 0), 49, &set));
 }
 
 #[test]
-fn sends_on_what_a_message_holds(rt: HostRuntime) -> Result<(), Fail> {
-    assert!(rt; is_sent_with(&long(&rt, 0xC8)?, ACCEPT, 4_068, &[0xF0, 0x63, 0x0F, 0xC8]));
+fn sends_on_what_a_message_holds(rt: HostRuntime) {
+    let longest = long(&rt, rt.alloc(), 0xC8);
+    assert!(rt; is_sent_with(&longest, ACCEPT, 4_068, &[0xF0, 0x63, 0x0F, 0xC8]));
+    let longer = long(&rt, rt.alloc(), 0xC9);
     let mut out = ArrayVec::new();
-    assert!(rt; !export_of(&ROUTE, &long(&rt, 0xC9)?, &PEER, ACCEPT, &mut out) && out.is_empty());
-    Ok(())
+    assert!(rt; !export_of(&ROUTE, &longer, &PEER, ACCEPT, &mut out) && out.is_empty());
 }
 
 // The attributes with an unknown one of 3,840 octets and so many more.
-fn long(rt: &HostRuntime, more: u8) -> Result<Attrs, Fail> {
-    let mut octets = Vec::from_slice(rt.alloc(), &RECEIVED)?;
-    octets.extend_from_slice(&[0xD0, 0x63, 0x0F, more])?;
-    octets.resize(RECEIVED.len() + 4 + 3_840 + usize::from(more), 0xAB)?;
-    let attrs = read_attrs(
-        &rt.alloc(),
-        octets.as_slice(),
-        PeerKind::External(Asn(65001)),
-    )?;
-    Ok(attrs)
+fn long(rt: &impl Abort, alloc: Global, more: u8) -> Attrs {
+    let mut octets = [0xAB; 4_119];
+    octets[..20].copy_from_slice(&RECEIVED);
+    octets[20..24].copy_from_slice(&[0xD0, 0x63, 0x0F, more]);
+    let len = 24 + 3_840 + usize::from(more);
+    attrs_of(rt, alloc, &octets[..len], PeerKind::External(Asn(65001)))
 }
 
 #[test]
-fn sends_on_what_a_rule_sets(rt: HostRuntime) -> Result<(), Fail> {
-    let attrs = read_attrs(&rt.alloc(), &RECEIVED, PeerKind::External(Asn(65001)))?;
+fn sends_on_what_a_rule_sets(rt: HostRuntime) {
+    let attrs = attrs_of(&rt, rt.alloc(), &RECEIVED, PeerKind::External(Asn(65001)));
     let greatest = setting(u32::MAX, 0);
     assert!(rt; is_sent_with(&attrs, greatest, 31, &[0x80, 4, 4, 0xff, 0xff, 0xff, 0xff]));
     let mut out = ArrayVec::new();
     assert!(rt; export_of(&ROUTE, &attrs, &PEER, setting(5, 2), &mut out));
     assert!(rt; out.as_slice() == &SENT_TWICE_MORE[..]);
     assert!(rt; !export_of(&ROUTE, &attrs, &PEER, Action::Reject, &mut out) && out.is_empty());
-    Ok(())
 }
 
 // An AS so many times.
@@ -333,13 +306,14 @@ fn of_262_ases(alloc: Global) -> Result<Vec<u8>, Fail> {
 #[test]
 fn fills_a_segment_and_begins_another(rt: HostRuntime) -> Result<(), Fail> {
     let received = of_253_ases(rt.alloc())?;
-    let attrs = read_attrs(
-        &rt.alloc(),
-        received.as_slice(),
-        PeerKind::External(Asn(65001)),
-    )?;
-    let mut out = ArrayVec::new();
-    assert!(rt; export_of(&ROUTE, &attrs, &PEER, setting(5, 8), &mut out));
-    assert!(rt; out.as_slice() == of_262_ases(rt.alloc())?.as_slice());
+    let sent = of_262_ases(rt.alloc())?;
+    assert!(rt; is_sent_as(&rt, rt.alloc(), received.as_slice(), sent.as_slice()));
     Ok(())
+}
+
+// Whether the route of these attributes is sent on with the own AS nine times in front, as these octets.
+fn is_sent_as(rt: &impl Abort, alloc: Global, received: &[u8], sent: &[u8]) -> bool {
+    let attrs = attrs_of(rt, alloc, received, PeerKind::External(Asn(65001)));
+    let mut out = ArrayVec::new();
+    export_of(&ROUTE, &attrs, &PEER, setting(5, 8), &mut out) && out.as_slice() == sent
 }

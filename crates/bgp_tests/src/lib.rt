@@ -15,6 +15,8 @@ mod commands;
 #[cfg(test)]
 mod export;
 #[cfg(test)]
+mod given;
+#[cfg(test)]
 mod messages;
 #[cfg(test)]
 mod policies;

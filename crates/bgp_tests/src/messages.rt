@@ -1,14 +1,15 @@
 //! Messages in octets, as peers send them.
+use crate::given::prefix_of;
 use arrayvec::ArrayVec;
 use bgp_attr::{AttributeType, PeerKind, UpdateFault};
 use bgp_msg::{
     Expected, Fault, Frame, HeaderFault, MessageType, Notification, Open, OpenFault, Prefixes,
-    SessionError, Step, needed, read, read_open, read_update, write_announcement, write_keepalive,
-    write_notification, write_open, write_withdrawal,
+    SessionError, Step, Update, needed, read, read_open, read_update, write_announcement,
+    write_keepalive, write_notification, write_open, write_withdrawal,
 };
 use net_prefix::{Asn, Prefix};
 use std::alloc::Global;
-use std::test::Fail;
+use std::process::Abort;
 
 // ORIGIN IGP, AS_PATH 65001, NEXT_HOP 192.0.2.11.
 const ATTRIBUTES: [u8; 20] = [
@@ -258,36 +259,45 @@ fn are(mut found: Prefixes<'_>, wanted: &[(u32, u8)]) -> bool {
     found.next().is_none()
 }
 
+// The UPDATE of this body, which has no fault.
+fn update_of<'a>(
+    rt: &impl Abort,
+    alloc: Global,
+    body: &'a [u8],
+    kind: PeerKind,
+) -> Update<'a, Global> {
+    match read_update(&alloc, body, kind) {
+        Ok(update) => update,
+        Err(_) => panic!(rt; "a fault"),
+    }
+}
+
 #[test]
-fn updates_name_their_prefixes(rt: HostRuntime) -> Result<(), Fail> {
+fn updates_name_their_prefixes(rt: HostRuntime) {
     let kind = PeerKind::External(Asn(65001));
     let body = body_with(&[0x18, 10, 0, 0, 0x17, 10, 0, 1]);
-    let update = read_update(&rt.alloc(), body.as_slice(), kind)
-        .ok()
-        .ok_or("an UPDATE")?;
+    let update = update_of(&rt, rt.alloc(), body.as_slice(), kind);
     assert!(rt; are(update.withdrawn(), &[(0x0A000100, 24)]));
     assert!(rt; are(update.announced(), &[(0x0A000000, 24), (0x0A000000, 23)]));
-    Ok(())
 }
 
 #[test]
-fn updates_have_attributes(rt: HostRuntime) -> Result<(), Fail> {
+fn updates_have_attributes(rt: HostRuntime) {
     let body = body_with(&[0x18, 10, 0, 0]);
-    let update = read_update(&rt.alloc(), body.as_slice(), PeerKind::External(Asn(65001)))
-        .ok()
-        .ok_or("an UPDATE")?;
+    let update = update_of(
+        &rt,
+        rt.alloc(),
+        body.as_slice(),
+        PeerKind::External(Asn(65001)),
+    );
     assert!(rt; update.attrs().next_hop() == Some(0xC000020B));
     assert!(rt; update.into_attrs().next_hop() == Some(0xC000020B));
-    Ok(())
 }
 
 #[test]
-fn an_update_may_say_nothing(rt: HostRuntime) -> Result<(), Fail> {
-    let nothing = read_update(&rt.alloc(), &[0, 0, 0, 0], PeerKind::Internal)
-        .ok()
-        .ok_or("an UPDATE")?;
+fn an_update_may_say_nothing(rt: HostRuntime) {
+    let nothing = update_of(&rt, rt.alloc(), &[0, 0, 0, 0], PeerKind::Internal);
     assert!(rt; are(nothing.announced(), &[]));
-    Ok(())
 }
 
 // ORIGIN and AS_PATH without NEXT_HOP, and 10.0.1.0/24.
@@ -313,8 +323,8 @@ fn faulty_updates_are_refused(rt: HostRuntime) {
 }
 
 #[test]
-fn updates_are_written(rt: HostRuntime) -> Result<(), Fail> {
-    let prefix = Prefix::new(0x0A000100, 24).ok().ok_or("a prefix")?;
+fn updates_are_written(rt: HostRuntime) {
+    let prefix = prefix_of(&rt, 0x0A000100, 24);
     let mut message = ArrayVec::new();
     write_withdrawal(&[prefix], &mut message);
     assert!(rt; message.as_slice() == marked(&[0, 0x1B, 2, 0, 4, 0x18, 10, 0, 1, 0, 0]).as_slice());
@@ -323,5 +333,4 @@ fn updates_are_written(rt: HostRuntime) -> Result<(), Fail> {
     let _fits = wanted.try_extend_from_slice(&ATTRIBUTES);
     let _fits = wanted.try_extend_from_slice(&[0x18, 10, 0, 1]);
     assert!(rt; message.as_slice() == wanted.as_slice());
-    Ok(())
 }

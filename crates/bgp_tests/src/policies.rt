@@ -1,6 +1,8 @@
 //! Policies: which rule decides, what each of its tests asks, and which changes are refused.
+ghost use Rattle.std.specs.Prelude.{◌≤◌};
 
 use crate::adj_rib_in::shared;
+use crate::given::prefix_of;
 use bgp_attr::AsPath;
 use net_prefix::{Asn, Prefix};
 use origin_valid::Validity;
@@ -10,7 +12,6 @@ use policy::{
 use refusing::Refusing;
 use std::alloc::{Allocator, Global};
 use std::process::Abort;
-use std::test::Fail;
 
 // Asks nothing of a route.
 const ANY: Condition = Condition {
@@ -148,11 +149,11 @@ fn from_slot(slot: u8) -> Condition {
 }
 
 #[test]
-fn a_rule_asks_for_prefixes_and_lengths(rt: HostRuntime) -> Result<(), Fail> {
-    let wide = Prefix::new(0x0a00_0000, 8)?;
-    let inner = Prefix::new(0x0a01_0000, 16)?;
-    let beside = Prefix::new(0x0b00_0000, 8)?;
-    let longer = Prefix::new(0x0a01_0000, 17)?;
+fn a_rule_asks_for_prefixes_and_lengths(rt: HostRuntime) {
+    let wide = prefix_of(&rt, 0x0a00_0000, 8);
+    let inner = prefix_of(&rt, 0x0a01_0000, 16);
+    let beside = prefix_of(&rt, 0x0b00_0000, 8);
+    let longer = prefix_of(&rt, 0x0a01_0000, 17);
     let rows = [
         (ANY, true),
         (within(wide, 8, 32), true),
@@ -164,13 +165,12 @@ fn a_rule_asks_for_prefixes_and_lengths(rt: HostRuntime) -> Result<(), Fail> {
         (within(longer, 0, 32), false),
     ];
     assert!(rt; are_matches(rt.alloc(), &rows, &announced(inner, None)));
-    Ok(())
 }
 
 #[test]
-fn a_rule_asks_for_what_a_route_has(rt: HostRuntime) -> Result<(), Fail> {
-    let attrs = shared(&rt, rt.alloc())?;
-    let route = announced(Prefix::new(0x0a01_0000, 16)?, attrs.as_path());
+fn a_rule_asks_for_what_a_route_has(rt: HostRuntime) {
+    let attrs = shared(&rt, rt.alloc());
+    let route = announced(prefix_of(&rt, 0x0a01_0000, 16), attrs.as_path());
     let rows = [
         (of_state(Validity::Valid), true),
         (of_state(Validity::Invalid), false),
@@ -183,12 +183,11 @@ fn a_rule_asks_for_what_a_route_has(rt: HostRuntime) -> Result<(), Fail> {
         (from_slot(4), false),
     ];
     assert!(rt; are_matches(rt.alloc(), &rows, &route));
-    Ok(())
 }
 
 #[test]
-fn what_a_route_lacks_meets_no_test(rt: HostRuntime) -> Result<(), Fail> {
-    let route = network(Prefix::new(0x0a01_0000, 16)?);
+fn what_a_route_lacks_meets_no_test(rt: HostRuntime) {
+    let route = network(prefix_of(&rt, 0x0a01_0000, 16));
     let rows = [
         (ANY, true),
         (of_origin(0), false),
@@ -198,12 +197,11 @@ fn what_a_route_lacks_meets_no_test(rt: HostRuntime) -> Result<(), Fail> {
         (from_slot(63), false),
     ];
     assert!(rt; are_matches(rt.alloc(), &rows, &route));
-    Ok(())
 }
 
 #[test]
-fn a_rule_asks_for_all_of_its_tests(rt: HostRuntime) -> Result<(), Fail> {
-    let prefix = Prefix::new(0x0a01_0000, 16)?;
+fn a_rule_asks_for_all_of_its_tests(rt: HostRuntime) {
+    let prefix = prefix_of(&rt, 0x0a01_0000, 16);
     let both = Condition {
         state: Some(Validity::Valid),
         ..from_slot(3)
@@ -214,16 +212,17 @@ fn a_rule_asks_for_all_of_its_tests(rt: HostRuntime) -> Result<(), Fail> {
     assert!(rt; !is_match(rt.alloc(), both, &invalid));
     let elsewhere = of_slot(4, prefix, Validity::Valid);
     assert!(rt; !is_match(rt.alloc(), both, &elsewhere));
-    Ok(())
 }
 
-#[test]
-fn the_first_rule_that_matches_decides(rt: HostRuntime) -> Result<(), Fail> {
-    let all_set = Action::Accept {
-        degree: Some(200),
-        med: Some(0),
-        prepend: Some(8),
-    };
+// What sets all that an action may set.
+const ALL_SET: Action = Action::Accept {
+    degree: Some(200),
+    med: Some(0),
+    prepend: Some(8),
+};
+
+// Of a policy that has a rule for invalid routes, one for those of AS 65001, and one for any route.
+fn decides_by_the_first(rt: &impl Abort, policies: &mut Policies, prefix: Prefix) {
     let rules = [
         Rule {
             condition: of_state(Validity::Invalid),
@@ -231,7 +230,7 @@ fn the_first_rule_that_matches_decides(rt: HostRuntime) -> Result<(), Fail> {
         },
         Rule {
             condition: of_origin(65001),
-            action: all_set,
+            action: ALL_SET,
         },
         Rule {
             condition: ANY,
@@ -239,37 +238,39 @@ fn the_first_rule_that_matches_decides(rt: HostRuntime) -> Result<(), Fail> {
         },
         REJECT_ALL,
     ];
-    let prefix = Prefix::new(0x0a01_0000, 16)?;
-    let mut policies = Policies::new(rt.alloc());
-    assert!(rt; sets(&mut policies, "by-state", &rules));
-    assert!(rt;
-        makes(
-            &policies,
-            "by-state",
-            &of_slot(3, prefix, Validity::Invalid),
-            Action::Reject
-        )
-    );
-    assert!(rt; makes(&policies, "by-state", &announced(prefix, None), all_set));
-    assert!(rt; makes(&policies, "by-state", &network(prefix), of_degree(100)));
-    Ok(())
+    assert!(rt; sets(policies, "by-state", &rules));
+    let invalid = of_slot(3, prefix, Validity::Invalid);
+    assert!(rt; makes(policies, "by-state", &invalid, Action::Reject));
+    assert!(rt; makes(policies, "by-state", &announced(prefix, None), ALL_SET));
+    assert!(rt; makes(policies, "by-state", &network(prefix), of_degree(100)));
 }
 
 #[test]
-fn no_match_rejects(rt: HostRuntime) -> Result<(), Fail> {
-    let route = announced(Prefix::new(0x0a01_0000, 16)?, None);
+fn the_first_rule_that_matches_decides(rt: HostRuntime) {
+    let prefix = prefix_of(&rt, 0x0a01_0000, 16);
+    let mut policies = Policies::new(rt.alloc());
+    decides_by_the_first(&rt, &mut policies, prefix);
+}
+
+// By policies none of whose rules match, and by those that are not there.
+fn rejects_without_a_match(rt: &impl Abort, policies: &mut Policies, route: &SeenRoute<'_>) {
     let rule = Rule {
         condition: from_slot(4),
         action: ACCEPT,
     };
-    let mut policies = Policies::new(rt.alloc());
-    assert!(rt; sets(&mut policies, "from-4", &[rule, rule]));
-    assert!(rt; sets(&mut policies, "empty", &[]));
+    assert!(rt; sets(policies, "from-4", &[rule, rule]));
+    assert!(rt; sets(policies, "empty", &[]));
     for name in ["from-4", "empty", "none", "unknown"] {
-        assert!(rt; makes(&policies, name, &route, Action::Reject));
+        assert!(rt; makes(policies, name, route, Action::Reject));
     }
-    assert!(rt; makes(&policies, "all", &route, ACCEPT));
-    Ok(())
+    assert!(rt; makes(policies, "all", route, ACCEPT));
+}
+
+#[test]
+fn no_match_rejects(rt: HostRuntime) {
+    let route = announced(prefix_of(&rt, 0x0a01_0000, 16), None);
+    let mut policies = Policies::new(rt.alloc());
+    rejects_without_a_match(&rt, &mut policies, &route);
 }
 
 fn knows(policies: &Policies, name: &str) -> bool {
@@ -279,23 +280,37 @@ fn knows(policies: &Policies, name: &str) -> bool {
     }
 }
 
-#[test]
-fn a_policy_is_replaced_and_dropped(rt: HostRuntime) -> Result<(), Fail> {
-    let route = announced(Prefix::new(0x0a01_0000, 16)?, None);
-    let mut policies = Policies::new(rt.alloc());
-    assert!(rt; knows(&policies, "all") && knows(&policies, "none"));
-    assert!(rt; !knows(&policies, "peer"));
-    assert!(rt; sets(&mut policies, "peer", &[ACCEPT_ALL]));
-    assert!(rt; sets(&mut policies, "other", &[ACCEPT_ALL, REJECT_ALL]));
-    assert!(rt; makes(&policies, "peer", &route, ACCEPT));
-    assert!(rt; sets(&mut policies, "peer", &[REJECT_ALL, ACCEPT_ALL]));
-    assert!(rt; makes(&policies, "peer", &route, Action::Reject));
-    assert!(rt; makes(&policies, "other", &route, ACCEPT));
+// Of two policies that are set.
+fn sets_two_policies(rt: &impl Abort, policies: &mut Policies) {
+    assert!(rt; knows(policies, "all") && knows(policies, "none"));
+    assert!(rt; !knows(policies, "peer"));
+    assert!(rt; sets(policies, "peer", &[ACCEPT_ALL]));
+    assert!(rt; sets(policies, "other", &[ACCEPT_ALL, REJECT_ALL]));
+}
+
+// One of them is replaced.
+fn replaces_a_policy(rt: &impl Abort, policies: &mut Policies, route: &SeenRoute<'_>) {
+    assert!(rt; makes(policies, "peer", route, ACCEPT));
+    assert!(rt; sets(policies, "peer", &[REJECT_ALL, ACCEPT_ALL]));
+    assert!(rt; makes(policies, "peer", route, Action::Reject));
+    assert!(rt; makes(policies, "other", route, ACCEPT));
+}
+
+// And then it is dropped.
+fn drops_a_policy(rt: &impl Abort, policies: &mut Policies, route: &SeenRoute<'_>) {
     assert!(rt; policies.drop_name("peer", false).is_ok());
-    assert!(rt; !knows(&policies, "peer") && knows(&policies, "other"));
-    assert!(rt; makes(&policies, "peer", &route, Action::Reject));
-    assert!(rt; makes(&policies, "other", &route, ACCEPT));
-    Ok(())
+    assert!(rt; !knows(policies, "peer") && knows(policies, "other"));
+    assert!(rt; makes(policies, "peer", route, Action::Reject));
+    assert!(rt; makes(policies, "other", route, ACCEPT));
+}
+
+#[test]
+fn a_policy_is_replaced_and_dropped(rt: HostRuntime) {
+    let route = announced(prefix_of(&rt, 0x0a01_0000, 16), None);
+    let mut policies = Policies::new(rt.alloc());
+    sets_two_policies(&rt, &mut policies);
+    replaces_a_policy(&rt, &mut policies, &route);
+    drops_a_policy(&rt, &mut policies, &route);
 }
 
 #[test]
@@ -345,31 +360,55 @@ fn is_refused(
     assert_eq!(rt; drop_refused(rt, policies, name, false), refusal);
 }
 
+// The same where there are no policies yet.
+fn is_refused_alone(rt: &impl Abort, alloc: Global, name: &str, refusal: Option<PolicyRefusal>) {
+    let mut policies = Policies::new(alloc);
+    is_refused(rt, &mut policies, name, refusal);
+}
+
+const NAMES: [(&str, Option<PolicyRefusal>); 8] = [
+    ("a", None),
+    ("0-z9", None),
+    ("abcdefghijklmnopqrstuvwxyz-01234", None),
+    ("", Some(PolicyRefusal::Range)),
+    (
+        "abcdefghijklmnopqrstuvwxyz-012345",
+        Some(PolicyRefusal::Range),
+    ),
+    ("Peer", Some(PolicyRefusal::Range)),
+    ("a_b", Some(PolicyRefusal::Range)),
+    ("a b", Some(PolicyRefusal::Range)),
+];
+
 #[test]
 fn a_name_has_1_to_32_small_letters_digits_and_hyphens(rt: HostRuntime) {
-    for (name, refusal) in [
-        ("a", None),
-        ("0-z9", None),
-        ("abcdefghijklmnopqrstuvwxyz-01234", None),
-        ("", Some(PolicyRefusal::Range)),
-        (
-            "abcdefghijklmnopqrstuvwxyz-012345",
-            Some(PolicyRefusal::Range),
-        ),
-        ("Peer", Some(PolicyRefusal::Range)),
-        ("a_b", Some(PolicyRefusal::Range)),
-        ("a b", Some(PolicyRefusal::Range)),
-    ] {
-        let mut policies = Policies::new(rt.alloc());
-        assert_eq!(rt; PolicyName::new(name).err(), refusal);
-        is_refused(&rt, &mut policies, name, refusal);
+    for (name, refusal) in &NAMES {
+        assert_eq!(rt; PolicyName::new(name).err(), *refusal);
+        is_refused_alone(&rt, rt.alloc(), name, *refusal);
+    }
+}
+
+// The refusal of the rules where there are no policies yet.
+fn refused_alone(rt: &impl Abort, alloc: Global, rules: &[Rule]) -> Option<PolicyRefusal> {
+    let mut policies = Policies::new(alloc);
+    refused(rt, &mut policies, "peer", rules)
+}
+
+// Whether a rule of each condition is refused as its row says, behind another rule.
+fn are_refused(rt: &impl Abort, alloc: Global, rows: &[(Condition, Option<PolicyRefusal>)]) {
+    for (condition, refusal) in rows {
+        let rule = Rule {
+            condition: *condition,
+            action: Action::Reject,
+        };
+        assert_eq!(rt; refused_alone(rt, alloc, &[REJECT_ALL, rule]), *refusal);
     }
 }
 
 #[test]
-fn numbers_of_rules_have_ranges(rt: HostRuntime) -> Result<(), Fail> {
-    let prefix = Prefix::new(0x0a00_0000, 8)?;
-    for (condition, refusal) in [
+fn numbers_of_rules_have_ranges(rt: HostRuntime) {
+    let prefix = prefix_of(&rt, 0x0a00_0000, 8);
+    let rows = [
         (within(prefix, 0, 32), None),
         (within(prefix, 32, 32), None),
         (within(prefix, 0, 33), Some(PolicyRefusal::Range)),
@@ -377,97 +416,131 @@ fn numbers_of_rules_have_ranges(rt: HostRuntime) -> Result<(), Fail> {
         (within(prefix, 17, 16), Some(PolicyRefusal::Range)),
         (from_slot(63), None),
         (from_slot(64), Some(PolicyRefusal::Range)),
-    ] {
-        let mut policies = Policies::new(rt.alloc());
-        let rule = Rule {
-            condition,
-            action: Action::Reject,
-        };
-        assert_eq!(rt;
-            refused(&rt, &mut policies, "peer", &[REJECT_ALL, rule]),
-            refusal
-        );
-    }
-    Ok(())
+    ];
+    are_refused(&rt, rt.alloc(), &rows);
 }
+
+const TIMES: [(u8, Option<PolicyRefusal>); 4] = [
+    (0, None),
+    (8, None),
+    (9, Some(PolicyRefusal::Range)),
+    (255, Some(PolicyRefusal::Range)),
+];
 
 #[test]
 fn the_own_as_is_put_in_front_8_times_at_most(rt: HostRuntime) {
-    for (times, refusal) in [
-        (0, None),
-        (8, None),
-        (9, Some(PolicyRefusal::Range)),
-        (255, Some(PolicyRefusal::Range)),
-    ] {
-        let mut policies = Policies::new(rt.alloc());
+    for (times, refusal) in &TIMES {
         let rule = Rule {
             condition: ANY,
             action: Action::Accept {
                 degree: None,
                 med: None,
-                prepend: Some(times),
+                prepend: Some(*times),
             },
         };
-        assert_eq!(rt; refused(&rt, &mut policies, "peer", &[rule]), refusal);
+        assert_eq!(rt; refused_alone(&rt, rt.alloc(), &[rule]), *refusal);
     }
+}
+
+fn takes_256_rules(rt: &impl Abort, policies: &mut Policies) {
+    let rules = [REJECT_ALL; 257];
+    let refusal = refused(rt, policies, "peer", &rules);
+    assert_eq!(rt; refusal, Some(PolicyRefusal::TooMany));
+    assert_eq!(rt; refused(rt, policies, "peer", &rules[..256]), None);
 }
 
 #[test]
 fn a_policy_has_256_rules_at_most(rt: HostRuntime) {
-    let rules = [REJECT_ALL; 257];
     let mut policies = Policies::new(rt.alloc());
-    let refusal = refused(&rt, &mut policies, "peer", &rules);
-    assert_eq!(rt; refusal, Some(PolicyRefusal::TooMany));
-    assert_eq!(rt; refused(&rt, &mut policies, "peer", &rules[..256]), None);
+    takes_256_rules(&rt, &mut policies);
 }
 
-#[test]
-fn there_are_64_policies_at_most(rt: HostRuntime) -> Result<(), Fail> {
-    let mut policies = Policies::new(rt.alloc());
+// Sets as many policies as there may be.
+fn set_62(rt: &impl Abort, alloc: Global, policies: &mut Policies) {
     for number in 0..62u32 {
-        let name = format!(in rt.alloc(); "peer-{number}")?;
-        assert_eq!(rt;
-            refused(&rt, &mut policies, name.as_str(), &[ACCEPT_ALL]),
-            None
-        );
+        let Ok(name) = format!(in alloc; "peer-{number}") else {
+            panic!(rt; "no memory");
+        };
+        assert_eq!(rt; refused(rt, policies, name.as_str(), &[ACCEPT_ALL]), None);
     }
-    let full = Some(PolicyRefusal::TooMany);
-    assert_eq!(rt; refused(&rt, &mut policies, "peer-62", &[]), full);
-    assert_eq!(rt; refused(&rt, &mut policies, "peer-61", &[]), None);
-    assert_eq!(rt; drop_refused(&rt, &mut policies, "peer-7", false), None);
-    assert_eq!(rt; refused(&rt, &mut policies, "peer-62", &[]), None);
-    assert_eq!(rt; refused(&rt, &mut policies, "peer-7", &[]), full);
-    Ok(())
 }
 
+// What is done to a policy: no rules are set for its name, or it is dropped, in use or not.
+#[derive(Clone, Copy)]
+enum Done {
+    Set,
+    Drop,
+    DropInUse,
+}
+
+// Does each in turn, which is refused as its row says.
+fn are_done(
+    rt: &impl Abort,
+    policies: &mut Policies,
+    rows: &[(&str, Done, Option<PolicyRefusal>)],
+) {
+    let none: [Rule; 0] = [];
+    for (name, done, refusal) in rows {
+        let told = match done {
+            Done::Set => refused(rt, policies, name, &none),
+            Done::Drop => drop_refused(rt, policies, name, false),
+            Done::DropInUse => drop_refused(rt, policies, name, true),
+        };
+        assert_eq!(rt; told, *refusal);
+    }
+}
+
+// There are 62 beside those that are built in, and one more is taken once one is dropped.
+const FULL: [(&str, Done, Option<PolicyRefusal>); 5] = [
+    ("peer-62", Done::Set, Some(PolicyRefusal::TooMany)),
+    ("peer-61", Done::Set, None),
+    ("peer-7", Done::Drop, None),
+    ("peer-62", Done::Set, None),
+    ("peer-7", Done::Set, Some(PolicyRefusal::TooMany)),
+];
+
 #[test]
-fn what_is_built_in_or_used_stays(rt: HostRuntime) -> Result<(), Fail> {
+fn there_are_64_policies_at_most(rt: HostRuntime) {
+    let mut policies = Policies::new(rt.alloc());
+    set_62(&rt, rt.alloc(), &mut policies);
+    are_done(&rt, &mut policies, &FULL);
+}
+
+// One that isn't in use can be dropped, once.
+const STAYING: [(&str, Done, Option<PolicyRefusal>); 9] = [
+    ("all", Done::Set, Some(PolicyRefusal::InUse)),
+    ("all", Done::Drop, Some(PolicyRefusal::InUse)),
+    ("none", Done::Set, Some(PolicyRefusal::InUse)),
+    ("none", Done::Drop, Some(PolicyRefusal::InUse)),
+    ("peer", Done::DropInUse, Some(PolicyRefusal::InUse)),
+    ("other", Done::DropInUse, Some(PolicyRefusal::UnknownName)),
+    ("peer", Done::Set, None),
+    ("peer", Done::Drop, None),
+    ("peer", Done::Drop, Some(PolicyRefusal::UnknownName)),
+];
+
+#[test]
+fn what_is_built_in_or_used_stays(rt: HostRuntime) {
     let mut policies = Policies::new(rt.alloc());
     assert!(rt; sets(&mut policies, "peer", &[ACCEPT_ALL]));
-    let in_use = Some(PolicyRefusal::InUse);
-    for name in ["all", "none"] {
-        is_refused(&rt, &mut policies, name, in_use);
-    }
-    assert_eq!(rt; drop_refused(&rt, &mut policies, "peer", true), in_use);
-    let unknown = Some(PolicyRefusal::UnknownName);
-    assert_eq!(rt; drop_refused(&rt, &mut policies, "other", true), unknown);
-    assert_eq!(rt; refused(&rt, &mut policies, "peer", &[]), None);
-    assert_eq!(rt; drop_refused(&rt, &mut policies, "peer", false), None);
-    assert_eq!(rt; drop_refused(&rt, &mut policies, "peer", false), unknown);
-    Ok(())
+    are_done(&rt, &mut policies, &STAYING);
 }
 
-#[test]
-fn the_first_refusal_is_told(rt: HostRuntime) {
+fn tells_the_first_refusal(rt: &impl Abort, policies: &mut Policies) {
     let rules = [REJECT_ALL; 257];
-    let mut policies = Policies::new(rt.alloc());
     for (name, rules, refusal) in [
         ("All", &rules[..], PolicyRefusal::Range),
         ("all", &rules[..], PolicyRefusal::TooMany),
         ("all", &rules[..1], PolicyRefusal::InUse),
     ] {
-        assert_eq!(rt; refused(&rt, &mut policies, name, rules), Some(refusal));
+        assert_eq!(rt; refused(rt, policies, name, rules), Some(refusal));
     }
+}
+
+#[test]
+fn the_first_refusal_is_told(rt: HostRuntime) {
+    let mut policies = Policies::new(rt.alloc());
+    tells_the_first_refusal(&rt, &mut policies);
 }
 
 // What the policy of this name makes of a local network.
@@ -486,16 +559,29 @@ fn of_network<A: Allocator + Clone>(
     policies.export(name, &route)
 }
 
+// The names of policies in the order in which they are set, and whether each then accepts any route, or rejects it.
 #[rattlefmt::skip]
-const SETTINGS: [(&str, Rule); 7] = [
-    ("a", ACCEPT_ALL),
-    ("b", ACCEPT_ALL),
-    ("c", ACCEPT_ALL),
-    ("d", ACCEPT_ALL),
-    ("e", ACCEPT_ALL),
-    ("b", REJECT_ALL),
-    ("e", REJECT_ALL),
+const SETTINGS: [(&str, bool); 7] = [
+    ("a", true),
+    ("b", true),
+    ("c", true),
+    ("d", true),
+    ("e", true),
+    ("b", false),
+    ("e", false),
 ];
+
+// Whether the name is known, and what its policy makes of a local network, is as before.
+fn is_left<A: Allocator + Clone>(
+    rt: &impl Abort,
+    policies: &Policies<A>,
+    name: PolicyName,
+    prefix: Prefix,
+    before: (bool, Action),
+) {
+    assert!(rt; policies.knows(name) == before.0);
+    assert!(rt; of_network(policies, name, prefix) == before.1);
+}
 
 // Sets a policy of one rule, and again where a growth is refused. Answers whether one was.
 fn is_set_again<A: Allocator + Clone>(
@@ -503,53 +589,73 @@ fn is_set_again<A: Allocator + Clone>(
     policies: &mut Policies<A>,
     text: &str,
     rule: Rule,
-) -> Result<bool, Fail> {
-    let prefix = Prefix::new(0x0a01_0000, 16)?;
-    let name = PolicyName::new(text)?;
-    let (known, before) = (policies.knows(name), of_network(policies, name, prefix));
-    let refused = match policies.set(text, &[rule]) {
-        Ok(()) => false,
-        Err(refusal) => {
-            assert_eq!(rt; refusal.number(), 44);
-            assert!(rt; policies.knows(name) == known);
-            assert!(rt; of_network(policies, name, prefix) == before);
-            policies.set(text, &[rule])?;
-            true
-        }
-    };
+) -> bool {
+    let prefix = prefix_of(rt, 0x0a01_0000, 16);
+    let name = name_of(rt, text);
+    let before = (policies.knows(name), of_network(policies, name, prefix));
+    let refusal = policies.set(text, &[rule]).err();
+    if let Some(refusal) = refusal {
+        assert_eq!(rt; refusal.number(), 44);
+        is_left(rt, policies, name, prefix, before);
+        assert!(rt; policies.set(text, &[rule]).is_ok());
+    }
     assert!(rt; of_network(policies, name, prefix) == rule.action);
-    Ok(refused)
+    refusal.is_some()
+}
+
+// The name of this text, which is one.
+fn name_of(rt: &impl Abort, text: &str) -> PolicyName {
+    match PolicyName::new(text) {
+        Ok(name) => name,
+        Err(_) => panic!(rt; "no name"),
+    }
 }
 
 // Sets policies, and some again with other rules. Answers how often a growth was refused.
-fn fill<A: Allocator + Clone>(rt: &impl Abort, policies: &mut Policies<A>) -> Result<u32, Fail> {
+fn set_all<A: Allocator + Clone>(rt: &impl Abort, policies: &mut Policies<A>) -> u32 {
     let mut refused = 0u32;
-    for (text, rule) in &SETTINGS {
-        if is_set_again(rt, policies, text, *rule)? {
+    for (text, accepts) in &SETTINGS {
+        let rule = if *accepts { ACCEPT_ALL } else { REJECT_ALL };
+        if is_set_again(rt, policies, text, rule) {
             refused = refused.saturating_add(1);
         }
     }
-    let first = of_network(
-        policies,
-        PolicyName::new("a")?,
-        Prefix::new(0x0a01_0000, 16)?,
-    );
+    refused
+}
+
+// Does so, looks at the first one, and drops one. Answers how often a growth was refused.
+fn fill<A: Allocator + Clone>(rt: &impl Abort, policies: &mut Policies<A>) -> u32 {
+    let refused = set_all(rt, policies);
+    let first = of_network(policies, name_of(rt, "a"), prefix_of(rt, 0x0a01_0000, 16));
     assert!(rt; first == ACCEPT);
-    policies.drop_name("b", false)?;
-    Ok(refused)
+    assert!(rt; policies.drop_name("b", false).is_ok());
+    refused
+}
+
+// Fills the policies, and answers how often a growth was refused.
+fn refusals_in<A: Allocator + Clone>(rt: &impl Abort, mut policies: Policies<A>) -> u32 {
+    fill(rt, &mut policies)
+}
+
+// Sets policies from a heap that refuses the nth request. Answers whether it did.
+fn is_filled(rt: &impl Abort, alloc: Global, nth: u64) -> bool
+    requires { 1 ≤ nth }
+{
+    let heap = Refusing::new(alloc, nth);
+    let refused = refusals_in(rt, Policies::new(&heap));
+    let left = heap.has_refused();
+    assert_eq!(rt; refused, u32::from(left));
+    left
 }
 
 #[test]
-fn a_refused_growth_leaves_the_policies(rt: HostRuntime) -> Result<(), Fail> {
+fn a_refused_growth_leaves_the_policies(rt: HostRuntime) {
+    let mut last = 0u64;
     for nth in 1..1_000u64 {
-        let heap = Refusing::new(rt.alloc(), nth);
-        let refused = fill(&rt, &mut Policies::new(&heap))?;
-        if !heap.has_refused() {
-            assert_eq!(rt; refused, 0);
-            assert!(rt; nth > 7);
-            return Ok(());
+        if !is_filled(&rt, rt.alloc(), nth) {
+            last = nth;
+            break;
         }
-        assert_eq!(rt; refused, 1);
     }
-    panic!(rt; "no end");
+    assert!(rt; last > 7);
 }

@@ -193,7 +193,7 @@ fn session_after(mode: Mode, inputs: &[Came], now: u64) -> Session {
 const ESTABLISHING: [Came; 4] = [Came::Start, Came::Up, Came::Open, Came::Keepalive];
 
 #[test]
-fn the_hold_timer_is_of_the_smaller_hold_time(rt: HostRuntime) -> Result<(), Fail> {
+fn the_hold_timer_is_of_the_smaller_hold_time(rt: HostRuntime) {
     let mut session = session_after(Mode::Passive, &ESTABLISHING, 100);
     assert_eq!(rt; session.timers.hold, Some(190));
     assert_eq!(rt; session.timers.keepalive, Some(130));
@@ -202,11 +202,10 @@ fn the_hold_timer_is_of_the_smaller_hold_time(rt: HostRuntime) -> Result<(), Fai
     assert_eq!(rt; session.timers.keepalive, Some(130));
     assert!(rt; !session.has_ended(Timer::Hold, 239));
     assert!(rt; session.has_ended(Timer::Hold, 240));
-    Ok(())
 }
 
 #[test]
-fn a_hold_time_of_0_runs_no_timer(rt: HostRuntime) -> Result<(), Fail> {
+fn a_hold_time_of_0_runs_no_timer(rt: HostRuntime) {
     let own = Open {
         hold_time: 0,
         ..OWN
@@ -217,21 +216,19 @@ fn a_hold_time_of_0_runs_no_timer(rt: HostRuntime) -> Result<(), Fail> {
     }
     assert_eq!(rt; session.state(), State::Established);
     assert_eq!(rt; session.timers, Timers::STOPPED);
-    Ok(())
 }
 
 #[test]
-fn an_end_behind_the_greatest_moment_never_comes(rt: HostRuntime) -> Result<(), Fail> {
+fn an_end_behind_the_greatest_moment_never_comes(rt: HostRuntime) {
     let session = session_after(Mode::Active, &[Came::Start], u64::MAX - 119);
     assert_eq!(rt; session.state(), State::Connect);
     assert!(rt; !session.has_ended(Timer::ConnectRetry, u64::MAX));
     let session = session_after(Mode::Active, &[Came::Start], u64::MAX - 120);
     assert!(rt; session.has_ended(Timer::ConnectRetry, u64::MAX));
-    Ok(())
 }
 
 #[test]
-fn an_enabled_peer_begins_again_after_a_while(rt: HostRuntime) -> Result<(), Fail> {
+fn an_enabled_peer_begins_again_after_a_while(rt: HostRuntime) {
     let mut session = session_after(Mode::Passive, &ESTABLISHING, 7);
     let _ = take_at(&mut session, Came::Fail, 10);
     assert_eq!(rt; session.timers.idle_hold, Some(40));
@@ -239,11 +236,10 @@ fn an_enabled_peer_begins_again_after_a_while(rt: HostRuntime) -> Result<(), Fai
     assert_eq!(rt; session.timers, Timers::STOPPED);
     let _ = take_at(&mut session, Came::Start, 30);
     assert_eq!(rt; session.state(), State::Active);
-    Ok(())
 }
 
 #[test]
-fn a_closed_session_waits_for_the_loss_of_its_connection(rt: HostRuntime) -> Result<(), Fail> {
+fn a_closed_session_waits_for_the_loss_of_its_connection(rt: HostRuntime) {
     let mut session = Session {
         state: State::Established,
         ..Session::new(OWN, Mode::Passive)
@@ -255,11 +251,10 @@ fn a_closed_session_waits_for_the_loss_of_its_connection(rt: HostRuntime) -> Res
     assert_eq!(rt; session.transport(), Transport::None);
     let _ = take(&mut session, Came::Start);
     assert_eq!(rt; session.transport(), Transport::Listening);
-    Ok(())
 }
 
 #[test]
-fn want_of_memory_ends_established(rt: HostRuntime) -> Result<(), Fail> {
+fn want_of_memory_ends_established(rt: HostRuntime) {
     let mut session = Session {
         state: State::Established,
         ..Session::new(OWN, Mode::Passive)
@@ -267,16 +262,14 @@ fn want_of_memory_ends_established(rt: HostRuntime) -> Result<(), Fail> {
     assert!(rt; take(&mut session, Came::NoMemory).2);
     assert!(rt; !take(&mut session, Came::NoMemory).2);
     assert_eq!(rt; session.transport(), Transport::Closing);
-    Ok(())
 }
 
 #[test]
-fn the_identifier_is_that_of_the_peers_open(rt: HostRuntime) -> Result<(), Fail> {
+fn the_identifier_is_that_of_the_peers_open(rt: HostRuntime) {
     let mut session = Session::new(OWN, Mode::Passive);
     for came in [Came::Start, Came::Up, Came::Open] {
         let _ = take(&mut session, came);
     }
     assert_eq!(rt; session.identifier(), 0x0101_0101);
     assert!(rt; take(&mut session, Came::Keepalive).1);
-    Ok(())
 }
