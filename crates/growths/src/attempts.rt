@@ -1,8 +1,9 @@
 //! The connection attempts of a peer that this side connects to, as calls report them.
+use crate::bare::{self, Play};
 use crate::first_path::CONFIG;
 use net_prefix::Asn;
 use speaker::{Command, Event, Mode, PeerConf, Report, Speaker, State, Transport};
-use std::alloc::Global;
+use std::alloc::Allocator;
 use std::process::Abort;
 use std::test::Fail;
 
@@ -35,26 +36,32 @@ const STEPS: [Step; 10] = [
     (Event::Fail(SLOT),                            false, State::Idle,     Transport::None),
 ];
 
-fn take_step(rt: &impl Abort, speaker: &mut Speaker<Global>, step: &Step) {
+fn take_step<A: Allocator + Clone>(rt: &impl Abort, speaker: &mut Speaker<A>, step: &Step) {
     let (event, opens, state, transport) = *step;
     let report = Report {
         opened: if opens { 1 << SLOT } else { 0 },
         ..Report::NOTHING
     };
-    assert_eq!(rt; speaker.step(event), Ok(report));
-    assert_eq!(rt; speaker.session(SLOT), Some(state));
-    assert_eq!(rt; speaker.transport(SLOT), transport);
+    assert_eq!(rt; bare::step(speaker, event), Ok(report));
+    assert_eq!(rt; bare::session(speaker, SLOT), Some(state));
+    assert_eq!(rt; bare::transport(speaker, SLOT), transport);
 }
 
-fn take_steps(rt: &impl Abort, speaker: &mut Speaker<Global>, steps: &[Step]) {
-    for step in steps {
-        take_step(rt, speaker, step);
+// The steps of a new speaker.
+struct Steps;
+
+impl Play for Steps {
+    type Answer = ();
+
+    fn play<A: Allocator + Clone>(&self, rt: &impl Abort, speaker: &mut Speaker<A>) {
+        for step in STEPS {
+            take_step(rt, speaker, &step);
+        }
     }
 }
 
 #[test]
 fn each_attempt_is_reported_once(rt: HostRuntime) -> Result<(), Fail> {
-    let mut speaker = Speaker::new(rt.alloc(), CONFIG)?;
-    take_steps(&rt, &mut speaker, &STEPS);
+    bare::on_new(&rt, rt.alloc(), CONFIG, &Steps)?;
     Ok(())
 }

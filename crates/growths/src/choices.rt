@@ -1,8 +1,9 @@
 //! How often a best route is chosen on the first path: once for the route that comes, and once when it goes.
+use crate::bare::{self, Play};
 use crate::first_path::{ANNOUNCED_PREFIX, CONFIG, Call, REACHABLE, UP_TO_ROUTE, calls};
 use net_prefix::Prefix;
 use speaker::{Command, Event, Refusal, Report, Speaker};
-use std::alloc::Global;
+use std::alloc::{Allocator, Global};
 use std::process::Abort;
 use std::test::Fail;
 
@@ -30,47 +31,85 @@ const TWO_MORE: [u8; 51] = [
     0x40, 0x03, 0x04, 0xC0, 0x00, 0x02, 0x0B, 0x18, 0x0A, 0x00, 0x02, 0x18, 0x0A, 0x00, 0x03,
 ];
 
-fn step(rt: &impl Abort, speaker: &mut Speaker<Global>, event: Event<'_>) {
-    assert_eq!(rt; speaker.step(event), Ok(Report::NOTHING));
-}
-
-// Whether the event isn't expected.
-fn is_unexpected(speaker: &mut Speaker<Global>, event: Event<'_>) -> bool {
-    matches!(speaker.step(event), Err(Refusal::NotExpected))
-}
-
-// Each command, with how often a best route is chosen for it.
-fn obey(rt: &impl Abort, speaker: &mut Speaker<Global>, commands: &[(Command<'_>, u64)]) {
-    for (command, chosen) in commands {
-        step(rt, speaker, Event::Command(*command));
-        assert_eq!(rt; speaker.chosen(), *chosen);
-    }
-}
-
-fn take(rt: &impl Abort, speaker: &mut Speaker<Global>, octets: &[u8]) {
+fn take<A: Allocator + Clone>(rt: &impl Abort, speaker: &mut Speaker<A>, octets: &[u8]) {
     let mut buf = [0; ASKED];
     assert_eq!(rt;
-        speaker.take(1, &mut buf),
+        bare::take(speaker, 1, &mut buf),
         Ok((octets.len(), Report::NOTHING))
     );
 }
 
-// The first calls of the first path, each with how often a best route is chosen for it.
-fn play(rt: &impl Abort, speaker: &mut Speaker<Global>, calls: &[Call<'_>]) {
-    for (call, chosen) in calls.iter().zip(CHOSEN) {
-        match *call {
-            Call::Step(event) => step(rt, speaker, event),
-            Call::Take(octets) => take(rt, speaker, octets),
-        }
-        assert_eq!(rt; speaker.chosen(), chosen);
+// Hands in an event.
+fn step<A: Allocator + Clone>(
+    rt: &impl Abort,
+    speaker: &mut Speaker<A>,
+    event: Event<'_>,
+    answer: Result<Report, Refusal>,
+) {
+    assert_eq!(rt; bare::step(speaker, event), answer);
+}
+
+// Makes a call of the first path.
+fn make<A: Allocator + Clone>(rt: &impl Abort, speaker: &mut Speaker<A>, call: Call<'_>) {
+    match call {
+        Call::Step(event) => step(rt, speaker, event, TAKEN),
+        Call::Take(octets) => take(rt, speaker, octets),
     }
+}
+
+// The answer to an event of which nothing is reported.
+const TAKEN: Result<Report, Refusal> = Ok(Report::NOTHING);
+
+// An event, its answer, and how often a best route was chosen in the last call that wasn't refused.
+type Later = (Event<'static>, Result<Report, Refusal>, u64);
+
+const NOTHING_MORE: [Later; 0] = [];
+
+// The first calls of the first path, and events behind them.
+#[derive(Clone, Copy)]
+struct Calls<'a> {
+    calls: &'a [Call<'static>],
+    later: &'a [Later],
+}
+
+impl Play for Calls<'_> {
+    type Answer = ();
+
+    fn play<A: Allocator + Clone>(&self, rt: &impl Abort, speaker: &mut Speaker<A>) {
+        for (call, chosen) in self.calls.iter().zip(CHOSEN) {
+            make(rt, speaker, *call);
+            assert_eq!(rt; bare::chosen(speaker), chosen);
+        }
+        for (event, answer, chosen) in self.later {
+            step(rt, speaker, *event, *answer);
+            assert_eq!(rt; bare::chosen(speaker), *chosen);
+        }
+    }
+}
+
+// Plays all calls up to the UPDATE, and the events.
+fn play_up_to_route(
+    rt: &impl Abort,
+    alloc: Global,
+    reachable: Prefix,
+    later: &[Later],
+) -> Result<(), Refusal> {
+    let calls = calls(reachable);
+    let plays = Calls {
+        calls: &calls[..UP_TO_ROUTE],
+        later,
+    };
+    bare::on_new(rt, alloc, CONFIG, &plays)
 }
 
 #[test]
 fn a_best_route_is_chosen_once_for_a_route_that_comes_or_goes(rt: HostRuntime) -> Result<(), Fail> {
     let calls = calls(Prefix::parse(REACHABLE)?);
-    let mut speaker = Speaker::new(rt.alloc(), CONFIG)?;
-    play(&rt, &mut speaker, &calls);
+    let plays = Calls {
+        calls: &calls,
+        later: &NOTHING_MORE,
+    };
+    bare::on_new(&rt, rt.alloc(), CONFIG, &plays)?;
     Ok(())
 }
 
@@ -78,23 +117,20 @@ fn a_best_route_is_chosen_once_for_a_route_that_comes_or_goes(rt: HostRuntime) -
 fn a_prefix_that_is_withdrawn_and_announced_is_chosen_for_once(
     rt: HostRuntime,
 ) -> Result<(), Fail> {
-    let calls = calls(Prefix::parse(REACHABLE)?);
-    let mut speaker = Speaker::new(rt.alloc(), CONFIG)?;
-    play(&rt, &mut speaker, &calls[..UP_TO_ROUTE]);
-    step(&rt, &mut speaker, Event::Bytes(0, &REPLACED));
-    assert_eq!(rt; speaker.chosen(), 1);
+    let reachable = Prefix::parse(REACHABLE)?;
+    let later = [(Event::Bytes(0, &REPLACED), TAKEN, 1)];
+    play_up_to_route(&rt, rt.alloc(), reachable, &later)?;
     Ok(())
 }
 
 #[test]
 fn a_refused_call_leaves_the_count(rt: HostRuntime) -> Result<(), Fail> {
-    let calls = calls(Prefix::parse(REACHABLE)?);
-    let mut speaker = Speaker::new(rt.alloc(), CONFIG)?;
-    play(&rt, &mut speaker, &calls[..UP_TO_ROUTE]);
-    assert!(rt; is_unexpected(&mut speaker, Event::Up(0)));
-    assert_eq!(rt; speaker.chosen(), 1);
-    step(&rt, &mut speaker, Event::Tick(1));
-    assert_eq!(rt; speaker.chosen(), 0);
+    let reachable = Prefix::parse(REACHABLE)?;
+    let later = [
+        (Event::Up(0), Err(Refusal::NotExpected), 1),
+        (Event::Tick(1), TAKEN, 0),
+    ];
+    play_up_to_route(&rt, rt.alloc(), reachable, &later)?;
     Ok(())
 }
 
@@ -105,38 +141,36 @@ fn a_command_chooses_where_it_changes_a_candidate(rt: HostRuntime) -> Result<(),
     let reachable = Prefix::parse(REACHABLE)?;
     let there = Prefix::parse(ANNOUNCED_PREFIX)?;
     let alone = Prefix::parse("198.51.100.0/24")?;
-    let mut speaker = Speaker::new(rt.alloc(), CONFIG)?;
-    play(&rt, &mut speaker, &calls(reachable)[..UP_TO_ROUTE]);
-    let commands = [
-        (Command::Network(there), 1),
-        (Command::Network(there), 0),
-        (Command::Network(alone), 1),
-        (Command::NoReach(reachable), 1),
-        (Command::Reach(reachable, 10), 1),
-        (Command::NoNetwork(there), 1),
-        (Command::NoNetwork(alone), 1),
+    let later = [
+        (Event::Command(Command::Network(there)), TAKEN, 1),
+        (Event::Command(Command::Network(there)), TAKEN, 0),
+        (Event::Command(Command::Network(alone)), TAKEN, 1),
+        (Event::Command(Command::NoReach(reachable)), TAKEN, 1),
+        (Event::Command(Command::Reach(reachable, 10)), TAKEN, 1),
+        (Event::Command(Command::NoNetwork(there)), TAKEN, 1),
+        (Event::Command(Command::NoNetwork(alone)), TAKEN, 1),
     ];
-    obey(&rt, &mut speaker, &commands);
+    play_up_to_route(&rt, rt.alloc(), reachable, &later)?;
     Ok(())
 }
+
+// Two more routes of the first peer, and then which policies the peers use.
+const USES: [Later; 7] = [
+    (Event::Bytes(0, &TWO_MORE), TAKEN, 2),
+    (Event::Command(Command::UseOut(1, "none")), TAKEN, 0),
+    (Event::Command(Command::UseOut(1, "all")), TAKEN, 0),
+    (Event::Command(Command::UseIn(1, "none")), TAKEN, 0),
+    (Event::Command(Command::UseIn(0, "none")), TAKEN, 3),
+    (Event::Command(Command::UseOut(0, "none")), TAKEN, 0),
+    (Event::Command(Command::UseIn(0, "all")), TAKEN, 3),
+];
 
 // The first peer has routes to three prefixes then, and the second has none. What a peer is told by chooses nothing.
 #[test]
 fn another_policy_of_a_peer_chooses_for_the_routes_that_it_takes(
     rt: HostRuntime,
 ) -> Result<(), Fail> {
-    let calls = calls(Prefix::parse(REACHABLE)?);
-    let mut speaker = Speaker::new(rt.alloc(), CONFIG)?;
-    play(&rt, &mut speaker, &calls[..UP_TO_ROUTE]);
-    step(&rt, &mut speaker, Event::Bytes(0, &TWO_MORE));
-    let commands = [
-        (Command::UseOut(1, "none"), 0),
-        (Command::UseOut(1, "all"), 0),
-        (Command::UseIn(1, "none"), 0),
-        (Command::UseIn(0, "none"), 3),
-        (Command::UseOut(0, "none"), 0),
-        (Command::UseIn(0, "all"), 3),
-    ];
-    obey(&rt, &mut speaker, &commands);
+    let reachable = Prefix::parse(REACHABLE)?;
+    play_up_to_route(&rt, rt.alloc(), reachable, &USES)?;
     Ok(())
 }

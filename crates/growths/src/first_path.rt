@@ -142,23 +142,27 @@ pub fn second_again() -> [Call<'static>; 5] {
     ]
 }
 
+// The calls behind the first, in order.
+const LATER: [Call<'static>; 14] = [
+    Call::Step(Event::Command(Command::AddPeer(0, FIRST_PEER))),
+    Call::Step(Event::Command(Command::AddPeer(1, SECOND_PEER))),
+    Call::Step(Event::Command(Command::Enable(0))),
+    Call::Step(Event::Command(Command::Enable(1))),
+    Call::Step(Event::Up(0)),
+    Call::Step(Event::Up(1)),
+    Call::Step(Event::Bytes(0, &FIRST_OPEN)),
+    Call::Step(Event::Bytes(0, &KEEPALIVE)),
+    Call::Step(Event::Bytes(1, &SECOND_OPEN)),
+    Call::Step(Event::Bytes(1, &KEEPALIVE)),
+    Call::Step(Event::Bytes(0, &UPDATE)),
+    Call::Take(&ANNOUNCED),
+    Call::Step(Event::Fail(0)),
+    Call::Take(&WITHDRAWN),
+];
+
 /// The calls, in order.
 pub fn calls(reachable: Prefix) -> [Call<'static>; 15] {
-    [
-        Call::Step(Event::Command(Command::Reach(reachable, 10))),
-        Call::Step(Event::Command(Command::AddPeer(0, FIRST_PEER))),
-        Call::Step(Event::Command(Command::AddPeer(1, SECOND_PEER))),
-        Call::Step(Event::Command(Command::Enable(0))),
-        Call::Step(Event::Command(Command::Enable(1))),
-        Call::Step(Event::Up(0)),
-        Call::Step(Event::Up(1)),
-        Call::Step(Event::Bytes(0, &FIRST_OPEN)),
-        Call::Step(Event::Bytes(0, &KEEPALIVE)),
-        Call::Step(Event::Bytes(1, &SECOND_OPEN)),
-        Call::Step(Event::Bytes(1, &KEEPALIVE)),
-        Call::Step(Event::Bytes(0, &UPDATE)),
-        Call::Take(&ANNOUNCED),
-        Call::Step(Event::Fail(0)),
-        Call::Take(&WITHDRAWN),
-    ]
+    let mut calls = [Call::Step(Event::Command(Command::Reach(reachable, 10))); 15];
+    calls[1..].copy_from_slice(&LATER);
+    calls
 }

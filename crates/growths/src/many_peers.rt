@@ -1,4 +1,7 @@
 //! A route of the first of 64 peers, told to the 63 others, and one request for memory refused in their midst.
+ghost use Rattle.std.specs.Prelude.{◌≤◌};
+
+use crate::bare::{self, Play};
 use crate::first_path::{CONFIG, KEEPALIVE, REACHABLE};
 use net_prefix::{Asn, Prefix};
 use refusing::Refusing;
@@ -8,12 +11,6 @@ use std::process::Abort;
 use std::test::Fail;
 
 const PEERS: u8 = 64;
-
-// More routes than there are: a bound for the walk over a table.
-const MOST_ROUTES: usize = 10;
-
-// The speaker over the heap.
-type OverRefusing<'a> = Speaker<&'a Refusing<Global>>;
 
 // Slot 0 is of AS 65100, and the others are of the next ones, but each fourth is of the own AS.
 fn asn_of(slot: u8) -> u16 {
@@ -59,7 +56,7 @@ const UPDATE: [u8; 47] = [
 // Whether the events are taken, and nothing of them is reported.
 fn are_taken<A: Allocator + Clone>(speaker: &mut Speaker<A>, events: &[Event<'_>]) -> bool {
     for event in events {
-        if !matches!(speaker.step(*event), Ok(Report::NOTHING)) {
+        if !matches!(bare::step(speaker, *event), Ok(Report::NOTHING)) {
             return false;
         }
     }
@@ -96,14 +93,18 @@ fn all_come_up<A: Allocator + Clone>(speaker: &mut Speaker<A>, reachable: Prefix
     true
 }
 
+// Whether the slot's session stands, and its peer holds a route.
+fn is_holder<A: Allocator + Clone>(speaker: &Speaker<A>, slot: u8) -> bool {
+    bare::session(speaker, slot) == Some(State::Established)
+        && bare::held_count(speaker, slot) == 1
+        && bare::first_waiting(speaker, slot).is_none()
+}
+
 // How many of the slots behind the first hold a route, whose sessions stand.
 fn holders<A: Allocator + Clone>(speaker: &Speaker<A>) -> usize {
     let mut found = 0usize;
     for slot in 1..PEERS {
-        if speaker.session(slot) == Some(State::Established)
-            && speaker.held(slot).take(MOST_ROUTES).count() == 1
-            && speaker.waiting(slot).take(MOST_ROUTES).count() == 0
-        {
+        if is_holder(speaker, slot) {
             found = found.saturating_add(1);
         }
     }
@@ -137,7 +138,7 @@ fn is_told_why<A: Allocator + Clone>(speaker: &mut Speaker<A>, slots: u64) -> bo
     let mut buf = [0u8; 100];
     for slot in 0..PEERS {
         if slots == 1 << slot {
-            return match speaker.take(slot, &mut buf) {
+            return match bare::take(speaker, slot, &mut buf) {
                 Ok((77, _)) => buf.get(56..77) == Some(&OUT_OF_RESOURCES[..]),
                 _ => false,
             };
@@ -158,7 +159,7 @@ fn count_of(slots: u64) -> u32 {
 }
 
 fn announced<A: Allocator + Clone>(speaker: &mut Speaker<A>) -> Ending {
-    let Ok(report) = speaker.step(Event::Bytes(0, &UPDATE)) else {
+    let Ok(report) = bare::step(speaker, Event::Bytes(0, &UPDATE)) else {
         return Ending::Wrong;
     };
     let starved = report.starved;
@@ -170,32 +171,44 @@ fn announced<A: Allocator + Clone>(speaker: &mut Speaker<A>) -> Ending {
     }
 }
 
-// Plays all on a new speaker, of which the nth request is refused.
-fn play(heap: &Refusing<Global>, reachable: Prefix) -> Ending {
-    let Ok(mut speaker) = Speaker::new(heap, CONFIG) else {
-        return Ending::NotUp;
-    };
-    play_on(&mut speaker, reachable)
+// All on a new speaker.
+#[derive(Clone, Copy)]
+struct Announcement {
+    reachable: Prefix,
 }
 
-fn play_on(speaker: &mut OverRefusing<'_>, reachable: Prefix) -> Ending {
-    if all_come_up(speaker, reachable) {
-        announced(speaker)
-    } else {
-        Ending::NotUp
+impl Play for Announcement {
+    type Answer = Ending;
+
+    fn play<A: Allocator + Clone>(&self, _rt: &impl Abort, speaker: &mut Speaker<A>) -> Ending {
+        if all_come_up(speaker, self.reachable) {
+            announced(speaker)
+        } else {
+            Ending::NotUp
+        }
+    }
+}
+
+// The ending where the nth request is refused.
+fn nth_ending(rt: &impl Abort, alloc: Global, nth: u64, plays: &Announcement) -> Ending
+    requires { 1 ≤ nth }
+{
+    let heap = Refusing::new(alloc, nth);
+    match bare::on_new(rt, &heap, CONFIG, plays) {
+        Ok(ending) => ending,
+        Err(_) => Ending::NotUp,
     }
 }
 
 // How often an other than the first peer was closed, by n, until nothing is refused.
-fn closings(rt: &impl Abort, alloc: Global) -> Result<u32, Fail> {
-    let reachable = Prefix::parse(REACHABLE)?;
+fn closings(rt: &impl Abort, alloc: Global, reachable: Prefix) -> u32 {
+    let plays = Announcement { reachable };
     let mut closed = 0u32;
     for nth in 1..10_000u64 {
-        let heap = Refusing::new(alloc, nth);
-        match play(&heap, reachable) {
+        match nth_ending(rt, alloc, nth, &plays) {
             Ending::Wrong => panic!(rt; "a refused growth did more than close its session"),
             Ending::OtherClosed => closed = closed.saturating_add(1),
-            Ending::Told => return Ok(closed),
+            Ending::Told => return closed,
             Ending::NotUp | Ending::FirstClosed => {}
         }
     }
@@ -206,6 +219,7 @@ fn closings(rt: &impl Abort, alloc: Global) -> Result<u32, Fail> {
 // them, is closed alone, and those before and behind it are served.
 #[test]
 fn a_slot_that_starves_among_64_leaves_the_others(rt: HostRuntime) -> Result<(), Fail> {
-    assert!(rt; closings(&rt, rt.alloc())? >= 63);
+    let reachable = Prefix::parse(REACHABLE)?;
+    assert!(rt; closings(&rt, rt.alloc(), reachable) >= 63);
     Ok(())
 }

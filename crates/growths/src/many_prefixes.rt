@@ -1,10 +1,13 @@
 //! Two thousand prefixes of one peer, told to two others that take nothing, where one request for memory is refused.
+ghost use Rattle.std.specs.Prelude.{◌≤◌};
+
+use crate::bare::{self, Play};
 use crate::first_path::{
     CONFIG, FIRST_OPEN, FIRST_PEER, KEEPALIVE, REACHABLE, SECOND_OPEN, SECOND_PEER,
 };
 use net_prefix::{Asn, Prefix};
 use refusing::Refusing;
-use speaker::{Command, Event, Mode, PeerConf, Report, Speaker, State};
+use speaker::{Command, Event, Mode, PeerConf, Refusal, Report, Speaker, State};
 use std::alloc::{Allocator, Global};
 use std::process::Abort;
 use std::test::Fail;
@@ -13,9 +16,6 @@ const MANY: u16 = 2_000;
 
 // As many as make more than `FIRST_REFUSED` requests for memory.
 const FEW: u16 = 150;
-
-// More routes than there are: a bound for the walk over a table.
-const MOST_ROUTES: usize = 3_000;
 
 // The first request for memory that is refused.
 const FIRST_REFUSED: u64 = 1_000;
@@ -52,7 +52,7 @@ fn update(number: u16) -> [u8; 47] {
 // The events are taken, and nothing of them is reported.
 fn take_all<A: Allocator + Clone>(rt: &impl Abort, speaker: &mut Speaker<A>, events: &[Event<'_>]) {
     for event in events {
-        assert_eq!(rt; speaker.step(*event), Ok(Report::NOTHING));
+        assert_eq!(rt; bare::step(speaker, *event), Ok(Report::NOTHING));
     }
 }
 
@@ -72,25 +72,27 @@ fn open<'a, A: Allocator + Clone>(
         Event::Bytes(slot, &KEEPALIVE),
     ];
     take_all(rt, speaker, &events);
-    assert_eq!(rt; speaker.session(slot), Some(State::Established));
+    assert_eq!(rt; bare::session(speaker, slot), Some(State::Established));
 }
 
-// The first peer announces all, as long as its session stands. Answers the slots that were closed, each of one call.
+// The first peer announces all, as long as its session stands. Answers the slots that one call closed, or 0.
 fn announce_all<A: Allocator + Clone>(
     rt: &impl Abort,
-    alloc: Global,
     speaker: &mut Speaker<A>,
     prefixes: u16,
-) -> Result<Vec<u64>, Fail> {
-    let mut closed = Vec::new(alloc);
+) -> u64 {
+    let mut closed = None;
     for number in 0..prefixes {
-        match speaker.step(Event::Bytes(0, &update(number))) {
+        match bare::step(speaker, Event::Bytes(0, &update(number))) {
             Ok(Report::NOTHING) => {}
-            Ok(report) => closed.push(report.starved)?,
+            Ok(report) => {
+                assert!(rt; closed.is_none(), "more than one was closed");
+                closed = Some(report.starved);
+            }
             Err(_) => panic!(rt; "octets were refused"),
         }
     }
-    Ok(closed)
+    closed.unwrap_or(0)
 }
 
 // The sessions by the slot that was closed: just that one isn't Established.
@@ -101,7 +103,7 @@ fn stand_but<A: Allocator + Clone>(rt: &impl Abort, speaker: &Speaker<A>, closed
         } else {
             State::Established
         };
-        assert_eq!(rt; speaker.session(slot), Some(wanted));
+        assert_eq!(rt; bare::session(speaker, slot), Some(wanted));
     }
 }
 
@@ -117,51 +119,61 @@ fn has_routes<A: Allocator + Clone>(
     } else {
         usize::from(prefixes)
     };
-    assert_eq!(rt; speaker.loc_rib().take(MOST_ROUTES).count(), wanted);
-    assert_eq!(rt; speaker.adj_in(0).take(MOST_ROUTES).count(), wanted);
+    assert_eq!(rt; bare::best_count(speaker), wanted);
+    assert_eq!(rt; bare::announced_count(speaker, 0), wanted);
 }
 
-// Plays all on a new speaker; answers the slot that was closed, a bit each, or 0.
-fn play_on(
-    rt: &impl Abort,
-    alloc: Global,
-    speaker: &mut Speaker<&Refusing<Global>>,
+// All on a new speaker; answers the slot that was closed, a bit each, or 0.
+#[derive(Clone, Copy)]
+struct Announcements {
+    reachable: Prefix,
     prefixes: u16,
-) -> Result<u64, Fail> {
-    let reachable = Event::Command(Command::Reach(Prefix::parse(REACHABLE)?, 10));
-    take_all(rt, speaker, &[reachable]);
-    open(rt, speaker, 0, FIRST_PEER, &FIRST_OPEN);
-    open(rt, speaker, 1, SECOND_PEER, &SECOND_OPEN);
-    open(rt, speaker, 2, THIRD_PEER, &THIRD_OPEN);
-    let closed = announce_all(rt, alloc, speaker, prefixes)?;
-    let slot = match closed.as_slice() {
-        [] => 0,
-        [slot] => *slot,
-        _ => panic!(rt; "more than one was closed"),
-    };
-    stand_but(rt, speaker, slot);
-    has_routes(rt, speaker, slot, prefixes);
-    Ok(slot)
 }
 
-// Plays all with the heap.
-fn play(
+impl Play for Announcements {
+    type Answer = u64;
+
+    fn play<A: Allocator + Clone>(&self, rt: &impl Abort, speaker: &mut Speaker<A>) -> u64 {
+        let reachable = Event::Command(Command::Reach(self.reachable, 10));
+        take_all(rt, speaker, &[reachable]);
+        open(rt, speaker, 0, FIRST_PEER, &FIRST_OPEN);
+        open(rt, speaker, 1, SECOND_PEER, &SECOND_OPEN);
+        open(rt, speaker, 2, THIRD_PEER, &THIRD_OPEN);
+        let slot = announce_all(rt, speaker, self.prefixes);
+        stand_but(rt, speaker, slot);
+        has_routes(rt, speaker, slot, self.prefixes);
+        slot
+    }
+}
+
+// The slot that is closed where the nth request is refused.
+fn closed_by(
     rt: &impl Abort,
     alloc: Global,
-    heap: &Refusing<Global>,
-    prefixes: u16,
-) -> Result<u64, Fail> {
-    let mut speaker: Speaker<&Refusing<Global>> = Speaker::new(heap, CONFIG)?;
-    play_on(rt, alloc, &mut speaker, prefixes)
+    nth: u64,
+    plays: &Announcements,
+) -> Result<u64, Refusal>
+    requires { 1 ≤ nth }
+{
+    let heap = Refusing::new(alloc, nth);
+    let closed = bare::on_new(rt, &heap, CONFIG, plays);
+    assert!(rt; heap.has_refused() && closed != Ok(0));
+    closed
 }
 
 // The first refused request that closes the slot, a bit each.
-fn request_that_closes(rt: &impl Abort, alloc: Global, slot: u64) -> Result<u64, Fail> {
+fn request_that_closes(
+    rt: &impl Abort,
+    alloc: Global,
+    slot: u64,
+    reachable: Prefix,
+) -> Result<u64, Refusal> {
+    let plays = Announcements {
+        reachable,
+        prefixes: FEW,
+    };
     for nth in FIRST_REFUSED..FIRST_REFUSED + 50 {
-        let heap = Refusing::new(alloc, nth);
-        let closed = play(rt, alloc, &heap, FEW)?;
-        assert!(rt; heap.has_refused() && closed != 0);
-        if closed == slot {
+        if closed_by(rt, alloc, nth, &plays)? == slot {
             return Ok(nth);
         }
     }
@@ -170,8 +182,9 @@ fn request_that_closes(rt: &impl Abort, alloc: Global, slot: u64) -> Result<u64,
 
 #[test]
 fn one_refused_growth_closes_one_session_of_three(rt: HostRuntime) -> Result<(), Fail> {
+    let reachable = Prefix::parse(REACHABLE)?;
     for slot in [1u64, 2, 4] {
-        let _ = request_that_closes(&rt, rt.alloc(), slot)?;
+        let _ = request_that_closes(&rt, rt.alloc(), slot, reachable)?;
     }
     Ok(())
 }
@@ -180,9 +193,13 @@ fn one_refused_growth_closes_one_session_of_three(rt: HostRuntime) -> Result<(),
 fn one_refused_growth_of_two_thousand_prefixes_closes_one_session(
     rt: HostRuntime,
 ) -> Result<(), Fail> {
-    let nth = request_that_closes(&rt, rt.alloc(), 2)?;
+    let reachable = Prefix::parse(REACHABLE)?;
+    let nth = request_that_closes(&rt, rt.alloc(), 2, reachable)?;
     assert!(rt; nth > 0);
-    let heap = Refusing::new(rt.alloc(), nth);
-    assert_eq!(rt; play(&rt, rt.alloc(), &heap, MANY)?, 2);
+    let plays = Announcements {
+        reachable,
+        prefixes: MANY,
+    };
+    assert_eq!(rt; closed_by(&rt, rt.alloc(), nth, &plays)?, 2);
     Ok(())
 }

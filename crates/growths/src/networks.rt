@@ -1,5 +1,8 @@
 //! A prefix that becomes a local network, where the nth request for memory is refused: the command is refused, leaves
 //! all as it was and is obeyed when it comes again, or the session of a peer that couldn't be told is closed.
+ghost use Rattle.std.specs.Prelude.{◌≤◌};
+
+use crate::bare::{self, Play};
 use crate::first_path::{
     ANNOUNCED_PREFIX, CONFIG, Call, FIRST_CLOSED, REACHABLE, SECOND_CLOSED, UP_TO_ROUTE, calls,
 };
@@ -10,14 +13,8 @@ use std::alloc::{AllocError, Allocator, Global};
 use std::process::Abort;
 use std::test::Fail;
 
-// More routes than there are: a bound for the walk over a table.
-const MOST_ROUTES: usize = 100;
-
 // A prefix that no peer announces.
 const ANOTHER_PREFIX: &str = "198.51.100.0/24";
-
-/// A speaker over a heap that refuses a growth.
-pub type OverRefusing<'heap> = Speaker<&'heap Refusing<Global>>;
 
 // What the refused growth came to.
 #[derive(Clone, Copy, Debug, PartialEq, Eq)]
@@ -47,60 +44,55 @@ pub struct Shown {
     chosen: u64,
 }
 
+impl Shown {
+    fn new<A: Allocator + Clone>(alloc: Global, speaker: &Speaker<A>) -> Self {
+        Shown {
+            sessions: [bare::session(speaker, 0), bare::session(speaker, 1)],
+            transports: [bare::transport(speaker, 0), bare::transport(speaker, 1)],
+            announced: Vec::new(alloc),
+            routes: Vec::new(alloc),
+            held_by_first: Vec::new(alloc),
+            held_by_second: Vec::new(alloc),
+            chosen: bare::chosen(speaker),
+        }
+    }
+
+    fn fill<A: Allocator + Clone>(&mut self, speaker: &Speaker<A>) -> Result<(), AllocError> {
+        bare::push_announced(speaker, 0, &mut self.announced)?;
+        bare::push_best(speaker, &mut self.routes)?;
+        bare::push_held(speaker, 0, &mut self.held_by_first)?;
+        bare::push_held(speaker, 1, &mut self.held_by_second)
+    }
+}
+
 pub fn look_at<A: Allocator + Clone>(
     alloc: Global,
     speaker: &Speaker<A>,
 ) -> Result<Shown, AllocError> {
-    Ok(Shown {
-        sessions: [speaker.session(0), speaker.session(1)],
-        transports: [speaker.transport(0), speaker.transport(1)],
-        announced: announced(alloc, speaker, 0)?,
-        routes: speaker.loc_rib().collect(alloc)?,
-        held_by_first: held(alloc, speaker, 0)?,
-        held_by_second: held(alloc, speaker, 1)?,
-        chosen: speaker.chosen(),
-    })
+    let mut shown = Shown::new(alloc, speaker);
+    shown.fill(speaker)?;
+    Ok(shown)
 }
 
 /// Whether the speaker shows just this.
-pub fn shows(alloc: Global, speaker: &OverRefusing<'_>, shown: &Shown) -> Result<bool, AllocError> {
+pub fn shows<A: Allocator + Clone>(
+    alloc: Global,
+    speaker: &Speaker<A>,
+    shown: &Shown,
+) -> Result<bool, AllocError> {
     Ok(look_at(alloc, speaker)? == *shown)
 }
 
-fn announced<A: Allocator + Clone>(
-    alloc: Global,
-    speaker: &Speaker<A>,
-    slot: u8,
-) -> Result<Vec<Prefix>, AllocError> {
-    let mut prefixes = Vec::new(alloc);
-    for (prefix, _) in speaker.adj_in(slot).take(MOST_ROUTES) {
-        prefixes.push(prefix)?;
-    }
-    Ok(prefixes)
-}
-
-fn held<A: Allocator + Clone>(
-    alloc: Global,
-    speaker: &Speaker<A>,
-    slot: u8,
-) -> Result<Vec<Prefix>, AllocError> {
-    let mut prefixes = Vec::new(alloc);
-    for (prefix, _) in speaker.held(slot).take(MOST_ROUTES) {
-        prefixes.push(prefix)?;
-    }
-    Ok(prefixes)
-}
-
 /// Whether the calls are over before the heap refuses a growth. Nothing refuses them but that.
-pub fn are_granted(
+pub fn are_granted<B, A: Allocator + Clone>(
     rt: &impl Abort,
-    speaker: &mut OverRefusing<'_>,
-    heap: &Refusing<Global>,
+    speaker: &mut Speaker<A>,
+    heap: &Refusing<B>,
     calls: &[Call<'_>],
 ) -> bool {
     for call in calls {
         if let Call::Step(event) = call {
-            let answer = speaker.step(*event);
+            let answer = bare::step(speaker, *event);
             if heap.has_refused() {
                 return false;
             }
@@ -111,14 +103,7 @@ pub fn are_granted(
 }
 
 // The network is the best route of its prefix, and those peers hold it whose sessions are there.
-fn is_there(
-    rt: &impl Abort,
-    alloc: Global,
-    speaker: &OverRefusing<'_>,
-    network: Prefix,
-    sessions: [Option<State>; 2],
-) -> Result<(), Fail> {
-    let shown = look_at(alloc, speaker)?;
+fn has_network(rt: &impl Abort, shown: &Shown, network: Prefix, sessions: [Option<State>; 2]) {
     let best = BestRoute {
         prefix: network,
         slot: LOCAL_SLOT,
@@ -135,113 +120,174 @@ fn is_there(
         shown.held_by_second.contains(&network),
         sessions[1] == Some(State::Established)
     );
+}
+
+fn is_there<A: Allocator + Clone>(
+    rt: &impl Abort,
+    alloc: Global,
+    speaker: &Speaker<A>,
+    network: Prefix,
+    sessions: [Option<State>; 2],
+) -> Result<(), AllocError> {
+    let shown = look_at(alloc, speaker)?;
+    has_network(rt, &shown, network, sessions);
     Ok(())
 }
 
 /// Whether the command is obeyed, and nothing of it is reported.
-pub fn obeys(speaker: &mut OverRefusing<'_>, command: Command<'_>) -> bool {
-    matches!(speaker.step(Event::Command(command)), Ok(Report::NOTHING))
+pub fn obeys<A: Allocator + Clone>(speaker: &mut Speaker<A>, command: Command<'_>) -> bool {
+    matches!(
+        bare::step(speaker, Event::Command(command)),
+        Ok(Report::NOTHING)
+    )
 }
 
 /// Whether the command names what isn't there.
-pub fn is_unknown(speaker: &mut OverRefusing<'_>, command: Command<'_>) -> bool {
+pub fn is_unknown<A: Allocator + Clone>(speaker: &mut Speaker<A>, command: Command<'_>) -> bool {
     matches!(
-        speaker.step(Event::Command(command)),
+        bare::step(speaker, Event::Command(command)),
         Err(Refusal::UnknownName)
     )
 }
 
 // The network goes.
-fn goes(rt: &impl Abort, speaker: &mut OverRefusing<'_>, network: Prefix) {
+fn goes<A: Allocator + Clone>(rt: &impl Abort, speaker: &mut Speaker<A>, network: Prefix) {
     assert!(rt; obeys(speaker, Command::NoNetwork(network)));
-    assert!(rt; speaker.loc_rib().all(|best| best.slot != LOCAL_SLOT));
+    assert!(rt; !bare::has_network(speaker));
     assert!(rt; is_unknown(speaker, Command::NoNetwork(network)));
 }
 
 // The command was refused: there is no network, and the same command is obeyed.
-fn comes_again(
+fn comes_again<A: Allocator + Clone>(
     rt: &impl Abort,
     alloc: Global,
-    speaker: &mut OverRefusing<'_>,
+    speaker: &mut Speaker<A>,
     network: Prefix,
     before: &Shown,
-) -> Result<(), Fail> {
+) -> Result<(), AllocError> {
     assert!(rt; shows(alloc, speaker, before)?);
     assert!(rt; is_unknown(speaker, Command::NoNetwork(network)));
     assert!(rt; obeys(speaker, Command::Network(network)));
     is_there(rt, alloc, speaker, network, before.sessions)
 }
 
-// The command comes to a speaker that showed this before it.
-fn originate(
+// What the command comes to.
+fn originate<A: Allocator + Clone>(
     rt: &impl Abort,
-    alloc: Global,
-    speaker: &mut OverRefusing<'_>,
+    speaker: &mut Speaker<A>,
     network: Prefix,
-    before: &Shown,
-) -> Result<Ending, Fail> {
-    let up = Some(State::Established);
-    let idle = Some(State::Idle);
-    let (ending, sessions) = match speaker.step(Event::Command(Command::Network(network))) {
+) -> Ending {
+    match bare::step(speaker, Event::Command(Command::Network(network))) {
         Err(why) => {
             assert!(rt; matches!(why, Refusal::NoMemory));
-            comes_again(rt, alloc, speaker, network, before)?;
-            return Ok(Ending::Refused);
+            Ending::Refused
         }
-        Ok(Report::NOTHING) => (Ending::Whole, [up, up]),
-        Ok(FIRST_CLOSED) => (Ending::ClosedFirst, [idle, up]),
+        Ok(Report::NOTHING) => Ending::Whole,
+        Ok(FIRST_CLOSED) => Ending::ClosedFirst,
         Ok(report) => {
             assert_eq!(rt; report, SECOND_CLOSED);
-            (Ending::ClosedSecond, [up, idle])
+            Ending::ClosedSecond
         }
-    };
-    is_there(rt, alloc, speaker, network, sessions)?;
-    Ok(ending)
+    }
 }
 
-// Plays the calls and the command on a new speaker.
-fn play_on(
+// The sessions where the command was obeyed.
+fn sessions_behind(ending: Ending) -> [Option<State>; 2] {
+    let up = Some(State::Established);
+    let idle = Some(State::Idle);
+    match ending {
+        Ending::ClosedFirst => [idle, up],
+        Ending::ClosedSecond => [up, idle],
+        Ending::Whole | Ending::Earlier | Ending::Refused => [up, up],
+    }
+}
+
+// The command comes to a speaker that showed this before it, and the network goes again.
+fn comes_and_goes<A: Allocator + Clone>(
     rt: &impl Abort,
     alloc: Global,
-    heap: &Refusing<Global>,
-    speaker: &mut OverRefusing<'_>,
-    calls: &[Call<'_>],
+    speaker: &mut Speaker<A>,
     network: Prefix,
-) -> Result<Ending, Fail> {
-    if !are_granted(rt, speaker, heap, calls) {
-        return Ok(Ending::Earlier);
+    before: &Shown,
+) -> Result<Ending, AllocError> {
+    let ending = originate(rt, speaker, network);
+    if ending == Ending::Refused {
+        comes_again(rt, alloc, speaker, network, before)?;
+    } else {
+        is_there(rt, alloc, speaker, network, sessions_behind(ending))?;
     }
-    let before = look_at(alloc, speaker)?;
-    let ending = originate(rt, alloc, speaker, network, &before)?;
     if ending != Ending::Whole {
         goes(rt, speaker, network);
     }
     Ok(ending)
 }
 
-// Plays the calls and the command on a speaker over the heap.
-fn play(
-    rt: &impl Abort,
+// The calls and the command on a new speaker over the heap.
+#[derive(Clone, Copy)]
+struct Calls<'a, B> {
     alloc: Global,
-    heap: &Refusing<Global>,
-    calls: &[Call<'_>],
+    heap: &'a Refusing<B>,
+    calls: &'a [Call<'a>],
     network: Prefix,
-) -> Result<Ending, Fail> {
-    let mut speaker: OverRefusing<'_> = Speaker::new(heap, CONFIG)?;
-    play_on(rt, alloc, heap, &mut speaker, calls, network)
 }
 
-// How the command ends, by n, until nothing is refused.
-fn endings(rt: &impl Abort, alloc: Global, network: &str) -> Result<Vec<Ending>, Fail> {
-    let network = Prefix::parse(network)?;
-    let calls = calls(Prefix::parse(REACHABLE)?);
-    let mut endings = Vec::new(alloc);
+impl<B> Play for Calls<'_, B> {
+    type Answer = Result<Ending, AllocError>;
+
+    fn play<A: Allocator + Clone>(
+        &self,
+        rt: &impl Abort,
+        speaker: &mut Speaker<A>,
+    ) -> Result<Ending, AllocError> {
+        if !are_granted(rt, speaker, self.heap, self.calls) {
+            return Ok(Ending::Earlier);
+        }
+        let before = look_at(self.alloc, speaker)?;
+        comes_and_goes(rt, self.alloc, speaker, self.network, &before)
+    }
+}
+
+// The ending where the nth request is refused.
+fn nth_ending(
+    rt: &impl Abort,
+    alloc: Global,
+    nth: u64,
+    calls: &[Call<'_>],
+    network: Prefix,
+) -> Result<Ending, AllocError>
+    requires { 1 ≤ nth }
+{
+    let heap = Refusing::new(alloc, nth);
+    let plays = Calls {
+        alloc,
+        heap: &heap,
+        calls,
+        network,
+    };
+    let Ok(ending) = bare::on_new(rt, &heap, CONFIG, &plays) else {
+        panic!(rt; "there is no speaker");
+    };
+    assert!(rt; !is_whole(&ending) || !heap.has_refused());
+    ending
+}
+
+fn is_whole(ending: &Result<Ending, AllocError>) -> bool {
+    matches!(ending, Ok(Ending::Whole))
+}
+
+// Puts in how the command ends, by n, until nothing is refused.
+fn push_endings(
+    rt: &impl Abort,
+    alloc: Global,
+    network: Prefix,
+    reachable: Prefix,
+    endings: &mut Vec<Ending>,
+) -> Result<(), AllocError> {
+    let calls = calls(reachable);
     for nth in 1..1_000u64 {
-        let heap = Refusing::new(alloc, nth);
-        let ending = play(rt, alloc, &heap, &calls[..UP_TO_ROUTE], network)?;
+        let ending = nth_ending(rt, alloc, nth, &calls[..UP_TO_ROUTE], network)?;
         if ending == Ending::Whole {
-            assert!(rt; !heap.has_refused());
-            return Ok(endings);
+            return Ok(());
         }
         endings.push(ending)?;
     }
@@ -250,7 +296,10 @@ fn endings(rt: &impl Abort, alloc: Global, network: &str) -> Result<Vec<Ending>,
 
 #[test]
 fn a_refused_network_changes_nothing(rt: HostRuntime) -> Result<(), Fail> {
-    let endings = endings(&rt, rt.alloc(), ANOTHER_PREFIX)?;
+    let network = Prefix::parse(ANOTHER_PREFIX)?;
+    let reachable = Prefix::parse(REACHABLE)?;
+    let mut endings = Vec::new(rt.alloc());
+    push_endings(&rt, rt.alloc(), network, reachable, &mut endings)?;
     assert!(rt; endings.contains(&Ending::Refused));
     assert!(rt; endings.contains(&Ending::ClosedFirst));
     // What the first peer was told is shared with the second, and takes no memory again.
@@ -261,7 +310,10 @@ fn a_refused_network_changes_nothing(rt: HostRuntime) -> Result<(), Fail> {
 // The first peer has announced the prefix, and the second holds it.
 #[test]
 fn a_refused_network_leaves_the_route_of_a_peer(rt: HostRuntime) -> Result<(), Fail> {
-    let endings = endings(&rt, rt.alloc(), ANNOUNCED_PREFIX)?;
+    let network = Prefix::parse(ANNOUNCED_PREFIX)?;
+    let reachable = Prefix::parse(REACHABLE)?;
+    let mut endings = Vec::new(rt.alloc());
+    push_endings(&rt, rt.alloc(), network, reachable, &mut endings)?;
     assert!(rt; endings.contains(&Ending::Refused));
     assert!(rt; endings.contains(&Ending::ClosedFirst));
     Ok(())

@@ -1,14 +1,14 @@
 //! The session of a speaker with a cache, where the nth request for memory is refused: it is closed, the report says so, and
 //! what is in force stays.
+ghost use Rattle.std.specs.Prelude.{◌≤◌};
+
+use crate::bare::{self, Play};
 use crate::first_path::CONFIG;
 use refusing::Refusing;
 use speaker::{ClientState, Config, Event, Refusal, Report, Speaker, Transport};
-use std::alloc::Global;
+use std::alloc::{AllocError, Allocator, Global};
 use std::process::Abort;
 use std::test::Fail;
-
-// A speaker over a heap that refuses a growth.
-type OverRefusing<'heap> = Speaker<&'heap Refusing<Global>>;
 
 // The settings of the first path, with a session with a cache.
 const WITH_CACHE: Config = Config {
@@ -71,76 +71,102 @@ enum Ending {
 }
 
 // The cache sends octets. Whether the session was closed for want of memory.
-fn hears(rt: &impl Abort, speaker: &mut OverRefusing<'_>, octets: &[u8]) -> bool {
-    match speaker.step(Event::CacheBytes(octets)) {
+fn hears<A: Allocator + Clone>(rt: &impl Abort, speaker: &mut Speaker<A>, octets: &[u8]) -> bool {
+    match bare::step(speaker, Event::CacheBytes(octets)) {
         Ok(CLOSED) => true,
         Ok(Report::NOTHING) => false,
         _ => panic!(rt; "octets were answered so"),
     }
 }
 
-// The origins of the payloads in force, in their order.
-fn shows(rt: &impl Abort, speaker: &OverRefusing<'_>, origins: &[u32]) {
-    let shown = speaker.payloads().map(|payload| payload.asn.0);
-    assert!(rt; shown.eq(origins.iter().copied()));
-}
-
-// The session has closed behind an Error Report, and these payloads are in force.
-fn has_closed(rt: &impl Abort, speaker: &mut OverRefusing<'_>, origins: &[u32]) {
-    assert_eq!(rt; speaker.cache_session(), Some(ClientState::Off));
-    assert_eq!(rt; speaker.cache_transport(), Transport::Closing);
+// The session has closed behind an Error Report, and the payloads of these origins are in force.
+fn has_closed<A: Allocator + Clone>(rt: &impl Abort, speaker: &mut Speaker<A>, origins: &[u32]) {
+    assert_eq!(rt; bare::cache_session(speaker), Some(ClientState::Off));
+    assert_eq!(rt; bare::cache_transport(speaker), Transport::Closing);
     let mut buf = [0u8; 64];
-    let taken = speaker.take_cache(&mut buf);
-    assert_eq!(rt; buf.get(..taken), Some(INTERNAL_ERROR.as_slice()));
-    shows(rt, speaker, origins);
+    let taken = bare::take_cache(speaker, &mut buf);
+    assert!(rt; buf.get(..taken) == Some(INTERNAL_ERROR.as_slice()));
+    assert!(rt; bare::has_origins(speaker, origins));
 }
 
 // The cache hears the query that waits for it.
-fn takes_query(speaker: &mut OverRefusing<'_>) {
+fn takes_query<A: Allocator + Clone>(speaker: &mut Speaker<A>) {
     let mut buf = [0u8; 64];
-    speaker.take_cache(&mut buf);
+    bare::take_cache(speaker, &mut buf);
 }
 
-// A load and a change of it, on a new connection.
-fn play_on(rt: &impl Abort, speaker: &mut OverRefusing<'_>) -> Ending {
-    assert!(rt; matches!(speaker.step(Event::CacheUp), Ok(Report::NOTHING)));
+// A load, on a new connection. Whether the session was closed in it.
+fn is_closed_loading<A: Allocator + Clone>(rt: &impl Abort, speaker: &mut Speaker<A>) -> bool {
+    assert!(rt; matches!(bare::step(speaker, Event::CacheUp), Ok(Report::NOTHING)));
     takes_query(speaker);
     if hears(rt, speaker, &LOAD) {
         has_closed(rt, speaker, &[]);
-        return Ending::ClosedLoading;
+        return true;
     }
-    shows(rt, speaker, &[65_001, 65_002]);
+    assert!(rt; bare::has_origins(speaker, &[65_001, 65_002]));
+    false
+}
+
+// A change of it. Whether the session was closed in that.
+fn is_closed_changing<A: Allocator + Clone>(rt: &impl Abort, speaker: &mut Speaker<A>) -> bool {
     assert!(rt; !hears(rt, speaker, &NOTIFY));
     takes_query(speaker);
     if hears(rt, speaker, &CHANGE) {
         has_closed(rt, speaker, &[65_001, 65_002]);
-        return Ending::ClosedChanging;
+        return true;
     }
-    shows(rt, speaker, &[65_003, 65_002]);
-    Ending::Whole
+    assert!(rt; bare::has_origins(speaker, &[65_003, 65_002]));
+    false
 }
 
-// The same on a new speaker over the heap.
-fn play(rt: &impl Abort, heap: &Refusing<Global>) -> Ending {
-    let mut speaker: OverRefusing<'_> = match Speaker::new(heap, WITH_CACHE) {
-        Ok(speaker) => speaker,
+// Both on a new speaker.
+struct Loads;
+
+impl Play for Loads {
+    type Answer = Ending;
+
+    fn play<A: Allocator + Clone>(&self, rt: &impl Abort, speaker: &mut Speaker<A>) -> Ending {
+        if is_closed_loading(rt, speaker) {
+            Ending::ClosedLoading
+        } else if is_closed_changing(rt, speaker) {
+            Ending::ClosedChanging
+        } else {
+            Ending::Whole
+        }
+    }
+}
+
+// Plays them on a speaker over the heap.
+fn play<A: Allocator + Clone + Copy>(rt: &impl Abort, heap: A) -> Ending {
+    match bare::on_new(rt, heap, WITH_CACHE, &Loads) {
+        Ok(ending) => ending,
         Err(why) => {
             assert_eq!(rt; why, Refusal::NoMemory);
-            return Ending::NotBegun;
+            Ending::NotBegun
         }
-    };
-    play_on(rt, &mut speaker)
+    }
 }
 
-// How it ends, by n, until nothing is refused.
-fn endings(rt: &impl Abort, alloc: Global) -> Result<Vec<Ending>, Fail> {
-    let mut endings = Vec::new(alloc);
+// The ending where the nth request is refused.
+fn nth_ending(rt: &impl Abort, alloc: Global, nth: u64) -> Ending
+    requires { 1 ≤ nth }
+{
+    let heap = Refusing::new(alloc, nth);
+    let ending = play(rt, &heap);
+    assert_eq!(rt; heap.has_refused(), ending != Ending::Whole);
+    ending
+}
+
+// Puts in how it ends, by n, until nothing is refused.
+fn push_endings(
+    rt: &impl Abort,
+    alloc: Global,
+    endings: &mut Vec<Ending>,
+) -> Result<(), AllocError> {
     for nth in 1..1_000u64 {
-        let heap = Refusing::new(alloc, nth);
-        let ending = play(rt, &heap);
-        assert_eq!(rt; heap.has_refused(), ending != Ending::Whole);
+        let ending = nth_ending(rt, alloc, nth);
         if ending == Ending::Whole {
-            return Ok(endings);
+            return Ok(());
         }
         endings.push(ending)?;
     }
@@ -151,13 +177,10 @@ fn endings(rt: &impl Abort, alloc: Global) -> Result<Vec<Ending>, Fail> {
 fn a_refused_growth_closes_the_cache_session_and_leaves_what_is_in_force(
     rt: HostRuntime,
 ) -> Result<(), Fail> {
-    let endings = endings(&rt, rt.alloc())?;
-    for ending in [
-        Ending::NotBegun,
-        Ending::ClosedLoading,
-        Ending::ClosedChanging,
-    ] {
-        assert!(rt; endings.contains(&ending), "{ending:?}");
-    }
+    let mut endings = Vec::new(rt.alloc());
+    push_endings(&rt, rt.alloc(), &mut endings)?;
+    assert!(rt; endings.contains(&Ending::NotBegun));
+    assert!(rt; endings.contains(&Ending::ClosedLoading));
+    assert!(rt; endings.contains(&Ending::ClosedChanging));
     Ok(())
 }

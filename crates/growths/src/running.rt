@@ -1,10 +1,13 @@
 //! The events of the first path by `run`, where the nth request for memory is refused.
+ghost use Rattle.std.specs.Prelude.{◌≤◌};
+
+use crate::bare::{self, Look};
 use crate::first_path::{
     ANNOUNCED_PREFIX, CONFIG, Call, FIRST_CLOSED, REACHABLE, SECOND_CLOSED, UP_TO_ROUTE, calls,
 };
 use net_prefix::Prefix;
 use refusing::Refusing;
-use speaker::{BestRoute, Command, Event, Refusal, Report, State, Transport, Validity, run};
+use speaker::{BestRoute, Command, Event, Refusal, Report, Speaker, State, Transport, Validity};
 use std::alloc::{AllocError, Allocator, Global};
 use std::process::Abort;
 use std::test::Fail;
@@ -60,6 +63,16 @@ fn slot_of(event: Event<'_>) -> Option<u8> {
     }
 }
 
+// The answer to an event where the slot isn't there.
+fn answer_without(lacking: Option<u8>, event: Event<'_>) -> Result<Report, Refusal> {
+    let slot = slot_of(event);
+    if slot.is_some() && slot == lacking {
+        Err(Refusal::BadSlot)
+    } else {
+        Ok(Report::NOTHING)
+    }
+}
+
 // The answers behind a refused command: the speaker goes on without what was commanded.
 fn goes_on_without(
     rt: &impl Abort,
@@ -68,14 +81,9 @@ fn goes_on_without(
     answers: &[Result<Report, Refusal>],
 ) {
     assert!(rt; matches!(refused, Event::Command(_)));
+    let lacking = slot_of(refused);
     for (event, answer) in events.iter().zip(answers) {
-        let lacks_slot = slot_of(*event).is_some() && slot_of(*event) == slot_of(refused);
-        let wanted = if lacks_slot {
-            Err(Refusal::BadSlot)
-        } else {
-            Ok(Report::NOTHING)
-        };
-        assert_eq!(rt; *answer, wanted);
+        assert_eq!(rt; *answer, answer_without(lacking, *event));
     }
 }
 
@@ -121,9 +129,28 @@ fn judge(rt: &impl Abort, events: &[Event<'_>], answers: &[Result<Report, Refusa
     }
 }
 
+// How a run of these events ends.
+#[derive(Clone, Copy)]
+struct End<'a> {
+    events: &'a [Event<'a>],
+}
+
+impl Look for End<'_> {
+    type Answer = Ending;
+
+    fn look<A: Allocator + Clone>(
+        &self,
+        rt: &impl Abort,
+        answers: &[Result<Report, Refusal>],
+        _speaker: &Speaker<A>,
+    ) -> Ending {
+        judge(rt, self.events, answers)
+    }
+}
+
 fn play<A: Allocator + Clone + Copy>(rt: &impl Abort, heap: A, events: &[Event<'_>]) -> Ending {
-    match run(heap, CONFIG, events) {
-        Ok(trace) => judge(rt, events, trace.answers.as_slice()),
+    match bare::on_run(rt, heap, CONFIG, events, &End { events }) {
+        Ok(ending) => ending,
         Err(why) => {
             assert_eq!(rt; why, Refusal::NoMemory);
             Ending::NoTrace
@@ -131,34 +158,106 @@ fn play<A: Allocator + Clone + Copy>(rt: &impl Abort, heap: A, events: &[Event<'
     }
 }
 
-// How the run ends, by n, until nothing is refused.
-fn endings(rt: &impl Abort, alloc: Global, events: &[Event<'_>]) -> Result<Vec<Ending>, Fail> {
-    let mut endings = Vec::new(alloc);
+// The ending where the nth request is refused.
+fn nth_ending(rt: &impl Abort, alloc: Global, nth: u64, events: &[Event<'_>]) -> Ending
+    requires { 1 ≤ nth }
+{
+    let heap = Refusing::new(alloc, nth);
+    let ending = play(rt, &heap, events);
+    assert_eq!(rt; heap.has_refused(), ending != Ending::Whole);
+    ending
+}
+
+// Puts in how the run ends, by n, until nothing is refused.
+fn push_endings(
+    rt: &impl Abort,
+    alloc: Global,
+    events: &[Event<'_>],
+    endings: &mut Vec<Ending>,
+) -> Result<(), AllocError> {
     for nth in 1..1_000u64 {
-        let heap = Refusing::new(alloc, nth);
-        let ending = play(rt, &heap, events);
-        assert_eq!(rt; heap.has_refused(), ending != Ending::Whole);
+        let ending = nth_ending(rt, alloc, nth, events);
         if ending == Ending::Whole {
-            return Ok(endings);
+            return Ok(());
         }
         endings.push(ending)?;
     }
     panic!(rt; "the run makes no end of requests");
 }
 
+// Puts in how a run of all events ends.
+fn run_all(
+    rt: &impl Abort,
+    alloc: Global,
+    reachable: Prefix,
+    endings: &mut Vec<Ending>,
+) -> Result<(), AllocError> {
+    let events = events_of(alloc, &calls(reachable))?;
+    push_endings(rt, alloc, events.as_slice(), endings)
+}
+
 #[test]
 fn a_run_goes_on_behind_a_refused_growth(rt: HostRuntime) -> Result<(), Fail> {
-    let events = events_of(rt.alloc(), &calls(Prefix::parse(REACHABLE)?))?;
-    let endings = endings(&rt, rt.alloc(), events.as_slice())?;
-    for ending in [
-        Ending::NoTrace,
-        Ending::Refused,
-        Ending::ClosedFirst,
-        Ending::ClosedSecond,
-    ] {
-        assert!(rt; endings.contains(&ending), "{ending:?}");
-    }
+    let reachable = Prefix::parse(REACHABLE)?;
+    let mut endings = Vec::new(rt.alloc());
+    run_all(&rt, rt.alloc(), reachable, &mut endings)?;
+    assert!(rt; endings.contains(&Ending::NoTrace));
+    assert!(rt; endings.contains(&Ending::Refused));
+    assert!(rt; endings.contains(&Ending::ClosedFirst));
+    assert!(rt; endings.contains(&Ending::ClosedSecond));
     Ok(())
+}
+
+// All events are taken but the last.
+fn are_answered(rt: &impl Abort, answers: &[Result<Report, Refusal>]) {
+    let Some((last, answers)) = answers.split_last() else {
+        panic!(rt; "no answers");
+    };
+    assert_eq!(rt; *last, Err(Refusal::NotExpected));
+    assert_eq!(rt; answers.len(), UP_TO_ROUTE);
+    assert!(rt; answers.iter().all(|answer| *answer == Ok(Report::NOTHING)));
+}
+
+// The first peer's session is there, and its route is the best one.
+fn has_route<A: Allocator + Clone>(
+    rt: &impl Abort,
+    alloc: Global,
+    speaker: &Speaker<A>,
+    prefix: Prefix,
+) -> Result<(), AllocError> {
+    assert_eq!(rt; bare::session(speaker, 0), Some(State::Established));
+    assert_eq!(rt; bare::transport(speaker, 0), Transport::Open);
+    let best = BestRoute {
+        prefix,
+        slot: 0,
+        degree: 100,
+        validity: Validity::NotFound,
+    };
+    let mut routes = Vec::new(alloc);
+    bare::push_best(speaker, &mut routes)?;
+    assert!(rt; routes.as_slice() == [best].as_slice());
+    Ok(())
+}
+
+// The route behind a run.
+#[derive(Clone, Copy)]
+struct Route {
+    alloc: Global,
+    prefix: Prefix,
+}
+
+impl Look for Route {
+    type Answer = Result<(), AllocError>;
+
+    fn look<A: Allocator + Clone>(
+        &self,
+        rt: &impl Abort,
+        answers: &[Result<Report, Refusal>],
+        speaker: &Speaker<A>,
+    ) -> Result<(), AllocError> {
+        are_answered(rt, answers);
+        has_route(rt, self.alloc, speaker, self.prefix)
+    }
 }
 
 #[test]
@@ -167,22 +266,10 @@ fn a_run_shows_the_route_of_its_peer(rt: HostRuntime) -> Result<(), Fail> {
     let all = calls(Prefix::parse(REACHABLE)?);
     let mut events = events_of(rt.alloc(), &all[..UP_TO_ROUTE])?;
     events.push(Event::Up(0))?;
-    let trace = run(rt.alloc(), CONFIG, events.as_slice())?;
-    let Some((last, answers)) = trace.answers.as_slice().split_last() else {
-        panic!(rt; "no answers");
-    };
-    assert_eq!(rt; *last, Err(Refusal::NotExpected));
-    assert_eq!(rt; answers.len(), UP_TO_ROUTE);
-    assert!(rt; answers.iter().all(|answer| *answer == Ok(Report::NOTHING)));
-    assert_eq!(rt; trace.speaker.session(0), Some(State::Established));
-    assert_eq!(rt; trace.speaker.transport(0), Transport::Open);
-    let best = BestRoute {
+    let route = Route {
+        alloc: rt.alloc(),
         prefix,
-        slot: 0,
-        degree: 100,
-        validity: Validity::NotFound,
     };
-    let routes: Vec<BestRoute> = trace.speaker.loc_rib().collect(rt.alloc())?;
-    assert_eq!(rt; routes.as_slice(), [best].as_slice());
+    bare::on_run(&rt, rt.alloc(), CONFIG, events.as_slice(), &route)??;
     Ok(())
 }

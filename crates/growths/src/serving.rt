@@ -1,9 +1,11 @@
 //! A cache that loads and serves, where requests for memory are refused.
+ghost use Rattle.std.specs.Prelude.{◌≤◌};
+
 use net_prefix::{Asn, Prefix, Transport, Vrp};
 use refusing::Refusing;
 use rtr_cache::{Cache, CacheEvent, CacheRefusal};
 use rtr_codec::Intervals;
-use std::alloc::{Allocator, Global};
+use std::alloc::{AllocError, Allocator, Global};
 use std::collections::BTreeSet;
 use std::process::Abort;
 use std::test::Fail;
@@ -118,6 +120,21 @@ fn at_last<A: Allocator + Clone>(rt: &impl Abort, cache: &mut Cache<A>, call: Ca
     }
 }
 
+fn transport<A: Allocator + Clone>(cache: &Cache<A>, key: u64) -> Transport {
+    cache.transport(key)
+}
+
+// The client that asks was closed, and no other: it goes, and another one comes.
+fn reconnect<A: Allocator + Clone>(rt: &impl Abort, cache: &mut Cache<A>) {
+    assert_eq!(rt; transport(cache, 0), Transport::Closing);
+    assert_eq!(rt; transport(cache, 1), Transport::Open);
+    assert_eq!(rt;
+        step(cache, CacheEvent::Down(0), None, None),
+        Answer::AsWithMemory
+    );
+    at_last(rt, cache, Call::Up(0));
+}
+
 // The call was refused: nothing else has changed, so that it is answered when it is made again. A query has closed its
 // client and no other, and another one makes it.
 fn again<A: Allocator + Clone>(rt: &impl Abort, cache: &mut Cache<A>, call: Call<'_>) -> Ending {
@@ -126,18 +143,29 @@ fn again<A: Allocator + Clone>(rt: &impl Abort, cache: &mut Cache<A>, call: Call
         Call::Up(_) => Ending::Up,
         Call::Take(_) => Ending::Nothing,
         Call::Query(..) => {
-            assert_eq!(rt; cache.transport(0), Transport::Closing);
-            assert_eq!(rt; cache.transport(1), Transport::Open);
-            assert_eq!(rt;
-                step(cache, CacheEvent::Down(0), None, None),
-                Answer::AsWithMemory
-            );
-            at_last(rt, cache, Call::Up(0));
+            reconnect(rt, cache);
             Ending::Query
         }
     };
     at_last(rt, cache, call);
     ending
+}
+
+// Makes a call. What was refused of the calls before it, or of it.
+fn make<A: Allocator + Clone>(
+    rt: &impl Abort,
+    cache: &mut Cache<A>,
+    call: Call<'_>,
+    before: Ending,
+) -> Ending {
+    match answer_to(cache, call) {
+        Answer::AsWithMemory => before,
+        answer => {
+            assert_eq!(rt; answer, Answer::NoMemory);
+            assert!(rt; before == Ending::Nothing);
+            again(rt, cache, call)
+        }
+    }
 }
 
 // Plays the calls on a new cache.
@@ -148,21 +176,18 @@ fn play_on<A: Allocator + Clone>(
 ) -> Ending {
     let mut ending = Ending::Nothing;
     for call in calls {
-        match answer_to(cache, *call) {
-            Answer::AsWithMemory => {}
-            answer => {
-                assert_eq!(rt; answer, Answer::NoMemory);
-                assert!(rt; ending == Ending::Nothing);
-                ending = again(rt, cache, *call);
-            }
-        }
+        ending = make(rt, cache, *call, ending);
     }
     ending
 }
 
+fn new<A: Allocator + Clone>(alloc: A) -> Result<Cache<A>, CacheRefusal> {
+    Cache::new(alloc, 7, Intervals::USUAL)
+}
+
 // Plays the calls on a cache over the heap.
-fn play<B: Allocator>(rt: &impl Abort, heap: &Refusing<B>, calls: &[Call<'_>]) -> Ending {
-    match Cache::new(heap, 7, Intervals::USUAL) {
+fn play<A: Allocator + Clone>(rt: &impl Abort, heap: A, calls: &[Call<'_>]) -> Ending {
+    match new(heap) {
         Ok(mut cache) => play_on(rt, &mut cache, calls),
         Err(why) => {
             assert_eq!(rt; why, CacheRefusal::NoMemory);
@@ -171,10 +196,9 @@ fn play<B: Allocator>(rt: &impl Abort, heap: &Refusing<B>, calls: &[Call<'_>]) -
     }
 }
 
-fn one_payload(alloc: Global, prefix: &str) -> Result<BTreeSet<Vrp>, Fail> {
-    let mut set = BTreeSet::new(alloc);
-    let _new = set.insert(Vrp::new(Prefix::parse(prefix)?, 24, Asn(65_002))?)?;
-    Ok(set)
+// The payload of a prefix and its longest length, 24.
+fn payload(prefix: &str) -> Result<Vrp, Fail> {
+    Ok(Vrp::new(Prefix::parse(prefix)?, 24, Asn(65_002))?)
 }
 
 fn calls<'a>(first: &'a BTreeSet<Vrp>, second: &'a BTreeSet<Vrp>) -> [Call<'a>; 7] {
@@ -189,66 +213,99 @@ fn calls<'a>(first: &'a BTreeSet<Vrp>, second: &'a BTreeSet<Vrp>) -> [Call<'a>; 
     ]
 }
 
-// How the calls end, by n, until none is refused. Two requests in a row are refused, since a list that is refused room
-// for all that comes asks again, for less.
-fn endings(rt: &impl Abort, alloc: Global, calls: &[Call<'_>]) -> Result<Vec<Ending>, Fail> {
-    let mut endings = Vec::new(alloc);
+// The ending where the nth request is refused, and the one behind it: a list that is refused room for all that comes
+// asks again, for less.
+fn nth_ending(rt: &impl Abort, alloc: Global, nth: u64, calls: &[Call<'_>]) -> Ending
+    requires { 1 ≤ nth }
+{
+    let behind = Refusing::new(alloc, nth);
+    let heap = Refusing::new(&behind, nth);
+    let ending = play(rt, &heap, calls);
+    assert_eq!(rt; heap.has_refused(), ending != Ending::Nothing, "{nth}");
+    ending
+}
+
+// Puts in how the calls end, by n, until none is refused.
+fn push_endings(
+    rt: &impl Abort,
+    alloc: Global,
+    calls: &[Call<'_>],
+    endings: &mut Vec<Ending>,
+) -> Result<(), AllocError> {
     for nth in 1..1_000u64 {
-        let behind = Refusing::new(alloc, nth);
-        let heap = Refusing::new(&behind, nth);
-        let ending = play(rt, &heap, calls);
-        if !heap.has_refused() {
-            assert_eq!(rt; ending, Ending::Nothing);
-            return Ok(endings);
+        let ending = nth_ending(rt, alloc, nth, calls);
+        if ending == Ending::Nothing {
+            return Ok(());
         }
-        assert_ne!(rt; ending, Ending::Nothing, "{nth}");
         endings.push(ending)?;
     }
     panic!(rt; "the calls make no end of requests");
 }
 
-// What the second client is told that asks what the first one has asked at the end of the calls; None where one of these
+// The second client asks what the first one has asked at the end of the calls: what it is told; None where one of these
 // was refused.
-fn answer_to_second<B: Allocator>(heap: &Refusing<B>, calls: &[Call<'_>]) -> Option<Answer> {
-    let mut cache = match Cache::new(heap, 7, Intervals::USUAL) {
-        Ok(cache) => cache,
-        Err(_) => return None,
-    };
+fn answer_behind<A: Allocator + Clone>(cache: &mut Cache<A>, calls: &[Call<'_>]) -> Option<Answer> {
     for call in calls {
-        if answer_to(&mut cache, *call) != Answer::AsWithMemory {
+        if answer_to(cache, *call) != Answer::AsWithMemory {
             return None;
         }
     }
-    Some(asked(&mut cache, 1, &SERIAL_QUERY, &CHANGE))
+    Some(asked(cache, 1, &SERIAL_QUERY, &CHANGE))
 }
 
-// What changed since a version is made once: whichever request is refused, it is none of the second client's.
-#[test]
-fn what_one_client_has_asked_for_needs_no_memory(rt: HostRuntime) -> Result<(), Fail> {
-    let alloc = rt.alloc();
-    let first = one_payload(alloc, "10.0.1.0/24")?;
-    let second = one_payload(alloc, "10.0.2.0/24")?;
+// The same on a cache over the heap.
+fn answer_to_second<A: Allocator + Clone>(heap: A, calls: &[Call<'_>]) -> Option<Answer> {
+    match new(heap) {
+        Ok(mut cache) => answer_behind(&mut cache, calls),
+        Err(_) => None,
+    }
+}
+
+// Whether the nth request is one of the calls: where none is refused, the second client is answered.
+fn is_of_calls(rt: &impl Abort, alloc: Global, nth: u64, calls: &[Call<'_>]) -> bool
+    requires { 1 ≤ nth }
+{
+    let behind = Refusing::new(alloc, nth);
+    let heap = Refusing::new(&behind, nth);
+    let answer = answer_to_second(&heap, calls);
+    assert_eq!(rt; heap.has_refused(), answer.is_none());
+    assert!(rt; answer.is_none() || answer == Some(Answer::AsWithMemory));
+    answer.is_none()
+}
+
+// Whichever request is refused, it is none of the second client's.
+fn are_all_of_calls(rt: &impl Abort, alloc: Global, calls: &[Call<'_>]) {
     for nth in 1..1_000u64 {
-        let behind = Refusing::new(alloc, nth);
-        let heap = Refusing::new(&behind, nth);
-        match answer_to_second(&heap, &calls(&first, &second)) {
-            None => assert!(rt; heap.has_refused()),
-            Some(answer) => {
-                assert_eq!(rt; answer, Answer::AsWithMemory);
-                assert!(rt; !heap.has_refused());
-                return Ok(());
-            }
+        if !is_of_calls(rt, alloc, nth, calls) {
+            return;
         }
     }
     panic!(rt; "the calls make no end of requests");
 }
 
+// What changed since a version is made once: whichever request is refused, it is none of the second client's.
+#[test]
+fn what_one_client_has_asked_for_needs_no_memory(rt: HostRuntime) -> Result<(), Fail> {
+    let one = payload("10.0.1.0/24")?;
+    let another = payload("10.0.2.0/24")?;
+    let mut first = BTreeSet::new(rt.alloc());
+    let mut second = BTreeSet::new(rt.alloc());
+    first.insert(one)?;
+    second.insert(another)?;
+    are_all_of_calls(&rt, rt.alloc(), &calls(&first, &second));
+    Ok(())
+}
+
 #[test]
 fn a_refused_growth_of_a_cache_is_that_of_one_call(rt: HostRuntime) -> Result<(), Fail> {
-    let alloc = rt.alloc();
-    let first = one_payload(alloc, "10.0.1.0/24")?;
-    let second = one_payload(alloc, "10.0.2.0/24")?;
-    let endings = endings(&rt, alloc, &calls(&first, &second))?;
+    let one = payload("10.0.1.0/24")?;
+    let another = payload("10.0.2.0/24")?;
+    let mut endings = Vec::new(rt.alloc());
+    let mut first = BTreeSet::new(rt.alloc());
+    let mut second = BTreeSet::new(rt.alloc());
+    first.insert(one)?;
+    second.insert(another)?;
+    push_endings(&rt, rt.alloc(), &calls(&first, &second), &mut endings)?;
     assert!(rt; endings.contains(&Ending::Load));
     assert!(rt; endings.contains(&Ending::Up));
     assert!(rt; endings.contains(&Ending::Query));

@@ -1,17 +1,17 @@
 //! The calls of the first path on a speaker, where the nth request for memory is refused.
+ghost use Rattle.std.specs.Prelude.{◌≤◌};
+
+use crate::bare::{self, Play};
 use crate::first_path::{
     ANNOUNCED_PREFIX, CONFIG, Call, FIRST_CLOSED, REACHABLE, SECOND_CLOSED, UP_TO_ROUTE, calls,
     first_again, second_again,
 };
 use net_prefix::{Prefix, Transport};
 use refusing::Refusing;
-use speaker::{BestRoute, Refusal, Report, Speaker, State, Validity};
-use std::alloc::{AllocError, Global};
+use speaker::{BestRoute, Event, Refusal, Report, Speaker, State, Validity};
+use std::alloc::{AllocError, Allocator, Global};
 use std::process::Abort;
 use std::test::Fail;
-
-// A speaker over a heap that refuses a growth.
-type OverRefusing<'heap> = Speaker<&'heap Refusing<Global>>;
 
 // What a call answers.
 #[derive(Clone, Copy, Debug, PartialEq, Eq)]
@@ -47,20 +47,26 @@ fn told(report: Report) -> Answer {
     }
 }
 
-fn answer_to(speaker: &mut OverRefusing<'_>, call: Call<'_>) -> Answer {
+fn answer_to_event<A: Allocator + Clone>(speaker: &mut Speaker<A>, event: Event<'_>) -> Answer {
+    match bare::step(speaker, event) {
+        Ok(report) => told(report),
+        Err(Refusal::NoMemory) => Answer::NoMemory,
+        Err(_) => Answer::Other,
+    }
+}
+
+fn answer_to_take<A: Allocator + Clone>(speaker: &mut Speaker<A>, octets: &[u8]) -> Answer {
+    let mut buf = [0u8; 200];
+    match bare::take(speaker, 1, &mut buf) {
+        Ok((taken, report)) if buf.get(..taken) == Some(octets) => told(report),
+        _ => Answer::Other,
+    }
+}
+
+fn answer_to<A: Allocator + Clone>(speaker: &mut Speaker<A>, call: Call<'_>) -> Answer {
     match call {
-        Call::Step(event) => match speaker.step(event) {
-            Ok(report) => told(report),
-            Err(Refusal::NoMemory) => Answer::NoMemory,
-            Err(_) => Answer::Other,
-        },
-        Call::Take(octets) => {
-            let mut buf = [0u8; 200];
-            match speaker.take(1, &mut buf) {
-                Ok((taken, report)) if buf.get(..taken) == Some(octets) => told(report),
-                _ => Answer::Other,
-            }
-        }
+        Call::Step(event) => answer_to_event(speaker, event),
+        Call::Take(octets) => answer_to_take(speaker, octets),
     }
 }
 
@@ -75,21 +81,23 @@ struct Shown {
     held: Option<Prefix>,
 }
 
-fn look_at(alloc: Global, speaker: &OverRefusing<'_>) -> Result<Shown, AllocError> {
+fn look_at<A: Allocator + Clone>(alloc: Global, speaker: &Speaker<A>) -> Result<Shown, AllocError> {
+    let mut routes = Vec::new(alloc);
+    bare::push_best(speaker, &mut routes)?;
     Ok(Shown {
-        sessions: [speaker.session(0), speaker.session(1)],
-        transports: [speaker.transport(0), speaker.transport(1)],
+        sessions: [bare::session(speaker, 0), bare::session(speaker, 1)],
+        transports: [bare::transport(speaker, 0), bare::transport(speaker, 1)],
         announced: [
-            speaker.adj_in(0).next().map(|(prefix, _)| prefix),
-            speaker.adj_in(1).next().map(|(prefix, _)| prefix),
+            bare::first_announced(speaker, 0),
+            bare::first_announced(speaker, 1),
         ],
-        routes: speaker.loc_rib().collect(alloc)?,
-        held: speaker.held(1).next().map(|(prefix, _)| prefix),
+        routes,
+        held: bare::first_held(speaker, 1),
     })
 }
 
 // All is as with memory.
-fn goes_on(rt: &impl Abort, speaker: &mut OverRefusing<'_>, calls: &[Call<'_>]) {
+fn goes_on<A: Allocator + Clone>(rt: &impl Abort, speaker: &mut Speaker<A>, calls: &[Call<'_>]) {
     for call in calls {
         assert_eq!(rt; answer_to(speaker, *call), Answer::AsWithMemory);
     }
@@ -108,10 +116,9 @@ fn lacks_first(rt: &impl Abort, before: &Shown, after: &Shown) {
 }
 
 // The second peer's session was closed, and no other: the first peer's route is there, and is held by nobody.
-fn lacks_second(rt: &impl Abort, before: &Shown, after: &Shown) -> Result<(), Fail> {
-    let prefix = Prefix::parse(ANNOUNCED_PREFIX)?;
+fn lacks_second(rt: &impl Abort, before: &Shown, after: &Shown, announced: Prefix) {
     let best = BestRoute {
-        prefix,
+        prefix: announced,
         slot: 0,
         degree: 100,
         validity: Validity::NotFound,
@@ -121,94 +128,158 @@ fn lacks_second(rt: &impl Abort, before: &Shown, after: &Shown) -> Result<(), Fa
         after.transports,
         [before.transports[0], Transport::Closing]
     );
-    assert_eq!(rt; after.announced, [Some(prefix), None]);
-    assert_eq!(rt; after.routes.as_slice(), [best].as_slice());
+    assert_eq!(rt; after.announced, [Some(announced), None]);
+    assert!(rt; after.routes.as_slice() == [best].as_slice());
     assert_eq!(rt; after.held, None);
-    Ok(())
 }
 
-// The first of the calls has met a refused growth, and answered so; this is what the speaker showed before it.
-fn behind(
+// A call has met a refused growth, and answered so; this is what the speaker showed before and behind it.
+fn judge(
     rt: &impl Abort,
-    alloc: Global,
-    speaker: &mut OverRefusing<'_>,
-    calls: &[Call<'_>],
     answer: Answer,
     before: &Shown,
-) -> Result<Ending, Fail> {
-    let Some((_, later)) = calls.split_first() else {
-        return Ok(Ending::Whole);
-    };
-    let after = look_at(alloc, speaker)?;
+    after: &Shown,
+    announced: Prefix,
+) -> Ending {
     match answer {
         Answer::NoMemory => {
-            assert_eq!(rt; after, *before);
-            goes_on(rt, speaker, calls);
-            Ok(Ending::Refused)
+            assert!(rt; *after == *before);
+            Ending::Refused
         }
         Answer::ClosedFirst => {
-            lacks_first(rt, before, &after);
-            goes_on(rt, speaker, &first_again());
-            goes_on(rt, speaker, later);
-            Ok(Ending::ClosedFirst)
+            lacks_first(rt, before, after);
+            Ending::ClosedFirst
         }
         Answer::ClosedSecond => {
-            lacks_second(rt, before, &after)?;
-            goes_on(rt, speaker, &second_again());
-            goes_on(rt, speaker, later);
-            Ok(Ending::ClosedSecond)
+            lacks_second(rt, before, after, announced);
+            Ending::ClosedSecond
         }
         Answer::AsWithMemory | Answer::Other => panic!(rt; "a refused growth was answered so"),
     }
 }
 
-// Plays the calls on a new speaker.
-fn play_on(
+// A call has met a refused growth, which came to this: it is made again, or the closed peer comes again.
+fn comes_again<A: Allocator + Clone>(
     rt: &impl Abort,
-    alloc: Global,
-    heap: &Refusing<Global>,
-    speaker: &mut OverRefusing<'_>,
-    calls: &[Call<'_>],
-) -> Result<Ending, Fail> {
-    for (place, call) in calls.iter().enumerate() {
-        let before = look_at(alloc, speaker)?;
-        let answer = answer_to(speaker, *call);
-        if heap.has_refused() {
-            return behind(rt, alloc, speaker, &calls[place..], answer, &before);
-        }
-        assert_eq!(rt; answer, Answer::AsWithMemory);
+    speaker: &mut Speaker<A>,
+    call: Call<'_>,
+    ending: Ending,
+) {
+    match ending {
+        Ending::Refused => goes_on(rt, speaker, &[call]),
+        Ending::ClosedFirst => goes_on(rt, speaker, &first_again()),
+        Ending::ClosedSecond => goes_on(rt, speaker, &second_again()),
+        Ending::Whole | Ending::NotBegun => {}
     }
-    Ok(Ending::Whole)
 }
 
-// Plays the calls on a speaker over the heap.
-fn play(
+// A call of a speaker that showed this before it. What a refused growth came to.
+fn make<B, A: Allocator + Clone>(
     rt: &impl Abort,
     alloc: Global,
-    heap: &Refusing<Global>,
+    heap: &Refusing<B>,
+    speaker: &mut Speaker<A>,
+    call: Call<'_>,
+    announced: Prefix,
+    before: &Shown,
+) -> Result<Ending, AllocError> {
+    let answer = answer_to(speaker, call);
+    if !heap.has_refused() {
+        assert_eq!(rt; answer, Answer::AsWithMemory);
+        return Ok(Ending::Whole);
+    }
+    let after = look_at(alloc, speaker)?;
+    let ending = judge(rt, answer, before, &after, announced);
+    comes_again(rt, speaker, call, ending);
+    Ok(ending)
+}
+
+// A call of the speaker.
+fn meet<B, A: Allocator + Clone>(
+    rt: &impl Abort,
+    alloc: Global,
+    heap: &Refusing<B>,
+    speaker: &mut Speaker<A>,
+    call: Call<'_>,
+    announced: Prefix,
+) -> Result<Ending, AllocError> {
+    let before = look_at(alloc, speaker)?;
+    make(rt, alloc, heap, speaker, call, announced, &before)
+}
+
+// The calls on a new speaker over the heap. All go on behind the one that meets a refused growth.
+#[derive(Clone, Copy)]
+struct Calls<'a, B> {
+    alloc: Global,
+    heap: &'a Refusing<B>,
+    calls: &'a [Call<'a>],
+    announced: Prefix,
+}
+
+impl<B> Play for Calls<'_, B> {
+    type Answer = Result<Ending, AllocError>;
+
+    fn play<A: Allocator + Clone>(
+        &self,
+        rt: &impl Abort,
+        speaker: &mut Speaker<A>,
+    ) -> Result<Ending, AllocError> {
+        let mut ending = Ending::Whole;
+        for call in self.calls {
+            if ending == Ending::Whole {
+                ending = meet(rt, self.alloc, self.heap, speaker, *call, self.announced)?;
+            } else {
+                goes_on(rt, speaker, &[*call]);
+            }
+        }
+        Ok(ending)
+    }
+}
+
+// The ending where the nth request is refused. Where none is, None.
+fn nth_ending(
+    rt: &impl Abort,
+    alloc: Global,
+    nth: u64,
     calls: &[Call<'_>],
-) -> Result<Ending, Fail> {
-    let mut speaker: OverRefusing<'_> = match Speaker::new(heap, CONFIG) {
-        Ok(speaker) => speaker,
+    announced: Prefix,
+) -> Result<Option<Ending>, AllocError>
+    requires { 1 ≤ nth }
+{
+    let heap = Refusing::new(alloc, nth);
+    let plays = Calls {
+        alloc,
+        heap: &heap,
+        calls,
+        announced,
+    };
+    let ending = match bare::on_new(rt, &heap, CONFIG, &plays) {
+        Ok(ending) => ending?,
         Err(why) => {
             assert_eq!(rt; why, Refusal::NoMemory);
-            return Ok(Ending::NotBegun);
+            Ending::NotBegun
         }
     };
-    play_on(rt, alloc, heap, &mut speaker, calls)
+    if heap.has_refused() {
+        return Ok(Some(ending));
+    }
+    assert_eq!(rt; ending, Ending::Whole);
+    Ok(None)
 }
 
-// How the calls end, by n, until none is refused.
-fn endings(rt: &impl Abort, alloc: Global, calls: &[Call<'_>]) -> Result<Vec<Ending>, Fail> {
-    let mut endings = Vec::new(alloc);
+// Puts in how the calls end, by n, until none is refused.
+fn push_endings(
+    rt: &impl Abort,
+    alloc: Global,
+    calls: &[Call<'_>],
+    announced: Prefix,
+    endings: &mut Vec<Ending>,
+) -> Result<(), AllocError> {
     for nth in 1..1_000u64 {
-        let heap = Refusing::new(alloc, nth);
-        let ending = play(rt, alloc, &heap, calls)?;
-        if !heap.has_refused() {
-            assert_eq!(rt; ending, Ending::Whole);
-            return Ok(endings);
+        match nth_ending(rt, alloc, nth, calls, announced)? {
+            Some(ending) => endings.push(ending)?,
+            None => return Ok(()),
         }
-        endings.push(ending)?;
     }
     panic!(rt; "the calls make no end of requests");
 }
@@ -223,17 +294,28 @@ fn has_all(rt: &impl Abort, endings: &[Ending]) {
 fn each_refused_growth_refuses_a_command_or_closes_one_session(
     rt: HostRuntime,
 ) -> Result<(), Fail> {
-    let endings = endings(&rt, rt.alloc(), &calls(Prefix::parse(REACHABLE)?))?;
+    let calls = calls(Prefix::parse(REACHABLE)?);
+    let announced = Prefix::parse(ANNOUNCED_PREFIX)?;
+    let mut endings = Vec::new(rt.alloc());
+    push_endings(&rt, rt.alloc(), &calls, announced, &mut endings)?;
     has_all(&rt, endings.as_slice());
     Ok(())
+}
+
+// The calls, the first of which comes behind the UPDATE.
+fn reachable_last(reachable: Prefix) -> [Call<'static>; 15] {
+    let mut calls = calls(reachable);
+    calls[..UP_TO_ROUTE].rotate_left(1);
+    calls
 }
 
 // The next hop becomes reachable when the route is there already, so that the command lets the route be told.
 #[test]
 fn an_obeyed_command_closes_the_session_that_it_lets_be_told(rt: HostRuntime) -> Result<(), Fail> {
-    let mut calls = calls(Prefix::parse(REACHABLE)?);
-    calls[..UP_TO_ROUTE].rotate_left(1);
-    let endings = endings(&rt, rt.alloc(), &calls)?;
+    let calls = reachable_last(Prefix::parse(REACHABLE)?);
+    let announced = Prefix::parse(ANNOUNCED_PREFIX)?;
+    let mut endings = Vec::new(rt.alloc());
+    push_endings(&rt, rt.alloc(), &calls, announced, &mut endings)?;
     has_all(&rt, endings.as_slice());
     Ok(())
 }

@@ -1,18 +1,18 @@
 //! A call that hands out octets, where the nth request for memory is refused. What it hands out makes room for UPDATEs
 //! for which the peer's ring had none.
+ghost use Rattle.std.specs.Prelude.{◌≤◌};
+
+use crate::bare::{self, Play};
 use crate::first_path::{CONFIG, Call, OPENED, REACHABLE, UP_TO_ROUTE, calls};
 use net_prefix::Prefix;
 use refusing::Refusing;
 use speaker::{Event, Report, Speaker, State, Transport};
-use std::alloc::{AllocError, Global};
+use std::alloc::{AllocError, Allocator, Global};
 use std::process::Abort;
 use std::test::Fail;
 
 // How many prefixes the first peer announces.
 const PREFIXES: u8 = 32;
-
-// More routes than there are: a bound for the walk over a table.
-const MOST_ROUTES: usize = 100;
 
 // How many of them the second peer is told at once. Its ring holds 56 octets of OPEN and KEEPALIVE and then UPDATEs of
 // 2,092 octets, and takes one more where 8,192 of its 65,536 octets are free.
@@ -85,14 +85,14 @@ fn told(alloc: Global) -> Result<Vec<u8>, AllocError> {
 }
 
 // Whether the events are over before the heap refuses a growth.
-fn are_granted(
+fn are_granted<B, A: Allocator + Clone>(
     rt: &impl Abort,
-    speaker: &mut Speaker<&Refusing<Global>>,
-    heap: &Refusing<Global>,
+    speaker: &mut Speaker<A>,
+    heap: &Refusing<B>,
     events: &[Event<'_>],
 ) -> bool {
     for event in events {
-        let answer = speaker.step(*event);
+        let answer = bare::step(speaker, *event);
         if heap.has_refused() {
             return false;
         }
@@ -101,65 +101,103 @@ fn are_granted(
     true
 }
 
-// Plays the events and the call on a speaker over the heap. Where a growth is refused to the call, the octets are
-// handed out all the same, and the session of the second peer alone is closed.
-fn play(
+// The octets are handed out, and the first peer's routes are there. Whether a growth is refused to the call.
+fn is_refused<B, A: Allocator + Clone>(
     rt: &impl Abort,
-    heap: &Refusing<Global>,
-    events: &[Event<'_>],
+    speaker: &mut Speaker<A>,
+    heap: &Refusing<B>,
     told: &[u8],
     buf: &mut [u8],
-) -> Result<Ending, Fail> {
-    let mut speaker: Speaker<&Refusing<Global>> = Speaker::new(heap, CONFIG)?;
-    if !are_granted(rt, &mut speaker, heap, events) {
-        return Ok(Ending::Earlier);
-    }
-    let answer = speaker.take(1, buf);
+) -> bool {
+    let answer = bare::take(speaker, 1, buf);
+    let refused = heap.has_refused();
     let wanted = Report {
-        starved: if heap.has_refused() { 2 } else { 0 },
+        starved: if refused { 2 } else { 0 },
         ..Report::NOTHING
     };
     assert_eq!(rt; answer, Ok((told.len(), wanted)));
     assert!(rt; buf.get(..told.len()) == Some(told));
-    assert_eq!(rt; speaker.session(0), Some(State::Established));
-    assert_eq!(rt;
-        speaker.adj_in(0).take(MOST_ROUTES).count(),
-        usize::from(PREFIXES)
-    );
-    assert_eq!(rt;
-        speaker.loc_rib().take(MOST_ROUTES).count(),
-        usize::from(PREFIXES)
-    );
-    Ok(behind(rt, &speaker, heap.has_refused()))
+    assert_eq!(rt; bare::session(speaker, 0), Some(State::Established));
+    assert_eq!(rt; bare::announced_count(speaker, 0), usize::from(PREFIXES));
+    assert_eq!(rt; bare::best_count(speaker), usize::from(PREFIXES));
+    refused
 }
 
 // Where memory was refused, the second peer's session is closed, and it holds nothing; else it holds all.
-fn behind(rt: &impl Abort, speaker: &Speaker<&Refusing<Global>>, refused: bool) -> Ending {
-    assert!(rt; speaker.waiting(1).next().is_none());
+fn behind<A: Allocator + Clone>(rt: &impl Abort, speaker: &Speaker<A>, refused: bool) -> Ending {
+    assert!(rt; bare::first_waiting(speaker, 1).is_none());
     if !refused {
-        assert_eq!(rt; speaker.session(1), Some(State::Established));
+        assert_eq!(rt; bare::session(speaker, 1), Some(State::Established));
         return Ending::Whole;
     }
-    assert_eq!(rt; speaker.session(1), Some(State::Idle));
-    assert_eq!(rt; speaker.transport(1), Transport::Closing);
-    assert!(rt; speaker.held(1).next().is_none());
+    assert_eq!(rt; bare::session(speaker, 1), Some(State::Idle));
+    assert_eq!(rt; bare::transport(speaker, 1), Transport::Closing);
+    assert!(rt; bare::first_held(speaker, 1).is_none());
     Ending::ClosedAtTake
 }
 
-// How the call ends, by n, until nothing is refused.
-fn endings(
+// The events and the call on a new speaker over the heap. Where a growth is refused to the call, the octets are handed
+// out all the same, and the session of the second peer alone is closed.
+#[derive(Clone, Copy)]
+struct Calls<'a, B> {
+    alloc: Global,
+    heap: &'a Refusing<B>,
+    events: &'a [Event<'a>],
+    told: &'a [u8],
+}
+
+impl<B> Play for Calls<'_, B> {
+    type Answer = Result<Ending, AllocError>;
+
+    fn play<A: Allocator + Clone>(
+        &self,
+        rt: &impl Abort,
+        speaker: &mut Speaker<A>,
+    ) -> Result<Ending, AllocError> {
+        if !are_granted(rt, speaker, self.heap, self.events) {
+            return Ok(Ending::Earlier);
+        }
+        let mut buf = vec![in self.alloc; 0u8; 65_536]?;
+        let refused = is_refused(rt, speaker, self.heap, self.told, buf.as_mut_slice());
+        Ok(behind(rt, speaker, refused))
+    }
+}
+
+// The ending where the nth request is refused.
+fn nth_ending(
+    rt: &impl Abort,
+    alloc: Global,
+    nth: u64,
+    events: &[Event<'_>],
+    told: &[u8],
+) -> Result<Ending, AllocError>
+    requires { 1 ≤ nth }
+{
+    let heap = Refusing::new(alloc, nth);
+    let plays = Calls {
+        alloc,
+        heap: &heap,
+        events,
+        told,
+    };
+    match bare::on_new(rt, &heap, CONFIG, &plays) {
+        Ok(ending) => ending,
+        Err(_) => panic!(rt; "there is no speaker"),
+    }
+}
+
+// Puts in how the call ends, by n, until nothing is refused.
+fn push_endings(
     rt: &impl Abort,
     alloc: Global,
     events: &[Event<'_>],
     told: &[u8],
-) -> Result<Vec<Ending>, Fail> {
-    let mut endings = Vec::new(alloc);
-    let mut buf = vec![in alloc; 0u8; 65_536]?;
+    endings: &mut Vec<Ending>,
+) -> Result<(), AllocError> {
     for nth in 1..1_000u64 {
-        let heap = Refusing::new(alloc, nth);
-        let ending = play(rt, &heap, events, told, buf.as_mut_slice())?;
+        let ending = nth_ending(rt, alloc, nth, events, told)?;
         if ending == Ending::Whole {
-            return Ok(endings);
+            return Ok(());
         }
         endings.push(ending)?;
     }
@@ -182,14 +220,36 @@ fn events_of<'a>(
     Ok(events)
 }
 
+// Puts in how the call ends that is to hand out these octets.
+fn meet_refusals(
+    rt: &impl Abort,
+    alloc: Global,
+    events: &[Event<'_>],
+    endings: &mut Vec<Ending>,
+) -> Result<(), AllocError> {
+    let told = told(alloc)?;
+    push_endings(rt, alloc, events, told.as_slice(), endings)
+}
+
+// The same behind the UPDATE.
+fn play_all(
+    rt: &impl Abort,
+    alloc: Global,
+    reachable: Prefix,
+    update: &[u8],
+    endings: &mut Vec<Ending>,
+) -> Result<(), AllocError> {
+    let calls = calls(reachable);
+    let events = events_of(alloc, &calls[..UP_TO_ROUTE - 1], update)?;
+    meet_refusals(rt, alloc, events.as_slice(), endings)
+}
+
 #[test]
 fn octets_are_handed_out_where_memory_is_refused(rt: HostRuntime) -> Result<(), Fail> {
-    let alloc = rt.alloc();
-    let update = announced(alloc)?;
-    let told = told(alloc)?;
-    let calls = calls(Prefix::parse(REACHABLE)?);
-    let events = events_of(alloc, &calls[..UP_TO_ROUTE - 1], update.as_slice())?;
-    let endings = endings(&rt, alloc, events.as_slice(), told.as_slice())?;
+    let reachable = Prefix::parse(REACHABLE)?;
+    let mut endings = Vec::new(rt.alloc());
+    let update = announced(rt.alloc())?;
+    play_all(&rt, rt.alloc(), reachable, update.as_slice(), &mut endings)?;
     assert!(rt; endings.contains(&Ending::ClosedAtTake));
     Ok(())
 }
