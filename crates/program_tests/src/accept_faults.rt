@@ -14,9 +14,13 @@ const WANTING: [i32; 4] = [12, 23, 24, 105];
 // EBADF, EFAULT, EINVAL, ENOTSOCK.
 const OF_ALL: [i32; 4] = [9, 14, 22, 88];
 
+fn fault_of(code: i32) -> AcceptFault {
+    AcceptFault::of(&io::Error::from_raw_os_error(code))
+}
+
 fn means(codes: &[i32], fault: AcceptFault) -> bool {
     for code in codes {
-        if AcceptFault::of(&io::Error::from_raw_os_error(*code)) != fault {
+        if fault_of(*code) != fault {
             return false;
         }
     }

@@ -145,21 +145,27 @@ fn lines_are_told_by_their_number(rt: HostRuntime) -> Result<(), Fail> {
     Ok(())
 }
 
+// Commands behind which not just slot 0 has a peer: none has, another one, two, and none any more.
+#[rattlefmt::skip]
+const OTHER_SLOTS: [&str; 4] = [
+    "",
+    "peer 1 65001 192.0.2.11 192.0.2.1 passive 180 all all\n",
+    "peer 0 65001 192.0.2.11 192.0.2.1 passive 180 all all\npeer 1 65002 192.0.2.12 192.0.2.1 passive 180 all all",
+    "peer 0 65001 192.0.2.11 192.0.2.1 passive 180 all all\ndrop 0",
+];
+
+const DROPPED_AND_BACK: &str =
+    "peer 0 65001 192.0.2.11 192.0.2.1 passive 180 all all\ndrop 0\npeer 0 65001 192.0.2.11 192.0.2.1 passive 180 all all\n";
+
 #[test]
 fn other_slots_than_those_of_the_commands_are_settings(rt: HostRuntime) -> Result<(), Fail> {
-    let other = "peer 1 65001 192.0.2.11 192.0.2.1 passive 180 all all\n";
-    let both = format!(in rt.alloc();
-        "{PEER}peer 1 65002 192.0.2.12 192.0.2.1 passive 180 all all"
-    )?;
-    let dropped = format!(in rt.alloc(); "{PEER}drop 0")?;
-    let again = format!(in rt.alloc(); "{PEER}drop 0\n{PEER}")?;
-    for commands in ["", other, both.as_str(), dropped.as_str()] {
+    for commands in OTHER_SLOTS {
         let ended = run_with(&rt, Program::Bgp, "slots", ONE_PEER, commands, "2")?;
         assert!(rt; ended.is(1, "ovbgpd: settings\n"), "{commands}");
     }
     let without = run_with(&rt, Program::Bgp, "slots", SETTINGS, PEER, "2")?;
     assert!(rt; without.is(1, "ovbgpd: settings\n"));
-    let ended = run_with(&rt, Program::Bgp, "slots", ONE_PEER, again.as_str(), "2")?;
+    let ended = run_with(&rt, Program::Bgp, "slots", ONE_PEER, DROPPED_AND_BACK, "2")?;
     assert!(rt; ended.printed("end\n"));
     Ok(())
 }
@@ -206,13 +212,18 @@ fn a_file_that_cant_be_read_is_a_device(rt: HostRuntime) -> Result<(), Fail> {
 
 // Settings that name a file without commands, in a file of this name.
 fn settings_file(rt: &HostRuntime, name: &str, commands_path: &str) -> Result<String, Fail> {
-    let settings_path = path_of(rt, name)?;
     fs::write(rt, commands_path, "")?;
+    let settings_path = path_of(rt, name)?;
+    write_settings(rt, settings_path.as_str(), commands_path)?;
+    Ok(settings_path)
+}
+
+fn write_settings(rt: &HostRuntime, path: &str, commands_path: &str) -> Result<(), Fail> {
     let text = format!(in rt.alloc();
         "commands = \"{commands_path}\"\nlisten = \"127.0.0.1:0\"\n{SETTINGS}"
     )?;
-    fs::write(rt, settings_path.as_str(), text.as_str())?;
-    Ok(settings_path)
+    fs::write(rt, path, text.as_str())?;
+    Ok(())
 }
 
 #[test]

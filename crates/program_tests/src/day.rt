@@ -51,13 +51,18 @@ const LOG: [&str; 2] = [
 ",
 ];
 
+// Writes a list to a file, and answers its path.
+fn write_list(rt: &HostRuntime, index: usize, list: &str) -> Result<String, Fail> {
+    let path = path_of(rt, format!(in rt.alloc(); "day-{index}.csv")?.as_str())?;
+    fs::write(rt, path.as_str(), list)?;
+    Ok(path)
+}
+
 // The lists in files, and their paths.
 fn write_lists(rt: &HostRuntime) -> Result<Vec<String>, Fail> {
     let mut paths = Vec::new(rt.alloc());
     for (index, list) in LISTS.iter().enumerate() {
-        let path = path_of(rt, format!(in rt.alloc(); "day-{index}.csv")?.as_str())?;
-        fs::write(rt, path.as_str(), *list)?;
-        paths.push(path)?;
+        paths.push(write_list(rt, index, list)?)?;
     }
     Ok(paths)
 }

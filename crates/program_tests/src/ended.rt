@@ -47,22 +47,41 @@ impl Ended {
     }
 }
 
+// The words as a program has them.
+fn strings_of(rt: &impl AllocGlobal, words: &[&str]) -> Result<Vec<String>, Fail> {
+    let mut strings = Vec::new(rt.alloc());
+    for word in words {
+        strings.push(String::from_str(rt.alloc(), word)?)?;
+    }
+    Ok(strings)
+}
+
+// Runs the main of the program.
+fn started<R>(
+    rt: &R,
+    program: Program,
+    words: &[String],
+    output: &mut Vec<u8>,
+    errors: &mut Vec<u8>,
+) -> u8
+where
+    R: Net<Listener = TcpListener, Stream = TcpStream> + Files + Clock + AllocGlobal,
+{
+    match program {
+        Program::Cache => main_cache(rt, words, output, errors),
+        Program::Bgp => main_bgp(rt, words, output, errors),
+    }
+}
+
 /// Runs the program with these words behind its name.
 pub fn run<R>(rt: &R, program: Program, words: &[&str]) -> Result<Ended, Fail>
 where
     R: Net<Listener = TcpListener, Stream = TcpStream> + Files + Clock + AllocGlobal,
 {
-    let mut strings = Vec::new(rt.alloc());
-    for word in words {
-        strings.push(String::from_str(rt.alloc(), word)?)?;
-    }
+    let strings = strings_of(rt, words)?;
     let mut output = Vec::new(rt.alloc());
     let mut errors = Vec::new(rt.alloc());
-    let words = strings.as_slice();
-    let status = match program {
-        Program::Cache => main_cache(rt, words, &mut output, &mut errors),
-        Program::Bgp => main_bgp(rt, words, &mut output, &mut errors),
-    };
+    let status = started(rt, program, strings.as_slice(), &mut output, &mut errors);
     Ok(Ended {
         output,
         errors,

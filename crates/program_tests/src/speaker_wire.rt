@@ -330,6 +330,16 @@ fn peer(asn: u32, host: u32, mode: Mode) -> PeerConf<'static> {
     }
 }
 
+// Whether the speaker obeys each of the commands.
+fn obeys(speaker: &mut Speaker, commands: &[Command<'_>]) -> bool {
+    for command in commands {
+        if speaker.step(Event::Command(*command)).is_err() {
+            return false;
+        }
+    }
+    true
+}
+
 // A speaker with both peers, enabled, and a cache.
 fn prepared(rt: &impl AllocGlobal) -> Result<Speaker, Fail> {
     let config = Config {
@@ -337,7 +347,6 @@ fn prepared(rt: &impl AllocGlobal) -> Result<Speaker, Fail> {
         identifier: 0xC000_0201,
         cache: true,
     };
-    let mut speaker = Speaker::new(rt.alloc(), config)?;
     let commands = [
         Command::AddPeer(0, peer(65_001, 11, Mode::Passive)),
         Command::AddPeer(1, peer(65_002, 12, Mode::Active)),
@@ -345,18 +354,23 @@ fn prepared(rt: &impl AllocGlobal) -> Result<Speaker, Fail> {
         Command::Enable(0),
         Command::Enable(1),
     ];
-    for command in commands {
-        let _report = speaker.step(Event::Command(command))?;
+    let mut speaker = Speaker::new(rt.alloc(), config)?;
+    if !obeys(&mut speaker, &commands) {
+        return Err(Fail::new("a command is refused"));
     }
     Ok(speaker)
+}
+
+fn fault_of_turn(turns: &mut SpeakerLoop<MemoryWire>) -> Option<LoopFault> {
+    turns.turn(0).err()
 }
 
 // Takes twenty turns at the moment 0.
 fn after_turns(mut turns: SpeakerLoop<MemoryWire>) -> Turned {
     let mut fault = None;
     for _ in 0..20 {
-        if let Err(stop) = turns.turn(0) {
-            fault = Some(stop);
+        fault = fault_of_turn(&mut turns);
+        if fault.is_some() {
             break;
         }
     }
