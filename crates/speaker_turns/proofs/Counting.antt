@@ -15,8 +15,9 @@ use Rattle.wires.specs.declared.wire.Received.{Received}
 use Rattle.wires.specs.declared.wire.Received.TheVariants.{Octets as Came, Nothing as NoneCame, End as InputEnd, Fault as ReadFault}
 use Rattle.wires.specs.declared.wire.Sent.{Sent}
 use Rattle.wires.specs.declared.wire.Sent.TheVariants.{Octets as Went, Nothing as NoneWent, Fault as WriteFault}
-use Rattle.wires.proofs.Counting.{LosesAsCounted, counted_as, goes_on, loses_both, loses_by_close, loses_by_end, loses_by_fault, loses_none, loses_nothing, no_more}
+use Rattle.wires.proofs.Counting.{LosesAsCounted, counted_as, goes_on, goes_on_by_one, loses_both, loses_by_close, loses_by_end, loses_by_fault, loses_none, loses_nothing, no_more}
 use Rattle.speaker_turns.specs.Ends.{end_at}
+use Rattle.speaker_turns.specs.Losses.{LosesAllButOne}
 use Rattle.speaker_turns.specs.Serving.{Answers, AnswersAt, Attends, AttendsAttempt, AttendsUp, Begins, BeginsTo, Connection, Finds, GivesWayIf, GivesWayUp, GivesWayWhat, GoesOn, IsUnwanted, Looks, PlaceState, Reads, Serves, Settles, Sides, Visits, VisitsWhat, awaited_at, found_at_rest, found_by_write, found_up, is_opening, judged}
 use Rattle.speaker_turns.specs.Sessions.{transport_of, wanted_transport_of}
 use Rattle.speaker_turns.specs.Turns.{Accepts, AtAll, AtPlace, AtPlaces, GivesWay, IsTold, LetsIn, SitsDown, TakesTurn, Turned, Turns, counted, has_opened, place_at, sides}
@@ -238,3 +239,10 @@ turn_loses_no_more now old new (Err Accept) stops =
     let begun = at_places_lose Begins begins_tell (length old.places) old stops.begun stops.begins in
     subst (λ (t : Turns). LosesNoMore old.counts t.counts) (sym stops.stops)
     (λ below. omega (arith, goes_on stops.begun.counts.wire.faults, begun.lost (record { lost = below.lost; closed = below.closed; faults = omega (arith, goes_on stops.begun.counts.wire.faults, below.faults); ends = below.ends })))
+
+-- one that can't accept loses all but the listener's own fault
+pub stopped_loses : (now : ℕ) (old new : Turns) (fault : LoopFault) → TakesTurn now old (Err fault) new → LosesAllButOne old.counts new.counts
+stopped_loses now old new Accept stops =
+    let begun = at_places_lose Begins begins_tell (length old.places) old stops.begun stops.begins in
+    subst (λ (t : Turns). LosesAllButOne old.counts t.counts) (sym stops.stops)
+    (λ below. omega (arith, goes_on_by_one stops.begun.counts.wire.faults below.faults, begun.lost (record { lost = below.lost; closed = below.closed; faults = omega (arith, goes_on stops.begun.counts.wire.faults, below.faults); ends = below.ends })))

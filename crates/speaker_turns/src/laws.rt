@@ -1,5 +1,5 @@
 //! What follows of turns.
-ghost use Rattle.std.specs.Prelude.{◌≡◌, ◌<◌, ◌-◌, ◌^◌, ◌++◌, ℕ, List, Result, Ok, Some, length, true};
+ghost use Rattle.std.specs.Prelude.{◌≡◌, ◌<◌, ◌-◌, ◌^◌, ◌++◌, ℕ, List, Result, Ok, Err, Some, length, true};
 ghost use Rattle.speaker.specs.Agreement.{Agrees};
 ghost use Rattle.speaker.specs.Runs.{Run};
 ghost use Rattle.speaker.specs.declared.config.Config.{Config};
@@ -7,14 +7,16 @@ ghost use Rattle.wires.specs.Counts.{LosesJust, LosesNoMore};
 ghost use Rattle.wires.specs.declared.fault.LoopFault.{LoopFault};
 ghost use Rattle.speaker_turns.specs.Carrying.{CarriesOwn, IsFresh};
 ghost use Rattle.speaker_turns.specs.Ends.{place_count};
+ghost use Rattle.speaker_turns.specs.Losses.{LosesAllButOne};
 ghost use Rattle.speaker_turns.specs.Serving.{Connection};
 ghost use Rattle.speaker_turns.specs.Turns.{TakesTurn, TakesTurns, Turns, place_at};
 
 /// A turn that goes well loses just as many connections, and attempts at one, as the wire told faults and ends of input and the
-/// loop closed connections of sessions that the speaker had closed, while no count is at the greatest u64; one that can't
-/// accept loses no more.
+/// loop closed connections of sessions that the speaker had closed, while no count is at the greatest u64; in one that can't
+/// accept the fault of the listener is told too, and is no loss.
 pub fn as_many_are_lost_as_are_counted()
     ensures well { (now : ℕ) (old new : Turns) (done : Unit {0}) → TakesTurn now old (Ok done) new → LosesJust old.counts new.counts }
+    ensures stops { (now : ℕ) (old new : Turns) (fault : LoopFault) → TakesTurn now old (Err fault) new → LosesAllButOne old.counts new.counts }
     ensures any { (now : ℕ) (old new : Turns) (result : Result (Unit {0}) LoopFault) → TakesTurn now old result new → LosesNoMore old.counts new.counts }
 {}
 
