@@ -12,6 +12,7 @@ pub mod SoundValues
 mod SplitSpellings
 mod Splits
 mod Spreading
+pub mod Travelling
 mod UnknownLists
 mod UnknownReading
 pub mod WrittenSpellings

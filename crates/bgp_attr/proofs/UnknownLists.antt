@@ -38,19 +38,19 @@ at_other a b other = at_other_if a b (is_at (nat_cmp a) b) refl other
 
 -- ---- what may be passed on stays so with one more
 
-each_if : (k : ℕ) (v : List ℕ) (e : ℕ × List ℕ) (es : Unknown) (r : Ordering) → (is_passed_on k ≡ true) × (length v ≤ 65535) → (is_passed_on e.0 ≡ true) × (length e.1 ≤ 65535)
-    → AllByRecursion (λ x. (is_passed_on x.0 ≡ true) × (length x.1 ≤ 65535)) es → AllByRecursion (λ x. (is_passed_on x.0 ≡ true) × (length x.1 ≤ 65535)) (insert_entry nat_cmp es k v)
-    → AllByRecursion (λ x. (is_passed_on x.0 ≡ true) × (length x.1 ≤ 65535)) (match_ordering r ((k, v) ∷ e ∷ es) ((e.0, v) ∷ es) (e ∷ insert_entry nat_cmp es k v))
-each_if k v e es Less one first all more = (one, (first, all))
-each_if k v e es Equal one first all more = ((first.0, one.1), all)
-each_if k v e es Greater one first all more = (first, more)
+each_if : (k : ℕ) (v : List ℕ) (e : ℕ × List ℕ) (es : Unknown) (r : Ordering) → nat_cmp k e.0 ≡ r → (is_passed_on k v ≡ true) × (length v ≤ 65535) → (is_passed_on e.0 e.1 ≡ true) × (length e.1 ≤ 65535)
+    → AllByRecursion (λ x. (is_passed_on x.0 x.1 ≡ true) × (length x.1 ≤ 65535)) es → AllByRecursion (λ x. (is_passed_on x.0 x.1 ≡ true) × (length x.1 ≤ 65535)) (insert_entry nat_cmp es k v)
+    → AllByRecursion (λ x. (is_passed_on x.0 x.1 ≡ true) × (length x.1 ≤ 65535)) (match_ordering r ((k, v) ∷ e ∷ es) ((e.0, v) ∷ es) (e ∷ insert_entry nat_cmp es k v))
+each_if k v e es Less is one first all more = (one, (first, all))
+each_if k v e es Equal is one first all more = ((sym (ap (λ (code : ℕ). is_passed_on code v) (exact_unsigned k e.0 is)) ∙ one.0, one.1), all)
+each_if k v e es Greater is one first all more = (first, more)
 
-each_insert : (k : ℕ) (v : List ℕ) (es : Unknown) → (is_passed_on k ≡ true) × (length v ≤ 65535) → AllByRecursion (λ x. (is_passed_on x.0 ≡ true) × (length x.1 ≤ 65535)) es
-    → AllByRecursion (λ x. (is_passed_on x.0 ≡ true) × (length x.1 ≤ 65535)) (insert_entry nat_cmp es k v)
+each_insert : (k : ℕ) (v : List ℕ) (es : Unknown) → (is_passed_on k v ≡ true) × (length v ≤ 65535) → AllByRecursion (λ x. (is_passed_on x.0 x.1 ≡ true) × (length x.1 ≤ 65535)) es
+    → AllByRecursion (λ x. (is_passed_on x.0 x.1 ≡ true) × (length x.1 ≤ 65535)) (insert_entry nat_cmp es k v)
 each_insert k v [] one all = (one, tt)
-each_insert k v (e ∷ es) one all = each_if k v e es (nat_cmp k e.0) one all.0 all.1 (each_insert k v es one all.1)
+each_insert k v (e ∷ es) one all = each_if k v e es (nat_cmp k e.0) refl one all.0 all.1 (each_insert k v es one all.1)
 
-pub passed_on_insert : (k : ℕ) (v : List ℕ) (es : Unknown) → is_passed_on k ≡ true → length v ≤ 65535 → ArePassedOn es → ArePassedOn (insert_entry nat_cmp es k v)
+pub passed_on_insert : (k : ℕ) (v : List ℕ) (es : Unknown) → is_passed_on k v ≡ true → length v ≤ 65535 → ArePassedOn es → ArePassedOn (insert_entry nat_cmp es k v)
 passed_on_insert k v es passed short all = record { rising = sorted-insert_entry nat_cmp_total k v es all.rising; each = each_insert k v es (passed, short) all.each }
 
 -- ---- they rise

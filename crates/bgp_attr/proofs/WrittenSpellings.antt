@@ -13,7 +13,7 @@ use Rattle.std.proofs.lemmas.Map.Keys.{sorted_head, sorted_tail}
 use Rattle.bgp_attr.specs.AsPath.{PathSegment, path_octets}
 use Rattle.bgp_attr.specs.AttributeReading.{taken_of, value_taken}
 use Rattle.bgp_attr.specs.AttributeSpelling.{CanBeSpelled, HasClass, SpellsAttributes, aggregator_spelling, attribute_spelling, attributes_spelling, flags_in, is_in_part, mark_spelling, number_spelling, optional_spelling, origin_spelling, partial_flag, path_spelling, type_spelling, unknown_flags, unknown_in_part, unknown_spelling, value_in}
-use Rattle.bgp_attr.specs.AttributeTable.{class_flags_of, class_of, is_passed_on, is_taken, octet_of, type_of, types}
+use Rattle.bgp_attr.specs.AttributeTable.{class_flags_of, class_of, is_passed_on, is_taken, octet_of, travels_by, type_of, types, unknown_codes}
 use Rattle.bgp_attr.specs.PathAttributes.{PathAttributes}
 use Rattle.bgp_attr.specs.ReceivedAttributes.{Attribute, IsAttribute, found_of, is_extended, is_optional, is_partial, length_octets, longest, wholes}
 use Rattle.bgp_attr.specs.UnknownAttributes.{ArePassedOn, Unknown, kept_of, kept_value}
@@ -31,15 +31,15 @@ use Rattle.std.proofs.lemmas.Option.{same_Some}
 -- What is written spells the attributes that it is written for.
 
 -- the flags that are written, by whether the length takes two octets
-abbrev flags_at : ℕ → Bool → ℕ
+abbrev pub flags_at : ℕ → Bool → ℕ
 flags_at flags long = cond long (flags + 16) flags
 
 -- an attribute as it is written
-abbrev written : ℕ → ℕ → List ℕ → Attribute
+abbrev pub written : ℕ → ℕ → List ℕ → Attribute
 written flags code value = record { flags = flags_at flags (nat_lt 255 (length value)); code = code; value = value; whole = attribute_spelling flags code value }
 
 -- flags whose bit for a long value is not set, and is with 16 more
-abbrev IsShort : ℕ → Type 0
+abbrev pub IsShort : ℕ → Type 0
 IsShort flags = (is_extended flags ≡ false) × (is_extended (flags + 16) ≡ true)
 
 attribute_if : (flags code : ℕ) (value : List ℕ) (long extended : Bool) → is_extended (flags_at flags long) ≡ extended → extended ≡ long → long ≡ nat_lt 255 (length value) → length value ≤ 65535
@@ -59,29 +59,29 @@ extended_at : (flags : ℕ) (long : Bool) → IsShort flags → is_extended (fla
 extended_at flags true short = short.1
 extended_at flags false short = short.0
 
-is_attribute : (flags code : ℕ) (value : List ℕ) → IsShort flags → length value ≤ 65535 → IsAttribute (written flags code value)
+pub is_attribute : (flags code : ℕ) (value : List ℕ) → IsShort flags → length value ≤ 65535 → IsAttribute (written flags code value)
 is_attribute flags code value short few =
     attribute_if flags code value (nat_lt 255 (length value)) (is_extended (flags_at flags (nat_lt 255 (length value)))) refl (extended_at flags (nat_lt 255 (length value)) short) refl few
 
 -- ---- the attributes that are written
 
-abbrev part_one : Bool → ℕ × List ℕ → List Attribute
+abbrev pub part_one : Bool → ℕ × List ℕ → List Attribute
 part_one first e = cond (is_in_part first e.0) (written unknown_flags e.0 e.1 ∷ []) []
 
-abbrev part_list : Bool → Unknown → List Attribute
+abbrev pub part_list : Bool → Unknown → List Attribute
 part_list first unknown = flat_map (part_one first) unknown
 
-abbrev optional_list : ℕ → ℕ → Option (List ℕ) → List Attribute
+abbrev pub optional_list : ℕ → ℕ → Option (List ℕ) → List Attribute
 optional_list flags code None = []
 optional_list flags code (Some value) = written flags code value ∷ []
 
-abbrev type_list : PathAttributes → AttributeType → List Attribute
+abbrev pub type_list : PathAttributes → AttributeType → List Attribute
 type_list attrs known = optional_list (flags_in attrs known) (octet_of known) (value_in attrs known)
 
-abbrev known_list : PathAttributes → List AttributeType → List Attribute
+abbrev pub known_list : PathAttributes → List AttributeType → List Attribute
 known_list attrs among = flat_map (type_list attrs) among
 
-abbrev written_list : PathAttributes → List Attribute
+abbrev pub written_list : PathAttributes → List Attribute
 written_list attrs = part_list true attrs.unknown ++ (known_list attrs types ++ part_list false attrs.unknown)
 
 -- their octets
@@ -111,7 +111,7 @@ known_joined attrs (t ∷ more) =
     wholes-append (type_list attrs t) (known_list attrs more)
     ∙ both (wholes (type_list attrs t)) (type_spelling attrs t) (wholes (known_list attrs more)) (flat_map (type_spelling attrs) more) (optional_whole (flags_in attrs t) (octet_of t) (value_in attrs t)) (known_joined attrs more)
 
-written_joined : (attrs : PathAttributes) → wholes (written_list attrs) ≡ attributes_spelling attrs
+pub written_joined : (attrs : PathAttributes) → wholes (written_list attrs) ≡ attributes_spelling attrs
 written_joined attrs =
     wholes-append (part_list true attrs.unknown) (known_list attrs types ++ part_list false attrs.unknown)
     ∙ both (wholes (part_list true attrs.unknown)) (unknown_spelling true attrs.unknown) (wholes (known_list attrs types ++ part_list false attrs.unknown)) (flat_map (type_spelling attrs) types ++ unknown_spelling false attrs.unknown)
@@ -120,18 +120,18 @@ written_joined attrs =
     ∙ both (wholes (known_list attrs types)) (flat_map (type_spelling attrs) types) (wholes (part_list false attrs.unknown)) (unknown_spelling false attrs.unknown) (known_joined attrs types) (part_joined false attrs.unknown))
 
 -- what holds of each part holds of all
-all_append : {A : Type 0} (P : A → Type 0) (xs ys : List A) → AllByRecursion P xs → AllByRecursion P ys → AllByRecursion P (xs ++ ys)
+pub all_append : {A : Type 0} (P : A → Type 0) (xs ys : List A) → AllByRecursion P xs → AllByRecursion P ys → AllByRecursion P (xs ++ ys)
 all_append P [] ys h k = k
 all_append P (x ∷ xs) ys h k = (h.0, all_append P xs ys h.1 k)
 
 -- what holds of each unknown attribute, as it is written, holds of a part
-part_one_all : (P : Attribute → Type 0) (b : Bool) (e : ℕ × List ℕ) → (b ≡ true → P (written unknown_flags e.0 e.1)) → AllByRecursion P (cond b (written unknown_flags e.0 e.1 ∷ []) [])
+pub part_one_all : (P : Attribute → Type 0) (b : Bool) (e : ℕ × List ℕ) → (b ≡ true → P (written unknown_flags e.0 e.1)) → AllByRecursion P (cond b (written unknown_flags e.0 e.1 ∷ []) [])
 part_one_all P true e h = (h refl, tt)
 part_one_all P false e h = tt
 
 part_all : (P : Attribute → Type 0) (first : Bool) (unknown : Unknown)
-    → ((e : ℕ × List ℕ) → is_in_part first e.0 ≡ true → (is_passed_on e.0 ≡ true) × (length e.1 ≤ 65535) → P (written unknown_flags e.0 e.1))
-    → AllByRecursion (λ e. (is_passed_on e.0 ≡ true) × (length e.1 ≤ 65535)) unknown → AllByRecursion P (part_list first unknown)
+    → ((e : ℕ × List ℕ) → is_in_part first e.0 ≡ true → (is_passed_on e.0 e.1 ≡ true) × (length e.1 ≤ 65535) → P (written unknown_flags e.0 e.1))
+    → AllByRecursion (λ e. (is_passed_on e.0 e.1 ≡ true) × (length e.1 ≤ 65535)) unknown → AllByRecursion P (part_list first unknown)
 part_all P first [] h each = tt
 part_all P first (e ∷ es) h each =
     all_append P (part_one first e) (part_list first es) (part_one_all P (is_in_part first e.0) e (λ there. h e there each.0)) (part_all P first es h each.1)
@@ -141,12 +141,12 @@ optional_all : (P : Attribute → Type 0) (flags code : ℕ) (o : Option (List �
 optional_all P flags code None h = tt
 optional_all P flags code (Some value) h = (h, tt)
 
-known_all : (P : Attribute → Type 0) (attrs : PathAttributes) (among : List AttributeType)
+pub known_all : (P : Attribute → Type 0) (attrs : PathAttributes) (among : List AttributeType)
     → ((t : AttributeType) → MatchOption (value_in attrs t) ⊤ (λ value. P (written (flags_in attrs t) (octet_of t) value))) → AllByRecursion P (known_list attrs among)
 known_all P attrs [] h = tt
 known_all P attrs (t ∷ more) h = all_append P (type_list attrs t) (known_list attrs more) (optional_all P (flags_in attrs t) (octet_of t) (value_in attrs t) (h t)) (known_all P attrs more h)
 
-any_value : {T : Type 0} (P : T → Type 0) (o : Option T) → ((value : T) → P value) → MatchOption o ⊤ P
+pub any_value : {T : Type 0} (P : T → Type 0) (o : Option T) → ((value : T) → P value) → MatchOption o ⊤ P
 any_value P None h = tt
 any_value P (Some value) h = h value
 
@@ -160,7 +160,7 @@ aggregator_short : (o : Option Aggregator) → IsShort (192 + partial_flag o)
 aggregator_short None = (refl, refl)
 aggregator_short (Some aggregator) = partial_short aggregator.is_partial
 
-flags_short : (attrs : PathAttributes) (known : AttributeType) → IsShort (flags_in attrs known)
+pub flags_short : (attrs : PathAttributes) (known : AttributeType) → IsShort (flags_in attrs known)
 flags_short attrs type.Origin = (refl, refl)
 flags_short attrs type.AsPath = (refl, refl)
 flags_short attrs type.NextHop = (refl, refl)
@@ -215,17 +215,17 @@ none_from None b h = refl
 none_from (Some t) b h = absurd cc
 
 -- what may be passed on is of no type
-no_type : (code : ℕ) → is_passed_on code ≡ true → type_of code ≡ None
-no_type code h = none_from (type_of code) (not (code == 17 || code == 18)) h
+no_type : (code : ℕ) (value : List ℕ) → is_passed_on code value ≡ true → type_of code ≡ None
+no_type code value h = none_from (type_of code) (travels_by unknown_codes code value) h
 
 unknown_optional : (long : Bool) → is_optional (flags_at unknown_flags long) ≡ true
 unknown_optional true = refl
 unknown_optional false = refl
 
-unknown_class : (kind : PeerKind) (e : ℕ × List ℕ) → is_passed_on e.0 ≡ true → IsKnown kind (written unknown_flags e.0 e.1)
+unknown_class : (kind : PeerKind) (e : ℕ × List ℕ) → is_passed_on e.0 e.1 ≡ true → IsKnown kind (written unknown_flags e.0 e.1)
 unknown_class kind e passed =
     let P : Option AttributeType → Type 0 = λ o. HasClass kind o (flags_at unknown_flags (nat_lt 255 (length e.1))) in
-    subst P (sym (no_type e.0 passed)) (unknown_optional (nat_lt 255 (length e.1)))
+    subst P (sym (no_type e.0 e.1 passed)) (unknown_optional (nat_lt 255 (length e.1)))
 
 partial_class : (b long : Bool) → bit_and (flags_at (192 + cond b 32 0) long) 192 ≡ 192
 partial_class true true = refl
@@ -370,16 +370,16 @@ typed_known : (known : AttributeType) → is_typed (octet_of known) ≡ true
 unfolding is_typed
 typed_known known = ap (λ (o : Option AttributeType). not (is_none o)) (type_at known)
 
-typed_unknown : (code : ℕ) → is_passed_on code ≡ true → is_typed code ≡ false
+typed_unknown : (code : ℕ) (value : List ℕ) → is_passed_on code value ≡ true → is_typed code ≡ false
 unfolding is_typed
-typed_unknown code passed = ap (λ (o : Option AttributeType). not (is_none o)) (no_type code passed)
+typed_unknown code value passed = ap (λ (o : Option AttributeType). not (is_none o)) (no_type code value passed)
 
 written_once : (attrs : PathAttributes) → ArePassedOn attrs.unknown → IsOnce (written_list attrs)
 written_once attrs unknown =
     let behind : IsOnce (known_list attrs types ++ part_list false attrs.unknown) =
     once_append is_typed (known_list attrs types) (part_list false attrs.unknown)
     (known_all (λ (a : Attribute). is_typed a.code ≡ true) attrs types (λ t. any_value (λ value. is_typed (octet_of t) ≡ true) (value_in attrs t) (λ value. typed_known t)))
-    (part_all (λ (a : Attribute). is_typed a.code ≡ false) false attrs.unknown (λ e there passed. typed_unknown e.0 passed.0) unknown.each)
+    (part_all (λ (a : Attribute). is_typed a.code ≡ false) false attrs.unknown (λ e there passed. typed_unknown e.0 e.1 passed.0) unknown.each)
     (once_known attrs types types_rise) (once_part false attrs.unknown unknown.rising) in
     once_append (λ (code : ℕ). code == 0) (part_list true attrs.unknown) (known_list attrs types ++ part_list false attrs.unknown)
     (part_all (λ (a : Attribute). (a.code == 0) ≡ true) true attrs.unknown (λ e there passed. there) unknown.each)
@@ -485,18 +485,20 @@ absent_known attrs code (u ∷ more) none =
     ∙ (ap (λ (o : Found). option_or o (found_of code (known_list attrs more))) (optional_passed (flags_in attrs u) (octet_of u) code (value_in attrs u) (none_type code u none)) ∙ absent_known attrs code more none)
 
 -- what is found among the unknown ones may be passed on
-at_passed : (code : ℕ) (es : Unknown) (value : List ℕ) → AllByRecursion (λ e. (is_passed_on e.0 ≡ true) × (length e.1 ≤ 65535)) es → at code es ≡ Some value → is_passed_on code ≡ true
+at_passed : (code : ℕ) (es : Unknown) (value : List ℕ) → AllByRecursion (λ e. (is_passed_on e.0 e.1 ≡ true) × (length e.1 ≤ 65535)) es → at code es ≡ Some value → is_passed_on code value ≡ true
 at_passed code [] value each h = absurd cc
 at_passed code (e ∷ es) value each h =
     elim (cases_eq code e.0) [
-      | inl own ↦ ap is_passed_on own ∙ each.0.0
+      | inl own ↦
+          let same : e.1 ≡ value = same_Some e.1 value (sym (ap (λ (c : ℕ). at c (e ∷ es)) own ∙ found_head e es) ∙ h) in
+          ap (λ (c : ℕ). is_passed_on c value) own ∙ (ap (λ (v : List ℕ). is_passed_on e.0 v) (sym same) ∙ each.0.0)
       | inr other ↦ at_passed code es value each.1 (sym (found_tail code e es other) ∙ h)
     ]
 
-absent_if : (code : ℕ) (es : Unknown) (known : AttributeType) (o : Option (List ℕ)) → AllByRecursion (λ e. (is_passed_on e.0 ≡ true) × (length e.1 ≤ 65535)) es → type_of code ≡ Some known → at code es ≡ o → o ≡ None
+absent_if : (code : ℕ) (es : Unknown) (known : AttributeType) (o : Option (List ℕ)) → AllByRecursion (λ e. (is_passed_on e.0 e.1 ≡ true) × (length e.1 ≤ 65535)) es → type_of code ≡ Some known → at code es ≡ o → o ≡ None
 absent_if code es known None each is h = refl
 absent_if code es known (Some value) each is h =
-    let both : Some known ≡ None = sym is ∙ no_type code (at_passed code es value each h) in absurd cc
+    let both : Some known ≡ None = sym is ∙ no_type code value (at_passed code es value each h) in absurd cc
 
 found_written : (attrs : PathAttributes) (code : ℕ) → found_of code (written_list attrs) ≡ option_or (found_of code (part_list true attrs.unknown)) (option_or (found_of code (known_list attrs types)) (found_of code (part_list false attrs.unknown)))
 found_written attrs code =
@@ -568,19 +570,19 @@ kept_flags : (long : Bool) → (bit_and (flags_at unknown_flags long) 192 == 192
 kept_flags true = refl
 kept_flags false = refl
 
-kept_again : (code : ℕ) (value : List ℕ) → is_passed_on code ≡ true → kept_value (written unknown_flags code value) ≡ Some value
+kept_again : (code : ℕ) (value : List ℕ) → is_passed_on code value ≡ true → kept_value (written unknown_flags code value) ≡ Some value
 kept_again code value passed =
     let long : Bool = nat_lt 255 (length value) in
     ap (λ (b : Bool). cond (b && bit_and (flags_at unknown_flags long) 192 == 192) (Some value) None) passed
     ∙ ap (λ (b : Bool). cond b (Some value) None) (kept_flags long)
 
-kept_if : (code : ℕ) (es : Unknown) (o : Option (List ℕ)) → AllByRecursion (λ e. (is_passed_on e.0 ≡ true) × (length e.1 ≤ 65535)) es → at code es ≡ o → option_and_then kept_value (unknown_at code o) ≡ o
+kept_if : (code : ℕ) (es : Unknown) (o : Option (List ℕ)) → AllByRecursion (λ e. (is_passed_on e.0 e.1 ≡ true) × (length e.1 ≤ 65535)) es → at code es ≡ o → option_and_then kept_value (unknown_at code o) ≡ o
 kept_if code es None each h = refl
 kept_if code es (Some value) each h = kept_again code value (at_passed code es value each h)
 
 typed_kept : (code : ℕ) (known : AttributeType) (a : Attribute) → type_of code ≡ Some known → a.code ≡ code → kept_value a ≡ None
 typed_kept code known a is own =
-    ap (λ (o : Option AttributeType). cond ((is_none o && not (a.code == 17 || a.code == 18)) && bit_and a.flags 192 == 192) (Some a.value) None) (ap type_of own ∙ is)
+    ap (λ (o : Option AttributeType). cond ((is_none o && travels_by unknown_codes a.code a.value) && bit_and a.flags 192 == 192) (Some a.value) None) (ap type_of own ∙ is)
 
 typed_none : (attrs : PathAttributes) (code : ℕ) (known : AttributeType) (o : Option (List ℕ)) → type_of code ≡ Some known → octet_of known ≡ code
     → option_and_then kept_value (option_map (λ value. written (flags_in attrs known) (octet_of known) value) o) ≡ None

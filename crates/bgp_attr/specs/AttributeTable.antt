@@ -1,5 +1,5 @@
 -- The table of attribute types (RFC 4271 section 4.3).
-use Rattle.std.specs.Prelude.{ℕ, Bool, true, List, [], ◌∷◌, Option, Some, None, ◌==◌, ◌&&◌, ◌||◌, not, is_none}
+use Rattle.std.specs.Prelude.{ℕ, Bool, true, false, List, [], ◌∷◌, length, Option, Some, None, ◌==◌, ◌&&◌, ◌%◌, not, is_none, if◌then◌else◌}
 use Rattle.std.specs.List.{find}
 use Rattle.bgp_attr.specs.PeerKinds.{is_external}
 use Rattle.bgp_attr.specs.declared.attribute_type.AttributeType.{AttributeType}
@@ -64,6 +64,59 @@ class_flags_of WellKnown = 64
 class_flags_of OptionalTransitive = 192
 class_flags_of OptionalNonTransitive = 128
 
--- an attribute of a code that this speaker does not know may be passed on: AS4_PATH (17) and AS4_AGGREGATOR (18) may not, between speakers of four-octet AS numbers (RFC 6793 section 4.1)
-abbrev pub is_passed_on : ℕ → Bool
-is_passed_on code = is_none (type_of code) && not (code == 17 || code == 18)
+-- a value of so many octets is a list of at least one item, each of so many
+abbrev pub is_list_of : ℕ → ℕ → Bool
+is_list_of item n = not (n == 0) && n % item == 0
+
+-- a value is an AS number that is not 0
+abbrev pub is_an_as : List ℕ → Bool
+is_an_as (a ∷ b ∷ c ∷ d ∷ []) = not (a == 0 && b == 0 && c == 0 && d == 0)
+is_an_as other = false
+
+-- a code that this speaker does not know, and whether an attribute of it with a value may go on to another peer
+pub record CodeRow : Type 0 where
+  pub code : ℕ
+  pub may_travel : List ℕ → Bool
+
+-- a row of the table of unknown codes
+abbrev pub code_row : ℕ → (List ℕ → Bool) → CodeRow
+code_row code may_travel = record { code = code; may_travel = may_travel }
+
+-- the attribute ends at this speaker, whatever its value
+abbrev pub never : List ℕ → Bool
+never value = false
+
+-- the value is a list of items, each of so many octets
+abbrev pub items_of : ℕ → List ℕ → Bool
+items_of item value = is_list_of item (length value)
+
+-- the codes whose attributes do not travel, or only with a form of their own standard: COMMUNITIES (RFC 1997), ORIGINATOR_ID and
+-- CLUSTER_LIST (RFC 4456), MP_REACH_NLRI and MP_UNREACH_NLRI (RFC 4760), EXTENDED COMMUNITIES (RFC 4360), AS4_PATH and AS4_AGGREGATOR
+-- (RFC 6793), PMSI_TUNNEL (RFC 6514), Tunnel Encapsulation (RFC 9012), IPv6 Address Specific Extended Community (RFC 5701),
+-- LARGE_COMMUNITY (RFC 8092), ONLY_TO_CUSTOMER (RFC 9234), BGP Prefix-SID (RFC 8669)
+abbrev pub unknown_codes : List CodeRow
+unknown_codes =
+    code_row 8 (items_of 4)
+    ∷ code_row 9 never
+    ∷ code_row 10 never
+    ∷ code_row 14 never
+    ∷ code_row 15 never
+    ∷ code_row 16 (items_of 8)
+    ∷ code_row 17 never
+    ∷ code_row 18 never
+    ∷ code_row 22 never
+    ∷ code_row 23 never
+    ∷ code_row 25 (items_of 20)
+    ∷ code_row 32 (items_of 12)
+    ∷ code_row 35 is_an_as
+    ∷ code_row 40 never
+    ∷ []
+
+-- what the row of a code says of a value; any other code may travel
+abbrev pub travels_by : List CodeRow → ℕ → List ℕ → Bool
+travels_by [] code value = true
+travels_by (row ∷ more) code value = if code == row.code then row.may_travel value else travels_by more code value
+
+-- an attribute of a code that this speaker does not know may be passed on with this value (own choice)
+abbrev pub is_passed_on : ℕ → List ℕ → Bool
+is_passed_on code value = is_none (type_of code) && travels_by unknown_codes code value

@@ -9,5 +9,6 @@ pub mod PathAttributes
 pub mod PathReading
 pub mod ReceivedAttributes
 pub mod Spread
+pub mod TravellingAttributes
 pub mod UnknownAttributes
 pub mod Written

@@ -13,14 +13,14 @@ use Rattle.bgp_attr.specs.ReceivedAttributes.{Attribute}
 abbrev pub Unknown : Type 0
 Unknown = List (ℕ × List ℕ)
 
--- they are in rising order of their codes, no code twice; each may be passed on, and a length of two octets tells its value
+-- they are in rising order of their codes, no code twice; each may be passed on with its value, and a length of two octets tells its value
 pub record ArePassedOn (unknown : Unknown) : Type 0 where
   pub rising : IsStrictlySortedBy nat_cmp (keys_of unknown)
-  pub each : AllByRecursion (λ e. (is_passed_on e.0 ≡ true) × (length e.1 ≤ 65535)) unknown
+  pub each : AllByRecursion (λ e. (is_passed_on e.0 e.1 ≡ true) × (length e.1 ≤ 65535)) unknown
 
--- an attribute is kept: it is of a code that may be passed on, optional and transitive
+-- an attribute is kept: it is of a code and a value that may be passed on, optional and transitive
 abbrev pub is_kept : Attribute → Bool
-is_kept a = is_passed_on a.code && bit_and a.flags 192 == 192
+is_kept a = is_passed_on a.code a.value && bit_and a.flags 192 == 192
 
 -- the value of an attribute that is kept
 abbrev pub kept_value : Attribute → Option (List ℕ)

@@ -3,6 +3,7 @@ ghost use Rattle.std.specs.Prelude.{◌≡◌, ◌<◌, ◌^◌, MatchOption, �
 ghost use Rattle.std.specs.Option.{option_copied};
 ghost use Rattle.bgp_attr.specs.AttributeFaults.{is_host};
 ghost use Rattle.bgp_attr.specs.PathAttributes.{PathAttributes, origin_at, origin_octet, originated, missing_of};
+ghost use Rattle.bgp_attr.specs.TravellingAttributes.{MayAllTravel};
 ghost use Rattle.bgp_attr.specs.UnknownAttributes.{ArePassedOn, unknown_or_none};
 ghost use Rattle.bgp_attr.specs.Written.{attributes_of};
 
@@ -149,10 +150,12 @@ impl<A: Allocator> Attrs<A> {
     }
 
     /// The unknown attributes that are passed on, where there are any.
-    #[tactic(auto, using(crate::proofs::UnknownLists::none_passed_on))]
+    #[tactic(auto, using(crate::proofs::UnknownLists::none_passed_on, crate::proofs::Travelling::all_travel))]
     pub fn unknown(&self) -> Option<&UnknownAttributes<A>>
         ensures value { unknown_or_none (option_copied result) ≡ self.now.unknown }
         ensures lawful { ArePassedOn self.now.unknown }
+        // Whatever came, each is one that may go on.
+        ensures travelling { MayAllTravel self.now.unknown }
     {
         match &self.unknown {
             Some(unknown) => Some(unknown.as_lawful()),

@@ -5,9 +5,8 @@ ghost use Rattle.bgp_attr.specs.AttributeReading.{as_came};
 ghost use Rattle.bgp_attr.specs.ReceivedAttributes.{attribute_at, found_of, split_of};
 ghost use Rattle.bgp_attr.specs.ReceivedAttributes as received;
 ghost use Rattle.bgp_attr.specs.UnknownAttributes as unknown;
-ghost use Rattle.bgp_attr.specs.AttributeTable as table;
 
-use crate::attribute_type::AttributeType;
+use crate::passing::is_passed_on;
 
 const OPTIONAL: u8 = 0x80;
 
@@ -16,10 +15,6 @@ const PARTIAL: u8 = 0x20;
 const EXTENDED_LENGTH: u8 = 0x10;
 
 const CLASS_FLAGS: u8 = 0xC0;
-
-const AS4_PATH: u8 = 17;
-
-const AS4_AGGREGATOR: u8 = 18;
 
 // An attribute whose end is known.
 #[derive(Clone, Copy)]
@@ -57,15 +52,8 @@ impl Attribute<'_> {
     pub(crate) fn is_kept(self) -> bool
         ensures { result ≡ unknown.is_kept (as_came self.entry) }
     {
-        is_passed_on(self.code) && self.class_flags() == CLASS_FLAGS
+        is_passed_on(self.code, self.value) && self.class_flags() == CLASS_FLAGS
     }
-}
-
-// Whether this speaker doesn't know the code, and may pass an attribute of it on (RFC 6793 section 4.1).
-fn is_passed_on(code: u8) -> bool
-    ensures { result ≡ table.is_passed_on code }
-{
-    AttributeType::from_octet(code).is_none() && !matches!(code, AS4_PATH | AS4_AGGREGATOR)
 }
 
 // The attribute at the front, and the octets behind it; none where it is cut off.

@@ -1,5 +1,5 @@
 //! Laws of how attributes are read and written (RFC 4271 section 4.3). Each is a function that does nothing.
-ghost use Rattle.std.specs.Prelude.{◌≡◌, ◌⊎◌, ◌+◌, ◌++◌, List, ℕ, Some, None, replicate, suc, true};
+ghost use Rattle.std.specs.Prelude.{◌≡◌, ◌≤◌, ◌⊎◌, ◌+◌, ◌++◌, length, List, ℕ, Some, None, replicate, suc, true};
 ghost use Rattle.std.specs.List.{AllByRecursion};
 ghost use Rattle.net_prefix.specs.declared.asn.Asn.{Asn};
 ghost use Rattle.bgp_attr.specs.AsPath.{PathSegment, ases_of, neighbor_as_of, path_length_of, prepended};
@@ -9,6 +9,7 @@ ghost use Rattle.bgp_attr.specs.AttributeSpelling.{CanBeSpelled, IsAs, IsSegment
 ghost use Rattle.bgp_attr.specs.PathAttributes.{PathAttributes};
 ghost use Rattle.bgp_attr.specs.PathReading.{begins_right, path_at};
 ghost use Rattle.bgp_attr.specs.ReceivedAttributes.{AreOctets, Attribute, IsAttribute, IsSplit, split_of, wholes};
+ghost use Rattle.bgp_attr.specs.TravellingAttributes.{AreTravelling, MayAllTravel};
 ghost use Rattle.bgp_attr.specs.declared.peer.PeerKind.{PeerKind};
 
 /// Octets are split into attributes and a rest with none at its front, and in one way alone.
@@ -56,4 +57,12 @@ pub fn prepending_is_counted()
     ensures ases { (path : List PathSegment) (asn : Asn) (times : ℕ) → ases_of (prepended path asn times) ≡ replicate times asn ++ ases_of path }
     ensures length { (path : List PathSegment) (asn : Asn) (times : ℕ) → path_length_of (prepended path asn times) ≡ times + path_length_of path }
     ensures segments { (path : List PathSegment) (asn : Asn) (times : ℕ) → IsAs asn → AllByRecursion IsSegment path → AllByRecursion IsSegment (prepended path asn times) }
+{}
+
+/// Of unknown attributes that come, whatever they are, those that are kept may go on to other peers; and where those may,
+/// octets that are written have no attribute that may not: none of a code that ends at a speaker as this one, and none of
+/// a code with lengths of its own standard but with one of these.
+pub fn what_may_travel_is_written()
+    ensures kept { (kind : PeerKind) (octets : List ℕ) → MayAllTravel (attributes_in kind octets).unknown }
+    ensures written { (attrs : PathAttributes) → MayAllTravel attrs.unknown → length (attributes_spelling attrs) ≤ 65535 → AreTravelling (attributes_spelling attrs) }
 {}

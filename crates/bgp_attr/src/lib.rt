@@ -13,6 +13,7 @@ mod attrs;
 mod fault;
 mod header;
 mod laws;
+mod passing;
 mod path_reading;
 mod path_writing;
 mod peer;
@@ -28,7 +29,7 @@ pub use attrs::{Attrs, Origin};
 pub use fault::UpdateFault;
 pub use laws::{
     attributes_are_spelled, fault_is_the_first, path_is_spelled, prepending_is_counted,
-    split_is_kept, split_is_one, written_is_read,
+    split_is_kept, split_is_one, what_may_travel_is_written, written_is_read,
 };
 pub use peer::{Mode, PeerKind};
 pub use prepending::{PrependedPath, prepend};

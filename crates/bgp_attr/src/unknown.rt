@@ -68,7 +68,7 @@ impl<A: Allocator + Clone> UnknownAttributes<A> {
 
     // Keeps the value of an attribute with this code.
     pub(crate) fn keep(&mut self, code: u8, value: &[u8]) -> Result<(), AllocError>
-        requires passed_on { is_passed_on code ≡ true }
+        requires passed_on { is_passed_on code value.now ≡ true }
         requires short { length value.now ≤ 65535 }
         ensures { OnOk result (self.new ≡ insert_entry nat_cmp self.old code value.now) }
     {

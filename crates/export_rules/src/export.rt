@@ -5,6 +5,7 @@ ghost use Rattle.std.specs.Bool.{OnFalse, OnTrue};
 ghost use Rattle.bgp_attr.specs.AttributeFaults.{is_host};
 ghost use Rattle.bgp_attr.specs.AttributeSpelling.{attributes_spelling, IsSegment};
 ghost use Rattle.bgp_attr.specs.PeerKinds.{kind_between};
+ghost use Rattle.bgp_attr.specs.TravellingAttributes.{AreTravelling, MayAllTravel};
 ghost use Rattle.bgp_attr.specs.Written.{attributes_of, path_of};
 ghost use Rattle.bgp_attr.specs.AsPath.{prepended};
 ghost use Rattle.bgp_attr.specs.declared.peer.PeerKind.TheVariants.{External, Internal};
@@ -103,6 +104,8 @@ pub fn export_of<A: Allocator>(
     ensures rejected { action ≡ Action.Reject → result ≡ false }
     ensures small { OnTrue result (array_vec_len out.new ≤ most_attributes) }
     ensures nothing { OnFalse result (out.new.items ≡ []) }
+    // Whatever came with the route, each attribute is one that may go on.
+    ensures travelling { OnTrue result (AreTravelling out.new.items) }
     // The peer finds no fault with it.
     ensures accepted { OnTrue result (IsSender peer.now → IsComplete route.now attrs.now → AreAccepted (kind_between peer.now.asn peer.now.own) out.new.items) }
 {
@@ -175,6 +178,7 @@ fn exported<'a, A: Allocator>(
     times: u16,
 ) -> AttrsToWrite<'a, A>
     ensures value { attributes_of result ≡ exported_of attrs.now peer.now med times }
+    ensures travelling { MayAllTravel (exported_of attrs.now peer.now med times).unknown }
     ensures good { IsSender peer.now → IsSome attrs.now.origin → IsSome attrs.now.as_path → 0 < times → AreGood (External peer.now.own) (exported_of attrs.now peer.now med times) }
 {
     let own = Asn(peer.own_number());
@@ -198,6 +202,7 @@ fn passed_inside<'a, A: Allocator>(
     med: Option<u32>,
 ) -> AttrsToWrite<'a, A>
     ensures value { attributes_of result ≡ passed_inside route.now attrs.now peer.now med }
+    ensures travelling { MayAllTravel (passed_inside route.now attrs.now peer.now med).unknown }
     ensures good { IsSender peer.now → IsComplete route.now attrs.now → AreGood Internal (passed_inside route.now attrs.now peer.now med) }
 {
     AttrsToWrite {

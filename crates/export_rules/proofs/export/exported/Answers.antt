@@ -15,3 +15,7 @@ returns-clause-good g c =
     exported_good c.args.attrs.now c.args.peer.now c.args.med c.args.times (search rules)
     (subst (λ (n : ℕ). n < 2 ^ 32) c.own_number.ensures c.own_number.type_inv) (subst (λ (n : ℕ). n < 2 ^ 32) c.local_address.ensures c.local_address.type_inv)
     c.put_in_front.ensures.lawful (subst (λ (o : Option Aggregator). MatchOption o ⊤ (λ a. (a.asn.0 < 2 ^ 32) × (a.address < 2 ^ 32))) c.aggregator.ensures.value c.aggregator.ensures.small) c.unknown.ensures.lawful
+
+pub returns-clause-travelling : goal.returns-clause-travelling
+unfolding exported_of
+returns-clause-travelling g c = c.unknown.ensures.travelling

@@ -19,3 +19,7 @@ returns-clause-good g c =
     (subst (λ (o : Option ℕ). MatchOption o ⊤ (λ address. address < 2 ^ 32)) c.next_hop_inside.ensures.value c.next_hop_inside.ensures.small)
     (subst (λ (o : Option ℕ). is_local c.args.route.now ≡ false → MatchOption o ⊤ (λ address. is_host address ≡ true)) c.next_hop_inside.ensures.value c.next_hop_inside.ensures.host)
     c.put_in_front.ensures.lawful (subst (λ (o : Option Aggregator). MatchOption o ⊤ (λ a. (a.asn.0 < 2 ^ 32) × (a.address < 2 ^ 32))) c.aggregator.ensures.value c.aggregator.ensures.small) c.unknown.ensures.lawful
+
+pub returns-clause-travelling : goal.returns-clause-travelling
+unfolding passed_inside
+returns-clause-travelling g c = c.unknown.ensures.travelling
