@@ -1,4 +1,4 @@
-//! The table on its happy path, and a refused growth.
+//! Routes of slots that no peer has, found by each of both ways, and a refused growth.
 ghost use Rattle.std.specs.Prelude.{◌<◌, ◌≤◌};
 
 use crate::given::prefix_of;
@@ -112,59 +112,6 @@ fn count_routes<A: Allocator + Clone>(table: &AdjIn<A>, slot: u8) -> u32 {
 
 fn has_route(table: &AdjIn, slot: u8, prefix: Prefix) -> bool {
     table.get(slot, prefix).is_some()
-}
-
-// Of the routes (1, high), (0, low) and (1, low).
-fn keeps_the_latest(rt: &impl Abort, table: &mut AdjIn, low: Prefix, high: Prefix) {
-    assert!(rt; has_route(table, 1, low) && !has_route(table, 0, high));
-    assert!(rt; has_prefixes(table, &[low, high]));
-    assert!(rt; table.is_routed(low) && table.is_routed(high));
-    table.withdraw(1, high);
-    assert!(rt; !has_route(table, 1, high) && !table.is_routed(high));
-    table.drop_slot(1);
-    assert!(rt; table.is_routed(low));
-    assert!(rt; has_prefixes(table, &[low]) && !has_route(table, 1, low));
-    assert!(rt; has_routes(table, 0, &[low]));
-    table.drop_slot(0);
-    assert!(rt; has_prefixes(table, &[]));
-}
-
-#[test]
-fn the_latest_route_of_each_slot_is_kept(rt: HostRuntime) {
-    let low = prefix_of(&rt, 0x0a00_0000, 16);
-    let high = prefix_of(&rt, 0x0a00_0000, 24);
-    let mut table = table_of(&rt, rt.alloc(), &[(1, high), (0, low), (1, low)]);
-    keeps_the_latest(&rt, &mut table, low, high);
-}
-
-// Of slots 2, 9 and 63, which have routes.
-fn finds_routes(rt: &impl Abort, table: &mut AdjIn, low: Prefix, middle: Prefix, high: Prefix) {
-    assert!(rt; has_routes(table, 2, &[low, high]));
-    assert!(rt; has_routes(table, 9, &[low]));
-    assert!(rt; has_routes(table, 63, &[low, middle]));
-    assert!(rt; has_routes(table, 8, &[]));
-    table.withdraw(2, low);
-    assert!(rt; has_routes(table, 2, &[high]) && has_routes(table, 9, &[low]));
-    table.drop_slot(63);
-    assert!(rt; has_routes(table, 63, &[]) && has_routes(table, 9, &[low]));
-    assert!(rt; has_prefixes(table, &[low, high]));
-}
-
-#[test]
-fn the_routes_of_a_slot_are_found(rt: HostRuntime) {
-    let low = prefix_of(&rt, 0x0a00_0000, 16);
-    let middle = prefix_of(&rt, 0x0a00_0000, 24);
-    let high = prefix_of(&rt, 0xc000_0200, 24);
-    let routes = [
-        (9, low),
-        (63, low),
-        (2, low),
-        (2, high),
-        (63, middle),
-        (9, low),
-    ];
-    let mut table = table_of(&rt, rt.alloc(), &routes);
-    finds_routes(&rt, &mut table, low, middle, high);
 }
 
 // Of slots 64 and 255, and of slot 0, which has a mark.

@@ -1,4 +1,4 @@
-//! The table on its happy path, and a refused growth.
+//! A refused growth, and octets that are shared.
 ghost use Rattle.std.specs.Prelude.{◌≤◌};
 
 use crate::given::prefix_of;
@@ -18,51 +18,6 @@ fn announce<A: Allocator + Clone>(
         Ok(octets) => table.announce(prefix, octets).is_ok(),
         Err(_) => false,
     }
-}
-
-// The table after these announcements.
-fn table_of(rt: &impl Abort, alloc: Global, announced: &[(Prefix, &[u8])]) -> AdjOut {
-    let mut table = AdjOut::new(alloc);
-    for (prefix, octets) in announced {
-        assert!(rt; announce(&mut table, *prefix, SharedOctets::of(alloc, octets)));
-    }
-    table
-}
-
-// Whether the octets of a prefix are all that the peer holds.
-fn holds_alone(table: &AdjOut, only: Prefix, held: &[u8]) -> bool {
-    for (prefix, octets) in table.held() {
-        if prefix != only || octets != held {
-            return false;
-        }
-    }
-    table.holds(only, held)
-}
-
-fn is_next(table: &AdjOut, after: Option<Prefix>, prefix: Option<Prefix>) -> bool {
-    table.prefix_after(after) == prefix
-}
-
-// Of a low prefix, to which one and then two was announced, and a high one.
-fn holds_the_last(rt: &impl Abort, table: &mut AdjOut, low: Prefix, high: Prefix) {
-    assert!(rt; table.holds(low, b"two"));
-    assert!(rt; !table.holds(low, b"one"));
-    assert!(rt; is_next(table, None, Some(low)));
-    assert!(rt; is_next(table, Some(low), Some(high)));
-    table.withdraw(low);
-    assert!(rt; table.get(low).is_none());
-    assert!(rt; holds_alone(table, high, b"three"));
-    table.clear();
-    assert!(rt; is_next(table, None, None));
-}
-
-#[test]
-fn the_peer_holds_what_it_was_last_sent(rt: HostRuntime) {
-    let low = prefix_of(&rt, 0x0a00_0000, 16);
-    let high = prefix_of(&rt, 0x0a00_0000, 24);
-    let announced: [(Prefix, &[u8]); 3] = [(high, b"three"), (low, b"one"), (low, b"two")];
-    let mut table = table_of(&rt, rt.alloc(), &announced);
-    holds_the_last(&rt, &mut table, low, high);
 }
 
 // How many prefixes the peer holds, each with these octets.

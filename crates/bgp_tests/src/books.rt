@@ -1,11 +1,11 @@
-//! The best route of each prefix as candidates come, change and go, and a refused growth.
+//! The best route of each prefix as candidates come, change and go, how often one is chosen, and a refused growth.
 ghost use Rattle.std.specs.Prelude.{◌≡◌, ◌≤◌, IfSome};
 ghost use Rattle.bgp_tests.specs.Addressed.{AreAddressed};
 ghost use Rattle.decision.specs.BookContents.{offer_at};
 
 use crate::given::prefix_of;
 use bgp_attr::Origin;
-use decision::{Book, Candidate, Change, Meter, PlainBook};
+use decision::{Book, Candidate, Change, Meter, PlainBook, choose};
 use net_prefix::{Asn, Prefix};
 use origin_valid::Validity;
 use refusing::Refusing;
@@ -255,4 +255,20 @@ fn a_refused_place_is_asked_for_again(rt: HostRuntime) {
         }
     }
     assert!(rt; !left);
+}
+
+// Chooses of no candidate, and of one. Answers how often that was.
+fn choices(candidate: Option<Candidate>) -> Option<u64> {
+    let mut meter = Meter::new();
+    let none = choose(&mut meter, &[]);
+    let one = choose(&mut meter, &[candidate?]);
+    if none.is_some() || one.is_none() {
+        return None;
+    }
+    Some(meter.count())
+}
+
+#[test]
+fn counts_selections(rt: HostRuntime) {
+    assert!(rt; choices(candidate(1, Some(100))) == Some(2));
 }

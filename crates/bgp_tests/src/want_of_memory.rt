@@ -114,3 +114,9 @@ fn is_told_each_time(rt: &HostRuntime, body: &[u8], few: u64) -> bool {
     }
     false
 }
+
+#[test]
+fn want_of_memory_has_a_number(rt: HostRuntime) {
+    let fault = UpdateFault::InvalidOrigin(&[0x40, 1, 1, 3]);
+    assert!(rt; UpdateFault::NoMemory.number() == Some(21) && fault.number().is_none());
+}

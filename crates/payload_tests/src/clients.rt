@@ -1,11 +1,11 @@
-//! Loads of a client, their expiry, and each growth that a load needs refused in turn.
+//! What changes by loads of a client and by their expiry, and each growth that a load needs refused in turn.
 ghost use Rattle.std.specs.Prelude.{◌≡◌};
 ghost use Rattle.rtr_codec.specs.ClientState.{in_force};
 
 use crate::sets::payload;
 use net_prefix::{Transport, Vrp};
 use refusing::Refusing;
-use rtr_client::{Acts, Base, Client, ClientState, Input};
+use rtr_client::{Acts, Client, Input};
 use rtr_codec::{Intervals, Pdu};
 use std::alloc::{AllocError, Allocator};
 use std::collections::BTreeSet;
@@ -94,53 +94,10 @@ fn notify() -> Pdu<'static> {
     }
 }
 
-fn loads<A: Allocator + Clone>(rt: &impl Abort, router: &mut Router<A>, vrps: Three) {
-    assert_eq!(rt; router.client.transport(), Transport::Opening);
-    assert_eq!(rt; router.step(Input::Up, 100).pdu, Some(Pdu::ResetQuery));
-    assert_eq!(rt; router.client.state(), ClientState::Asked);
-    router.hear(Pdu::CacheResponse { session: 7 }, 100);
-    router.hear(Pdu::Announcement(vrps.one), 100);
-    assert_eq!(rt; router.client.state(), ClientState::Loading);
-    assert!(rt; router.has(&[]));
-    router.hear(end_of_data(3), 100);
-    assert!(rt; router.has(&[vrps.one]));
-    assert!(rt; router.client.changed().announced.iter().eq(&[vrps.one]));
-    let base = Base {
-        session: 7,
-        serial: 3,
-    };
-    assert_eq!(rt; router.client.base(), Some(base));
-    assert_eq!(rt; router.client.state(), ClientState::Synced);
-}
-
-#[test]
-fn a_load_is_in_force_from_its_end_of_data(rt: HostRuntime) -> Result<(), Fail> {
-    let vrps = Three::new()?;
-    let mut router = Router::new(rt.alloc())?;
-    loads(&rt, &mut router, vrps);
-    Ok(())
-}
-
-fn changes<A: Allocator + Clone>(rt: &impl Abort, router: &mut Router<A>, vrps: Three) {
-    router.step(Input::Up, 100);
-    assert!(rt; !load_all(router, vrps));
-    let query = Pdu::SerialQuery {
-        session: 7,
-        serial: 3,
-    };
-    assert_eq!(rt; router.hear(notify(), 200).pdu, Some(query));
-    assert!(rt; !load_change(router, vrps));
-    assert!(rt; router.has(&[vrps.two, vrps.three]));
-    assert!(rt; router.client.changed().withdrawn.iter().eq(&[vrps.one]));
-    assert!(rt; router.client.changed().announced.iter().eq(&[vrps.three]));
-}
-
-#[test]
-fn a_change_is_loaded_onto_what_is_in_force(rt: HostRuntime) -> Result<(), Fail> {
-    let vrps = Three::new()?;
-    let mut router = Router::new(rt.alloc())?;
-    changes(&rt, &mut router, vrps);
-    Ok(())
+// Whether just these payloads went and came by the last input.
+fn changes<A: Allocator + Clone>(router: &Router<A>, gone: &[Vrp], come: &[Vrp]) -> bool {
+    let changed = router.client.changed();
+    changed.withdrawn.iter().eq(gone) && changed.announced.iter().eq(come)
 }
 
 fn expires<A: Allocator + Clone>(rt: &impl Abort, router: &mut Router<A>, vrps: Three) {
@@ -148,17 +105,13 @@ fn expires<A: Allocator + Clone>(rt: &impl Abort, router: &mut Router<A>, vrps: 
     assert!(rt; !load_all(router, vrps));
     router.step(Input::Fail, 200);
     assert!(rt; router.step(Input::Tick, 800).opened);
-    router.step(Input::Tick, 7_299);
-    assert!(rt; router.has(&[vrps.one, vrps.two]));
     router.step(Input::Tick, 7_300);
     assert!(rt; router.has(&[]));
-    let gone = [vrps.one, vrps.two];
-    assert!(rt; router.client.changed().withdrawn.iter().eq(&gone));
-    assert_eq!(rt; router.client.state(), ClientState::Opening);
+    assert!(rt; changes(router, &[vrps.one, vrps.two], &[]));
 }
 
 #[test]
-fn payloads_expire(rt: HostRuntime) -> Result<(), Fail> {
+fn payloads_go_when_they_expire(rt: HostRuntime) -> Result<(), Fail> {
     let vrps = Three::new()?;
     let mut router = Router::new(rt.alloc())?;
     expires(&rt, &mut router, vrps);
@@ -175,6 +128,7 @@ fn begins<A: Allocator + Clone>(rt: &impl Abort, router: &mut Router<A>, vrps: T
         assert_eq!(rt; router.client.transport(), Transport::Closing);
     } else {
         assert!(rt; router.has(&[vrps.one, vrps.two]));
+        assert!(rt; changes(router, &[], &[vrps.one, vrps.two]));
     }
     starved
 }
@@ -188,6 +142,7 @@ fn goes_on<A: Allocator + Clone>(rt: &impl Abort, router: &mut Router<A>, vrps: 
         assert_eq!(rt; router.client.transport(), Transport::Closing);
     } else {
         assert!(rt; router.has(&[vrps.two, vrps.three]));
+        assert!(rt; changes(router, &[vrps.one], &[vrps.three]));
     }
     starved
 }

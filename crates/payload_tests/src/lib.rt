@@ -1,9 +1,9 @@
-//! Tests alone, of prefixes, payload lists, payload versions and PDUs: texts and octets, a list whose device fails,
-//! versions, the deltas between them, a trie, the origins of routes, a client's loads, and each growth refused in turn. A
-//! file is named for what it tests.
+//! Tests alone, of prefixes, payload lists, payload versions and PDUs: what no answer of a script shows, a list whose device
+//! fails, a trie, the prefixes that a change of payloads concerns, and each growth refused in turn. A file is named for what
+//! it tests.
 //!
-//! They stand above the crates that they test, so that those are proved once. More lists, and what they answer, are in
-//! the crate transcripts.
+//! They stand above the crates that they test, so that those are proved once. Octets, rows of tables, loads, lists and the
+//! states of routes are scripts of the crate play_scripts.
 #![tactic(auto)]
 
 #[cfg(test)]

@@ -1,21 +1,23 @@
-//! Lists of rows that end as lines do, and a device that fails. More lists are in the transcripts.
+//! Lists of rows that end as lines do, and a device that fails. More lists are among the scripts of play_scripts.
 
 use std::alloc::Global;
 use std::io;
 use std::io::Read;
-use std::test::Fail;
 use vrp_csv::{CsvFault, RowFault, read_list};
 
 // Rows that end as lines of other systems do, behind a header of five columns; the last one has no end.
 const ROWS: &str =
     "ASN,IP Prefix,Max Length,Trust Anchor,Expires\r\nAS1,10.0.0.0/8,9,ta,0\r\n\r\nAS2,10.0.0.0/8,9,ta,";
 
+// How many rows a list has, and how many payloads.
+fn counts(alloc: Global, list: &str) -> Option<(u64, usize)> {
+    let loaded = read_list(alloc, list.as_bytes()).ok()?;
+    Some((loaded.rows, loaded.set.len()))
+}
+
 #[test]
-fn rows_end_as_lines_do(rt: HostRuntime) -> Result<(), Fail> {
-    let loaded = read_list(rt.alloc(), ROWS.as_bytes())?;
-    assert_eq!(rt; loaded.rows, 2);
-    assert_eq!(rt; loaded.set.len(), 2);
-    Ok(())
+fn rows_end_as_lines_do(rt: HostRuntime) {
+    assert!(rt; counts(rt.alloc(), ROWS) == Some((2, 2)));
 }
 
 // A device that gives its octets one by one, and then fails.
@@ -47,13 +49,14 @@ fn refusal_behind(alloc: Global, octets: &[u8]) -> Option<(u8, u64)> {
 const CUT_OFF: &[u8] =
     b"ASN,IP Prefix,Max Length,Trust Anchor\nAS1,10.0.0.0/8,9,ta\nAS2,10.0.0.0/8,";
 
+// How many octets come before the device fails, and the row then.
+const FAILURES: [(usize, u64); 4] = [(0, 0), (9, 0), (40, 1), (CUT_OFF.len(), 2)];
+
 #[test]
 fn a_failing_device_is_told_from_a_faulty_list(rt: HostRuntime) {
-    for (end, row) in [(0, 0), (9, 0), (40, 1), (CUT_OFF.len(), 2)] {
-        assert_eq!(rt;
-            refusal_behind(rt.alloc(), &CUT_OFF[..end]),
-            Some((15, row))
-        );
+    for (end, row) in &FAILURES {
+        let octets = &CUT_OFF[..(*end).min(CUT_OFF.len())];
+        assert!(rt; refusal_behind(rt.alloc(), octets) == Some((15, *row)));
     }
 }
 
@@ -64,11 +67,14 @@ const OTHERS: [(RowFault, u8); 3] = [
     (RowFault::Csv, 17),
 ];
 
+fn has_number(fault: RowFault, number: u8) -> bool {
+    let refused = CsvFault { fault, row: 3 };
+    refused.number() == number && refused.row() == 3
+}
+
 #[test]
 fn a_fault_that_no_text_brings_has_its_number(rt: HostRuntime) {
-    for (fault, number) in OTHERS {
-        let refused = CsvFault { fault, row: 3 };
-        assert_eq!(rt; refused.number(), number);
-        assert_eq!(rt; refused.row(), 3);
+    for (fault, number) in &OTHERS {
+        assert!(rt; has_number(*fault, *number));
     }
 }

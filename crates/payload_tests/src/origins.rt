@@ -1,6 +1,6 @@
-//! The origins of routes: what the payloads by prefix say of them, which prefixes a change of the payloads concerns, and
-//! that the payloads stay as they were where a growth is refused.
-ghost use Rattle.std.specs.Prelude.{◌≡◌, [], OnOk, OnErr};
+//! The payloads by prefix: which prefixes a change of them concerns, and that they stay as they were where a growth is
+//! refused. The states of routes are in scripts.
+ghost use Rattle.std.specs.Prelude.{◌≡◌, OnOk, OnErr};
 
 use crate::sets::payload;
 use net_prefix::{Asn, Prefix, Vrp};
@@ -15,9 +15,6 @@ use vrp_delta::{Delta, Keeper};
 // A payload's prefix, maximum length and AS.
 type Row = (u32, u8, u8, u32);
 
-// A route's prefix and origin, and its state.
-type Route = (u32, u8, Option<u32>, Validity);
-
 #[rattlefmt::skip]
 const PAYLOADS: [Row; 5] = [
     (0x0a00_0000, 16, 16, 65002),
@@ -25,25 +22,6 @@ const PAYLOADS: [Row; 5] = [
     (0x0a00_0100, 24, 24, 65003),
     (0xc000_0200, 24, 32,     0),
     (0xc633_6400, 24, 24, 65001),
-];
-
-#[rattlefmt::skip]
-const ROUTES: [Route; 15] = [
-    (0x0a00_0000, 16, Some(65001), Validity::Valid),
-    (0x0a00_0000, 16, Some(65002), Validity::Valid),
-    (0x0a00_0000, 16, Some(65003), Validity::Invalid),
-    (0x0a00_0000, 16, None,        Validity::Invalid),
-    (0x0a00_0000, 24, Some(65001), Validity::Valid),
-    (0x0a00_0000, 24, Some(65002), Validity::Invalid),
-    (0x0a00_0100, 24, Some(65001), Validity::Valid),
-    (0x0a00_0100, 24, Some(65003), Validity::Valid),
-    (0x0a00_0100, 25, Some(65003), Validity::Invalid),
-    (0x0a00_0000,  8, Some(65001), Validity::NotFound),
-    (0x0a01_0000, 16, Some(65001), Validity::NotFound),
-    (0xc000_0200, 24, Some(0),     Validity::Invalid),
-    (0xc000_0200, 24, None,        Validity::Invalid),
-    (0xc633_6400, 24, Some(65001), Validity::Valid),
-    (0xcb00_7100, 24, None,        Validity::NotFound),
 ];
 
 // Those that are there behind a change: among them one with another maximum length, one with another AS, and one that
@@ -56,18 +34,6 @@ const LATER: [Row; 6] = [
     (0x0a00_0100, 24, 24, 65002),
     (0x0a00_0100, 24, 24, 65003),
     (0xc633_6400, 24, 24, 65001),
-];
-
-#[rattlefmt::skip]
-const LATER_ROUTES: [Route; 8] = [
-    (0x0a00_0000,  8, Some(65004), Validity::Valid),
-    (0x0a00_0000, 16, Some(65001), Validity::Valid),
-    (0x0a00_0000, 24, Some(65001), Validity::Invalid),
-    (0x0a00_0100, 24, Some(65002), Validity::Valid),
-    (0x0a00_0100, 24, Some(65003), Validity::Valid),
-    (0x0a01_0000, 16, Some(65001), Validity::Invalid),
-    (0xc000_0200, 24, Some(0),     Validity::NotFound),
-    (0xc633_6400, 24, Some(65001), Validity::Valid),
 ];
 
 // What that change concerns: 10.0.0.0/16 lies in 10.0.0.0/8.
@@ -102,17 +68,6 @@ fn follow<A: Allocator + Clone>(
     trie.change(&delta)
 }
 
-// Whether each route has its state.
-fn has_states<A: Allocator>(trie: &PayloadTrie<A>, routes: &[Route]) -> Result<bool, Fail> {
-    for (bits, len, origin, state) in routes {
-        let prefix = Prefix::new(*bits, *len)?;
-        if trie.state(&prefix, origin.map(Asn)) != *state {
-            return Ok(false);
-        }
-    }
-    Ok(true)
-}
-
 // Whether of all these payloads just those of the set are kept.
 fn has_just<A: Allocator>(
     trie: &PayloadTrie<A>,
@@ -128,50 +83,30 @@ fn has_just<A: Allocator>(
     Ok(true)
 }
 
-// Fills the payloads, clears them, and fills them again.
-fn is_filled_again(
+// Fills the payloads and clears them. No path has AS 0 in it.
+fn is_cleared(
     rt: &impl Abort,
     trie: &mut PayloadTrie,
     none: &BTreeSet<Vrp>,
     all: &BTreeSet<Vrp>,
 ) -> Result<(), Fail>
-    requires { (trie.old ≡ none.now.keys) × (none.now.keys ≡ []) }
+    requires { trie.old ≡ none.now.keys }
 {
+    let zero = Prefix::new(0xc000_0200, 24)?;
     follow(trie, none, all)?;
-    assert!(rt; has_just(trie, all, &PAYLOADS)?);
-    assert!(rt; has_states(trie, &ROUTES)?);
+    assert!(rt; trie.state(&zero, Some(Asn(0))) == Validity::Invalid);
     trie.clear();
     assert!(rt; has_just(trie, none, &PAYLOADS)?);
-    let ten = Prefix::new(0x0a00_0000, 16)?;
-    assert!(rt; trie.state(&ten, Some(Asn(65001))) == Validity::NotFound);
-    follow(trie, none, all)?;
-    assert!(rt; has_states(trie, &ROUTES)?);
+    assert!(rt; trie.state(&zero, Some(Asn(0))) == Validity::NotFound);
     Ok(())
 }
 
 #[test]
-fn states_are_those_of_all_payloads(rt: HostRuntime) -> Result<(), Fail> {
+fn an_origin_of_as_0_matches_nothing(rt: HostRuntime) -> Result<(), Fail> {
     let all = set_of(rt.alloc(), &PAYLOADS)?;
     let none = BTreeSet::new(rt.alloc());
     let mut trie = PayloadTrie::new(rt.alloc());
-    is_filled_again(&rt, &mut trie, &none, &all)
-}
-
-// Fills the payloads and changes them.
-fn is_changed(
-    rt: &impl Abort,
-    trie: &mut PayloadTrie,
-    none: &BTreeSet<Vrp>,
-    all: &BTreeSet<Vrp>,
-    later: &BTreeSet<Vrp>,
-) -> Result<(), Fail>
-    requires { trie.old ≡ none.now.keys }
-{
-    follow(trie, none, all)?;
-    follow(trie, all, later)?;
-    assert!(rt; has_just(trie, later, &PAYLOADS)? && has_just(trie, later, &LATER)?);
-    assert!(rt; has_states(trie, &LATER_ROUTES)?);
-    Ok(())
+    is_cleared(&rt, &mut trie, &none, &all)
 }
 
 // Goes over what a change concerns.
@@ -188,9 +123,6 @@ fn concerns(rt: &impl Abort, delta: &Delta) -> Result<(), Fail> {
 fn a_change_concerns_the_prefixes_that_no_other_covers(rt: HostRuntime) -> Result<(), Fail> {
     let all = set_of(rt.alloc(), &PAYLOADS)?;
     let later = set_of(rt.alloc(), &LATER)?;
-    let none = BTreeSet::new(rt.alloc());
-    let mut trie = PayloadTrie::new(rt.alloc());
-    is_changed(&rt, &mut trie, &none, &all, &later)?;
     concerns(&rt, &Delta::between(&all, &later)?)
 }
 
@@ -249,14 +181,5 @@ fn a_refused_growth_leaves_the_payloads(rt: HostRuntime) -> Result<(), Fail> {
     }
     assert!(rt; !left);
     assert_eq!(rt; refusals, REQUESTS);
-    Ok(())
-}
-
-#[test]
-fn states_are_printed_by_name(rt: HostRuntime) -> Result<(), Fail> {
-    let (valid, invalid) = (Validity::Valid, Validity::Invalid);
-    let not_found = Validity::NotFound;
-    let text = format!(in rt.alloc(); "{valid} {invalid} {not_found}")?;
-    assert_eq!(rt; text.as_str(), "Valid Invalid NotFound");
     Ok(())
 }

@@ -1,5 +1,5 @@
-//! The faults of PDUs, and the bounds of intervals, row by row.
-use rtr_codec::{End, ErrorCode, Intervals, Pdu, PduFault, Place, Step, needed, read};
+//! How many octets the headers of faulty PDUs need, and a Serial Notify of another version. Their faults are in scripts.
+use rtr_codec::{End, ErrorCode, Intervals, Pdu, Place, Step, needed, read};
 
 const AT_CACHE: Place = Place {
     end: End::Cache,
@@ -25,76 +25,30 @@ const AT_LOADED_CLIENT: Place = Place {
     has_response: true,
 };
 
-const UNSUPPORTED_VERSION: PduFault = PduFault::Header(ErrorCode::UnsupportedVersion);
-
-const UNEXPECTED_VERSION: PduFault = PduFault::Header(ErrorCode::UnexpectedVersion);
-
-const UNSUPPORTED_TYPE: PduFault = PduFault::Header(ErrorCode::UnsupportedType);
-
-const CORRUPT_DATA: PduFault = PduFault::Header(ErrorCode::CorruptData);
-
+// Headers, and where they are read: each is faulty.
 #[rattlefmt::skip]
-const HEADERS: [([u8; 8], Place, PduFault); 20] = [
-    // An Error Report of another version, or of a wrong length.
-    ([0, 10, 0, 0, 0, 0, 0, 16],      AT_CACHE,         PduFault::Unanswered),
-    ([0, 10, 0, 0, 0, 0, 0, 16],      AT_LOADED_CLIENT, PduFault::Unanswered),
-    ([1, 10, 0, 0, 0, 0, 0, 15],      AT_CACHE,         PduFault::Unanswered),
-    ([1, 10, 0, 0, 0, 0, 0, 15],      AT_CLIENT,        PduFault::Unanswered),
-    ([1, 10, 0, 0, 0, 0, 0x10, 1],    AT_CACHE_LATER,   PduFault::Unanswered),
-    ([1, 10, 0, 0, 0, 0, 0x10, 1],    AT_LOADED_CLIENT, PduFault::Unanswered),
-    // Another version.
-    ([0, 2, 0, 0, 0, 0, 0, 8],        AT_CACHE,         UNSUPPORTED_VERSION),
-    ([2, 2, 0, 0, 0, 0, 0, 8],        AT_CACHE_LATER,   UNEXPECTED_VERSION),
-    ([0, 11, 0, 0, 0, 0, 0, 8],       AT_CLIENT,        UNSUPPORTED_VERSION),
-    ([0, 0, 0, 7, 0, 0, 0, 12],       AT_CACHE,         UNSUPPORTED_VERSION),
-    ([0, 0, 0, 7, 0, 0, 0, 12],       AT_LOADED_CLIENT, UNEXPECTED_VERSION),
-    ([0, 0, 0, 7, 0, 0, 0, 13],       AT_CLIENT,        UNSUPPORTED_VERSION),
-    // A type that isn't there.
-    ([1, 5, 0, 0, 0, 0, 0, 8],        AT_CACHE,         UNSUPPORTED_TYPE),
-    ([1, 11, 0, 0, 0, 0, 0, 8],       AT_LOADED_CLIENT, UNSUPPORTED_TYPE),
-    // A length that its type doesn't have.
-    ([1, 2, 0, 0, 0, 0, 0, 12],       AT_CACHE,         CORRUPT_DATA),
-    ([1, 4, 0, 0, 0, 0, 0, 21],       AT_CLIENT,        CORRUPT_DATA),
-    ([1, 7, 0, 7, 0, 0, 1, 24],       AT_CLIENT,        CORRUPT_DATA),
-    ([1, 9, 0, 0, 0, 0, 0, 31],       AT_LOADED_CLIENT, CORRUPT_DATA),
-    ([1, 9, 0, 0, 0, 0, 0x10, 1],     AT_CACHE,         CORRUPT_DATA),
-    ([1, 9, 0, 0, 0, 0, 0x10, 1],     AT_LOADED_CLIENT, CORRUPT_DATA),
+const HEADERS: [([u8; 8], Place); 20] = [
+    ([0, 10, 0, 0, 0, 0, 0, 16], AT_CACHE),
+    ([0, 10, 0, 0, 0, 0, 0, 16], AT_LOADED_CLIENT),
+    ([1, 10, 0, 0, 0, 0, 0, 15], AT_CACHE),
+    ([1, 10, 0, 0, 0, 0, 0, 15], AT_CLIENT),
+    ([1, 10, 0, 0, 0, 0, 0x10, 1],AT_CACHE_LATER),
+    ([1, 10, 0, 0, 0, 0, 0x10, 1],AT_LOADED_CLIENT),
+    ([0, 2, 0, 0, 0, 0, 0, 8],   AT_CACHE),
+    ([2, 2, 0, 0, 0, 0, 0, 8],   AT_CACHE_LATER),
+    ([0, 11, 0, 0, 0, 0, 0, 8],  AT_CLIENT),
+    ([0, 0, 0, 7, 0, 0, 0, 12],  AT_CACHE),
+    ([0, 0, 0, 7, 0, 0, 0, 12],  AT_LOADED_CLIENT),
+    ([0, 0, 0, 7, 0, 0, 0, 13],  AT_CLIENT),
+    ([1, 5, 0, 0, 0, 0, 0, 8],   AT_CACHE),
+    ([1, 11, 0, 0, 0, 0, 0, 8],  AT_LOADED_CLIENT),
+    ([1, 2, 0, 0, 0, 0, 0, 12],  AT_CACHE),
+    ([1, 4, 0, 0, 0, 0, 0, 21],  AT_CLIENT),
+    ([1, 7, 0, 7, 0, 0, 1, 24],  AT_CLIENT),
+    ([1, 9, 0, 0, 0, 0, 0, 31],  AT_LOADED_CLIENT),
+    ([1, 9, 0, 0, 0, 0, 0x10, 1],AT_CACHE),
+    ([1, 9, 0, 0, 0, 0, 0x10, 1],AT_LOADED_CLIENT),
 ];
-
-#[rattlefmt::skip]
-const PAYLOADS: [[u8; 20]; 5] = [
-    // A prefix length and a maximum length over 32.
-    [1, 4, 0, 0, 0, 0, 0, 20, 1, 33, 33, 0, 10, 0, 0, 0, 0, 0, 0xFD, 0xEA],
-    [1, 4, 0, 0, 0, 0, 0, 20, 1, 24, 33, 0, 10, 0, 0, 0, 0, 0, 0xFD, 0xEA],
-    // Bits behind the length.
-    [1, 4, 0, 0, 0, 0, 0, 20, 1, 16, 24, 0, 10, 0, 0, 1, 0, 0, 0xFD, 0xEA],
-    [1, 4, 0, 0, 0, 0, 0, 20, 0, 0, 0, 0, 0x80, 0, 0, 0, 0, 0, 0xFD, 0xEA],
-    // A maximum length below the prefix length.
-    [1, 4, 0, 0, 0, 0, 0, 20, 0, 24, 23, 0, 10, 0, 1, 0, 0, 0, 0xFD, 0xEA],
-];
-
-#[rattlefmt::skip]
-const INTERVALS: [(u32, u32, u32, bool); 11] = [
-    (3600,   600,   7200,    true),
-    (1,      1,     600,     true),
-    (86_400, 7_200, 172_800, true),
-    (0,      600,   7200,    false),
-    (86_401, 600,   172_800, false),
-    (3600,   0,     7200,    false),
-    (3600,   7_201, 172_800, false),
-    (1,      1,     599,     false),
-    (3600,   600,   172_801, false),
-    (7200,   600,   7200,    false),
-    (600,    700,   700,     false),
-];
-
-// Whether octets have this fault with the last of them, and none before it.
-fn is_judged_at_its_end(octets: &[u8], place: Place, fault: PduFault) -> bool {
-    let Some((_, before)) = octets.split_last() else {
-        return false;
-    };
-    read(octets, place) == Step::Faulty(fault, octets) && read(before, place) == Step::Need
-}
 
 // Whether one more octet is waited for behind seven, and none behind these eight.
 fn is_waited_for(header: &[u8; 8], place: Place) -> bool {
@@ -102,23 +56,16 @@ fn is_waited_for(header: &[u8; 8], place: Place) -> bool {
 }
 
 #[test]
-fn headers_are_judged_with_their_eighth_octet(rt: HostRuntime) {
-    for (octets, place, fault) in &HEADERS {
-        assert!(rt; is_judged_at_its_end(octets, *place, *fault), "{octets:?}");
+fn a_header_is_waited_for_and_no_more(rt: HostRuntime) {
+    for (octets, place) in &HEADERS {
         assert!(rt; is_waited_for(octets, *place), "{octets:?}");
     }
 }
 
 #[test]
-fn payloads_are_judged_with_their_last_octet(rt: HostRuntime) {
-    for octets in &PAYLOADS {
-        for place in [AT_CACHE, AT_LOADED_CLIENT] {
-            assert!(rt;
-                is_judged_at_its_end(octets, place, PduFault::Payload),
-                "{octets:?}"
-            );
-        }
-    }
+fn usual_values_are_those_of_the_rfc(rt: HostRuntime) {
+    assert!(rt; Intervals::default() == Intervals::USUAL && Intervals::USUAL.are_lawful());
+    assert!(rt; ErrorCode::InternalError.number() == 1);
 }
 
 #[test]
@@ -128,36 +75,5 @@ fn a_notify_is_read_in_any_version_before_the_first_response(rt: HostRuntime) {
         session: 7,
         serial: 9,
     };
-    assert_eq!(rt; read(&octets, AT_CLIENT), Step::Whole(notify, 12));
-}
-
-#[test]
-fn intervals_are_lawful_within_their_bounds(rt: HostRuntime) {
-    for (refresh, retry, expire, lawful) in INTERVALS {
-        let intervals = Intervals {
-            refresh,
-            retry,
-            expire,
-        };
-        assert_eq!(rt; intervals.are_lawful(), lawful, "{intervals:?}");
-    }
-    assert!(rt; Intervals::default() == Intervals::USUAL && Intervals::USUAL.are_lawful());
-}
-
-#[test]
-fn codes_are_those_of_the_rfc(rt: HostRuntime) {
-    let codes = [
-        ErrorCode::CorruptData,
-        ErrorCode::InternalError,
-        ErrorCode::NoDataAvailable,
-        ErrorCode::InvalidRequest,
-        ErrorCode::UnsupportedVersion,
-        ErrorCode::UnsupportedType,
-        ErrorCode::WithdrawalOfUnknownRecord,
-        ErrorCode::DuplicateAnnouncement,
-        ErrorCode::UnexpectedVersion,
-    ];
-    for (number, code) in (0u16..9).zip(codes) {
-        assert_eq!(rt; code.number(), number);
-    }
+    assert!(rt; read(&octets, AT_CLIENT) == Step::Whole(notify, 12));
 }

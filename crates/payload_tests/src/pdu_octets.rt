@@ -1,13 +1,9 @@
-//! PDUs that were taken from the wire, and streams of them.
+//! How a receiver finds the PDUs of a stream, and PDUs that are never sent. More PDUs in octets are in scripts.
 ghost use Rattle.std.specs.Prelude.{◌≤◌};
 ghost use Rattle.rtr_codec.specs.PduSpelling.{content_of, length_of};
 
 use arrayvec::ArrayVec;
-use net_prefix::{Asn, Prefix, Vrp};
-use rtr_codec::{End, Intervals, Pdu, Place, Receiver, Step, needed, read, write};
-use std::test::Fail;
-
-const RESET_QUERY: [u8; 8] = [1, 2, 0, 0, 0, 0, 0, 8];
+use rtr_codec::{End, Pdu, Place, Receiver, Step, needed, read, write};
 
 // 10.0.2.0/24-24 of AS 65002 leaves, 10.0.18.0/24-24 comes; then the set has serial 18.
 const RESPONSE: [u8; 72] = [
@@ -19,19 +15,23 @@ const RESPONSE: [u8; 72] = [
 // Where the PDUs of the response begin.
 const BEGINNINGS: [usize; 4] = [0, 8, 28, 48];
 
+// Whether the octets are written for the PDU.
+fn is_written(octets: &[u8], pdu: Pdu<'_>) -> bool
+    requires { length_of (content_of pdu) ≤ 64 }
+{
+    let mut out = ArrayVec::new();
+    write(&pdu, &mut out);
+    out.as_slice() == octets
+}
+
 const LATER: Place = Place {
     end: End::Client,
     is_first: false,
     has_response: true,
 };
 
-fn payload(bits: u32, len: u8, max_len: u8, asn: u32) -> Result<Vrp, Fail> {
-    let prefix = Prefix::new(bits, len)?;
-    Ok(Vrp::new(prefix, max_len, Asn(asn))?)
-}
-
-// Whether the octets are read as the PDU once they are whole, whatever follows them.
-fn is_read(octets: &[u8], pdu: Pdu<'_>) -> bool {
+// Whether the octets are waited for, and then are one PDU, whatever follows them.
+fn is_whole(octets: &[u8]) -> bool {
     for count in 0..octets.len() {
         if read(&octets[..count], LATER) != Step::Need || needed(&octets[..count], LATER) == 0 {
             return false;
@@ -40,81 +40,61 @@ fn is_read(octets: &[u8], pdu: Pdu<'_>) -> bool {
     let mut more: ArrayVec<u8, 128> = ArrayVec::new();
     let _fits = more.try_extend_from_slice(octets);
     let _fits = more.try_extend_from_slice(&[1, 5, 255]);
-    let whole = Step::Whole(pdu, octets.len());
-    read(octets, LATER) == whole && read(more.as_slice(), LATER) == whole
+    let alone = read(octets, LATER);
+    matches!(alone, Step::Whole(..)) && read(more.as_slice(), LATER) == alone
 }
 
-// Whether the octets are written for the PDU, and read as it.
-fn is_written_and_read(octets: &[u8], pdu: Pdu<'_>) -> bool
-    requires { length_of (content_of pdu) ≤ 64 }
-{
-    let mut out = ArrayVec::new();
-    write(&pdu, &mut out);
-    out.as_slice() == octets && is_read(octets, pdu)
+// Whether the octets are read as the PDU.
+fn is_read(octets: &[u8], pdu: Pdu<'_>) -> bool {
+    is_whole(octets) && read(octets, LATER) == Step::Whole(pdu, octets.len())
 }
 
-#[test]
-fn queries_and_their_short_answers(rt: HostRuntime) {
-    let (session, serial) = (7, 9);
-    assert!(rt;
-        is_written_and_read(
-            &[1, 0, 0, 7, 0, 0, 0, 12, 0, 0, 0, 9],
-            Pdu::SerialNotify { session, serial }
-        )
-    );
-    assert!(rt;
-        is_written_and_read(
-            &[1, 1, 0, 7, 0, 0, 0, 12, 0, 0, 0, 9],
-            Pdu::SerialQuery { session, serial }
-        )
-    );
-    assert!(rt; is_written_and_read(&RESET_QUERY, Pdu::ResetQuery));
-    assert!(rt; is_written_and_read(&RESPONSE[..8], Pdu::CacheResponse { session }));
-    assert!(rt; is_written_and_read(&[1, 8, 0, 0, 0, 0, 0, 8], Pdu::CacheReset));
-}
+#[rattlefmt::skip]
+const PDUS: [&[u8]; 8] = [
+    &[1, 0, 0, 7, 0, 0, 0, 12, 0, 0, 0, 9],
+    &[1, 1, 0, 7, 0, 0, 0, 12, 0, 0, 0, 9],
+    &[1, 2, 0, 0, 0, 0, 0, 8],
+    &[1, 8, 0, 0, 0, 0, 0, 8],
+    &[1, 3, 0, 7, 0, 0, 0, 8],
+    &[1, 4, 0, 0, 0, 0, 0, 20, 0, 24, 24, 0, 10, 0, 2, 0, 0, 0, 0xFD, 0xEA],
+    &[1, 4, 0, 0, 0, 0, 0, 20, 1, 24, 24, 0, 10, 0, 18, 0, 0, 0, 0xFD, 0xEA],
+    &[1, 7, 0, 7, 0, 0, 0, 24, 0, 0, 0, 18, 0, 0, 0x0E, 0x10, 0, 0, 2, 0x58, 0, 0, 0x1C, 0x20],
+];
 
 #[test]
-fn payloads_and_the_end_of_data(rt: HostRuntime) -> Result<(), Fail> {
-    let gone = payload(0x0A00_0200, 24, 24, 65002)?;
-    let come = payload(0x0A00_1200, 24, 24, 65002)?;
-    let end = Pdu::EndOfData {
-        session: 7,
-        serial: 18,
-        intervals: Intervals::USUAL,
-    };
-    assert!(rt; is_written_and_read(&RESPONSE[8..28], Pdu::Withdrawal(gone)));
-    assert!(rt; is_written_and_read(&RESPONSE[28..48], Pdu::Announcement(come)));
-    assert!(rt; is_written_and_read(&RESPONSE[48..], end));
-    Ok(())
+fn a_pdu_is_read_whatever_follows(rt: HostRuntime) {
+    for octets in &PDUS {
+        assert!(rt; is_whole(octets), "{octets:?}");
+    }
 }
+
+const REPORT: [u8; 24] = [
+    1, 10, 0, 2, 0, 0, 0, 24, 0, 0, 0, 8, 1, 2, 0, 0, 0, 0, 0, 8, 0, 0, 0, 0,
+];
+
+// A report that tells more than is there.
+const SHORT_REPORT: [u8; 17] = [1, 10, 0, 0, 0, 0, 0, 17, 0, 0, 0, 99, 1, 2, 3, 4, 5];
 
 #[test]
 fn reports_quote_the_pdu_at_fault(rt: HostRuntime) {
-    let octets = [
-        1, 10, 0, 2, 0, 0, 0, 24, 0, 0, 0, 8, 1, 2, 0, 0, 0, 0, 0, 8, 0, 0, 0, 0,
-    ];
-    let report = Pdu::ErrorReport {
-        code: 2,
-        quoted: &RESET_QUERY,
-    };
-    assert!(rt; is_written_and_read(&octets, report));
-    // A report that tells more than is there.
-    let octets = [1, 10, 0, 0, 0, 0, 0, 17, 0, 0, 0, 99, 1, 2, 3, 4, 5];
-    let report = Pdu::ErrorReport {
-        code: 0,
-        quoted: &[1, 2, 3, 4, 5],
-    };
-    assert!(rt; is_read(&octets, report));
+    let code = 2;
+    let quoted = &REPORT[12..20];
+    assert!(rt; is_read(&REPORT, Pdu::ErrorReport { code, quoted }));
+    let code = 0;
+    let quoted = &SHORT_REPORT[12..];
+    assert!(rt; is_read(&SHORT_REPORT, Pdu::ErrorReport { code, quoted }));
 }
 
 #[test]
 fn unread_bodies_are_carried(rt: HostRuntime) {
     let mut prefix = [0; 32];
     prefix[..8].copy_from_slice(&[1, 6, 0, 0, 0, 0, 0, 32]);
-    assert!(rt; is_written_and_read(&prefix, Pdu::Ipv6Prefix(&prefix[8..])));
+    let pdu = Pdu::Ipv6Prefix(&prefix[8..]);
+    assert!(rt; is_written(&prefix, pdu) && is_read(&prefix, pdu));
     let mut key = [9; 40];
     key[..8].copy_from_slice(&[1, 9, 0, 0, 0, 0, 0, 40]);
-    assert!(rt; is_written_and_read(&key, Pdu::RouterKey(&key[8..])));
+    let pdu = Pdu::RouterKey(&key[8..]);
+    assert!(rt; is_written(&key, pdu) && is_read(&key, pdu));
 }
 
 // The PDUs that a receiver finds in pieces that come one after the other, and how many octets it keeps.
@@ -132,22 +112,28 @@ fn received(receiver: &mut Receiver, octets: &[u8]) -> usize {
     count
 }
 
+// Whether a receiver finds each PDU in the piece that holds its last octet.
+fn is_found_whole(cut: usize) -> bool
+    requires { cut ≤ 72 }
+{
+    let mut receiver = Receiver::new(End::Client);
+    let (front, rest) = RESPONSE.split_at(cut);
+    let first = received(&mut receiver, front);
+    let second = received(&mut receiver, rest);
+    first
+        == BEGINNINGS
+            .iter()
+            .skip(1)
+            .filter(|begin| **begin <= cut)
+            .count()
+        && first.saturating_add(second) == 4
+        && receiver.octets().is_empty()
+}
+
 #[test]
 fn a_stream_has_its_pdus_however_it_is_cut(rt: HostRuntime) {
-    for cut in 0..RESPONSE.len() {
-        let mut receiver = Receiver::new(End::Client);
-        let first = received(&mut receiver, &RESPONSE[..cut]);
-        assert_eq!(rt;
-            first,
-            BEGINNINGS
-                .iter()
-                .skip(1)
-                .filter(|begin| **begin <= cut)
-                .count()
-        );
-        let second = received(&mut receiver, &RESPONSE[cut..]);
-        assert_eq!(rt; first.saturating_add(second), 4, "cut at {cut}");
-        assert!(rt; receiver.octets().is_empty());
+    for cut in 0..72usize {
+        assert!(rt; is_found_whole(cut), "cut at {cut}");
     }
 }
 

@@ -1,52 +1,40 @@
-//! What is published, what changed, and what a delta leaves. How many versions are kept is in the transcripts.
+//! What a delta leaves of a set, and its faults. What is published, and what changed since, are in scripts.
 use crate::sets::{payload, set_of};
 use net_prefix::Vrp;
+use std::alloc::Global;
 use std::collections::BTreeSet;
 use std::test::Fail;
-use vrp_delta::{Delta, DeltaFault, Versions, apply};
+use vrp_delta::{Delta, DeltaFault, apply};
 
 const TEN: u32 = 0x0a00_0000;
 
 const TEN_ONE: u32 = 0x0a01_0000;
 
-fn is_published(versions: &mut Versions, set: &BTreeSet<Vrp>, serial: u32) -> bool {
-    versions.publish(set) == Ok(serial)
+fn delta_of(alloc: Global, withdrawn: Vrp, announced: Vrp) -> Result<Delta, Fail> {
+    Ok(Delta {
+        withdrawn: set_of(alloc, &[withdrawn])?,
+        announced: set_of(alloc, &[announced])?,
+    })
 }
 
-// What changed since the version of the serial, which is kept.
-fn delta_since(versions: &Versions, serial: u32) -> Result<Delta, Fail> {
-    match versions.delta_from(serial)? {
-        Some(delta) => Ok(delta),
-        None => Err(Fail::new("the version is kept")),
-    }
-}
-
-fn is_change(delta: &Delta, withdrawn: &[Vrp], announced: &[Vrp]) -> bool {
-    delta.withdrawn.iter().eq(withdrawn) && delta.announced.iter().eq(announced)
-}
-
-fn is_refused(set: &mut BTreeSet<Vrp>, delta: &Delta, fault: DeltaFault) -> bool {
-    apply(set, delta) == Err(fault)
+// Whether a set of these payloads is these others behind the delta, or refuses it so and stays.
+fn leaves(
+    mut set: BTreeSet<Vrp>,
+    delta: &Delta,
+    answer: Result<(), DeltaFault>,
+    left: &[Vrp],
+) -> bool {
+    apply(&mut set, delta) == answer && set.iter().eq(left)
 }
 
 #[test]
-fn a_delta_leads_from_the_first_list_to_the_second(rt: HostRuntime) -> Result<(), Fail> {
+fn a_delta_leaves_what_it_says(rt: HostRuntime) -> Result<(), Fail> {
     let before = payload(TEN, 16, 24, 65002)?;
     let after = payload(TEN, 16, 25, 65002)?;
     let stays = payload(TEN_ONE, 16, 16, 65003)?;
-    let mut first = set_of(rt.alloc(), &[before, stays])?;
-    let second = set_of(rt.alloc(), &[after, stays])?;
-    let mut versions = Versions::new(rt.alloc());
-    assert!(rt; versions.current().is_none());
-    assert!(rt; is_published(&mut versions, &first, 1));
-    assert!(rt; is_published(&mut versions, &second, 2));
-    assert!(rt; is_published(&mut versions, &second, 2));
-    let delta = delta_since(&versions, 1)?;
-    assert!(rt; is_change(&delta, &[before], &[after]));
-    apply(&mut first, &delta)?;
-    assert!(rt; first == second);
-    assert!(rt; is_change(&delta_since(&versions, 2)?, &[], &[]));
-    assert!(rt; versions.delta_from(0)?.is_none());
+    let delta = delta_of(rt.alloc(), before, after)?;
+    let set = set_of(rt.alloc(), &[before, stays])?;
+    assert!(rt; leaves(set, &delta, Ok(()), &[after, stays]));
     Ok(())
 }
 
@@ -54,26 +42,19 @@ fn a_delta_leads_from_the_first_list_to_the_second(rt: HostRuntime) -> Result<()
 fn a_bad_delta_leaves_the_set(rt: HostRuntime) -> Result<(), Fail> {
     let here = payload(TEN, 16, 24, 65002)?;
     let gone = payload(TEN_ONE, 16, 16, 65003)?;
-    let delta = Delta {
-        withdrawn: set_of(rt.alloc(), &[gone])?,
-        announced: set_of(rt.alloc(), &[here])?,
-    };
-    let mut known = set_of(rt.alloc(), &[here, gone])?;
-    assert!(rt; is_refused(&mut known, &delta, DeltaFault::Duplicate));
-    assert!(rt; known.iter().eq(&[here, gone]));
-    let mut unknown = set_of(rt.alloc(), &[here])?;
-    assert!(rt; is_refused(&mut unknown, &delta, DeltaFault::Unknown));
-    assert!(rt; unknown.iter().eq(&[here]));
+    let delta = delta_of(rt.alloc(), gone, here)?;
+    let known = set_of(rt.alloc(), &[here, gone])?;
+    assert!(rt; leaves(known, &delta, Err(DeltaFault::Duplicate), &[here, gone]));
+    let unknown = set_of(rt.alloc(), &[here])?;
+    assert!(rt; leaves(unknown, &delta, Err(DeltaFault::Unknown), &[here]));
     Ok(())
 }
 
 #[test]
 fn faults_of_a_delta_have_their_numbers(rt: HostRuntime) {
-    for (fault, number) in [
-        (DeltaFault::NoMemory, 5),
-        (DeltaFault::Unknown, 6),
-        (DeltaFault::Duplicate, 7),
-    ] {
-        assert_eq!(rt; fault.number(), number);
-    }
+    assert!(rt;
+        DeltaFault::NoMemory.number() == 5
+            && DeltaFault::Unknown.number() == 6
+            && DeltaFault::Duplicate.number() == 7
+    );
 }

@@ -56,13 +56,6 @@ impl<A: Allocator + Clone> Router<A> {
         rest.is_empty()
     }
 
-    /// Whether all that is to be handed out are these octets.
-    pub fn hands_out(&mut self, octets: &[u8]) -> bool {
-        let mut buf = [0; 64];
-        let count = self.session.take(&mut buf);
-        &buf[..count] == octets
-    }
-
     /// Whether just these payloads are in force, and the set that follows has them too.
     pub fn has(&self, payloads: &[Vrp]) -> bool {
         self.session.payloads().iter().eq(payloads) && self.kept.iter().eq(payloads)

@@ -72,10 +72,7 @@ pub(crate) fn write_answer<W: Write>(writer: &mut W, answer: Answer<'_>) -> io::
 impl fmt::Display for Answer<'_> {
     fn fmt<W: fmt::Write>(&self, f: &mut fmt::Formatter<W>) -> fmt::Result {
         match self {
-            Answer::Done(starved) => {
-                write!(f, "ok")?;
-                write_starved(f, *starved)
-            }
+            Answer::Done(starved) => write_done(f, *starved),
             Answer::Refused(number) => write!(f, "refused {number}"),
             Answer::RefusedRow(number, row) => write!(f, "refused {number} row {row}"),
             Answer::Loaded {
@@ -84,33 +81,52 @@ impl fmt::Display for Answer<'_> {
                 skipped,
             } => write!(f, "ok serial {serial} rows {rows} skipped {skipped}"),
             Answer::Client(key) => write!(f, "client {key}"),
-            Answer::Out(octets, starved) => {
-                write!(f, "out ")?;
-                if octets.is_empty() {
-                    write!(f, "-")?;
-                }
-                write_octets(f, octets)?;
-                write_starved(f, *starved)
-            }
+            Answer::Out(octets, starved) => write_out(f, octets, *starved),
             Answer::Session(slot, state) => write!(f, "{slot} {state}"),
             Answer::CacheSession(state) => write!(f, "cache {state}"),
             Answer::Payload(payload) => write!(f, "{payload}"),
-            Answer::Best(route) => {
-                let (prefix, slot) = (route.prefix, route.slot);
-                let (validity, degree) = (route.validity, route.degree);
-                if slot == LOCAL_SLOT {
-                    return write!(f, "{prefix} local {validity} {degree}");
-                }
-                write!(f, "{prefix} {slot} {validity} {degree}")
-            }
-            Answer::Route(prefix, octets) => {
-                write!(f, "{prefix} ")?;
-                write_octets(f, octets)
-            }
+            Answer::Best(route) => write_best(f, route),
+            Answer::Route(prefix, octets) => write_route(f, *prefix, octets),
             Answer::Waiting(prefix) => write!(f, "{prefix}"),
             Answer::End => write!(f, "end"),
         }
     }
+}
+
+fn write_done<W: fmt::Write>(f: &mut fmt::Formatter<W>, starved: Starved) -> fmt::Result {
+    write!(f, "ok")?;
+    write_starved(f, starved)
+}
+
+fn write_out<W: fmt::Write>(
+    f: &mut fmt::Formatter<W>,
+    octets: &[u8],
+    starved: Starved,
+) -> fmt::Result {
+    write!(f, "out ")?;
+    if octets.is_empty() {
+        write!(f, "-")?;
+    }
+    write_octets(f, octets)?;
+    write_starved(f, starved)
+}
+
+fn write_best<W: fmt::Write>(f: &mut fmt::Formatter<W>, route: &BestRoute) -> fmt::Result {
+    let (prefix, slot) = (route.prefix, route.slot);
+    let (validity, degree) = (route.validity, route.degree);
+    if slot == LOCAL_SLOT {
+        return write!(f, "{prefix} local {validity} {degree}");
+    }
+    write!(f, "{prefix} {slot} {validity} {degree}")
+}
+
+fn write_route<W: fmt::Write>(
+    f: &mut fmt::Formatter<W>,
+    prefix: Prefix,
+    octets: &[u8],
+) -> fmt::Result {
+    write!(f, "{prefix} ")?;
+    write_octets(f, octets)
 }
 
 fn write_octets<W: fmt::Write>(f: &mut fmt::Formatter<W>, octets: &[u8]) -> fmt::Result {

@@ -5,9 +5,9 @@ use crate::answer::{Answer, Starved, write_answer};
 use crate::line::CacheLine;
 use rtr_cache::{Cache, CacheEvent, CacheRefusal, CacheReport};
 use rtr_codec::Intervals;
-use std::alloc::{AllocError, Global};
+use std::alloc::{AllocError, Allocator, Global};
 use std::io::{self, Write};
-use vrp_csv::read_list;
+use vrp_csv::{Loaded, read_list};
 
 // The lines behind a `load`, and the number of the `load` line.
 #[derive(Drop)]
@@ -19,20 +19,25 @@ struct OpenList {
 
 /// A cache, and the list that is being handed in to it.
 #[derive(Drop)]
-pub struct ScriptCache {
-    cache: Cache,
+pub struct ScriptCache<A: Allocator = Global> {
+    cache: Cache<A>,
     list: Option<OpenList>,
 }
 
-impl ScriptCache {
-    /// A cache without versions and clients.
+impl<A: Allocator + Clone> ScriptCache<A> {
+    /// A cache without versions and clients, over this heap.
     pub fn new(
-        alloc: Global,
+        heap: A,
         session: u16,
         intervals: Intervals,
-    ) -> Result<ScriptCache, CacheRefusal> {
-        let cache = Cache::new(alloc, session, intervals)?;
+    ) -> Result<ScriptCache<A>, CacheRefusal> {
+        let cache = Cache::new(heap, session, intervals)?;
         Ok(ScriptCache { cache, list: None })
+    }
+
+    /// The cache itself.
+    pub fn cache(&self) -> &Cache<A> {
+        &self.cache
     }
 
     /// The lines from here on are those of a list.
@@ -73,44 +78,49 @@ impl ScriptCache {
 
     // Reads the list and publishes its payloads, or says why not.
     fn load<W: Write>(&mut self, alloc: Global, text: &[u8], writer: &mut W) -> io::Result<()> {
-        let loaded = match read_list(alloc, text) {
-            Ok(loaded) => loaded,
-            Err(fault) => {
-                return write_answer(writer, Answer::RefusedRow(fault.number(), fault.row()));
-            }
+        let answer = match read_list(alloc, text) {
+            Ok(loaded) => self.publish(&loaded),
+            Err(fault) => Answer::RefusedRow(fault.number(), fault.row()),
         };
-        let answer = match self.cache.step(CacheEvent::Load(&loaded.set)) {
+        write_answer(writer, answer)
+    }
+
+    fn publish(&mut self, loaded: &Loaded) -> Answer<'static> {
+        match self.cache.step(CacheEvent::Load(&loaded.set)) {
             Ok(report) => Answer::Loaded {
                 serial: report.serial.unwrap_or(0),
                 rows: loaded.rows,
                 skipped: loaded.skipped,
             },
             Err(refusal) => Answer::Refused(refusal.number()),
-        };
-        write_answer(writer, answer)
+        }
     }
 
     /// Hands in a line for the cache, and answers it.
     pub fn serve<W: Write>(
         &mut self,
-        line: CacheLine,
+        line: &CacheLine,
         room: &mut [u8],
         writer: &mut W,
     ) -> io::Result<()> {
         match line {
-            CacheLine::Up => self.step(CacheEvent::Up, writer),
-            CacheLine::Down(key) => self.step(CacheEvent::Down(u64::from(key)), writer),
-            CacheLine::Bytes(key, octets) => {
-                let event = CacheEvent::Bytes(u64::from(key), octets.as_slice());
-                self.step(event, writer)
+            CacheLine::Up => write_answer(writer, self.step(CacheEvent::Up)),
+            CacheLine::Down(key) => {
+                write_answer(writer, self.step(CacheEvent::Down(u64::from(*key))))
             }
-            CacheLine::Tick(seconds) => self.step(CacheEvent::Tick(seconds), writer),
-            CacheLine::Take(key, max) => self.take(key, max, room, writer),
+            CacheLine::Bytes(key, octets) => {
+                let event = CacheEvent::Bytes(u64::from(*key), octets.as_slice());
+                write_answer(writer, self.step(event))
+            }
+            CacheLine::Tick(seconds) => {
+                write_answer(writer, self.step(CacheEvent::Tick(*seconds)))
+            }
+            CacheLine::Take(key, max) => write_answer(writer, self.take(*key, *max, room)),
         }
     }
 
-    fn step<W: Write>(&mut self, event: CacheEvent<'_>, writer: &mut W) -> io::Result<()> {
-        let answer = match self.cache.step(event) {
+    fn step(&mut self, event: CacheEvent<'_>) -> Answer<'static> {
+        match self.cache.step(event) {
             Ok(
                 CacheReport {
                     client: Some(key),
@@ -119,25 +129,15 @@ impl ScriptCache {
             ) => Answer::Client(key),
             Ok(_) => Answer::Done(Starved::NOTHING),
             Err(refusal) => Answer::Refused(refusal.number()),
-        };
-        write_answer(writer, answer)
+        }
     }
 
     // Hands out at most `max` octets, and no more than there is room for.
-    fn take<W: Write>(
-        &mut self,
-        key: u32,
-        max: u32,
-        room: &mut [u8],
-        writer: &mut W,
-    ) -> io::Result<()> {
+    fn take<'a>(&mut self, key: u32, max: u32, room: &'a mut [u8]) -> Answer<'a> {
         let most = room.len().min(max as usize);
         match self.cache.take(u64::from(key), &mut room[..most]) {
-            Ok(count) => {
-                let octets = &room[..count.min(room.len())];
-                write_answer(writer, Answer::Out(octets, Starved::NOTHING))
-            }
-            Err(refusal) => write_answer(writer, Answer::Refused(refusal.number())),
+            Ok(count) => Answer::Out(&room[..count.min(room.len())], Starved::NOTHING),
+            Err(refusal) => Answer::Refused(refusal.number()),
         }
     }
 }

@@ -106,28 +106,27 @@ impl Line<'_> {
     /// The line that this text is.
     pub fn parse(alloc: Global, text: &str) -> Result<Line<'_>, LineFault> {
         let words: Vec<&str> = text.split(' ').collect(alloc)?;
-        match words.as_slice() {
-            ["bytes", slot, hex] => {
-                let slot = number(slot).ok_or(LineFault::BadLine)?;
-                let octets = octets(alloc, hex)?;
-                Ok(Line::Drive(SpeakerLine::Bytes(slot, octets)))
-            }
-            ["rbytes", hex] => {
-                let octets = octets(alloc, hex)?;
-                Ok(Line::Drive(SpeakerLine::CacheBytes(octets)))
-            }
-            ["cbytes", key, hex] => {
-                let key = number(key).ok_or(LineFault::BadLine)?;
-                let octets = octets(alloc, hex)?;
-                Ok(Line::Serve(CacheLine::Bytes(key, octets)))
-            }
-            ["policy", name, words @ ..] => {
-                let name = name_of(name).ok_or(LineFault::BadLine)?;
-                let rules = rules_of(alloc, words)?;
-                Ok(Line::Drive(SpeakerLine::SetPolicy(name, rules)))
-            }
-            words => line_of(words).ok_or(LineFault::BadLine),
+        line_with_octets(alloc, words.as_slice())
+    }
+}
+
+// The line that these words are.
+fn line_with_octets<'a>(alloc: Global, words: &[&'a str]) -> Result<Line<'a>, LineFault> {
+    match words {
+        ["bytes", slot, hex] => {
+            let slot = number(slot).ok_or(LineFault::BadLine)?;
+            Ok(Line::Drive(SpeakerLine::Bytes(slot, octets(alloc, hex)?)))
         }
+        ["rbytes", hex] => Ok(Line::Drive(SpeakerLine::CacheBytes(octets(alloc, hex)?))),
+        ["cbytes", key, hex] => {
+            let key = number(key).ok_or(LineFault::BadLine)?;
+            Ok(Line::Serve(CacheLine::Bytes(key, octets(alloc, hex)?)))
+        }
+        ["policy", name, words @ ..] => {
+            let name = name_of(name).ok_or(LineFault::BadLine)?;
+            Ok(Line::Drive(SpeakerLine::SetPolicy(name, rules_of(alloc, words)?)))
+        }
+        words => line_of(words).ok_or(LineFault::BadLine),
     }
 }
 
@@ -208,9 +207,17 @@ fn command<'a>(words: &[&'a str]) -> Option<Command<'a>> {
         ["drop", slot] => Command::RemovePeer(number(slot)?),
         ["enable", slot] => Command::Enable(number(slot)?),
         ["disable", slot] => Command::Disable(number(slot)?),
-        ["nopolicy", name] => Command::DropPolicy(name_of(name)?),
         ["use", "in", slot, name] => Command::UseIn(number(slot)?, name_of(name)?),
         ["use", "out", slot, name] => Command::UseOut(number(slot)?, name_of(name)?),
+        words => command_for_all(words)?,
+    };
+    Some(command)
+}
+
+// A command that is for no slot alone.
+fn command_for_all<'a>(words: &[&'a str]) -> Option<Command<'a>> {
+    let command = match words {
+        ["nopolicy", name] => Command::DropPolicy(name_of(name)?),
         ["network", prefix] => Command::Network(Prefix::parse(prefix).ok()?),
         ["nonetwork", prefix] => Command::NoNetwork(Prefix::parse(prefix).ok()?),
         ["reach", prefix, cost] => Command::Reach(Prefix::parse(prefix).ok()?, number(cost)?),

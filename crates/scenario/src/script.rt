@@ -1,4 +1,4 @@
-//! Playing a script.
+//! Playing a script, line by line or whole.
 ghost use Rattle.std.specs.Prelude.{◌≤◌, IfErr};
 ghost use Rattle.scenario.specs.LineNumbers.{IsOutside, NamesLine, CountsFromOne};
 
@@ -8,9 +8,10 @@ use crate::line::{CacheLine, Line, LineFault, SpeakerLine};
 use crate::reading::{ascii_text, is_passed_over, is_want_of_memory, read_line, without_line_end};
 use crate::tables::show;
 use bgp_conf::Command;
+use rtr_cache::Cache;
 use rtr_codec::Intervals;
-use speaker::{Config, Event, Speaker};
-use std::alloc::{AllocError, Global};
+use speaker::{Config, Event, Report, Speaker};
+use std::alloc::{AllocError, Allocator, Global};
 use std::io::{self, BufRead, Write};
 use thiserror::Error;
 
@@ -59,7 +60,7 @@ pub fn play<R: BufRead + Drop, W: Write>(
 ) -> Result<(), PlayFault>
     ensures { IfErr result CountsFromOne }
 {
-    let mut stage = Stage::new(alloc)?;
+    let mut stage = Stage::new(alloc, alloc)?;
     let mut text = Vec::new(alloc);
     play_lines(&mut reader, &mut stage, &mut text, writer)
 }
@@ -82,27 +83,33 @@ fn play_lines<R: BufRead + Drop, W: Write>(
     Err(PlayFault::Device)
 }
 
-// What a script has made so far: its speaker and its cache, and room for what they hand out.
+/// What a script has made so far: its speaker and its cache, over a heap of their own, and room for what they hand out.
 #[derive(Drop)]
-struct Stage {
+pub struct Stage<A: Allocator + Clone = Global> {
     alloc: Global,
-    speaker: Option<Speaker>,
-    cache: Option<ScriptCache>,
+    heap: A,
+    speaker: Option<Speaker<A>>,
+    cache: Option<ScriptCache<A>>,
+    report: Report,
     taken: Vec<u8>,
 }
 
-impl Stage {
-    fn new(alloc: Global) -> Result<Stage, AllocError> {
+impl<A: Allocator + Clone + Copy> Stage<A> {
+    /// Nothing is made yet. What the speaker and the cache keep will be had from the heap.
+    pub fn new(alloc: Global, heap: A) -> Result<Stage<A>, AllocError> {
         let taken = vec![in alloc; 0; MAX_TAKE]?;
         Ok(Stage {
             alloc,
+            heap,
             speaker: None,
             cache: None,
+            report: Report::NOTHING,
             taken,
         })
     }
 
-    fn play_line<W: Write>(
+    /// Plays the line of this number, and answers it.
+    pub fn play_line<W: Write>(
         &mut self,
         number: u64,
         line: &[u8],
@@ -128,13 +135,45 @@ impl Stage {
             return Err(PlayFault::BadLine(number));
         };
         match Line::parse(self.alloc, text) {
-            Ok(Line::Speaker(config)) => self.begin(config, number, writer),
-            Ok(Line::Drive(line)) => self.drive(line, number, writer),
-            Ok(Line::Cache(session, intervals)) => self.new_cache(session, intervals, writer),
-            Ok(Line::Load) => self.open_list(number),
-            Ok(Line::Serve(line)) => self.serve(line, number, writer),
+            Ok(line) => self.hand_in(&line, number, writer),
             Err(LineFault::BadLine) => Err(PlayFault::BadLine(number)),
             Err(LineFault::NoMemory) => Err(PlayFault::NoMemory),
+        }
+    }
+
+    /// The speaker, once a line has made it.
+    pub fn speaker(&self) -> Option<&Speaker<A>> {
+        self.speaker.as_ref()
+    }
+
+    /// What the speaker's last call reported, of which an answer says a part; nothing where it was refused.
+    pub fn report(&self) -> Report {
+        self.report
+    }
+
+    /// The cache, once a line has made it.
+    pub fn cache(&self) -> Option<&Cache<A>> {
+        match &self.cache {
+            Some(cache) => Some(cache.cache()),
+            None => None,
+        }
+    }
+
+    fn hand_in<W: Write>(
+        &mut self,
+        line: &Line<'_>,
+        number: u64,
+        writer: &mut W,
+    ) -> Result<(), PlayFault>
+        requires { 1 ≤ number }
+        ensures { IfErr result (NamesLine number) }
+    {
+        match line {
+            Line::Speaker(config) => self.begin(*config, number, writer),
+            Line::Drive(line) => self.drive(line, number, writer),
+            Line::Cache(session, intervals) => self.new_cache(*session, *intervals, writer),
+            Line::Load => self.open_list(number),
+            Line::Serve(line) => self.serve(line, number, writer),
         }
     }
 
@@ -149,14 +188,19 @@ impl Stage {
         if self.speaker.is_some() {
             return Err(PlayFault::BadLine(number));
         }
-        match Speaker::new(self.alloc, config) {
+        let answer = self.new_speaker(config);
+        write_answer(writer, answer)?;
+        Ok(())
+    }
+
+    fn new_speaker(&mut self, config: Config) -> Answer<'static> {
+        match Speaker::new(self.heap, config) {
             Ok(speaker) => {
                 self.speaker = Some(speaker);
-                write_answer(writer, Answer::Done(Starved::NOTHING))?;
+                Answer::Done(Starved::NOTHING)
             }
-            Err(refusal) => write_answer(writer, Answer::Refused(refusal.number()))?,
+            Err(refusal) => Answer::Refused(refusal.number()),
         }
-        Ok(())
     }
 
     // A script ends within a list where its `load` has no `end`.
@@ -181,13 +225,14 @@ impl Stage {
     ) -> Result<(), PlayFault>
         ensures { IfErr result IsOutside }
     {
-        match ScriptCache::new(self.alloc, session, intervals) {
+        let answer = match ScriptCache::new(self.heap, session, intervals) {
             Ok(cache) => {
                 self.cache = Some(cache);
-                write_answer(writer, Answer::Done(Starved::NOTHING))?;
+                Answer::Done(Starved::NOTHING)
             }
-            Err(refusal) => write_answer(writer, Answer::Refused(refusal.number()))?,
-        }
+            Err(refusal) => Answer::Refused(refusal.number()),
+        };
+        write_answer(writer, answer)?;
         Ok(())
     }
 
@@ -206,7 +251,7 @@ impl Stage {
 
     fn serve<W: Write>(
         &mut self,
-        line: CacheLine,
+        line: &CacheLine,
         number: u64,
         writer: &mut W,
     ) -> Result<(), PlayFault>
@@ -221,7 +266,7 @@ impl Stage {
 
     fn drive<W: Write>(
         &mut self,
-        line: SpeakerLine<'_>,
+        line: &SpeakerLine<'_>,
         number: u64,
         writer: &mut W,
     ) -> Result<(), PlayFault>
@@ -231,65 +276,103 @@ impl Stage {
             return Err(PlayFault::BadLine(number));
         };
         let room = self.taken.as_mut_slice();
-        match line {
-            SpeakerLine::Obey(command) => step(speaker, Event::Command(command), writer)?,
-            SpeakerLine::SetPolicy(name, rules) => {
-                let command = Command::SetPolicy(name, rules.as_slice());
-                step(speaker, Event::Command(command), writer)?
-            }
-            SpeakerLine::Up(slot) => step(speaker, Event::Up(slot), writer)?,
-            SpeakerLine::Fail(slot) => step(speaker, Event::Fail(slot), writer)?,
-            SpeakerLine::Bytes(slot, octets) => {
-                step(speaker, Event::Bytes(slot, octets.as_slice()), writer)?
-            }
-            SpeakerLine::CacheUp => step(speaker, Event::CacheUp, writer)?,
-            SpeakerLine::CacheFail => step(speaker, Event::CacheFail, writer)?,
-            SpeakerLine::CacheBytes(octets) => {
-                step(speaker, Event::CacheBytes(octets.as_slice()), writer)?
-            }
-            SpeakerLine::CacheTake(max) => take_cache(speaker, max, room, writer)?,
-            SpeakerLine::Tick(seconds) => step(speaker, Event::Tick(seconds), writer)?,
-            SpeakerLine::Take(slot, max) => take(speaker, slot, max, room, writer)?,
-            SpeakerLine::Show(table) => show(speaker, table, writer)?,
-        }
+        drive(speaker, line, room, &mut self.report, writer)?;
         Ok(())
     }
 }
 
-fn step<W: Write>(speaker: &mut Speaker, event: Event<'_>, writer: &mut W) -> io::Result<()> {
+// Hands in a line for the speaker, and answers it.
+fn drive<A: Allocator + Clone, W: Write>(
+    speaker: &mut Speaker<A>,
+    line: &SpeakerLine<'_>,
+    room: &mut [u8],
+    report: &mut Report,
+    writer: &mut W,
+) -> io::Result<()> {
+    match line {
+        SpeakerLine::Take(slot, max) => {
+            write_answer(writer, take(speaker, *slot, *max, room, report))
+        }
+        SpeakerLine::CacheTake(max) => write_answer(writer, take_cache(speaker, *max, room)),
+        SpeakerLine::Show(table) => show(speaker, *table, writer),
+        line => write_answer(writer, hand_on(speaker, line, report)),
+    }
+}
+
+// Hands in the event of a line; one that takes or shows has none.
+fn hand_on<A: Allocator + Clone>(
+    speaker: &mut Speaker<A>,
+    line: &SpeakerLine<'_>,
+    report: &mut Report,
+) -> Answer<'static> {
+    match line {
+        SpeakerLine::Obey(command) => step(speaker, Event::Command(*command), report),
+        SpeakerLine::SetPolicy(name, rules) => {
+            let command = Command::SetPolicy(name, rules.as_slice());
+            step(speaker, Event::Command(command), report)
+        }
+        SpeakerLine::Up(slot) => step(speaker, Event::Up(*slot), report),
+        SpeakerLine::Fail(slot) => step(speaker, Event::Fail(*slot), report),
+        SpeakerLine::Bytes(slot, octets) => {
+            step(speaker, Event::Bytes(*slot, octets.as_slice()), report)
+        }
+        SpeakerLine::CacheUp => step(speaker, Event::CacheUp, report),
+        SpeakerLine::CacheFail => step(speaker, Event::CacheFail, report),
+        SpeakerLine::CacheBytes(octets) => {
+            step(speaker, Event::CacheBytes(octets.as_slice()), report)
+        }
+        SpeakerLine::Tick(seconds) => step(speaker, Event::Tick(*seconds), report),
+        SpeakerLine::CacheTake(_) | SpeakerLine::Take(..) | SpeakerLine::Show(_) => {
+            Answer::Done(Starved::NOTHING)
+        }
+    }
+}
+
+fn step<A: Allocator + Clone>(
+    speaker: &mut Speaker<A>,
+    event: Event<'_>,
+    report: &mut Report,
+) -> Answer<'static> {
     match speaker.step(event) {
-        Ok(report) => write_answer(writer, Answer::Done(Starved::of(&report))),
-        Err(refusal) => write_answer(writer, Answer::Refused(refusal.number())),
+        Ok(told) => {
+            *report = told;
+            Answer::Done(Starved::of(&told))
+        }
+        Err(refusal) => {
+            *report = Report::NOTHING;
+            Answer::Refused(refusal.number())
+        }
     }
 }
 
 // Hands out at most `max` octets, and no more than there is room for.
-fn take<W: Write>(
-    speaker: &mut Speaker,
+fn take<'a, A: Allocator + Clone>(
+    speaker: &mut Speaker<A>,
     slot: u8,
     max: u32,
-    room: &mut [u8],
-    writer: &mut W,
-) -> io::Result<()> {
+    room: &'a mut [u8],
+    report: &mut Report,
+) -> Answer<'a> {
     let most = room.len().min(max as usize);
     match speaker.take(slot, &mut room[..most]) {
-        Ok((count, report)) => {
-            let octets = &room[..count.min(room.len())];
-            write_answer(writer, Answer::Out(octets, Starved::of(&report)))
+        Ok((count, told)) => {
+            *report = told;
+            Answer::Out(&room[..count.min(room.len())], Starved::of(&told))
         }
-        Err(refusal) => write_answer(writer, Answer::Refused(refusal.number())),
+        Err(refusal) => {
+            *report = Report::NOTHING;
+            Answer::Refused(refusal.number())
+        }
     }
 }
 
 // The same of the ring of the cache session.
-fn take_cache<W: Write>(
-    speaker: &mut Speaker,
+fn take_cache<'a, A: Allocator + Clone>(
+    speaker: &mut Speaker<A>,
     max: u32,
-    room: &mut [u8],
-    writer: &mut W,
-) -> io::Result<()> {
+    room: &'a mut [u8],
+) -> Answer<'a> {
     let most = room.len().min(max as usize);
     let count = speaker.take_cache(&mut room[..most]);
-    let octets = &room[..count.min(room.len())];
-    write_answer(writer, Answer::Out(octets, Starved::NOTHING))
+    Answer::Out(&room[..count.min(room.len())], Starved::NOTHING)
 }

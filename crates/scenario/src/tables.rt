@@ -6,25 +6,41 @@ use arrayvec::ArrayVec;
 use bgp_attr::write_attrs;
 use bgp_conf::PEER_SLOTS;
 use speaker::Speaker;
+use std::alloc::Allocator;
 use std::io::{self, Write};
 
 /// More rows than a table has, since each takes memory: a bound that the walk over a table can't reach.
 const MAX_ROWS: usize = usize::MAX;
 
 /// Writes the rows of the table, a line each, and `end`.
-pub fn show<W: Write>(speaker: &Speaker, table: Table, writer: &mut W) -> io::Result<()> {
-    match table {
-        Table::Sessions => show_sessions(speaker, writer)?,
-        Table::Rib => show_rib(speaker, writer)?,
-        Table::Payloads => show_payloads(speaker, writer)?,
-        Table::In(slot) => show_in(speaker, slot, writer)?,
-        Table::Held(slot) => show_held(speaker, slot, writer)?,
-        Table::Waiting(slot) => show_waiting(speaker, slot, writer)?,
-    }
+pub fn show<A: Allocator + Clone, W: Write>(
+    speaker: &Speaker<A>,
+    table: Table,
+    writer: &mut W,
+) -> io::Result<()> {
+    show_rows(speaker, table, writer)?;
     write_answer(writer, Answer::End)
 }
 
-fn show_sessions<W: Write>(speaker: &Speaker, writer: &mut W) -> io::Result<()> {
+fn show_rows<A: Allocator + Clone, W: Write>(
+    speaker: &Speaker<A>,
+    table: Table,
+    writer: &mut W,
+) -> io::Result<()> {
+    match table {
+        Table::Sessions => show_sessions(speaker, writer),
+        Table::Rib => show_rib(speaker, writer),
+        Table::Payloads => show_payloads(speaker, writer),
+        Table::In(slot) => show_in(speaker, slot, writer),
+        Table::Held(slot) => show_held(speaker, slot, writer),
+        Table::Waiting(slot) => show_waiting(speaker, slot, writer),
+    }
+}
+
+fn show_sessions<A: Allocator + Clone, W: Write>(
+    speaker: &Speaker<A>,
+    writer: &mut W,
+) -> io::Result<()> {
     for slot in 0..PEER_SLOTS {
         if let Some(state) = speaker.session(slot) {
             write_answer(writer, Answer::Session(slot, state))?;
@@ -36,21 +52,31 @@ fn show_sessions<W: Write>(speaker: &Speaker, writer: &mut W) -> io::Result<()> 
     Ok(())
 }
 
-fn show_rib<W: Write>(speaker: &Speaker, writer: &mut W) -> io::Result<()> {
+fn show_rib<A: Allocator + Clone, W: Write>(
+    speaker: &Speaker<A>,
+    writer: &mut W,
+) -> io::Result<()> {
     for route in speaker.loc_rib().take(MAX_ROWS) {
         write_answer(writer, Answer::Best(route))?;
     }
     Ok(())
 }
 
-fn show_payloads<W: Write>(speaker: &Speaker, writer: &mut W) -> io::Result<()> {
+fn show_payloads<A: Allocator + Clone, W: Write>(
+    speaker: &Speaker<A>,
+    writer: &mut W,
+) -> io::Result<()> {
     for payload in speaker.payloads().take(MAX_ROWS) {
         write_answer(writer, Answer::Payload(payload))?;
     }
     Ok(())
 }
 
-fn show_in<W: Write>(speaker: &Speaker, slot: u8, writer: &mut W) -> io::Result<()> {
+fn show_in<A: Allocator + Clone, W: Write>(
+    speaker: &Speaker<A>,
+    slot: u8,
+    writer: &mut W,
+) -> io::Result<()> {
     let mut octets = ArrayVec::new();
     for (prefix, attrs) in speaker.adj_in(slot).take(MAX_ROWS) {
         write_attrs(&attrs.as_received(), &mut octets);
@@ -59,14 +85,22 @@ fn show_in<W: Write>(speaker: &Speaker, slot: u8, writer: &mut W) -> io::Result<
     Ok(())
 }
 
-fn show_held<W: Write>(speaker: &Speaker, slot: u8, writer: &mut W) -> io::Result<()> {
+fn show_held<A: Allocator + Clone, W: Write>(
+    speaker: &Speaker<A>,
+    slot: u8,
+    writer: &mut W,
+) -> io::Result<()> {
     for (prefix, octets) in speaker.held(slot).take(MAX_ROWS) {
         write_answer(writer, Answer::Route(prefix, octets))?;
     }
     Ok(())
 }
 
-fn show_waiting<W: Write>(speaker: &Speaker, slot: u8, writer: &mut W) -> io::Result<()> {
+fn show_waiting<A: Allocator + Clone, W: Write>(
+    speaker: &Speaker<A>,
+    slot: u8,
+    writer: &mut W,
+) -> io::Result<()> {
     for prefix in speaker.waiting(slot).take(MAX_ROWS) {
         write_answer(writer, Answer::Waiting(prefix))?;
     }

@@ -1,0 +1,72 @@
+//! Plays scripts to a speaker or a cache that is refused one request for memory, each request in turn.
+//!
+//! Each line of standard input names a case, whose files lie in `data`: NAME.in is a script as `ovplay` plays it, and
+//! NAME.out what it answers where no request is refused. The script is played so first. Then it is played with the
+//! first request of the speaker or the cache refused, with the second, and so on until it makes no such request; beside
+//! each such run goes one to which nothing is refused. Up to the refused request both answer alike. What a refused
+//! request may come to, and what must stay as it was, stands in `refused.rt`. NAME.again has what peers and clients do
+//! that were closed and come again, and NAME.rows what must have come of the refused requests (`rows.rt`).
+//!
+//! For each case a line says how often each of these came; or where it went wrong.
+#![tactic(auto)]
+
+mod calls;
+mod case;
+mod endings;
+mod fault;
+mod pair;
+mod refused;
+mod rows;
+mod views;
+
+use crate::case::{Case, play_case};
+use crate::fault::Fault;
+use std::fs;
+use std::io::{self, BufRead, BufReader, Write};
+use std::process::ExitCode;
+
+// The file of a case that has this ending.
+fn file_of(rt: &HostRuntime, name: &str, ending: &str) -> Result<Vec<u8>, Fault> {
+    let path = format!(in rt.alloc(); "{name}.{ending}")?;
+    Ok(fs::read(rt, path.as_str())?)
+}
+
+fn case_of(rt: &HostRuntime, name: &str) -> Result<Case, Fault> {
+    let script = file_of(rt, name, "in")?;
+    let told = file_of(rt, name, "out")?;
+    let again = file_of(rt, name, "again")?;
+    let rows = file_of(rt, name, "rows")?;
+    Ok(Case {
+        script,
+        told,
+        again,
+        rows,
+    })
+}
+
+// Plays the case of this name, and says what came of it.
+fn play_named<W: Write>(rt: &HostRuntime, name: &str, output: &mut W) -> io::Result<()> {
+    let played = match case_of(rt, name) {
+        Ok(case) => play_case(rt.alloc(), &case),
+        Err(fault) => Err(fault),
+    };
+    match played {
+        Ok(counts) => writeln!(output, "{name}: {counts}"),
+        Err(fault) => writeln!(output, "{name}: {fault}"),
+    }
+}
+
+fn play_all<W: Write>(rt: &HostRuntime, output: &mut W) -> io::Result<()> {
+    let input = BufReader::new(rt.alloc(), rt.reader())?;
+    for name in input.lines(rt.alloc()) {
+        let name = name?;
+        play_named(rt, name.as_str(), output)?;
+    }
+    Ok(())
+}
+
+fn main(rt: HostRuntime) -> io::Result<ExitCode> {
+    let mut output = io::writer(&rt);
+    let played = play_all(&rt, &mut output);
+    Ok(ExitCode::from(if played.is_ok() { 0 } else { 2 }))
+}

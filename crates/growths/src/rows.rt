@@ -1,0 +1,76 @@
+//! The rows of a case: how it is played, and what must have come of it.
+//!
+//! `from N` and `most N`: which requests are refused, so many from the Nth on (all, where there are no such rows).
+//! `twice`: the request behind the refused one is refused too, since what grows by less asks again.
+//! `opens`: connection attempts begin; where there is no such row, none does.
+//! `told N`: a peer whose session was closed is told so many octets.
+//! `ask N LINE -> ANSWER`: where the Nth call was refused, and before it comes again, this line is answered so.
+//! `has ENDING` and `not ENDING`: some refused request came to this, or none did: `refused`, `closed SLOT`, `closed
+//! cache` or `client KEY`, and where a number follows, at the call of this number.
+
+use crate::calls::{number_of, row_of};
+
+/// What stands behind the first row that begins with this word.
+fn row<'a>(rows: &'a [u8], word: &[u8]) -> Option<&'a [u8]> {
+    rows.split_inclusive(|octet| *octet == b'\n')
+        .find_map(|line| row_of(line).strip_prefix(word))
+}
+
+/// The number behind the word.
+pub fn number_behind(rows: &[u8], word: &[u8]) -> Option<u64> {
+    number_of(row(rows, word)?)
+}
+
+/// Whether there is such a row.
+pub fn has_row(rows: &[u8], word: &[u8]) -> bool {
+    row(rows, word).is_some()
+}
+
+/// Whether the endings, a line each, are as this row says.
+pub fn is_met(row: &[u8], endings: &[u8]) -> bool {
+    if let Some(ending) = row.strip_prefix(b"has ") {
+        return came(endings, ending);
+    }
+    match row.strip_prefix(b"not ") {
+        Some(ending) => !came(endings, ending),
+        None => true,
+    }
+}
+
+// Whether a line of them begins with these words.
+fn came(endings: &[u8], words: &[u8]) -> bool {
+    endings
+        .split_inclusive(|octet| *octet == b'\n')
+        .any(|line| match line.strip_prefix(words) {
+            Some(rest) => rest.starts_with(b" ") || rest.starts_with(b"\n"),
+            None => false,
+        })
+}
+
+/// How many endings are such.
+pub fn count_of(endings: &[u8], words: &[u8]) -> usize {
+    endings
+        .split_inclusive(|octet| *octet == b'\n')
+        .filter(|line| line.starts_with(words))
+        .count()
+}
+
+/// The line that is asked where this call was refused, and its answer.
+pub fn asked(row: &[u8], number: u64) -> Option<(&[u8], &[u8])> {
+    let row = row.strip_prefix(b"ask ")?;
+    let place = row.iter().position(|octet| *octet == b' ')?;
+    let (call, rest) = row.split_at_checked(place)?;
+    if number_of(call)? != number {
+        return None;
+    }
+    split_answer(rest.strip_prefix(b" ")?)
+}
+
+// Cuts at ` -> `.
+fn split_answer(row: &[u8]) -> Option<(&[u8], &[u8])> {
+    let place = row
+        .windows(4)
+        .position(|octets| octets == b" -> ".as_slice())?;
+    let (line, answer) = row.split_at_checked(place)?;
+    Some((line, answer.strip_prefix(b" -> ")?))
+}
