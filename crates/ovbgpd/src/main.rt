@@ -5,7 +5,7 @@
 //! on standard error.
 #![tactic(auto)]
 
-use ov_programs::main_bgp;
+use speaker_program::main_bgp;
 use std::io::LineWriter;
 use std::process::ExitCode;
 use std::{env, io};

@@ -5,7 +5,7 @@
 //! log, it stands on standard output.
 #![tactic(auto)]
 
-use ov_programs::main_cache;
+use cache_program::main_cache;
 use std::process::ExitCode;
 use std::{env, io};
 

@@ -4,7 +4,11 @@
 //! number on standard error; 2 where input or output fails, or where memory is wanting outside the speaker.
 #![tactic(auto)]
 
-use ov_programs::main_play;
+mod play_main;
+#[cfg(test)]
+mod tests;
+
+use crate::play_main::main_play;
 use std::io::{BufReader, LineWriter};
 use std::process::ExitCode;
 use std::{env, io};

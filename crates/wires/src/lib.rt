@@ -3,7 +3,7 @@
 //! `Wire` is what a loop asks of sockets: it keeps each of its calls in mind with the answer, and counts its faults, its ends
 //! of input, its sockets and octets (`specs/Wires.antt`). `Outgoing` holds the octets that were handed out for a socket and
 //! not yet written. What a socket gave and took over any calls is in `specs/Carried.antt`, and what a loop counts of the
-//! connections that it lost in `specs/Counts.antt`. The sockets of the system are in ov_programs; no loop is here.
+//! connections that it lost in `specs/Counts.antt`. The sockets of the system are in net_wires; no loop is here.
 #![tactic(auto)]
 
 mod fault;

@@ -1,0 +1,3 @@
+pub mod Exits
+pub mod Passing
+pub mod Rereads

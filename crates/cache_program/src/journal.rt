@@ -1,0 +1,60 @@
+//! The log.
+ghost use Rattle.std.specs.Prelude.{◌≡◌, false};
+
+use crate::reread::ListFault;
+use jiff::Timestamp;
+use net_wires::RouterEvent;
+use std::io::{self, Write};
+use std::rt::Clock;
+use std::time::SystemTime;
+use thiserror::Error;
+
+/// A line of the log, behind its time.
+#[derive(Clone, Copy, Debug, PartialEq, Eq, Error)]
+pub enum LogLine {
+    /// A list is served.
+    #[error("list loaded: serial {serial}, payloads {payloads}")]
+    Loaded {
+        serial: u32,
+        payloads: usize,
+    },
+    /// A list can't be had.
+    #[error("list refused: {0}")]
+    Refused(ListFault),
+    /// A router came or went.
+    #[error("{0}")]
+    Router(RouterEvent),
+    /// What is served, to how many routers, how many of them hold it, another list, and none, and how many octets came
+    /// and went since the start.
+    #[error("status: serial {serial}, payloads {payloads}, routers {routers} ({current} current, {behind} behind, {without} without), octets {octets_in} in, {octets_out} out")]
+    Status {
+        serial: u32,
+        payloads: usize,
+        routers: usize,
+        current: usize,
+        behind: usize,
+        without: usize,
+        octets_in: u64,
+        octets_out: u64,
+    },
+}
+
+/// Writes a line to the log where there is one.
+pub fn log<R: Clock, O: Write>(rt: &R, is_on: bool, output: &mut O, line: LogLine)
+    ensures { is_on ≡ false → output.new ≡ output.old }
+{
+    if is_on {
+        // A log that can't be written stops nobody.
+        let _written = write_line(rt, output, line);
+    }
+}
+
+// A line behind its time, by the clock, to the second (RFC 3339).
+fn write_line<R: Clock, O: Write>(rt: &R, output: &mut O, line: LogLine) -> io::Result<()> {
+    let seconds = SystemTime::UNIX_EPOCH.elapsed(rt)?.as_secs();
+    let time = i64::try_from(seconds)
+        .ok()
+        .and_then(|seconds| Timestamp::from_second(seconds).ok())
+        .unwrap_or(Timestamp::UNIX_EPOCH);
+    writeln!(output, "{time} {line}")
+}

@@ -1,0 +1,200 @@
+//! Each text of `ovcache` with its exit status.
+
+use cache_program::main_cache;
+use program_stages::{Ending, Stage, deaf_listener, ends, path_of, remove, write, write_settings};
+use std::alloc::AllocGlobal;
+use std::net::{Net, SocketAddr, TcpListener, TcpStream};
+use std::process::Abort;
+use std::rt::{Clock, Files};
+use std::test::Fail;
+
+const LIST: &str = "ASN,IP Prefix,Max Length,Trust Anchor\nAS65002,10.0.0.0/16,24,ta\n";
+
+// All but the list's path.
+const SETTINGS: &str = "listen = \"127.0.0.1:0\"\nsession = 7\n";
+
+const WITHOUT_A_LIST: &str = "csv = \"no_such_list\"\nlisten = \"127.0.0.1:0\"\nsession = 7\n";
+
+const WELL: Ending<'static> = Ending {
+    status: 0,
+    output: "",
+    errors: "",
+};
+
+const WRONG: Ending<'static> = Ending {
+    status: 1,
+    output: "",
+    errors: "ovcache: arguments\n",
+};
+
+const REFUSED: Ending<'static> = Ending {
+    status: 1,
+    output: "",
+    errors: "ovcache: settings\n",
+};
+
+const FAILED: Ending<'static> = Ending {
+    status: 2,
+    output: "",
+    errors: "ovcache: device\n",
+};
+
+// Whether the program ends so with these words.
+fn ends_with<R>(rt: &R, words: &[&str], ending: Ending<'_>) -> Result<bool, Fail>
+where
+    R: Net<Listener = TcpListener, Stream = TcpStream> + Files + Clock + AllocGlobal,
+{
+    Ok(ends(rt.alloc(), words, ending, |words, output, errors| {
+        main_cache(rt, words, output, errors)
+    })?)
+}
+
+// Whether it ends so behind two turns on settings that name the list of this path.
+fn ends_at(
+    rt: &HostRuntime,
+    list_path: &str,
+    settings: &str,
+    ending: Ending<'_>,
+) -> Result<bool, Fail> {
+    let path = write_settings(rt, "csv", list_path, settings)?;
+    let has_ended = ends_with(rt, &[path.as_str(), "2"], ending)?;
+    remove(rt, path.as_str())?;
+    Ok(has_ended)
+}
+
+// The same of a list with this text, in a file of this name.
+fn ends_on(
+    rt: &HostRuntime,
+    name: &str,
+    settings: &str,
+    list: &str,
+    ending: Ending<'_>,
+) -> Result<bool, Fail> {
+    let list_path = write(rt, name, list)?;
+    let has_ended = ends_at(rt, list_path.as_str(), settings, ending)?;
+    remove(rt, list_path.as_str())?;
+    Ok(has_ended)
+}
+
+// The same of settings that are this text.
+fn ends_on_text(rt: &HostRuntime, text: &str, ending: Ending<'_>) -> Result<bool, Fail> {
+    let path = write(rt, "alone.toml", text)?;
+    let has_ended = ends_with(rt, &[path.as_str(), "2"], ending)?;
+    remove(rt, path.as_str())?;
+    Ok(has_ended)
+}
+
+const WRONG_WORDS: [&[&str]; 10] = [
+    &[],
+    &["no_such_file"],
+    &["no_such_file", "1", "2"],
+    &["no_such_file", ""],
+    &["no_such_file", "+1"],
+    &["no_such_file", "-1"],
+    &["no_such_file", " 1"],
+    &["no_such_file", "1a"],
+    &["no_such_file", "0x1"],
+    &["no_such_file", "18446744073709551616"],
+];
+
+#[test]
+fn wrong_words_are_arguments(rt: HostRuntime) -> Result<(), Fail> {
+    for words in &WRONG_WORDS {
+        assert!(rt; ends_with(&rt, words, WRONG)?, "{words:?}");
+    }
+    Ok(())
+}
+
+// Settings but for the list's path.
+const GOOD_SETTINGS: [&str; 7] = [
+    SETTINGS,
+    "session = 0\nlisten = \"127.0.0.1:0\"\nrefresh = 1\nretry = 7200\nexpire = 172800\n",
+    "session = 65535\nlisten = \"127.0.0.1:0\"\nother = [1]\n[table]\nsession = \"no\"\n",
+    "session = \"clock\"\nlisten = \"127.0.0.1:0\"\nother_session = \"reset\"\n",
+    "session = 7\nlisten = \"127.0.0.1:0\"\nother_session = \"report\"\n",
+    "session = 7\nlisten = \"127.0.0.1:0\"\nreread = 1\nlog = false\nstatus = 4294967295\n",
+    "session = 7\nlisten = \"127.0.0.1:0\"\nfirst = 1\nidle = 3601\n",
+];
+
+const BAD_SETTINGS: [&str; 27] = [
+    "listen = \"127.0.0.1:0\"\nsession = 7\nno toml",
+    "listen = \"127.0.0.1:0\"\n",
+    "session = 7\n",
+    "listen = \"127.0.0.1\"\nsession = 7\n",
+    "listen = \"localhost:323\"\nsession = 7\n",
+    "listen = 323\nsession = 7\n",
+    "listen = \"127.0.0.1:0\"\nsession = 65536\n",
+    "listen = \"127.0.0.1:0\"\nsession = -1\n",
+    "listen = \"127.0.0.1:0\"\nsession = \"7\"\n",
+    "listen = \"127.0.0.1:0\"\nsession = \"Clock\"\n",
+    "listen = \"127.0.0.1:0\"\nsession = 7\nother_session = \"other\"\n",
+    "listen = \"127.0.0.1:0\"\nsession = 7\nother_session = 1\n",
+    "listen = \"127.0.0.1:0\"\nsession = 7\nrefresh = 0\n",
+    "listen = \"127.0.0.1:0\"\nsession = 7\nrefresh = \"1\"\n",
+    "listen = \"127.0.0.1:0\"\nsession = 7\nretry = 7201\n",
+    "listen = \"127.0.0.1:0\"\nsession = 7\nexpire = 599\n",
+    "listen = \"127.0.0.1:0\"\nsession = 7\nexpire = 4294967896\n",
+    "listen = \"127.0.0.1:0\"\nsession = 7\nrefresh = 7200\nexpire = 7200\n",
+    "listen = \"127.0.0.1:0\"\nsession = 7\nreread = 0\n",
+    "listen = \"127.0.0.1:0\"\nsession = 7\nreread = \"10\"\n",
+    "listen = \"127.0.0.1:0\"\nsession = 7\nreread = 4294967296\n",
+    "listen = \"127.0.0.1:0\"\nsession = 7\nlog = \"yes\"\n",
+    "listen = \"127.0.0.1:0\"\nsession = 7\nlog = 1\n",
+    "listen = \"127.0.0.1:0\"\nsession = 7\nlog = true\nstatus = 0\n",
+    "listen = \"127.0.0.1:0\"\nsession = 7\nfirst = 0\n",
+    "listen = \"127.0.0.1:0\"\nsession = 7\nidle = 3600\n",
+    "listen = \"127.0.0.1:0\"\nsession = 7\nidle = \"no\"\n",
+];
+
+#[test]
+fn settings_are_told(rt: HostRuntime) -> Result<(), Fail> {
+    for settings in &GOOD_SETTINGS {
+        assert!(rt; ends_on(&rt, "good", settings, LIST, WELL)?, "{settings}");
+    }
+    for settings in &BAD_SETTINGS {
+        assert!(rt;
+            ends_on(&rt, "bad", settings, "no list", REFUSED)?,
+            "{settings}"
+        );
+    }
+    Ok(())
+}
+
+fn settings_at(rt: &HostRuntime, address: SocketAddr) -> Result<String, Fail> {
+    Ok(format!(in rt.alloc(); "listen = \"{address}\"\nsession = 7\n")?)
+}
+
+#[test]
+fn a_refused_list_is_told_before_the_port_is_taken(rt: HostRuntime) -> Result<(), Fail> {
+    let holder = TcpListener::bind(&rt, "127.0.0.1:0")?;
+    let taken = settings_at(&rt, holder.local_addr()?)?;
+    assert!(rt; ends_on(&rt, "refused", taken.as_str(), "no list", REFUSED)?);
+    assert!(rt; ends_on(&rt, "taken", taken.as_str(), LIST, FAILED)?);
+    Ok(())
+}
+
+#[test]
+fn a_file_that_cant_be_read_is_a_device(rt: HostRuntime) -> Result<(), Fail> {
+    let missing = path_of(&rt, "missing.toml")?;
+    assert!(rt; ends_with(&rt, &[missing.as_str(), "2"], FAILED)?);
+    assert!(rt; ends_on_text(&rt, WITHOUT_A_LIST, FAILED)?);
+    assert!(rt; ends_on_text(&rt, SETTINGS, REFUSED)?);
+    Ok(())
+}
+
+// Without a turn all is well; in the first one the program ends.
+fn is_deaf(stage: &Stage<'_>, rt: &impl Abort, path: &str) -> Result<(), Fail> {
+    assert!(rt; ends_with(stage, &[path, "0"], WELL)?);
+    assert!(rt; ends_with(stage, &[path, "1"], FAILED)?);
+    Ok(())
+}
+
+#[test]
+fn a_turn_that_cant_accept_is_a_device(rt: HostRuntime) -> Result<(), Fail> {
+    let list_path = write(&rt, "deaf", LIST)?;
+    let path = write_settings(&rt, "csv", list_path.as_str(), SETTINGS)?;
+    let deaf = deaf_listener(&rt)?;
+    is_deaf(&Stage::new(&rt, &deaf, &[]), &rt, path.as_str())?;
+    remove(&rt, list_path.as_str())?;
+    remove(&rt, path.as_str())
+}

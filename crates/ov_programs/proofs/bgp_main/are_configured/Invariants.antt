@@ -1,6 +1,0 @@
-use Rattle.std.proofs.Common.{◌≡◌, ℕ, ◌<◌}
-use Rattle.ov_programs.specs.Slots.{has_slot, is_configured}
-use Rattle.ov_programs.proofs.bgp_main.are_configured.Given as goal
-
-abbrev pub invariant-loop-slot : goal.invariant-loop-slot
-invariant-loop-slot l = (k : ℕ) → k < l.slot → is_configured l.speaker k ≡ has_slot l.peers k

@@ -1,5 +1,0 @@
-use Rattle.ov_programs.proofs.TakenTurns.{AreTaken}
-use Rattle.ov_programs.proofs.bgp_main.take_turns.Given as goal
-
-abbrev pub invariant-loop : goal.invariant-loop
-invariant-loop g l = AreTaken l.counter l.fn.served l.served

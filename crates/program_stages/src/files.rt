@@ -1,0 +1,38 @@
+//! Files of a test.
+
+use std::alloc::AllocGlobal;
+use std::test::Fail;
+use std::{env, fs, process};
+
+/// A path of this process alone.
+pub fn path_of(rt: &HostRuntime, name: &str) -> Result<String, Fail> {
+    let number = process::id(rt.process());
+    let mut path = env::temp_dir(rt)?;
+    path.push(format!(in rt.alloc(); "kenyodla-{number}-{name}")?.as_str())?;
+    Ok(String::from_str(rt.alloc(), path.as_str())?)
+}
+
+/// Writes a file of this name, and answers its path.
+pub fn write(rt: &HostRuntime, name: &str, text: &str) -> Result<String, Fail> {
+    let path = path_of(rt, name)?;
+    fs::write(rt, path.as_str(), text)?;
+    Ok(path)
+}
+
+/// Writes settings beside a file, with its path at a key, and answers their path.
+pub fn write_settings(
+    rt: &HostRuntime,
+    key: &str,
+    path: &str,
+    settings: &str,
+) -> Result<String, Fail> {
+    let settings_path = format!(in rt.alloc(); "{path}.toml")?;
+    let text = format!(in rt.alloc(); "{key} = \"{path}\"\n{settings}")?;
+    fs::write(rt, settings_path.as_str(), text.as_str())?;
+    Ok(settings_path)
+}
+
+/// Takes a file away.
+pub fn remove(rt: &HostRuntime, path: &str) -> Result<(), Fail> {
+    Ok(fs::remove_file(rt, path)?)
+}

@@ -1,0 +1,3 @@
+pub mod OtherFaults
+pub mod TakenSlots
+pub mod TakenTurns

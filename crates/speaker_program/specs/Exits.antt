@@ -1,0 +1,28 @@
+-- What refusals of the speaker and faults of its commands are to the program.
+use Rattle.bgp_conf.specs.RefusalNumbers.{number_of}
+use Rattle.bgp_conf.specs.declared.refusal.Refusal.{Refusal}
+use Rattle.bgp_conf.specs.declared.refusal.Refusal.TheVariants.{UnknownName, TooMany, InUse, Range as OutOfRange, BadSlot, ClockBack as MomentBack, NotExpected, SlotTaken, NoMemory as NoMemoryOfSpeaker, AddressTaken}
+use Rattle.scenario.specs.declared.commands.CommandsFault.{CommandsFault}
+use Rattle.scenario.specs.declared.commands.CommandsFault.TheVariants.{BadLine as BadCommand, Refused as RefusedCommand, Device as DeviceOfCommands, NoMemory as NoMemoryOfCommands}
+use Rattle.program_endings.specs.declared.fault.ExitFault.{ExitFault}
+use Rattle.program_endings.specs.declared.fault.ExitFault.TheVariants.{Settings, BadLine, RefusedLine, Device}
+
+-- what a refusal of the speaker as a whole is to the program
+abbrev pub exit_of_speaker : Refusal → ExitFault
+exit_of_speaker UnknownName = Settings
+exit_of_speaker TooMany = Settings
+exit_of_speaker InUse = Settings
+exit_of_speaker OutOfRange = Settings
+exit_of_speaker BadSlot = Settings
+exit_of_speaker MomentBack = Settings
+exit_of_speaker NotExpected = Settings
+exit_of_speaker SlotTaken = Settings
+exit_of_speaker NoMemoryOfSpeaker = Device
+exit_of_speaker AddressTaken = Settings
+
+-- what a fault of the commands is to the program
+abbrev pub exit_of_commands : CommandsFault → ExitFault
+exit_of_commands (BadCommand line) = BadLine line
+exit_of_commands (RefusedCommand line why) = RefusedLine line (number_of why)
+exit_of_commands DeviceOfCommands = Device
+exit_of_commands NoMemoryOfCommands = Device

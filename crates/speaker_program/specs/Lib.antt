@@ -1,0 +1,3 @@
+pub mod Commanded
+pub mod Exits
+pub mod Slots

@@ -1,0 +1,239 @@
+//! Speakers over loopback sockets, with a cache and with one another.
+
+use cache_turns::CacheLoop;
+use net_prefix::{Asn, Vrp};
+use net_wires::NetWire;
+use rtr_cache::{Cache, CacheEvent};
+use rtr_codec::Intervals;
+use scenario::{Table, obey_lines, show};
+use speaker::{ClientState, Config, Speaker, State};
+use speaker_turns::{End, SpeakerLoop};
+use std::alloc::{AllocGlobal, Global};
+use std::collections::BTreeSet;
+use std::net::{Net, SocketAddr, TcpListener, TcpStream};
+use std::process::Abort;
+use std::test::Fail;
+use vrp_csv::read_list;
+use wires::Wire;
+
+// How many turns each loop has at most. The system brings octets over loopback within a few.
+const TURNS: u32 = 200;
+
+const LIST: &str = "ASN,IP Prefix,Max Length,Trust Anchor\nAS65002,10.0.0.0/16,24,ta\n";
+
+// Whether the cache publishes this set.
+fn publishes(cache: &mut Cache, set: &BTreeSet<Vrp>) -> bool {
+    cache.step(CacheEvent::Load(set)).is_ok()
+}
+
+// A cache of session 7.
+fn made(alloc: Global) -> Result<Cache, Fail> {
+    Ok(Cache::new(alloc, 7, Intervals::USUAL)?)
+}
+
+// One that serves the list.
+fn serving(rt: &impl Abort, alloc: Global) -> Result<Cache, Fail> {
+    let loaded = read_list(alloc, LIST.as_bytes())?;
+    let mut cache = made(alloc)?;
+    assert!(rt; publishes(&mut cache, &loaded.set));
+    Ok(cache)
+}
+
+// A speaker that has obeyed these commands, before its first turn.
+fn speaking<'a, R>(
+    rt: &'a R,
+    listen: Option<SocketAddr>,
+    config: Config,
+    commands: &str,
+) -> Result<SpeakerLoop<NetWire<'a, R>>, Fail>
+where
+    R: Net<Listener = TcpListener, Stream = TcpStream> + AllocGlobal,
+{
+    let wire = NetWire::open(rt, listen)?;
+    let mut speaker = Speaker::new(rt.alloc(), config)?;
+    obey_lines(rt.alloc(), commands.as_bytes(), &mut speaker)?;
+    Ok(SpeakerLoop::new(rt.alloc(), wire, speaker)?)
+}
+
+// Whether `show` shows these rows.
+fn shows<W: Wire + Drop>(
+    alloc: Global,
+    speaker: &SpeakerLoop<W>,
+    table: Table,
+    rows: &str,
+) -> bool {
+    let mut shown = Vec::new(alloc);
+    show(speaker.speaker(), table, &mut shown).is_ok() && shown.as_slice() == rows.as_bytes()
+}
+
+// A turn of a cache at the moment 0: whether it goes well.
+fn serves<W: Wire + Drop>(cache: &mut CacheLoop<W>) -> bool {
+    cache.turn(0).is_ok()
+}
+
+// The same of a speaker.
+fn speaks<W: Wire + Drop>(speaker: &mut SpeakerLoop<W>) -> bool {
+    speaker.turn(0).is_ok()
+}
+
+fn is_synced<W: Wire + Drop>(speaker: &SpeakerLoop<W>) -> bool {
+    speaker.speaker().cache_session() == Some(ClientState::Synced)
+}
+
+// Whether the speaker has taken a load after so many turns of both.
+fn synchronizes<W: Wire + Drop>(cache: &mut CacheLoop<W>, speaker: &mut SpeakerLoop<W>) -> bool {
+    for _ in 0..TURNS {
+        if !serves(cache) || !speaks(speaker) {
+            return false;
+        }
+        if is_synced(speaker) {
+            return true;
+        }
+    }
+    false
+}
+
+fn is_nothing_lost<W: Wire + Drop>(cache: &CacheLoop<W>, speaker: &SpeakerLoop<W>) -> bool {
+    cache.lost() == 0 && speaker.lost() == 0
+}
+
+// The speaker comes to have just what the cache serves.
+fn takes_the_list<W: Wire + Drop, R: AllocGlobal + Abort>(
+    rt: &R,
+    cache: &mut CacheLoop<W>,
+    speaker: &mut SpeakerLoop<W>,
+) {
+    let rows = "10.0.0.0/16-24 AS65002\nend\n";
+    assert!(rt; synchronizes(cache, speaker));
+    assert!(rt; shows(rt.alloc(), speaker, Table::Payloads, rows));
+    assert!(rt; is_nothing_lost(cache, speaker));
+}
+
+// A cache that serves the list over loopback.
+fn serving_over_loopback<'a, R>(rt: &'a R) -> Result<CacheLoop<NetWire<'a, R>>, Fail>
+where
+    R: Net<Listener = TcpListener, Stream = TcpStream> + AllocGlobal + Abort,
+{
+    let address = "127.0.0.1:0".parse()?;
+    let cache = serving(rt, rt.alloc())?;
+    let wire = NetWire::listening(rt, address)?;
+    Ok(CacheLoop::new(rt.alloc(), wire, cache)?)
+}
+
+// A speaker whose cache is at this address comes to have its list.
+fn takes_the_list_at<'a, R>(
+    rt: &'a R,
+    cache: &mut CacheLoop<NetWire<'a, R>>,
+    address: SocketAddr,
+) -> Result<(), Fail>
+where
+    R: Net<Listener = TcpListener, Stream = TcpStream> + AllocGlobal + Abort,
+{
+    let config = Config {
+        asn: Asn(65_000),
+        identifier: 0xC000_0201,
+        cache: true,
+    };
+    let mut speaker = speaking(rt, None, config, "")?;
+    speaker.set_remote(End::Cache, address);
+    takes_the_list(rt, cache, &mut speaker);
+    Ok(())
+}
+
+#[test]
+fn a_speaker_takes_the_list_of_a_cache(rt: HostRuntime) -> Result<(), Fail> {
+    let mut cache = serving_over_loopback(&rt)?;
+    let address = cache.wire().local_address().ok_or("no address")?;
+    takes_the_list_at(&rt, &mut cache, address)
+}
+
+// That of AS 65001 waits for the other one.
+const PASSIVE: &str = "
+reach 192.0.2.0/24 10
+peer 0 65002 192.0.2.2 192.0.2.1 passive 90 all all
+enable 0
+network 198.51.100.0/24
+";
+
+const ACTIVE: &str = "
+reach 192.0.2.0/24 10
+peer 0 65001 192.0.2.1 192.0.2.2 active 90 all all
+enable 0
+network 203.0.113.0/24
+";
+
+// More routes than there are.
+const MOST_ROUTES: usize = 100;
+
+fn has_best<W: Wire + Drop>(speaker: &SpeakerLoop<W>, routes: usize) -> bool {
+    speaker.speaker().loc_rib().take(MOST_ROUTES).count() == routes
+}
+
+// Whether each has so many best routes after so many turns of both.
+fn exchange<W: Wire + Drop>(
+    one: &mut SpeakerLoop<W>,
+    other: &mut SpeakerLoop<W>,
+    routes: usize,
+) -> bool {
+    for _ in 0..TURNS {
+        if !speaks(one) || !speaks(other) {
+            return false;
+        }
+        if has_best(one, routes) && has_best(other, routes) {
+            return true;
+        }
+    }
+    false
+}
+
+fn is_established<W: Wire + Drop>(speaker: &SpeakerLoop<W>) -> bool {
+    speaker.speaker().session(0) == Some(State::Established)
+}
+
+// Both come to Established, and each one's Loc-RIB has both networks.
+fn tell_each_other<W: Wire + Drop, R: AllocGlobal + Abort>(
+    rt: &R,
+    passive: &mut SpeakerLoop<W>,
+    active: &mut SpeakerLoop<W>,
+) {
+    assert!(rt; exchange(passive, active, 2));
+    assert!(rt; is_established(passive) && is_established(active));
+    let rows = "198.51.100.0/24 local NotFound 4294967296\n203.0.113.0/24 0 NotFound 100\nend\n";
+    assert!(rt; shows(rt.alloc(), passive, Table::Rib, rows));
+    let rows = "198.51.100.0/24 0 NotFound 100\n203.0.113.0/24 local NotFound 4294967296\nend\n";
+    assert!(rt; shows(rt.alloc(), active, Table::Rib, rows));
+}
+
+// A speaker whose peer is at this address, and its peer, tell each other their networks.
+fn tells_that_at<'a, R>(
+    rt: &'a R,
+    passive: &mut SpeakerLoop<NetWire<'a, R>>,
+    address: SocketAddr,
+) -> Result<(), Fail>
+where
+    R: Net<Listener = TcpListener, Stream = TcpStream> + AllocGlobal + Abort,
+{
+    let config = Config {
+        asn: Asn(65_002),
+        identifier: 0xC000_0202,
+        cache: false,
+    };
+    let mut active = speaking(rt, None, config, ACTIVE)?;
+    active.set_remote(End::Peer(0), address);
+    tell_each_other(rt, passive, &mut active);
+    Ok(())
+}
+
+#[test]
+fn two_speakers_tell_each_other_their_networks(rt: HostRuntime) -> Result<(), Fail> {
+    let config = Config {
+        asn: Asn(65_001),
+        identifier: 0xC000_0201,
+        cache: false,
+    };
+    let listen = "127.0.0.1:0".parse()?;
+    let mut passive = speaking(&rt, Some(listen), config, PASSIVE)?;
+    let address = passive.wire().local_address().ok_or("no address")?;
+    passive.set_remote(End::Peer(0), address);
+    tells_that_at(&rt, &mut passive, address)
+}
