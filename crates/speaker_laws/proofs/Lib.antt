@@ -1,1 +1,2 @@
 pub mod TravellingUpdates
+pub mod KeptAttributes

@@ -5,8 +5,11 @@
 //! speaker and its proofs as they are.
 #![tactic(auto)]
 
-ghost use Rattle.std.specs.Prelude.{◌≡◌, ◌⊎◌, ℕ, List, Option, Some};
-ghost use Rattle.bgp_attr.specs.TravellingAttributes.{AreTravelling};
+ghost use Rattle.std.specs.Prelude.{◌≡◌, ◌⊎◌, ℕ, List, Option, Some, None, bit_and, true};
+ghost use Rattle.bgp_attr.specs.AttributeTable.{type_of};
+ghost use Rattle.bgp_attr.specs.ReceivedAttributes.{Attribute};
+ghost use Rattle.bgp_attr.specs.TravellingAttributes.{AreTravelling, MayTravel};
+ghost use Rattle.bgp_attr.specs.UnknownAttributes.{is_kept};
 ghost use Rattle.bgp_msg.specs.MessageStream.{messages};
 ghost use Rattle.export_rules.specs.declared.export.ExportPeer.{ExportPeer};
 ghost use Rattle.net_prefix.specs.declared.prefix.Prefix.{Prefix};
@@ -25,4 +28,10 @@ pub fn what_may_travel_is_told()
     ensures queued { (config : Config) (r : Run) (slot : ℕ) (update : List ℕ) → IsOwedIn config r slot update
         → (before : Option (List ℕ)) (prefix : Prefix) (octets : List ℕ) → told_from before (messages update) prefix ≡ Some octets → (before ≡ Some octets) ⊎ AreTravelling octets }
     ensures held { (config : Config) (r : Run) (s : SpeakerState) (slot : ℕ) (prefix : Prefix) (octets : List ℕ) → Agrees config r s → held (history config slot r) prefix ≡ Some octets → AreTravelling octets }
+{}
+
+/// Every attribute that this speaker doesn't know and that may travel is kept where it is optional and transitive: no other code
+/// ends here, and no value but those that the table of unknown codes bars (RFC 4271 section 5).
+pub fn what_may_travel_is_kept()
+    ensures { (a : Attribute) → type_of a.code ≡ None → MayTravel a.code a.value → bit_and a.flags 192 ≡ 192 → is_kept a ≡ true }
 {}
