@@ -1,7 +1,7 @@
-//! Routes of slots that no peer has, found by each of both ways, and a refused growth.
+//! Routes found by each of both ways, also those of slots that no peer has, and a refused growth.
 ghost use Rattle.std.specs.Prelude.{◌<◌, ◌≤◌};
 
-use crate::given::prefix_of;
+use crate::given::{is_filled_at_last, prefix_of};
 use bgp_attr::{Attrs, PeerKind, read_attrs};
 use net_prefix::{Asn, Prefix};
 use refusing::Refusing;
@@ -59,7 +59,7 @@ fn table_of(rt: &impl Abort, alloc: Global, routes: &[(u8, Prefix)]) -> AdjIn {
 fn has_prefixes(table: &AdjIn, prefixes: &[Prefix]) -> bool {
     let mut after = None;
     for prefix in prefixes {
-        if table.prefix_after(after) != Some(*prefix) {
+        if table.prefix_after(after) != Some(*prefix) || !table.is_routed(*prefix) {
             return false;
         }
         after = Some(*prefix);
@@ -82,6 +82,7 @@ fn is_next_route(
             found == prefix
                 && attrs.next_hop() == Some(0xc000_0201)
                 && table.slot_prefix_after(slot, after) == Some(found)
+                && has_route(table, slot, prefix)
         }
         None => false,
     }
@@ -112,6 +113,73 @@ fn count_routes<A: Allocator + Clone>(table: &AdjIn<A>, slot: u8) -> u32 {
 
 fn has_route(table: &AdjIn, slot: u8, prefix: Prefix) -> bool {
     table.get(slot, prefix).is_some()
+}
+
+// Whether there are routes to just these prefixes, and of each of these slots to just its own.
+fn are_routed(table: &AdjIn, prefixes: &[Prefix], slots: &[(u8, &[Prefix])]) -> bool {
+    for (slot, own) in slots {
+        if 64 <= *slot || !has_routes(table, *slot, own) {
+            return false;
+        }
+    }
+    has_prefixes(table, prefixes)
+}
+
+// Of the routes (1, high), (0, low) and (1, low), of which one is withdrawn.
+fn keeps_the_latest(table: &mut AdjIn, low: Prefix, high: Prefix) -> bool {
+    let is_kept = are_routed(table, &[low, high], &[(0, &[low]), (1, &[low, high])]);
+    table.withdraw(1, high);
+    let is_left = are_routed(table, &[low], &[(0, &[low]), (1, &[low])]);
+    is_kept && is_left && !has_route(table, 1, high) && !table.is_routed(high)
+}
+
+// Then the sessions of both slots end.
+fn drops_both(table: &mut AdjIn, low: Prefix) -> bool {
+    table.drop_slot(1);
+    let is_left = are_routed(table, &[low], &[(0, &[low]), (1, &[])]);
+    table.drop_slot(0);
+    is_left && are_routed(table, &[], &[(0, &[])]) && !table.is_routed(low)
+}
+
+#[test]
+fn the_latest_route_of_each_slot_is_kept(rt: HostRuntime) {
+    let low = prefix_of(&rt, 0x0a00_0000, 16);
+    let high = prefix_of(&rt, 0x0a00_0000, 24);
+    let mut table = table_of(&rt, rt.alloc(), &[(1, high), (0, low), (1, low)]);
+    assert!(rt; keeps_the_latest(&mut table, low, high) && drops_both(&mut table, low));
+}
+
+// Of slots 2, 9 and 63, which have routes to some of the prefixes, which rise.
+fn finds_routes(table: &mut AdjIn, all: &[Prefix; 3]) -> bool {
+    let [low, middle, high] = *all;
+    let slots: [(u8, &[Prefix]); 4] = [
+        (2, &[low, high]),
+        (9, &[low]),
+        (63, &[low, middle]),
+        (8, &[]),
+    ];
+    let is_found = are_routed(table, all, &slots);
+    table.withdraw(2, low);
+    let is_left = are_routed(table, all, &[(2, &[high]), (9, &[low])]);
+    table.drop_slot(63);
+    is_found && is_left && are_routed(table, &[low, high], &[(63, &[]), (9, &[low])])
+}
+
+#[test]
+fn the_routes_of_a_slot_are_found(rt: HostRuntime) {
+    let low = prefix_of(&rt, 0x0a00_0000, 16);
+    let middle = prefix_of(&rt, 0x0a00_0000, 24);
+    let high = prefix_of(&rt, 0xc000_0200, 24);
+    let routes = [
+        (9, low),
+        (63, low),
+        (2, low),
+        (2, high),
+        (63, middle),
+        (9, low),
+    ];
+    let mut table = table_of(&rt, rt.alloc(), &routes);
+    assert!(rt; finds_routes(&mut table, &[low, middle, high]));
 }
 
 // Of slots 64 and 255, and of slot 0, which has a mark.
@@ -177,28 +245,8 @@ fn refusals_in<A: Allocator + Clone>(rt: &impl Abort, heap: A, ample: A) -> u32 
     fill(rt, &mut AdjIn::new(heap), &attrs)
 }
 
-// Fills a table from a heap that refuses the nth request. Answers whether it did.
-fn is_filled(rt: &impl Abort, alloc: Global, nth: u64) -> bool
-    requires { 1 ≤ nth }
-{
-    let heap = Refusing::new(alloc, nth);
-    let ample = Refusing::new(alloc, u64::MAX);
-    let refused = refusals_in(rt, &heap, &ample);
-    let left = heap.has_refused();
-    if !left {
-        assert_eq!(rt; refused, 0);
-    }
-    left
-}
-
 #[test]
 fn a_refused_growth_leaves_the_table(rt: HostRuntime) {
-    let mut left = true;
-    for nth in 1..1_000u64 {
-        left = is_filled(&rt, rt.alloc(), nth);
-        if !left {
-            break;
-        }
-    }
-    assert!(rt; !left);
+    let ample = Refusing::new(rt.alloc(), u64::MAX);
+    assert!(rt; is_filled_at_last(rt.alloc(), |heap| refusals_in(&rt, heap, &ample)));
 }

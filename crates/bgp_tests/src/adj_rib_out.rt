@@ -1,7 +1,7 @@
-//! A refused growth, and octets that are shared.
+//! What a peer holds, a refused growth, and octets that are shared.
 ghost use Rattle.std.specs.Prelude.{◌≤◌};
 
-use crate::given::prefix_of;
+use crate::given::{is_filled_at_last, prefix_of};
 use net_prefix::Prefix;
 use refusing::Refusing;
 use rib_out::{AdjOut, RecentOctets, SharedOctets};
@@ -18,6 +18,57 @@ fn announce<A: Allocator + Clone>(
         Ok(octets) => table.announce(prefix, octets).is_ok(),
         Err(_) => false,
     }
+}
+
+// Whether each of these announcements is taken.
+fn announces(alloc: Global, table: &mut AdjOut, announced: &[(Prefix, &[u8])]) -> bool {
+    for (prefix, octets) in announced {
+        if !announce(table, *prefix, SharedOctets::of(alloc, octets)) {
+            return false;
+        }
+    }
+    true
+}
+
+// Whether the peer holds just these prefixes, each with its octets, by each way to find them.
+fn holds_just(table: &AdjOut, held: &[(Prefix, &[u8])]) -> bool {
+    let mut after = None;
+    let mut routes = table.held();
+    for (prefix, octets) in held {
+        if table.prefix_after(after) != Some(*prefix)
+            || routes.next() != Some((*prefix, *octets))
+            || !table.holds(*prefix, octets)
+        {
+            return false;
+        }
+        after = Some(*prefix);
+    }
+    table.prefix_after(after).is_none() && routes.next().is_none()
+}
+
+// Of a low prefix, to which one and then two is announced, and a high one.
+fn holds_the_last(alloc: Global, table: &mut AdjOut, low: Prefix, high: Prefix) -> bool {
+    let announced: [(Prefix, &[u8]); 3] = [(high, b"three"), (low, b"one"), (low, b"two")];
+    let is_taken = announces(alloc, table, &announced);
+    let is_held = holds_just(table, &[(low, b"two"), (high, b"three")]);
+    is_taken && is_held && !table.holds(low, b"one")
+}
+
+// Then the low one is withdrawn, and all is cleared.
+fn holds_no_more(table: &mut AdjOut, low: Prefix, high: Prefix) -> bool {
+    table.withdraw(low);
+    let is_left = table.get(low).is_none() && holds_just(table, &[(high, b"three")]);
+    table.clear();
+    is_left && holds_just(table, &[])
+}
+
+#[test]
+fn the_peer_holds_what_it_was_last_sent(rt: HostRuntime) {
+    let low = prefix_of(&rt, 0x0a00_0000, 16);
+    let high = prefix_of(&rt, 0x0a00_0000, 24);
+    let mut table = AdjOut::new(rt.alloc());
+    assert!(rt; holds_the_last(rt.alloc(), &mut table, low, high));
+    assert!(rt; holds_no_more(&mut table, low, high));
 }
 
 // How many prefixes the peer holds, each with these octets.
@@ -75,30 +126,15 @@ fn refusals_in<A: Allocator + Clone>(
     }
 }
 
-// Fills a table from a heap that refuses the nth request. Answers whether it did.
-fn is_filled(rt: &impl Abort, alloc: Global, nth: u64) -> bool
-    requires { 1 ≤ nth }
-{
-    let heap = Refusing::new(alloc, nth);
-    let octets = SharedOctets::of(&heap, &[7; 40]);
-    let refused = refusals_in(rt, AdjOut::new(&heap), octets);
-    let left = heap.has_refused();
-    if !left {
-        assert_eq!(rt; refused, 0);
-    }
-    left
+// Fills a table from the heap. Answers how often a growth was refused.
+fn refusals_from(rt: &impl Abort, heap: &Refusing<Global>) -> u32 {
+    let octets = SharedOctets::of(heap, &[7; 40]);
+    refusals_in(rt, AdjOut::new(heap), octets)
 }
 
 #[test]
 fn a_refused_growth_leaves_the_table(rt: HostRuntime) {
-    let mut left = true;
-    for nth in 1..1_000u64 {
-        left = is_filled(&rt, rt.alloc(), nth);
-        if !left {
-            break;
-        }
-    }
-    assert!(rt; !left);
+    assert!(rt; is_filled_at_last(rt.alloc(), |heap| refusals_from(&rt, heap)));
 }
 
 // Whether the first octets find memory. Then octets that were announced lately take none, and others do.

@@ -1,7 +1,12 @@
-//! What no script says of commands: a name that no line has, a slot without a peer, and the number of want of memory.
+//! What no answer shows of commands: what is configured then, a name that no line has, a slot without a peer, and the numbers of
+//! refusals.
 
+use crate::given::prefix_of;
 use bgp_attr::Mode;
-use bgp_conf::{Action, Command, Condition, Conf, PeerConf, Refusal, Rule, SeenRoute};
+use bgp_conf::{
+    Action, Command, Condition, Conf, ConfiguredPeer, PeerConf, PolicyName, Refusal, Rule,
+    SeenRoute,
+};
 use net_prefix::{Asn, Prefix};
 use origin_valid::Validity;
 use std::alloc::Global;
@@ -31,7 +36,148 @@ fn a_policy_has_a_name(rt: HostRuntime) {
     let conf = new_conf(&rt, rt.alloc());
     let command = Command::AddPeer(63, PeerConf { import: "", ..PEER });
     assert!(rt; conf.check(&command, 0) == Err(Refusal::Range));
-    assert!(rt; Refusal::NoMemory.number() == 44);
+}
+
+const NUMBERS: [(Refusal, u8); 10] = [
+    (Refusal::UnknownName, 30),
+    (Refusal::TooMany, 31),
+    (Refusal::InUse, 32),
+    (Refusal::Range, 33),
+    (Refusal::BadSlot, 40),
+    (Refusal::ClockBack, 41),
+    (Refusal::NotExpected, 42),
+    (Refusal::SlotTaken, 43),
+    (Refusal::NoMemory, 44),
+    (Refusal::AddressTaken, 45),
+];
+
+#[test]
+fn refusals_have_their_numbers(rt: HostRuntime) {
+    for (refusal, number) in &NUMBERS {
+        assert!(rt; refusal.number() == *number);
+    }
+}
+
+// Whether nothing refuses the command; then the tables are those after it.
+fn obeys(conf: &mut Conf, command: &Command<'_>) -> bool {
+    conf.check(command, 0).is_ok() && conf.apply(command).is_ok()
+}
+
+// The peer as it is configured, of this AS.
+fn configured(asn: Asn) -> Option<ConfiguredPeer> {
+    let policy = PolicyName::new("all").ok()?;
+    Some(ConfiguredPeer {
+        asn,
+        address: 0xc000_020b,
+        local: 0xc000_0201,
+        mode: Mode::Passive,
+        hold: 180,
+        import: policy,
+        export: policy,
+    })
+}
+
+// Whether a peer of this AS is configured in slot 0 alone, and gone when it is removed.
+fn configures(conf: &mut Conf, asn: Asn) -> bool {
+    let added = obeys(conf, &Command::AddPeer(0, PeerConf { asn, ..PEER }));
+    let is_there = conf.peer(0) == configured(asn) && conf.peer(1).is_none();
+    let removed = obeys(conf, &Command::RemovePeer(0));
+    added && is_there && removed && conf.peer(0).is_none()
+}
+
+// Of another AS, and of the own.
+fn configures_each(conf: &mut Conf) -> bool {
+    conf.peer(0).is_none() && configures(conf, Asn(65001)) && configures(conf, Asn(65000))
+}
+
+#[test]
+fn a_peer_is_as_it_was_configured(rt: HostRuntime) {
+    let mut conf = new_conf(&rt, rt.alloc());
+    assert!(rt; conf.own() == Asn(65000) && configures_each(&mut conf));
+}
+
+// Whether just the network is one, and the other two prefixes are none.
+fn is_network_alone(conf: &Conf, network: Prefix, others: [Prefix; 2]) -> bool {
+    conf.is_network(network) && !conf.is_network(others[0]) && !conf.is_network(others[1])
+}
+
+// A second time changes nothing.
+fn comes_and_goes(conf: &mut Conf, network: Prefix, others: [Prefix; 2]) -> bool {
+    let is_first = !conf.is_network(network);
+    let comes = obeys(conf, &Command::Network(network));
+    let is_there = is_network_alone(conf, network, others);
+    let comes_again = obeys(conf, &Command::Network(network));
+    let stays = is_network_alone(conf, network, others);
+    let goes = obeys(conf, &Command::NoNetwork(network));
+    is_first && comes && is_there && comes_again && stays && goes && !conf.is_network(network)
+}
+
+#[test]
+fn a_network_comes_and_goes(rt: HostRuntime) {
+    let network = prefix_of(&rt, 0xc633_6400, 24);
+    let inner = prefix_of(&rt, 0xc633_6400, 25);
+    let outer = prefix_of(&rt, 0xc633_6400, 23);
+    let mut conf = new_conf(&rt, rt.alloc());
+    assert!(rt; comes_and_goes(&mut conf, network, [inner, outer]));
+}
+
+// Entries, each an address, a length and a cost; the later one of a prefix stands in the place of the earlier one.
+const ENTRIES: [(u32, u8, u32); 4] = [
+    (0x0a00_0000, 8, 5),
+    (0x0a01_0000, 16, 7),
+    (0x0a01_0000, 16, 9),
+    (0x0a01_0203, 32, 1),
+];
+
+// Whether the entries are taken.
+fn reaches(conf: &mut Conf) -> bool {
+    for (bits, len, cost) in &ENTRIES {
+        let is_taken = match Prefix::new(*bits, *len) {
+            Ok(prefix) => obeys(conf, &Command::Reach(prefix, *cost)),
+            Err(_) => false,
+        };
+        if !is_taken {
+            return false;
+        }
+    }
+    true
+}
+
+// Next hops, and their costs.
+const COSTS: [(u32, Option<u32>); 4] = [
+    (0x0a01_0203, Some(1)),
+    (0x0a01_0204, Some(9)),
+    (0x0a02_0204, Some(5)),
+    (0x0b00_0000, None),
+];
+
+// The same where there is no entry of 10.1.0.0/16, and then one of cost 6.
+const COSTS_WITHOUT: [(u32, Option<u32>); 2] = [(0x0a01_0204, Some(5)), (0x0a01_0203, Some(1))];
+
+const COSTS_AGAIN: [(u32, Option<u32>); 1] = [(0x0a01_0204, Some(6))];
+
+fn has_costs(conf: &Conf, costs: &[(u32, Option<u32>)]) -> bool {
+    for (next_hop, cost) in costs {
+        if conf.cost(*next_hop) != *cost {
+            return false;
+        }
+    }
+    true
+}
+
+// Of an entry that goes, and then comes again.
+fn tells_costs(conf: &mut Conf, longer: Prefix) -> bool {
+    let is_told = reaches(conf) && has_costs(conf, &COSTS);
+    let goes = obeys(conf, &Command::NoReach(longer)) && has_costs(conf, &COSTS_WITHOUT);
+    let comes = obeys(conf, &Command::Reach(longer, 6)) && has_costs(conf, &COSTS_AGAIN);
+    is_told && goes && comes
+}
+
+#[test]
+fn the_longest_entry_tells_the_cost(rt: HostRuntime) {
+    let longer = prefix_of(&rt, 0x0a01_0000, 16);
+    let mut conf = new_conf(&rt, rt.alloc());
+    assert!(rt; tells_costs(&mut conf, longer));
 }
 
 // What any route is.
@@ -65,42 +211,83 @@ const RULES: [Rule; 2] = [
     },
 ];
 
-// Whether nothing refuses the command; then the tables are those after it.
-fn obeys(conf: &mut Conf, command: &Command<'_>) -> bool {
-    conf.check(command, 0).is_ok() && conf.apply(command).is_ok()
-}
-
-// Adds the peer in slot 0, which is told routes by a policy of the rules.
-fn uses_a_policy(conf: &mut Conf) -> bool {
+// Adds the peer in slot 0, and uses a policy of the rules for what it is told, or for its own routes.
+fn uses_a_policy(conf: &mut Conf, command: &Command<'_>) -> bool {
     obeys(conf, &Command::AddPeer(0, PEER))
         && obeys(conf, &Command::SetPolicy("preferred", &RULES))
-        && obeys(conf, &Command::UseOut(0, "preferred"))
+        && obeys(conf, command)
 }
 
-// A route of slot 5, which is Valid.
-const ROUTE: SeenRoute<'static> = SeenRoute {
-    prefix: Prefix {
-        bits: 0x0a00_0000,
-        len: 8,
-    },
-    state: Validity::Valid,
-    origin: Some(Asn(65001)),
-    path: None,
-    from: Some(5),
+// What accepts a route, and sets nothing.
+const ACCEPT: Action = Action::Accept {
+    degree: None,
+    med: None,
+    prepend: None,
 };
 
-// What becomes of the route for slot 0, and for slot 1, which has no peer.
-fn rejects_for_no_peer(rt: &impl Abort, conf: &Conf) {
-    assert!(rt; conf.export(0, &ROUTE) == PREFER);
-    assert!(rt; conf.export(1, &ROUTE) == Action::Reject);
-    assert!(rt; conf.import(1, &ROUTE) == Action::Reject);
-    assert!(rt; conf.exports_by(0, "preferred") && !conf.exports_by(0, "all"));
-    assert!(rt; !conf.exports_by(1, "preferred"));
+// A route of slot 5, with this state of its origin.
+fn route_of(state: Validity) -> SeenRoute<'static> {
+    SeenRoute {
+        prefix: Prefix {
+            bits: 0x0a00_0000,
+            len: 8,
+        },
+        state,
+        origin: Some(Asn(65001)),
+        path: None,
+        from: Some(5),
+    }
+}
+
+// A slot, the state of a route, and what becomes of it as the slot's own and where the slot is to be told of it. Slot 1 has
+// no peer.
+type Row = (u8, Validity, Action, Action);
+
+#[rattlefmt::skip]
+const TOLD_BY_RULES: [Row; 3] = [
+    (0, Validity::Invalid, ACCEPT,         Action::Reject),
+    (0, Validity::Valid,   ACCEPT,         PREFER),
+    (1, Validity::Valid,   Action::Reject, Action::Reject),
+];
+
+#[rattlefmt::skip]
+const TAKEN_BY_RULES: [Row; 3] = [
+    (0, Validity::Invalid, Action::Reject, ACCEPT),
+    (0, Validity::Valid,   PREFER,         ACCEPT),
+    (1, Validity::Valid,   Action::Reject, Action::Reject),
+];
+
+fn becomes(conf: &Conf, rows: &[Row]) -> bool {
+    for (slot, state, import, export) in rows {
+        let route = route_of(*state);
+        if conf.import(*slot, &route) != *import || conf.export(*slot, &route) != *export {
+            return false;
+        }
+    }
+    true
+}
+
+// Whether what becomes of routes is so behind the command.
+fn uses(conf: &mut Conf, command: &Command<'_>, rows: &[Row]) -> bool {
+    uses_a_policy(conf, command) && becomes(conf, rows)
+}
+
+// Whether just slot 0 is told routes by the policy.
+fn exports_by_it(conf: &Conf) -> bool {
+    conf.exports_by(0, "preferred")
+        && !conf.exports_by(0, "all")
+        && !conf.exports_by(1, "preferred")
 }
 
 #[test]
-fn a_slot_without_a_peer_takes_and_tells_nothing(rt: HostRuntime) {
+fn a_peer_is_told_routes_by_another_policy(rt: HostRuntime) {
     let mut conf = new_conf(&rt, rt.alloc());
-    assert!(rt; uses_a_policy(&mut conf));
-    rejects_for_no_peer(&rt, &conf);
+    let command = Command::UseOut(0, "preferred");
+    assert!(rt; uses(&mut conf, &command, &TOLD_BY_RULES) && exports_by_it(&conf));
+}
+
+#[test]
+fn a_peer_takes_its_routes_by_another_policy(rt: HostRuntime) {
+    let mut conf = new_conf(&rt, rt.alloc());
+    assert!(rt; uses(&mut conf, &Command::UseIn(0, "preferred"), &TAKEN_BY_RULES));
 }

@@ -8,9 +8,13 @@ mod adj_rib_in;
 #[cfg(test)]
 mod adj_rib_out;
 #[cfg(test)]
+mod attributes;
+#[cfg(test)]
 mod books;
 #[cfg(test)]
 mod commands;
+#[cfg(test)]
+mod export;
 #[cfg(test)]
 mod given;
 #[cfg(test)]

@@ -1,11 +1,11 @@
-//! What no answer shows of messages: what is read where more octets follow, how many are needed, the order of prefixes, and what is told of a want of
-//! memory and of an attribute that is longer than any message.
+//! What no answer shows of messages: what is read where more octets follow, how many are needed, what an OPEN says, the order
+//! of prefixes, and what is told of errors and of an attribute that is longer than any message.
 
 use arrayvec::ArrayVec;
 use bgp_attr::{PeerKind, UpdateFault};
 use bgp_msg::{
-    Fault, MessageType, Notification, Prefixes, SessionError, Step, needed, read, read_update,
-    write_notification,
+    Expected, Fault, MessageType, Notification, Open, OpenFault, Prefixes, SessionError, Step,
+    needed, read, read_open, read_update, write_notification,
 };
 use net_prefix::{Asn, Prefix};
 use std::alloc::Global;
@@ -73,10 +73,95 @@ fn a_front_tells_how_many_octets_are_needed(rt: HostRuntime) {
     }
 }
 
+const OWN: Open = Open {
+    asn: Asn(65000),
+    hold_time: 180,
+    identifier: 0xC000_0201,
+};
+
+const PEER: Open = Open {
+    asn: Asn(65001),
+    hold_time: 90,
+    identifier: 0x0101_0101,
+};
+
+// What the peer expects of our OPEN, and what we expect of the peer's.
+const AT_PEER: Expected = Expected {
+    peer_asn: Asn(65000),
+    own_asn: Asn(65001),
+    own_identifier: 0x0101_0101,
+};
+
+const HERE: Expected = Expected {
+    peer_asn: Asn(65001),
+    own_asn: Asn(65000),
+    own_identifier: 0xC000_0201,
+};
+
+// Bodies of OPENs, and what they say, or their faults.
+#[rattlefmt::skip]
+const OPENS: [(&[u8], Expected, Result<Open, OpenFault>); 8] = [
+    (&[4, 0xFD, 0xE8, 0, 0xB4, 0xC0, 0, 2, 1, 8, 2, 6, 0x41, 4, 0, 0, 0xFD, 0xE8], AT_PEER, Ok(OWN)),
+    (&[4, 0xFD, 0xE8, 0, 0xB4, 0xC0, 0, 2, 1, 0], AT_PEER, Err(OpenFault::UnsupportedCapability(Asn(65001)))),
+    (&[4, 0xFD, 0xE9, 0, 0x5A, 1, 1, 1, 1, 8, 2, 6, 0x41, 4, 0, 0, 0xFD, 0xE9], HERE, Ok(PEER)),
+    (&[3, 0xFD, 0xE9, 0, 0x5A, 1, 1, 1, 1, 8, 2, 6, 0x41, 4, 0, 0, 0xFD, 0xE9], HERE, Err(OpenFault::UnsupportedVersion)),
+    (&[4, 0xFD, 0xE8, 0, 0x5A, 1, 1, 1, 1, 8, 2, 6, 0x41, 4, 0, 0, 0xFD, 0xE8], HERE, Err(OpenFault::BadPeerAs)),
+    (&[4, 0xFD, 0xE9, 0, 2,    1, 1, 1, 1, 8, 2, 6, 0x41, 4, 0, 0, 0xFD, 0xE9], HERE, Err(OpenFault::UnacceptableHoldTime)),
+    (&[4, 0xFD, 0xE9, 0, 0x5A, 1, 1, 1, 1, 8, 2, 6, 0x41, 5, 0, 0, 0xFD, 0xE9], HERE, Err(OpenFault::MalformedParameters)),
+    (&[4, 0xFD, 0xE9, 0, 0x5A, 1, 1, 1, 1, 8, 1, 6, 0x41, 4, 0, 0, 0xFD, 0xE9], HERE, Err(OpenFault::UnsupportedParameter)),
+];
+
+fn says(body: &[u8], expected: Expected, said: Result<Open, OpenFault>) -> bool {
+    read_open(body, expected) == said
+}
+
 #[test]
-fn want_of_memory_is_told_without_data(rt: HostRuntime) {
-    let told = Notification::of_error(SessionError::OutOfResources);
-    assert!(rt; told.code() == 6 && told.subcode() == 8 && told.data().is_empty());
+fn an_open_is_read_or_its_fault_is_told(rt: HostRuntime) {
+    for (body, expected, said) in &OPENS {
+        assert!(rt; says(body, *expected, *said));
+    }
+}
+
+// Faults of OPENs, with their subcodes and data.
+const OPEN_FAULTS: [(OpenFault, u8, &[u8]); 2] = [
+    (OpenFault::UnsupportedVersion, 1, &[0, 4]),
+    (
+        OpenFault::UnsupportedCapability(Asn(65001)),
+        7,
+        &[0x41, 4, 0, 0, 0xFD, 0xE9],
+    ),
+];
+
+fn is_told(fault: OpenFault, subcode: u8, data: &[u8]) -> bool {
+    fault.code() == 2 && fault.subcode() == subcode && fault.data().as_slice() == data
+}
+
+#[test]
+fn faults_of_opens_have_data(rt: HostRuntime) {
+    for (fault, subcode, data) in &OPEN_FAULTS {
+        assert!(rt; is_told(*fault, *subcode, data));
+    }
+}
+
+// Errors that no message holds, with their codes and subcodes.
+const ERRORS: [(SessionError, u8, u8); 5] = [
+    (SessionError::HoldTimerExpired, 4, 0),
+    (SessionError::UnexpectedMessage, 5, 0),
+    (SessionError::AdministrativeShutdown, 6, 2),
+    (SessionError::PeerDeconfigured, 6, 3),
+    (SessionError::OutOfResources, 6, 8),
+];
+
+fn is_told_as(error: SessionError, code: u8, subcode: u8) -> bool {
+    let told = Notification::of_error(error);
+    told.code() == code && told.subcode() == subcode && told.data().is_empty()
+}
+
+#[test]
+fn errors_are_told_without_data(rt: HostRuntime) {
+    for (error, code, subcode) in &ERRORS {
+        assert!(rt; is_told_as(*error, *code, *subcode));
+    }
 }
 
 // An attribute that is longer than any message.
@@ -118,7 +203,15 @@ fn come_in_order(alloc: Global) -> bool {
             are(update.withdrawn(), &[(0x0A00_0100, 24)])
                 && are(update.announced(), &[(0x0A00_0000, 24), (0x0A00_0000, 23)])
                 && update.attrs().next_hop() == Some(0xC000_020B)
+                && update.into_attrs().next_hop() == Some(0xC000_020B)
         }
+        Err(_) => false,
+    }
+}
+
+fn says_nothing(alloc: Global) -> bool {
+    match read_update(&alloc, &[0, 0, 0, 0], PeerKind::Internal) {
+        Ok(update) => are(update.withdrawn(), &[]) && are(update.announced(), &[]),
         Err(_) => false,
     }
 }
@@ -126,4 +219,5 @@ fn come_in_order(alloc: Global) -> bool {
 #[test]
 fn prefixes_come_in_the_order_of_their_octets(rt: HostRuntime) {
     assert!(rt; come_in_order(rt.alloc()));
+    assert!(rt; says_nothing(rt.alloc()));
 }

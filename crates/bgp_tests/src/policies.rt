@@ -1,10 +1,12 @@
-//! Policies: what no script says of them, and a refused growth.
+//! Policies: what no script says of them, that a call answers what its check says, and a refused growth.
 ghost use Rattle.std.specs.Prelude.{◌≤◌};
 
 use crate::given::prefix_of;
 use net_prefix::{Asn, Prefix};
 use origin_valid::Validity;
-use policy::{Action, Condition, Policies, PolicyName, PolicyRefusal, Rule, SeenRoute};
+use policy::{
+    Action, Condition, Policies, PolicyName, PolicyRefusal, PrefixRange, Rule, SeenRoute,
+};
 use refusing::Refusing;
 use std::alloc::{Allocator, Global};
 use std::process::Abort;
@@ -113,61 +115,264 @@ fn no_rule_rejects(rt: HostRuntime) {
     assert!(rt; reject(&mut policies, &route));
 }
 
-// Whether neither check nor call takes this name: not for no rules, nor to drop it.
-fn is_no_name(policies: &mut Policies, name: &str) -> bool {
-    let range = Some(PolicyRefusal::Range);
-    PolicyName::new(name).err() == range
-        && policies.check_set(name, &[]).err() == range
-        && policies.set(name, &[]).err() == range
-        && policies.check_drop(name, false).err() == range
-        && policies.drop_name(name, false).err() == range
+fn knows(policies: &Policies, name: &str) -> bool {
+    match PolicyName::new(name) {
+        Ok(name) => policies.knows(name),
+        Err(_) => false,
+    }
+}
+
+// Of two policies, one of which is then replaced.
+fn replaces_a_policy(policies: &mut Policies, route: &SeenRoute<'_>) -> bool {
+    sets(policies, "peer", &[ACCEPT_ALL])
+        && sets(policies, "other", &[ACCEPT_ALL, REJECT_ALL])
+        && makes(policies, "peer", route, ACCEPT)
+        && sets(policies, "peer", &[REJECT_ALL, ACCEPT_ALL])
+        && makes(policies, "peer", route, Action::Reject)
+        && makes(policies, "other", route, ACCEPT)
+}
+
+// And then it is dropped.
+fn drops_a_policy(policies: &mut Policies, route: &SeenRoute<'_>) -> bool {
+    policies.drop_name("peer", false).is_ok()
+        && !knows(policies, "peer")
+        && knows(policies, "other")
+        && makes(policies, "peer", route, Action::Reject)
+        && makes(policies, "other", route, ACCEPT)
+}
+
+// Whether just the policies that are built in are known.
+fn knows_the_built_in(policies: &Policies) -> bool {
+    knows(policies, "all") && knows(policies, "none") && !knows(policies, "peer")
+}
+
+fn replaces_and_drops(policies: &mut Policies, route: &SeenRoute<'_>) -> bool {
+    knows_the_built_in(policies)
+        && replaces_a_policy(policies, route)
+        && drops_a_policy(policies, route)
 }
 
 #[test]
-fn an_empty_word_and_two_words_are_no_names(rt: HostRuntime) {
+fn a_policy_is_known_until_it_is_dropped(rt: HostRuntime) {
+    let route = announced(prefix_of(&rt, 0x0a01_0000, 16));
     let mut policies = Policies::new(rt.alloc());
-    assert!(rt; is_no_name(&mut policies, "") && is_no_name(&mut policies, "a b"));
+    assert!(rt; replaces_and_drops(&mut policies, &route));
 }
 
-// One that isn't there, and is said to be in use.
-#[test]
-fn what_is_not_there_is_unknown(rt: HostRuntime) {
-    let mut policies = Policies::new(rt.alloc());
-    let unknown = Some(PolicyRefusal::UnknownName);
-    assert!(rt; policies.check_drop("other", true).err() == unknown);
-    assert!(rt; policies.drop_name("other", true).err() == unknown);
-}
-
-// Whether neither check nor call takes these rules.
-fn refuses(policies: &mut Policies, name: &str, rules: &[Rule], refusal: PolicyRefusal) -> bool {
-    policies.check_set(name, rules).err() == Some(refusal)
-        && policies.set(name, rules).err() == Some(refusal)
-}
-
-// One that puts the own AS in front too often.
-const OUT_OF_RANGE: Rule = Rule {
-    condition: ANY,
-    action: Action::Accept {
-        degree: None,
-        med: None,
-        prepend: Some(9),
-    },
-};
+const NUMBERS: [(PolicyRefusal, u8); 5] = [
+    (PolicyRefusal::UnknownName, 30),
+    (PolicyRefusal::TooMany, 31),
+    (PolicyRefusal::InUse, 32),
+    (PolicyRefusal::Range, 33),
+    (PolicyRefusal::NoMemory, 44),
+];
 
 #[test]
-fn a_change_is_refused_as_its_check_says(rt: HostRuntime) {
+fn refusals_have_their_numbers(rt: HostRuntime) {
+    for (refusal, number) in &NUMBERS {
+        assert!(rt; refusal.number() == *number);
+    }
+}
+
+// Whether check and call take these rules, or refuse them so.
+fn is_set(
+    policies: &mut Policies,
+    name: &str,
+    rules: &[Rule],
+    refusal: Option<PolicyRefusal>,
+) -> bool {
+    policies.check_set(name, rules).err() == refusal && policies.set(name, rules).err() == refusal
+}
+
+fn is_dropped(
+    policies: &mut Policies,
+    name: &str,
+    in_use: bool,
+    refusal: Option<PolicyRefusal>,
+) -> bool {
+    policies.check_drop(name, in_use).err() == refusal
+        && policies.drop_name(name, in_use).err() == refusal
+}
+
+// Names, and why they are none.
+#[rattlefmt::skip]
+const NAMES: [(&str, Option<PolicyRefusal>); 8] = [
+    ("a",                                 None),
+    ("0-z9",                              None),
+    ("abcdefghijklmnopqrstuvwxyz-01234",  None),
+    ("",                                  Some(PolicyRefusal::Range)),
+    ("abcdefghijklmnopqrstuvwxyz-012345", Some(PolicyRefusal::Range)),
+    ("Peer",                              Some(PolicyRefusal::Range)),
+    ("a_b",                               Some(PolicyRefusal::Range)),
+    ("a b",                               Some(PolicyRefusal::Range)),
+];
+
+// Whether no rules are set for the name and it is dropped then, or all of that is refused so.
+fn is_name(policies: &mut Policies, name: &str, refusal: Option<PolicyRefusal>) -> bool {
+    PolicyName::new(name).err() == refusal
+        && is_set(policies, name, &[], refusal)
+        && is_dropped(policies, name, false, refusal)
+}
+
+#[test]
+fn a_name_has_1_to_32_small_letters_digits_and_hyphens(rt: HostRuntime) {
     let mut policies = Policies::new(rt.alloc());
-    assert!(rt; refuses(&mut policies, "peer", &[OUT_OF_RANGE], PolicyRefusal::Range));
-    assert!(rt;
-        refuses(
-            &mut policies,
-            "peer",
-            &[REJECT_ALL; 257],
-            PolicyRefusal::TooMany
-        )
-    );
-    assert!(rt; refuses(&mut policies, "all", &[REJECT_ALL], PolicyRefusal::InUse));
-    assert!(rt; policies.drop_name("all", false).err() == Some(PolicyRefusal::InUse));
+    for (name, refusal) in &NAMES {
+        assert!(rt; is_name(&mut policies, name, *refusal));
+    }
+}
+
+// What a rule has numbers of: the lengths of prefixes within 10.0.0.0/8, a slot, and how often more the own AS is put in front.
+#[derive(Clone, Copy)]
+enum Numbers {
+    Lengths(u8, u8),
+    Slot(u8),
+    Prepend(u8),
+}
+
+// The rule of these numbers.
+fn rule_of(prefix: Prefix, numbers: Numbers) -> Rule {
+    let (mut condition, mut action) = (ANY, Action::Reject);
+    match numbers {
+        Numbers::Lengths(from, to) => condition.prefix = Some(PrefixRange { prefix, from, to }),
+        Numbers::Slot(slot) => condition.from = Some(slot),
+        Numbers::Prepend(times) => {
+            action = Action::Accept {
+                degree: None,
+                med: None,
+                prepend: Some(times),
+            }
+        }
+    }
+    Rule { condition, action }
+}
+
+// Numbers of rules, and why no policy has them.
+#[rattlefmt::skip]
+const RANGES: [(Numbers, Option<PolicyRefusal>); 11] = [
+    (Numbers::Lengths(0, 32),  None),
+    (Numbers::Lengths(32, 32), None),
+    (Numbers::Lengths(0, 33),  Some(PolicyRefusal::Range)),
+    (Numbers::Lengths(33, 33), Some(PolicyRefusal::Range)),
+    (Numbers::Lengths(17, 16), Some(PolicyRefusal::Range)),
+    (Numbers::Slot(63),        None),
+    (Numbers::Slot(64),        Some(PolicyRefusal::Range)),
+    (Numbers::Prepend(0),      None),
+    (Numbers::Prepend(8),      None),
+    (Numbers::Prepend(9),      Some(PolicyRefusal::Range)),
+    (Numbers::Prepend(255),    Some(PolicyRefusal::Range)),
+];
+
+// Whether a rule of these numbers is set behind another, or refused so.
+fn is_in_range(policies: &mut Policies, rule: Rule, refusal: Option<PolicyRefusal>) -> bool {
+    is_set(policies, "peer", &[REJECT_ALL, rule], refusal)
+}
+
+#[test]
+fn numbers_of_rules_have_ranges(rt: HostRuntime) {
+    let prefix = prefix_of(&rt, 0x0a00_0000, 8);
+    let mut policies = Policies::new(rt.alloc());
+    for (numbers, refusal) in &RANGES {
+        assert!(rt; is_in_range(&mut policies, rule_of(prefix, *numbers), *refusal));
+    }
+}
+
+const MANY_RULES: [Rule; 257] = [REJECT_ALL; 257];
+
+// A name, how many rules are set, and the first reason that they are not.
+#[rattlefmt::skip]
+const MANY: [(&str, usize, Option<PolicyRefusal>); 5] = [
+    ("peer", 257, Some(PolicyRefusal::TooMany)),
+    ("peer", 256, None),
+    ("All",  257, Some(PolicyRefusal::Range)),
+    ("all",  257, Some(PolicyRefusal::TooMany)),
+    ("all",  1,   Some(PolicyRefusal::InUse)),
+];
+
+#[test]
+fn a_policy_has_256_rules_at_most(rt: HostRuntime) {
+    let mut policies = Policies::new(rt.alloc());
+    for (name, count, refusal) in &MANY {
+        let rules = &MANY_RULES[..(*count).min(257)];
+        assert!(rt; is_set(&mut policies, name, rules, *refusal));
+    }
+}
+
+// What is done to a policy: no rules are set for its name, or it is dropped, in use or not.
+#[derive(Clone, Copy)]
+enum Done {
+    Set,
+    Drop,
+    DropInUse,
+}
+
+type Change = (&'static str, Done, Option<PolicyRefusal>);
+
+// Whether each in turn is done, or refused as its row says.
+fn are_done(policies: &mut Policies, rows: &[Change]) -> bool {
+    let none: [Rule; 0] = [];
+    for (name, done, refusal) in rows {
+        let is_as_said = match done {
+            Done::Set => is_set(policies, name, &none, *refusal),
+            Done::Drop => is_dropped(policies, name, false, *refusal),
+            Done::DropInUse => is_dropped(policies, name, true, *refusal),
+        };
+        if !is_as_said {
+            return false;
+        }
+    }
+    true
+}
+
+// One that isn't in use can be dropped, once.
+#[rattlefmt::skip]
+const STAYING: [Change; 10] = [
+    ("peer",  Done::Set,       None),
+    ("all",   Done::Set,       Some(PolicyRefusal::InUse)),
+    ("all",   Done::Drop,      Some(PolicyRefusal::InUse)),
+    ("none",  Done::Set,       Some(PolicyRefusal::InUse)),
+    ("none",  Done::Drop,      Some(PolicyRefusal::InUse)),
+    ("peer",  Done::DropInUse, Some(PolicyRefusal::InUse)),
+    ("other", Done::DropInUse, Some(PolicyRefusal::UnknownName)),
+    ("peer",  Done::Set,       None),
+    ("peer",  Done::Drop,      None),
+    ("peer",  Done::Drop,      Some(PolicyRefusal::UnknownName)),
+];
+
+#[test]
+fn what_is_built_in_or_used_stays(rt: HostRuntime) {
+    let mut policies = Policies::new(rt.alloc());
+    assert!(rt; are_done(&mut policies, &STAYING));
+}
+
+// Whether as many policies are set as there may be.
+fn sets_62(alloc: Global, policies: &mut Policies) -> bool {
+    for number in 0..62u32 {
+        let is_set = match format!(in alloc; "peer-{number}") {
+            Ok(name) => is_set(policies, name.as_str(), &[ACCEPT_ALL], None),
+            Err(_) => false,
+        };
+        if !is_set {
+            return false;
+        }
+    }
+    true
+}
+
+// There are 62 beside those that are built in, and one more is taken once one is dropped.
+#[rattlefmt::skip]
+const FULL: [Change; 5] = [
+    ("peer-62", Done::Set,  Some(PolicyRefusal::TooMany)),
+    ("peer-61", Done::Set,  None),
+    ("peer-7",  Done::Drop, None),
+    ("peer-62", Done::Set,  None),
+    ("peer-7",  Done::Set,  Some(PolicyRefusal::TooMany)),
+];
+
+#[test]
+fn there_are_64_policies_at_most(rt: HostRuntime) {
+    let mut policies = Policies::new(rt.alloc());
+    assert!(rt; sets_62(rt.alloc(), &mut policies) && are_done(&mut policies, &FULL));
 }
 
 // What the policy of this name makes of a local network.

@@ -1,8 +1,9 @@
-//! The rows of a session's table that no script reaches: want of memory, and inputs that a speaker refuses.
+//! What no answer shows of a session: the ends of its timers, and the rows of its table that no script reaches, which are want of
+//! memory and inputs that a speaker refuses.
 
 use bgp_attr::Mode;
-use bgp_fsm::{Input, Outgoing, Session, State, Timer};
-use bgp_msg::Open;
+use bgp_fsm::{Input, Outgoing, Session, State, Timer, Timers};
+use bgp_msg::{Notification, Open, SessionError};
 use net_prefix::{Asn, Transport};
 
 const OWN: Open = Open {
@@ -11,11 +12,23 @@ const OWN: Open = Open {
     identifier: 0xC000_0201,
 };
 
+const PEER: Open = Open {
+    asn: Asn(65001),
+    hold_time: 90,
+    identifier: 0x0101_0101,
+};
+
 // What comes to a session.
 #[derive(Clone, Copy, Debug)]
 enum Came {
+    Start,
+    Disable,
     Up,
     Fail,
+    Open,
+    Keepalive,
+    Update,
+    Fault,
     NoMemory,
 }
 
@@ -37,8 +50,14 @@ const ROWS: [Row; 8] = [
 
 fn input_of(came: Came) -> Input<'static> {
     match came {
+        Came::Start => Input::Start,
+        Came::Disable => Input::Disable,
         Came::Up => Input::Up,
         Came::Fail => Input::Fail,
+        Came::Open => Input::Open(PEER),
+        Came::Keepalive => Input::Keepalive,
+        Came::Update => Input::Update,
+        Came::Fault => Input::Fault(Notification::of_error(SessionError::UnexpectedMessage)),
         Came::NoMemory => Input::NoMemory,
     }
 }
@@ -74,17 +93,131 @@ fn each_row_is_as_the_table_says(rt: HostRuntime) {
     }
 }
 
-// Whether this input makes the session leave Established.
-fn leaves(session: &mut Session, came: Came) -> bool {
-    session.input(input_of(came), 0).left
+// What comes to a session in turn, whether it says something and leaves Established then, and the transport.
+type Step = (Came, bool, bool, Transport);
+
+#[rattlefmt::skip]
+const CLOSED: [Step; 4] = [
+    (Came::Fault, true,  true,  Transport::Closing),
+    (Came::Start, false, false, Transport::Closing),
+    (Came::Fail,  false, false, Transport::None),
+    (Came::Start, false, false, Transport::Listening),
+];
+
+const STARVED: [Step; 2] = [
+    (Came::NoMemory, true, true, Transport::Closing),
+    (Came::NoMemory, false, false, Transport::Closing),
+];
+
+// Whether each step of an established session is as its row says.
+fn are_steps(steps: &[Step]) -> bool {
+    let mut session = session_in(Mode::Passive, State::Established);
+    for (came, says, leaves, transport) in steps {
+        let effects = session.input(input_of(*came), 0);
+        if effects.message.is_some() != *says
+            || effects.left != *leaves
+            || session.transport() != *transport
+        {
+            return false;
+        }
+    }
+    true
+}
+
+#[test]
+fn a_closed_session_waits_for_the_loss_of_its_connection(rt: HostRuntime) {
+    assert!(rt; are_steps(&CLOSED));
 }
 
 #[test]
 fn want_of_memory_ends_established(rt: HostRuntime) {
-    let mut session = session_in(Mode::Passive, State::Established);
-    assert!(rt; leaves(&mut session, Came::NoMemory));
-    assert!(rt; !leaves(&mut session, Came::NoMemory));
-    assert!(rt; session.transport() == Transport::Closing);
+    assert!(rt; are_steps(&STARVED));
+}
+
+// The hold time that this side offers, what comes to a passive peer and when, the state and the timers then, and whether the
+// last of it made the session enter and leave Established.
+type Run = (u16, &'static [(Came, u64)], State, Timers, (bool, bool));
+
+const HOLDING: Timers = Timers {
+    hold: Some(190),
+    keepalive: Some(130),
+    ..Timers::STOPPED
+};
+
+const HOLDING_LONGER: Timers = Timers {
+    hold: Some(240),
+    ..HOLDING
+};
+
+const IDLE: Timers = Timers {
+    idle_hold: Some(130),
+    ..Timers::STOPPED
+};
+
+const OPENED: [(Came, u64); 3] = [(Came::Start, 100), (Came::Up, 100), (Came::Open, 100)];
+
+#[rattlefmt::skip]
+const UPDATED: [(Came, u64); 5] = [
+    (Came::Start, 100), (Came::Up, 100), (Came::Open, 100), (Came::Keepalive, 100), (Came::Update, 150),
+];
+
+#[rattlefmt::skip]
+const RUNS: [Run; 6] = [
+    // The hold timer is of the smaller hold time, and an UPDATE begins it again.
+    (180, &[(Came::Start, 100), (Came::Up, 100), (Came::Open, 100), (Came::Keepalive, 100)],
+        State::Established, HOLDING, (true, false)),
+    (180, &UPDATED,
+        State::Established, HOLDING_LONGER, (false, false)),
+    // A hold time of 0 runs no timer.
+    (0, &[(Came::Start, 0), (Came::Up, 0), (Came::Open, 0), (Came::Keepalive, 0)],
+        State::Established, Timers::STOPPED, (true, false)),
+    // An enabled peer begins again after a while.
+    (180, &[(Came::Start, 7), (Came::Up, 7), (Came::Open, 7), (Came::Keepalive, 7), (Came::Fail, 100)],
+        State::Idle, IDLE, (false, true)),
+    (180, &[(Came::Start, 7), (Came::Up, 7), (Came::Open, 7), (Came::Keepalive, 7), (Came::Fail, 100), (Came::Disable, 110)],
+        State::Idle, Timers::STOPPED, (false, false)),
+    (180, &[(Came::Start, 7), (Came::Up, 7), (Came::Open, 7), (Came::Keepalive, 7), (Came::Fail, 100), (Came::Disable, 110),
+        (Came::Start, 120)],
+        State::Active, Timers::STOPPED, (false, false)),
+];
+
+// The session behind what comes, and whether the last of it made the session enter and leave Established.
+fn ran(hold_time: u16, inputs: &[(Came, u64)]) -> (Session, (bool, bool)) {
+    let mut session = Session::new(Open { hold_time, ..OWN }, Mode::Passive);
+    let mut told = (false, false);
+    for (came, now) in inputs {
+        let effects = session.input(input_of(*came), *now);
+        told = (effects.entered, effects.left);
+    }
+    (session, told)
+}
+
+fn is_run(run: &Run) -> bool {
+    let (hold_time, inputs, state, timers, told) = *run;
+    let (session, last) = ran(hold_time, inputs);
+    session.state() == state && session.timers == timers && last == told
+}
+
+#[test]
+fn timers_run_as_long_as_they_are_to(rt: HostRuntime) {
+    assert!(rt; RUNS.iter().all(is_run));
+}
+
+// Whether the hold timer of a session behind these inputs ends at 240 and no sooner.
+fn holds_until_240(inputs: &[(Came, u64)]) -> bool {
+    let (session, _) = ran(180, inputs);
+    !session.has_ended(Timer::Hold, 239) && session.has_ended(Timer::Hold, 240)
+}
+
+// Whether a session behind these inputs has the identifier of its peer's OPEN.
+fn is_identified(inputs: &[(Came, u64)]) -> bool {
+    let (session, _) = ran(180, inputs);
+    session.identifier() == 0x0101_0101
+}
+
+#[test]
+fn a_session_holds_and_has_the_identifier_of_its_peer(rt: HostRuntime) {
+    assert!(rt; holds_until_240(&UPDATED) && is_identified(&OPENED));
 }
 
 // Whether the connect retry timer of a peer that is enabled at this moment has ended at the greatest one.

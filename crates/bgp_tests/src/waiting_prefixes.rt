@@ -1,7 +1,7 @@
 //! What waits of each prefix for each slot, on its happy path, and a refused growth.
 ghost use Rattle.std.specs.Prelude.{◌<◌, ◌≤◌};
 
-use crate::given::prefix_of;
+use crate::given::{is_filled_at_last, prefix_of};
 use net_prefix::Prefix;
 use refusing::Refusing;
 use rib_out::{Owed, Waiting};
@@ -206,27 +206,7 @@ fn refusals_in<A: Allocator + Clone>(rt: &impl Abort, mut waiting: Waiting<A>) -
     fill(rt, &mut waiting)
 }
 
-// Fills it from a heap that refuses the nth request. Answers whether it did.
-fn is_filled(rt: &impl Abort, alloc: Global, nth: u64) -> bool
-    requires { 1 ≤ nth }
-{
-    let heap = Refusing::new(alloc, nth);
-    let refused = refusals_in(rt, Waiting::new(&heap));
-    let left = heap.has_refused();
-    if !left {
-        assert_eq!(rt; refused, 0);
-    }
-    left
-}
-
 #[test]
 fn a_refused_growth_leaves_what_waits(rt: HostRuntime) {
-    let mut left = true;
-    for nth in 1..1_000u64 {
-        left = is_filled(&rt, rt.alloc(), nth);
-        if !left {
-            break;
-        }
-    }
-    assert!(rt; !left);
+    assert!(rt; is_filled_at_last(rt.alloc(), |heap| refusals_in(&rt, Waiting::new(heap))));
 }

@@ -1,0 +1,232 @@
+//! What no answer shows of attributes: what each call says of those that came, the numbers of types, and the data of a fault.
+//! The octets that come and go are in scripts.
+
+use bgp_attr::{
+    Aggregator, AsPath, AttributeType, Attrs, Class, Origin, PeerKind, SegmentKind, UpdateFault,
+    neighbor_as, origin_as, read_attrs,
+};
+use net_prefix::Asn;
+use std::alloc::Global;
+
+const PEER: PeerKind = PeerKind::External(Asn(65001));
+
+const OWN: Asn = Asn(65000);
+
+#[rattlefmt::skip]
+const RECEIVED: [u8; 20] = [
+    0x40, 1, 1, 0,
+    0x40, 2, 6, 2, 1, 0, 0, 0xFD, 0xE9,
+    0x40, 3, 4, 0xC0, 0, 2, 0x0B,
+];
+
+// Without NEXT_HOP.
+#[rattlefmt::skip]
+const WITHOUT_NEXT_HOP: [u8; 13] = [
+    0x40, 1, 1, 0,
+    0x40, 2, 6, 2, 1, 0, 0, 0xFD, 0xE9,
+];
+
+// AS_SEQUENCE 65001, AS_SET {65005, 65006}.
+#[rattlefmt::skip]
+const WITH_A_SET: [u8; 19] = [
+    0x40, 2, 16, 2, 1, 0, 0, 0xFD, 0xE9, 1, 2, 0, 0, 0xFD, 0xED, 0, 0, 0xFD, 0xEE,
+];
+
+// The same with each of the other types, and two that are not known, in a part of the order.
+#[rattlefmt::skip]
+const ALL: [u8; 64] = [
+    0x40, 1, 1, 0,
+    0x40, 2, 6, 2, 1, 0, 0, 0xFD, 0xE9,
+    0x40, 3, 4, 0xC0, 0, 2, 0x0B,
+    0xC0, 99, 2, 7, 8,
+    0x80, 4, 4, 0, 0, 0, 10,
+    0x40, 6, 0,
+    0xE0, 7, 8, 0, 0, 0xFD, 0xEA, 0xC0, 0, 2, 0x63,
+    0x40, 5, 4, 0, 0, 0, 200,
+    0xC0, 0, 1, 9,
+    0x80, 100, 1, 5,
+    0xC0, 17, 0,
+];
+
+// Whether ORIGIN and NEXT_HOP are those that came.
+fn has_first(attrs: &Attrs) -> bool {
+    attrs.origin() == Some(Origin::Igp) && attrs.next_hop() == Some(0xC000_020B)
+}
+
+// Whether the attributes are those that came, LOCAL_PREF aside.
+fn has_all(attrs: &Attrs) -> bool {
+    let aggregator = Aggregator {
+        asn: Asn(65002),
+        address: 0xC000_0263,
+        is_partial: true,
+    };
+    has_first(attrs)
+        && attrs.multi_exit_disc() == Some(10)
+        && attrs.atomic_aggregate()
+        && attrs.aggregator() == Some(aggregator)
+}
+
+// Whether codes 0 and 99 alone are kept.
+fn has_unknown(attrs: &Attrs) -> bool {
+    let Some(unknown) = attrs.unknown() else {
+        return false;
+    };
+    unknown.value(0) == Some([9].as_slice())
+        && unknown.value(99) == Some([7, 8].as_slice())
+        && unknown.value(100).is_none()
+        && unknown.value(17).is_none()
+}
+
+// Whether all of them are read from a peer of this kind, with this LOCAL_PREF.
+fn are_read(alloc: Global, kind: PeerKind, local_pref: Option<u32>) -> bool {
+    match read_attrs(&alloc, &ALL, kind) {
+        Ok(attrs) => has_all(&attrs) && has_unknown(&attrs) && attrs.local_pref() == local_pref,
+        Err(_) => false,
+    }
+}
+
+// LOCAL_PREF of an external peer is dropped.
+#[test]
+fn each_call_says_what_came(rt: HostRuntime) {
+    assert!(rt; are_read(rt.alloc(), PeerKind::Internal, Some(200)));
+    assert!(rt; are_read(rt.alloc(), PEER, None));
+}
+
+// Attributes, the kind of peer that they came from, and what is missing for one of the second kind.
+type Missing = (&'static [u8], PeerKind, PeerKind, Option<AttributeType>);
+
+#[rattlefmt::skip]
+const MISSING: [Missing; 6] = [
+    (&RECEIVED,         PEER,               PEER,               None),
+    (&RECEIVED,         PeerKind::Internal, PeerKind::Internal, Some(AttributeType::LocalPref)),
+    (&RECEIVED,         PeerKind::Internal, PEER,               None),
+    (&ALL,              PEER,               PEER,               None),
+    (&WITHOUT_NEXT_HOP, PEER,               PEER,               Some(AttributeType::NextHop)),
+    (&WITH_A_SET,       PEER,               PEER,               Some(AttributeType::Origin)),
+];
+
+fn is_missing(alloc: Global, row: &Missing) -> bool {
+    let (octets, from, kind, missing) = *row;
+    match read_attrs(&alloc, octets, from) {
+        Ok(attrs) => attrs.missing(kind) == missing,
+        Err(_) => false,
+    }
+}
+
+#[test]
+fn what_is_missing_is_told(rt: HostRuntime) {
+    for row in &MISSING {
+        assert!(rt; is_missing(rt.alloc(), row));
+    }
+}
+
+// Whether these attributes of a peer have this LOCAL_PREF, and a path of this length.
+fn have(
+    alloc: Global,
+    octets: &[u8],
+    kind: PeerKind,
+    local_pref: Option<u32>,
+    length: Option<u32>,
+) -> bool {
+    match read_attrs(&alloc, octets, kind) {
+        Ok(attrs) => {
+            attrs.local_pref() == local_pref && attrs.as_path().map(AsPath::length) == length
+        }
+        Err(_) => false,
+    }
+}
+
+// LOCAL_PREF of an external peer isn't checked. An internal path begins with any AS.
+#[test]
+fn some_is_not_checked(rt: HostRuntime) {
+    assert!(rt; have(rt.alloc(), &[0xC0, 5, 1, 0], PEER, None, None));
+    assert!(rt; have(rt.alloc(), &[0x40, 2, 0], PeerKind::Internal, None, Some(0)));
+    let other = [0x40, 2, 6, 2, 1, 0, 0, 0, 1];
+    assert!(rt; have(rt.alloc(), &other, PeerKind::Internal, None, Some(1)));
+}
+
+fn has_the_segments(path: &AsPath) -> bool {
+    let [first, second] = path.segments() else {
+        return false;
+    };
+    first.kind() == SegmentKind::Sequence
+        && second.kind() == SegmentKind::Set
+        && first.asns() == [Asn(65001)].as_slice()
+        && second.asns() == [Asn(65005), Asn(65006)].as_slice()
+}
+
+fn is_the_path_with_a_set(path: &AsPath) -> bool {
+    path.length() == 2
+        && path.contains(Asn(65006))
+        && !path.contains(OWN)
+        && origin_as(path, OWN).is_none()
+        && neighbor_as(path, OWN) == Asn(65001)
+}
+
+fn is_told_by_its_segments(alloc: Global) -> bool {
+    match read_attrs(&alloc, &WITH_A_SET, PEER) {
+        Ok(attrs) => {
+            attrs.as_path().is_some_and(has_the_segments)
+                && attrs.as_path().is_some_and(is_the_path_with_a_set)
+        }
+        Err(_) => false,
+    }
+}
+
+#[test]
+fn a_path_is_told_by_its_segments(rt: HostRuntime) {
+    assert!(rt; is_told_by_its_segments(rt.alloc()));
+}
+
+// Whether the fault is told as one of an UPDATE, with this subcode and this data.
+fn is_told(fault: &UpdateFault<'_>, subcode: u8, data: &[u8]) -> bool {
+    fault.code() == Some(3) && fault.subcode() == Some(subcode) && fault.data() == data
+}
+
+// Attributes, and the subcode and the octets of their first fault.
+const FAULTS: [(&[u8], u8, &[u8]); 2] = [
+    (
+        &[0x40, 3, 4, 0xC0, 0, 2, 0x0B, 0x40, 1, 1, 3],
+        6,
+        &[0x40, 1, 1, 3],
+    ),
+    (&[0x50, 99, 0, 1, 7], 2, &[0x50, 99, 0, 1, 7]),
+];
+
+fn is_faulty(alloc: Global, octets: &[u8], subcode: u8, data: &[u8]) -> bool {
+    match read_attrs(&alloc, octets, PEER) {
+        Ok(_) => false,
+        Err(fault) => is_told(&fault, subcode, data),
+    }
+}
+
+#[test]
+fn a_fault_tells_the_whole_attribute(rt: HostRuntime) {
+    for (octets, subcode, data) in &FAULTS {
+        assert!(rt; is_faulty(rt.alloc(), octets, *subcode, data));
+    }
+    assert!(rt;
+        is_told(
+            &UpdateFault::MissingWellKnown(AttributeType::NextHop),
+            3,
+            &[3]
+        )
+    );
+}
+
+fn is_next_hop_type(it: AttributeType) -> bool {
+    AttributeType::from_octet(3) == Some(it)
+        && it.octet() == 3
+        && it.class() == Class::WellKnown
+        && it.length() == Some(4)
+        && it.written_flags() == 0x40
+}
+
+#[test]
+fn types_have_their_codes(rt: HostRuntime) {
+    assert!(rt; is_next_hop_type(AttributeType::NextHop));
+    let local_pref = AttributeType::LocalPref;
+    assert!(rt; local_pref.is_taken(PeerKind::Internal) && !local_pref.is_taken(PEER));
+    let incomplete = Origin::Incomplete;
+    assert!(rt; Origin::from_octet(2) == Some(incomplete) && incomplete.octet() == 2);
+}
