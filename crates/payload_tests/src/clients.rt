@@ -1,11 +1,12 @@
-//! What changes by loads of a client and by their expiry, and each growth that a load needs refused in turn.
+//! What a client asks and where it stands, what changes by its loads and by their expiry, and each growth that a load needs
+//! refused in turn.
 ghost use Rattle.std.specs.Prelude.{◌≡◌};
 ghost use Rattle.rtr_codec.specs.ClientState.{in_force};
 
 use crate::sets::payload;
 use net_prefix::{Transport, Vrp};
 use refusing::Refusing;
-use rtr_client::{Acts, Client, Input};
+use rtr_client::{Acts, Base, Client, ClientState, Input};
 use rtr_codec::{Intervals, Pdu};
 use std::alloc::{AllocError, Allocator};
 use std::collections::BTreeSet;
@@ -100,13 +101,48 @@ fn changes<A: Allocator + Clone>(router: &Router<A>, gone: &[Vrp], come: &[Vrp])
     changed.withdrawn.iter().eq(gone) && changed.announced.iter().eq(come)
 }
 
+// Whether a client asks for all payloads once its connection is up.
+fn asks<A: Allocator + Clone>(router: &mut Router<A>) -> bool {
+    let is_opening = router.client.transport() == Transport::Opening;
+    let asked = router.step(Input::Up, 100).pdu == Some(Pdu::ResetQuery);
+    is_opening && asked && router.client.state() == ClientState::Asked
+}
+
+// Whether the one payload of a load is in force from its End of Data, and no sooner.
+fn loads<A: Allocator + Clone>(router: &mut Router<A>, one: Vrp) -> bool {
+    router.hear(Pdu::CacheResponse { session: 7 }, 100);
+    router.hear(Pdu::Announcement(one), 100);
+    let is_loading = router.client.state() == ClientState::Loading && router.has(&[]);
+    router.hear(end_of_data(3), 100);
+    is_loading && router.client.state() == ClientState::Synced && router.has(&[one])
+}
+
+// Whether a client that has this serial of session 7 asks what has changed since, when it is told that something has.
+fn asks_for_changes<A: Allocator + Clone>(router: &mut Router<A>, serial: u32) -> bool {
+    let session = 7;
+    router.client.base() == Some(Base { session, serial })
+        && router.hear(notify(), 200).pdu == Some(Pdu::SerialQuery { session, serial })
+}
+
+#[test]
+fn a_load_is_in_force_from_its_end_of_data(rt: HostRuntime) -> Result<(), Fail> {
+    let vrps = Three::new()?;
+    let mut router = Router::new(rt.alloc())?;
+    assert!(rt; asks(&mut router));
+    assert!(rt; loads(&mut router, vrps.one));
+    assert!(rt; asks_for_changes(&mut router, 3));
+    Ok(())
+}
+
 fn expires<A: Allocator + Clone>(rt: &impl Abort, router: &mut Router<A>, vrps: Three) {
     router.step(Input::Up, 100);
     assert!(rt; !load_all(router, vrps));
     router.step(Input::Fail, 200);
     assert!(rt; router.step(Input::Tick, 800).opened);
+    router.step(Input::Tick, 7_299);
+    assert!(rt; router.has(&[vrps.one, vrps.two]));
     router.step(Input::Tick, 7_300);
-    assert!(rt; router.has(&[]));
+    assert!(rt; router.has(&[]) && router.client.state() == ClientState::Opening);
     assert!(rt; changes(router, &[vrps.one, vrps.two], &[]));
 }
 

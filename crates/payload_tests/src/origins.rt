@@ -1,8 +1,8 @@
-//! The payloads by prefix: which prefixes a change of them concerns, and that they stay as they were where a growth is
-//! refused. The states of routes are in scripts.
-ghost use Rattle.std.specs.Prelude.{◌≡◌, OnOk, OnErr};
+//! The payloads by prefix: that they may be cleared and filled again, which prefixes a change of them concerns, and that they
+//! stay as they were where a growth is refused. The states of more routes are in scripts.
+ghost use Rattle.std.specs.Prelude.{◌≡◌, [], OnOk, OnErr};
 
-use crate::sets::payload;
+use crate::sets::{payload, requests_of};
 use net_prefix::{Asn, Prefix, Vrp};
 use origin_valid::{PayloadTrie, Validity, affected};
 use refusing::Refusing;
@@ -83,30 +83,67 @@ fn has_just<A: Allocator>(
     Ok(true)
 }
 
-// Fills the payloads and clears them. No path has AS 0 in it.
-fn is_cleared(
+// A route's prefix and origin, and its state by the payloads. No path has AS 0 in it.
+#[rattlefmt::skip]
+const ROUTES: [(u32, u8, u32, Validity); 4] = [
+    (0x0a00_0000, 16, 65001, Validity::Valid),
+    (0x0a00_0000, 16, 65003, Validity::Invalid),
+    (0x0a01_0000, 16, 65001, Validity::NotFound),
+    (0xc000_0200, 24, 0,     Validity::Invalid),
+];
+
+// Whether each route has its state, or by no payload is NotFound.
+fn has_states(trie: &PayloadTrie, is_filled: bool) -> bool {
+    for (bits, len, asn, state) in &ROUTES {
+        let Ok(prefix) = Prefix::new(*bits, *len) else {
+            return false;
+        };
+        let wanted = if is_filled {
+            *state
+        } else {
+            Validity::NotFound
+        };
+        if trie.state(&prefix, Some(Asn(*asn))) != wanted {
+            return false;
+        }
+    }
+    true
+}
+
+// Fills the payloads.
+fn is_filled(
+    trie: &mut PayloadTrie,
+    none: &BTreeSet<Vrp>,
+    all: &BTreeSet<Vrp>,
+) -> Result<bool, Fail>
+    requires { trie.old ≡ none.now.keys }
+{
+    follow(trie, none, all)?;
+    Ok(has_just(trie, all, &PAYLOADS)? && has_states(trie, true))
+}
+
+// Fills the payloads, clears them, and fills them again.
+fn is_filled_again(
     rt: &impl Abort,
     trie: &mut PayloadTrie,
     none: &BTreeSet<Vrp>,
     all: &BTreeSet<Vrp>,
 ) -> Result<(), Fail>
-    requires { trie.old ≡ none.now.keys }
+    requires { (trie.old ≡ none.now.keys) × (none.now.keys ≡ []) }
 {
-    let zero = Prefix::new(0xc000_0200, 24)?;
-    follow(trie, none, all)?;
-    assert!(rt; trie.state(&zero, Some(Asn(0))) == Validity::Invalid);
+    assert!(rt; is_filled(trie, none, all)?);
     trie.clear();
-    assert!(rt; has_just(trie, none, &PAYLOADS)?);
-    assert!(rt; trie.state(&zero, Some(Asn(0))) == Validity::NotFound);
+    assert!(rt; has_just(trie, none, &PAYLOADS)? && has_states(trie, false));
+    assert!(rt; is_filled(trie, none, all)?);
     Ok(())
 }
 
 #[test]
-fn an_origin_of_as_0_matches_nothing(rt: HostRuntime) -> Result<(), Fail> {
+fn payloads_that_were_cleared_are_filled_again(rt: HostRuntime) -> Result<(), Fail> {
     let all = set_of(rt.alloc(), &PAYLOADS)?;
     let none = BTreeSet::new(rt.alloc());
     let mut trie = PayloadTrie::new(rt.alloc());
-    is_cleared(&rt, &mut trie, &none, &all)
+    is_filled_again(&rt, &mut trie, &none, &all)
 }
 
 // Goes over what a change concerns.
@@ -161,25 +198,25 @@ fn refusals_in<A: Allocator + Clone>(
     Ok(first.saturating_add(second))
 }
 
+// Fills a trie from the heap and changes it.
+fn refusals_from(
+    rt: &impl Abort,
+    alloc: Global,
+    heap: &Refusing<Global>,
+    all: &BTreeSet<Vrp>,
+    later: &BTreeSet<Vrp>,
+) -> Result<u32, Fail> {
+    let none = BTreeSet::new(alloc);
+    refusals_in(rt, PayloadTrie::new(heap), &none, all, later)
+}
+
 #[test]
 fn a_refused_growth_leaves_the_payloads(rt: HostRuntime) -> Result<(), Fail> {
-    let none = BTreeSet::new(rt.alloc());
     let all = set_of(rt.alloc(), &PAYLOADS)?;
     let later = set_of(rt.alloc(), &LATER)?;
-    let mut refusals = 0u64;
-    let mut left = true;
-    for nth in 1..100u64 {
-        let heap = Refusing::new(rt.alloc(), nth);
-        let refused = refusals_in(&rt, PayloadTrie::new(&heap), &none, &all, &later)?;
-        left = heap.has_refused();
-        if !left {
-            assert_eq!(rt; refused, 0);
-            break;
-        }
-        assert_eq!(rt; refused, 1, "{nth}");
-        refusals = refusals.saturating_add(1);
-    }
-    assert!(rt; !left);
-    assert_eq!(rt; refusals, REQUESTS);
+    let requests = requests_of(&rt, rt.alloc(), |heap| {
+        refusals_from(&rt, rt.alloc(), heap, &all, &later)
+    })?;
+    assert!(rt; requests == REQUESTS);
     Ok(())
 }

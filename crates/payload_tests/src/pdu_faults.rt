@@ -1,5 +1,6 @@
-//! How many octets the headers of faulty PDUs need, and a Serial Notify of another version. Their faults are in scripts.
-use rtr_codec::{End, ErrorCode, Intervals, Pdu, Place, Step, needed, read};
+//! Faulty PDUs: with which octet each is judged and its fault, a Serial Notify of another version, and the numbers of errors and
+//! intervals.
+use rtr_codec::{End, ErrorCode, Intervals, Pdu, PduFault, Place, Step, needed, read};
 
 const AT_CACHE: Place = Place {
     end: End::Cache,
@@ -25,47 +26,136 @@ const AT_LOADED_CLIENT: Place = Place {
     has_response: true,
 };
 
-// Headers, and where they are read: each is faulty.
+const UNSUPPORTED_VERSION: PduFault = PduFault::Header(ErrorCode::UnsupportedVersion);
+
+const UNEXPECTED_VERSION: PduFault = PduFault::Header(ErrorCode::UnexpectedVersion);
+
+const UNSUPPORTED_TYPE: PduFault = PduFault::Header(ErrorCode::UnsupportedType);
+
+const CORRUPT_DATA: PduFault = PduFault::Header(ErrorCode::CorruptData);
+
 #[rattlefmt::skip]
-const HEADERS: [([u8; 8], Place); 20] = [
-    ([0, 10, 0, 0, 0, 0, 0, 16], AT_CACHE),
-    ([0, 10, 0, 0, 0, 0, 0, 16], AT_LOADED_CLIENT),
-    ([1, 10, 0, 0, 0, 0, 0, 15], AT_CACHE),
-    ([1, 10, 0, 0, 0, 0, 0, 15], AT_CLIENT),
-    ([1, 10, 0, 0, 0, 0, 0x10, 1],AT_CACHE_LATER),
-    ([1, 10, 0, 0, 0, 0, 0x10, 1],AT_LOADED_CLIENT),
-    ([0, 2, 0, 0, 0, 0, 0, 8],   AT_CACHE),
-    ([2, 2, 0, 0, 0, 0, 0, 8],   AT_CACHE_LATER),
-    ([0, 11, 0, 0, 0, 0, 0, 8],  AT_CLIENT),
-    ([0, 0, 0, 7, 0, 0, 0, 12],  AT_CACHE),
-    ([0, 0, 0, 7, 0, 0, 0, 12],  AT_LOADED_CLIENT),
-    ([0, 0, 0, 7, 0, 0, 0, 13],  AT_CLIENT),
-    ([1, 5, 0, 0, 0, 0, 0, 8],   AT_CACHE),
-    ([1, 11, 0, 0, 0, 0, 0, 8],  AT_LOADED_CLIENT),
-    ([1, 2, 0, 0, 0, 0, 0, 12],  AT_CACHE),
-    ([1, 4, 0, 0, 0, 0, 0, 21],  AT_CLIENT),
-    ([1, 7, 0, 7, 0, 0, 1, 24],  AT_CLIENT),
-    ([1, 9, 0, 0, 0, 0, 0, 31],  AT_LOADED_CLIENT),
-    ([1, 9, 0, 0, 0, 0, 0x10, 1],AT_CACHE),
-    ([1, 9, 0, 0, 0, 0, 0x10, 1],AT_LOADED_CLIENT),
+const HEADERS: [([u8; 8], Place, PduFault); 20] = [
+    // An Error Report of another version, or of a wrong length.
+    ([0, 10, 0, 0, 0, 0, 0, 16],      AT_CACHE,         PduFault::Unanswered),
+    ([0, 10, 0, 0, 0, 0, 0, 16],      AT_LOADED_CLIENT, PduFault::Unanswered),
+    ([1, 10, 0, 0, 0, 0, 0, 15],      AT_CACHE,         PduFault::Unanswered),
+    ([1, 10, 0, 0, 0, 0, 0, 15],      AT_CLIENT,        PduFault::Unanswered),
+    ([1, 10, 0, 0, 0, 0, 0x10, 1],    AT_CACHE_LATER,   PduFault::Unanswered),
+    ([1, 10, 0, 0, 0, 0, 0x10, 1],    AT_LOADED_CLIENT, PduFault::Unanswered),
+    // Another version.
+    ([0, 2, 0, 0, 0, 0, 0, 8],        AT_CACHE,         UNSUPPORTED_VERSION),
+    ([2, 2, 0, 0, 0, 0, 0, 8],        AT_CACHE_LATER,   UNEXPECTED_VERSION),
+    ([0, 11, 0, 0, 0, 0, 0, 8],       AT_CLIENT,        UNSUPPORTED_VERSION),
+    ([0, 0, 0, 7, 0, 0, 0, 12],       AT_CACHE,         UNSUPPORTED_VERSION),
+    ([0, 0, 0, 7, 0, 0, 0, 12],       AT_LOADED_CLIENT, UNEXPECTED_VERSION),
+    ([0, 0, 0, 7, 0, 0, 0, 13],       AT_CLIENT,        UNSUPPORTED_VERSION),
+    // A type that isn't there.
+    ([1, 5, 0, 0, 0, 0, 0, 8],        AT_CACHE,         UNSUPPORTED_TYPE),
+    ([1, 11, 0, 0, 0, 0, 0, 8],       AT_LOADED_CLIENT, UNSUPPORTED_TYPE),
+    // A length that its type doesn't have.
+    ([1, 2, 0, 0, 0, 0, 0, 12],       AT_CACHE,         CORRUPT_DATA),
+    ([1, 4, 0, 0, 0, 0, 0, 21],       AT_CLIENT,        CORRUPT_DATA),
+    ([1, 7, 0, 7, 0, 0, 1, 24],       AT_CLIENT,        CORRUPT_DATA),
+    ([1, 9, 0, 0, 0, 0, 0, 31],       AT_LOADED_CLIENT, CORRUPT_DATA),
+    ([1, 9, 0, 0, 0, 0, 0x10, 1],     AT_CACHE,         CORRUPT_DATA),
+    ([1, 9, 0, 0, 0, 0, 0x10, 1],     AT_LOADED_CLIENT, CORRUPT_DATA),
 ];
 
-// Whether one more octet is waited for behind seven, and none behind these eight.
-fn is_waited_for(header: &[u8; 8], place: Place) -> bool {
-    needed(&header[..7], place) == 1 && needed(header, place) == 0
+#[rattlefmt::skip]
+const PAYLOADS: [[u8; 20]; 5] = [
+    // A prefix length and a maximum length over 32.
+    [1, 4, 0, 0, 0, 0, 0, 20, 1, 33, 33, 0, 10, 0, 0, 0, 0, 0, 0xFD, 0xEA],
+    [1, 4, 0, 0, 0, 0, 0, 20, 1, 24, 33, 0, 10, 0, 0, 0, 0, 0, 0xFD, 0xEA],
+    // Bits behind the length.
+    [1, 4, 0, 0, 0, 0, 0, 20, 1, 16, 24, 0, 10, 0, 0, 1, 0, 0, 0xFD, 0xEA],
+    [1, 4, 0, 0, 0, 0, 0, 20, 0, 0, 0, 0, 0x80, 0, 0, 0, 0, 0, 0xFD, 0xEA],
+    // A maximum length below the prefix length.
+    [1, 4, 0, 0, 0, 0, 0, 20, 0, 24, 23, 0, 10, 0, 1, 0, 0, 0, 0xFD, 0xEA],
+];
+
+// Whether octets have this fault with the last of them, which is waited for, and none before it.
+fn is_judged_at_its_end(octets: &[u8], place: Place, fault: PduFault) -> bool {
+    let Some((_, before)) = octets.split_last() else {
+        return false;
+    };
+    read(octets, place) == Step::Faulty(fault, octets)
+        && read(before, place) == Step::Need
+        && needed(before, place) == 1
+        && needed(octets, place) == 0
 }
 
 #[test]
-fn a_header_is_waited_for_and_no_more(rt: HostRuntime) {
-    for (octets, place) in &HEADERS {
-        assert!(rt; is_waited_for(octets, *place), "{octets:?}");
+fn headers_are_judged_with_their_eighth_octet(rt: HostRuntime) {
+    for (octets, place, fault) in &HEADERS {
+        assert!(rt; is_judged_at_its_end(octets, *place, *fault), "{octets:?}");
     }
 }
 
 #[test]
-fn usual_values_are_those_of_the_rfc(rt: HostRuntime) {
+fn payloads_are_judged_with_their_last_octet(rt: HostRuntime) {
+    for octets in &PAYLOADS {
+        assert!(rt;
+            is_judged_at_its_end(octets, AT_CACHE, PduFault::Payload),
+            "{octets:?}"
+        );
+        assert!(rt;
+            is_judged_at_its_end(octets, AT_LOADED_CLIENT, PduFault::Payload),
+            "{octets:?}"
+        );
+    }
+}
+
+#[rattlefmt::skip]
+const INTERVALS: [(u32, u32, u32, bool); 11] = [
+    (3600,   600,   7200,    true),
+    (1,      1,     600,     true),
+    (86_400, 7_200, 172_800, true),
+    (0,      600,   7200,    false),
+    (86_401, 600,   172_800, false),
+    (3600,   0,     7200,    false),
+    (3600,   7_201, 172_800, false),
+    (1,      1,     599,     false),
+    (3600,   600,   172_801, false),
+    (7200,   600,   7200,    false),
+    (600,    700,   700,     false),
+];
+
+fn are_lawful(refresh: u32, retry: u32, expire: u32) -> bool {
+    let intervals = Intervals {
+        refresh,
+        retry,
+        expire,
+    };
+    intervals.are_lawful()
+}
+
+#[test]
+fn intervals_are_lawful_within_their_bounds(rt: HostRuntime) {
+    for (refresh, retry, expire, lawful) in &INTERVALS {
+        assert!(rt; are_lawful(*refresh, *retry, *expire) == *lawful);
+    }
     assert!(rt; Intervals::default() == Intervals::USUAL && Intervals::USUAL.are_lawful());
-    assert!(rt; ErrorCode::InternalError.number() == 1);
+}
+
+// In the order of their numbers, from 0 on.
+const CODES: [ErrorCode; 9] = [
+    ErrorCode::CorruptData,
+    ErrorCode::InternalError,
+    ErrorCode::NoDataAvailable,
+    ErrorCode::InvalidRequest,
+    ErrorCode::UnsupportedVersion,
+    ErrorCode::UnsupportedType,
+    ErrorCode::WithdrawalOfUnknownRecord,
+    ErrorCode::DuplicateAnnouncement,
+    ErrorCode::UnexpectedVersion,
+];
+
+#[test]
+fn codes_are_those_of_the_rfc(rt: HostRuntime) {
+    for number in 0..9u16 {
+        assert!(rt; CODES[usize::from(number)].number() == number);
+    }
 }
 
 #[test]

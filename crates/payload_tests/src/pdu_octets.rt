@@ -1,9 +1,10 @@
-//! How a receiver finds the PDUs of a stream, and PDUs that are never sent. More PDUs in octets are in scripts.
+//! PDUs in octets, and how a receiver finds those of a stream.
 ghost use Rattle.std.specs.Prelude.{◌≤◌};
 ghost use Rattle.rtr_codec.specs.PduSpelling.{content_of, length_of};
 
 use arrayvec::ArrayVec;
-use rtr_codec::{End, Pdu, Place, Receiver, Step, needed, read, write};
+use net_prefix::{Asn, Prefix, Vrp};
+use rtr_codec::{End, Intervals, Pdu, Place, Receiver, Step, needed, read, write};
 
 // 10.0.2.0/24-24 of AS 65002 leaves, 10.0.18.0/24-24 comes; then the set has serial 18.
 const RESPONSE: [u8; 72] = [
@@ -49,23 +50,39 @@ fn is_read(octets: &[u8], pdu: Pdu<'_>) -> bool {
     is_whole(octets) && read(octets, LATER) == Step::Whole(pdu, octets.len())
 }
 
+const SESSION: u16 = 7;
+
+// PDUs without a payload, in octets.
 #[rattlefmt::skip]
-const PDUS: [&[u8]; 8] = [
-    &[1, 0, 0, 7, 0, 0, 0, 12, 0, 0, 0, 9],
-    &[1, 1, 0, 7, 0, 0, 0, 12, 0, 0, 0, 9],
-    &[1, 2, 0, 0, 0, 0, 0, 8],
-    &[1, 8, 0, 0, 0, 0, 0, 8],
-    &[1, 3, 0, 7, 0, 0, 0, 8],
-    &[1, 4, 0, 0, 0, 0, 0, 20, 0, 24, 24, 0, 10, 0, 2, 0, 0, 0, 0xFD, 0xEA],
-    &[1, 4, 0, 0, 0, 0, 0, 20, 1, 24, 24, 0, 10, 0, 18, 0, 0, 0, 0xFD, 0xEA],
-    &[1, 7, 0, 7, 0, 0, 0, 24, 0, 0, 0, 18, 0, 0, 0x0E, 0x10, 0, 0, 2, 0x58, 0, 0, 0x1C, 0x20],
+const PDUS: [(&[u8], Pdu<'static>); 6] = [
+    (&[1, 0, 0, 7, 0, 0, 0, 12, 0, 0, 0, 9], Pdu::SerialNotify { session: SESSION, serial: 9 }),
+    (&[1, 1, 0, 7, 0, 0, 0, 12, 0, 0, 0, 9], Pdu::SerialQuery { session: SESSION, serial: 9 }),
+    (&[1, 2, 0, 0, 0, 0, 0, 8],              Pdu::ResetQuery),
+    (&[1, 8, 0, 0, 0, 0, 0, 8],              Pdu::CacheReset),
+    (&[1, 3, 0, 7, 0, 0, 0, 8],              Pdu::CacheResponse { session: SESSION }),
+    (&[1, 7, 0, 7, 0, 0, 0, 24, 0, 0, 0, 18, 0, 0, 0x0E, 0x10, 0, 0, 2, 0x58, 0, 0, 0x1C, 0x20],
+        Pdu::EndOfData { session: SESSION, serial: 18, intervals: Intervals::USUAL }),
 ];
+
+// Whether the octets are read as a payload of AS 65002 that comes or leaves, of the prefix of this address and 24 bits.
+fn is_payload(octets: &[u8], bits: u32, comes: bool) -> bool {
+    let Ok(prefix) = Prefix::new(bits, 24) else {
+        return false;
+    };
+    match Vrp::new(prefix, 24, Asn(65002)) {
+        Ok(it) if comes => is_read(octets, Pdu::Announcement(it)),
+        Ok(it) => is_read(octets, Pdu::Withdrawal(it)),
+        Err(_) => false,
+    }
+}
 
 #[test]
 fn a_pdu_is_read_whatever_follows(rt: HostRuntime) {
-    for octets in &PDUS {
-        assert!(rt; is_whole(octets), "{octets:?}");
+    for (octets, pdu) in &PDUS {
+        assert!(rt; is_read(octets, *pdu), "{octets:?}");
     }
+    assert!(rt; is_payload(&RESPONSE[8..28], 0x0A00_0200, false));
+    assert!(rt; is_payload(&RESPONSE[28..48], 0x0A00_1200, true));
 }
 
 const REPORT: [u8; 24] = [

@@ -1,6 +1,35 @@
-//! Why texts, octets and numbers are no prefix, and what a prefix covers. Its forms, and payloads, are in scripts.
+//! Prefixes in their forms, why texts, octets and numbers are none, what a prefix covers, and the order of prefixes and
+//! payloads. How they are printed is in scripts.
 
-use net_prefix::{Prefix, PrefixFault, read_prefix};
+use net_prefix::{Asn, Prefix, PrefixFault, Vrp, read_prefix};
+
+// A text, the address and length that it names, and the octets of these.
+#[rattlefmt::skip]
+const PREFIXES: [(&str, u32, u8, &[u8]); 5] = [
+    ("0.0.0.0/0",          0,           0,  &[0]),
+    ("10.0.0.0/9",         0x0A00_0000, 9,  &[9, 10, 0]),
+    ("10.0.1.0/24",        0x0A00_0100, 24, &[24, 10, 0, 1]),
+    ("192.0.2.128/25",     0xC000_0280, 25, &[25, 192, 0, 2, 128]),
+    ("255.255.255.255/32", 0xFFFF_FFFF, 32, &[32, 255, 255, 255, 255]),
+];
+
+fn is_named(text: &str, bits: u32, len: u8, octets: &[u8]) -> bool {
+    match Prefix::new(bits, len) {
+        Ok(prefix) => {
+            Prefix::parse(text) == Ok(prefix)
+                && prefix.to_octets().as_slice() == octets
+                && read_prefix(octets) == Ok((prefix, octets.len()))
+        }
+        Err(_) => false,
+    }
+}
+
+#[test]
+fn each_form_names_the_prefix(rt: HostRuntime) {
+    for (text, bits, len, octets) in &PREFIXES {
+        assert!(rt; is_named(text, *bits, *len, octets), "{text}");
+    }
+}
 
 #[rattlefmt::skip]
 const FAULTY_TEXTS: [(&str, PrefixFault); 9] = [
@@ -49,9 +78,18 @@ fn is_masked(bits: u32, len: u8, masked: u32) -> bool {
         && Prefix::new(bits, len) == Err(PrefixFault::HostBits)
 }
 
+// Whether the octets are read as the prefix of this address and this length, and three of them are taken.
+fn is_read(octets: &[u8], bits: u32, len: u8) -> bool {
+    match Prefix::new(bits, len) {
+        Ok(prefix) => read_prefix(octets) == Ok((prefix, 3)),
+        Err(_) => false,
+    }
+}
+
 #[test]
 fn bits_behind_the_length_are_masked(rt: HostRuntime) {
     assert!(rt; is_masked(0x0A7F_FFFF, 10, 0x0A40_0000));
+    assert!(rt; is_read(&[10, 10, 127, 1], 0x0A40_0000, 10));
 }
 
 // Whether the one text's prefix covers the other's, where both are prefixes.
@@ -79,6 +117,78 @@ fn a_prefix_covers_its_own_addresses(rt: HostRuntime) {
     }
     assert!(rt; covers_address("10.0.0.0/16", 0x0A00_FFFF) == Some(true));
     assert!(rt; covers_address("10.0.0.0/16", 0x0A01_0000) == Some(false));
+}
+
+// Payloads in their order: a prefix, a maximum length and an AS.
+#[rattlefmt::skip]
+const RISING: [(&str, u8, u32); 6] = [
+    ("0.0.0.0/0",   32, 0),
+    ("10.0.0.0/8",  32, 65009),
+    ("10.0.0.0/16", 16, 65009),
+    ("10.0.0.0/16", 24, 65002),
+    ("10.0.0.0/16", 24, 65003),
+    ("10.0.1.0/24", 24, 4294967295),
+];
+
+// The payload, which has what it is made of.
+fn payload_of(row: &(&str, u8, u32)) -> Option<Vrp> {
+    let (text, max_len, asn) = *row;
+    let prefix = Prefix::parse(text).ok()?;
+    let payload = Vrp::new(prefix, max_len, Asn(asn)).ok()?;
+    let has_all = payload.prefix == prefix && payload.max_len == max_len && payload.asn == Asn(asn);
+    has_all.then_some(payload)
+}
+
+// Whether the first payload comes before the second, and its prefix before or with the second's.
+fn comes_before(first: Option<Vrp>, second: Option<Vrp>) -> bool {
+    match (first, second) {
+        (Some(first), Some(second)) => {
+            first < second
+                && !(second < first)
+                && (first.prefix == second.prefix || first.prefix < second.prefix)
+                && !(second.prefix < first.prefix)
+        }
+        _ => false,
+    }
+}
+
+#[test]
+fn prefixes_and_payloads_are_ordered(rt: HostRuntime) {
+    for at in 1..6usize {
+        let (first, second) = (payload_of(&RISING[at - 1]), payload_of(&RISING[at]));
+        assert!(rt; comes_before(first, second));
+    }
+}
+
+// Maximum lengths behind 10.0.0.0/16.
+const MAXIMUM_LENGTHS: [(u8, bool); 7] = [
+    (16, true),
+    (24, true),
+    (32, true),
+    (0, false),
+    (15, false),
+    (33, false),
+    (255, false),
+];
+
+// Whether this is a maximum length of the prefix, or why it is none.
+fn is_maximum(text: &str, max_len: u8) -> Result<bool, PrefixFault> {
+    let payload = Vrp::new(Prefix::parse(text)?, max_len, Asn(65002))?;
+    Ok(payload.max_len == max_len)
+}
+
+#[test]
+fn a_maximum_length_lies_between_the_prefix_length_and_32(rt: HostRuntime) {
+    for (max_len, is_one) in &MAXIMUM_LENGTHS {
+        let told = is_maximum("10.0.0.0/16", *max_len);
+        assert!(rt;
+            told == if *is_one {
+                Ok(true)
+            } else {
+                Err(PrefixFault::MaxRange)
+            }
+        );
+    }
 }
 
 #[test]

@@ -1,6 +1,7 @@
 //! A trie: what its calls answer, which of them takes memory, and that it stays as it was where a growth is refused.
 ghost use Rattle.std.specs.Iterator.{IsFinite};
 
+use crate::sets::requests_of;
 use net_prefix::Prefix;
 use prefix_trie::{Marked, Trie};
 use refusing::Refusing;
@@ -218,21 +219,8 @@ fn refusals_in<A: Allocator + Clone>(
 
 #[test]
 fn a_refused_growth_leaves_the_trie(rt: HostRuntime) -> Result<(), Fail> {
-    let mut refusals = 0u64;
-    let mut left = true;
-    for nth in 1..100u64 {
-        let heap = Refusing::new(rt.alloc(), nth);
-        let refused = refusals_in(&rt, Trie::new(&heap))?;
-        left = heap.has_refused();
-        if !left {
-            assert_eq!(rt; refused, 0);
-            break;
-        }
-        assert_eq!(rt; refused, 1, "{nth}");
-        refusals = refusals.saturating_add(1);
-    }
-    assert!(rt; !left);
-    assert_eq!(rt; refusals, REQUESTS);
+    let requests = requests_of(&rt, rt.alloc(), |heap| refusals_in(&rt, Trie::new(heap)))?;
+    assert!(rt; requests == REQUESTS);
     Ok(())
 }
 
