@@ -1,7 +1,8 @@
-//! What no answer shows of a session with a cache: how many octets it takes at a time, and what changed by each call. The
-//! PDUs are laid out as in RFC 8210 section 5.
+//! What no answer shows of a session with a cache: where it stands, how many octets it takes and hands out at a time, and what
+//! changed by each call. The PDUs are laid out as in RFC 8210 section 5.
 use crate::router::Router;
 use net_prefix::{Asn, Prefix, Transport, Vrp};
+use rtr_client::ClientState;
 use rtr_session::Hearing;
 use std::alloc::Allocator;
 use std::test::Fail;
@@ -31,6 +32,120 @@ fn first() -> Result<Vrp, Fail> {
 
 fn second() -> Result<Vrp, Fail> {
     Ok(Vrp::new(Prefix::new(0x0a02_0000, 16)?, 24, Asn(65_001))?)
+}
+
+// No PDU has the type 5.
+const UNKNOWN: [u8; 8] = [1, 5, 0, 0, 0, 0, 0, 8];
+
+// What comes to a session.
+#[derive(Clone, Copy)]
+enum Came {
+    Nothing,
+    Up,
+    Octets(&'static [u8]),
+    Tick,
+    Fail,
+}
+
+fn take<A: Allocator + Clone>(router: &mut Router<A>, came: Came, now: u64) -> bool {
+    match came {
+        Came::Nothing => false,
+        Came::Up => {
+            router.up(now);
+            false
+        }
+        Came::Octets(octets) => router.hear(octets, now),
+        Came::Tick => router.tick(now),
+        Came::Fail => {
+            router.fail(now);
+            false
+        }
+    }
+}
+
+// What comes and when, whether all octets are taken or a connection is to be opened, and where the session stands then.
+type Row = (Came, u64, bool, Transport, ClientState);
+
+// The front of a load, and its rest.
+const FRONT: [u8; 51] = [
+    1, 3, 0, 7, 0, 0, 0, 8, 1, 4, 0, 0, 0, 0, 0, 20, 1, 24, 24, 0, 10, 0, 1, 0, 0, 0, 0xfd, 0xea,
+    1, 7, 0, 7, 0, 0, 0, 24, 0, 0, 0, 1, 0, 0, 0x0e, 0x10, 0, 0, 0x02, 0x58, 0, 0, 0x1c,
+];
+
+#[rattlefmt::skip]
+const EXPIRING: [Row; 7] = [
+    (Came::Nothing,             0,     false, Transport::Opening, ClientState::Opening),
+    (Came::Up,                  100,   false, Transport::Open,    ClientState::Asked),
+    (Came::Octets(&FRONT),      100,   true,  Transport::Open,    ClientState::Loading),
+    (Came::Octets(&[0x20]),     100,   true,  Transport::Open,    ClientState::Synced),
+    (Came::Tick,                3_699, false, Transport::Open,    ClientState::Synced),
+    (Came::Tick,                7_299, false, Transport::Open,    ClientState::Asked),
+    (Came::Tick,                7_300, false, Transport::Closing, ClientState::Off),
+];
+
+#[rattlefmt::skip]
+const FAULTY: [Row; 3] = [
+    (Came::Up,               100,   false, Transport::Open,    ClientState::Asked),
+    (Came::Octets(&LOAD),    100,   true,  Transport::Open,    ClientState::Synced),
+    (Came::Octets(&UNKNOWN), 200,   true,  Transport::Closing, ClientState::Off),
+];
+
+#[rattlefmt::skip]
+const FAILING: [Row; 8] = [
+    (Came::Up,               100,   false, Transport::Open,    ClientState::Asked),
+    (Came::Octets(&LOAD),    100,   true,  Transport::Open,    ClientState::Synced),
+    (Came::Tick,             3_700, false, Transport::Open,    ClientState::Asked),
+    (Came::Fail,             3_800, false, Transport::None,    ClientState::Off),
+    (Came::Tick,             4_399, false, Transport::None,    ClientState::Off),
+    (Came::Tick,             4_400, true,  Transport::Opening, ClientState::Opening),
+    (Came::Up,               4_400, false, Transport::Open,    ClientState::Asked),
+    (Came::Octets(&CHANGE),  4_400, true,  Transport::Open,    ClientState::Synced),
+];
+
+// Whether the session stands at each step where its row says.
+fn stands<A: Allocator + Clone>(router: &mut Router<A>, rows: &[Row]) -> bool {
+    for (came, now, told, transport, state) in rows {
+        if take(router, *came, *now) != *told
+            || router.session.transport() != *transport
+            || router.session.state() != *state
+        {
+            return false;
+        }
+    }
+    true
+}
+
+#[test]
+fn a_session_ends_with_its_payloads_or_with_a_fault(rt: HostRuntime) -> Result<(), Fail> {
+    let mut expiring = Router::new(rt.alloc())?;
+    assert!(rt; stands(&mut expiring, &EXPIRING));
+    let mut faulty = Router::new(rt.alloc())?;
+    assert!(rt; stands(&mut faulty, &FAULTY));
+    Ok(())
+}
+
+#[test]
+fn a_connection_that_fails_is_opened_again(rt: HostRuntime) -> Result<(), Fail> {
+    let mut router = Router::new(rt.alloc())?;
+    assert!(rt; stands(&mut router, &FAILING));
+    assert!(rt; router.has(&[second()?]));
+    Ok(())
+}
+
+// Whether as many octets as fit are handed out, and the rest stays for the next time.
+fn hands_out<A: Allocator + Clone>(router: &mut Router<A>, octets: [u8; 5], count: usize) -> bool {
+    let mut buf = [0xff; 5];
+    router.session.take(&mut buf) == count && buf == octets
+}
+
+#[test]
+fn octets_are_handed_out_as_many_as_fit(rt: HostRuntime) -> Result<(), Fail> {
+    let mut router = Router::new(rt.alloc())?;
+    router.up(100);
+    assert!(rt; hands_out(&mut router, [1, 2, 0, 0, 0], 5));
+    assert!(rt; hands_out(&mut router, [0, 0, 8, 0xff, 0xff], 3));
+    assert!(rt; hands_out(&mut router, [0xff; 5], 0));
+    Ok(())
 }
 
 // The first octets of a PDU tell how long it is.
