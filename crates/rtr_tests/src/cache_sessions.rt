@@ -4,7 +4,7 @@ use crate::router::Router;
 use net_prefix::{Asn, Prefix, Transport, Vrp};
 use rtr_client::ClientState;
 use rtr_session::Hearing;
-use std::alloc::Allocator;
+use std::alloc::{AllocError, Allocator, Global};
 use std::test::Fail;
 
 // A Cache Response of session 7; 10.0.1.0/24-24 of AS 65002 comes; an End of Data with serial 1, and the seconds 3600,
@@ -115,20 +115,19 @@ fn stands<A: Allocator + Clone>(router: &mut Router<A>, rows: &[Row]) -> bool {
     true
 }
 
-#[test]
-fn a_session_ends_with_its_payloads_or_with_a_fault(rt: HostRuntime) -> Result<(), Fail> {
-    let mut expiring = Router::new(rt.alloc())?;
-    assert!(rt; stands(&mut expiring, &EXPIRING));
-    let mut faulty = Router::new(rt.alloc())?;
-    assert!(rt; stands(&mut faulty, &FAULTY));
-    Ok(())
+// Whether a session stands at each step where its row says, and has just these payloads behind the last.
+fn leaves(alloc: Global, rows: &[Row], payloads: &[Vrp]) -> Result<bool, AllocError> {
+    let mut router = Router::new(alloc)?;
+    Ok(stands(&mut router, rows) && router.has(payloads))
 }
 
 #[test]
-fn a_connection_that_fails_is_opened_again(rt: HostRuntime) -> Result<(), Fail> {
-    let mut router = Router::new(rt.alloc())?;
-    assert!(rt; stands(&mut router, &FAILING));
-    assert!(rt; router.has(&[second()?]));
+fn a_session_stands_where_its_table_says(rt: HostRuntime) -> Result<(), Fail> {
+    let (first, second) = (first()?, second()?);
+    let is_expired = leaves(rt.alloc(), &EXPIRING, &[])?;
+    let is_closed = leaves(rt.alloc(), &FAULTY, &[first])?;
+    let is_opened_again = leaves(rt.alloc(), &FAILING, &[second])?;
+    assert!(rt; is_expired && is_closed && is_opened_again);
     Ok(())
 }
 
@@ -138,13 +137,18 @@ fn hands_out<A: Allocator + Clone>(router: &mut Router<A>, octets: [u8; 5], coun
     router.session.take(&mut buf) == count && buf == octets
 }
 
+// Whether a Reset Query is handed out in two pieces, and no more.
+fn hands_out_a_query<A: Allocator + Clone>(router: &mut Router<A>) -> bool {
+    router.up(100);
+    hands_out(router, [1, 2, 0, 0, 0], 5)
+        && hands_out(router, [0, 0, 8, 0xff, 0xff], 3)
+        && hands_out(router, [0xff; 5], 0)
+}
+
 #[test]
 fn octets_are_handed_out_as_many_as_fit(rt: HostRuntime) -> Result<(), Fail> {
     let mut router = Router::new(rt.alloc())?;
-    router.up(100);
-    assert!(rt; hands_out(&mut router, [1, 2, 0, 0, 0], 5));
-    assert!(rt; hands_out(&mut router, [0, 0, 8, 0xff, 0xff], 3));
-    assert!(rt; hands_out(&mut router, [0xff; 5], 0));
+    assert!(rt; hands_out_a_query(&mut router));
     Ok(())
 }
 
