@@ -1,10 +1,13 @@
 //! One case: its files, and how it is played.
 ghost use Rattle.std.specs.Prelude.{◌≤◌};
 
-use crate::calls::{row_of, split_call};
+use crate::calls::{Call, split_call};
 use crate::endings::Ending;
 use crate::fault::{Fault, Wrong};
-use crate::pair::{Pair, answer};
+use crate::lent::{lend, lend_both};
+use crate::lines::{Lines, row_of};
+use crate::answers::answer;
+use crate::pair::Pair;
 use crate::refused::{MOST_CALLS, Met, play_on};
 use crate::rows::{count_of, has_row, is_met, number_behind};
 use refusing::Refusing;
@@ -12,18 +15,18 @@ use scenario::Stage;
 use speaker::Report;
 use std::alloc::{Allocator, Global};
 use std::fmt;
-use std::io::Write;
+use std::io::{self, Write};
 
 // More requests than a case makes.
 const MOST_REQUESTS: u64 = 10_000;
 
-/// The files of a case.
-#[derive(Drop)]
-pub struct Case {
-    pub script: Vec<u8>,
-    pub told: Vec<u8>,
-    pub again: Vec<u8>,
-    pub rows: Vec<u8>,
+/// What the files of a case have.
+#[derive(Clone, Copy)]
+pub struct Case<'a> {
+    pub script: &'a [u8],
+    pub told: &'a [u8],
+    pub again: &'a [u8],
+    pub rows: &'a [u8],
 }
 
 /// How often the refused requests came to what.
@@ -59,43 +62,54 @@ impl fmt::Display for Counts {
 }
 
 /// Plays a case; what its refused requests came to.
-pub fn play_case(alloc: Global, case: &Case) -> Result<Counts, Fault> {
-    play_with_memory(alloc, case)?;
+pub fn play_case(alloc: Global, case: Case<'_>) -> Result<Counts, Fault> {
     let mut endings = Vec::new(alloc);
-    refuse_each(alloc, case, &mut endings)?;
+    play(alloc, case, &mut endings)
+}
+
+fn play(alloc: Global, case: Case<'_>, endings: &mut Vec<u8>) -> Result<Counts, Fault> {
+    play_with_memory(alloc, case)?;
+    refuse_each(alloc, case, endings)?;
     are_met(case, endings.as_slice())?;
     Ok(Counts::of(endings.as_slice()))
 }
 
-fn play_with_memory(alloc: Global, case: &Case) -> Result<(), Fault> {
-    let mut stage = Stage::new(alloc, alloc)?;
-    let mut text = Vec::new(alloc);
-    answers_as_told(&mut stage, &mut text, case)
+fn play_with_memory(alloc: Global, case: Case<'_>) -> Result<(), Fault> {
+    lend(Stage::new(alloc, alloc), |stage| {
+        let mut text = Vec::new(alloc);
+        answers_as_told(stage, &mut text, case)
+    })
 }
 
 // Where no request is refused the script answers what is told.
-fn answers_as_told(stage: &mut Stage, text: &mut Vec<u8>, case: &Case) -> Result<(), Fault> {
-    let mut script = case.script.as_slice();
-    let mut told = case.told.as_slice();
+fn answers_as_told(stage: &mut Stage, text: &mut Vec<u8>, case: Case<'_>) -> Result<(), Fault> {
+    let mut script = case.script;
+    let mut told = case.told;
     for number in 1..MOST_CALLS {
         let Some((call, behind)) = split_call(script) else {
             break;
         };
-        text.clear();
-        answer(stage, number, call, text)?;
-        if opens(stage.report()) && !has_row(case.rows.as_slice(), b"opens") {
-            return Err(Fault::Wrong(Wrong::Begins, number));
-        }
-        let Some(rest) = told.strip_prefix(text.as_slice()) else {
-            return Err(Fault::Wrong(Wrong::Otherwise, number));
-        };
+        let call = Call { number, text: call };
+        told = told_behind(stage, call, text, case.rows, told)?;
         script = behind;
-        told = rest;
     }
-    if told.is_empty() {
-        Ok(())
-    } else {
-        Err(Fault::Wrong(Wrong::Short, 0))
+    Wrong::Short.unless(told.is_empty(), 0)
+}
+
+// What is told behind the call's answer.
+fn told_behind<'a>(
+    stage: &mut Stage,
+    call: Call<'_>,
+    text: &mut Vec<u8>,
+    rows: &[u8],
+    told: &'a [u8],
+) -> Result<&'a [u8], Fault> {
+    answer(stage, call, text)?;
+    let begins = opens(stage.report()) && !has_row(rows, b"opens");
+    Wrong::Begins.unless(!begins, call.number)?;
+    match told.strip_prefix(text.as_slice()) {
+        Some(behind) => Ok(behind),
+        None => Err(Fault::Wrong(Wrong::Otherwise, call.number)),
     }
 }
 
@@ -104,53 +118,78 @@ fn opens(report: Report) -> bool {
 }
 
 // Refuses the requests in turn, and puts in what each came to, a line each.
-fn refuse_each(alloc: Global, case: &Case, endings: &mut Vec<u8>) -> Result<(), Fault> {
-    let first = number_behind(case.rows.as_slice(), b"from ").unwrap_or(1);
-    let most = number_behind(case.rows.as_slice(), b"most ");
+fn refuse_each(alloc: Global, case: Case<'_>, endings: &mut Vec<u8>) -> Result<(), Fault> {
+    let first = number_behind(case.rows, b"from ").unwrap_or(1);
+    let most = number_behind(case.rows, b"most ");
     for later in 0..most.unwrap_or(MOST_REQUESTS) {
-        let nth = first.saturating_add(later).max(1);
-        let met = refuse(alloc, case, nth)?;
+        let met = refuse(alloc, case, first.saturating_add(later).max(1))?;
         if met.ending == Ending::Nothing {
             return Ok(());
         }
-        writeln!(endings, "{} {}", met.ending, met.number)?;
+        note(met, endings)?;
     }
-    if most.is_some() {
-        Ok(())
-    } else {
-        Err(Fault::Wrong(Wrong::EndlessRequests, 0))
-    }
+    Wrong::EndlessRequests.unless(most.is_some(), 0)
+}
+
+fn note(met: Met, endings: &mut Vec<u8>) -> io::Result<()> {
+    writeln!(endings, "{} {}", met.ending, met.number)
 }
 
 // Refuses the nth request.
-fn refuse(alloc: Global, case: &Case, nth: u64) -> Result<Met, Fault>
+fn refuse(alloc: Global, case: Case<'_>, nth: u64) -> Result<Met, Fault>
     requires { 1 ≤ nth }
 {
-    let behind = Refusing::new(alloc, nth);
-    if has_row(case.rows.as_slice(), b"twice") {
-        let heap = Refusing::new(&behind, nth);
-        return play_over(alloc, case, &heap, &heap);
+    let heap = Refusing::new(alloc, nth);
+    if has_row(case.rows, b"twice") {
+        refuse_twice(alloc, case, nth, &heap)
+    } else {
+        play_over(alloc, case, &heap, &heap)
     }
-    play_over(alloc, case, &behind, &behind)
 }
 
+// Refuses the nth of the requests that this one passes on.
+fn refuse_twice(
+    alloc: Global,
+    case: Case<'_>,
+    nth: u64,
+    behind: &Refusing<Global>,
+) -> Result<Met, Fault>
+    requires { 1 ≤ nth }
+{
+    let heap = Refusing::new(behind, nth);
+    play_over(alloc, case, &heap, &heap)
+}
+
+// Both runs are over stages of their own: the speaker and the cache of the first are made over this heap.
 fn play_over<A: Allocator + Clone + Copy, B>(
     alloc: Global,
-    case: &Case,
+    case: Case<'_>,
     heap: A,
     requests: &Refusing<B>,
 ) -> Result<Met, Fault> {
-    let mut pair = Pair::new(alloc, heap)?;
-    play_on(case, &mut pair, requests)
+    let tested = Stage::new(alloc, heap);
+    lend_both(tested, Stage::new(alloc, alloc), |tested, whole| {
+        play_both(alloc, case, tested, whole, requests)
+    })
 }
 
-fn are_met(case: &Case, endings: &[u8]) -> Result<(), Fault> {
+fn play_both<A: Allocator + Clone + Copy, B>(
+    alloc: Global,
+    case: Case<'_>,
+    tested: &mut Stage<A>,
+    whole: &mut Stage,
+    requests: &Refusing<B>,
+) -> Result<Met, Fault> {
+    let mut pair = Pair::of(alloc, tested, whole);
+    match play_on(case, &mut pair, requests) {
+        Some(met) => Ok(met),
+        None => Err(pair.fault().unwrap_or(Fault::Device)),
+    }
+}
+
+fn are_met(case: Case<'_>, endings: &[u8]) -> Result<(), Fault> {
     let mut number = 0u64;
-    for line in case
-        .rows
-        .as_slice()
-        .split_inclusive(|octet| *octet == b'\n')
-    {
+    for line in Lines::of(case.rows) {
         number = number.saturating_add(1);
         if !is_met(row_of(line), endings) {
             return Err(Fault::Row(number));

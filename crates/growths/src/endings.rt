@@ -1,6 +1,6 @@
 //! What a refused request may come to.
 
-use crate::calls::{number_at, number_of, row_of, word_at};
+use crate::lines::{last_words, number_at, number_of, row_of};
 use std::fmt;
 
 /// What a cache's client, or the cache of a speaker's session, is told: an Error Report of an internal error.
@@ -24,10 +24,10 @@ pub enum Ending {
 impl fmt::Display for Ending {
     fn fmt<W: fmt::Write>(&self, f: &mut fmt::Formatter<W>) -> fmt::Result {
         match self {
-            Ending::Nothing => write!(f, "nothing"),
-            Ending::Refused => write!(f, "refused"),
+            Ending::Nothing => f.write_str("nothing"),
+            Ending::Refused => f.write_str("refused"),
             Ending::Closed(slot) => write!(f, "closed {slot}"),
-            Ending::CacheClosed => write!(f, "closed cache"),
+            Ending::CacheClosed => f.write_str("closed cache"),
             Ending::ClientClosed(key) => write!(f, "client {key}"),
         }
     }
@@ -56,14 +56,19 @@ fn client_of(call: &[u8]) -> Option<Ending> {
 
 // The last two words are `starved` and what was closed, and nothing else was.
 fn closed_of(answer: &[u8]) -> Option<Ending> {
-    let words = answer.split(|octet| *octet == b' ').count();
-    if word_at(answer, words.checked_sub(2)?)? != b"starved".as_slice() {
-        return None;
+    let (before, closed) = last_words(answer)?;
+    if before == b"starved".as_slice() {
+        closing_of(closed)
+    } else {
+        None
     }
-    match word_at(answer, words.checked_sub(1)?)? {
-        b"cache" => Some(Ending::CacheClosed),
-        slot => Some(Ending::Closed(u8::try_from(number_of(slot)?).ok()?)),
+}
+
+fn closing_of(closed: &[u8]) -> Option<Ending> {
+    if closed == b"cache".as_slice() {
+        return Some(Ending::CacheClosed);
     }
+    Some(Ending::Closed(u8::try_from(number_of(closed)?).ok()?))
 }
 
 /// Whether the answer is what is told with memory, and the closing behind it.

@@ -3,61 +3,94 @@ ghost use Rattle.std.specs.Prelude.{⊤};
 
 use scenario::PlayFault;
 use std::alloc::AllocError;
+use std::fmt;
 use std::io;
-use thiserror::Error;
 
 /// What is wrong at a call.
-#[derive(Clone, Copy, Debug, PartialEq, Eq, Error)]
+#[derive(Clone, Copy)]
 pub enum Wrong {
-    #[error("begins a connection attempt")]
     Begins,
-    #[error("isn't answered as told")]
     Otherwise,
-    #[error("more is told than answered")]
     Short,
-    #[error("makes no end of requests")]
     EndlessRequests,
-    #[error("makes no end of calls")]
     EndlessCalls,
-    #[error("has left another end")]
     OtherEnd,
-    #[error("is answered otherwise where a request is refused")]
     OtherwiseWhereRefused,
-    #[error("has changed more where a request is refused")]
     ChangedMore,
-    #[error("isn't answered as told when it comes again")]
     OtherwiseAgain,
-    #[error("is answered otherwise behind a refusal")]
     OtherwiseBehind,
-    #[error("isn't answered as told where a session is closed")]
     OtherwiseWhereClosed,
-    #[error("doesn't tell the closed peer why")]
     PeerUntold,
-    #[error("doesn't let the closed peer come again")]
     PeerAway,
-    #[error("isn't answered as told where the cache is closed")]
     OtherwiseWhereCacheClosed,
-    #[error("doesn't tell the cache why")]
     CacheUntold,
-    #[error("doesn't let the closed client come again")]
     ClientAway,
 }
 
+impl Wrong {
+    /// The call of this number is wrong so, unless this holds.
+    pub fn unless(self, holds: bool, number: u64) -> Result<(), Fault> {
+        if holds {
+            Ok(())
+        } else {
+            Err(Fault::Wrong(self, number))
+        }
+    }
+
+    fn words(self) -> &'static str {
+        match self {
+            Wrong::Begins => "begins a connection attempt",
+            Wrong::Otherwise => "isn't answered as told",
+            Wrong::Short => "more is told than answered",
+            Wrong::EndlessRequests => "makes no end of requests",
+            Wrong::EndlessCalls => "makes no end of calls",
+            Wrong::OtherEnd => "has left another end",
+            Wrong::OtherwiseWhereRefused => "is answered otherwise where a request is refused",
+            Wrong::ChangedMore => "has changed more where a request is refused",
+            Wrong::OtherwiseAgain => "isn't answered as told when it comes again",
+            Wrong::OtherwiseBehind => "is answered otherwise behind a refusal",
+            Wrong::OtherwiseWhereClosed => "isn't answered as told where a session is closed",
+            Wrong::PeerUntold => "doesn't tell the closed peer why",
+            Wrong::PeerAway => "doesn't let the closed peer come again",
+            Wrong::OtherwiseWhereCacheClosed => {
+                "isn't answered as told where the cache is closed"
+            }
+            Wrong::CacheUntold => "doesn't tell the cache why",
+            Wrong::ClientAway => "doesn't let the closed client come again",
+        }
+    }
+}
+
 /// What ends a case before its end.
-#[derive(Clone, Copy, Debug, PartialEq, Eq, Error)]
+#[derive(Clone, Copy)]
 pub enum Fault {
     /// What was wrong at the call of this number.
-    #[error("call {1}: {0}")]
     Wrong(Wrong, u64),
     /// A row of the case isn't met.
-    #[error("row {0} isn't met")]
     Row(u64),
     /// A line of the script is bad.
-    #[error("a bad line at call {0}")]
     BadLine(u64),
     /// A file can't be read, or memory is wanting outside the speaker and the cache.
-    #[error("device")]
     Device,
+}
+
+impl fmt::Display for Fault {
+    fn fmt<W: fmt::Write>(&self, f: &mut fmt::Formatter<W>) -> fmt::Result {
+        match *self {
+            Fault::Wrong(wrong, number) => write_wrong(f, number, wrong.words()),
+            Fault::Row(number) => write!(f, "row {number} isn't met"),
+            Fault::BadLine(number) => write!(f, "a bad line at call {number}"),
+            Fault::Device => f.write_str("device"),
+        }
+    }
+}
+
+fn write_wrong<W: fmt::Write>(
+    f: &mut fmt::Formatter<W>,
+    number: u64,
+    words: &str,
+) -> fmt::Result {
+    write!(f, "call {number}: {words}")
 }
 
 impl From<AllocError> for Fault {

@@ -10,16 +10,19 @@
 //! For each case a line says how often each of these came; or where it went wrong.
 #![tactic(auto)]
 
+mod answers;
 mod calls;
 mod case;
 mod endings;
 mod fault;
+mod lent;
+mod lines;
 mod pair;
 mod refused;
 mod rows;
 mod views;
 
-use crate::case::{Case, play_case};
+use crate::case::{Case, Counts, play_case};
 use crate::fault::Fault;
 use std::fs;
 use std::io::{self, BufRead, BufReader, Write};
@@ -31,36 +34,67 @@ fn file_of(rt: &HostRuntime, name: &str, ending: &str) -> Result<Vec<u8>, Fault>
     Ok(fs::read(rt, path.as_str())?)
 }
 
-fn case_of(rt: &HostRuntime, name: &str) -> Result<Case, Fault> {
-    let script = file_of(rt, name, "in")?;
-    let told = file_of(rt, name, "out")?;
-    let again = file_of(rt, name, "again")?;
-    let rows = file_of(rt, name, "rows")?;
-    Ok(Case {
-        script,
-        told,
-        again,
-        rows,
-    })
+// What the files of a case hold.
+#[derive(Drop)]
+struct Files {
+    script: Vec<u8>,
+    told: Vec<u8>,
+    again: Vec<u8>,
+    rows: Vec<u8>,
+}
+
+impl Files {
+    fn read(rt: &HostRuntime, name: &str) -> Result<Files, Fault> {
+        let script = file_of(rt, name, "in")?;
+        let told = file_of(rt, name, "out")?;
+        let again = file_of(rt, name, "again")?;
+        let rows = file_of(rt, name, "rows")?;
+        Ok(Files {
+            script,
+            told,
+            again,
+            rows,
+        })
+    }
+
+    fn case(&self) -> Case<'_> {
+        Case {
+            script: self.script.as_slice(),
+            told: self.told.as_slice(),
+            again: self.again.as_slice(),
+            rows: self.rows.as_slice(),
+        }
+    }
+}
+
+fn play_files(rt: &HostRuntime, name: &str) -> Result<Counts, Fault> {
+    let files = Files::read(rt, name)?;
+    play_case(rt.alloc(), files.case())
 }
 
 // Plays the case of this name, and says what came of it.
 fn play_named<W: Write>(rt: &HostRuntime, name: &str, output: &mut W) -> io::Result<()> {
-    let played = match case_of(rt, name) {
-        Ok(case) => play_case(rt.alloc(), &case),
-        Err(fault) => Err(fault),
-    };
-    match played {
+    match play_files(rt, name) {
         Ok(counts) => writeln!(output, "{name}: {counts}"),
         Err(fault) => writeln!(output, "{name}: {fault}"),
+    }
+}
+
+fn play_line<W: Write>(
+    rt: &HostRuntime,
+    name: io::Result<String>,
+    output: &mut W,
+) -> io::Result<()> {
+    match name {
+        Ok(name) => play_named(rt, name.as_str(), output),
+        Err(error) => Err(error),
     }
 }
 
 fn play_all<W: Write>(rt: &HostRuntime, output: &mut W) -> io::Result<()> {
     let input = BufReader::new(rt.alloc(), rt.reader())?;
     for name in input.lines(rt.alloc()) {
-        let name = name?;
-        play_named(rt, name.as_str(), output)?;
+        play_line(rt, name, output)?;
     }
     Ok(())
 }

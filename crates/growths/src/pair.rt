@@ -1,122 +1,132 @@
 //! Two runs of a script beside each other: one to which requests are refused, and one to which none are.
-ghost use Rattle.std.specs.Prelude.{◌≤◌};
 
-use crate::calls::{number_at, row_of};
-use crate::fault::Fault;
+use crate::answers::{answer, take_all};
+use crate::calls::Call;
+use crate::endings::{Ending, is_told_and_closed};
+use crate::fault::{Fault, Wrong};
+use crate::views::{Scope, shows_alike};
 use scenario::Stage;
 use speaker::Report;
-use std::alloc::{AllocError, Allocator, Global};
-use std::io::{self, Write};
+use std::alloc::{Allocator, Global};
+
+/// Two runs, whatever they are made of: to know that makes each proof dear, and none needs it. Where a call doesn't go
+/// well its answer is false, and the runs keep the first fault.
+pub trait Runs {
+    /// The first plays a call.
+    fn play(&mut self, call: Call<'_>) -> bool;
+
+    /// The other plays it.
+    fn play_whole(&mut self, call: Call<'_>) -> bool;
+
+    /// The first hands out all that it has for a slot.
+    fn take_all(&mut self, call: Call<'_>, slot: u8) -> bool;
+
+    /// The call is wrong so, unless this holds.
+    fn expect(&mut self, holds: bool, wrong: Wrong, number: u64) -> bool;
+
+    /// The call is wrong so, unless the first answered this.
+    fn expect_answer(&mut self, told: &[u8], wrong: Wrong, number: u64) -> bool;
+
+    /// What the first answered last.
+    fn answer(&self) -> &[u8];
+
+    /// Whether both answered alike, and the same connection attempts began.
+    fn is_as_told(&self) -> bool;
+
+    /// Whether the first answered what the other did, and a closing behind it.
+    fn is_told_and_closed(&self) -> bool;
+
+    /// Both show the same behind the call of this number, but for what the ending leaves.
+    fn shows_alike(&mut self, ending: Ending, scope: Scope, number: u64) -> bool;
+}
 
 /// The two, and what each answered last.
 #[derive(Drop)]
-pub struct Pair<A: Allocator + Clone> {
-    pub alloc: Global,
-    pub tested: Stage<A>,
-    pub whole: Stage,
-    pub answer: Vec<u8>,
-    pub told: Vec<u8>,
+pub struct Pair<'a, A: Allocator + Clone> {
+    alloc: Global,
+    tested: &'a mut Stage<A>,
+    whole: &'a mut Stage,
+    answer: Vec<u8>,
+    told: Vec<u8>,
+    fault: Option<Fault>,
 }
 
-impl<A: Allocator + Clone + Copy> Pair<A> {
-    /// The speaker and the cache of the first are made over this heap.
-    pub fn new(alloc: Global, heap: A) -> Result<Self, AllocError> {
-        let tested = Stage::new(alloc, heap)?;
-        let whole = Stage::new(alloc, alloc)?;
-        Ok(Pair {
+impl<'a, A: Allocator + Clone + Copy> Pair<'a, A> {
+    pub fn of(alloc: Global, tested: &'a mut Stage<A>, whole: &'a mut Stage) -> Self {
+        Pair {
             alloc,
             tested,
             whole,
             answer: Vec::new(alloc),
             told: Vec::new(alloc),
-        })
+            fault: None,
+        }
     }
 
-    /// The first plays a call.
-    pub fn play(&mut self, number: u64, call: &[u8]) -> Result<(), Fault>
-        requires { 1 ≤ number }
-    {
-        self.answer.clear();
-        answer(&mut self.tested, number, call, &mut self.answer)
+    /// What was wrong first.
+    pub fn fault(&self) -> Option<Fault> {
+        self.fault
     }
 
-    /// The other plays it.
-    pub fn play_whole(&mut self, number: u64, call: &[u8]) -> Result<(), Fault>
-        requires { 1 ≤ number }
-    {
-        self.told.clear();
-        answer(&mut self.whole, number, call, &mut self.told)
+    // Whether it went well.
+    fn keep(&mut self, went: Result<(), Fault>) -> bool {
+        match went {
+            Ok(()) => true,
+            Err(fault) => {
+                self.fault = self.fault.or(Some(fault));
+                false
+            }
+        }
+    }
+}
+
+impl<A: Allocator + Clone + Copy> Runs for Pair<'_, A> {
+    fn play(&mut self, call: Call<'_>) -> bool {
+        let played = answer(self.tested, call, &mut self.answer);
+        self.keep(played)
     }
 
-    /// Whether both answered alike, and the same connection attempts began.
-    pub fn is_as_told(&self) -> bool {
+    fn play_whole(&mut self, call: Call<'_>) -> bool {
+        let played = answer(self.whole, call, &mut self.told);
+        self.keep(played)
+    }
+
+    fn take_all(&mut self, call: Call<'_>, slot: u8) -> bool {
+        let taken = take_all(self.tested, call, slot, self.alloc, &mut self.answer);
+        self.keep(taken)
+    }
+
+    fn expect(&mut self, holds: bool, wrong: Wrong, number: u64) -> bool {
+        let held = wrong.unless(holds, number);
+        self.keep(held)
+    }
+
+    fn expect_answer(&mut self, told: &[u8], wrong: Wrong, number: u64) -> bool {
+        let holds = self.answer.as_slice() == told;
+        self.expect(holds, wrong, number)
+    }
+
+    fn answer(&self) -> &[u8] {
+        self.answer.as_slice()
+    }
+
+    fn is_as_told(&self) -> bool {
         self.answer.as_slice() == self.told.as_slice()
             && opens_alike(self.tested.report(), self.whole.report())
     }
 
-    /// Whether the first answered this.
-    pub fn answers(&self, text: &[u8]) -> bool {
-        self.answer.as_slice() == text
+    fn is_told_and_closed(&self) -> bool {
+        is_told_and_closed(self.answer.as_slice(), self.told.as_slice())
+    }
+
+    fn shows_alike(&mut self, ending: Ending, scope: Scope, number: u64) -> bool {
+        match shows_alike(self.alloc, self.tested, self.whole, ending, scope) {
+            Ok(holds) => self.expect(holds, scope.wrong(), number),
+            Err(fault) => self.keep(Err(fault)),
+        }
     }
 }
 
 fn opens_alike(tested: Report, whole: Report) -> bool {
     tested.opened == whole.opened && tested.cache_opened == whole.cache_opened
-}
-
-/// Plays the lines of a call.
-pub fn answer<A: Allocator + Clone + Copy>(
-    stage: &mut Stage<A>,
-    number: u64,
-    call: &[u8],
-    answer: &mut Vec<u8>,
-) -> Result<(), Fault>
-    requires { 1 ≤ number }
-{
-    for line in call.split_inclusive(|octet| *octet == b'\n') {
-        if is_look(line) {
-            look(stage, line, answer)?;
-        } else {
-            stage.play_line(number, line, answer)?;
-        }
-    }
-    Ok(())
-}
-
-/// Whether the line asks for what no other line shows: how often a best route was chosen in the speaker's last call,
-/// the slots whose connection attempts began in it, or the transport of a slot.
-fn is_look(line: &[u8]) -> bool {
-    line == b"chosen\n".as_slice()
-        || line == b"opened\n".as_slice()
-        || line.starts_with(b"transport ")
-}
-
-fn look<A: Allocator + Clone + Copy>(
-    stage: &Stage<A>,
-    line: &[u8],
-    answer: &mut Vec<u8>,
-) -> io::Result<()> {
-    let Some(speaker) = stage.speaker() else {
-        return Ok(());
-    };
-    if line == b"chosen\n".as_slice() {
-        return writeln!(answer, "chosen {}", speaker.chosen());
-    }
-    match number_at(row_of(line), 1) {
-        Some(slot) => {
-            let slot = u8::try_from(slot).unwrap_or(u8::MAX);
-            writeln!(answer, "{:?}", speaker.transport(slot))
-        }
-        None => write_opened(stage.report().opened, answer),
-    }
-}
-
-fn write_opened(opened: u64, answer: &mut Vec<u8>) -> io::Result<()> {
-    write!(answer, "opened")?;
-    for slot in 0..64u8 {
-        if (opened >> slot) & 1 == 1 {
-            write!(answer, " {slot}")?;
-        }
-    }
-    writeln!(answer)
 }

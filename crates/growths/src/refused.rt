@@ -9,15 +9,15 @@
 //! Report in the place of a response, comes again by the lines of the case, and has its response.
 ghost use Rattle.std.specs.Prelude.{◌≤◌};
 
-use crate::calls::{number_at, row_of, split_call};
+use crate::calls::{Call, split_call};
 use crate::case::Case;
-use crate::endings::{Ending, INTERNAL_ERROR, ending_of, is_told_and_closed, is_want_of_memory};
-use crate::fault::{Fault, Wrong};
-use crate::pair::Pair;
+use crate::endings::{Ending, INTERNAL_ERROR, ending_of, is_want_of_memory};
+use crate::fault::Wrong;
+use crate::lines::{Lines, number_at, row_of};
+use crate::pair::Runs;
 use crate::rows::{asked, has_row, number_behind};
-use crate::views::{ends_alike, shows_alike};
+use crate::views::Scope;
 use refusing::Refusing;
-use std::alloc::Allocator;
 
 /// More calls than a script has.
 pub const MOST_CALLS: u64 = 100_000;
@@ -43,47 +43,46 @@ impl Met {
     };
 }
 
-/// Plays the script, of which some request is refused, or none.
-pub fn play_on<A: Allocator + Clone + Copy, B>(
-    case: &Case,
-    pair: &mut Pair<A>,
-    requests: &Refusing<B>,
-) -> Result<Met, Fault> {
-    let mut script = case.script.as_slice();
+/// Plays the script, of which some request is refused, or none. None where something is wrong, which the runs keep.
+pub fn play_on<R: Runs, B>(case: Case<'_>, runs: &mut R, requests: &Refusing<B>) -> Option<Met> {
+    let mut script = case.script;
     let mut met = Met::NOTHING;
     for number in 1..MOST_CALLS {
-        let Some((call, behind)) = split_call(script) else {
-            return finish(pair, met);
+        let Some((text, behind)) = split_call(script) else {
+            return finish(runs, met);
         };
         script = behind;
-        met = play_call(case, pair, requests, met, number, call)?;
+        met = play_call(case, runs, requests, met, Call { number, text })?;
         if met.ending == Ending::CacheClosed {
-            return Ok(met);
+            return Some(met);
         }
     }
-    Err(Fault::Wrong(Wrong::EndlessCalls, MOST_CALLS))
+    runs.expect(false, Wrong::EndlessCalls, MOST_CALLS);
+    None
 }
 
-fn play_call<A: Allocator + Clone + Copy, B>(
-    case: &Case,
-    pair: &mut Pair<A>,
+fn play_call<R: Runs, B>(
+    case: Case<'_>,
+    runs: &mut R,
     requests: &Refusing<B>,
     met: Met,
-    number: u64,
-    call: &[u8],
-) -> Result<Met, Fault>
-    requires { 1 ≤ number }
-{
-    pair.play(number, call)?;
+    call: Call<'_>,
+) -> Option<Met> {
+    if !runs.play(call) {
+        return None;
+    }
     if met.ending == Ending::Nothing && requests.has_refused() {
-        return meet(case, pair, number, call);
+        return meet(case, runs, call);
     }
-    pair.play_whole(number, call)?;
-    if pair.is_as_told() || is_of_other(met, call) {
-        Ok(met)
-    } else {
-        Err(Fault::Wrong(Wrong::Otherwise, number))
+    if goes_on(runs, met, call) { Some(met) } else { None }
+}
+
+fn goes_on<R: Runs>(runs: &mut R, met: Met, call: Call<'_>) -> bool {
+    if !runs.play_whole(call) {
+        return false;
     }
+    let holds = runs.is_as_told() || is_of_other(met, call.text);
+    runs.expect(holds, Wrong::Otherwise, call.number)
 }
 
 // Whether the call shows or hands out what may be another without the peer that was closed.
@@ -104,162 +103,126 @@ fn is_for(line: &[u8], slot: u8) -> bool {
 }
 
 // At the end of a script: a peer that was closed and hasn't come again is still away.
-fn finish<A: Allocator + Clone + Copy>(pair: &Pair<A>, met: Met) -> Result<Met, Fault> {
-    match met.ending {
-        Ending::Closed(slot) if met.is_apart && !ends_alike(pair, slot)? => {
-            Err(Fault::Wrong(Wrong::OtherEnd, met.number))
-        }
-        _ => Ok(met),
+fn finish<R: Runs>(runs: &mut R, met: Met) -> Option<Met> {
+    if !met.is_apart || runs.shows_alike(met.ending, Scope::End, met.number) {
+        Some(met)
+    } else {
+        None
     }
 }
 
 // The first run has just met the refused request at this call, which the other hasn't played yet.
-fn meet<A: Allocator + Clone + Copy>(
-    case: &Case,
-    pair: &mut Pair<A>,
-    number: u64,
-    call: &[u8],
-) -> Result<Met, Fault>
-    requires { 1 ≤ number }
-{
-    let Some(ending) = ending_of(call, pair.answer.as_slice()) else {
-        return Err(Fault::Wrong(Wrong::OtherwiseWhereRefused, number));
-    };
-    let is_apart = match ending {
-        Ending::Closed(slot) => is_closed_apart(case, pair, number, call, slot),
-        ending => is_over(case, pair, number, call, ending),
-    };
-    Ok(Met {
-        ending,
-        number,
-        is_apart: is_apart?,
-    })
-}
-
-// No peer was closed: what else the refused request came to is over at once.
-fn is_over<A: Allocator + Clone + Copy>(
-    case: &Case,
-    pair: &mut Pair<A>,
-    number: u64,
-    call: &[u8],
-    ending: Ending,
-) -> Result<bool, Fault>
-    requires { 1 ≤ number }
-{
-    let over = match ending {
-        Ending::CacheClosed => cache_is_closed(pair, number, call),
-        Ending::ClientClosed(key) => client_is_closed(case, pair, number, call, key),
-        _ => is_refused(case, pair, number, call),
-    };
-    over?;
-    Ok(false)
-}
-
-// What both show is alike, but for what the ending leaves.
-fn are_alike<A: Allocator + Clone + Copy>(
-    pair: &Pair<A>,
-    number: u64,
-    ending: Ending,
-) -> Result<(), Fault> {
-    if shows_alike(pair, ending)? {
-        Ok(())
-    } else {
-        Err(Fault::Wrong(Wrong::ChangedMore, number))
+fn meet<R: Runs>(case: Case<'_>, runs: &mut R, call: Call<'_>) -> Option<Met> {
+    match ending_of(call.text, runs.answer()) {
+        Some(ending) if is_met(case, runs, call, ending) => Some(Met {
+            ending,
+            number: call.number,
+            is_apart: is_apart(case.again, ending),
+        }),
+        Some(_) => None,
+        None => {
+            runs.expect(false, Wrong::OtherwiseWhereRefused, call.number);
+            None
+        }
     }
 }
 
-fn is_refused<A: Allocator + Clone + Copy>(
-    case: &Case,
-    pair: &mut Pair<A>,
-    number: u64,
-    call: &[u8],
-) -> Result<(), Fault>
-    requires { 1 ≤ number }
-{
-    are_alike(pair, number, Ending::Refused)?;
-    ask(case, pair, number)?;
-    pair.play_whole(number, call)?;
-    come_at_last(case, pair, number, call)?;
-    if pair.is_as_told() {
-        Ok(())
-    } else {
-        Err(Fault::Wrong(Wrong::OtherwiseAgain, number))
+fn is_met<R: Runs>(case: Case<'_>, runs: &mut R, call: Call<'_>, ending: Ending) -> bool {
+    match ending {
+        Ending::Closed(slot) => is_closed(case, runs, call, slot),
+        Ending::CacheClosed => cache_is_closed(runs, call),
+        Ending::ClientClosed(key) => client_is_closed(case, runs, call, key),
+        _ => is_refused(case, runs, call),
     }
+}
+
+// Whether a peer was closed that doesn't come again, since no line is for it.
+fn is_apart(again: &[u8], ending: Ending) -> bool {
+    match ending {
+        Ending::Closed(slot) => !has_line_for(again, slot),
+        _ => false,
+    }
+}
+
+fn has_line_for(lines: &[u8], slot: u8) -> bool {
+    for line in Lines::of(lines) {
+        if is_for(line, slot) {
+            return true;
+        }
+    }
+    false
+}
+
+// The call was refused: it comes again.
+fn is_refused<R: Runs>(case: Case<'_>, runs: &mut R, call: Call<'_>) -> bool {
+    runs.shows_alike(Ending::Refused, Scope::Whole, call.number)
+        && ask(case, runs, call)
+        && runs.play_whole(call)
+        && is_as_told_at_last(case, runs, call)
 }
 
 // The lines that are asked behind a refused call are answered as the case says.
-fn ask<A: Allocator + Clone + Copy>(
-    case: &Case,
-    pair: &mut Pair<A>,
-    number: u64,
-) -> Result<(), Fault>
-    requires { 1 ≤ number }
-{
-    for line in case
-        .rows
-        .as_slice()
-        .split_inclusive(|octet| *octet == b'\n')
-    {
-        if let Some((asked, told)) = asked(row_of(line), number) {
-            pair.play(number, asked)?;
-            if row_of(pair.answer.as_slice()) != told {
-                return Err(Fault::Wrong(Wrong::OtherwiseBehind, number));
-            }
+fn ask<R: Runs>(case: Case<'_>, runs: &mut R, call: Call<'_>) -> bool {
+    for line in Lines::of(case.rows) {
+        if !is_answered(row_of(line), runs, call) {
+            return false;
         }
     }
-    Ok(())
+    true
+}
+
+fn is_answered<R: Runs>(row: &[u8], runs: &mut R, call: Call<'_>) -> bool {
+    match asked(row, call.number) {
+        Some((asked, told)) => runs.play(call.with(asked)) && is_answer(runs, told, call.number),
+        None => true,
+    }
+}
+
+fn is_answer<R: Runs>(runs: &mut R, told: &[u8], number: u64) -> bool {
+    let holds = row_of(runs.answer()) == told;
+    runs.expect(holds, Wrong::OtherwiseBehind, number)
 }
 
 // A call comes until memory isn't wanting: where two requests are refused in a row, once more.
-fn come_at_last<A: Allocator + Clone + Copy>(
-    case: &Case,
-    pair: &mut Pair<A>,
-    number: u64,
-    call: &[u8],
-) -> Result<(), Fault>
-    requires { 1 ≤ number }
-{
-    pair.play(number, call)?;
-    if is_want_of_memory(pair.answer.as_slice()) && has_row(case.rows.as_slice(), b"twice") {
-        pair.play(number, call)?;
-    }
-    Ok(())
+fn comes_at_last<R: Runs>(case: Case<'_>, runs: &mut R, call: Call<'_>) -> bool {
+    runs.play(call) && (!is_wanting_again(case, runs) || runs.play(call))
 }
 
-// Whether the peer that was closed doesn't come again.
-fn is_closed_apart<A: Allocator + Clone + Copy>(
-    case: &Case,
-    pair: &mut Pair<A>,
-    number: u64,
-    call: &[u8],
-    slot: u8,
-) -> Result<bool, Fault>
-    requires { 1 ≤ number }
-{
-    pair.play_whole(number, call)?;
-    if !is_told_and_closed(pair.answer.as_slice(), pair.told.as_slice()) {
-        return Err(Fault::Wrong(Wrong::OtherwiseWhereClosed, number));
-    }
-    are_alike(pair, number, Ending::Closed(slot))?;
-    is_told_why(case, pair, number, slot)?;
-    comes_again(case, pair, number, slot)
+fn is_wanting_again<R: Runs>(case: Case<'_>, runs: &R) -> bool {
+    is_want_of_memory(runs.answer()) && has_row(case.rows, b"twice")
 }
 
-fn is_told_why<A: Allocator + Clone + Copy>(
-    case: &Case,
-    pair: &mut Pair<A>,
-    number: u64,
-    slot: u8,
-) -> Result<(), Fault>
-    requires { 1 ≤ number }
-{
-    let line = format!(in pair.alloc; "take {slot} 65536")?;
-    pair.play(number, line.as_str().as_bytes())?;
-    if ends_by_why(pair.answer.as_slice(), case.rows.as_slice()) {
-        Ok(())
-    } else {
-        Err(Fault::Wrong(Wrong::PeerUntold, number))
+// The same, and then it is answered as in the other run.
+fn is_as_told_at_last<R: Runs>(case: Case<'_>, runs: &mut R, call: Call<'_>) -> bool {
+    comes_at_last(case, runs, call) && is_as_told(runs, call.number)
+}
+
+fn is_as_told<R: Runs>(runs: &mut R, number: u64) -> bool {
+    let holds = runs.is_as_told();
+    runs.expect(holds, Wrong::OtherwiseAgain, number)
+}
+
+// The other run plays the call too: the first has answered the same, and that something was closed.
+fn is_told_and_closed<R: Runs>(runs: &mut R, call: Call<'_>, wrong: Wrong) -> bool {
+    if !runs.play_whole(call) {
+        return false;
     }
+    let holds = runs.is_told_and_closed();
+    runs.expect(holds, wrong, call.number)
+}
+
+// A peer was closed.
+fn is_closed<R: Runs>(case: Case<'_>, runs: &mut R, call: Call<'_>, slot: u8) -> bool {
+    is_told_and_closed(runs, call, Wrong::OtherwiseWhereClosed)
+        && runs.shows_alike(Ending::Closed(slot), Scope::Whole, call.number)
+        && runs.take_all(call, slot)
+        && is_told_why(case, runs, call.number)
+        && comes_again(case, runs, call, slot)
+}
+
+fn is_told_why<R: Runs>(case: Case<'_>, runs: &mut R, number: u64) -> bool {
+    let holds = ends_by_why(runs.answer(), case.rows);
+    runs.expect(holds, Wrong::PeerUntold, number)
 }
 
 // Whether octets that were handed out end by the NOTIFICATION, and are as many as the rows of the case say.
@@ -272,85 +235,52 @@ fn ends_by_why(answer: &[u8], rows: &[u8]) -> bool {
     is_of_length && answer.ends_with(OUT_OF_RESOURCES)
 }
 
-// The peer that was closed comes again. Whether it doesn't.
-fn comes_again<A: Allocator + Clone + Copy>(
-    case: &Case,
-    pair: &mut Pair<A>,
-    number: u64,
-    slot: u8,
-) -> Result<bool, Fault>
-    requires { 1 ≤ number }
-{
-    let mut is_apart = true;
-    for line in case
-        .again
-        .as_slice()
-        .split_inclusive(|octet| *octet == b'\n')
-    {
-        if is_for(line, slot) {
-            is_apart = false;
-            pair.play(number, line)?;
-            if !pair.answers(b"ok\n") {
-                return Err(Fault::Wrong(Wrong::PeerAway, number));
-            }
+// The peer that was closed comes again, by the lines that are for it.
+fn comes_again<R: Runs>(case: Case<'_>, runs: &mut R, call: Call<'_>, slot: u8) -> bool {
+    for line in Lines::of(case.again) {
+        if is_for(line, slot) && !is_taken(runs, call.with(line)) {
+            return false;
         }
     }
-    Ok(is_apart)
+    true
+}
+
+fn is_taken<R: Runs>(runs: &mut R, call: Call<'_>) -> bool {
+    runs.play(call) && runs.expect_answer(b"ok\n", Wrong::PeerAway, call.number)
 }
 
 // The session with the cache was closed. What is in force is what was before the call.
-fn cache_is_closed<A: Allocator + Clone + Copy>(
-    pair: &mut Pair<A>,
-    number: u64,
-    call: &[u8],
-) -> Result<(), Fault>
-    requires { 1 ≤ number }
-{
-    are_alike(pair, number, Ending::CacheClosed)?;
-    pair.play_whole(number, call)?;
-    if !is_told_and_closed(pair.answer.as_slice(), pair.told.as_slice()) {
-        return Err(Fault::Wrong(Wrong::OtherwiseWhereCacheClosed, number));
-    }
-    pair.play(number, b"rtake 65536")?;
-    if pair.answers(INTERNAL_ERROR) {
-        Ok(())
-    } else {
-        Err(Fault::Wrong(Wrong::CacheUntold, number))
-    }
+fn cache_is_closed<R: Runs>(runs: &mut R, call: Call<'_>) -> bool {
+    runs.shows_alike(Ending::CacheClosed, Scope::Whole, call.number)
+        && is_told_and_closed(runs, call, Wrong::OtherwiseWhereCacheClosed)
+        && runs.play(call.with(b"rtake 65536"))
+        && runs.expect_answer(INTERNAL_ERROR, Wrong::CacheUntold, call.number)
 }
 
 // A client of the cache was closed: another comes in its place, and makes the call again.
-fn client_is_closed<A: Allocator + Clone + Copy>(
-    case: &Case,
-    pair: &mut Pair<A>,
-    number: u64,
-    call: &[u8],
-    key: u64,
-) -> Result<(), Fault>
-    requires { 1 ≤ number }
-{
-    pair.play_whole(number, call)?;
-    are_alike(pair, number, Ending::ClientClosed(key))?;
-    for line in case
-        .again
-        .as_slice()
-        .split_inclusive(|octet| *octet == b'\n')
-    {
-        come_at_last(case, pair, number, line)?;
-        if !is_granted(pair.answer.as_slice(), key) {
-            return Err(Fault::Wrong(Wrong::ClientAway, number));
+fn client_is_closed<R: Runs>(case: Case<'_>, runs: &mut R, call: Call<'_>, key: u64) -> bool {
+    runs.play_whole(call)
+        && runs.shows_alike(Ending::ClientClosed(key), Scope::Whole, call.number)
+        && client_comes_again(case, runs, call, key)
+        && is_as_told_at_last(case, runs, call)
+}
+
+fn client_comes_again<R: Runs>(case: Case<'_>, runs: &mut R, call: Call<'_>, key: u64) -> bool {
+    for line in Lines::of(case.again) {
+        if !comes_at_last(case, runs, call.with(line)) || !is_granted(runs, key, call.number) {
+            return false;
         }
     }
-    come_at_last(case, pair, number, call)?;
-    if pair.is_as_told() {
-        Ok(())
-    } else {
-        Err(Fault::Wrong(Wrong::OtherwiseAgain, number))
-    }
+    true
+}
+
+fn is_granted<R: Runs>(runs: &mut R, key: u64, number: u64) -> bool {
+    let holds = grants(runs.answer(), key);
+    runs.expect(holds, Wrong::ClientAway, number)
 }
 
 // Whether a line for the client was taken, or the client has come up.
-fn is_granted(answer: &[u8], key: u64) -> bool {
+fn grants(answer: &[u8], key: u64) -> bool {
     answer == b"ok\n".as_slice()
         || answer.starts_with(b"client ") && number_at(row_of(answer), 1) == Some(key)
 }

@@ -8,12 +8,16 @@
 //! `has ENDING` and `not ENDING`: some refused request came to this, or none did: `refused`, `closed SLOT`, `closed
 //! cache` or `client KEY`, and where a number follows, at the call of this number.
 
-use crate::calls::{number_of, row_of};
+use crate::lines::{Lines, number_of, place_of, row_of};
 
 /// What stands behind the first row that begins with this word.
 fn row<'a>(rows: &'a [u8], word: &[u8]) -> Option<&'a [u8]> {
-    rows.split_inclusive(|octet| *octet == b'\n')
-        .find_map(|line| row_of(line).strip_prefix(word))
+    for line in Lines::of(rows) {
+        if let Some(behind) = row_of(line).strip_prefix(word) {
+            return Some(behind);
+        }
+    }
+    None
 }
 
 /// The number behind the word.
@@ -39,31 +43,46 @@ pub fn is_met(row: &[u8], endings: &[u8]) -> bool {
 
 // Whether a line of them begins with these words.
 fn came(endings: &[u8], words: &[u8]) -> bool {
-    endings
-        .split_inclusive(|octet| *octet == b'\n')
-        .any(|line| match line.strip_prefix(words) {
-            Some(rest) => rest.starts_with(b" ") || rest.starts_with(b"\n"),
-            None => false,
-        })
+    for line in Lines::of(endings) {
+        if begins(line, words) {
+            return true;
+        }
+    }
+    false
+}
+
+fn begins(line: &[u8], words: &[u8]) -> bool {
+    match line.strip_prefix(words) {
+        Some(rest) => rest.starts_with(b" ") || rest.starts_with(b"\n"),
+        None => false,
+    }
 }
 
 /// How many endings are such.
 pub fn count_of(endings: &[u8], words: &[u8]) -> usize {
-    endings
-        .split_inclusive(|octet| *octet == b'\n')
-        .filter(|line| line.starts_with(words))
-        .count()
+    let mut count = 0usize;
+    for line in Lines::of(endings) {
+        if line.starts_with(words) {
+            count = count.saturating_add(1);
+        }
+    }
+    count
 }
 
 /// The line that is asked where this call was refused, and its answer.
 pub fn asked(row: &[u8], number: u64) -> Option<(&[u8], &[u8])> {
-    let row = row.strip_prefix(b"ask ")?;
-    let place = row.iter().position(|octet| *octet == b' ')?;
-    let (call, rest) = row.split_at_checked(place)?;
-    if number_of(call)? != number {
-        return None;
+    let (call, line) = split_word(row.strip_prefix(b"ask ")?)?;
+    if number_of(call) == Some(number) {
+        split_answer(line)
+    } else {
+        None
     }
-    split_answer(rest.strip_prefix(b" ")?)
+}
+
+// Cuts at the first space.
+fn split_word(row: &[u8]) -> Option<(&[u8], &[u8])> {
+    let (word, rest) = row.split_at_checked(place_of(row, b' ')?)?;
+    Some((word, rest.strip_prefix(b" ")?))
 }
 
 // Cuts at ` -> `.

@@ -1,8 +1,8 @@
 //! What a speaker or a cache shows, beside another that has played the same calls.
 
-use crate::calls::{number_at, row_of, word_at};
 use crate::endings::Ending;
-use crate::pair::Pair;
+use crate::fault::{Fault, Wrong};
+use crate::lines::{Lines, number_at, row_of, split_line, word_at};
 use rtr_cache::Cache;
 use scenario::{Stage, Table, show};
 use speaker::{Speaker, Transport};
@@ -12,70 +12,92 @@ use std::io;
 // More slots than peers and clients have.
 const SLOTS: u8 = 64;
 
-/// Whether both show the same, but for what a closing leaves.
+/// What shows tables and what stands between it and its peers: a speaker, whatever it is made of.
+trait View {
+    fn show(&self, table: Table, text: &mut Vec<u8>) -> io::Result<()>;
+
+    fn transport(&self, slot: u8) -> Transport;
+
+    fn cache_transport(&self) -> Transport;
+
+    fn chosen(&self) -> u64;
+}
+
+impl<A: Allocator + Clone> View for Speaker<A> {
+    fn show(&self, table: Table, text: &mut Vec<u8>) -> io::Result<()> {
+        show(self, table, text)
+    }
+
+    fn transport(&self, slot: u8) -> Transport {
+        Speaker::transport(self, slot)
+    }
+
+    fn cache_transport(&self) -> Transport {
+        Speaker::cache_transport(self)
+    }
+
+    fn chosen(&self) -> u64 {
+        Speaker::chosen(self)
+    }
+}
+
+/// What is compared: all, or at the end of a script only the sessions, Loc-RIB and the routes as received, where a peer
+/// was closed and hasn't come again.
+#[derive(Clone, Copy)]
+pub enum Scope {
+    Whole,
+    End,
+}
+
+impl Scope {
+    /// What is wrong where both aren't alike.
+    pub fn wrong(self) -> Wrong {
+        match self {
+            Scope::Whole => Wrong::ChangedMore,
+            Scope::End => Wrong::OtherEnd,
+        }
+    }
+
+    fn has(self, table: Table) -> bool {
+        match self {
+            Scope::Whole => true,
+            Scope::End => matches!(table, Table::Sessions | Table::Rib | Table::In(_)),
+        }
+    }
+
+    fn is_whole(self) -> bool {
+        matches!(self, Scope::Whole)
+    }
+}
+
+/// Whether both show the same, but for what the ending leaves.
 pub fn shows_alike<A: Allocator + Clone + Copy>(
-    pair: &Pair<A>,
+    alloc: Global,
+    tested: &Stage<A>,
+    whole: &Stage,
     ending: Ending,
-) -> io::Result<bool> {
-    if !are_connected_alike(&pair.tested, &pair.whole, ending) {
+    scope: Scope,
+) -> Result<bool, Fault> {
+    if scope.is_whole() && !are_caches_alike(tested.cache(), whole.cache(), ending) {
         return Ok(false);
     }
-    match (pair.tested.speaker(), pair.whole.speaker()) {
-        (Some(tested), Some(whole)) => have_tables_alike(pair.alloc, tested, whole, ending),
-        (None, None) => Ok(true),
+    match (tested.speaker(), whole.speaker()) {
+        (Some(tested), Some(whole)) => are_speakers_alike(alloc, tested, whole, ending, scope),
+        (None, None) => Ok(scope.is_whole()),
         _ => Ok(false),
     }
 }
 
-fn are_connected_alike<A: Allocator + Clone + Copy>(
-    tested: &Stage<A>,
-    whole: &Stage,
+fn are_caches_alike<A: Allocator + Clone>(
+    tested: Option<&Cache<A>>,
+    whole: Option<&Cache>,
     ending: Ending,
 ) -> bool {
-    let are_peers_alike = match (tested.speaker(), whole.speaker()) {
-        (Some(tested), Some(whole)) => are_peers_alike(tested, whole, ending),
-        (None, None) => true,
-        _ => false,
-    };
-    let are_clients_alike = match (tested.cache(), whole.cache()) {
+    match (tested, whole) {
         (Some(tested), Some(whole)) => are_clients_alike(tested, whole, ending),
         (None, None) => true,
         _ => false,
-    };
-    are_peers_alike && are_clients_alike
-}
-
-// Where nothing was closed, a best route has been chosen as often in the last call.
-fn are_peers_alike<A: Allocator + Clone>(
-    tested: &Speaker<A>,
-    whole: &Speaker,
-    ending: Ending,
-) -> bool {
-    for slot in 0..SLOTS {
-        let wanted = if ending == Ending::Closed(slot) {
-            Transport::Closing
-        } else {
-            whole.transport(slot)
-        };
-        if tested.transport(slot) != wanted {
-            return false;
-        }
     }
-    has_cache_alike(tested, whole, ending)
-        && (ending != Ending::Refused || tested.chosen() == whole.chosen())
-}
-
-fn has_cache_alike<A: Allocator + Clone>(
-    tested: &Speaker<A>,
-    whole: &Speaker,
-    ending: Ending,
-) -> bool {
-    let wanted = if ending == Ending::CacheClosed {
-        Transport::Closing
-    } else {
-        whole.cache_transport()
-    };
-    tested.cache_transport() == wanted
 }
 
 fn are_clients_alike<A: Allocator + Clone>(
@@ -84,11 +106,7 @@ fn are_clients_alike<A: Allocator + Clone>(
     ending: Ending,
 ) -> bool {
     for key in 0..u64::from(SLOTS) {
-        let wanted = if ending == Ending::ClientClosed(key) {
-            Transport::Closing
-        } else {
-            whole.transport(key)
-        };
+        let wanted = left(whole.transport(key), ending == Ending::ClientClosed(key));
         if tested.transport(key) != wanted {
             return false;
         }
@@ -96,87 +114,186 @@ fn are_clients_alike<A: Allocator + Clone>(
     true
 }
 
-// The rows of a table of each of the two, and those of Loc-RIB of the second.
+// What the connection of a slot, a client or the cache is where it stays, or was closed.
+fn left(transport: Transport, is_closed: bool) -> Transport {
+    if is_closed {
+        Transport::Closing
+    } else {
+        transport
+    }
+}
+
+fn are_speakers_alike<T: View, U: View>(
+    alloc: Global,
+    tested: &T,
+    whole: &U,
+    ending: Ending,
+    scope: Scope,
+) -> Result<bool, Fault> {
+    if scope.is_whole() && !are_connected_alike(tested, whole, ending) {
+        return Ok(false);
+    }
+    have_tables_alike(alloc, tested, whole, ending, scope)
+}
+
+// Where nothing was closed, a best route has been chosen as often in the last call.
+fn are_connected_alike<T: View, U: View>(tested: &T, whole: &U, ending: Ending) -> bool {
+    are_peers_alike(tested, whole, ending)
+        && has_cache_alike(tested, whole, ending)
+        && (ending != Ending::Refused || tested.chosen() == whole.chosen())
+}
+
+fn are_peers_alike<T: View, U: View>(tested: &T, whole: &U, ending: Ending) -> bool {
+    for slot in 0..SLOTS {
+        let wanted = left(whole.transport(slot), ending == Ending::Closed(slot));
+        if tested.transport(slot) != wanted {
+            return false;
+        }
+    }
+    true
+}
+
+fn has_cache_alike<T: View, U: View>(tested: &T, whole: &U, ending: Ending) -> bool {
+    tested.cache_transport() == left(whole.cache_transport(), ending == Ending::CacheClosed)
+}
+
+// The rows of a table of each of the two, and those of Loc-RIB of the second. Whether there was no memory for them.
 #[derive(Drop)]
 struct Texts {
     tested: Vec<u8>,
     whole: Vec<u8>,
     rib: Vec<u8>,
+    is_short: bool,
 }
 
-fn have_tables_alike<A: Allocator + Clone>(
-    alloc: Global,
-    tested: &Speaker<A>,
-    whole: &Speaker,
-    ending: Ending,
-) -> io::Result<bool> {
-    let mut texts = Texts {
-        tested: Vec::new(alloc),
-        whole: Vec::new(alloc),
-        rib: Vec::new(alloc),
-    };
-    are_all_alike(&mut texts, tested, whole, ending)
-}
-
-fn are_all_alike<A: Allocator + Clone>(
-    texts: &mut Texts,
-    tested: &Speaker<A>,
-    whole: &Speaker,
-    ending: Ending,
-) -> io::Result<bool> {
-    show(whole, Table::Rib, &mut texts.rib)?;
-    if !is_alike(texts, tested, whole, Table::Rib, ending)?
-        || !is_alike(texts, tested, whole, Table::Sessions, ending)?
-        || !is_alike(texts, tested, whole, Table::Payloads, ending)?
-    {
-        return Ok(false);
-    }
-    for slot in 0..SLOTS {
-        if !is_peer_alike(texts, tested, whole, slot, ending)? {
-            return Ok(false);
+impl Texts {
+    fn new(alloc: Global) -> Texts {
+        Texts {
+            tested: Vec::new(alloc),
+            whole: Vec::new(alloc),
+            rib: Vec::new(alloc),
+            is_short: false,
         }
     }
-    Ok(true)
+
+    // Whether it was shown.
+    fn keep(&mut self, shown: io::Result<()>) -> bool {
+        if shown.is_err() {
+            self.is_short = true;
+            return false;
+        }
+        true
+    }
 }
 
-fn is_peer_alike<A: Allocator + Clone>(
-    texts: &mut Texts,
-    tested: &Speaker<A>,
-    whole: &Speaker,
-    slot: u8,
+fn have_tables_alike<T: View, U: View>(
+    alloc: Global,
+    tested: &T,
+    whole: &U,
     ending: Ending,
-) -> io::Result<bool> {
-    Ok(
-        is_alike(texts, tested, whole, Table::In(slot), ending)?
-            && is_alike(texts, tested, whole, Table::Held(slot), ending)?
-            && is_alike(texts, tested, whole, Table::Waiting(slot), ending)?,
-    )
+    scope: Scope,
+) -> Result<bool, Fault> {
+    let mut texts = Texts::new(alloc);
+    let are_alike = are_all_alike(&mut texts, tested, whole, ending, scope);
+    if texts.is_short {
+        Err(Fault::Device)
+    } else {
+        Ok(are_alike)
+    }
 }
 
-fn is_alike<A: Allocator + Clone>(
+fn are_all_alike<T: View, U: View>(
     texts: &mut Texts,
-    tested: &Speaker<A>,
-    whole: &Speaker,
+    tested: &T,
+    whole: &U,
+    ending: Ending,
+    scope: Scope,
+) -> bool {
+    show_rib(texts, whole)
+        && are_common_alike(texts, tested, whole, ending, scope)
+        && are_slots_alike(texts, tested, whole, ending, scope)
+}
+
+fn show_rib<U: View>(texts: &mut Texts, whole: &U) -> bool {
+    let shown = whole.show(Table::Rib, &mut texts.rib);
+    texts.keep(shown)
+}
+
+fn are_common_alike<T: View, U: View>(
+    texts: &mut Texts,
+    tested: &T,
+    whole: &U,
+    ending: Ending,
+    scope: Scope,
+) -> bool {
+    let tables = [Table::Rib, Table::Sessions, Table::Payloads];
+    are_alike(texts, tested, whole, &tables, ending, scope)
+}
+
+fn are_slots_alike<T: View, U: View>(
+    texts: &mut Texts,
+    tested: &T,
+    whole: &U,
+    ending: Ending,
+    scope: Scope,
+) -> bool {
+    for slot in 0..SLOTS {
+        let tables = [Table::In(slot), Table::Held(slot), Table::Waiting(slot)];
+        if !are_alike(texts, tested, whole, &tables, ending, scope) {
+            return false;
+        }
+    }
+    true
+}
+
+fn are_alike<T: View, U: View>(
+    texts: &mut Texts,
+    tested: &T,
+    whole: &U,
+    tables: &[Table],
+    ending: Ending,
+    scope: Scope,
+) -> bool {
+    for table in tables {
+        if scope.has(*table) && !is_alike(texts, tested, whole, *table, ending) {
+            return false;
+        }
+    }
+    true
+}
+
+fn is_alike<T: View, U: View>(
+    texts: &mut Texts,
+    tested: &T,
+    whole: &U,
     table: Table,
     ending: Ending,
-) -> io::Result<bool> {
+) -> bool {
+    are_shown(texts, tested, whole, table) && is_left_of(texts, table, ending)
+}
+
+fn are_shown<T: View, U: View>(texts: &mut Texts, tested: &T, whole: &U, table: Table) -> bool {
     texts.tested.clear();
     texts.whole.clear();
-    show(tested, table, &mut texts.tested)?;
-    show(whole, table, &mut texts.whole)?;
-    Ok(is_left(
+    let first = tested.show(table, &mut texts.tested);
+    let second = whole.show(table, &mut texts.whole);
+    texts.keep(first) && texts.keep(second)
+}
+
+fn is_left_of(texts: &Texts, table: Table, ending: Ending) -> bool {
+    is_left(
         table,
         texts.tested.as_slice(),
         texts.whole.as_slice(),
         texts.rib.as_slice(),
         ending,
-    ))
+    )
 }
 
 /// Whether these are the rows of the table that the ending leaves of those that there would be.
 fn is_left(table: Table, tested: &[u8], whole: &[u8], rib: &[u8], ending: Ending) -> bool {
     match (ending, table) {
-        (Ending::CacheClosed, Table::Sessions) => are_idle(tested, whole, b"cache", b"cache Off\n"),
+        (Ending::CacheClosed, Table::Sessions) => are_sessions_left(tested, whole, ending),
         (Ending::Closed(closed), table) => is_left_by(table, tested, whole, rib, closed),
         _ => tested == whole,
     }
@@ -185,111 +302,72 @@ fn is_left(table: Table, tested: &[u8], whole: &[u8], rib: &[u8], ending: Ending
 // The same where this slot was closed: its routes are gone, and it holds nothing. The best routes are of others.
 fn is_left_by(table: Table, tested: &[u8], whole: &[u8], rib: &[u8], closed: u8) -> bool {
     match table {
-        Table::Sessions => is_session_idle(tested, whole, closed),
-        Table::Rib => is_rib_left(tested, whole, closed),
+        Table::Sessions => are_sessions_left(tested, whole, Ending::Closed(closed)),
+        Table::Rib => are_routes_left(tested, whole, None, closed),
         Table::Payloads => tested == whole,
         Table::In(slot) | Table::Held(slot) | Table::Waiting(slot) if slot == closed => {
             tested == b"end\n".as_slice()
         }
         Table::In(_) => tested == whole,
-        Table::Held(_) | Table::Waiting(_) => are_told_left(tested, whole, rib, closed),
+        Table::Held(_) | Table::Waiting(_) => are_routes_left(tested, whole, Some(rib), closed),
     }
 }
 
-fn is_of(row: &[u8], place: usize, slot: u8) -> bool {
-    number_at(row_of(row), place) == Some(u64::from(slot))
+// Whether all rows of the sessions are the same, but for that of the one that was closed.
+fn are_sessions_left(tested: &[u8], whole: &[u8], ending: Ending) -> bool {
+    let mut tested = tested;
+    for row in Lines::of(whole) {
+        match split_line(tested) {
+            Some((first, behind)) if is_session_left(first, row, ending) => tested = behind,
+            _ => return false,
+        }
+    }
+    tested.is_empty()
 }
 
-fn is_session_idle(tested: &[u8], whole: &[u8], closed: u8) -> bool {
-    tested.split_inclusive(|octet| *octet == b'\n').count()
-        == whole.split_inclusive(|octet| *octet == b'\n').count()
-        && tested
-            .split_inclusive(|octet| *octet == b'\n')
-            .zip(whole.split_inclusive(|octet| *octet == b'\n'))
-            .all(|(tested, whole)| {
-                if is_of(whole, 0, closed) {
-                    is_of(tested, 0, closed) && tested.ends_with(b" Idle\n")
-                } else {
-                    tested == whole
-                }
-            })
+fn is_session_left(tested: &[u8], whole: &[u8], ending: Ending) -> bool {
+    match ending {
+        Ending::Closed(slot) if is_of(whole, 0, slot) => {
+            is_of(tested, 0, slot) && tested.ends_with(b" Idle\n")
+        }
+        Ending::CacheClosed if whole.starts_with(b"cache") => tested == b"cache Off\n".as_slice(),
+        _ => tested == whole,
+    }
 }
 
-// Whether all rows are alike, but for the one that begins with this word, in the place of which the other stands.
-fn are_idle(tested: &[u8], whole: &[u8], word: &[u8], idle: &[u8]) -> bool {
-    tested.split_inclusive(|octet| *octet == b'\n').count()
-        == whole.split_inclusive(|octet| *octet == b'\n').count()
-        && tested
-            .split_inclusive(|octet| *octet == b'\n')
-            .zip(whole.split_inclusive(|octet| *octet == b'\n'))
-            .all(|(tested, whole)| {
-                if whole.starts_with(word) {
-                    tested == idle
-                } else {
-                    tested == whole
-                }
-            })
+// Whether the rows are those that there would be, without those of the closed slot.
+fn are_routes_left(tested: &[u8], whole: &[u8], rib: Option<&[u8]>, closed: u8) -> bool {
+    let mut tested = tested;
+    for row in Lines::of(whole) {
+        if !goes(row, rib, closed) {
+            match tested.strip_prefix(row) {
+                Some(behind) => tested = behind,
+                None => return false,
+            }
+        }
+    }
+    tested.is_empty()
 }
 
-fn is_rib_left(tested: &[u8], whole: &[u8], closed: u8) -> bool {
-    whole
-        .split_inclusive(|octet| *octet == b'\n')
-        .filter(|row| !is_of(row, 1, closed))
-        .eq(tested.split_inclusive(|octet| *octet == b'\n'))
-}
-
-fn are_told_left(tested: &[u8], whole: &[u8], rib: &[u8], closed: u8) -> bool {
-    whole
-        .split_inclusive(|octet| *octet == b'\n')
-        .filter(|row| !is_best_of(rib, row, closed))
-        .eq(tested.split_inclusive(|octet| *octet == b'\n'))
+// Whether the row goes with the slot: its best route is one of the slot's by Loc-RIB, or by itself.
+fn goes(row: &[u8], rib: Option<&[u8]>, closed: u8) -> bool {
+    match rib {
+        Some(rib) => is_best_of(rib, row, closed),
+        None => is_of(row, 1, closed),
+    }
 }
 
 // Whether the best route of the row's prefix is one of the slot's.
 fn is_best_of(rib: &[u8], row: &[u8], slot: u8) -> bool {
     let prefix = word_at(row_of(row), 0);
-    rib.split_inclusive(|octet| *octet == b'\n').any(|best| is_of(best, 1, slot)
-        && word_at(row_of(best), 0) == prefix)
-}
-
-/// Whether at the end of a script both show the same sessions, Loc-RIB and routes as received, but for what went with
-/// the closed slot, which hasn't come again.
-pub fn ends_alike<A: Allocator + Clone + Copy>(pair: &Pair<A>, closed: u8) -> io::Result<bool> {
-    match (pair.tested.speaker(), pair.whole.speaker()) {
-        (Some(tested), Some(whole)) => have_routes_alike(pair.alloc, tested, whole, closed),
-        _ => Ok(false),
-    }
-}
-
-fn have_routes_alike<A: Allocator + Clone>(
-    alloc: Global,
-    tested: &Speaker<A>,
-    whole: &Speaker,
-    closed: u8,
-) -> io::Result<bool> {
-    let mut texts = Texts {
-        tested: Vec::new(alloc),
-        whole: Vec::new(alloc),
-        rib: Vec::new(alloc),
-    };
-    are_routes_alike(&mut texts, tested, whole, Ending::Closed(closed))
-}
-
-fn are_routes_alike<A: Allocator + Clone>(
-    texts: &mut Texts,
-    tested: &Speaker<A>,
-    whole: &Speaker,
-    ending: Ending,
-) -> io::Result<bool> {
-    if !is_alike(texts, tested, whole, Table::Sessions, ending)?
-        || !is_alike(texts, tested, whole, Table::Rib, ending)?
-    {
-        return Ok(false);
-    }
-    for slot in 0..SLOTS {
-        if !is_alike(texts, tested, whole, Table::In(slot), ending)? {
-            return Ok(false);
+    for best in Lines::of(rib) {
+        if is_of(best, 1, slot) && word_at(row_of(best), 0) == prefix {
+            return true;
         }
     }
-    Ok(true)
+    false
+}
+
+fn is_of(row: &[u8], place: usize, slot: u8) -> bool {
+    number_at(row_of(row), place) == Some(u64::from(slot))
 }

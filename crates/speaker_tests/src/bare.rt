@@ -6,7 +6,7 @@ use std::alloc::Allocator;
 
 /// What is looked at behind a run.
 pub trait Look {
-    type Answer;
+    type Answer: Drop;
 
     fn look<A: Allocator + Clone>(
         &self,
@@ -15,18 +15,32 @@ pub trait Look {
     ) -> Self::Answer;
 }
 
-/// Plays the events by `run`, and looks at what that makes. No other function owns a speaker: each that does has to
-/// prove how it is let go.
+/// Plays the events by `run`, and looks at what that makes.
 pub fn on_run<A: Allocator + Clone + Copy, L: Look>(
     alloc: A,
     config: Config,
     events: &[Event<'_>],
     look: &L,
 ) -> Result<L::Answer, Refusal> {
-    match run(alloc, config, events) {
-        Ok(trace) => Ok(look.look(trace.answers.as_slice(), &trace.speaker)),
+    lend(run(alloc, config, events), |trace| look_at(trace, look))
+}
+
+// Lends what was made to the work. Only here is a speaker owned, and let go: what has many parts makes each way out dear of
+// a function that owns it and knows them.
+fn lend<T: Drop, R: Drop, W: FnOnce(&T) -> R>(
+    made: Result<T, Refusal>,
+    work: W,
+) -> Result<R, Refusal>
+    requires { W.IsAlwaysCallable work }
+{
+    match made {
+        Ok(owned) => Ok(work(&owned)),
         Err(why) => Err(why),
     }
+}
+
+fn look_at<A: Allocator + Clone, L: Look>(trace: &Trace<A>, look: &L) -> L::Answer {
+    look.look(trace.answers.as_slice(), &trace.speaker)
 }
 
 fn run<A: Allocator + Clone + Copy>(

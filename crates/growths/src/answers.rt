@@ -1,0 +1,104 @@
+//! What a stage answers to a call.
+
+use crate::calls::Call;
+use crate::fault::Fault;
+use crate::lines::{Lines, number_at, row_of};
+use scenario::Stage;
+use speaker::{Speaker, Transport};
+use std::alloc::{Allocator, Global};
+use std::io::{self, Write};
+
+/// Plays the lines of a call, and puts in what they answer in the place of what the text was.
+pub fn answer<A: Allocator + Clone + Copy>(
+    stage: &mut Stage<A>,
+    call: Call<'_>,
+    text: &mut Vec<u8>,
+) -> Result<(), Fault> {
+    text.clear();
+    for line in Lines::of(call.text) {
+        answer_line(stage, call.with(line), text)?;
+    }
+    Ok(())
+}
+
+/// Has all octets of a slot handed out at this call.
+pub fn take_all<A: Allocator + Clone + Copy>(
+    stage: &mut Stage<A>,
+    call: Call<'_>,
+    slot: u8,
+    alloc: Global,
+    text: &mut Vec<u8>,
+) -> Result<(), Fault> {
+    let line = format!(in alloc; "take {slot} 65536")?;
+    answer(stage, call.with(line.as_str().as_bytes()), text)
+}
+
+fn answer_line<A: Allocator + Clone + Copy>(
+    stage: &mut Stage<A>,
+    line: Call<'_>,
+    text: &mut Vec<u8>,
+) -> Result<(), Fault> {
+    if is_look(line.text) {
+        look(stage, line.text, text).map_err(Fault::from)
+    } else {
+        play_line(stage, line, text)
+    }
+}
+
+fn play_line<A: Allocator + Clone + Copy>(
+    stage: &mut Stage<A>,
+    line: Call<'_>,
+    text: &mut Vec<u8>,
+) -> Result<(), Fault> {
+    match stage.play_line(line.number, line.text, text) {
+        Ok(()) => Ok(()),
+        Err(fault) => Err(Fault::from(fault)),
+    }
+}
+
+// Whether the line asks for what no other line shows: how often a best route was chosen in the speaker's last call, the
+// slots whose connection attempts began in it, or the transport of a slot.
+fn is_look(line: &[u8]) -> bool {
+    line == b"chosen\n".as_slice()
+        || line == b"opened\n".as_slice()
+        || line.starts_with(b"transport ")
+}
+
+fn look<A: Allocator + Clone + Copy>(
+    stage: &Stage<A>,
+    line: &[u8],
+    text: &mut Vec<u8>,
+) -> io::Result<()> {
+    let Some(speaker) = stage.speaker() else {
+        return Ok(());
+    };
+    if line == b"chosen\n".as_slice() {
+        return write_chosen(speaker.chosen(), text);
+    }
+    match number_at(row_of(line), 1) {
+        Some(slot) => write_transport(transport_at(speaker, slot), text),
+        None => write_opened(stage.report().opened, text),
+    }
+}
+
+fn transport_at<A: Allocator + Clone>(speaker: &Speaker<A>, slot: u64) -> Transport {
+    speaker.transport(u8::try_from(slot).unwrap_or(u8::MAX))
+}
+
+fn write_chosen(chosen: u64, text: &mut Vec<u8>) -> io::Result<()> {
+    writeln!(text, "chosen {chosen}")
+}
+
+fn write_transport(transport: Transport, text: &mut Vec<u8>) -> io::Result<()> {
+    writeln!(text, "{transport:?}")
+}
+
+fn write_opened(opened: u64, text: &mut Vec<u8>) -> io::Result<()> {
+    write!(text, "opened")?;
+    for slot in 0..64u8 {
+        if (opened >> slot) & 1 == 1 {
+            write!(text, " {slot}")?;
+        }
+    }
+    writeln!(text)
+}
