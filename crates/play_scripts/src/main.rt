@@ -2,88 +2,83 @@
 //!
 //! The file `scripts` names them, one a line; empty lines and lines that begin with `#` are passed over. The lines of
 //! `NAME.in` are handed to `scenario::play`, and the answers must be `NAME.out`, octet for octet, where the bad line that
-//! ends a script is its last answer. A file may have several cases (`cases`), and messages that are cut at each octet
-//! (`cutting`). Each name has a line on standard output, and the last line counts them.
+//! ends a script is its last answer. A file may have several cases, and messages that are cut at each octet
+//! (`script_files`). Each name has a line on standard output, and the last line counts them.
 //!
 //! Exit status 0 where all answer as told; 1 where one doesn't; 2 where a file can't be read or memory is wanting.
 #![tactic(auto)]
+ghost use Rattle.std.specs.Prelude.{⊤};
 
-mod cases;
-mod comparing;
-mod cutting;
-mod playing;
-mod tally;
-
-use playing::{Difference, Outcome, Unplayed, play_file};
-use std::alloc::AllocGlobal;
+use scenario::{PlayFault, play};
+use script_files::{Player, Shelf, Tally, Unplayed, play_listed};
+use std::alloc::{AllocGlobal, Global};
 use std::fs;
 use std::io::{self, LineWriter, Write};
 use std::process::ExitCode;
 use std::rt::Files;
-use tally::Tally;
 
-// Plays the scripts of the list, and counts them.
-fn play_all<R: Files + AllocGlobal, O: Write>(rt: &R, output: &mut O) -> Result<Tally, Unplayed> {
-    let list = fs::read_to_string(rt, "scripts")?;
-    let mut tally = Tally::NONE;
-    for name in list.lines() {
-        if !name.is_empty() && !name.starts_with('#') {
-            tally.count(play_named(rt, name, output)?);
-        }
-    }
-    let (scripts, as_told) = (tally.scripts(), tally.as_told);
-    writeln!(output, "{scripts} scripts, {as_told} as told")?;
-    Ok(tally)
+/// The speaker and the cache of the scenario's language.
+#[derive(Drop)]
+struct Scenario {
+    alloc: Global,
 }
 
-// Plays the file of this name, and tells what came of it; answers whether that is as told.
-fn play_named<R: Files + AllocGlobal, O: Write>(
-    rt: &R,
-    name: &str,
-    output: &mut O,
-) -> Result<bool, Unplayed> {
-    let script = read(rt, name, "in")?;
-    let told = read(rt, name, "out")?;
-    match play_file(rt.alloc(), script.as_slice(), told.as_slice())? {
-        Outcome::AsTold(plays) => {
-            tell_plays(name, plays, output)?;
-            Ok(true)
-        }
-        Outcome::Differs(difference) => {
-            tell_difference(name, &difference, output)?;
-            Ok(false)
+impl Player for Scenario {
+    // What it answers, its scripts show.
+    ghost answers = { λ player script found. ⊤ };
+
+    fn play(&self, script: &[u8]) -> Result<Vec<u8>, Unplayed> {
+        let mut written = Vec::new(self.alloc);
+        match play(self.alloc, script, &mut written) {
+            Ok(()) => Ok(written),
+            Err(PlayFault::BadLine(number)) => {
+                let fault = PlayFault::BadLine(number);
+                writeln!(written, "{fault}")?;
+                Ok(written)
+            }
+            Err(_) => Err(Unplayed),
         }
     }
 }
 
-fn read<R: Files + AllocGlobal>(rt: &R, name: &str, ending: &str) -> Result<Vec<u8>, Unplayed> {
+/// The files of the data, `NAME.in` and `NAME.out` for each name.
+#[derive(Drop)]
+struct Data<'a, R> {
+    rt: &'a R,
+}
+
+impl<'a, R: Files + AllocGlobal> Shelf for Data<'a, R> {
+    // What a file has is the system's.
+    ghost scripts = { λ shelf name text. ⊤ };
+
+    ghost told_texts = { λ shelf name text. ⊤ };
+
+    fn script(&self, name: &[u8]) -> Result<Vec<u8>, Unplayed> {
+        read(self.rt, name, "in")
+    }
+
+    fn told(&self, name: &[u8]) -> Result<Vec<u8>, Unplayed> {
+        read(self.rt, name, "out")
+    }
+}
+
+fn read<R: Files + AllocGlobal>(rt: &R, name: &[u8], ending: &str) -> Result<Vec<u8>, Unplayed> {
+    let Ok(name) = str::from_utf8(name) else {
+        return Err(Unplayed);
+    };
     let path = format!(in rt.alloc(); "{name}.{ending}")?;
     Ok(fs::read(rt, path.as_str())?)
 }
 
-fn tell_plays<O: Write>(name: &str, plays: usize, output: &mut O) -> io::Result<()> {
-    match plays {
-        1 => writeln!(output, "{name}: as told"),
-        _ => writeln!(output, "{name}: as told, {plays} times"),
-    }
-}
-
-fn tell_difference<O: Write>(
-    name: &str,
-    difference: &Difference,
-    output: &mut O,
-) -> io::Result<()> {
-    let (case, place, line) = (difference.case, difference.place, difference.line);
-    write!(output, "{name}: case {case}, cut {place}, line {line}: ")?;
-    output.write_all(difference.answered.as_slice())?;
-    write!(output, " in place of ")?;
-    output.write_all(difference.told.as_slice())?;
-    writeln!(output)
-}
-
 fn run(rt: &HostRuntime) -> Result<Tally, Unplayed> {
     let mut output = LineWriter::new(rt.alloc(), io::writer(rt))?;
-    play_all(rt, &mut output)
+    let list = fs::read(rt, "scripts")?;
+    let player = Scenario { alloc: rt.alloc() };
+    let shelf = Data { rt };
+    let tally = play_listed(rt.alloc(), &player, &shelf, list.as_slice(), &mut output)?;
+    let (scripts, as_told) = (tally.scripts(), tally.as_told);
+    writeln!(output, "{scripts} scripts, {as_told} as told")?;
+    Ok(tally)
 }
 
 fn main(rt: HostRuntime) -> io::Result<ExitCode> {

@@ -1,2 +1,0 @@
-pub mod Comparison
-pub mod Counts

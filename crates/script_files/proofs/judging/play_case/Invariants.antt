@@ -1,0 +1,11 @@
+use Rattle.std.proofs.Common.{◌≤◌, ◌+◌, ◌-◌}
+use Rattle.script_files.specs.Judgement.{IsAnsweredBelow}
+use Rattle.script_files.proofs.judging.play_case.Given as goal
+
+abbrev pub invariant-loop-done : goal.invariant-loop-done
+invariant-loop-done g l =
+    (l.done ≤ l.end)
+    × IsAnsweredBelow (g.P.Player.answers l.fn.player) l.fn.script l.fn.told (l.done + 1)
+
+abbrev pub decreases-loop-done : goal.decreases-loop-done
+decreases-loop-done g l = l.end - l.done
