@@ -123,16 +123,27 @@ fn is_heard(alloc: Global, router: &mut TcpStream) -> Result<bool, Fail> {
     Ok(heard(alloc, router)?.as_slice() == HEARD.as_slice())
 }
 
+// Whether a router's day with these lists is told, and heard.
+fn goes_by(rt: &HostRuntime, listener: &TcpListener, lists: &[String]) -> Result<bool, Fail> {
+    let mut router = asking(rt, listener.local_addr()?)?;
+    let address = router.local_addr()?;
+    let stage = Stage::new(rt, listener, lists);
+    Ok(is_logged(rt, &stage, address)? && is_heard(rt.alloc(), &mut router)?)
+}
+
+// The same of lists in files.
+fn goes_by_on_files(rt: &HostRuntime, listener: &TcpListener) -> Result<bool, Fail> {
+    let lists = write_lists(rt)?;
+    let goes_by = goes_by(rt, listener, lists.as_slice())?;
+    for list in &lists {
+        remove(rt, list.as_str())?;
+    }
+    Ok(goes_by)
+}
+
 #[test]
 fn a_day_is_told_by_the_log(rt: HostRuntime) -> Result<(), Fail> {
     let listener = TcpListener::bind(&rt, "127.0.0.1:0")?;
-    let mut router = asking(&rt, listener.local_addr()?)?;
-    let lists = write_lists(&rt)?;
-    let stage = Stage::new(&rt, &listener, lists.as_slice());
-    assert!(rt; is_logged(&rt, &stage, router.local_addr()?)?);
-    assert!(rt; is_heard(rt.alloc(), &mut router)?);
-    for list in &lists {
-        remove(&rt, list.as_str())?;
-    }
+    assert!(rt; goes_by_on_files(&rt, &listener)?);
     Ok(())
 }

@@ -3,12 +3,12 @@
 use cache_program::{ListFault, Reread, ServedList};
 use cache_turns::CacheLoop;
 use net_wires::NetWire;
+use program_stages::lend;
 use rtr_cache::Cache;
 use rtr_codec::Intervals;
-use std::alloc::AllocGlobal;
+use std::alloc::{AllocGlobal, Global};
 use std::io::{self, ErrorKind, Read, Write};
 use std::net::{Net, SocketAddr, TcpListener, TcpStream};
-use std::process::Abort;
 use std::test::Fail;
 use wires::Wire;
 
@@ -41,7 +41,7 @@ const fn notify(serial: u8) -> [u8; 12] {
 }
 
 // A router that has asked for the list.
-fn router<R>(rt: &R, address: SocketAddr) -> Result<TcpStream, Fail>
+fn asking<R>(rt: &R, address: SocketAddr) -> io::Result<TcpStream>
 where
     R: Net<Listener = TcpListener, Stream = TcpStream>,
 {
@@ -51,121 +51,139 @@ where
     Ok(router)
 }
 
-// What comes to a router in so many turns.
-fn heard<R, W: Wire + Drop>(
-    rt: &R,
-    served: &mut ServedList<W>,
-    router: &mut TcpStream,
-) -> Result<Vec<u8>, Fail>
-where
-    R: AllocGlobal,
-{
-    let mut heard = Vec::new(rt.alloc());
+// Takes what has come, if anything has: whether it went well.
+fn takes<S: Read>(router: &mut S, heard: &mut Vec<u8>) -> bool {
     let mut buf = [0; 500];
-    for _ in 0..100 {
-        served.turn(0)?;
-        match router.read(&mut buf) {
-            Ok(count) => heard.extend_from_slice(&buf[..count])?,
-            Err(error) if error.kind() == ErrorKind::WouldBlock => {}
-            Err(error) => return Err(Fail::from(error)),
-        }
+    match router.read(&mut buf) {
+        Ok(count) => heard.extend_from_slice(&buf[..count]).is_ok(),
+        Err(error) => error.kind() == ErrorKind::WouldBlock,
     }
-    Ok(heard)
 }
 
-// Whether just these octets come to a router.
-fn hears<R, W: Wire + Drop>(
-    rt: &R,
+// Whether just these octets come to a router in so many turns.
+fn hears<W: Wire + Drop, S: Read>(
+    alloc: Global,
     served: &mut ServedList<W>,
-    router: &mut TcpStream,
+    router: &mut S,
     octets: &[u8],
-) -> Result<bool, Fail>
-where
-    R: AllocGlobal,
-{
-    Ok(heard(rt, served, router)?.as_slice() == octets)
+) -> bool {
+    let mut heard = Vec::new(alloc);
+    for _ in 0..100 {
+        if served.turn(0).is_err() || !takes(router, &mut heard) {
+            return false;
+        }
+    }
+    heard.as_slice() == octets
 }
 
 // Reads a list again.
-fn reread<W: Wire + Drop>(rt: &impl AllocGlobal, served: &mut ServedList<W>, text: &str) -> Reread {
-    served.reread(rt.alloc(), Ok(text.as_bytes()))
+fn reread<W: Wire + Drop>(alloc: Global, served: &mut ServedList<W>, text: &str) -> Reread {
+    served.reread(alloc, Ok(text.as_bytes()))
 }
 
 // Whether the list is published under the serial when it is read again.
 fn is_published<W: Wire + Drop>(
-    rt: &impl AllocGlobal,
+    alloc: Global,
     served: &mut ServedList<W>,
     text: &str,
     serial: u32,
 ) -> bool {
-    matches!(reread(rt, served, text), Reread::Published(told) if told == serial)
+    matches!(reread(alloc, served, text), Reread::Published(told) if told == serial)
+}
+
+// Whether it is the set that is served.
+fn is_same<W: Wire + Drop>(alloc: Global, served: &mut ServedList<W>, text: &str) -> bool {
+    matches!(reread(alloc, served, text), Reread::Same)
+}
+
+// Whether it is refused for a row.
+fn is_refused<W: Wire + Drop>(alloc: Global, served: &mut ServedList<W>, text: &str) -> bool {
+    matches!(
+        reread(alloc, served, text),
+        Reread::Refused(ListFault::Row(_))
+    )
 }
 
 // Whether a list that isn't there is refused.
-fn is_missing<W: Wire + Drop>(rt: &impl AllocGlobal, served: &mut ServedList<W>) -> bool {
+fn is_missing<W: Wire + Drop>(alloc: Global, served: &mut ServedList<W>) -> bool {
     let missing: io::Result<&[u8]> = Err(io::Error::from(ErrorKind::NotFound));
     matches!(
-        served.reread(rt.alloc(), missing),
+        served.reread(alloc, missing),
         Reread::Refused(ListFault::NoFile)
     )
 }
 
-// Whether just these octets come to a router that comes anew.
-fn hears_anew<R>(
+// The router that stays hears the first list, and then of the second one.
+fn hears_of_both<W: Wire + Drop, S: Read>(
+    alloc: Global,
+    served: &mut ServedList<W>,
+    staying: &mut S,
+) -> bool {
+    hears(alloc, served, staying, &list(0, 1))
+        && is_published(alloc, served, SECOND, 2)
+        && hears(alloc, served, staying, &notify(2))
+}
+
+// What is read again then publishes nothing.
+fn hears_no_more<W: Wire + Drop, S: Read>(
+    alloc: Global,
+    served: &mut ServedList<W>,
+    staying: &mut S,
+) -> bool {
+    is_same(alloc, served, EQUAL)
+        && is_refused(alloc, served, FAULTY)
+        && is_missing(alloc, served)
+        && hears(alloc, served, staying, &[])
+}
+
+// Whether a router that comes anew hears the second list, which is served.
+fn hears_anew<W: Wire + Drop, S: Read + Drop>(
+    alloc: Global,
+    served: &mut ServedList<W>,
+    router: io::Result<S>,
+) -> bool {
+    match router {
+        Ok(mut router) => {
+            hears(alloc, served, &mut router, &list(1, 2))
+                && served.serial() == 2
+                && served.payloads() == 1
+        }
+        Err(_) => false,
+    }
+}
+
+// The first list is served, and a router stays; it and others hear of each change.
+fn follow<R, W: Wire + Drop>(
     rt: &R,
-    served: &mut ServedList<NetWire<'_, R>>,
-    address: SocketAddr,
-    octets: &[u8],
+    served: &mut ServedList<W>,
+    address: Option<SocketAddr>,
 ) -> Result<bool, Fail>
 where
     R: Net<Listener = TcpListener, Stream = TcpStream> + AllocGlobal,
 {
-    let mut router = router(rt, address)?;
-    hears(rt, served, &mut router, octets)
+    let address = address.ok_or("no address")?;
+    let is_first = is_published(rt.alloc(), served, FIRST, 1);
+    let mut staying = asking(rt, address)?;
+    Ok(
+        is_first
+            && hears_of_both(rt.alloc(), served, &mut staying)
+            && hears_anew(rt.alloc(), served, asking(rt, address))
+            && hears_no_more(rt.alloc(), served, &mut staying)
+            && hears_anew(rt.alloc(), served, asking(rt, address)),
+    )
 }
 
-fn serving_none<R>(rt: &R) -> Result<ServedList<NetWire<'_, R>>, Fail>
-where
-    R: Net<Listener = TcpListener, Stream = TcpStream> + AllocGlobal,
-{
-    let wire = NetWire::listening(rt, "127.0.0.1:0".parse()?)?;
-    let cache = Cache::new(rt.alloc(), 7, Intervals::USUAL)?;
-    Ok(ServedList::new(CacheLoop::new(rt.alloc(), wire, cache)?, 0, 0))
-}
-
-// The first list is served, and a router stays; it and others hear of each change.
-fn follow<R>(
-    rt: &R,
-    served: &mut ServedList<NetWire<'_, R>>,
-    staying: &mut TcpStream,
-    address: SocketAddr,
-) -> Result<(), Fail>
-where
-    R: Net<Listener = TcpListener, Stream = TcpStream> + AllocGlobal + Abort,
-{
-    assert!(rt; hears(rt, served, staying, &list(0, 1))?);
-    assert!(rt; is_published(rt, served, SECOND, 2));
-    assert!(rt; hears(rt, served, staying, &notify(2))?);
-    assert!(rt; hears_anew(rt, served, address, &list(1, 2))?);
-    assert!(rt; matches!(reread(rt, served, EQUAL), Reread::Same));
-    assert!(rt;
-        matches!(
-            reread(rt, served, FAULTY),
-            Reread::Refused(ListFault::Row(_))
-        )
-    );
-    assert!(rt; is_missing(rt, served));
-    assert!(rt; hears(rt, served, staying, &[])?);
-    assert!(rt; hears_anew(rt, served, address, &list(1, 2))?);
-    assert!(rt; served.serial() == 2 && served.payloads() == 1);
-    Ok(())
+// A cache that serves nothing.
+fn serving_none<W: Wire + Drop>(alloc: Global, wire: W) -> Result<ServedList<W>, Fail> {
+    let cache = Cache::new(alloc, 7, Intervals::USUAL)?;
+    Ok(ServedList::new(CacheLoop::new(alloc, wire, cache)?, 0, 0))
 }
 
 #[test]
 fn routers_follow_a_list_that_changes(rt: HostRuntime) -> Result<(), Fail> {
-    let mut served = serving_none(&rt)?;
-    let address = served.turns().wire().local_address().ok_or("no address")?;
-    assert!(rt; is_published(&rt, &mut served, FIRST, 1));
-    let mut staying = router(&rt, address)?;
-    follow(&rt, &mut served, &mut staying, address)
+    let wire = NetWire::listening(&rt, "127.0.0.1:0".parse()?)?;
+    let address = wire.local_address();
+    let served = serving_none(rt.alloc(), wire)?;
+    assert!(rt; lend(served, |served| follow(&rt, served, address))?);
+    Ok(())
 }

@@ -4,7 +4,6 @@ use cache_program::main_cache;
 use program_stages::{Ending, Stage, deaf_listener, ends, path_of, remove, write, write_settings};
 use std::alloc::AllocGlobal;
 use std::net::{Net, SocketAddr, TcpListener, TcpStream};
-use std::process::Abort;
 use std::rt::{Clock, Files};
 use std::test::Fail;
 
@@ -164,37 +163,62 @@ fn settings_at(rt: &HostRuntime, address: SocketAddr) -> Result<String, Fail> {
     Ok(format!(in rt.alloc(); "listen = \"{address}\"\nsession = 7\n")?)
 }
 
+// Whether a list is refused before a port that is taken is tried.
+fn is_refused_first(rt: &HostRuntime, address: SocketAddr) -> Result<bool, Fail> {
+    let taken = settings_at(rt, address)?;
+    Ok(
+        ends_on(rt, "refused", taken.as_str(), "no list", REFUSED)?
+            && ends_on(rt, "taken", taken.as_str(), LIST, FAILED)?,
+    )
+}
+
 #[test]
 fn a_refused_list_is_told_before_the_port_is_taken(rt: HostRuntime) -> Result<(), Fail> {
     let holder = TcpListener::bind(&rt, "127.0.0.1:0")?;
-    let taken = settings_at(&rt, holder.local_addr()?)?;
-    assert!(rt; ends_on(&rt, "refused", taken.as_str(), "no list", REFUSED)?);
-    assert!(rt; ends_on(&rt, "taken", taken.as_str(), LIST, FAILED)?);
+    assert!(rt; is_refused_first(&rt, holder.local_addr()?)?);
     Ok(())
+}
+
+// Whether settings that aren't there are a device.
+fn is_missing(rt: &HostRuntime) -> Result<bool, Fail> {
+    let missing = path_of(rt, "missing.toml")?;
+    ends_with(rt, &[missing.as_str(), "2"], FAILED)
+}
+
+// Whether a list that isn't there is one, and settings without a list are none.
+fn is_without_a_list(rt: &HostRuntime) -> Result<bool, Fail> {
+    Ok(ends_on_text(rt, WITHOUT_A_LIST, FAILED)? && ends_on_text(rt, SETTINGS, REFUSED)?)
 }
 
 #[test]
 fn a_file_that_cant_be_read_is_a_device(rt: HostRuntime) -> Result<(), Fail> {
-    let missing = path_of(&rt, "missing.toml")?;
-    assert!(rt; ends_with(&rt, &[missing.as_str(), "2"], FAILED)?);
-    assert!(rt; ends_on_text(&rt, WITHOUT_A_LIST, FAILED)?);
-    assert!(rt; ends_on_text(&rt, SETTINGS, REFUSED)?);
+    assert!(rt; is_missing(&rt)?);
+    assert!(rt; is_without_a_list(&rt)?);
     Ok(())
 }
 
 // Without a turn all is well; in the first one the program ends.
-fn is_deaf(stage: &Stage<'_>, rt: &impl Abort, path: &str) -> Result<(), Fail> {
-    assert!(rt; ends_with(stage, &[path, "0"], WELL)?);
-    assert!(rt; ends_with(stage, &[path, "1"], FAILED)?);
-    Ok(())
+fn ends_at_a_turn(stage: &Stage<'_>, path: &str) -> Result<bool, Fail> {
+    Ok(ends_with(stage, &[path, "0"], WELL)? && ends_with(stage, &[path, "1"], FAILED)?)
+}
+
+// The same with a listener that can't accept.
+fn is_deaf(rt: &HostRuntime, path: &str) -> Result<bool, Fail> {
+    let deaf = deaf_listener(rt)?;
+    ends_at_a_turn(&Stage::new(rt, &deaf, &[]), path)
+}
+
+// The same of settings that name the list of this path.
+fn is_deaf_at(rt: &HostRuntime, list_path: &str) -> Result<bool, Fail> {
+    let path = write_settings(rt, "csv", list_path, SETTINGS)?;
+    let is_deaf = is_deaf(rt, path.as_str())?;
+    remove(rt, path.as_str())?;
+    Ok(is_deaf)
 }
 
 #[test]
 fn a_turn_that_cant_accept_is_a_device(rt: HostRuntime) -> Result<(), Fail> {
     let list_path = write(&rt, "deaf", LIST)?;
-    let path = write_settings(&rt, "csv", list_path.as_str(), SETTINGS)?;
-    let deaf = deaf_listener(&rt)?;
-    is_deaf(&Stage::new(&rt, &deaf, &[]), &rt, path.as_str())?;
-    remove(&rt, list_path.as_str())?;
-    remove(&rt, path.as_str())
+    assert!(rt; is_deaf_at(&rt, list_path.as_str())?);
+    remove(&rt, list_path.as_str())
 }

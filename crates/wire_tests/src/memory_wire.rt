@@ -350,31 +350,56 @@ fn listed(alloc: Global) -> Result<BTreeSet<Vrp>, Fail> {
     Ok(set)
 }
 
-// A cache of the list that has so many clients which say nothing, before its turns.
+// Loads the list, and brings so many clients, which say nothing.
+fn fill<A: Allocator + Clone>(
+    cache: &mut Cache<A>,
+    set: &BTreeSet<Vrp>,
+    silent: u64,
+) -> Result<(), CacheRefusal> {
+    let _ = cache.step(CacheEvent::Load(set))?;
+    for _ in 0..silent {
+        let _ = cache.step(CacheEvent::<Global>::Up)?;
+    }
+    Ok(())
+}
+
+// A cache of the list with so many clients that say nothing.
+fn filled<A: Allocator + Clone>(
+    alloc: A,
+    set: &BTreeSet<Vrp>,
+    silent: u64,
+) -> Result<Cache<A>, CacheRefusal> {
+    let mut cache = Cache::new(alloc, 7, Intervals::USUAL)?;
+    fill(&mut cache, set, silent)?;
+    Ok(cache)
+}
+
+// Its turns, before the first.
 fn prepared<A: Allocator + Clone>(
     alloc: A,
     set: &BTreeSet<Vrp>,
     silent: u64,
     fails_at: u64,
 ) -> Result<CacheLoop<MemoryWire, A>, CacheRefusal> {
-    let mut cache = Cache::new(alloc.clone()?, 7, Intervals::USUAL)?;
-    let _ = cache.step(CacheEvent::Load(set))?;
-    for _ in 0..silent {
-        let _ = cache.step(CacheEvent::<Global>::Up)?;
-    }
-    let turns = CacheLoop::new(alloc, MemoryWire::failing_at(fails_at), cache)?;
-    Ok(turns)
+    let cache = filled(alloc.clone()?, set, silent)?;
+    Ok(CacheLoop::new(alloc, MemoryWire::failing_at(fails_at), cache)?)
 }
 
-// Serves the routers for twenty turns.
-fn turned<A: Allocator + Clone>(mut turns: CacheLoop<MemoryWire, A>) -> Served {
-    let mut fault = None;
+// Takes twenty turns, unless one stops them.
+fn fault_of_turns<A: Allocator + Clone>(turns: &mut CacheLoop<MemoryWire, A>) -> Option<LoopFault> {
     for now in 0..20 {
-        if let Err(stop) = turns.turn(now) {
-            fault = Some(stop);
-            break;
+        if let Err(fault) = turns.turn(now) {
+            return Some(fault);
         }
     }
+    None
+}
+
+// What they have led to.
+fn told_of<A: Allocator + Clone>(
+    turns: &CacheLoop<MemoryWire, A>,
+    fault: Option<LoopFault>,
+) -> Served {
     let wire = turns.wire();
     Served {
         routers: wire.routers,
@@ -387,18 +412,66 @@ fn turned<A: Allocator + Clone>(mut turns: CacheLoop<MemoryWire, A>) -> Served {
     }
 }
 
+// Serves the routers for twenty turns.
+fn turned<A: Allocator + Clone>(mut turns: CacheLoop<MemoryWire, A>) -> Served {
+    let fault = fault_of_turns(&mut turns);
+    told_of(&turns, fault)
+}
+
 // Serves the routers beside so many clients that say nothing.
 fn serve(rt: &impl AllocGlobal, silent: u64, fails_at: u64) -> Result<Served, Fail> {
     let set = listed(rt.alloc())?;
     Ok(turned(prepared(rt.alloc(), &set, silent, fails_at)?))
 }
 
-// Each router but one has its answer, and is connected just where it stays.
-fn others_are_served(rt: &impl Abort, routers: &[Router], failed: Option<usize>) {
-    for (place, router) in routers.iter().enumerate() {
-        if failed != Some(place) {
-            assert!(rt; router.has_its_answer(), "{place}");
-            assert!(rt; router.parting.is_some() == (router.kind != Kind::Staying));
+impl Router {
+    // Whether it has its answer, and is connected just where it stays.
+    fn is_served(&self) -> bool {
+        self.has_its_answer() && self.parting.is_some() == (self.kind != Kind::Staying)
+    }
+}
+
+impl Served {
+    // Whether each router but one is served.
+    fn serves_all_but(&self, failed: Option<usize>) -> bool {
+        for (place, router) in self.routers.iter().enumerate() {
+            if failed != Some(place) && !router.is_served() {
+                return false;
+            }
+        }
+        self.fault.is_none()
+    }
+
+    // Why the connection of this router has ended.
+    fn parting_of(&self, router: usize) -> Option<Parting> {
+        self.routers.get(router)?.parting
+    }
+
+    // Whether a call of one router's socket has failed: it is closed, and each other is served.
+    fn loses_one(&self, failed: usize) -> bool {
+        self.serves_all_but(Some(failed))
+            && self.parting_of(failed).is_some()
+            && self.lost == self.told.saturating_add(self.closed)
+    }
+
+    // Whether one has left, one was closed and one has stayed.
+    fn loses_two(&self) -> bool {
+        self.lost == 2 && self.told == 1 && self.closed == 1
+    }
+
+    // Whether no call has failed: one has stayed, with the list of serial 1.
+    fn loses_none(&self) -> bool {
+        self.serves_all_but(None)
+            && self.loses_two()
+            && self.holding == [holding(1, 0), holding(0, 1)]
+    }
+
+    // Whether the call that has failed, if one has, has cost its client alone.
+    fn is_as_expected(&self) -> bool {
+        match self.failed {
+            Some(Call::OfRouter(failed)) => self.loses_one(failed),
+            Some(Call::Accept) => self.fault == Some(LoopFault::Accept),
+            None => self.loses_none(),
         }
     }
 }
@@ -411,89 +484,119 @@ fn holding(current: usize, behind: usize) -> Holding {
     }
 }
 
-// A call of one router's socket has failed: it is closed, and each other is served.
-fn one_is_lost(rt: &impl Abort, served: &Served, failed: usize) -> Result<(), Fail> {
-    assert!(rt; served.fault.is_none());
-    let gone = served.routers.get(failed).ok_or("no router")?;
-    assert!(rt; gone.parting.is_some(), "{failed}");
-    others_are_served(rt, &served.routers, Some(failed));
-    assert!(rt; served.lost == served.told.saturating_add(served.closed));
-    Ok(())
-}
-
-// No call has failed: one has stayed, with the list of serial 1.
-fn none_is_lost(rt: &impl Abort, served: &Served) {
-    assert!(rt; served.fault.is_none());
-    others_are_served(rt, &served.routers, None);
-    assert!(rt; served.lost == 2 && served.told == 1 && served.closed == 1);
-    assert!(rt; served.holding == [holding(1, 0), holding(0, 1)]);
-}
-
 #[test]
 fn a_failing_call_costs_one_client(rt: HostRuntime) -> Result<(), Fail> {
     for fails_at in 1..1_000 {
         let served = serve(&rt, 0, fails_at)?;
-        match served.failed {
-            Some(Call::OfRouter(failed)) => one_is_lost(&rt, &served, failed)?,
-            Some(Call::Accept) => assert!(rt; served.fault == Some(LoopFault::Accept)),
-            None => {
-                none_is_lost(&rt, &served);
-                assert!(rt; fails_at > 50, "{fails_at}");
-                return Ok(());
-            }
+        assert!(rt; served.is_as_expected(), "{fails_at}");
+        if served.failed.is_none() {
+            assert!(rt; fails_at > 50, "{fails_at}");
+            return Ok(());
         }
     }
     panic!(rt; "each run had a fault");
 }
 
-#[test]
-fn a_refused_client_is_closed_and_the_others_are_served(rt: HostRuntime) -> Result<(), Fail> {
-    let served = serve(&rt, 254, 0)?;
-    assert!(rt; served.fault.is_none());
-    others_are_served(&rt, &served.routers, Some(2));
+// Whether there was no place for the last router, which has said nothing and heard nothing; none has a connection.
+fn is_full(served: &Served) -> bool {
     let refused = Router {
         parting: Some(Parting::NoPlace),
         ..Router::new(Kind::Staying)
     };
-    assert!(rt; served.routers[2] == refused);
-    assert!(rt; served.lost == 2 && served.told == 1 && served.closed == 1);
-    // None has a connection.
-    assert!(rt; served.holding == [holding(0, 0), holding(0, 0)]);
+    served.serves_all_but(Some(2))
+        && served.routers[2] == refused
+        && served.loses_two()
+        && served.holding == [holding(0, 0), holding(0, 0)]
+}
+
+#[test]
+fn a_refused_client_is_closed_and_the_others_are_served(rt: HostRuntime) -> Result<(), Fail> {
+    let served = serve(&rt, 254, 0)?;
+    assert!(rt; is_full(&served));
     Ok(())
 }
 
-// A router that has not its answer was closed, and why.
-fn unserved(rt: &impl Abort, served: &Served) -> Option<Parting> {
-    assert!(rt; served.fault.is_none());
-    let lost = served
-        .routers
-        .iter()
-        .position(|router| !router.has_its_answer());
-    others_are_served(rt, &served.routers, lost);
-    let parting = served.routers.get(lost?)?.parting;
-    assert!(rt; parting.is_some());
-    parting
+// What serving the routers has led to where a request for memory was refused, if one was.
+#[derive(Clone, Copy)]
+struct Refused {
+    has_refused: bool,
+    // None where the cache or its turns couldn't be made.
+    served: Option<Served>,
+}
+
+// The same with the nth request refused.
+fn with_refusal(alloc: Global, set: &BTreeSet<Vrp>, nth: u64) -> Refused
+    requires { 1 ≤ nth }
+{
+    let heap = Refusing::new(alloc, nth);
+    let served = match prepared(&heap, set, 0, 0) {
+        Ok(turns) => Some(turned(turns)),
+        Err(_) => None,
+    };
+    Refused {
+        has_refused: heap.has_refused(),
+        served,
+    }
+}
+
+impl Served {
+    // A router that has not its answer.
+    fn unserved(&self) -> Option<usize> {
+        self.routers
+            .iter()
+            .position(|router| !router.has_its_answer())
+    }
+
+    // Whether each router but one at most is served, and that one was closed.
+    fn loses_one_at_most(&self) -> bool {
+        let unserved = self.unserved();
+        let is_closed = match unserved {
+            Some(router) => self.parting_of(router).is_some(),
+            None => true,
+        };
+        is_closed && self.serves_all_but(unserved)
+    }
+
+    // Whether one was closed for want of memory.
+    fn lacks_memory(&self) -> bool {
+        match self.unserved() {
+            Some(router) => self.parting_of(router) == Some(Parting::NoMemory),
+            None => false,
+        }
+    }
+}
+
+impl Refused {
+    // Whether one router at most is lost, and none without a refusal.
+    fn is_as_expected(&self) -> bool {
+        match &self.served {
+            Some(served) => {
+                served.loses_one_at_most() && (self.has_refused || served.unserved().is_none())
+            }
+            None => self.has_refused,
+        }
+    }
+
+    fn lacks_memory(&self) -> bool {
+        match &self.served {
+            Some(served) => served.lacks_memory(),
+            None => false,
+        }
+    }
 }
 
 // With each request refused in turn, at most one router is lost.
 fn lose_one_at_most<R: AllocGlobal + Abort>(rt: &R, set: &BTreeSet<Vrp>) {
     let mut without_memory = 0u64;
     for nth in 1..1_000 {
-        let heap = Refusing::new(rt.alloc(), nth);
-        let Ok(turns) = prepared(&heap, set, 0, 0) else {
-            assert!(rt; heap.has_refused());
-            continue;
-        };
-        let parting = unserved(rt, &turned(turns));
-        if !heap.has_refused() {
-            assert!(rt; parting.is_none());
+        let refused = with_refusal(rt.alloc(), set, nth);
+        assert!(rt; refused.is_as_expected(), "{nth}");
+        if !refused.has_refused {
             // The places of the connections, and the octets that wait of each of the three.
             assert!(rt; without_memory >= 4, "{without_memory}");
             return;
         }
-        if parting == Some(Parting::NoMemory) {
-            without_memory = without_memory.saturating_add(1);
-        }
+        without_memory = without_memory.saturating_add(u64::from(refused.lacks_memory()));
     }
     panic!(rt; "the turns make no end of requests");
 }

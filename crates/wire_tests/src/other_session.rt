@@ -4,7 +4,6 @@ use rtr_cache::{Cache, CacheEvent, OtherSession};
 use rtr_codec::Intervals;
 use std::alloc::Global;
 use std::collections::BTreeSet;
-use std::process::Abort;
 use std::test::Fail;
 
 // A Serial Query of session 8 and serial 1.
@@ -26,15 +25,20 @@ fn is_told(cache: &mut Cache, octets: &[u8]) -> bool {
     }
 }
 
+// Whether a client of another session is reset, and stays.
+fn resets(alloc: Global, cache: &mut Cache) -> bool {
+    let set: BTreeSet<Vrp> = BTreeSet::new(alloc);
+    takes(cache, CacheEvent::Load(&set))
+        && takes(cache, CacheEvent::Up)
+        && takes(cache, CacheEvent::Bytes(0, &QUERY_OF_SESSION_8))
+        && is_told(cache, &CACHE_RESET)
+        && cache.transport(0) == Transport::Open
+}
+
 #[test]
 fn another_session_is_reset_by_a_cache_that_was_made_so(rt: HostRuntime) -> Result<(), Fail> {
     let alloc = rt.alloc();
-    let set: BTreeSet<Vrp> = BTreeSet::new(alloc);
     let mut cache = Cache::with_other_session(alloc, 7, Intervals::USUAL, OtherSession::Reset)?;
-    assert!(rt; takes(&mut cache, CacheEvent::Load(&set)));
-    assert!(rt; takes(&mut cache, CacheEvent::Up));
-    assert!(rt; takes(&mut cache, CacheEvent::Bytes(0, &QUERY_OF_SESSION_8)));
-    assert!(rt; is_told(&mut cache, &CACHE_RESET));
-    assert!(rt; cache.transport(0) == Transport::Open);
+    assert!(rt; resets(alloc, &mut cache));
     Ok(())
 }

@@ -1,0 +1,20 @@
+//! Tests alone: what the system's sockets tell and what faults of `accept` mean, a cache over them and over a wire in memory,
+//! what routers hold and those that are silent, and a cache that resets another session.
+#![tactic(auto)]
+
+#[cfg(test)]
+mod accept_faults;
+#[cfg(test)]
+mod held_serials;
+#[cfg(test)]
+mod loopback;
+#[cfg(test)]
+mod memory_wire;
+#[cfg(test)]
+mod other_session;
+#[cfg(test)]
+mod over_loopback;
+#[cfg(test)]
+mod patience;
+#[cfg(test)]
+mod ready_sockets;

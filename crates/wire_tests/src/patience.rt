@@ -1,0 +1,144 @@
+//! Routers that are silent for too long lose their places.
+
+use crate::over_loopback::{Served, over_loopback};
+use cache_turns::CacheLoop;
+use net_wires::{NetWire, RouterEvent};
+use program_stages::lend;
+use rtr_cache::Cache;
+use rtr_codec::Intervals;
+use std::alloc::AllocGlobal;
+use std::io::{self, Write};
+use std::net::{Net, TcpListener, TcpStream};
+use std::test::Fail;
+use wires::{Parting, Wire};
+
+// What a router sends, and at which moment; behind it the connection is still there.
+#[derive(Clone, Copy)]
+struct Sending {
+    now: u64,
+    octets: &'static [u8],
+}
+
+const RESET_QUERY: [u8; 8] = [1, 2, 0, 0, 0, 0, 0, 8];
+
+// A Reset Query without its last octet, an octet now and then.
+const SLOW: [Sending; 3] = [
+    Sending {
+        now: 0,
+        octets: &[1, 2, 0, 0],
+    },
+    Sending {
+        now: 30,
+        octets: &[0, 0],
+    },
+    Sending {
+        now: 59,
+        octets: &[0],
+    },
+];
+
+const SILENT: [Sending; 1] = [Sending {
+    now: 59,
+    octets: &[],
+}];
+
+const ASKING: [Sending; 4] = [
+    Sending {
+        now: 0,
+        octets: &RESET_QUERY,
+    },
+    Sending {
+        now: 7_199,
+        octets: &[],
+    },
+    Sending {
+        now: 7_199,
+        octets: &RESET_QUERY,
+    },
+    Sending {
+        now: 14_398,
+        octets: &[],
+    },
+];
+
+// Whether one connection stands behind some turns at this moment.
+fn stands_at<W: Wire + Drop>(turns: &mut CacheLoop<W>, now: u64) -> bool {
+    for _ in 0..20 {
+        if turns.turn(now).is_err() {
+            return false;
+        }
+    }
+    turns.connections() == 1
+}
+
+// Whether it stands as long as the router sends so.
+fn stands<W: Wire + Drop, S: Write>(
+    served: &mut Served<W, S>,
+    sendings: &[Sending],
+) -> io::Result<bool> {
+    for sending in sendings {
+        served.router.write_all(sending.octets)?;
+        if !stands_at(&mut served.turns, sending.now) {
+            return Ok(false);
+        }
+    }
+    Ok(true)
+}
+
+// Whether there is no connection behind a turn at this moment.
+fn is_gone_at<W: Wire + Drop>(turns: &mut CacheLoop<W>, now: u64) -> bool {
+    turns.turn(now).is_ok() && turns.connections() == 0
+}
+
+// Whether the router's connection stands as long as it sends so, and is gone at a last moment.
+fn stands_till<W: Wire + Drop, S: Write>(
+    served: &mut Served<W, S>,
+    sendings: &[Sending],
+    last: u64,
+) -> io::Result<bool> {
+    Ok(
+        stands_at(&mut served.turns, 0)
+            && stands(served, sendings)?
+            && is_gone_at(&mut served.turns, last),
+    )
+}
+
+// The same where its end is seen.
+fn is_overdue_at<R>(
+    served: &mut Served<NetWire<'_, R>, TcpStream>,
+    sendings: &[Sending],
+    last: u64,
+) -> io::Result<bool>
+where
+    R: Net<Listener = TcpListener, Stream = TcpStream> + AllocGlobal,
+{
+    let went = RouterEvent::Went(served.router.local_addr()?, Parting::Overdue);
+    let goes = stands_till(served, sendings, last)?;
+    Ok(goes && served.turns.wire().events().contains(&went))
+}
+
+// The same of a router that connects.
+fn loses<R>(rt: &R, sendings: &[Sending], last: u64) -> Result<bool, Fail>
+where
+    R: Net<Listener = TcpListener, Stream = TcpStream> + AllocGlobal,
+{
+    let served = over_loopback(rt, Cache::new(rt.alloc(), 7, Intervals::USUAL))?;
+    Ok(lend(served, |served| is_overdue_at(served, sendings, last))?)
+}
+
+#[test]
+fn a_client_without_a_whole_pdu_loses_its_place_after_a_minute(
+    rt: HostRuntime,
+) -> Result<(), Fail> {
+    assert!(rt; loses(&rt, &SILENT, 60)?);
+    assert!(rt; loses(&rt, &SLOW, 60)?);
+    Ok(())
+}
+
+#[test]
+fn a_client_that_asks_no_more_loses_its_place_after_the_expire_interval(
+    rt: HostRuntime,
+) -> Result<(), Fail> {
+    assert!(rt; loses(&rt, &ASKING, 14_399)?);
+    Ok(())
+}

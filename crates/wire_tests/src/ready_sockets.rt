@@ -1,0 +1,324 @@
+//! Wires without a loop: what sockets tell, and that one at rest isn't asked.
+
+use crate::over_loopback::{connected, some_port};
+use net_wires::NetWire;
+use std::alloc::AllocGlobal;
+use std::io::{self, Write};
+use std::net::{Net, SocketAddr, TcpListener, TcpStream};
+use std::process::Abort;
+use std::test::Fail;
+use std::time::{Clock, Duration, Instant};
+use wires::{Accepted, Attempt, Parting, Received, Sent, Wire};
+
+// More turns than anything of these tests takes.
+const TURNS: u32 = 10_000;
+
+// How long a turn that found nothing rests.
+fn short() -> Duration {
+    Duration::from_millis(1)
+}
+
+// Longer than any rest of these tests.
+fn long() -> Duration {
+    Duration::from_secs(30)
+}
+
+// How an attempt ends.
+fn outcome<W: Wire>(wire: &mut W, socket: &mut W::Socket) -> Attempt {
+    for _ in 0..TURNS {
+        let _none = wire.accept();
+        match wire.attempt(socket) {
+            Attempt::Pending => wire.wait(short()),
+            outcome => return outcome,
+        }
+    }
+    Attempt::Pending
+}
+
+// The next connection.
+fn accepted<W: Wire>(wire: &mut W) -> Option<W::Socket> {
+    for _ in 0..TURNS {
+        match wire.accept() {
+            Accepted::Connection(socket, _) => return Some(socket),
+            Accepted::Nothing => wire.wait(short()),
+            Accepted::Fault => return None,
+        }
+    }
+    None
+}
+
+// A wire with a socket.
+#[derive(Drop)]
+struct Side<W: Wire> {
+    wire: W,
+    socket: W::Socket,
+}
+
+impl<W: Wire> Side<W> {
+    // What comes next.
+    fn received(&mut self, buf: &mut [u8]) -> Received {
+        for _ in 0..TURNS {
+            let _none = self.wire.accept();
+            match self.wire.read(&mut self.socket, buf) {
+                Received::Nothing => self.wire.wait(short()),
+                received => return received,
+            }
+        }
+        Received::Nothing
+    }
+
+    // What becomes of octets that are to go.
+    fn sent(&mut self, octets: &[u8]) -> Sent {
+        for _ in 0..TURNS {
+            let _none = self.wire.accept();
+            match self.wire.write(&mut self.socket, octets) {
+                Sent::Nothing => self.wire.wait(short()),
+                sent => return sent,
+            }
+        }
+        Sent::Nothing
+    }
+
+    // Whether a read finds nothing.
+    fn is_at_rest(&mut self) -> bool {
+        self.wire.read(&mut self.socket, &mut [0; 8]) == Received::Nothing
+    }
+
+    // Whether no read finds anything as long as no turn begins.
+    fn stays_at_rest(&mut self) -> bool {
+        for _ in 0..TURNS {
+            if !self.is_at_rest() {
+                return false;
+            }
+        }
+        true
+    }
+
+    // How many octets go before one would have to wait.
+    fn filled(&mut self) -> u64 {
+        for _ in 0..TURNS {
+            let _none = self.wire.accept();
+            let Sent::Octets(_) = self.wire.write(&mut self.socket, &[7; 4_096]) else {
+                break;
+            };
+        }
+        self.wire.octets_out()
+    }
+
+    // Takes so many octets, and whether they came.
+    fn drains(&mut self, count: u64) -> bool {
+        let mut buf = [0; 4_096];
+        for _ in 0..TURNS {
+            if self.wire.octets_in() == count {
+                break;
+            }
+            let _some = self.received(&mut buf);
+        }
+        self.wire.octets_in() == count
+    }
+}
+
+// Both sides of a connection: the one that listened, and the other.
+#[derive(Drop)]
+struct Sides<W: Wire> {
+    server: Side<W>,
+    router: Side<W>,
+}
+
+// The router's wire with a socket, once it is connected.
+fn connecting<W: Wire + Drop>(wire: W, address: SocketAddr) -> Result<Side<W>, Fail> {
+    let mut wire = wire;
+    let mut socket = wire.connect(address).ok_or("no attempt")?;
+    if outcome(&mut wire, &mut socket) != Attempt::Connected {
+        return Err(Fail::new("not connected"));
+    }
+    Ok(Side { wire, socket })
+}
+
+// The server's wire with the socket of the connection that came.
+fn accepting<W: Wire + Drop>(wire: W) -> Result<Side<W>, Fail> {
+    let mut wire = wire;
+    let socket = accepted(&mut wire).ok_or("none accepted")?;
+    Ok(Side { wire, socket })
+}
+
+// A connection between two wires.
+fn joined<W: Wire + Drop>(
+    server: W,
+    address: Option<SocketAddr>,
+    router: io::Result<W>,
+) -> Result<Sides<W>, Fail> {
+    let address = address.ok_or("no address")?;
+    let router = connecting(router?, address)?;
+    let server = accepting(server)?;
+    Ok(Sides { server, router })
+}
+
+// The same over loopback.
+fn over_loopback<R>(rt: &R) -> Result<Sides<NetWire<'_, R>>, Fail>
+where
+    R: Net<Listener = TcpListener, Stream = TcpStream> + AllocGlobal,
+{
+    let server = NetWire::listening(rt, some_port())?;
+    let address = server.local_address();
+    joined(server, address, NetWire::new(rt))
+}
+
+// Octets go to the router.
+fn go_back<W: Wire>(server: &mut Side<W>, router: &mut Side<W>) -> bool {
+    server.sent(&[4, 5]) == Sent::Octets(2) && router.received(&mut [0; 8]) == Received::Octets(2)
+}
+
+// The one says its last, and closes the connection.
+fn says_the_last<W: Wire + Drop>(router: Side<W>) -> bool {
+    let mut router = router;
+    let sent = router.sent(&[1, 2, 3]);
+    let Side { mut wire, socket } = router;
+    wire.close(socket, Parting::Closed);
+    sent == Sent::Octets(3)
+}
+
+// The other hears what was said. Fewer octets come than the buffer holds, and the end of input is there already.
+fn hears_the_last<W: Wire>(server: &mut Side<W>) -> bool {
+    let mut buf = [0; 8];
+    server.received(&mut buf) == Received::Octets(3)
+        && buf == [1, 2, 3, 0, 0, 0, 0, 0]
+        && server.wire.ends() == 0
+}
+
+fn hears_the_end<W: Wire>(server: &mut Side<W>) -> bool {
+    server.received(&mut [0; 8]) == Received::End
+        && server.wire.ends() == 1
+        && server.wire.faults() == 0
+}
+
+// Octets go both ways; then the one closes the connection, and the other hears what it said before.
+fn part<W: Wire + Drop>(sides: Sides<W>) -> bool {
+    let Sides {
+        mut server,
+        mut router,
+    } = sides;
+    go_back(&mut server, &mut router)
+        && says_the_last(router)
+        && hears_the_last(&mut server)
+        && hears_the_end(&mut server)
+}
+
+#[test]
+fn octets_go_both_ways_and_an_end_comes_behind_them(rt: HostRuntime) -> Result<(), Fail> {
+    assert!(rt; part(over_loopback(&rt)?));
+    Ok(())
+}
+
+// Octets that came are read only behind a turn's beginning, which hears of them.
+fn is_asked_when_told<W: Wire + Drop>(sides: Sides<W>) -> bool {
+    let Sides {
+        mut server,
+        mut router,
+    } = sides;
+    server.is_at_rest()
+        && router.sent(&[1]) == Sent::Octets(1)
+        && server.stays_at_rest()
+        && server.received(&mut [0; 8]) == Received::Octets(1)
+        && server.is_at_rest()
+}
+
+#[test]
+fn a_socket_at_rest_is_asked_when_the_system_has_told(rt: HostRuntime) -> Result<(), Fail> {
+    assert!(rt; is_asked_when_told(over_loopback(&rt)?));
+    Ok(())
+}
+
+// A write that had to wait goes once the other side has taken what went before.
+fn goes_later<W: Wire + Drop>(sides: Sides<W>) -> bool {
+    let Sides {
+        mut server,
+        mut router,
+    } = sides;
+    let count = router.filled();
+    router.wire.write(&mut router.socket, &[7]) == Sent::Nothing
+        && server.drains(count)
+        && router.sent(&[8]) == Sent::Octets(1)
+        && server.received(&mut [0; 8]) == Received::Octets(1)
+}
+
+#[test]
+fn room_that_comes_back_is_told(rt: HostRuntime) -> Result<(), Fail> {
+    assert!(rt; goes_later(over_loopback(&rt)?));
+    Ok(())
+}
+
+// An attempt at an address where nobody listens.
+fn fails_once<W: Wire>(router: &mut W, address: SocketAddr) -> bool {
+    let mut has_failed = true;
+    if let Some(mut socket) = router.connect(address) {
+        has_failed = outcome(router, &mut socket) == Attempt::Fault;
+        router.close(socket, Parting::Failed);
+    }
+    has_failed && router.faults() == 1
+}
+
+// Whether nothing comes to a wire without a listener, where the attempt fails.
+fn is_alone<W: Wire + Drop>(listens: bool, wire: W, address: SocketAddr) -> bool {
+    let mut wire = wire;
+    !listens && matches!(wire.accept(), Accepted::Nothing) && fails_once(&mut wire, address)
+}
+
+#[test]
+fn an_attempt_that_fails_is_one_fault(rt: HostRuntime) -> Result<(), Fail> {
+    // Nobody listens at port 1.
+    let address = "127.0.0.1:1".parse()?;
+    let router = NetWire::new(&rt)?;
+    let listens = router.local_address().is_some();
+    assert!(rt; is_alone(listens, router, address));
+    Ok(())
+}
+
+// Behind a connection that came there is no rest, and the new socket is ready for octets that go.
+fn comes<W: Wire>(server: &mut W) -> Option<W::Socket> {
+    server.wait(long());
+    let socket = accepted(server)?;
+    server.wait(long());
+    server.wait(long());
+    Some(socket)
+}
+
+// Whether the next octet is there behind a rest.
+fn wakes<W: Wire, S: Write>(side: &mut Side<W>, router: &mut S) -> io::Result<bool> {
+    router.write_all(&[1])?;
+    side.wire.wait(long());
+    let received = side.wire.read(&mut side.socket, &mut [0; 8]);
+    Ok(received == Received::Octets(1) && side.wire.octets_in() == 1 && side.wire.octets_out() == 0)
+}
+
+// Whether a rest takes its time, since nothing is ready.
+fn rests<W: Wire>(rt: &impl Clock, server: &mut W) -> io::Result<bool> {
+    server.wait(long());
+    let start = Instant::now(rt)?;
+    let rest = Duration::from_millis(20);
+    server.wait(rest);
+    Ok(start.elapsed(rt)? >= rest)
+}
+
+// A rest ends at once where octets can go or come.
+fn is_woken<W: Wire + Drop, S: Write + Drop>(
+    rt: &impl Clock,
+    server: W,
+    router: io::Result<S>,
+) -> Result<bool, Fail> {
+    let mut router = router?;
+    let mut wire = server;
+    let socket = comes(&mut wire).ok_or("none accepted")?;
+    let mut side = Side { wire, socket };
+    Ok(wakes(&mut side, &mut router)? && rests(rt, &mut side.wire)?)
+}
+
+#[test]
+fn a_rest_ends_when_a_socket_is_ready(rt: HostRuntime) -> Result<(), Fail> {
+    let start = Instant::now(&rt)?;
+    let server = NetWire::listening(&rt, some_port())?;
+    let router = connected(&rt, server.local_address());
+    assert!(rt; is_woken(&rt, server, router)?);
+    assert!(rt; start.elapsed(&rt)? < long());
+    Ok(())
+}
