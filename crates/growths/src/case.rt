@@ -1,12 +1,12 @@
 //! One case: its files, and how it is played.
 ghost use Rattle.std.specs.Prelude.{◌≤◌};
 
+use crate::answers::answer;
 use crate::calls::{Call, split_call};
 use crate::endings::Ending;
 use crate::fault::{Fault, Wrong};
 use crate::lent::{lend, lend_both};
 use crate::lines::{Lines, row_of};
-use crate::answers::answer;
 use crate::pair::Pair;
 use crate::refused::{MOST_CALLS, Met, play_on};
 use crate::rows::{count_of, has_row, is_met, number_behind};

@@ -3,8 +3,7 @@ ghost use Rattle.std.specs.Prelude.{⊤};
 
 use scenario::PlayFault;
 use std::alloc::AllocError;
-use std::fmt;
-use std::io;
+use std::{fmt, io};
 
 /// What is wrong at a call.
 #[derive(Clone, Copy)]
@@ -85,11 +84,7 @@ impl fmt::Display for Fault {
     }
 }
 
-fn write_wrong<W: fmt::Write>(
-    f: &mut fmt::Formatter<W>,
-    number: u64,
-    words: &str,
-) -> fmt::Result {
+fn write_wrong<W: fmt::Write>(f: &mut fmt::Formatter<W>, number: u64, words: &str) -> fmt::Result {
     write!(f, "call {number}: {words}")
 }
 

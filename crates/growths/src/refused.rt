@@ -74,7 +74,11 @@ fn play_call<R: Runs, B>(
     if met.ending == Ending::Nothing && requests.has_refused() {
         return meet(case, runs, call);
     }
-    if goes_on(runs, met, call) { Some(met) } else { None }
+    if goes_on(runs, met, call) {
+        Some(met)
+    } else {
+        None
+    }
 }
 
 fn goes_on<R: Runs>(runs: &mut R, met: Met, call: Call<'_>) -> bool {

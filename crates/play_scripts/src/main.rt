@@ -7,6 +7,7 @@
 //!
 //! Exit status 0 where all answer as told; 1 where one doesn't; 2 where a file can't be read or memory is wanting.
 #![tactic(auto)]
+
 ghost use Rattle.std.specs.Prelude.{⊤};
 
 use scenario::{PlayFault, play};
