@@ -6,7 +6,7 @@ use Rattle.std.specs.Ordering.{is_eq, nat_cmp, ordering_then}
 use Rattle.std.specs.declared.cmp.Ordering.{Ordering}
 use Rattle.std.specs.declared.cmp.Ordering.TheVariants.{Less, Equal, Greater}
 use Rattle.net_prefix.proofs.Ranks.{cmp_same}
-use Rattle.bgp_tests.specs.Addressed.{AreAddressed}
+use Rattle.rib_tests.specs.Addressed.{AreAddressed}
 use Rattle.decision.specs.BookContents.{AreApart, changed, is_prefix}
 use Rattle.decision.specs.declared.book.Change.{Change}
 use Rattle.decision.specs.declared.candidate.Candidate.{Candidate}

@@ -1,8 +1,8 @@
 use Rattle.std.proofs.Common.{◌≡◌, IfSome, is_ok, true, ap}
 use Rattle.decision.specs.BookContents.{has_place_at}
 use Rattle.decision.specs.declared.book.Change.{Change}
-use Rattle.bgp_tests.proofs.Addresses.{addressed_as, addressed_changed, change_apart, one_all, place_made}
-use Rattle.bgp_tests.proofs.books.offer.Goals as goal
+use Rattle.rib_tests.proofs.Addresses.{addressed_as, addressed_changed, change_apart, one_all, place_made}
+use Rattle.rib_tests.proofs.books.offer.Goals as goal
 
 pub returns-in_err-room : goal.returns-in_err-room
 returns-in_err-room g c = addressed_as _ _ c.requires c.room.ensures.offers

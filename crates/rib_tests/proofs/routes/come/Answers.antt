@@ -1,5 +1,5 @@
-use Rattle.bgp_tests.proofs.Addresses.{addressed_come, change_apart}
-use Rattle.bgp_tests.proofs.routes.come.Goals as goal
+use Rattle.rib_tests.proofs.Addresses.{addressed_come, change_apart}
+use Rattle.rib_tests.proofs.routes.come.Goals as goal
 
 pub announce-requires-clause-apart : goal.announce-requires-clause-apart
 announce-requires-clause-apart g c = change_apart _ c.requires c.args.slot c.candidate.result c.candidate.ensures.address c.args.prefix

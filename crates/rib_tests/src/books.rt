@@ -1,6 +1,6 @@
 //! The best route of each prefix as candidates come, change and go, how often one is chosen, and a refused growth.
 ghost use Rattle.std.specs.Prelude.{◌≡◌, ◌≤◌, IfSome};
-ghost use Rattle.bgp_tests.specs.Addressed.{AreAddressed};
+ghost use Rattle.rib_tests.specs.Addressed.{AreAddressed};
 ghost use Rattle.decision.specs.BookContents.{offer_at};
 
 use crate::given::prefix_of;

@@ -1,6 +1,6 @@
 //! Routes with the candidates that they make, as they come and go.
 ghost use Rattle.std.specs.Prelude.{OnOk};
-ghost use Rattle.bgp_tests.specs.Addressed.{AreAddressed};
+ghost use Rattle.rib_tests.specs.Addressed.{AreAddressed};
 ghost use Rattle.decision.specs.BookContents.{offer_at};
 
 use crate::adj_rib_in::shared;

@@ -1,0 +1,16 @@
+//! Tests alone, of the tables that routes go through: what no answer of a script shows, and each growth refused in turn. A file
+//! is named for what it tests.
+#![tactic(auto)]
+
+#[cfg(test)]
+mod adj_rib_in;
+#[cfg(test)]
+mod adj_rib_out;
+#[cfg(test)]
+mod books;
+#[cfg(test)]
+mod given;
+#[cfg(test)]
+mod routes;
+#[cfg(test)]
+mod waiting_prefixes;
