@@ -245,17 +245,11 @@ impl Look for Route {
     }
 }
 
-// Whether a run whose last event is one too many shows the route.
-fn shows_route(alloc: Global, reachable: Prefix, prefix: Prefix) -> Result<bool, Refusal> {
-    let mut events = events(reachable);
-    events[LAST] = Event::Up(0);
-    bare::on_run(alloc, CONFIG, &events, &Route { prefix })
-}
-
 #[test]
 fn a_run_shows_the_route_of_its_peer(rt: HostRuntime) -> Result<(), Fail> {
-    let reachable = Prefix::parse(REACHABLE)?;
     let prefix = Prefix::parse(ANNOUNCED_PREFIX)?;
-    assert!(rt; shows_route(rt.alloc(), reachable, prefix)?);
+    let mut events = events(Prefix::parse(REACHABLE)?);
+    events[LAST] = Event::Up(0);
+    assert!(rt; bare::on_run(rt.alloc(), CONFIG, &events, &Route { prefix })?);
     Ok(())
 }
