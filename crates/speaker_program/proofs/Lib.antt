@@ -1,3 +1,4 @@
 pub mod OtherFaults
+pub mod ServedWords
 pub mod TakenSlots
 pub mod TakenTurns

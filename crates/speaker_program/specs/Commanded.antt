@@ -1,5 +1,6 @@
 -- What settings and their commands make of a speaker, and turns of its loop.
 use Rattle.std.specs.Prelude.{◌≡◌, ℕ, List, Result, OnOk, length}
+use Rattle.clocks.specs.Moments.{NeverGoBack, told_behind}
 use Rattle.scenario.specs.ObeyedCommands.{AreCommands}
 use Rattle.speaker.specs.Agreement.{Agrees}
 use Rattle.speaker.specs.Runs.{Run}
@@ -12,6 +13,10 @@ use Rattle.program_endings.specs.declared.fault.ExitFault.{ExitFault}
 abbrev pub IsCommanded : Config → SpeakerState → Type 0
 IsCommanded config s = (r : Run) × AreCommands r × Agrees config r s
 
--- turns were taken, just so many where nothing failed
-abbrev pub TakesSoMany : ℕ → Result (Unit {0}) ExitFault → Turns → Turns → Type 0
-TakesSoMany count result old new = (moments : List ℕ) × TakesTurns moments old new × OnOk result (length moments ≡ count)
+-- turns were taken, each at the moment that the clock told for it, just so many where nothing failed
+pub record TakesSoMany (count : ℕ) (result : Result (Unit {0}) ExitFault) (before behind : List ℕ) (old new : Turns) : Type 0 where
+  pub moments : List ℕ
+  pub taken : TakesTurns moments old new
+  pub told : behind ≡ told_behind moments before
+  pub forward : NeverGoBack before → NeverGoBack behind
+  pub counted : OnOk result (length moments ≡ count)

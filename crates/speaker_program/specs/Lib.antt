@@ -1,3 +1,5 @@
+pub mod Begun
 pub mod Commanded
+pub mod Endings
 pub mod Exits
 pub mod Slots

@@ -1,6 +1,9 @@
 //! What the main of `ovbgpd` does.
 ghost use Rattle.std.specs.Prelude.{◌≡◌, [], ◌≢◌, ◌≤◌, ◌↔◌, ℕ, List, Err, IfErr, IfOk, OnOk, IsTrue, is_some};
 ghost use Rattle.speaker_program.specs.Commanded.{IsCommanded, TakesSoMany};
+ghost use Rattle.speaker_program.specs.Endings.{EndsSo};
+ghost use Rattle.speaker_program.specs.Begun.{IsBegun, IsServed, with_remotes};
+ghost use Rattle.speaker_program.specs.declared.settings.SpeakerSettings.{SpeakerSettings};
 ghost use Rattle.speaker_program.specs.Slots.{HasJust, is_configured};
 ghost use Rattle.program_endings.specs.Words.{IsCall};
 ghost use Rattle.scenario.specs.ObeyedCommands.{ObeysSome};
@@ -9,6 +12,7 @@ ghost use Rattle.speaker.specs.Agreement.{Agrees};
 use crate::exits::{of_commands, of_speaker};
 use crate::settings::{SpeakerSettings, has_slot};
 use bgp_conf::PEER_SLOTS;
+use clocks::{MonotonicClock, SecondsClock};
 use net_wires::{NetWire, REST_MILLISECONDS};
 use program_endings::{ExitFault, end, read_words};
 use scenario::{Table, obey_lines, show};
@@ -16,10 +20,10 @@ use speaker::{Config, Speaker};
 use speaker_turns::{End, SpeakerLoop};
 use std::alloc::{AllocGlobal, Global};
 use std::fs;
-use std::io::{BufReader, Write};
+use std::io::{self, BufReader, Write};
 use std::net::{Net, SocketAddr, TcpListener, TcpStream};
 use std::rt::{Clock, Files};
-use std::time::{Duration, Instant};
+use std::time::Duration;
 use wires::Wire;
 
 /// `ovbgpd SETTINGS TURNS`: a speaker that obeys the commands of its settings and then serves its sessions for so many turns.
@@ -37,19 +41,78 @@ where
     ensures output { ((path : List ℕ) (turns : ℕ) → ¬ (IsCall words.now path turns)) → output.new ≡ output.old }
     ensures silent { result ≡ 0 → errors.new ≡ errors.old }
 {
-    end("ovbgpd", run_bgp(rt, words, output), errors)
+    let mut clock = MonotonicClock::new(rt);
+    let served = run_bgp(rt, words, output, &mut clock, |listen| {
+        NetWire::open(rt, listen)
+    });
+    end("ovbgpd", ending(served), errors)
 }
 
-fn run_bgp<R, O: Write>(rt: &R, words: &[String], output: &mut O) -> Result<(), ExitFault>
+// How serving ended.
+fn ending<T: Drop>(served: Result<T, ExitFault>) -> Result<(), ExitFault>
+    ensures { EndsSo served result }
+{
+    match served {
+        Ok(_) => Ok(()),
+        Err(fault) => Err(fault),
+    }
+}
+
+// What the words ask for, over the wire that is opened where the settings listen, by this clock.
+fn run_bgp<R, O: Write, W: Wire + Drop, C: SecondsClock, F>(
+    rt: &R,
+    words: &[String],
+    output: &mut O,
+    clock: &mut C,
+    opens: F,
+) -> Result<SpeakerLoop<W>, ExitFault>
 where
-    R: Net<Listener = TcpListener, Stream = TcpStream> + Files + Clock + AllocGlobal,
+    R: Files + AllocGlobal,
+    F: FnOnce(Option<SocketAddr>) -> io::Result<W>,
+    requires { F.IsAlwaysCallable opens }
     ensures wrong { ((path : List ℕ) (turns : ℕ) → ¬ (IsCall words.now path turns)) → result ≡ Err ExitFault.Arguments }
     ensures right { (path : List ℕ) (turns : ℕ) → IsCall words.now path turns → result ≢ Err ExitFault.Arguments }
     ensures output { result ≡ Err ExitFault.Arguments → output.new ≡ output.old }
+    // The speaker of some settings, with their commands obeyed and their remotes told, has taken just the turns of the words.
+    ensures serves { IfOk result (λ served. (path : List ℕ) × (turns : ℕ) × (settings : SpeakerSettings)
+        × IsCall words.now path turns × IsServed settings turns (C.readings clock.old) (C.readings clock.new) served) }
 {
     let (path, turns) = read_words(words)?;
     let settings = read_settings(rt, path)?;
-    serve_sessions(rt, &settings, turns, output)
+    serve(rt, &settings, turns, output, clock, opens)
+}
+
+// So many turns of these settings, behind which Loc-RIB is printed.
+fn serve<R: Files + AllocGlobal, O: Write, W: Wire + Drop, C: SecondsClock, F>(
+    rt: &R,
+    settings: &SpeakerSettings,
+    turns: u64,
+    output: &mut O,
+    clock: &mut C,
+    opens: F,
+) -> Result<SpeakerLoop<W>, ExitFault>
+where
+    F: FnOnce(Option<SocketAddr>) -> io::Result<W>,
+    requires { F.IsAlwaysCallable opens }
+    ensures fault { IfErr result (λ fault. fault ≢ ExitFault.Arguments) }
+    ensures serves { IfOk result (λ served. IsServed settings.now turns (C.readings clock.old) (C.readings clock.new) served) }
+{
+    let mut served = begin(rt, settings, opens)?;
+    take_turns(clock, &mut served, turns)?;
+    show_routes(&served, output)?;
+    Ok(served)
+}
+
+// Prints Loc-RIB.
+fn show_routes<W: Wire + Drop, O: Write>(
+    served: &SpeakerLoop<W>,
+    output: &mut O,
+) -> Result<(), ExitFault>
+    ensures { IfErr result (λ fault. fault ≢ ExitFault.Arguments) }
+{
+    show(served.speaker(), Table::Rib, output)?;
+    output.flush()?;
+    Ok(())
 }
 
 // The settings in the file of this path.
@@ -60,21 +123,23 @@ fn read_settings<R: Files + AllocGlobal>(rt: &R, path: &str) -> Result<SpeakerSe
     Ok(SpeakerSettings::read(rt.alloc(), octets.as_slice())?)
 }
 
-fn serve_sessions<R, O: Write>(
+// The loop of the settings, before its first turn.
+fn begin<R: Files + AllocGlobal, W: Wire + Drop, F>(
     rt: &R,
     settings: &SpeakerSettings,
-    turns: u64,
-    output: &mut O,
-) -> Result<(), ExitFault>
+    opens: F,
+) -> Result<SpeakerLoop<W>, ExitFault>
 where
-    R: Net<Listener = TcpListener, Stream = TcpStream> + Files + Clock + AllocGlobal,
-    ensures { IfErr result (λ fault. fault ≢ ExitFault.Arguments) }
+    F: FnOnce(Option<SocketAddr>) -> io::Result<W>,
+    requires { F.IsAlwaysCallable opens }
+    ensures fault { IfErr result (λ fault. fault ≢ ExitFault.Arguments) }
+    ensures begins { IfOk result (λ served. IsBegun settings.now served) }
 {
     let speaker = commanded(rt, settings)?;
-    let wire = NetWire::open(rt, settings.listen)?;
+    let wire = opens(settings.listen)?;
     let mut served = SpeakerLoop::new(rt.alloc(), wire, speaker)?;
     tell_remotes(settings, &mut served);
-    take_and_show(rt, &mut served, turns, output)
+    Ok(served)
 }
 
 // The speaker of the settings, which has obeyed their commands.
@@ -142,7 +207,9 @@ fn is_configured(speaker: &Speaker, slot: u8) -> bool
 }
 
 // Tells where the peers are, and the cache.
-fn tell_remotes<W: Wire + Drop>(settings: &SpeakerSettings, served: &mut SpeakerLoop<W>) {
+fn tell_remotes<W: Wire + Drop>(settings: &SpeakerSettings, served: &mut SpeakerLoop<W>)
+    ensures { served.new ≡ with_remotes settings.now.peers.items settings.now.cache served.old }
+{
     for (slot, remote) in &settings.peers {
         served.set_remote(End::Peer(*slot), *remote);
     }
@@ -151,33 +218,17 @@ fn tell_remotes<W: Wire + Drop>(settings: &SpeakerSettings, served: &mut Speaker
     }
 }
 
-// So many turns, behind which Loc-RIB is printed.
-fn take_and_show<R: Clock, W: Wire + Drop, O: Write>(
-    rt: &R,
-    served: &mut SpeakerLoop<W>,
-    turns: u64,
-    output: &mut O,
-) -> Result<(), ExitFault>
-    ensures { IfErr result (λ fault. fault ≢ ExitFault.Arguments) }
-{
-    take_turns(rt, served, turns)?;
-    show(served.speaker(), Table::Rib, output)?;
-    output.flush()?;
-    Ok(())
-}
-
-// So many turns.
-fn take_turns<R: Clock, W: Wire + Drop>(
-    rt: &R,
+// So many turns, each at the moment that is read for it.
+fn take_turns<C: SecondsClock, W: Wire + Drop>(
+    clock: &mut C,
     served: &mut SpeakerLoop<W>,
     turns: u64,
 ) -> Result<(), ExitFault>
     ensures fault { IfErr result (λ fault. fault ≢ ExitFault.Arguments) }
-    ensures turns { TakesSoMany turns result served.old served.new }
+    ensures turns { TakesSoMany turns result (C.readings clock.old) (C.readings clock.new) served.old served.new }
 {
-    let start = Instant::now(rt)?;
     for _ in 0..turns {
-        let now = start.elapsed(rt)?.as_secs();
+        let now = clock.read()?;
         served.turn(now)?;
         served.wait(Duration::from_millis(REST_MILLISECONDS));
     }

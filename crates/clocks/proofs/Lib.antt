@@ -1,0 +1,2 @@
+pub mod ToldMoments
+pub mod Walks

@@ -1,0 +1,38 @@
+-- What settings make of a loop, and turns of that.
+use Rattle.std.specs.Prelude.{◌≡◌, ℕ, List, [], ◌∷◌, Option, None, Some, Ok, is_some}
+use Rattle.std.specs.declared.net.socket_addr.SocketAddr.{SocketAddr as Address}
+use Rattle.speaker.specs.SpeakerState.{SpeakerState}
+use Rattle.speaker_turns.specs.Turns.{Turns, idle, with_remote}
+use Rattle.speaker_turns.specs.declared.end.End.TheVariants.{Peer, Cache}
+use Rattle.wires.specs.Wires.{WireState}
+use Rattle.speaker_program.specs.Commanded.{IsCommanded, TakesSoMany}
+use Rattle.speaker_program.specs.Slots.{HasJust}
+use Rattle.speaker_program.specs.declared.settings.SpeakerSettings.{SpeakerSettings}
+
+-- it is told where each of these peers is
+abbrev pub with_peers : List (ℕ × Address) → Turns → Turns
+with_peers [] turns = turns
+with_peers (peer ∷ peers) turns = with_peers peers (with_remote (Peer peer.0) peer.1 turns)
+
+-- and where the cache is, if there is one
+abbrev pub with_cache : Option Address → Turns → Turns
+with_cache None turns = turns
+with_cache (Some remote) turns = with_remote Cache remote turns
+
+abbrev pub with_remotes : List (ℕ × Address) → Option Address → Turns → Turns
+with_remotes peers cache turns = with_cache cache (with_peers peers turns)
+
+-- a loop before its first turn: its speaker is as the commands of the settings leave one of their AS, Identifier and cache, its
+-- slots are just those of the settings, and it knows where each peer of the settings is, and their cache
+pub record IsBegun (settings : SpeakerSettings) (turns : Turns) : Type 0 where
+  pub speaker : SpeakerState
+  pub wire : WireState
+  pub commanded : IsCommanded (record { asn = settings.asn; identifier = settings.identifier; cache = is_some settings.cache }) speaker
+  pub slots : HasJust settings.peers.items speaker
+  pub remotes : turns ≡ with_remotes settings.peers.items settings.cache (idle speaker wire)
+
+-- from there so many turns were taken, each at the moment that the clock told for it
+pub record IsServed (settings : SpeakerSettings) (count : ℕ) (before behind : List ℕ) (turns : Turns) : Type 0 where
+  pub begun : Turns
+  pub begins : IsBegun settings begun
+  pub takes : TakesSoMany count (Ok tt) before behind begun turns
