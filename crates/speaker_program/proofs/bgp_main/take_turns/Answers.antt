@@ -8,4 +8,4 @@ loop-preserved g c =
 pub returns-in_err-turn-clause-turns : goal.returns-in_err-turn-clause-turns
 returns-in_err-turn-clause-turns g c =
     fails_behind _ _ _ c.from_residual-in_err-turn.result _ _ _ _ c.from_residual-in_err-turn.ensures.1
-        (one_more _ c.in_ok-now.now c.turn.result _ _ _ _ _ _ c.loop.invariant c.in_ok-now.ensures.told c.in_ok-now.ensures.forward c.turn.ensures)
+    (one_more _ c.in_ok-now.now c.turn.result _ _ _ _ _ _ c.loop.invariant c.in_ok-now.ensures.told c.in_ok-now.ensures.forward c.turn.ensures)
