@@ -2,3 +2,4 @@ pub mod OtherFaults
 pub mod ServedWords
 pub mod TakenSlots
 pub mod TakenTurns
+pub mod Told

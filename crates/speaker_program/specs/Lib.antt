@@ -3,3 +3,4 @@ pub mod Commanded
 pub mod Endings
 pub mod Exits
 pub mod Slots
+pub mod ToldSettings

@@ -1,10 +1,14 @@
 //! The settings of a speaker.
-ghost use Rattle.std.specs.Prelude.{◌≡◌, ◌≤◌, ◌<◌, IfOk, is_some};
+ghost use Rattle.std.specs.Prelude.{◌≡◌, ◌≤◌, ◌<◌, IfOk, codes, is_some};
+ghost use Rattle.toml.specs.Data.{Members, get_member};
+ghost use Rattle.toml.specs.View.{items_view, table_view, view};
+ghost use Rattle.settings_keys.specs.Keys.{Answers, AnswersInMemory, IsTableOf, IsTold};
 ghost use Rattle.speaker_program.specs.Slots.{AreSlots, has_slot};
+ghost use Rattle.speaker_program.specs.ToldSettings.{ArePeers, ArePeersAt, IsAsn, IsIdentifier, IsPeer, IsSlot, IsToldBy};
 
 use bgp_conf::PEER_SLOTS;
 use net_prefix::Asn;
-use settings_keys::{SettingsFault, address_if_told, address_of, number_of, read_table, text_of};
+use settings_keys::{SettingsFault, address_if_told, address_of, number_of, read_table, text_of, value_at};
 use speaker::Config;
 use std::alloc::Global;
 use std::net::{Ipv4Addr, SocketAddr};
@@ -28,9 +32,12 @@ pub struct SpeakerSettings {
 }
 
 impl SpeakerSettings {
-    /// The settings that the octets of a file tell: `as`, `identifier` and `commands`, and `cache`, `listen` and the tables
-    /// `peer`, each with `slot` and `remote`, where they are there. Keys of other names are passed over.
+    /// The settings that the octets of a file tell in TOML: `as`, a number from 1 to 4294967295, `identifier`, the text of
+    /// an IPv4 address other than 0.0.0.0, and `commands`, a text; and, where they are there, `cache` and `listen`, each the
+    /// text of an address and a port, and the tables `peer`, each with `slot`, from 0 to 63 and none twice, and `remote`, the
+    /// text of an address and a port. Keys of other names are passed over. Anything else is `Settings`.
     pub fn read(alloc: Global, octets: &[u8]) -> Result<SpeakerSettings, SettingsFault>
+        ensures told { AnswersInMemory (λ settings. (table : Members) × IsTableOf octets.now table × IsToldBy table settings) result }
         ensures own { IfOk result (λ settings. (1 ≤ settings.asn.0) × (1 ≤ settings.identifier)) }
         ensures slots { IfOk result (λ settings. AreSlots settings.peers.items) }
     {
@@ -40,12 +47,14 @@ impl SpeakerSettings {
 
     // The settings that the keys of a table tell.
     fn of(alloc: Global, table: &Table) -> Result<SpeakerSettings, SettingsFault>
+        ensures told { AnswersInMemory (IsToldBy (table_view table.now)) result }
         ensures own { IfOk result (λ settings. (1 ≤ settings.asn.0) × (1 ≤ settings.identifier)) }
         ensures slots { IfOk result (λ settings. AreSlots settings.peers.items) }
     {
         let asn = asn_of(table)?;
         let identifier = identifier_of(table)?;
-        let commands = String::from_str(alloc, text_of(table, "commands")?)?;
+        let path = text_of(table, "commands")?;
+        let commands = String::from_str(alloc, path)?;
         let cache = address_if_told(table, "cache")?;
         let listen = address_if_told(table, "listen")?;
         let peers = peers_of(alloc, table)?;
@@ -73,7 +82,7 @@ impl SpeakerSettings {
 
 // The speaker's AS, which is not 0.
 fn asn_of(table: &Table) -> Result<Asn, SettingsFault>
-    ensures { IfOk result (λ asn. 1 ≤ asn.0) }
+    ensures { Answers (IsTold IsAsn (get_member (codes "as") (table_view table.now))) result }
 {
     match number_of(table, "as")? {
         None | Some(0) => Err(SettingsFault::Settings),
@@ -83,7 +92,7 @@ fn asn_of(table: &Table) -> Result<Asn, SettingsFault>
 
 // The speaker's BGP Identifier: four numbers with dots between them, not all 0.
 fn identifier_of(table: &Table) -> Result<u32, SettingsFault>
-    ensures { IfOk result (λ identifier. 1 ≤ identifier) }
+    ensures { Answers (IsTold IsIdentifier (get_member (codes "identifier") (table_view table.now))) result }
 {
     let Ok(address) = text_of(table, "identifier")?.parse::<Ipv4Addr>() else {
         return Err(SettingsFault::Settings);
@@ -96,15 +105,24 @@ fn identifier_of(table: &Table) -> Result<u32, SettingsFault>
 
 // The slot and the address of each peer; none where there are no such tables.
 fn peers_of(alloc: Global, table: &Table) -> Result<Vec<(u8, SocketAddr)>, SettingsFault>
-    ensures { IfOk result (λ peers. AreSlots peers.items) }
+    ensures told { AnswersInMemory (λ peers. ArePeersAt (get_member (codes "peer") (table_view table.now)) peers.items) result }
+    ensures slots { IfOk result (λ peers. AreSlots peers.items) }
 {
-    let mut peers = Vec::new(alloc);
-    let Some(value) = table.get("peer") else {
-        return Ok(peers);
+    let Some(value) = value_at(table, "peer") else {
+        return Ok(Vec::new(alloc));
     };
     let Some(entries) = value.as_array() else {
         return Err(SettingsFault::Settings);
     };
+    each_peer(alloc, entries.as_slice())
+}
+
+// The slot and the address of the peer of each table, no slot twice.
+fn each_peer(alloc: Global, entries: &[Value]) -> Result<Vec<(u8, SocketAddr)>, SettingsFault>
+    ensures told { AnswersInMemory (λ peers. ArePeers (items_view entries.now) peers.items × AreSlots peers.items) result }
+    ensures slots { IfOk result (λ peers. AreSlots peers.items) }
+{
+    let mut peers = Vec::new(alloc);
     for entry in entries {
         let peer = peer_of(entry)?;
         if has_slot(peers.as_slice(), peer.0) {
@@ -118,17 +136,18 @@ fn peers_of(alloc: Global, table: &Table) -> Result<Vec<(u8, SocketAddr)>, Setti
 }
 
 fn peer_of(entry: &Value) -> Result<(u8, SocketAddr), SettingsFault>
-    ensures { IfOk result (λ peer. peer.0 < 64) }
+    ensures { Answers (IsPeer (view entry.now)) result }
 {
     let Some(table) = entry.as_table() else {
         return Err(SettingsFault::Settings);
     };
     let slot = slot_of(table)?;
-    Ok((slot, address_of(table, "remote")?))
+    let remote = address_of(table, "remote")?;
+    Ok((slot, remote))
 }
 
 fn slot_of(table: &Table) -> Result<u8, SettingsFault>
-    ensures { IfOk result (λ slot. slot < 64) }
+    ensures { Answers (IsTold IsSlot (get_member (codes "slot") (table_view table.now))) result }
 {
     let Some(number) = number_of(table, "slot")? else {
         return Err(SettingsFault::Settings);
