@@ -1,2 +1,3 @@
 pub mod Newest
 pub mod Opening
+pub mod Told

@@ -1,3 +1,4 @@
 pub mod Exits
 pub mod Passing
 pub mod Rereads
+pub mod ToldSettings

@@ -2,9 +2,10 @@
 //!
 //! `main_cache` reads the words exactly, and tells what the operator has to mend from what the system didn't give
 //! (`specs/Exits.antt`). `ServedList` takes the list again while routers are served: one that can't be had changes nothing,
-//! and one that is served already publishes nothing (`specs/Rereads.antt`, `specs/Passing.antt`). `serve_cache` serves the
-//! list of settings over the system's sockets for so many turns, and writes nothing where they ask for no log. What files
-//! and the clock do, how settings are read but for their bounds, and what the log says, is shown by tests.
+//! and one that is served already publishes nothing (`specs/Rereads.antt`, `specs/Passing.antt`). Settings are what stands at
+//! the keys of their text, and the cache that is made is theirs (`specs/ToldSettings.antt`). `serve_cache` serves the list of
+//! settings over the system's sockets for so many turns, and writes nothing where they ask for no log. What files and the
+//! clock do, and what the log says, is shown by tests.
 #![tactic(auto)]
 
 mod cache_main;

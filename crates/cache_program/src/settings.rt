@@ -1,11 +1,16 @@
 //! The settings of a cache.
-ghost use Rattle.std.specs.Prelude.{◌≡◌, ◌≤◌, ◌<◌, IfOk, IfSome, true};
+ghost use Rattle.std.specs.Prelude.{◌≡◌, ◌≤◌, ◌<◌, IfOk, IfSome, codes, false, true};
+ghost use Rattle.toml.specs.Data.{Members, get_member};
+ghost use Rattle.toml.specs.View.{table_view};
+ghost use Rattle.rtr_cache.specs.declared.other_session.OtherSession.TheVariants.{Report};
 ghost use Rattle.rtr_codec.specs.Intervals.{are_lawful};
+ghost use Rattle.settings_keys.specs.Keys.{Answers, AnswersInMemory, IsNumber, IsTableOf, IsTold, IsToldIfThere, IsToldOrUsual};
+ghost use Rattle.cache_program.specs.ToldSettings.{AreIntervals, AreTerms, IsOtherSession, IsPatience, IsSeconds, IsSession, IsToldBy, IsYesOrNo};
 
 use cache_turns::Patience;
 use rtr_cache::OtherSession;
 use rtr_codec::Intervals;
-use settings_keys::{SettingsFault, address_of, number_of, read_table, text_of};
+use settings_keys::{SettingsFault, address_of, number_of, read_table, text_of, value_at};
 use std::alloc::Global;
 use std::net::SocketAddr;
 use toml::Table;
@@ -43,10 +48,13 @@ pub struct CacheSettings {
 }
 
 impl CacheSettings {
-    /// The settings that the octets of a file tell: `listen`, `csv` and `session`, and `other_session`, `refresh`, `retry`
-    /// and `expire` where they aren't the usual ones, and `first`, `idle`, `reread`, `log` and `status`. Keys of other
-    /// names are passed over.
+    /// The settings that the octets of a file tell in TOML: `listen`, the text of an address and a port, `csv`, a text, and
+    /// `session`, a number of 16 bits or `"clock"`; and, where they are there, `other_session`, `"report"` or `"reset"`,
+    /// `refresh`, `retry` and `expire`, in place of the usual intervals and lawful together, `first`, 1 at least, `idle`,
+    /// above `refresh`, `reread` and `status`, 1 at least, each a number of 32 bits, and `log`, a boolean. Keys of other names
+    /// are passed over. Anything else is `Settings`.
     pub fn read(alloc: Global, octets: &[u8]) -> Result<CacheSettings, SettingsFault>
+        ensures told { AnswersInMemory (λ settings. (table : Members) × IsTableOf octets.now table × IsToldBy table settings) result }
         ensures intervals { IfOk result (λ settings. are_lawful settings.intervals ≡ true) }
         ensures patience { IfOk result (λ settings. (1 ≤ settings.patience.first) × (settings.intervals.refresh < settings.patience.idle)) }
         ensures reread { IfOk result (λ settings. IfSome settings.reread (λ seconds. 1 ≤ seconds)) }
@@ -58,13 +66,15 @@ impl CacheSettings {
 
     // The settings that the keys of a table tell.
     fn of(alloc: Global, table: &Table) -> Result<CacheSettings, SettingsFault>
+        ensures told { AnswersInMemory (IsToldBy (table_view table.now)) result }
         ensures intervals { IfOk result (λ settings. are_lawful settings.intervals ≡ true) }
         ensures patience { IfOk result (λ settings. (1 ≤ settings.patience.first) × (settings.intervals.refresh < settings.patience.idle)) }
         ensures reread { IfOk result (λ settings. IfSome settings.reread (λ seconds. 1 ≤ seconds)) }
         ensures status { IfOk result (λ settings. IfSome settings.status (λ seconds. 1 ≤ seconds)) }
     {
         let listen = address_of(table, "listen")?;
-        let csv = String::from_str(alloc, text_of(table, "csv")?)?;
+        let path = text_of(table, "csv")?;
+        let csv = String::from_str(alloc, path)?;
         let terms = terms_of(table)?;
         Ok(CacheSettings {
             listen,
@@ -93,6 +103,7 @@ struct Terms {
 }
 
 fn terms_of(table: &Table) -> Result<Terms, SettingsFault>
+    ensures told { Answers (AreTerms (table_view table.now)) result }
     ensures intervals { IfOk result (λ terms. are_lawful terms.intervals ≡ true) }
     ensures patience { IfOk result (λ terms. (1 ≤ terms.patience.first) × (terms.intervals.refresh < terms.patience.idle)) }
     ensures reread { IfOk result (λ terms. IfSome terms.reread (λ seconds. 1 ≤ seconds)) }
@@ -101,23 +112,29 @@ fn terms_of(table: &Table) -> Result<Terms, SettingsFault>
     let session = session_of(table)?;
     let other_session = other_session_of(table)?;
     let intervals = intervals_of(table)?;
+    let patience = patience_of(table, intervals)?;
+    let reread = seconds_of(table, "reread")?;
+    let log = has_log(table)?;
+    let status = seconds_of(table, "status")?;
     Ok(Terms {
         session,
         other_session,
         intervals,
-        patience: patience_of(table, intervals)?,
-        reread: seconds_of(table, "reread")?,
-        log: has_log(table)?,
-        status: seconds_of(table, "status")?,
+        patience,
+        reread,
+        log,
+        status,
     })
 }
 
 // Where the session id comes from, which has to be told.
-fn session_of(table: &Table) -> Result<SessionSource, SettingsFault> {
-    let Some(value) = table.get("session") else {
+fn session_of(table: &Table) -> Result<SessionSource, SettingsFault>
+    ensures { Answers (IsTold IsSession (get_member (codes "session") (table_view table.now))) result }
+{
+    let Some(value) = value_at(table, "session") else {
         return Err(SettingsFault::Settings);
     };
-    if value.as_str() == Some("clock") {
+    if let Some("clock") = value.as_str() {
         return Ok(SessionSource::Clock);
     }
     let Some(number) = value.as_integer() else {
@@ -130,25 +147,31 @@ fn session_of(table: &Table) -> Result<SessionSource, SettingsFault> {
 }
 
 // What a Serial Query of another session is answered with: an Error Report where the key isn't there.
-fn other_session_of(table: &Table) -> Result<OtherSession, SettingsFault> {
-    if table.get("other_session").is_none() {
+fn other_session_of(table: &Table) -> Result<OtherSession, SettingsFault>
+    ensures { Answers (IsToldOrUsual IsOtherSession Report (get_member (codes "other_session") (table_view table.now))) result }
+{
+    let Some(value) = value_at(table, "other_session") else {
         return Ok(OtherSession::Report);
-    }
-    match text_of(table, "other_session")? {
-        "report" => Ok(OtherSession::Report),
-        "reset" => Ok(OtherSession::Reset),
+    };
+    match value.as_str() {
+        Some("report") => Ok(OtherSession::Report),
+        Some("reset") => Ok(OtherSession::Reset),
         _ => Err(SettingsFault::Settings),
     }
 }
 
 // The intervals; one whose key isn't there is the usual one.
 fn intervals_of(table: &Table) -> Result<Intervals, SettingsFault>
-    ensures { IfOk result (λ intervals. are_lawful intervals ≡ true) }
+    ensures told { Answers (AreIntervals (table_view table.now)) result }
+    ensures lawful { IfOk result (λ intervals. are_lawful intervals ≡ true) }
 {
+    let refresh = number_or(table, "refresh", Intervals::USUAL.refresh)?;
+    let retry = number_or(table, "retry", Intervals::USUAL.retry)?;
+    let expire = number_or(table, "expire", Intervals::USUAL.expire)?;
     let intervals = Intervals {
-        refresh: number_of(table, "refresh")?.unwrap_or(Intervals::USUAL.refresh),
-        retry: number_of(table, "retry")?.unwrap_or(Intervals::USUAL.retry),
-        expire: number_of(table, "expire")?.unwrap_or(Intervals::USUAL.expire),
+        refresh,
+        retry,
+        expire,
     };
     if !intervals.are_lawful() {
         return Err(SettingsFault::Settings);
@@ -159,32 +182,45 @@ fn intervals_of(table: &Table) -> Result<Intervals, SettingsFault>
 // For how long a router may be silent: at first a minute, later up to the expire interval, where the keys aren't there.
 // One that asks again when it is to, after the refresh interval, keeps its place.
 fn patience_of(table: &Table, intervals: Intervals) -> Result<Patience, SettingsFault>
+    ensures told { Answers (IsPatience (table_view table.now) intervals) result }
     ensures first { IfOk result (λ patience. 1 ≤ patience.first) }
     ensures idle { IfOk result (λ patience. intervals.refresh < patience.idle) }
 {
-    let patience = Patience {
-        first: seconds_of(table, "first")?.unwrap_or(Patience::USUAL.first),
-        idle: seconds_of(table, "idle")?.unwrap_or(intervals.expire),
-    };
-    if patience.idle <= intervals.refresh {
+    let first = seconds_of(table, "first")?.unwrap_or(Patience::USUAL.first);
+    let idle = seconds_of(table, "idle")?.unwrap_or(intervals.expire);
+    if idle <= intervals.refresh {
         return Err(SettingsFault::Settings);
     }
-    Ok(patience)
+    Ok(Patience { first, idle })
+}
+
+// The number at a key, or the usual one where the key isn't there.
+fn number_or(table: &Table, key: &str, usual: u32) -> Result<u32, SettingsFault>
+    ensures { Answers (IsToldOrUsual IsNumber usual (get_member key.now (table_view table.now))) result }
+{
+    match number_of(table, key)? {
+        Some(number) => Ok(number),
+        None => Ok(usual),
+    }
 }
 
 // The seconds at a key, if the key is there: one at least.
 fn seconds_of(table: &Table, key: &str) -> Result<Option<u32>, SettingsFault>
-    ensures { IfOk result (λ seconds. IfSome seconds (λ number. 1 ≤ number)) }
+    ensures told { Answers (IsToldIfThere IsSeconds (get_member key.now (table_view table.now))) result }
+    ensures some { IfOk result (λ seconds. IfSome seconds (λ number. 1 ≤ number)) }
 {
     match number_of(table, key)? {
+        None => Ok(None),
         Some(0) => Err(SettingsFault::Settings),
-        seconds => Ok(seconds),
+        Some(seconds) => Ok(Some(seconds)),
     }
 }
 
 // Whether there is to be a log: none where the key isn't there.
-fn has_log(table: &Table) -> Result<bool, SettingsFault> {
-    let Some(value) = table.get("log") else {
+fn has_log(table: &Table) -> Result<bool, SettingsFault>
+    ensures { Answers (IsToldOrUsual IsYesOrNo false (get_member (codes "log") (table_view table.now))) result }
+{
+    let Some(value) = value_at(table, "log") else {
         return Ok(false);
     };
     match value.as_bool() {
