@@ -1,5 +1,6 @@
 //! What the main of `ovcache` does.
 ghost use Rattle.std.specs.Prelude.{◌≡◌, ◌≢◌, ◌≤◌, ℕ, List, Err, IfErr, IfOk, false};
+ghost use Rattle.cache_program.specs.ToldSettings.{IsCacheOf};
 ghost use Rattle.program_endings.specs.Words.{IsCall};
 
 use crate::every::Every;
@@ -84,6 +85,8 @@ fn begin<'a, R, O: Write>(
 where
     R: Net<Listener = TcpListener, Stream = TcpStream> + Files + Clock + AllocGlobal,
     ensures fault { IfErr result (λ fault. fault ≢ ExitFault.Arguments) }
+    ensures cache { IfOk result (λ served. IsCacheOf settings.now served.turns.cache) }
+    ensures patience { IfOk result (λ served. served.turns.patience ≡ settings.now.patience) }
     ensures quiet { settings.now.log ≡ false → output.new ≡ output.old }
 {
     let (cache, serial, payloads) = load_cache(rt, settings, output)?;
@@ -101,6 +104,7 @@ where
     R: Net<Listener = TcpListener, Stream = TcpStream> + AllocGlobal,
     ensures fault { IfErr result (λ fault. fault ≢ ExitFault.Arguments) }
     ensures cache { IfOk result (λ turns. turns.cache ≡ cache) }
+    ensures patience { IfOk result (λ turns. turns.patience ≡ settings.now.patience) }
 {
     let wire = NetWire::listening(rt, settings.listen)?;
     Ok(CacheLoop::with_patience(rt.alloc(), wire, cache, settings.patience)?)

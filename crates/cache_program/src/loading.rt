@@ -1,6 +1,7 @@
 //! The cache of settings, and the list with which it begins.
 ghost use Rattle.std.specs.Prelude.{◌≡◌, ◌≢◌, IfErr, IfOk, false, length};
 ghost use Rattle.cache_program.specs.Rereads.{IsNewest};
+ghost use Rattle.cache_program.specs.ToldSettings.{IsCacheOf, IsSessionOf};
 
 use crate::exits::{of_list, of_refusal};
 use crate::journal::{LogLine, log};
@@ -24,6 +25,7 @@ pub(crate) fn load_cache<R: Files + Clock + AllocGlobal, O: Write>(
     output: &mut O,
 ) -> Result<(Cache, u32, usize), ExitFault>
     ensures fault { IfErr result (λ fault. fault ≢ ExitFault.Arguments) }
+    ensures cache { IfOk result (λ loaded. IsCacheOf settings.now loaded.0) }
     ensures newest { IfOk result (λ loaded. IsNewest loaded.0.shared.kept loaded.1 loaded.2) }
     ensures quiet { settings.now.log ≡ false → output.new ≡ output.old }
 {
@@ -34,7 +36,8 @@ pub(crate) fn load_cache<R: Files + Clock + AllocGlobal, O: Write>(
 
 // The cache of the settings, without a list.
 fn made_cache<R: Clock + AllocGlobal>(rt: &R, settings: &CacheSettings) -> Result<Cache, ExitFault>
-    ensures { IfErr result (λ fault. fault ≢ ExitFault.Arguments) }
+    ensures fault { IfErr result (λ fault. fault ≢ ExitFault.Arguments) }
+    ensures cache { IfOk result (IsCacheOf settings.now) }
 {
     let session = session_id(rt, settings.session)?;
     let made = Cache::with_other_session(
@@ -43,12 +46,16 @@ fn made_cache<R: Clock + AllocGlobal>(rt: &R, settings: &CacheSettings) -> Resul
         settings.intervals,
         settings.other_session,
     );
-    made.map_err(of_refusal)
+    match made {
+        Ok(cache) => Ok(cache),
+        Err(refusal) => Err(of_refusal(refusal)),
+    }
 }
 
 // The session id. By the clock it is the low 16 bits of the seconds since 1970: another one in each of 65,536 seconds.
 fn session_id<R: Clock>(rt: &R, session: SessionSource) -> Result<u16, ExitFault>
-    ensures { IfErr result (λ fault. fault ≢ ExitFault.Arguments) }
+    ensures fault { IfErr result (λ fault. fault ≢ ExitFault.Arguments) }
+    ensures session { IfOk result (IsSessionOf session) }
 {
     match session {
         SessionSource::Id(id) => Ok(id),
@@ -64,6 +71,7 @@ fn load_list<R: Files + Clock + AllocGlobal, O: Write>(
     output: &mut O,
 ) -> Result<(u32, usize), ExitFault>
     ensures fault { IfErr result (λ fault. fault ≢ ExitFault.Arguments) }
+    ensures terms { IfOk result (λ loaded. cache.new.shared ≡ record cache.old.shared { kept = cache.new.shared.kept }) }
     ensures newest { IfOk result (λ loaded. IsNewest cache.new.shared.kept loaded.0 loaded.1) }
     ensures quiet { settings.now.log ≡ false → output.new ≡ output.old }
 {
@@ -102,6 +110,7 @@ fn read_told<R: Clock + AllocGlobal, L: Read + Drop, O: Write>(
 // Hands the set to the cache, which serves it under this serial.
 fn publish(cache: &mut Cache, set: &BTreeSet<Vrp>) -> Result<u32, ExitFault>
     ensures fault { IfErr result (λ fault. fault ≢ ExitFault.Arguments) }
+    ensures terms { IfOk result (λ serial. cache.new.shared ≡ record cache.old.shared { kept = cache.new.shared.kept }) }
     ensures newest { IfOk result (λ serial. IsNewest cache.new.shared.kept serial (length set.now.keys)) }
 {
     match cache.step(CacheEvent::Load(set)) {
