@@ -58,8 +58,14 @@ pub record AreTerms (table : Members) (terms : Terms) : Type 0 where
 -- the terms of settings
 abbrev pub terms_of : CacheSettings → Terms
 terms_of settings = record {
-  session = settings.session; other_session = settings.other_session; intervals = settings.intervals;
-  patience = settings.patience; reread = settings.reread; log = settings.log; status = settings.status }
+  session = settings.session;
+  other_session = settings.other_session;
+  intervals = settings.intervals;
+  patience = settings.patience;
+  reread = settings.reread;
+  log = settings.log;
+  status = settings.status;
+}
 
 -- the settings are what stands at their keys
 pub record IsToldBy (table : Members) (settings : CacheSettings) : Type 0 where
