@@ -8,7 +8,9 @@ ghost use Rattle.speaker_program.specs.ToldSettings.{ArePeers, ArePeersAt, IsAsn
 
 use bgp_conf::PEER_SLOTS;
 use net_prefix::Asn;
-use settings_keys::{SettingsFault, address_if_told, address_of, number_of, read_table, text_of, value_at};
+use settings_keys::{
+    SettingsFault, address_if_told, address_of, number_of, read_table, text_of, value_at,
+};
 use speaker::Config;
 use std::alloc::Global;
 use std::net::{Ipv4Addr, SocketAddr};

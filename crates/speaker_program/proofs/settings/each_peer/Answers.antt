@@ -19,7 +19,7 @@ loop-entry-preserved c =
     let at : get_or vs i v ≡ v = grind (arith, common_steps) in
     rw (rw c.if-is_err.ensures.negation at c.push.ensures.items) (
       rw (take_more vs i v c.loop-entry-test.true, at) (are_peers-push (take i vs) _ v c.in_ok-peer.peer c.loop-entry.invariant.0 c.in_ok-peer.ensures),
-      are_slots-push _ c.in_ok-peer.peer c.loop-entry.invariant.1 (slot_within _ _ c.in_ok-peer.ensures) (rw c.as_slice.ensures.value at (sym c.has_slot.ensures ∙ c.if-has_slot.false))
+      are_slots-push _ c.in_ok-peer.peer c.loop-entry.invariant.1 (slot_within _ _ c.in_ok-peer.ensures) (rw c.as_slice.ensures.value at (sym c.has_slot.ensures ∙ c.if-has_slot.false)),
     )
 
 pub returns-in_err-peer-clause-told : goal.returns-in_err-peer-clause-told
@@ -30,7 +30,7 @@ returns-in_err-peer-clause-told c =
     let at : get_or vs i v ≡ v = grind (arith, common_steps) in
     let needs = λ (peers : Vec (ℕ × Address) Global). ArePeers (items_view vs) peers.items × AreSlots peers.items in
     in_memory needs _ (passes_on _ needs c.from_residual.result _ c.from_residual.ensures.1 c.in_err-peer.ensures (λ none peers told.
-      no_peers vs i v c.loop-entry-test.true (λ peer is. none peer (subst (λ (x : Value). IsPeer (view x) peer) at is)) peers.items told.0))
+    no_peers vs i v c.loop-entry-test.true (λ peer is. none peer (subst (λ (x : Value). IsPeer (view x) peer) at is)) peers.items told.0))
 
 pub returns-then-has_slot-clause-told : goal.returns-then-has_slot-clause-told
 returns-then-has_slot-clause-told c =
