@@ -1,5 +1,5 @@
 -- What came of the scripts of a list.
-use Rattle.std.specs.Prelude.{◌≡◌, ◌≢◌, ◌+◌, ℕ, ⊤, ◌⊎◌, List, [], ◌∷◌, length}
+use Rattle.std.specs.Prelude.{◌≡◌, ◌≢◌, ◌+◌, ℕ, suc, ⊤, ◌⊎◌, List, [], ◌∷◌, length}
 use Rattle.script_files.specs.Judgement.{Answers, AreAnswered, IsFirstAmong}
 use Rattle.script_files.specs.declared.judging.Difference.{Difference}
 
@@ -30,9 +30,17 @@ IsOneOtherwise answers scripts told_texts [] = ⊥
 IsOneOtherwise answers scripts told_texts (name ∷ names) =
     IsOtherwise answers scripts told_texts name ⊎ IsOneOtherwise answers scripts told_texts names
 
+-- of the names so many were answered as told, and so many otherwise, each name once
+abbrev pub AreSplit : Answers → Texts → Texts → ℕ → ℕ → List (List ℕ) → Type 0
+AreSplit answers scripts told_texts as_told differing [] = (as_told ≡ 0) × (differing ≡ 0)
+AreSplit answers scripts told_texts as_told differing (name ∷ names) =
+    ((others : ℕ) × (as_told ≡ suc others) × IsAsTold answers scripts told_texts name × AreSplit answers scripts told_texts others differing names)
+    ⊎ ((others : ℕ) × (differing ≡ suc others) × IsOtherwise answers scripts told_texts name × AreSplit answers scripts told_texts as_told others names)
+
 -- of all names these are left, and so many of those before them were answered as told, so many otherwise
 pub record IsTallied (answers : Answers) (scripts told_texts : Texts) (as_told differing : ℕ) (left all : List (List ℕ)) : Type 0 where
   pub count : as_told + differing + length left ≡ length all
   pub all_as_told : differing ≡ 0 → AreAsTold answers scripts told_texts left → AreAsTold answers scripts told_texts all
   pub one_otherwise : differing ≢ 0 → IsOneOtherwise answers scripts told_texts all
   pub one_left : IsOneOtherwise answers scripts told_texts left → IsOneOtherwise answers scripts told_texts all
+  pub split : (a d m n : ℕ) → m ≡ as_told + a → n ≡ differing + d → AreSplit answers scripts told_texts a d left → AreSplit answers scripts told_texts m n all

@@ -1,6 +1,6 @@
 //! The scripts of a list, one after another.
 ghost use Rattle.std.specs.Prelude.{◌≡◌, ◌≢◌, ◌+◌, ℕ, IfOk, IsFalse, IsTrue, List, length};
-ghost use Rattle.script_files.specs.Listing.{AreAsTold, IsAsTold, IsOneOtherwise, IsOtherwise};
+ghost use Rattle.script_files.specs.Listing.{AreAsTold, AreSplit, IsAsTold, IsOneOtherwise, IsOtherwise};
 ghost use Rattle.script_files.specs.Names.{names_in};
 
 use crate::judging::{Outcome, Player, Unplayed, play_file};
@@ -37,6 +37,7 @@ pub fn play_listed<P: Player, S: Shelf, W: Write>(
     writer: &mut W,
 ) -> Result<Tally, Unplayed>
     ensures count { IfOk result (λ tally. tally.as_told + tally.differing ≡ length (names_in list.now)) }
+    ensures split { IfOk result (λ tally. AreSplit (P.answers player.now) (S.scripts shelf.now) (S.told_texts shelf.now) tally.as_told tally.differing (names_in list.now)) }
     ensures as_told { IfOk result (λ tally. tally.differing ≡ 0 → AreAsTold (P.answers player.now) (S.scripts shelf.now) (S.told_texts shelf.now) (names_in list.now)) }
     ensures otherwise { IfOk result (λ tally. tally.differing ≢ 0 → IsOneOtherwise (P.answers player.now) (S.scripts shelf.now) (S.told_texts shelf.now) (names_in list.now)) }
 {

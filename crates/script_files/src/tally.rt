@@ -1,5 +1,5 @@
 //! How many scripts answered as they should.
-ghost use Rattle.std.specs.Prelude.{◌≡◌, ◌<◌, ◌+◌, ◌^◌, if◌then◌else◌, true, false};
+ghost use Rattle.std.specs.Prelude.{◌≡◌, ◌≢◌, ◌<◌, ◌+◌, ◌^◌, if◌then◌else◌, true, false};
 ghost use Rattle.script_files.specs.Counts.{one_more};
 
 /// The scripts that answered as told, and those that didn't.
@@ -35,10 +35,10 @@ impl Tally {
         self.as_told.saturating_add(self.differing)
     }
 
-    /// The exit status: 0 where no script differs.
+    /// The exit status: 0 where no script differs, else 1.
     pub fn status(self) -> u8
         ensures all { self.differing ≡ 0 → result ≡ 0 }
-        ensures not_all { result ≡ 0 → self.differing ≡ 0 }
+        ensures not_all { self.differing ≢ 0 → result ≡ 1 }
     {
         match self.differing {
             0 => 0,
