@@ -10,14 +10,14 @@ use Rattle.bgp_conf.specs.declared.command.Command.{Command}
 use Rattle.bgp_conf.specs.declared.refusal.Refusal.{Refusal}
 use Rattle.bgp_conf.specs.declared.refusal.Refusal.TheVariants.{NoMemory as Memory}
 use Rattle.net_prefix.specs.declared.prefix.Prefix.{Prefix}
-use Rattle.speaker.proofs.KeptOffers.{kept_same}
+use Rattle.routes.proofs.KeptOffers.{kept_same}
 use Rattle.speaker.proofs.PeerRoutes.{peers_same}
 use Rattle.speaker.specs.Agreement.{Agrees, CacheAgrees, SlotAgrees}
 use Rattle.speaker.specs.FirstRefusal.{LacksMemory}
-use Rattle.speaker.specs.Linked.{Linked}
+use Rattle.routes.specs.Linked.{Linked}
 use Rattle.speaker.specs.Runs.{Run, Turn, Command_call, asked, cache_history, history}
 use Rattle.speaker.specs.SpeakerState.{IsAsBefore, SpeakerState, tables_of}
-use Rattle.speaker.specs.Tables.{link_at, network_route}
+use Rattle.routes.specs.Tables.{link_at, network_route}
 use Rattle.speaker.specs.declared.config.Config.{Config}
 use Rattle.speaker.specs.declared.event.Event.{Event}
 use Rattle.speaker.specs.declared.event.Report.{Report}

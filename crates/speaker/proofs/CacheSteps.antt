@@ -28,11 +28,11 @@ use Rattle.speaker.specs.SpeakerState.{SpeakerState}
 use Rattle.speaker.specs.declared.config.Config.{Config}
 use Rattle.speaker.proofs.AllowedChoices.{most_touched}
 use Rattle.speaker.proofs.Coming.{HasCome, Joins}
-use Rattle.speaker.proofs.Counting.{different_as}
+use Rattle.routes.proofs.Counting.{different_as}
 use Rattle.speaker.proofs.Events.{IsReady}
 use Rattle.speaker.proofs.KeptOffers.{kept_touched}
 use Rattle.speaker.proofs.KnownPrefixes.{IsKnown, known_of}
-use Rattle.speaker.specs.Tables.{network_route}
+use Rattle.routes.specs.Tables.{network_route}
 use Rattle.speaker.proofs.Histories.{route_stays}
 use Rattle.speaker.proofs.Touches.{choices_from, choices_joined, choices_none, choices_octets, choices_twice, untouched}
 use Rattle.vrp_delta.specs.Delta.{change_between}

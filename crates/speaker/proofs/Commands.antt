@@ -14,7 +14,7 @@ use Rattle.std.specs.declared.cmp.Ordering.TheVariants.{Less, Equal, Greater}
 use Rattle.net_prefix.specs.PrefixOrder.{prefix_cmp}
 use Rattle.rib_out.proofs.Prefixes.{is_prefix-refl}
 use Rattle.bgp_conf.proofs.PrefixOrder.{is_at-prefix_cmp, is_eq-nat_cmp}
-use Rattle.decision.specs.BookContents.{is_prefix}
+use Rattle.decision.specs.BookContents.{is_prefix, offer_at}
 use Rattle.bgp_attr.specs.PathAttributes.{PathAttributes, originated}
 use Rattle.bgp_conf.specs.Configuration.{AddressesDiffer, Configuration, is_network, peer_at}
 use Rattle.bgp_conf.specs.ConfAfter.{TakesMemory, conf_after, exporting, importing, is_network_after, is_prefix as is_prefix_of, peer_after, configured_of}
@@ -43,7 +43,6 @@ use Rattle.bgp_peer.specs.SessionInputs as happens
 use Rattle.bgp_peer.specs.SessionInputs.{Signalled, Terms, moment_of, session, staying}
 use Rattle.bgp_peer.specs.Slot.{configured}
 use Rattle.bgp_peer.proofs.Agreeing.{agrees-new}
-use Rattle.decision.specs.BookContents.{offer_at}
 use Rattle.net_prefix.specs.declared.prefix.Prefix.{Prefix}
 use Rattle.net_prefix.specs.declared.transport.Transport.{Transport}
 use Rattle.net_prefix.specs.declared.transport.Transport.TheVariants.{Open as Connected}
@@ -53,28 +52,30 @@ use Rattle.speaker.specs.Agreement.{CacheAgrees, SlotAgrees, IsTaken, Holds, Hol
 use Rattle.rtr_session.specs.SessionHistory as cached
 use Rattle.speaker.proofs.Histories.{no_route}
 use Rattle.speaker.proofs.SlotStates.{SlotIs, slot_agrees, configured_from}
-use Rattle.speaker.specs.Choices.{choices_by, choices_commanded, choices_in, how_many, is_known, named_to}
-use Rattle.speaker.specs.Chosen.{AreDifferent, Chooses, OncePerPrefix}
+use Rattle.speaker.specs.Choices.{choices_by, choices_commanded, choices_in, is_known, named_to}
+use Rattle.routes.specs.Chosen.{how_many, AreDifferent, OncePerPrefix}
+use Rattle.speaker.specs.Chosen.{Chooses}
 use Rattle.speaker.specs.FirstRefusal.{refused_at, awaits_up, is_open}
-use Rattle.speaker.specs.Linked.{Linked}
-use Rattle.speaker.specs.Offers.{AreKept, AreMadeAgain, AreMadeWhere, IsSound, Offers}
-use Rattle.speaker.specs.Moves.{Announces, Moves, IsPut, moved, resolves}
+use Rattle.routes.specs.Linked.{Linked, moved}
+use Rattle.routes.specs.Offers.{AreKept, AreMadeAgain, AreMadeWhere, IsSound, Offers}
+use Rattle.speaker.specs.Moves.{Announces, Moves, IsPut, resolves}
 use Rattle.speaker.specs.Runs.{Call, Run, turn, Up_call, Fail_call, Bytes_call, Starved_call, Tick_call, Command_call, Take_call, Cache_up_call, Cache_fail_call, Cache_bytes_call, Cache_starved_call, Cache_take_call, cache_history, commanded, conf_called, configuration_of, history, moment_after, opened_commanded, terms_in}
 use Rattle.speaker.specs.SpeakerState.{IsAsBefore, SpeakerState, tables_of}
-use Rattle.speaker.specs.Tables.{link_at, network_route, peer_route_at, session_at, tables}
+use Rattle.routes.specs.Tables.{link_at, network_route, peer_route_at, session_at, tables}
 use Rattle.speaker.specs.declared.config.Config.{Config}
 use Rattle.speaker.proofs.AllowedChoices.{most_known, most_routes, signal_few}
 use Rattle.speaker.proofs.Calls.{slots_changed}
-use Rattle.speaker.proofs.Counting.{different_as}
+use Rattle.routes.proofs.Counting.{different_as}
 use Rattle.speaker.proofs.Events.{put_by, slot_is, slot_now, slot_of}
 use Rattle.speaker.proofs.Moments.{moment_same}
-use Rattle.speaker.proofs.KeptOffers.{IsAlike, taken_by, kept_added, kept_again, kept_conf, kept_gone, kept_network, kept_partly, moves_keep}
+use Rattle.routes.proofs.KeptOffers.{IsAlike, taken_by, kept_gone, kept_network}
+use Rattle.speaker.proofs.KeptOffers.{kept_added, kept_again, kept_conf, kept_partly, moves_keep}
 use Rattle.speaker.proofs.KnownPrefixes.{IsKnown, known_of}
 use Rattle.speaker.proofs.PeerRoutes.{agrees_peers, peer_as}
-use Rattle.speaker.proofs.Places.{same_from_is_prefix}
-use Rattle.speaker.proofs.RouteChanges.{is_route-parts, second_true}
+use Rattle.routes.proofs.Places.{same_from_is_prefix}
+use Rattle.routes.proofs.RouteChanges.{is_route-parts, second_true}
 use Rattle.speaker.proofs.SlotOctets.{slot_signalled}
-use Rattle.speaker.proofs.SoundOffers.{sound_conf}
+use Rattle.routes.proofs.SoundOffers.{sound_conf}
 
 -- Connections that stand or fail, and commands, as the run with them has them.
 

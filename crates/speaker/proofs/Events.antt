@@ -23,13 +23,15 @@ use Rattle.net_prefix.specs.declared.prefix.Prefix.{Prefix}
 use Rattle.net_prefix.specs.declared.transport.Transport.{Transport}
 use Rattle.net_prefix.specs.declared.transport.Transport.TheVariants.{None as NoConnection, Opening, Listening, Open as Connected, Closing}
 use Rattle.rib_in.specs.LatestRoutes.{route_at}
-use Rattle.speaker.specs.AdjRibIn.{NeedsMemory, brought, is_among, route, sound_update, update_heard, word_if}
+use Rattle.routes.specs.Updates.{NeedsMemory, is_among, sound_update, word_if}
+use Rattle.speaker.specs.AdjRibIn.{brought, route, update_heard}
 use Rattle.speaker.specs.Agreement.{Agrees, Hears, HearsUntil, CacheAgrees, HoldsBy, IsFair, IsThrifty, MayStarve, SlotAgrees, Holds}
 use Rattle.speaker.proofs.SlotStates.{SlotIs, slot_agrees, slot_from, linked_from}
-use Rattle.speaker.specs.Choices.{announced_if, choices_by, choices_in, choices_on, choices_refused, named_if}
-use Rattle.speaker.specs.Chosen.{AreDifferent, ChoosesRefused}
-use Rattle.speaker.specs.Linked.{Linked}
-use Rattle.speaker.specs.Moves.{KeepsKept, KeepsRest, IsPut, Moves, Pushes, TakesItem, TakesMemoryAt, moved, taken_on, taken_of}
+use Rattle.routes.specs.Chosen.{announced_if, named_if, AreDifferent}
+use Rattle.speaker.specs.Choices.{choices_by, choices_in, choices_on, choices_refused}
+use Rattle.speaker.specs.Chosen.{ChoosesRefused}
+use Rattle.routes.specs.Linked.{Linked, moved, taken_on, taken_of}
+use Rattle.speaker.specs.Moves.{KeepsKept, KeepsRest, IsPut, Moves, Pushes, TakesItem, TakesMemoryAt}
 use Rattle.speaker.specs.Queueing.{Queue, starved_in}
 use Rattle.speaker.specs.declared.event.Report.{Report}
 use Rattle.std.specs.Int.Bits.{bit_or}
@@ -37,12 +39,12 @@ use Rattle.speaker.specs.Runs.{Call, Run, Turn, cache_history, cache_opened_by, 
 use Rattle.rtr_codec.specs.ClientTable.{in_force}
 use Rattle.rtr_session.specs.SessionHistory as cached
 use Rattle.speaker.specs.SpeakerState.{SpeakerState}
-use Rattle.speaker.specs.Tables.{network_route, link_at, peer_route_at}
+use Rattle.routes.specs.Tables.{network_route, link_at, peer_route_at}
 use Rattle.speaker.specs.declared.config.Config.{Config}
 use Rattle.speaker.proofs.AllowedChoices.{choices_append, choices_last, item_few, most_refused}
 use Rattle.speaker.proofs.Calls.{slots_changed}
 use Rattle.speaker.proofs.Coming.{HasCome, Joins}
-use Rattle.speaker.proofs.Counting.{different_as}
+use Rattle.routes.proofs.Counting.{different_as}
 use Rattle.speaker.proofs.Histories.{route_stays}
 use Rattle.speaker.proofs.KeptOffers.{moves_keep, pushes_keep}
 use Rattle.speaker.proofs.Messages.{rest_kept}

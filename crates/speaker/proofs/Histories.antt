@@ -9,9 +9,10 @@ use Rattle.bgp_msg.specs.UpdateMeaning.{UpdateBody}
 use Rattle.bgp_peer.specs.SessionInputs.{Event, session}
 use Rattle.net_prefix.specs.declared.prefix.Prefix.{Prefix}
 use Rattle.rib_out.specs.Held.{held_at}
-use Rattle.speaker.specs.AdjRibIn.{word_if, brought, route}
+use Rattle.routes.specs.Updates.{word_if}
+use Rattle.speaker.specs.AdjRibIn.{brought, route}
 use Rattle.speaker.specs.Held.{held_in, told_in}
-use Rattle.speaker.specs.Moves.{adj_out_after}
+use Rattle.routes.specs.Linked.{adj_out_after}
 
 -- What an input of a session makes of the routes of a run and of what the peer holds.
 

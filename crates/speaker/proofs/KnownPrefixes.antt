@@ -11,14 +11,15 @@ use Rattle.decision.specs.BookContents.{is_prefix}
 use Rattle.rib_in.specs.LatestRoutes.{HasRoute, route_at}
 use Rattle.rib_out.proofs.Prefixes.{is_prefix-refl}
 use Rattle.rtr_session.specs.SessionHistory as cached
-use Rattle.speaker.specs.AdjRibIn.{is_among, route}
+use Rattle.routes.specs.Updates.{is_among}
+use Rattle.speaker.specs.AdjRibIn.{route}
 use Rattle.speaker.specs.Agreement.{HoldsBy}
 use Rattle.speaker.specs.Runs.{Run, configuration_of, history}
 use Rattle.speaker.specs.SpeakerState.{SpeakerState}
-use Rattle.speaker.specs.Tables.{network_route}
+use Rattle.routes.specs.Tables.{network_route}
 use Rattle.speaker.specs.declared.config.Config.{Config}
 use Rattle.speaker.proofs.PeerRoutes.{peer_as}
-use Rattle.speaker.proofs.Places.{same_from_is_prefix}
+use Rattle.routes.proofs.Places.{same_from_is_prefix}
 
 -- The prefixes that are known: of routes of peers, and local networks.
 

@@ -12,14 +12,15 @@ use Rattle.bgp_peer.specs.SessionInputs.{Terms, input_of}
 use Rattle.decision.specs.BookContents.{offer_at}
 use Rattle.net_prefix.specs.declared.prefix.Prefix.{Prefix}
 use Rattle.rib_in.specs.LatestRoutes.{route_at}
-use Rattle.speaker.specs.AdjRibIn.{is_among, update_heard, word_if}
-use Rattle.speaker.specs.Choices.{announced_if, named_if}
+use Rattle.routes.specs.Updates.{is_among, word_if}
+use Rattle.speaker.specs.AdjRibIn.{update_heard}
+use Rattle.routes.specs.Chosen.{announced_if, named_if}
 use Rattle.speaker.specs.Chosen.{Chooses, ChoosesHeard, ChoosesRefused}
-use Rattle.speaker.specs.Linked.{Linked}
-use Rattle.speaker.specs.Moves.{KeepsKept, KeepsRest, Moves, IsHeard, TakesItem, moved}
+use Rattle.routes.specs.Linked.{Linked, moved}
+use Rattle.speaker.specs.Moves.{KeepsKept, KeepsRest, Moves, IsHeard, TakesItem}
 use Rattle.speaker.specs.SpeakerState.{SpeakerState}
-use Rattle.speaker.specs.Tables.{link_at}
-use Rattle.speaker.proofs.Counting.{different_as}
+use Rattle.routes.specs.Tables.{link_at}
+use Rattle.routes.proofs.Counting.{different_as}
 use Rattle.speaker.proofs.KeptOffers.{moves_keep}
 
 -- The message at the front of a slot's rest.

@@ -16,13 +16,14 @@ use Rattle.rib_out.specs.Waiting.{is_known, owed_at, owed_by}
 use Rattle.rib_out.specs.declared.marks.Owed.{Owed}
 use Rattle.rib_out.specs.declared.marks.Owed.TheVariants.{Announcement, Withdrawal}
 use Rattle.rib_out.specs.declared.waits.Waits.{Waits}
-use Rattle.speaker.specs.Export.{export_in, export_peer_of, export_to}
-use Rattle.speaker.specs.Linked.{Linked}
-use Rattle.speaker.specs.Marks.{AreMarked, IsServedBy, announced_of, mark_of, owed_for, withdrawn_of}
-use Rattle.speaker.specs.RoutingState.{RoutingState}
-use Rattle.speaker.specs.Serving.{IsGone, IsHad, IsNext, IsUpAt}
+use Rattle.routes.specs.Export.{export_in, export_peer_of}
+use Rattle.speaker.specs.Export.{export_to}
+use Rattle.routes.specs.Linked.{Linked}
+use Rattle.routes.specs.Marks.{AreMarked, announced_of, mark_of, owed_for, withdrawn_of}
+use Rattle.speaker.specs.Serving.{IsServedBy, IsGone, IsHad, IsNext, IsUpAt}
+use Rattle.routes.specs.RoutingState.{RoutingState}
 use Rattle.speaker.specs.SpeakerState.{SpeakerState}
-use Rattle.speaker.specs.Tables.{best_at, link_at}
+use Rattle.routes.specs.Tables.{best_at, link_at}
 use Rattle.speaker.proofs.Calls.{export_peer_found}
 
 -- What a served peer is owed is what waits for its slot.

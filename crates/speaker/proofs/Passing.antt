@@ -28,25 +28,30 @@ use Rattle.speaker.specs.AdjRibIn.{route}
 use Rattle.speaker.specs.Agreement.{SlotAgrees, tables_after, IsFair, IsNews, IsOwedIn, IsShortIn, IsThrifty, Holds, Passes, QueuesAll, QueuesOn, QueuesStarved, Agrees}
 use Rattle.speaker.specs.Choices.{choices_in}
 use Rattle.speaker.specs.Chosen.{Chooses}
-use Rattle.speaker.specs.Export.{IsAccepted, IsExport, export_to, export_peer_of}
+use Rattle.routes.specs.Export.{IsAccepted, IsExport, export_peer_of}
+use Rattle.speaker.specs.Export.{export_to}
 use Rattle.speaker.specs.Held.{held, told_in}
-use Rattle.speaker.specs.Linked.{Linked}
-use Rattle.speaker.specs.LocRib.{HasNoCandidate, IsBest, IsLocRib}
-use Rattle.speaker.specs.Candidates.{IsCandidate, IsPeerCandidate}
-use Rattle.speaker.specs.Offers.{AreKept}
+use Rattle.routes.specs.Linked.{Linked}
+use Rattle.routes.specs.LocRib.{HasNoCandidate, IsBest, IsLocRib}
+use Rattle.routes.specs.Candidates.{IsCandidate, IsPeerCandidate}
+use Rattle.routes.specs.Offers.{AreKept}
 use Rattle.speaker.specs.Moves.{Moves}
-use Rattle.speaker.specs.Queueing.{ComesFirst, Queue, Starves, Tells, IsServed, starved_in, update_saying, rank_of}
+use Rattle.speaker.specs.Queueing.{ComesFirst, Queue, Starves, Tells, IsServed, starved_in}
+use Rattle.routes.specs.Told.{update_saying, HasRoom}
+use Rattle.routes.specs.Places.{rank_of}
 use Rattle.speaker.specs.Runs.{payloads_after, Call, Run, turn, configuration_of, history}
-use Rattle.speaker.specs.Serving.{HasRoom, IsServedAt, IsShortAt, IsStill, IsToldAt}
+use Rattle.speaker.specs.Serving.{IsServedAt, IsShortAt, IsStill, IsToldAt}
 use Rattle.speaker.specs.SpeakerState.{SpeakerState, tables_of}
-use Rattle.speaker.specs.Tables.{Tables, best_at, link_at, network_route, peer_route_at}
+use Rattle.routes.specs.Tables.{Tables, best_at, link_at, network_route, peer_route_at}
 use Rattle.speaker.specs.declared.config.Config.{Config}
-use Rattle.speaker.proofs.Calls.{best_candidate, tables_same, export_is, export_peer_found, export_short, at_slot, off_slot}
+use Rattle.routes.proofs.Exported.{best_candidate, export_is}
+use Rattle.speaker.proofs.Calls.{tables_same, export_peer_found, export_short, at_slot, off_slot}
 use Rattle.speaker.proofs.Commands.{holds_signalled, own_is, peer_of}
 use Rattle.speaker.proofs.Events.{holds_put, slot_is}
 use Rattle.speaker.proofs.Histories.{route_stays}
-use Rattle.speaker.proofs.OneBest.{same_export}
-use Rattle.speaker.proofs.KeptOffers.{kept_loc_rib, kept_still_links, kept_told}
+use Rattle.routes.proofs.OneBest.{same_export}
+use Rattle.routes.proofs.KeptOffers.{kept_loc_rib}
+use Rattle.speaker.proofs.KeptOffers.{kept_still_links, kept_told}
 use Rattle.speaker.proofs.QueuedUpdates.{IsGood, saying_faultless, slot_queued, saying_is_update, saying_names, saying_says, named_is}
 use Rattle.speaker.proofs.SlotStates.{SlotIs, linked_from}
 

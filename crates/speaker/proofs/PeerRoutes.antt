@@ -5,8 +5,8 @@ use Rattle.bgp_peer.specs.SessionInputs as happens
 use Rattle.net_prefix.specs.declared.prefix.Prefix.{Prefix}
 use Rattle.rib_in.specs.LatestRoutes.{RouteTable, route_at}
 use Rattle.speaker.specs.Agreement.{SlotAgrees}
-use Rattle.speaker.specs.Linked.{Linked}
-use Rattle.speaker.specs.Tables.{peer_route_at}
+use Rattle.routes.specs.Linked.{Linked}
+use Rattle.routes.specs.Tables.{peer_route_at}
 use Rattle.speaker.specs.declared.config.Config.{Config}
 use Rattle.speaker.proofs.SlotStates.{SlotIs}
 

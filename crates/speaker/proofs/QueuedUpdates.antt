@@ -26,23 +26,19 @@ use Rattle.net_prefix.specs.PrefixSpelling.{spelling_of, address_octets, octets_
 use Rattle.net_prefix.specs.declared.prefix.Prefix.{Prefix}
 use Rattle.rib_out.proofs.Prefixes.{is_prefix-refl}
 use Rattle.rib_out.specs.Held.{is_prefix}
-use Rattle.speaker.specs.AdjRibIn.{is_among}
+use Rattle.routes.specs.Updates.{is_among}
 use Rattle.speaker.specs.Held.{told_by, told_from, told_in, held_in}
-use Rattle.speaker.specs.Linked.{Linked}
+use Rattle.routes.specs.Linked.{Linked}
 use Rattle.speaker.specs.Agreement.{Names}
-use Rattle.speaker.specs.Queueing.{update_saying, IsTold, rank_of}
-use Rattle.speaker.specs.Serving.{HasRoom}
+use Rattle.routes.specs.Told.{update_saying, IsTold, HasRoom}
+use Rattle.routes.specs.Places.{rank_of}
 use Rattle.speaker.specs.declared.config.Config.{Config}
 use Rattle.bgp_fsm.specs.StateTests.{is_established}
 use Rattle.speaker.proofs.Histories.{route_stays}
-use Rattle.speaker.proofs.Places.{same_from_is_prefix}
+use Rattle.routes.proofs.Places.{same_from_is_prefix}
 use Rattle.speaker.proofs.SlotStates.{SlotIs}
 use Rattle.speaker.proofs.SentPrefixes.{told_in-append}
-
--- What an UPDATE that is queued tells of prefixes, read back.
-
-pub no_prefixes : (front_prefixes []).0 ≡ []
-no_prefixes = (prefixes_in-parts [] [] (wire_form-read [] (λ k d h. absurd (omega arith)))).0
+use Rattle.routes.proofs.NeededMemory.{no_prefixes}
 
 pub one_prefix : (p : Prefix) → p.bits < 2 ^ 32 → (front_prefixes (wire_form (p ∷ []))).0 ≡ p ∷ []
 one_prefix p small =

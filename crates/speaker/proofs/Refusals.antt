@@ -8,7 +8,7 @@ use Rattle.speaker.specs.Agreement.{Agrees, CacheAgrees, tables_after}
 use Rattle.speaker.specs.FirstRefusal.{cache_transport_after, cache_transport_of, refusal_by, refusal_in, refusal_of, take_refusal_in, take_refusal_of}
 use Rattle.speaker.specs.Runs.{Run, cache_history, moment_after}
 use Rattle.speaker.specs.SpeakerState.{SpeakerState, tables_of}
-use Rattle.speaker.specs.Tables.{link_at}
+use Rattle.routes.specs.Tables.{link_at}
 use Rattle.speaker.specs.declared.config.Config.{Config}
 use Rattle.speaker.specs.declared.event.Event.{Event}
 use Rattle.speaker.proofs.Calls.{tables_same}

@@ -16,7 +16,7 @@ use Rattle.bgp_fsm.specs.declared.input.Input.{Input}
 use Rattle.bgp_fsm.specs.declared.input.Input.TheVariants.{Fail, Remove as Removed}
 use Rattle.bgp_fsm.specs.declared.session.Session.{Session}
 use Rattle.bgp_peer.specs.SessionInputs as happens
-use Rattle.bgp_peer.specs.SessionInputs.{Signalled, is_there, moment_of, occupant, session}
+use Rattle.bgp_peer.specs.SessionInputs.{Signalled, moment_of, occupant, session}
 use Rattle.decision.specs.BookContents.{offer_at}
 use Rattle.net_prefix.specs.declared.prefix.Prefix.{Prefix}
 use Rattle.rib_in.specs.LatestRoutes.{route_at}
@@ -24,19 +24,21 @@ use Rattle.speaker.specs.Agreement.{CacheAgrees, AreTaken, Holds, LinkAgrees, Sl
 use Rattle.rtr_codec.specs.ClientTable.{in_force}
 use Rattle.rtr_session.specs.SessionHistory.{client}
 use Rattle.speaker.specs.Choices.{choices_in}
-use Rattle.speaker.specs.Chosen.{AreDifferent, Chooses}
+use Rattle.routes.specs.Chosen.{AreDifferent}
+use Rattle.speaker.specs.Chosen.{Chooses}
 use Rattle.speaker.specs.FirstRefusal.{closes}
-use Rattle.speaker.specs.Linked.{Linked}
-use Rattle.speaker.specs.Moves.{Forgets, IsWithout, Moves, moved}
+use Rattle.routes.specs.Linked.{Linked, moved}
+use Rattle.speaker.specs.Moves.{Forgets, IsWithout, Moves}
 use Rattle.speaker.specs.Runs.{cache_history, Run, turn, Command_call, Fail_call, configuration_of, history, moment_after, terms_in}
 use Rattle.speaker.specs.SpeakerState.{SpeakerState, tables_of}
-use Rattle.speaker.specs.Tables.{link_at, session_at, network_route, peer_route_at}
+use Rattle.routes.specs.Tables.{link_at, session_at, network_route, peer_route_at}
 use Rattle.speaker.specs.declared.config.Config.{Config}
 use Rattle.speaker.proofs.AllowedChoices.{signal_few}
 use Rattle.speaker.proofs.Calls.{slots_changed}
 use Rattle.speaker.proofs.Commands.{holds_signalled}
 use Rattle.speaker.proofs.Histories.{no_route}
-use Rattle.speaker.proofs.KeptOffers.{kept_without, none_offered}
+use Rattle.speaker.proofs.KeptOffers.{kept_without}
+use Rattle.routes.proofs.KeptOffers.{none_offered}
 use Rattle.speaker.proofs.Moments.{moment_same}
 use Rattle.speaker.proofs.SlotEvents.{link_signalled}
 use Rattle.speaker.proofs.SlotStates.{link_alone}

@@ -5,8 +5,8 @@ use Rattle.decision.specs.BookContents.{offer_at}
 use Rattle.rtr_codec.specs.ClientTable.{in_force}
 use Rattle.rtr_session.specs.SessionState.{Session as CacheSession}
 use Rattle.speaker.specs.CacheMoves.{KeepsCache, Revalidates, RevalidatesFrom, concerns, last_change}
-use Rattle.speaker.specs.Chosen.{OncePerPrefix}
-use Rattle.speaker.specs.Offers.{AreMadeWhere}
+use Rattle.routes.specs.Chosen.{OncePerPrefix}
+use Rattle.routes.specs.Offers.{AreMadeWhere}
 use Rattle.speaker.specs.SpeakerState.{SpeakerState, payloads_in, tables_of}
 use Rattle.vrp_delta.specs.Delta.{change_between}
 

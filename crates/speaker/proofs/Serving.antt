@@ -1,40 +1,27 @@
 use Rattle.std.proofs.Common.{◌≡◌, ◌≢◌, ◌<◌, ◌+◌, ◌-◌, ◌^◌, ◌==◌, ℕ, Bool, true, false, List, Option, Some, None, Result, Ok, Err, OnOk, cond, refl, sym, ap, ◌∙◌, subst, inl, inr, arith, length-append}
 use Rattle.std.specs.Option.{IsSome, option_and_then, option_map}
-use Rattle.std.specs.Ordering.{is_gt}
 use Rattle.std.proofs.lemmas.Bool.{cases_eq, cases_lt, eq-eqb, ne_eqb}
 use Rattle.bgp_conf.specs.Configuration.{peer_at}
 use Rattle.bgp_conf.specs.declared.conf.ConfiguredPeer.{ConfiguredPeer}
 use Rattle.bgp_fsm.specs.declared.state.State.TheVariants.{Established}
 use Rattle.export_rules.specs.declared.export.ExportPeer.{ExportPeer}
-use Rattle.net_prefix.specs.PrefixOrder.{prefix_cmp, IsAbove}
 use Rattle.net_prefix.specs.declared.prefix.Prefix.{Prefix}
 use Rattle.rib_out.specs.Held.{held_at, is_prefix}
 use Rattle.rib_out.proofs.Prefixes.{is_prefix-refl}
 use Rattle.speaker.specs.Agreement.{QueuesOn}
-use Rattle.speaker.specs.Export.{IsAccepted, export_in, export_peer_of, export_to}
-use Rattle.speaker.specs.Linked.{Linked}
-use Rattle.speaker.specs.Marks.{IsServedBy, announced_of, withdrawn_of}
-use Rattle.speaker.specs.Queueing.{ComesFirst, rank_of, update_saying}
-use Rattle.speaker.specs.Serving.{IsServedAt, IsShortAt, IsUpAt, HasRoom, HasRoomAt, IsOfSlot, IsStill, IsToldAt, Serves, Stand, IsDoneAt, IsGone, IsHad, IsNext, is_standing}
+use Rattle.routes.specs.Export.{IsAccepted, export_in, export_peer_of}
+use Rattle.speaker.specs.Export.{export_to}
+use Rattle.routes.specs.Linked.{Linked}
+use Rattle.speaker.specs.Serving.{IsServedBy, IsServedAt, IsShortAt, IsUpAt, HasRoomAt, IsOfSlot, IsStill, IsToldAt, Serves, Stand, IsDoneAt, IsGone, IsHad, IsNext, is_standing}
+use Rattle.routes.specs.Marks.{announced_of, withdrawn_of}
+use Rattle.speaker.specs.Queueing.{ComesFirst}
+use Rattle.routes.specs.Places.{rank_of}
+use Rattle.routes.specs.Told.{update_saying, HasRoom}
 use Rattle.speaker.specs.SpeakerState.{SpeakerState}
-use Rattle.speaker.specs.Tables.{best_at, link_at}
+use Rattle.routes.specs.Tables.{best_at, link_at}
 use Rattle.speaker.proofs.Owing.{announced_news, gone_idle, had_idle, withdrawn_parts}
 use Rattle.speaker.proofs.Passing.{Accepts, QueuesOn-more, QueuesOn-none, queues_told, queues_still}
-use Rattle.speaker.proofs.Places.{reached, above_from_rank, rank_from_above, greater_from_rank, same_from_is_prefix, same_from_rank}
-
--- One slot served: a walk over prefixes in rising order, in which the peer is told what it is owed.
-
--- a place is one of 38 bits
-abbrev pub IsPlace : Option Prefix → Type 0
-IsPlace None = Unit {0}
-IsPlace (Some p) = rank_of p < 2 ^ 38
-
--- how many places are left above
-abbrev pub left_above : Option Prefix → ℕ
-left_above after = 2 ^ 39 - reached after
-
-pub left-smaller : (after : Option Prefix) (p : Prefix) → IsPlace after → IsAbove after p → rank_of p < 2 ^ 38 → left_above (Some p) < left_above after
-left-smaller after p place above below = omega (arith, rank_from_above after p above, below)
+use Rattle.routes.proofs.Places.{reached, above_from_rank, same_from_is_prefix, same_from_rank, IsPlace, none_between}
 
 -- the slots with one that has gone on
 slot_only : (slot : ℕ) (old new : SpeakerState) (l : Linked) → ((s : ℕ) → link_at new.links s ≡ cond (s == slot) (Some l) (link_at old.links s)) → (s : ℕ) → s ≢ slot → link_at new.links s ≡ link_at old.links s
@@ -101,11 +88,6 @@ Walks-start done slot s up = record {
   below = λ q under. absurd (omega (arith, under));
   place = tt;
 }
-
--- a prefix between the last one and the next one has nothing
-pub none_between : {X : Type 0} (p q : Prefix) (found : Option X) → (IsSome found → is_gt (prefix_cmp p q) ≡ false) → rank_of q < rank_of p → found ≡ None
-none_between p q None least under = refl
-none_between p q (Some x) least under = let high = greater_from_rank p q under in let low = least refl in cc
 
 -- all is done below the next prefix
 done_before : {X : Type 0} (done : Prefix → Option (List ℕ) → Type 0) (there : Prefix → Option X) (held : Prefix → Option (List ℕ)) (after : Option Prefix) (p : Prefix)

@@ -18,11 +18,11 @@ use Rattle.bgp_peer.specs.Slot.{kept, Slot, pushed}
 use Rattle.bgp_peer.proofs.Agreeing.{stands, agrees-signal, agrees-octet, agrees-input, quiet_octet, item_octet, item_of_rest}
 use Rattle.bgp_peer.proofs.Rows.{kept_whole}
 use Rattle.net_prefix.specs.declared.prefix.Prefix.{Prefix}
-use Rattle.speaker.specs.AdjRibIn.{word_if, update_heard, route}
+use Rattle.routes.specs.Updates.{word_if}
+use Rattle.speaker.specs.AdjRibIn.{update_heard, route}
 use Rattle.speaker.specs.Agreement.{LinkAgrees}
 use Rattle.speaker.specs.Held.{told_in}
-use Rattle.speaker.specs.Linked.{Linked}
-use Rattle.speaker.specs.Moves.{moved}
+use Rattle.routes.specs.Linked.{Linked, moved}
 use Rattle.speaker.proofs.Histories.{route_moved, route_stays, held_moved}
 use Rattle.speaker.proofs.SentPrefixes.{told_in-nil, told_in-said}
 

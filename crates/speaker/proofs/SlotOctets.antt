@@ -18,10 +18,10 @@ use Rattle.bgp_peer.proofs.Receiving.{Hears, HasHeard, heard-wanted, wants-agree
 use Rattle.bgp_peer.proofs.Rows.{ignored}
 use Rattle.net_prefix.specs.declared.prefix.Prefix.{Prefix}
 use Rattle.net_prefix.specs.declared.transport.Transport.TheVariants.{Open as Connected}
-use Rattle.speaker.specs.AdjRibIn.{word_if, update_heard, route}
+use Rattle.routes.specs.Updates.{word_if}
+use Rattle.speaker.specs.AdjRibIn.{update_heard, route}
 use Rattle.speaker.specs.Agreement.{LinkAgrees, SlotAgrees}
-use Rattle.speaker.specs.Linked.{Linked}
-use Rattle.speaker.specs.Moves.{moved}
+use Rattle.routes.specs.Linked.{Linked, moved}
 use Rattle.speaker.specs.Runs.{terms_in}
 use Rattle.speaker.specs.declared.config.Config.{Config}
 use Rattle.speaker.proofs.SlotStates.{SlotIs, link_alone}

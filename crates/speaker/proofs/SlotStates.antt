@@ -8,7 +8,7 @@ use Rattle.bgp_peer.specs.SessionInputs.{Event, Terms, is_there, occupant, sessi
 use Rattle.net_prefix.specs.declared.prefix.Prefix.{Prefix}
 use Rattle.speaker.specs.AdjRibIn.{route}
 use Rattle.speaker.specs.Agreement.{LinkAgrees, SlotAgrees}
-use Rattle.speaker.specs.Linked.{Linked}
+use Rattle.routes.specs.Linked.{Linked}
 use Rattle.speaker.specs.Runs.{terms_in}
 use Rattle.speaker.specs.declared.config.Config.{Config}
 

@@ -10,14 +10,14 @@ use Rattle.bgp_peer.specs.SessionInputs.{Handed}
 use Rattle.bgp_peer.specs.Slot.{handed}
 use Rattle.rib_in.specs.LatestRoutes.{route_at}
 use Rattle.speaker.specs.Agreement.{Holds, Agrees, Passes, QueuesAll, SlotAgrees, tables_after}
-use Rattle.speaker.specs.Linked.{Linked}
-use Rattle.speaker.specs.LocRib.{IsLocRib}
+use Rattle.routes.specs.Linked.{Linked}
+use Rattle.routes.specs.LocRib.{IsLocRib}
 use Rattle.speaker.specs.Moves.{Hands}
 use Rattle.speaker.specs.Queueing.{Queue, starved_in}
 use Rattle.speaker.specs.Runs.{cache_history, Run, turn, Take_call, configuration_of, history, moment_after}
 use Rattle.speaker.specs.Serving.{IsServedAt}
 use Rattle.speaker.specs.SpeakerState.{SpeakerState, tables_of}
-use Rattle.speaker.specs.Tables.{link_at}
+use Rattle.routes.specs.Tables.{link_at, peer_route_at}
 use Rattle.speaker.specs.declared.config.Config.{Config}
 use Rattle.speaker.proofs.Calls.{tables_same}
 use Rattle.speaker.proofs.Events.{begun, holds_begun, put_agrees}
@@ -25,7 +25,6 @@ use Rattle.speaker.proofs.KeptOffers.{hands_keep}
 use Rattle.speaker.proofs.Passing.{passes_first, agrees_served}
 use Rattle.speaker.proofs.SlotEvents.{with_peer}
 use Rattle.speaker.proofs.SlotOctets.{agrees_handed}
-use Rattle.speaker.specs.Tables.{peer_route_at}
 use Rattle.speaker.proofs.PeerRoutes.{agrees_routes}
 
 -- Octets that are handed out.

@@ -19,11 +19,11 @@ use Rattle.net_prefix.specs.declared.prefix.Prefix.{Prefix}
 use Rattle.speaker.specs.Agreement.{EndsAll, EndsTimers, Holds, HoldsBy, SlotAgrees}
 use Rattle.speaker.specs.Choices.{choices_cached, choices_endings, choices_in, choices_to}
 use Rattle.speaker.specs.Chosen.{Chooses}
-use Rattle.speaker.specs.Linked.{Linked}
+use Rattle.routes.specs.Linked.{Linked}
 use Rattle.speaker.specs.Moves.{Moves}
 use Rattle.speaker.specs.Runs.{cache_history, Run, turn, Tick_call, configuration_of, history, opened_by, opened_to, opens_by, report_of}
 use Rattle.speaker.specs.SpeakerState.{SpeakerState}
-use Rattle.speaker.specs.Tables.{link_at, peer_route_at}
+use Rattle.routes.specs.Tables.{link_at, peer_route_at}
 use Rattle.speaker.specs.declared.config.Config.{Config}
 use Rattle.speaker.proofs.Commands.{signalled_by}
 use Rattle.rtr_session.specs.SessionHistory as cached

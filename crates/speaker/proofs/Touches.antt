@@ -10,8 +10,9 @@ use Rattle.origin_valid.proofs.Members.{any_inside}
 use Rattle.prefix_trie.specs.CoverWalks.{covers}
 use Rattle.rtr_codec.specs.ClientTable.{in_force}
 use Rattle.rtr_session.specs.SessionHistory as cached
-use Rattle.speaker.specs.AdjRibIn.{is_among}
-use Rattle.speaker.specs.Choices.{choices_cached_on, how_many, is_touched, is_known, named_to}
+use Rattle.routes.specs.Updates.{is_among}
+use Rattle.speaker.specs.Choices.{choices_cached_on, is_touched, is_known, named_to}
+use Rattle.routes.specs.Chosen.{how_many}
 use Rattle.speaker.specs.Runs.{Run}
 use Rattle.speaker.specs.declared.config.Config.{Config}
 use Rattle.vrp_delta.specs.Delta.{lacked}

@@ -10,20 +10,22 @@ use Rattle.bgp_peer.specs.SentMessages.{ring_of}
 use Rattle.net_prefix.specs.declared.prefix.Prefix.{Prefix}
 use Rattle.rib_out.specs.Held.{held_at}
 use Rattle.speaker.specs.Agreement.{Agrees, tables_after}
-use Rattle.speaker.specs.Export.{IsExport, export_in, export_peer_of, export_to}
+use Rattle.routes.specs.Export.{IsExport, export_in, export_peer_of}
+use Rattle.speaker.specs.Export.{export_to}
 use Rattle.speaker.specs.Held.{held}
-use Rattle.speaker.specs.Linked.{Linked}
-use Rattle.speaker.specs.LocRib.{IsLocRib}
+use Rattle.routes.specs.Linked.{Linked}
+use Rattle.routes.specs.LocRib.{IsLocRib}
 use Rattle.speaker.specs.Runs.{Run, configuration_of, history}
 use Rattle.speaker.specs.SpeakerState.{SpeakerState, tables_of}
-use Rattle.speaker.specs.Tables.{Tables, best_at, link_at, peer_route_at}
-use Rattle.speaker.specs.Waiting.{IsWaitingIn, differing, known_prefixes, waiting_at, waiting_of}
+use Rattle.routes.specs.Tables.{Tables, best_at, link_at, peer_route_at}
+use Rattle.speaker.specs.Waiting.{IsWaitingIn, waiting_of}
+use Rattle.routes.specs.Waiting.{differing, known_prefixes, waiting_at}
 use Rattle.speaker.specs.declared.config.Config.{Config}
 use Rattle.speaker.proofs.Calls.{export_peer_found, tables_same}
-use Rattle.speaker.proofs.OneBest.{same_export}
+use Rattle.routes.proofs.OneBest.{same_export}
 use Rattle.speaker.proofs.Passing.{export_of_run}
 use Rattle.speaker.proofs.SlotStates.{linked_from}
-use Rattle.speaker.proofs.WaitingLists.{differing_is}
+use Rattle.routes.proofs.WaitingLists.{differing_is}
 
 -- What waits, as the tables stand and as a run leaves it.
 

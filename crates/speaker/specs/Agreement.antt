@@ -33,17 +33,19 @@ use Rattle.rtr_session.specs.Agreement.{SessionAgrees}
 use Rattle.rtr_session.specs.SessionHistory as cache
 use Rattle.rtr_session.specs.SessionHistory.{client}
 use Rattle.rtr_session.specs.SessionState.{Session as CacheSession}
-use Rattle.speaker.specs.AdjRibIn.{NeedsMemory, route}
+use Rattle.routes.specs.Updates.{NeedsMemory}
+use Rattle.speaker.specs.AdjRibIn.{route}
 use Rattle.speaker.specs.Choices.{choices_endings, choices_in, choices_to}
-use Rattle.speaker.specs.Export.{IsExport, export_peer_of}
+use Rattle.routes.specs.Export.{IsExport, export_peer_of}
 use Rattle.speaker.specs.Held.{held, told_from, told_in}
-use Rattle.speaker.specs.Linked.{Linked}
-use Rattle.speaker.specs.LocRib.{IsLocRib}
-use Rattle.speaker.specs.Offers.{AreKept}
-use Rattle.speaker.specs.Queueing.{ComesFirst, Queue, Service, Tells, Starves, starved_in, update_saying}
+use Rattle.routes.specs.Linked.{Linked}
+use Rattle.routes.specs.LocRib.{IsLocRib}
+use Rattle.routes.specs.Offers.{AreKept}
+use Rattle.speaker.specs.Queueing.{ComesFirst, Queue, Service, Tells, Starves, starved_in}
+use Rattle.routes.specs.Told.{update_saying}
 use Rattle.speaker.specs.Runs.{Call, Run, turn, Up_call, Fail_call, Bytes_call, Starved_call, Tick_call, Command_call, Take_call, Cache_up_call, Cache_fail_call, Cache_bytes_call, Cache_starved_call, Cache_take_call, cache_history, configuration_of, history, moment_after, opened_to, opens_by, payloads_after, terms_in}
 use Rattle.speaker.specs.SpeakerState.{SpeakerState, tables_of}
-use Rattle.speaker.specs.Tables.{Tables, link_at, network_route, peer_route_at}
+use Rattle.routes.specs.Tables.{Tables, link_at, network_route, peer_route_at}
 use Rattle.speaker.specs.declared.config.Config.{Config}
 use Rattle.bgp_peer.specs.PeerLimits.{ring_octets, room_for_update}
 

@@ -1,5 +1,5 @@
 -- How often a best route may be chosen, by what comes and goes (own, for RFC 4271 section 9.1).
-use Rattle.std.specs.Prelude.{◌+◌, ◌&&◌, ◌||◌, ℕ, zero, suc, Bool, true, not, List, [], ◌∷◌, ◌++◌, Option, Some, None, is_some, false, if◌then◌else◌}
+use Rattle.std.specs.Prelude.{◌+◌, ◌&&◌, ◌||◌, ℕ, zero, suc, Bool, List, [], ◌∷◌, ◌++◌, Option, Some, None, is_some, false, if◌then◌else◌}
 use Rattle.std.specs.List.{list_any}
 use Rattle.bgp_conf.specs.Configuration.{is_network}
 use Rattle.bgp_conf.specs.declared.command.Command.{Command}
@@ -16,30 +16,13 @@ use Rattle.net_prefix.specs.declared.prefix.Prefix.{Prefix}
 use Rattle.prefix_trie.specs.CoverWalks.{covers}
 use Rattle.rtr_codec.specs.ClientTable.{in_force}
 use Rattle.rtr_session.specs.SessionHistory as cache
-use Rattle.speaker.specs.AdjRibIn.{brought, is_among, route}
+use Rattle.speaker.specs.AdjRibIn.{brought, route}
+use Rattle.routes.specs.Updates.{is_among}
 use Rattle.speaker.specs.Queueing.{Queue, Service, Tells, Starves}
 use Rattle.speaker.specs.Runs.{Call, Run, turn, Up_call, Fail_call, Bytes_call, Starved_call, Tick_call, Command_call, Take_call, Cache_up_call, Cache_fail_call, Cache_bytes_call, Cache_starved_call, Cache_take_call, cache_history, configuration_of, history}
 use Rattle.vrp_delta.specs.Delta.{lacked}
 use Rattle.speaker.specs.declared.config.Config.{Config}
-
--- of how many of these prefixes this is so, each counted once
-abbrev pub how_many : (Prefix → Bool) → List Prefix → ℕ
-how_many holds [] = 0
-how_many holds (p ∷ prefixes) = if holds p && not (is_among p prefixes) then suc (how_many holds prefixes) else how_many holds prefixes
-
--- how many prefixes an UPDATE names, each counted once
-abbrev pub named_in : UpdateBody → ℕ
-named_in update = how_many (λ p. true) (update.withdrawn ++ update.announced)
-
--- the same of an UPDATE that may be there
-abbrev pub named_if : Option UpdateBody → ℕ
-named_if None = 0
-named_if (Some update) = named_in update
-
--- what an UPDATE announces, where there is one
-abbrev pub announced_if : Option UpdateBody → List Prefix
-announced_if None = []
-announced_if (Some update) = update.announced
+use Rattle.routes.specs.Chosen.{how_many, named_in, named_if, announced_if}
 
 -- the prefixes that the slot's peer has announced, each as often as it did
 abbrev pub announced_in : List slot.Event → List Prefix

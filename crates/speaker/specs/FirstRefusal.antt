@@ -18,7 +18,7 @@ use Rattle.rtr_session.specs.SessionHistory.{client}
 use Rattle.speaker.specs.Agreement.{tables_after}
 use Rattle.speaker.specs.Runs.{Run, cache_history, history, moment_after}
 use Rattle.speaker.specs.SpeakerState.{SpeakerState, IsAsBefore, tables_of}
-use Rattle.speaker.specs.Tables.{Tables, configured_session, link_at}
+use Rattle.routes.specs.Tables.{Tables, configured_session, link_at}
 use Rattle.speaker.specs.declared.config.Config.{Config}
 use Rattle.speaker.specs.declared.event.Event.{Event}
 use Rattle.speaker.specs.declared.event.Event.TheVariants.{Up, Fail, Bytes, Tick, Command as Commanded, CacheUp, CacheFail, CacheBytes}

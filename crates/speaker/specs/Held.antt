@@ -8,7 +8,7 @@ use Rattle.bgp_msg.specs.declared.frame.MessageType.TheVariants.{Open, Update, N
 use Rattle.bgp_peer.specs.SentMessages.{sent}
 use Rattle.bgp_peer.specs.SessionInputs.{Event, session}
 use Rattle.net_prefix.specs.declared.prefix.Prefix.{Prefix}
-use Rattle.speaker.specs.AdjRibIn.{is_among}
+use Rattle.routes.specs.Updates.{is_among}
 
 -- what the parts of an UPDATE say of a prefix, by the octets of its attributes, or what was said before: withdrawals
 -- before announcements

@@ -1,12 +1,6 @@
-pub mod Linked
-pub mod Tables
-pub mod Candidates
-pub mod LocRib
-pub mod Offers
 pub mod Export
 pub mod Queueing
 pub mod SpeakerState
-pub mod RoutingState
 pub mod AdjRibIn
 pub mod Held
 pub mod Runs
@@ -17,7 +11,6 @@ pub mod FirstRefusal
 pub mod Played
 pub mod Shown
 pub mod Waiting
-pub mod Marks
 pub mod Choices
 pub mod Chosen
 pub mod CacheMoves

@@ -1,6 +1,6 @@
 -- What an input of a session makes of its slot and its routes (RFC 4271 sections 3.2 and 8.2.2).
 use Rattle.std.specs.Borrow.{Bor}
-use Rattle.std.specs.Prelude.{◌≡◌, ◌≢◌, ◌≤◌, ◌+◌, ◌||◌, ◌&&◌, ◌==◌, ℕ, Bool, true, false, List, [], min, length, Option, Some, None, if◌then◌else◌}
+use Rattle.std.specs.Prelude.{◌≡◌, ◌≢◌, ◌≤◌, ◌+◌, ◌||◌, ◌&&◌, ◌==◌, ℕ, Bool, true, false, List, [], Option, Some, None, if◌then◌else◌}
 use Rattle.bgp_attr.specs.declared.peer.PeerKind.{PeerKind}
 use Rattle.bgp_conf.specs.ConfAfter.{conf_after}
 use Rattle.bgp_conf.specs.Configuration.{peer_at}
@@ -8,32 +8,28 @@ use Rattle.bgp_conf.specs.declared.command.Command.{Command}
 use Rattle.bgp_conf.specs.declared.command.Command.TheVariants.{AddPeer, RemovePeer, Enable, Disable, SetPolicy, DropPolicy, UseIn, UseOut, Network, NoNetwork, Reach, NoReach}
 use Rattle.bgp_fsm.specs.SessionTable.{effects_of}
 use Rattle.bgp_fsm.specs.declared.input.Input.{Input}
-use Rattle.bgp_fsm.specs.declared.session.Effects.{Effects}
 use Rattle.bgp_fsm.specs.declared.state.State.TheVariants.{Established}
-use Rattle.bgp_peer.specs.Slot.{Slot, pushed, taken_input, handed}
+use Rattle.bgp_peer.specs.Slot.{pushed, handed}
 use Rattle.decision.specs.BookContents.{offer_at}
 use Rattle.bgp_msg.specs.UpdateMeaning.{UpdateBody}
 use Rattle.bgp_msg.specs.MessageStream.{Item, WholeMessage, meaning}
 use Rattle.bgp_msg.specs.declared.frame.MessageType.TheVariants.{Update}
 use Rattle.bgp_peer.specs.SessionInputs.{Terms, expected_of, kind_of, input_of}
-use Rattle.bgp_fsm.specs.Transports.{transport_of}
-use Rattle.bgp_msg.specs.MessageStream.{needed_of}
-use Rattle.net_prefix.specs.declared.transport.Transport.{Transport}
-use Rattle.net_prefix.specs.declared.transport.Transport.TheVariants.{None as NoConnection, Opening, Listening, Open as Connected, Closing}
 use Rattle.net_prefix.specs.declared.prefix.Prefix.{Prefix}
-use Rattle.speaker.specs.AdjRibIn.{NeedsMemory, word_if, update_heard}
+use Rattle.routes.specs.Updates.{NeedsMemory, word_if}
+use Rattle.speaker.specs.AdjRibIn.{update_heard}
 use Rattle.policy.specs.declared.rule.Rule.{Rule}
 use Rattle.rib_in.specs.LatestRoutes.{RouteTable, is_route, route_at}
 use Rattle.bgp_attr.specs.PathAttributes.{originated}
 use Rattle.decision.specs.declared.candidate.TheConstants.{LOCAL_SLOT}
-use Rattle.speaker.specs.Candidates.{network_at}
-use Rattle.speaker.specs.Chosen.{ChoosesHeard, Ends}
-use Rattle.speaker.specs.Linked.{Linked}
-use Rattle.speaker.specs.Offers.{AreKept}
-use Rattle.speaker.specs.RoutingState.{RoutingState}
+use Rattle.routes.specs.Candidates.{network_at}
+use Rattle.speaker.specs.Chosen.{ChoosesHeard}
+use Rattle.routes.specs.Chosen.{Ends}
+use Rattle.routes.specs.Linked.{Linked, moved}
+use Rattle.routes.specs.Offers.{AreKept}
 use Rattle.speaker.specs.SpeakerState.{SpeakerState, tables_of}
-use Rattle.speaker.specs.Tables.{link_at}
-use Rattle.speaker.specs.declared.receiving.Sender.{Sender}
+use Rattle.routes.specs.Tables.{link_at}
+use Rattle.routes.specs.declared.updates.Sender.{Sender}
 
 -- whether the command changes how next hops resolve
 abbrev pub resolves : Command → Bool
@@ -65,14 +61,6 @@ UsesIn slot command = (name : Bor (List ℕ)) × (command ≡ UseIn slot name)
 -- the command gives the slot's peer another export policy
 abbrev pub UsesOut : ℕ → Command → Type 0
 UsesOut slot command = (name : Bor (List ℕ)) × (command ≡ UseOut slot name)
-
--- entering Established begins with nothing sent, and leaving it forgets what was sent
-abbrev pub adj_out_after : Effects → List (Prefix × List ℕ) → List (Prefix × List ℕ)
-adj_out_after effects table = if effects.left || effects.entered then [] else table
-
--- the slot after an input, at this moment
-abbrev pub moved : ℕ → Linked → Input → Linked
-moved now l input = record { peer = taken_input now l.peer input; adj_out = adj_out_after (effects_of input l.peer.session) l.adj_out }
 
 -- the slot becomes another, and no other slot changes
 abbrev pub IsPut : ℕ → Linked → SpeakerState → SpeakerState → Type 0
@@ -153,17 +141,6 @@ abbrev pub IsHeard : ℕ → Option UpdateBody → RouteTable → RouteTable →
 IsHeard slot update old new =
     (s : ℕ) (prefix : Prefix) → route_at new s prefix ≡ (if s == slot then word_if update prefix (route_at old s prefix) else route_at old s prefix)
 
--- how many of these octets belong to the message at the front: none where the connection isn't open
-abbrev pub taken_on : Transport → List ℕ → List ℕ → ℕ
-taken_on NoConnection rest octets = 0
-taken_on Opening rest octets = 0
-taken_on Listening rest octets = 0
-taken_on Connected rest octets = min (needed_of rest) (length octets)
-taken_on Closing rest octets = 0
-
-abbrev pub taken_of : Slot → List ℕ → ℕ
-taken_of p octets = taken_on (transport_of p.session) p.rest octets
-
 -- the message at the front of the slot's rest is one that memory is taken for: an UPDATE of such a peer to an Established
 -- session
 pub record TakesMemoryAt (kind : PeerKind) (l : Linked) : Type 0 where
@@ -171,11 +148,6 @@ pub record TakesMemoryAt (kind : PeerKind) (l : Linked) : Type 0 where
   pub established : l.peer.session.state ≡ Established
   pub is : meaning l.peer.rest ≡ Some (WholeMessage Update body)
   pub needs : NeedsMemory kind body
-
--- the routes and the candidates of all other slots stay
-pub record KeepsOthers (slot : ℕ) (old new : RoutingState) : Type 0 where
-  pub routes : (s : ℕ) (prefix : Prefix) → s ≢ slot → route_at new.adj_in s prefix ≡ route_at old.adj_in s prefix
-  pub offers : (s : ℕ) (prefix : Prefix) → s ≢ slot → offer_at new.book s prefix ≡ offer_at old.book s prefix
 
 -- octets are put behind the rest of the slot, as many as this
 pub record Pushes (slot : ℕ) (l : Linked) (octets : List ℕ) (old new : SpeakerState) : Type 0 where

@@ -1,27 +1,11 @@
 -- What is queued to a peer so that it holds its export (RFC 4271 sections 4.3 and 9.2).
 use Rattle.std.specs.Prelude.{◌≡◌, ◌≤◌, ◌<◌, ◌+◌, ◌*◌, ◌^◌, bit_or, ℕ, List, [], ◌∷◌, length, Option, Some, None, if◌then◌else◌}
 use Rattle.bgp_fsm.specs.declared.state.State.TheVariants.{Established}
-use Rattle.bgp_msg.specs.MessageSpelling.{update_of, wire_form}
-use Rattle.bgp_peer.specs.Slot.{queued}
 use Rattle.net_prefix.specs.declared.prefix.Prefix.{Prefix}
-use Rattle.rib_out.specs.Held.{held_at, is_prefix}
-use Rattle.speaker.specs.Linked.{Linked}
+use Rattle.rib_out.specs.Held.{held_at}
+use Rattle.routes.specs.Linked.{Linked}
 use Rattle.bgp_peer.specs.PeerLimits.{ring_octets, room_for_update}
-
--- the place of a prefix among all prefixes, by address and then by length
-abbrev pub rank_of : Prefix → ℕ
-rank_of prefix = prefix.bits * 64 + prefix.len
-
--- the UPDATE that says just this of a prefix: that it is withdrawn, or that it is announced with these attributes
-abbrev pub update_saying : Prefix → Option (List ℕ) → List ℕ
-update_saying prefix None = update_of (wire_form (prefix ∷ [])) [] []
-update_saying prefix (Some attributes) = update_of [] attributes (wire_form (prefix ∷ []))
-
--- by one UPDATE the peer is told this of the prefix, and of no other one
-pub record IsTold (prefix : Prefix) (export : Option (List ℕ)) (old new : Linked) : Type 0 where
-  pub place : rank_of prefix < 2 ^ 38
-  pub peer : new.peer ≡ queued old.peer (update_saying prefix export)
-  pub held : (q : Prefix) → held_at new.adj_out q ≡ (if is_prefix prefix q then export else held_at old.adj_out q)
+use Rattle.routes.specs.Places.{rank_of}
 
 -- what is told of the one prefix comes no later than what is told of the other: withdrawals before announcements, and
 -- each kind in the order of the prefixes

@@ -1,22 +1,29 @@
--- How one slot is served: its peer is told, in rising order, what it is owed (RFC 4271 section 9.2).
-use Rattle.std.specs.Prelude.{◌≡◌, ◌≢◌, ◌≤◌, ◌<◌, ◌+◌, ℕ, Bool, List, length, Option, Some, None, MatchOption, false}
+-- What waits of each prefix for each peer: what it is owed, so that it holds its export (our own, for RFC 4271 section 9.2).
+use Rattle.std.specs.Prelude.{◌≡◌, ◌≢◌, ◌<◌, ◌⊎◌, ℕ, Bool, List, [], Option, Some, None, false, if◌then◌else◌, ◌≤◌, ◌+◌, length, MatchOption}
 use Rattle.std.specs.Option.{IsSome}
-use Rattle.std.specs.Ordering.{is_gt}
 use Rattle.bgp_conf.specs.Configuration.{peer_at}
 use Rattle.bgp_conf.specs.declared.conf.ConfiguredPeer.{ConfiguredPeer}
 use Rattle.bgp_fsm.specs.StateTests.{is_established}
 use Rattle.bgp_fsm.specs.declared.state.State.TheVariants.{Established}
-use Rattle.net_prefix.specs.PrefixOrder.{prefix_cmp, IsAbove}
 use Rattle.net_prefix.specs.declared.prefix.Prefix.{Prefix}
 use Rattle.rib_out.specs.Held.{held_at}
+use Rattle.routes.specs.Linked.{Linked}
+use Rattle.speaker.specs.SpeakerState.{SpeakerState}
+use Rattle.routes.specs.Tables.{link_at}
+use Rattle.std.specs.Ordering.{is_gt}
+use Rattle.net_prefix.specs.PrefixOrder.{prefix_cmp, IsAbove}
 use Rattle.speaker.specs.Agreement.{QueuesOn}
 use Rattle.speaker.specs.Export.{export_to}
-use Rattle.speaker.specs.Linked.{Linked}
 use Rattle.speaker.specs.Moves.{IsPut}
-use Rattle.speaker.specs.Queueing.{IsTold, IsServed}
-use Rattle.speaker.specs.SpeakerState.{SpeakerState}
-use Rattle.speaker.specs.Tables.{link_at}
-use Rattle.bgp_peer.specs.PeerLimits.{ring_octets, room_for_update}
+use Rattle.routes.specs.Told.{IsTold, HasRoom}
+use Rattle.speaker.specs.Queueing.{IsServed}
+
+-- the slot is that of an Established peer
+pub record IsServedBy (s : SpeakerState) (slot : ℕ) (l : Linked) : Type 0 where
+  pub peer : ConfiguredPeer
+  pub configured : peer_at s.conf slot ≡ Some peer
+  pub linked : link_at s.links slot ≡ Some l
+  pub established : l.peer.session.state ≡ Established
 
 -- where 8,192 octets are free, the peer of this slot holds its export, if its session is Established
 abbrev pub IsServedAt : SpeakerState → ℕ → Type 0
@@ -25,10 +32,6 @@ IsServedAt s slot = (peer : ConfiguredPeer) (l : Linked) → peer_at s.conf slot
 -- a slot with an Established session
 abbrev pub IsUpAt : SpeakerState → ℕ → Type 0
 IsUpAt s slot = (l : Linked) × (link_at s.links slot ≡ Some l) × (l.peer.session.state ≡ Established)
-
--- 8,192 octets of the ring are free, as many as an UPDATE asks for
-abbrev pub HasRoom : Linked → Type 0
-HasRoom l = length l.peer.ring + room_for_update ≤ ring_octets
 
 -- so are they of this slot's ring
 abbrev pub HasRoomAt : SpeakerState → ℕ → Type 0

@@ -9,8 +9,8 @@ use Rattle.rib_in.specs.LatestRoutes.{RouteTable, route_at}
 use Rattle.rtr_codec.specs.ClientTable.{in_force}
 use Rattle.rtr_session.specs.SessionState.{Session as CacheSession, configured}
 use Rattle.speaker.specs.declared.config.Config.{Config}
-use Rattle.speaker.specs.Linked.{Linked}
-use Rattle.speaker.specs.Tables.{Tables, tables, link_at}
+use Rattle.routes.specs.Linked.{Linked}
+use Rattle.routes.specs.Tables.{Tables, tables, link_at}
 
 -- what others see of a speaker: its settings, the moment, the configured tables, the cache session, the payloads in
 -- force, its slots, Adj-RIB-In,

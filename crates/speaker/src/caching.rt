@@ -2,7 +2,6 @@
 //! the payloads in force change, the routes that this concerns are judged again.
 ghost use Rattle.std.specs.Prelude.{◌≡◌, ◌≢◌, ◌≤◌, ◌<◌, ◌++◌, ℕ, List, [], ◌∷◌, Some, None, IfOk, false, true, if◌then◌else◌, length, min, take, drop};
 ghost use Rattle.std.specs.Option.{IsSome};
-ghost use Rattle.std.specs.Bool.{OnTrue};
 ghost use Rattle.bgp_peer.specs.SessionInputs.{Ticked};
 ghost use Rattle.net_prefix.specs.declared.payload.Vrp.{Vrp as ThePayload};
 ghost use Rattle.rtr_session.specs.SessionHistory.{opens_at};
@@ -15,10 +14,10 @@ ghost use Rattle.speaker.specs.declared.config.Config.{Config as TheConfig};
 ghost use Rattle.rtr_session.specs.SessionHistory as cached;
 ghost use Rattle.vrp_delta.specs.Delta.{change_between};
 
-use crate::choosing::choose_touched;
 use crate::step::Speaker;
 use decision::Book;
 use net_prefix::Transport;
+use routes::choose_touched;
 use rtr_session::CacheSession;
 use std::alloc::{AllocError, Allocator};
 

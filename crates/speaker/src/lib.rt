@@ -7,21 +7,17 @@
 #![tactic(auto)]
 
 mod caching;
-mod choosing;
 mod config;
 mod event;
 mod laws;
-mod link;
+mod message;
 mod obeying;
 mod queueing;
-mod receiving;
-mod routing;
 mod runs;
 mod slot_events;
 mod step;
 mod ticking;
 mod views;
-mod waiting;
 
 pub use bgp_attr::{Attrs, Mode};
 pub use bgp_conf::{Action, Command, Condition, PeerConf, PrefixRange, Refusal, Rule};
@@ -35,8 +31,9 @@ pub use laws::{
 };
 pub use net_prefix::Transport;
 pub use origin_valid::Validity;
+pub use routes::WaitingPrefixes;
 pub use rtr_client::ClientState;
 pub use runs::{Trace, run};
 pub use step::Speaker;
 pub use views::{AdjRibIn, BestRoute, HeldRoutes, LocRib, Payloads};
-pub use waiting::WaitingPrefixes;
+

@@ -1,5 +1,5 @@
 //! What commands do to the tables.
-ghost use Rattle.std.specs.Prelude.{◌≡◌, ◌≤◌, ℕ, true, false, [], ◌∷◌, IfOk, IsOk, OnOk, OnErr, IsSome, ◌<◌, ◌^◌, None, Some, if◌then◌else◌};
+ghost use Rattle.std.specs.Prelude.{◌≡◌, ◌≤◌, ℕ, true, false, [], ◌∷◌, IfOk, OnOk, OnErr, IsSome, ◌<◌, ◌^◌, None, Some, if◌then◌else◌};
 ghost use Rattle.std.specs.Ordering.{nat_cmp};
 ghost use Rattle.std.specs.BTreeMap.{is_at};
 ghost use Rattle.bgp_conf.specs.ConfAfter.{TakesMemory};
@@ -12,16 +12,14 @@ ghost use Rattle.speaker.specs.SpeakerState.{tables_of};
 ghost use Rattle.bgp_fsm.specs.SessionTable.{effects_of};
 ghost use Rattle.bgp_fsm.specs.declared.input.Input.TheVariants.{Start};
 ghost use Rattle.speaker.specs.Chosen.{Chooses};
-ghost use Rattle.speaker.specs.Linked.{Linked};
+ghost use Rattle.routes.specs.Linked.{Linked};
 ghost use Rattle.speaker.specs.Moves.{Announces, DropsPolicy, Forgets, Moves, SetsPolicy, UsesIn, UsesOut, resolves};
 ghost use Rattle.speaker.specs.Runs.{Run, turn, Command_call, opened_commanded};
 ghost use Rattle.speaker.specs.Agreement.{Holds};
 ghost use Rattle.speaker.specs.declared.config.Config.{Config as TheConfig};
-ghost use Rattle.speaker.specs.Tables.{link_at};
+ghost use Rattle.routes.specs.Tables.{link_at};
 
-use crate::choosing::{choose_again, choose_slot, judge_network};
 use crate::event::only;
-use crate::link::Link;
 use crate::step::Speaker;
 use bgp_attr::Attrs;
 use bgp_conf::{Command, PeerConf};
@@ -29,6 +27,7 @@ use bgp_fsm::Input;
 use bgp_msg::Open;
 use decision::{Book, LOCAL_SLOT};
 use net_prefix::Prefix;
+use routes::{Link, choose_again, choose_slot, judge_network};
 use std::alloc::{AllocError, Allocator};
 use std::collections::BTreeMap;
 use std::rc::Rc;

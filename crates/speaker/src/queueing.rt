@@ -4,104 +4,27 @@ ghost use Rattle.std.specs.Bool.{OnTrue};
 ghost use Rattle.std.specs.Option.{IsSome, option_map};
 ghost use Rattle.bgp_conf.specs.Configuration.{peer_at};
 ghost use Rattle.bgp_fsm.specs.declared.state.State.TheVariants.{Established};
-ghost use Rattle.decision.specs.BookContents.{rows_of};
-ghost use Rattle.export_rules.specs.Export.{Tells, most_attributes};
+ghost use Rattle.export_rules.specs.Export.{most_attributes};
 ghost use Rattle.rib_out.specs.Held.{held_at};
 ghost use Rattle.speaker.specs.Agreement.{QueuesAll, QueuesOn, QueuesStarved};
-ghost use Rattle.speaker.specs.Export.{IsAccepted, received_from, export_in, export_peer_of, export_to, selected_of};
-ghost use Rattle.speaker.specs.Linked.{Linked};
-ghost use Rattle.speaker.specs.Marks.{IsServedBy, announced_of, withdrawn_of};
-ghost use Rattle.speaker.specs.Queueing.{IsTold, rank_of};
-ghost use Rattle.speaker.specs.Serving.{IsServedAt, IsShortAt, IsUpAt, HasRoom, HasRoomAt, IsOfSlot, IsStill, IsToldAt, Serves, Stand, IsDoneAt, IsGone, IsHad, IsNext, is_standing};
-ghost use Rattle.speaker.specs.Tables.{best_at, link_at};
+ghost use Rattle.routes.specs.Export.{export_peer_of};
+ghost use Rattle.speaker.specs.Export.{export_to};
+ghost use Rattle.routes.specs.Linked.{Linked};
+ghost use Rattle.speaker.specs.Serving.{IsServedBy, IsServedAt, IsShortAt, IsUpAt, HasRoomAt, IsOfSlot, IsStill, IsToldAt, Serves, Stand, IsDoneAt, IsGone, IsHad, IsNext, is_standing};
+ghost use Rattle.routes.specs.Marks.{announced_of, withdrawn_of};
+ghost use Rattle.routes.specs.Told.{HasRoom};
+ghost use Rattle.routes.specs.Tables.{link_at};
 
-use crate::choosing::origin;
 use crate::event::only;
-use crate::link::Link;
-use crate::routing::slots_end;
 use crate::step::Speaker;
-use arrayvec::ArrayVec;
-use bgp_attr::Attrs;
-use bgp_conf::{Conf, SeenRoute};
 use bgp_fsm::Input;
-use bgp_msg::{MAX_MESSAGE, write_announcement, write_withdrawal};
 use bgp_peer::ROOM_FOR_UPDATE;
-use decision::{Book, Candidate, LOCAL_SLOT};
-use export_rules::{ExportPeer, export_of};
-use loc_rib::Ribs;
-use net_prefix::{Asn, Prefix};
-use rib_out::{Owed, RecentOctets};
+use decision::Book;
+use export_rules::ExportPeer;
+use net_prefix::Prefix;
+use rib_out::Owed;
+use routes::{Octets, announce, export, export_peer, place, slots_end, withdraw};
 use std::alloc::{AllocError, Allocator};
-
-/// The octets of one message, or of its attributes.
-pub type Octets = ArrayVec<u8, MAX_MESSAGE>;
-
-/// What the export to a slot's peer asks of it.
-pub fn export_peer<A: Allocator + Clone>(conf: &Conf<A>, slot: u8) -> Option<ExportPeer>
-    ensures { result ≡ option_map (export_peer_of conf.now slot) (peer_at conf.now slot) }
-{
-    let peer = conf.peer(slot)?;
-    Some(ExportPeer {
-        slot,
-        own: conf.own(),
-        asn: peer.asn,
-        local: peer.local,
-    })
-}
-
-/// What is exported of a prefix: the best route, where there is one and it is exported to this peer, by its export policy.
-/// Answers false where nothing is; `octets` are then empty.
-#[tactic(auto, using(crate::proofs::Calls::on_accepted))]
-pub fn export<A: Allocator + Clone, B: Book<A>>(
-    conf: &Conf<A>,
-    ribs: &Ribs<A, B>,
-    peer: &ExportPeer,
-    prefix: Prefix,
-    octets: &mut Octets,
-) -> bool
-    ensures tells { Tells result octets.new.items (export_in conf.now (best_at (rows_of ribs.now.book)) ribs.now.adj_in peer.now prefix) }
-    ensures small { OnTrue result (length octets.new.items ≤ most_attributes) }
-    // The peer finds no fault with it.
-    ensures accepted { OnTrue result (IsAccepted (rows_of ribs.now.book) ribs.now.adj_in peer.now prefix octets.new.items) }
-{
-    octets.clear();
-    let Some(route) = ribs.best(prefix) else {
-        return false;
-    };
-    let Some(attrs) = ribs.routes().get(route.slot, prefix) else {
-        return false;
-    };
-    let action = conf.export(peer.slot, &seen(conf.own(), prefix, &route, attrs));
-    export_of(&route, attrs, peer, action, octets)
-}
-
-// The best route of a prefix as export policies see it: as it was received.
-fn seen<'a, A: Allocator + Clone>(
-    own: Asn,
-    prefix: Prefix,
-    route: &Candidate,
-    attrs: &'a Attrs<A>,
-) -> SeenRoute<'a, A>
-    ensures { result ≡ selected_of own prefix route.now attrs.now }
-{
-    SeenRoute {
-        prefix,
-        state: route.validity,
-        origin: origin(own, attrs),
-        path: attrs.as_path(),
-        from: received_from(route.slot),
-    }
-}
-
-// The slot whose peer announced a route; none of a local network.
-fn received_from(slot: u8) -> Option<u8>
-    ensures { result ≡ received_from slot }
-{
-    if slot == LOCAL_SLOT {
-        return None;
-    }
-    Some(slot)
-}
 
 impl<A: Allocator + Clone, B: Book<A>> Speaker<A, B> {
     /// Queues to each Established peer the UPDATEs that it is owed, while its ring has room. Where memory is refused to
@@ -150,7 +73,7 @@ impl<A: Allocator + Clone, B: Book<A>> Speaker<A, B> {
         ensures rises { self.old.chosen ≤ self.new.chosen }
     {
         self.input(slot, Input::NoMemory);
-        self.routing.ribs.is_chosen();
+        self.routing.ribs().is_chosen();
     }
 
     // Queues what a slot's peer is owed, withdrawals before announcements and each in rising order, while its
@@ -219,7 +142,7 @@ impl<A: Allocator + Clone, B: Book<A>> Speaker<A, B> {
             if !self.has_room(slot) {
                 return Ok(());
             }
-            if export(&self.conf, &self.routing.ribs, peer, prefix, octets) {
+            if export(&self.conf, self.routing.ribs(), peer, prefix, octets) {
                 self.announce_at(slot, prefix, octets, message)?;
             }
             // Places rise, so the walk ends.
@@ -303,44 +226,4 @@ impl<A: Allocator + Clone, B: Book<A>> Speaker<A, B> {
         self.routing.told(slot, prefix);
         Ok(())
     }
-}
-
-/// The place of a prefix among all prefixes: they are ordered by address, then by length.
-pub fn place(prefix: Prefix) -> u64
-    ensures place { result ≡ rank_of prefix }
-    ensures below { result < 2 ^ 38 }
-{
-    u64::from(prefix.bits) * 64 + u64::from(prefix.len)
-}
-
-fn withdraw<A: Allocator + Clone>(link: &mut Link<A>, prefix: Prefix, message: &mut Octets)
-    requires established { link.old.peer.session.state ≡ Established }
-    requires room { HasRoom link.old }
-    ensures { IsTold prefix None link.old link.new }
-{
-    let _place = place(prefix);
-    link.adj_out.withdraw(prefix);
-    write_withdrawal(&[prefix], message);
-    link.peer.queue(message.as_slice());
-}
-
-fn announce<A: Allocator + Clone>(
-    link: &mut Link<A>,
-    recent: &mut RecentOctets<A>,
-    prefix: Prefix,
-    octets: &Octets,
-    message: &mut Octets,
-) -> Result<(), AllocError>
-    requires established { link.old.peer.session.state ≡ Established }
-    requires room { HasRoom link.old }
-    requires small { length octets.now.items ≤ most_attributes }
-    ensures told { OnOk result (IsTold prefix (Some octets.now.items) link.old link.new) }
-    ensures err { OnErr result (link.new ≡ link.old) }
-{
-    let _place = place(prefix);
-    let held = recent.shared(octets.as_slice())?;
-    link.adj_out.announce(prefix, held)?;
-    write_announcement(octets.as_slice(), &[prefix], message);
-    link.peer.queue(message.as_slice());
-    Ok(())
 }

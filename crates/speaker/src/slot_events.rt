@@ -10,23 +10,20 @@ ghost use Rattle.decision.specs.BookContents.{offer_at};
 ghost use Rattle.rib_in.specs.LatestRoutes.{route_at};
 ghost use Rattle.bgp_msg.specs.MessageStream.{meaning};
 ghost use Rattle.bgp_msg.specs.UpdateMeaning.{update_fault};
-ghost use Rattle.speaker.specs.AdjRibIn.{sound_update};
-ghost use Rattle.speaker.specs.Chosen.{Chooses, ChoosesRefused, Ends};
-ghost use Rattle.speaker.specs.Marks.{AreMarked, IsFollowed};
-ghost use Rattle.speaker.specs.Moves.{Moves, Pushes, TakesMemoryAt, TakesItem, taken_of};
+ghost use Rattle.routes.specs.Updates.{sound_update};
+ghost use Rattle.speaker.specs.Chosen.{Chooses, ChoosesRefused};
+ghost use Rattle.routes.specs.Chosen.{Ends};
+ghost use Rattle.routes.specs.Marks.{AreMarked, IsFollowed};
+ghost use Rattle.speaker.specs.Moves.{Moves, Pushes, TakesMemoryAt, TakesItem, IsWithout};
+ghost use Rattle.routes.specs.Linked.{taken_of, Linked};
 ghost use Rattle.bgp_peer.specs.SessionInputs.{kind_of};
-ghost use Rattle.speaker.specs.Runs.{terms_in};
+ghost use Rattle.speaker.specs.Runs.{terms_in, Run, Fail_call, turn};
 ghost use Rattle.speaker.specs.Agreement.{Hears, HearsUntil, Holds};
-ghost use Rattle.speaker.specs.Tables.{link_at, session_at};
-ghost use Rattle.speaker.specs.Linked.{Linked};
+ghost use Rattle.routes.specs.Tables.{link_at, session_at};
 ghost use Rattle.speaker.specs.FirstRefusal.{closes};
-ghost use Rattle.speaker.specs.Moves.{IsWithout};
-ghost use Rattle.speaker.specs.Runs.{Run, Fail_call, turn};
 ghost use Rattle.speaker.specs.declared.config.Config.{Config as TheConfig};
 
-use crate::queueing::Octets;
-use crate::receiving::{Sender, take_front};
-use crate::routing::{Links, Routing};
+use crate::message::{Standard, take_front};
 use crate::step::Speaker;
 use arrayvec::ArrayVec;
 use bgp_attr::PeerKind;
@@ -34,6 +31,7 @@ use bgp_conf::Conf;
 use bgp_fsm::{Effects, Input};
 use bgp_msg::Expected;
 use decision::Book;
+use routes::{Links, Octets, Routing, Sender};
 use std::alloc::{AllocError, Allocator};
 
 impl<A: Allocator + Clone, B: Book<A>> Speaker<A, B> {
@@ -162,9 +160,11 @@ impl<A: Allocator + Clone, B: Book<A>> Speaker<A, B> {
         };
         let sender = Sender {
             slot,
+            identifier: link.peer.identifier(),
+        };
+        let standard = Standard {
             kind: PeerKind::between(self.config.asn, peer.asn),
             expected,
-            identifier: link.peer.identifier(),
         };
         let heard = match take_front(
             &self.alloc,
@@ -173,6 +173,7 @@ impl<A: Allocator + Clone, B: Book<A>> Speaker<A, B> {
             &self.links,
             &mut self.routing,
             sender,
+            standard,
             link,
             room,
         ) {

@@ -7,21 +7,20 @@ ghost use Rattle.speaker.specs.Runs.{Call, Run, Turn, turn, asked, call_of, repo
 ghost use Rattle.speaker.specs.Agreement.{Agrees, Holds, IsFair, IsThrifty};
 ghost use Rattle.speaker.specs.declared.config.Config.{Config as TheConfig};
 ghost use Rattle.speaker.specs.FirstRefusal.{closes, closing_for, is_open};
-ghost use Rattle.speaker.specs.Tables.{configured_session, link_at, session_at};
-ghost use Rattle.speaker.specs.Linked.{Linked};
+ghost use Rattle.routes.specs.Tables.{configured_session, link_at, session_at};
+ghost use Rattle.routes.specs.Linked.{Linked};
 ghost use Rattle.speaker.specs.Queueing.{Queue, starved_in};
 
 use crate::caching::session_for;
 use crate::config::Config;
 use crate::event::{Event, Report, only};
-use crate::link::Link;
-use crate::routing::Routing;
 use bgp_conf::{Command, Conf, PEER_SLOTS, Refusal};
 use bgp_fsm::Input;
 use decision::{Book, PlainBook};
 use net_prefix::{Asn, Transport};
 use origin_valid::PayloadTrie;
 use rib_out::RecentOctets;
+use routes::{Link, Routing};
 use rtr_session::CacheSession;
 use std::alloc::{AllocError, Allocator, Global};
 use std::collections::BTreeMap;
@@ -48,8 +47,8 @@ pub struct Speaker<A: Allocator + Clone = Global, B: Book<A> = PlainBook<A>> {
 
 impl<A: Allocator + Clone, B: Book<A>> Model for Speaker<A, B> {
     ghost use Rattle.decision.specs.BookContents.{offer_at, rows_of};
-    ghost use Rattle.speaker.specs.Marks.{AreMarked};
-    ghost use Rattle.speaker.specs.Offers.{IsSound};
+    ghost use Rattle.routes.specs.Marks.{AreMarked};
+    ghost use Rattle.routes.specs.Offers.{IsSound};
     ghost use Rattle.std.specs.Prelude.{◌≡◌};
     ghost use Rattle.speaker.specs.SpeakerState.{SpeakerState, payloads_in};
 
@@ -341,7 +340,7 @@ impl<A: Allocator + Clone, B: Book<A>> Speaker<A, B> {
         ensures counted { self.new.chosen_before ≡ self.old.chosen_before }
         ensures rises { self.old.chosen ≤ self.new.chosen }
     {
-        self.routing.ribs.is_chosen();
+        self.routing.ribs().is_chosen();
         self.queue_updates()
     }
 }

@@ -13,20 +13,18 @@ ghost use Rattle.speaker.specs.AdjRibIn.{route};
 ghost use Rattle.decision.specs.declared.candidate.Candidate.{Candidate as TheCandidate};
 ghost use Rattle.speaker.specs.Agreement.{Agrees, tables_after};
 ghost use Rattle.speaker.specs.Choices.{choices_in};
-ghost use Rattle.speaker.specs.LocRib.{IsBest};
+ghost use Rattle.routes.specs.LocRib.{IsBest};
 ghost use Rattle.speaker.specs.Held.{held};
 ghost use Rattle.speaker.specs.FirstRefusal.{cache_transport_after, cache_transport_of};
 ghost use Rattle.speaker.specs.Runs.{Run, history, payloads_after};
 ghost use Rattle.speaker.specs.declared.config.Config.{Config};
 ghost use Rattle.speaker.specs.SpeakerState.{tables_of};
-ghost use Rattle.speaker.specs.Tables.{configured_session, link_at, peer_route_at, session_at};
+ghost use Rattle.routes.specs.Tables.{configured_session, link_at, peer_route_at, session_at};
 ghost use Rattle.speaker.specs.Shown.{cache_state_after, cache_state_of, held_by, received_by, shown_of, transport_at, transport_or_none};
 ghost use Rattle.speaker.specs.Waiting.{IsWaitingIn, waiting_of};
 ghost use Rattle.bgp_peer.specs.PeerLimits.{ring_octets, room_for_update};
 
-use crate::queueing::export_peer;
 use crate::step::Speaker;
-use crate::waiting::{Waiting, WaitingPrefixes};
 use bgp_attr::Attrs;
 use bgp_fsm::State;
 use decision::{Book, LOCAL_SLOT, PlainBook};
@@ -34,6 +32,7 @@ use loc_rib::Rows;
 use net_prefix::{Prefix, Transport, Vrp};
 use origin_valid::Validity;
 use rib_in::SlotRoutes;
+use routes::{WaitingPrefixes, export_peer};
 use rtr_client::ClientState;
 use std::alloc::{Allocator, Global};
 use std::collections::btree_set;
@@ -233,7 +232,7 @@ impl<A: Allocator + Clone, B: Book<A>> Speaker<A, B> {
             → Contains result (prefix, c) ↔ IsBest (tables_after config r) prefix c }
     {
         LocRib {
-            rows: self.routing.ribs.rows(),
+            rows: self.routing.ribs().rows(),
         }
     }
 
@@ -318,7 +317,7 @@ impl<A: Allocator + Clone, B: Book<A>> Speaker<A, B> {
             return AdjRibIn { routes: None };
         }
         AdjRibIn {
-            routes: Some(self.routing.ribs.routes().routes_of(slot)),
+            routes: Some(self.routing.ribs().routes().routes_of(slot)),
         }
     }
 
@@ -361,12 +360,13 @@ impl<A: Allocator + Clone, B: Book<A>> Speaker<A, B> {
         ensures all { result ≡ waiting_of self.now slot }
         ensures rising { IsStrictlySortedBy prefix_cmp result }
     {
-        WaitingPrefixes {
-            waiting: self.waiting_walk(slot),
+        match self.waiting_walk(slot) {
+            Some(waiting) => waiting,
+            None => WaitingPrefixes::none(),
         }
     }
 
-    fn waiting_walk(&self, slot: u8) -> Option<Waiting<'_, A, B>>
+    fn waiting_walk(&self, slot: u8) -> Option<WaitingPrefixes<'_, A, B>>
         ensures all { unwrap_or result [] ≡ waiting_of self.now slot }
         ensures rising { IsStrictlySortedBy prefix_cmp (unwrap_or result []) }
     {
@@ -375,6 +375,6 @@ impl<A: Allocator + Clone, B: Book<A>> Speaker<A, B> {
         if !link.is_established() {
             return None;
         }
-        Some(Waiting::new(&self.conf, &self.routing.ribs, link, peer))
+        Some(WaitingPrefixes::new(&self.conf, &self.routing, link, peer))
     }
 }

@@ -14,7 +14,7 @@ ghost use Rattle.bgp_msg.specs.MessageStream.{messages};
 ghost use Rattle.export_rules.specs.declared.export.ExportPeer.{ExportPeer};
 ghost use Rattle.net_prefix.specs.declared.prefix.Prefix.{Prefix};
 ghost use Rattle.speaker.specs.Agreement.{Agrees, IsOwedIn, tables_after};
-ghost use Rattle.speaker.specs.Export.{IsExport};
+ghost use Rattle.routes.specs.Export.{IsExport};
 ghost use Rattle.speaker.specs.Held.{held, told_from};
 ghost use Rattle.speaker.specs.Runs.{Run, history};
 ghost use Rattle.speaker.specs.SpeakerState.{SpeakerState};

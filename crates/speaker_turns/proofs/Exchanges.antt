@@ -4,10 +4,10 @@ use Rattle.std.proofs.lemmas.Bool.{eq-eqb}
 use Rattle.net_prefix.specs.declared.transport.Transport.{Transport}
 use Rattle.rtr_session.specs.SessionState.{Session as CacheSession}
 use Rattle.speaker.specs.FirstRefusal.{may_bring_octets}
-use Rattle.speaker.specs.Linked.{Linked}
+use Rattle.routes.specs.Linked.{Linked}
 use Rattle.speaker.specs.Runs.{Call}
 use Rattle.speaker.specs.SpeakerState.{SpeakerState}
-use Rattle.speaker.specs.Tables.{link_at}
+use Rattle.routes.specs.Tables.{link_at}
 use Rattle.wires.specs.Calls.{WireCall, Read, Write}
 use Rattle.wires.specs.Carried.{given, given_by, taken, taken_by}
 use Rattle.wires.specs.TurnOctets.{turn_octets}

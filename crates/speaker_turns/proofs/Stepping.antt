@@ -17,9 +17,9 @@ use Rattle.speaker.specs.declared.config.Config.{Config}
 use Rattle.speaker.specs.declared.event.Event.{Event}
 use Rattle.speaker.specs.declared.event.Report.{Report}
 use Rattle.rtr_session.specs.SessionState.{Session as CacheSession}
-use Rattle.speaker.specs.Linked.{Linked}
+use Rattle.routes.specs.Linked.{Linked}
 use Rattle.speaker.specs.Queueing.{Queue}
-use Rattle.speaker.specs.Tables.{link_at}
+use Rattle.routes.specs.Tables.{link_at}
 use Rattle.speaker_turns.specs.Sessions.{Asks, Makes, is_there, queued_for, ring_of_cache, ring_of_slot, take_call}
 use Rattle.speaker_turns.specs.declared.end.End.TheVariants.{Cache, Peer}
 use Rattle.speaker_turns.proofs.Exchanges.{take_none}

@@ -1,4 +1,4 @@
-use Rattle.speaker.proofs.ToldDegrees.{told_degree}
+use Rattle.routes.proofs.ToldDegrees.{told_degree}
 use Rattle.speaker.proofs.laws.degrees_are_told.Goals as goal
 
 pub returns : goal.returns

@@ -1,4 +1,4 @@
-use Rattle.speaker.proofs.OneBest.{same_best, same_loc_rib, same_export}
+use Rattle.routes.proofs.OneBest.{same_best, same_loc_rib, same_export}
 use Rattle.speaker.proofs.laws.one_export.Goals as goal
 
 pub returns-clause-best : goal.returns-clause-best

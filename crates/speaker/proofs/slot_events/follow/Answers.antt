@@ -3,10 +3,10 @@ use Rattle.std.proofs.lemmas.Bool.{cases_eq}
 use Rattle.bgp_conf.specs.Configuration.{Configuration}
 use Rattle.bgp_fsm.specs.declared.session.Effects.{Effects}
 use Rattle.rib_out.specs.Waiting.{owed_at}
-use Rattle.speaker.specs.Linked.{Linked}
-use Rattle.speaker.specs.Marks.{AreMarked, IsFollowed, mark_at}
-use Rattle.speaker.specs.RoutingState.{RoutingState}
-use Rattle.speaker.proofs.Counting.{ends_all}
+use Rattle.routes.specs.Linked.{Linked}
+use Rattle.routes.specs.Marks.{AreMarked, IsFollowed, mark_at}
+use Rattle.routes.specs.RoutingState.{RoutingState}
+use Rattle.routes.proofs.Counting.{ends_all}
 use Rattle.speaker.proofs.slot_events.follow.Goals as goal
 
 -- where the session neither leaves Established nor enters it, the marks stay

@@ -1,10 +1,10 @@
 use Rattle.std.proofs.Common.{◌≡◌, ◌∙◌, false, refl, ap, arith}
 use Rattle.bgp_conf.specs.Configuration.{Configuration}
 use Rattle.bgp_fsm.specs.StateTests.{is_established}
-use Rattle.speaker.specs.Linked.{Linked}
-use Rattle.speaker.proofs.AddedMarks.{marked_added, marked_links}
+use Rattle.routes.specs.Linked.{Linked}
+use Rattle.routes.proofs.AddedMarks.{marked_added, marked_links}
 use Rattle.speaker.proofs.Commands.{holds_added, put_inserted, put_back, added_same, sound_added}
-use Rattle.speaker.proofs.Marking.{IsNow}
+use Rattle.routes.proofs.Marking.{IsNow}
 use Rattle.speaker.proofs.step.Speaker.add_peer.Goals as goal
 
 pub invariant_of-self-in-Ok : goal.invariant_of-self-in-Ok

@@ -1,14 +1,16 @@
 use Rattle.std.proofs.Common.{◌≡◌, Some, None, ap, subst}
 use Rattle.decision.specs.BookContents.{rows_of}
 use Rattle.rib_out.specs.Held.{held_at}
-use Rattle.speaker.specs.Export.{IsAccepted, export_in, export_to}
-use Rattle.speaker.specs.Marks.{announced_of}
-use Rattle.speaker.specs.RoutingState.{RoutingState}
+use Rattle.routes.specs.Export.{IsAccepted, export_in}
+use Rattle.speaker.specs.Export.{export_to}
+use Rattle.routes.specs.Marks.{announced_of}
+use Rattle.routes.specs.RoutingState.{RoutingState}
 use Rattle.speaker.specs.Serving.{HasRoomAt, IsHad}
-use Rattle.speaker.specs.Tables.{best_at}
+use Rattle.routes.specs.Tables.{best_at}
 use Rattle.speaker.specs.declared.step.Speaker.TheInside.{Inside}
-use Rattle.speaker.proofs.Results.{OnErr-is}
-use Rattle.speaker.proofs.Serving.{export_kept, had_by, left-smaller, served_by, Serves-still, short_still, Walks-announced, Walks-end, Walks-had}
+use Rattle.routes.proofs.Results.{OnErr-is}
+use Rattle.speaker.proofs.Serving.{export_kept, had_by, served_by, Serves-still, short_still, Walks-announced, Walks-end, Walks-had}
+use Rattle.routes.proofs.Places.{left-smaller}
 use Rattle.speaker.proofs.step.Speaker.announce_all.Goals as goal
 use Rattle.speaker.proofs.step.Speaker.announce_all.Goals.{then-export+in_ok-announce_at, else-export}
 

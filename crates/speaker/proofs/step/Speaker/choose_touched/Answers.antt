@@ -4,10 +4,10 @@ use Rattle.net_prefix.specs.declared.payload.Vrp.{Vrp}
 use Rattle.origin_valid.specs.Stretches.{changed_prefixes, stretches}
 use Rattle.rib_in.specs.LatestRoutes.{HasRoute}
 use Rattle.speaker.specs.CacheMoves.{last_change}
-use Rattle.speaker.specs.Chosen.{OncePerPrefix}
-use Rattle.speaker.specs.Offers.{AreMadeWhere, is_within}
+use Rattle.routes.specs.Chosen.{OncePerPrefix}
+use Rattle.routes.specs.Offers.{AreMadeWhere, is_within}
 use Rattle.speaker.specs.SpeakerState.{SpeakerState}
-use Rattle.speaker.specs.Tables.{tables}
+use Rattle.routes.specs.Tables.{tables}
 use Rattle.vrp_delta.specs.Delta.{Change, change_between}
 use Rattle.speaker.proofs.Revalidating.{revalidated}
 use Rattle.speaker.proofs.step.Speaker.choose_touched.Goals as goal

@@ -1,6 +1,6 @@
 use Rattle.std.proofs.Common.{◌∙◌, ap, refl, subst}
 use Rattle.bgp_conf.specs.ConfAfter.{TakesMemory, conf_after, peer_after}
-use Rattle.speaker.proofs.Results.{OnOk-sure}
+use Rattle.routes.proofs.Results.{OnOk-sure}
 use Rattle.speaker.proofs.step.Speaker.forget.Goals as goal
 
 pub returns-clause-forgets : goal.returns-clause-forgets

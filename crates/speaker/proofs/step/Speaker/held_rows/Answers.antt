@@ -1,6 +1,6 @@
 use Rattle.std.proofs.Common.{◌≡◌, ◌∙◌, ap}
 use Rattle.speaker.specs.Shown.{held_by}
-use Rattle.speaker.proofs.WaitingLists.{nothing_rises}
+use Rattle.routes.proofs.WaitingLists.{nothing_rises}
 use Rattle.speaker.proofs.step.Speaker.held_rows.Goals as goal
 
 pub returns-in-Some-clause-all : goal.returns-in-Some-clause-all

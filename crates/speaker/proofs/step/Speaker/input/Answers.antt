@@ -1,5 +1,5 @@
 use Rattle.std.proofs.Common.{rules, sym, subst}
-use Rattle.speaker.proofs.Marking.{IsNow, followed}
+use Rattle.routes.proofs.Marking.{IsNow, followed}
 use Rattle.speaker.proofs.step.Speaker.input.Goals as goal
 
 pub follow-requires : goal.follow-requires

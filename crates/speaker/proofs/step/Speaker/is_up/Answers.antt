@@ -1,7 +1,7 @@
 use Rattle.std.proofs.Common.{◌≡◌, ◌∙◌, ap, sym}
-use Rattle.speaker.specs.Linked.{Linked}
+use Rattle.routes.specs.Linked.{Linked}
 use Rattle.speaker.proofs.Messages.{some_same}
-use Rattle.speaker.proofs.Results.{OnTrue-if}
+use Rattle.routes.proofs.Results.{OnTrue-if}
 use Rattle.speaker.proofs.step.Speaker.is_up.Goals as goal
 
 pub returns-in-Some-clause-up : goal.returns-in-Some-clause-up

@@ -1,7 +1,7 @@
 use Rattle.std.proofs.Common.{ap, ◌∙◌}
 use Rattle.decision.specs.BookContents.{rows_of}
 use Rattle.speaker.specs.Agreement.{tables_after}
-use Rattle.speaker.specs.RoutingState.{RoutingState}
+use Rattle.routes.specs.RoutingState.{RoutingState}
 use Rattle.speaker.specs.declared.step.Speaker.TheInside.{Inside}
 use Rattle.speaker.proofs.ShownRoutes.{best_shown}
 use Rattle.speaker.proofs.step.Speaker.loc_rib.Goals as goal

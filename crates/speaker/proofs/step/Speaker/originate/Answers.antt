@@ -1,7 +1,7 @@
 use Rattle.std.proofs.Common.{◌≡◌, true, false, refl}
 use Rattle.bgp_conf.specs.Configuration.{is_network}
 use Rattle.speaker.proofs.Commands.{before_restored, holds_network, holds_there}
-use Rattle.speaker.proofs.Results.{OnErr-got, OnOk-got, OnOk-sure, told_false, told_true}
+use Rattle.routes.proofs.Results.{OnErr-got, OnOk-got, OnOk-sure, told_false, told_true}
 use Rattle.speaker.proofs.step.Speaker.originate.Goals as goal
 
 pub returns-then-is_there-clause-ok : goal.returns-then-is_there-clause-ok

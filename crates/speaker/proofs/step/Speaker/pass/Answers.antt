@@ -1,6 +1,6 @@
 use Rattle.std.proofs.Common.{◌∙◌}
 use Rattle.speaker.proofs.Passing.{QueuesOn-more}
-use Rattle.speaker.proofs.Results.{OnErr-got, OnOk-got}
+use Rattle.routes.proofs.Results.{OnErr-got, OnOk-got}
 use Rattle.speaker.proofs.Serving.{AreServed-more}
 use Rattle.speaker.proofs.step.Speaker.pass.Goals as goal
 

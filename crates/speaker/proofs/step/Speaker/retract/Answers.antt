@@ -2,8 +2,8 @@ use Rattle.std.proofs.Common.{refl}
 use Rattle.decision.specs.BookContents.{offer_at}
 use Rattle.rib_in.specs.LatestRoutes.{is_route}
 use Rattle.speaker.proofs.Commands.{holds_retracted}
-use Rattle.speaker.proofs.Results.{OnOk-sure}
-use Rattle.speaker.proofs.SoundOffers.{sound_conf, sound_gone}
+use Rattle.routes.proofs.Results.{OnOk-sure}
+use Rattle.routes.proofs.SoundOffers.{sound_conf, sound_gone}
 use Rattle.speaker.proofs.step.Speaker.retract.Goals as goal
 
 pub invariant_of-self : goal.invariant_of-self

@@ -1,8 +1,8 @@
 use Rattle.std.proofs.Common.{◌∙◌, ap, refl}
 use Rattle.bgp_conf.proofs.PolicyActions.{is_policy_name-from_accepted}
 use Rattle.bgp_conf.specs.declared.command.Command.TheVariants.{SetPolicy}
-use Rattle.speaker.specs.RoutingState.{RoutingState}
-use Rattle.speaker.proofs.AddedMarks.{marked_set}
+use Rattle.routes.specs.RoutingState.{RoutingState}
+use Rattle.routes.proofs.AddedMarks.{marked_set}
 use Rattle.speaker.proofs.Commands.{holds_resolved, resolved_set}
 use Rattle.speaker.proofs.step.Speaker.set_policy.Goals as goal
 

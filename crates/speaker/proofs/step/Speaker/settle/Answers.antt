@@ -4,7 +4,7 @@ use Rattle.std.specs.Map.{keys_of}
 use Rattle.decision.specs.BookContents.{IsBestOf, best_at, offer_at, rows_of}
 use Rattle.net_prefix.specs.PrefixOrder.{prefix_cmp}
 use Rattle.net_prefix.specs.declared.prefix.Prefix.{Prefix}
-use Rattle.speaker.specs.RoutingState.{RoutingState}
+use Rattle.routes.specs.RoutingState.{RoutingState}
 use Rattle.speaker.specs.declared.step.Speaker.TheInside.{Inside}
 use Rattle.speaker.proofs.Passing.{settled_agrees}
 use Rattle.speaker.proofs.step.Speaker.settle.Goals as goal

@@ -6,7 +6,7 @@ use Rattle.speaker.specs.declared.event.Report.{Report}
 use Rattle.speaker.proofs.CacheSteps.{ready_cached}
 use Rattle.speaker.proofs.Commands.{accepted, accepted_configured, awaits_none, holds_signalled, open_or, open_stands, peer_of}
 use Rattle.speaker.proofs.Events.{IsReady, begun, holds_begun, holds_dropped, holds_nothing, ready_starved, steps}
-use Rattle.speaker.proofs.Results.{OnErr-got, OnOk-got}
+use Rattle.routes.proofs.Results.{OnErr-got, OnOk-got}
 use Rattle.speaker.proofs.step.Speaker.take_event.Goals as goal
 use Rattle.speaker.proofs.step.Speaker.take_event.Goals.{in-Command+in-Ok, in-Up, in-Fail, in-Bytes+then-is_open+then-is_err, in-Bytes+then-is_open+else-is_err, in-Bytes+else-is_open, in-CacheUp, in-CacheFail, in-CacheBytes, in-Tick}
 

@@ -4,13 +4,13 @@ use Rattle.bgp_fsm.specs.SessionTable.{effects_of}
 use Rattle.bgp_fsm.specs.declared.input.Input.TheVariants.{NoMemory}
 use Rattle.bgp_msg.specs.MessageStream.{meaning}
 use Rattle.bgp_msg.specs.UpdateMeaning.{update_fault}
-use Rattle.speaker.specs.AdjRibIn.{sound_update}
-use Rattle.speaker.specs.Chosen.{IsPart}
+use Rattle.routes.specs.Updates.{sound_update}
+use Rattle.routes.specs.Chosen.{IsPart}
 use Rattle.bgp_peer.specs.SessionInputs.{kind_of}
-use Rattle.speaker.specs.Linked.{Linked}
+use Rattle.routes.specs.Linked.{Linked}
 use Rattle.speaker.specs.Moves.{TakesMemoryAt}
 use Rattle.speaker.specs.Runs.{terms_in}
-use Rattle.speaker.specs.Tables.{session_at}
+use Rattle.routes.specs.Tables.{session_at}
 use Rattle.speaker.specs.SpeakerState.{SpeakerState}
 use Rattle.speaker.proofs.Messages.{refused_chosen, rises_once, rises_twice, starves, takes, takes_none, some_same}
 use Rattle.speaker.proofs.step.Speaker.take_message.Goals as goal

@@ -1,9 +1,9 @@
 use Rattle.std.proofs.Common.{refl}
 use Rattle.decision.specs.BookContents.{offer_at}
-use Rattle.speaker.proofs.AddedMarks.{marked_importing}
+use Rattle.routes.proofs.AddedMarks.{marked_importing}
 use Rattle.speaker.proofs.Commands.{holds_used, slot_used}
-use Rattle.speaker.proofs.Results.{OnOk-sure}
-use Rattle.speaker.proofs.SoundOffers.{sound_importing}
+use Rattle.routes.proofs.Results.{OnOk-sure}
+use Rattle.routes.proofs.SoundOffers.{sound_importing}
 use Rattle.speaker.proofs.step.Speaker.use_in.Goals as goal
 
 pub choose_slot-requires-clause-sound : goal.choose_slot-requires-clause-sound

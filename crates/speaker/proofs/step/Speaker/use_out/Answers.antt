@@ -1,12 +1,12 @@
 use Rattle.std.proofs.Common.{◌≡◌, ap, refl, sym, subst, inl}
 use Rattle.decision.specs.BookContents.{offer_at}
-use Rattle.speaker.specs.Offers.{IsSound}
-use Rattle.speaker.specs.RoutingState.{RoutingState}
-use Rattle.speaker.proofs.AddedMarks.{marked_exporting}
+use Rattle.routes.specs.Offers.{IsSound}
+use Rattle.routes.specs.RoutingState.{RoutingState}
+use Rattle.routes.proofs.AddedMarks.{marked_exporting}
 use Rattle.speaker.proofs.Commands.{holds_exporting, slot_used}
-use Rattle.speaker.proofs.Marking.{all_marked, is_other, this_or_other}
-use Rattle.speaker.proofs.Results.{OnOk-sure}
-use Rattle.speaker.proofs.SoundOffers.{sound_exporting}
+use Rattle.routes.proofs.Marking.{all_marked, is_other, this_or_other}
+use Rattle.routes.proofs.Results.{OnOk-sure}
+use Rattle.routes.proofs.SoundOffers.{sound_exporting}
 use Rattle.speaker.proofs.step.Speaker.use_out.Goals as goal
 
 pub mark_slot-requires-clause-slot : goal.mark_slot-requires-clause-slot

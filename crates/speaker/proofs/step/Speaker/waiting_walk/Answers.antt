@@ -3,12 +3,12 @@ use Rattle.decision.specs.BookContents.{rows_of}
 use Rattle.rib_out.specs.Held.{held_at}
 use Rattle.std.specs.Option.{option_map}
 use Rattle.bgp_conf.specs.Configuration.{peer_at}
-use Rattle.speaker.specs.Export.{export_in, export_peer_of}
-use Rattle.speaker.specs.Tables.{best_at, link_at}
-use Rattle.speaker.specs.Waiting.{differing, known_prefixes}
+use Rattle.routes.specs.Export.{export_in, export_peer_of}
+use Rattle.routes.specs.Tables.{best_at, link_at}
+use Rattle.routes.specs.Waiting.{differing, known_prefixes}
 use Rattle.bgp_fsm.specs.declared.state.State.TheVariants.{Established}
 use Rattle.speaker.specs.declared.step.Speaker.TheInside.{Inside}
-use Rattle.speaker.proofs.WaitingLists.{listed_of, none_listed, none_there, nothing_rises}
+use Rattle.routes.proofs.WaitingLists.{listed_of, none_listed, none_there, nothing_rises}
 use Rattle.speaker.proofs.step.Speaker.waiting_walk.Goals as goal
 
 pub returns-in_err-peer-clause-rising : goal.returns-in_err-peer-clause-rising

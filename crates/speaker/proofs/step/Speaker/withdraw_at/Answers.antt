@@ -1,9 +1,9 @@
 use Rattle.std.proofs.Common.{None, rules, refl, sym, ap, subst}
 use Rattle.decision.specs.BookContents.{offer_at, rows_of}
-use Rattle.speaker.specs.Offers.{IsSound}
-use Rattle.speaker.specs.RoutingState.{RoutingState}
+use Rattle.routes.specs.Offers.{IsSound}
+use Rattle.routes.specs.RoutingState.{RoutingState}
 use Rattle.speaker.specs.SpeakerState.{SpeakerState}
-use Rattle.speaker.proofs.Marking.{IsNow, marked_told}
+use Rattle.routes.proofs.Marking.{IsNow, marked_told}
 use Rattle.speaker.proofs.Owing.{exported_to, served_up, withdrawn_known}
 use Rattle.speaker.proofs.step.Speaker.withdraw_at.Goals as goal
 

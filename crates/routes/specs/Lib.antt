@@ -1,0 +1,13 @@
+pub mod Candidates
+pub mod Chosen
+pub mod Export
+pub mod Linked
+pub mod LocRib
+pub mod Marks
+pub mod Offers
+pub mod Places
+pub mod RoutingState
+pub mod Tables
+pub mod Told
+pub mod Updates
+pub mod Waiting

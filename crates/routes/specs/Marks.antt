@@ -1,0 +1,96 @@
+-- What waits of each prefix for each peer: what it is owed, so that it holds its export (our own, for RFC 4271 section 9.2).
+use Rattle.std.specs.Prelude.{◌≡◌, ◌≢◌, ◌<◌, ◌⊎◌, ℕ, Bool, List, [], Option, Some, None, true, false, if◌then◌else◌}
+use Rattle.std.specs.Option.{IsSome}
+use Rattle.std.specs.Str.{bytes_eq}
+use Rattle.bgp_conf.specs.Configuration.{Configuration, peer_at}
+use Rattle.bgp_conf.specs.declared.conf.ConfiguredPeer.{ConfiguredPeer}
+use Rattle.bgp_fsm.specs.StateTests.{is_established}
+use Rattle.bgp_fsm.specs.declared.session.Effects.{Effects}
+use Rattle.decision.specs.BookContents.{BookState, is_prefix, rows_of}
+use Rattle.net_prefix.specs.declared.prefix.Prefix.{Prefix}
+use Rattle.rib_in.specs.LatestRoutes.{RouteTable, route_at}
+use Rattle.rib_out.specs.Held.{held_at}
+use Rattle.rib_out.specs.Waiting.{is_known, owed_at}
+use Rattle.rib_out.specs.declared.marks.Owed.{Owed}
+use Rattle.rib_out.specs.declared.marks.Owed.TheVariants.{Announcement, Withdrawal}
+use Rattle.routes.specs.Export.{export_in, export_peer_of}
+use Rattle.routes.specs.Linked.{Linked}
+use Rattle.routes.specs.RoutingState.{RoutingState}
+use Rattle.routes.specs.Tables.{best_at, link_at}
+
+-- what a peer is owed of a prefix, by what is exported to it and what it holds
+abbrev pub owed_for : Option (List ℕ) → Option (List ℕ) → Option Owed
+owed_for None None = None
+owed_for None (Some held) = Some Withdrawal
+owed_for (Some octets) None = Some Announcement
+owed_for (Some octets) (Some held) = if bytes_eq held octets then None else Some Announcement
+
+-- what is held and isn't exported, and so is withdrawn
+abbrev pub withdrawn_of : Option (List ℕ) → Option (List ℕ) → Option (List ℕ)
+withdrawn_of None held = held
+withdrawn_of (Some octets) held = None
+
+-- what is exported and isn't held just so, and so is announced
+abbrev pub announced_of : Option (List ℕ) → Option (List ℕ) → Option (List ℕ)
+announced_of None held = None
+announced_of (Some octets) None = Some octets
+announced_of (Some octets) (Some held) = if bytes_eq held octets then None else Some octets
+
+-- what the peer of a slot is owed of a prefix; nothing, where its session isn't Established
+abbrev pub mark_of : Configuration → RouteTable → BookState → ℕ → Prefix → Option ConfiguredPeer → Option Linked → Option Owed
+mark_of conf adj_in book slot prefix None linked = None
+mark_of conf adj_in book slot prefix (Some peer) None = None
+mark_of conf adj_in book slot prefix (Some peer) (Some l) =
+    if is_established l.peer.session.state then owed_for (export_in conf (best_at (rows_of book)) adj_in (export_peer_of conf slot peer) prefix) (held_at l.adj_out prefix) else None
+
+-- the same of these tables
+abbrev pub mark_at : Configuration → List (ℕ × Linked) → RoutingState → ℕ → Prefix → Option Owed
+mark_at conf links t slot prefix = mark_of conf t.adj_in t.book slot prefix (peer_at conf slot) (link_at links slot)
+
+-- there are 64 slots at most, and each prefix with a route is known
+pub record AreKnown (links : List (ℕ × Linked)) (t : RoutingState) : Type 0 where
+  pub within : (slot : ℕ) (l : Linked) → link_at links slot ≡ Some l → slot < 64
+  pub known : (slot : ℕ) (prefix : Prefix) → IsSome (route_at t.adj_in slot prefix) → is_known t.waiting prefix ≡ true
+
+-- the prefix isn't known, where it has no route and nothing of it waits for any slot
+pub record IsReleased (t : RoutingState) (prefix : Prefix) : Type 0 where
+  pub unknown : ((slot : ℕ) → route_at t.adj_in slot prefix ≡ None) → ((slot : ℕ) → slot < 64 → owed_at t.waiting slot prefix ≡ None) → is_known t.waiting prefix ≡ false
+
+-- of each prefix there waits for each slot just what its peer is owed, and no prefix is known that needn't be
+pub record AreMarked (conf : Configuration) (links : List (ℕ × Linked)) (t : RoutingState) : Type 0 where
+  pub there : AreKnown links t
+  pub released : (prefix : Prefix) → IsReleased t prefix
+  pub marks : (slot : ℕ) (prefix : Prefix) → slot < 64 → owed_at t.waiting slot prefix ≡ mark_at conf links t slot prefix
+
+-- so it is of all prefixes but this one, of which nothing waits where there is no slot
+pub record AreMarkedBut (prefix : Prefix) (conf : Configuration) (links : List (ℕ × Linked)) (t : RoutingState) : Type 0 where
+  pub there : AreKnown links t
+  pub released : (p : Prefix) → is_prefix prefix p ≡ false → IsReleased t p
+  pub marks : (slot : ℕ) (p : Prefix) → slot < 64 → is_prefix prefix p ≡ false → owed_at t.waiting slot p ≡ mark_at conf links t slot p
+  pub none : (slot : ℕ) → slot < 64 → link_at links slot ≡ None → owed_at t.waiting slot prefix ≡ None
+
+-- so it is of the slots of which this holds, and of the others where a prefix has no best route, so that nothing of it is
+-- exported; nothing waits where there is no slot
+pub record AreMarkedFor (done : ℕ → Bool) (conf : Configuration) (links : List (ℕ × Linked)) (t : RoutingState) : Type 0 where
+  pub there : AreKnown links t
+  pub released : (prefix : Prefix) → IsReleased t prefix
+  pub marks : (slot : ℕ) (prefix : Prefix) → slot < 64 → (done slot ≡ true) ⊎ (best_at (rows_of t.book) prefix ≡ None) → owed_at t.waiting slot prefix ≡ mark_at conf links t slot prefix
+  pub none : (slot : ℕ) (prefix : Prefix) → slot < 64 → link_at links slot ≡ None → owed_at t.waiting slot prefix ≡ None
+
+-- so it is of all slots but this one, for which nothing waits
+pub record IsUnmarked (conf : Configuration) (links : List (ℕ × Linked)) (slot : ℕ) (t : RoutingState) : Type 0 where
+  pub there : AreKnown links t
+  pub released : (prefix : Prefix) → IsReleased t prefix
+  pub others : (s : ℕ) (p : Prefix) → s < 64 → s ≢ slot → owed_at t.waiting s p ≡ mark_at conf links t s p
+  pub none : (p : Prefix) → owed_at t.waiting slot p ≡ None
+
+-- the slot's session has taken an input with these effects: so it is of all other slots, and of this one too, where
+-- it neither left nor entered Established
+pub record IsFollowed (conf : Configuration) (links : List (ℕ × Linked)) (slot : ℕ) (effects : Effects) (t : RoutingState) : Type 0 where
+  pub within : slot < 64
+  pub there : AreKnown links t
+  pub released : (prefix : Prefix) → IsReleased t prefix
+  pub others : (s : ℕ) (p : Prefix) → s < 64 → s ≢ slot → owed_at t.waiting s p ≡ mark_at conf links t s p
+  pub same : effects.left ≡ false → effects.entered ≡ false → (p : Prefix) → owed_at t.waiting slot p ≡ mark_at conf links t slot p
+  pub left : effects.left ≡ true → (l : Linked) → link_at links slot ≡ Some l → is_established l.peer.session.state ≡ false
+  pub entered : effects.entered ≡ true → (l : Linked) → link_at links slot ≡ Some l → l.adj_out ≡ []

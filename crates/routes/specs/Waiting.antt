@@ -1,0 +1,49 @@
+-- The prefixes that wait: a peer doesn't hold of them just what is exported to it (RFC 4271 sections 3.2 and 9.2).
+use Rattle.std.specs.Prelude.{◌≡◌, ◌≢◌, ℕ, Bool, true, false, not, List, [], ◌∷◌, Option, Some, None, filter, if◌then◌else◌}
+use Rattle.std.specs.Map.{keys_of}
+use Rattle.std.specs.Set.{sorted_merge}
+use Rattle.std.specs.Str.{bytes_eq}
+use Rattle.bgp_conf.specs.Configuration.{Configuration}
+use Rattle.bgp_fsm.specs.declared.state.State.{State}
+use Rattle.bgp_fsm.specs.StateTests.{is_established}
+use Rattle.bgp_peer.specs.SessionInputs.{session}
+use Rattle.decision.specs.declared.candidate.Candidate.{Candidate}
+use Rattle.export_rules.specs.declared.export.ExportPeer.{ExportPeer}
+use Rattle.net_prefix.specs.PrefixOrder.{prefix_cmp}
+use Rattle.net_prefix.specs.declared.prefix.Prefix.{Prefix}
+use Rattle.rib_out.specs.Held.{held_at}
+use Rattle.rib_in.specs.LatestRoutes.{RouteTable}
+use Rattle.routes.specs.Export.{export_in}
+use Rattle.routes.specs.Linked.{Linked}
+use Rattle.routes.specs.Tables.{best_at}
+
+-- both are the same octets, or there are none of both
+abbrev pub is_same : Option (List ℕ) → Option (List ℕ) → Bool
+is_same None None = true
+is_same None (Some octets) = false
+is_same (Some octets) None = false
+is_same (Some octets) (Some others) = bytes_eq octets others
+
+-- of these prefixes, those of which other octets are held than are exported
+abbrev pub differing : (Prefix → Option (List ℕ)) → (Prefix → Option (List ℕ)) → List Prefix → List Prefix
+differing held export prefixes = filter (λ prefix. not (is_same (held prefix) (export prefix))) prefixes
+
+-- the prefixes of Loc-RIB and those that a peer holds, each once
+abbrev pub known_prefixes : List (Prefix × Candidate) → List (Prefix × List ℕ) → List Prefix
+known_prefixes loc_rib held = sorted_merge prefix_cmp true (keys_of loc_rib) (keys_of held)
+
+-- a prefix, where there is one, and those behind it
+abbrev pub first_of : Option Prefix → List Prefix → List Prefix
+first_of None prefixes = []
+first_of (Some prefix) prefixes = prefix ∷ prefixes
+
+-- only an Established peer is owed anything
+abbrev pub if_established : State → List Prefix → List Prefix
+if_established state prefixes = if is_established state then prefixes else []
+
+-- the known prefixes that wait of this slot, as the tables stand
+abbrev pub waiting_at : Configuration → List (Prefix × Candidate) → RouteTable → Option ExportPeer → Option Linked → List Prefix
+waiting_at conf loc_rib adj_in None found = []
+waiting_at conf loc_rib adj_in (Some peer) None = []
+waiting_at conf loc_rib adj_in (Some peer) (Some l) =
+    if_established l.peer.session.state (differing (held_at l.adj_out) (export_in conf (best_at loc_rib) adj_in peer) (known_prefixes loc_rib l.adj_out))

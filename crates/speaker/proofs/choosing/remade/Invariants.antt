@@ -1,6 +1,0 @@
-use Rattle.speaker.specs.Tables.{tables}
-use Rattle.speaker.proofs.RemadeOffers.{RemadeBelow}
-use Rattle.speaker.proofs.choosing.remade.Given as goal
-
-abbrev pub invariant-loop-slot : goal.invariant-loop-slot
-invariant-loop-slot g l = RemadeBelow (tables l.fn.conf l.fn.payloads l.fn.links.entries l.fn.adj_in) l.fn.prefix l.slot l.changes.items
