@@ -1,5 +1,6 @@
 //! The prefixes that wait: a peer doesn't hold of them just what is exported to it.
-ghost use Rattle.std.specs.Prelude.{◌≡◌, not, []};
+ghost use Rattle.std.specs.Prelude.{◌≡◌, not, [], unwrap_or};
+ghost use Rattle.std.specs.Option.{option_map};
 ghost use Rattle.std.specs.Iterator.{YieldsFirst, item_count};
 ghost use Rattle.std.specs.List.Sorted.{IsStrictlySortedBy};
 ghost use Rattle.std.specs.Map.{keys_of};
@@ -8,7 +9,7 @@ ghost use Rattle.net_prefix.specs.PrefixOrder.{prefix_cmp};
 ghost use Rattle.rib_out.specs.Held.{held_at};
 ghost use Rattle.routes.specs.Export.{export_in};
 ghost use Rattle.routes.specs.Tables.{best_at};
-ghost use Rattle.routes.specs.Waiting.{differing, first_of, is_same, known_prefixes};
+ghost use Rattle.routes.specs.Waiting.{differing, first_of, is_same, known_prefixes, waiting_at};
 
 use crate::exports::{Octets, export};
 use crate::link::Link;
@@ -39,27 +40,38 @@ impl<'a, A: Allocator + Clone, B: Book<A>> Model for WaitingPrefixes<'a, A, B> {
 }
 
 impl<'a, A: Allocator + Clone, B: Book<A>> WaitingPrefixes<'a, A, B> {
-    /// None waits, as for a peer whose session isn't Established.
-    pub fn none() -> Self
-        ensures { result ≡ [] }
-    {
-        WaitingPrefixes { waiting: None }
-    }
-
-    /// The prefixes that wait for the Established peer of this slot.
+    /// The prefixes that wait for a slot's peer: none where it isn't configured, or its session isn't Established.
     pub fn new(
         conf: &'a Conf<A>,
         routing: &'a Routing<A, B>,
-        link: &'a Link<A>,
-        peer: ExportPeer,
+        peer: Option<ExportPeer>,
+        link: Option<&'a Link<A>>,
     ) -> Self
-        ensures waiting { result ≡ differing (held_at link.now.adj_out) (export_in conf.now (best_at (rows_of routing.now.book)) routing.now.adj_in peer) (known_prefixes (rows_of routing.now.book) link.now.adj_out) }
+        ensures all { result ≡ waiting_at conf.now (rows_of routing.now.book) routing.now.adj_in peer (option_map (λ l. l.now) link.entry) }
         ensures rising { IsStrictlySortedBy prefix_cmp result }
     {
         WaitingPrefixes {
-            waiting: Some(Waiting::new(conf, &routing.ribs, link, peer)),
+            waiting: walk(conf, &routing.ribs, peer, link),
         }
     }
+}
+
+// The walk over the known prefixes, where there is an Established peer.
+fn walk<'a, A: Allocator + Clone, B: Book<A>>(
+    conf: &'a Conf<A>,
+    ribs: &'a Ribs<A, B>,
+    peer: Option<ExportPeer>,
+    link: Option<&'a Link<A>>,
+) -> Option<Waiting<'a, A, B>>
+    ensures all { unwrap_or result [] ≡ waiting_at conf.now (rows_of ribs.now.book) ribs.now.adj_in peer (option_map (λ l. l.now) link.entry) }
+    ensures rising { IsStrictlySortedBy prefix_cmp (unwrap_or result []) }
+{
+    let peer = peer?;
+    let link = link?;
+    if !link.is_established() {
+        return None;
+    }
+    Some(Waiting::new(conf, ribs, link, peer))
 }
 
 impl<A: Allocator + Clone, B: Book<A>> Iterator for WaitingPrefixes<'_, A, B> {

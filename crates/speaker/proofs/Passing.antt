@@ -25,7 +25,7 @@ use Rattle.net_prefix.specs.declared.prefix.Prefix.{Prefix}
 use Rattle.rib_in.specs.LatestRoutes.{route_at}
 use Rattle.rib_out.specs.Held.{held_at}
 use Rattle.speaker.specs.AdjRibIn.{route}
-use Rattle.speaker.specs.Agreement.{SlotAgrees, tables_after, IsFair, IsNews, IsOwedIn, IsShortIn, IsThrifty, Holds, Passes, QueuesAll, QueuesOn, QueuesStarved, Agrees}
+use Rattle.speaker.specs.Agreement.{IsLowest, SlotAgrees, tables_after, IsFair, IsNews, IsOwedIn, IsShortIn, IsThrifty, Holds, Passes, QueuesAll, QueuesOn, QueuesStarved, Agrees}
 use Rattle.speaker.specs.Choices.{choices_in}
 use Rattle.speaker.specs.Chosen.{Chooses}
 use Rattle.routes.specs.Export.{IsAccepted, IsExport, export_peer_of}
@@ -40,7 +40,7 @@ use Rattle.speaker.specs.Queueing.{ComesFirst, Queue, Starves, Tells, IsServed, 
 use Rattle.routes.specs.Told.{update_saying, HasRoom}
 use Rattle.routes.specs.Places.{rank_of}
 use Rattle.speaker.specs.Runs.{payloads_after, Call, Run, turn, configuration_of, history}
-use Rattle.speaker.specs.Serving.{IsServedAt, IsShortAt, IsStill, IsToldAt}
+use Rattle.speaker.specs.Serving.{AreServedBelow, IsServedAt, IsShortAt, IsStill, IsToldAt}
 use Rattle.speaker.specs.SpeakerState.{SpeakerState, tables_of}
 use Rattle.routes.specs.Tables.{Tables, best_at, link_at, network_route, peer_route_at}
 use Rattle.speaker.specs.declared.config.Config.{Config}
@@ -131,12 +131,39 @@ is_good config r s slot p export peer holds chosen configured accepts a some =
     subst (λ asn. AreAccepted (kind_between peer.asn asn) a) own
     (accepts a some peer configured (record { own = rw own holds.peers.0; local = (holds.peers.1 slot peer configured).local }) (best_complete s p holds.networks chosen))
 
+-- a slot that is served holds the run's export
+served_slot : (config : Config) (r : Run) (s : SpeakerState) (slot : ℕ) (peer : ConfiguredPeer) (found : Option Linked) (links : ℕ → Option Linked) → links slot ≡ found
+    → tables_after config r ≡ tables_of s → configuration_of config r ≡ s.conf → IsLocRib (tables_of s) s.loc_rib → peer_at s.conf slot ≡ Some peer
+    → ((l : Linked) → links slot ≡ Some l → IsServed (export_to s slot) l)
+    → SlotAgrees config (Some peer) found (peer_route_at s.adj_in slot) (history config slot r)
+    → (session (history config slot r)).state ≡ Established → length (ring_of (history config slot r)) + 8192 ≤ 65536 → (prefix : Prefix)
+    → IsExport (tables_after config r) (export_peer_of (configuration_of config r) slot peer) prefix (held (history config slot r) prefix)
+served_slot config r s slot peer None links is tables conf chosen configured served a established room prefix =
+    let there = linked_from config (Some peer) peer None (peer_route_at s.adj_in slot) (history config slot r) refl a in
+    let never = there.1 in absurd (cc)
+served_slot config r s slot peer (Some l) links is tables conf chosen configured served a established room prefix =
+    let state : l.peer.session.state ≡ Established = ap (λ (x : Session). x.state) (a.link l refl).peer.session ∙ established in
+    let free : length l.peer.ring + 8192 ≤ 65536 = subst (λ ring. length ring + 8192 ≤ 65536) (ring-is (history config slot r) l.peer (a.link l refl).peer) room in
+    let holds : held (history config slot r) prefix ≡ export_to s slot prefix = sym ((a.link l refl).held prefix) ∙ served l is state free prefix in
+    let E : Option (List ℕ) → Type 0 = λ e. IsExport (tables_after config r) (export_peer_of (configuration_of config r) slot peer) prefix e in
+    subst E (sym holds) (export_of_run config r s slot peer prefix tables conf chosen configured)
+
+-- so do all lower slots that are served
+settled_below : (config : Config) (r : Run) (s : SpeakerState) (slot : ℕ) → Holds config r s → IsLocRib (tables_after config r) s.loc_rib → AreServedBelow s slot → IsLowest config r slot
+settled_below config r s slot holds loc_rib below t low peer configured established room prefix =
+    let conf : configuration_of config r ≡ s.conf = sym holds.conf in
+    let tables : tables_after config r ≡ tables_of s = tables_same config r s.conf s.payloads (link_at s.links) s.adj_in conf holds.payloads holds.slots holds.networks in
+    let chosen : IsLocRib (tables_of s) s.loc_rib = subst (λ t. IsLocRib t s.loc_rib) tables loc_rib in
+    let here : peer_at s.conf t ≡ Some peer = ap (λ c. peer_at c t) (sym conf) ∙ configured in
+    let A : Option ConfiguredPeer → Type 0 = λ x. SlotAgrees config x (link_at s.links t) (peer_route_at s.adj_in t) (history config t r) in
+    served_slot config r s t peer _ (link_at s.links) refl tables conf chosen here (λ l linked. below t low peer l here linked) (subst A here (holds.slots t)) established room prefix
+
 -- an UPDATE that says of a prefix what the export has and the peer doesn't hold is owed
 is_owed : (config : Config) (r : Run) (s : SpeakerState) (slot : ℕ) (p : Prefix) (export : Option (List ℕ)) (peer : ConfiguredPeer) (l : Linked) → Holds config r s
     → IsLocRib (tables_after config r) s.loc_rib → peer_at s.conf slot ≡ Some peer → SlotIs config peer l (route_at s.adj_in slot) (history config slot r) → rank_of p < 2 ^ 38
     → export_to s slot p ≡ export → ((a : List ℕ) → export ≡ Some a → length a ≤ 4068) → Accepts s slot p export → held_at l.adj_out p ≢ export
-    → ((q : Prefix) → held_at l.adj_out q ≢ export_to s slot q → ComesFirst p export q (export_to s slot q)) → IsOwedIn config r slot (update_saying p export)
-is_owed config r s slot p export peer l holds loc_rib configured here place exported short accepts news order =
+    → ((q : Prefix) → held_at l.adj_out q ≢ export_to s slot q → ComesFirst p export q (export_to s slot q)) → AreServedBelow s slot → IsOwedIn config r slot (update_saying p export)
+is_owed config r s slot p export peer l holds loc_rib configured here place exported short accepts news order below =
     let tables : tables_after config r ≡ tables_of s = tables_same config r s.conf s.payloads (link_at s.links) s.adj_in (sym holds.conf) holds.payloads holds.slots holds.networks in
     let chosen : IsLocRib (tables_of s) s.loc_rib = subst (λ t. IsLocRib t s.loc_rib) tables loc_rib in
     let E : Option (List ℕ) → Type 0 = λ e. IsExport (tables_after config r) (export_peer_of (configuration_of config r) slot peer) p e in
@@ -159,6 +186,7 @@ is_owed config r s slot p export peer l holds loc_rib configured here place expo
           let same : e ≡ export_to s slot q = same_export (tables_after config r) (export_peer_of (configuration_of config r) slot peer) q e (export_to s slot q) other.is_export
           (export_of_run config r s slot peer q tables (sym holds.conf) chosen configured) in
           subst (λ x. ComesFirst p export q x) (sym same) (order q (λ held_same. other.news (sym (here.link.held q) ∙ held_same ∙ sym same)));
+      lowest = settled_below config r s slot holds loc_rib below;
     }
 
 -- for an UPDATE that is queued no best route is chosen
@@ -172,8 +200,8 @@ told_few config call r queue slot u now new rest few =
 -- a peer is told what it is owed
 pub queues_told : (slot : ℕ) (p : Prefix) (export : Option (List ℕ)) (now new : SpeakerState) → (told : IsToldAt slot p export now new) → told.before.peer.session.state ≡ Established
     → HasRoom told.before → export_to now slot p ≡ export → Accepts now slot p export → held_at told.before.adj_out p ≢ export
-    → ((q : Prefix) → held_at told.before.adj_out q ≢ export_to now slot q → ComesFirst p export q (export_to now slot q)) → QueuesOn now new
-queues_told slot p export now new told up room exported accepts news order config call r queue passes =
+    → ((q : Prefix) → held_at told.before.adj_out q ≢ export_to now slot q → ComesFirst p export q (export_to now slot q)) → AreServedBelow now slot → QueuesOn now new
+queues_told slot p export now new told up room exported accepts news order below config call r queue passes =
     let was : Run = turn call queue ∷ r in
     let is : Run = turn call ((slot, Tells (update_saying p export)) ∷ queue) ∷ r in
     let peer = peer_of config (turn call queue ∷ r) slot told.before now passes.holds told.was (rw up refl) in
@@ -194,7 +222,7 @@ queues_told slot p export now new told up room exported accepts news order confi
             (told_few config call r queue slot (update_saying p export) now new told.rest passes.holds.chosen)
             peer.0 peer.1 (rw (routes, at_slot config slot call (Tells (update_saying p export)) queue r) after);
         loc_rib = subst T (sym (tables_queued config call r queue slot (update_saying p export))) (rw loc_rib passes.loc_rib);
-        owed = (is_owed config (turn call queue ∷ r) now slot p export peer.0 told.before passes.holds passes.loc_rib peer.1 before told.told.place exported short accepts news order, passes.owed);
+        owed = (is_owed config (turn call queue ∷ r) now slot p export peer.0 told.before passes.holds passes.loc_rib peer.1 before told.told.place exported short accepts news order below, passes.owed);
       },
       refl,
     )
@@ -238,23 +266,6 @@ passes_first config call r s holds chosen =
     let tables = tables_same config (turn call [] ∷ r) s.conf s.payloads (link_at s.links) s.adj_in (sym holds.conf) holds.payloads holds.slots holds.networks in
     record { holds = holds; loc_rib = subst (λ t. IsLocRib t s.loc_rib) (sym tables) chosen; owed = tt }
 
--- a slot that is served holds the run's export
-served_slot : (config : Config) (r : Run) (s : SpeakerState) (slot : ℕ) (peer : ConfiguredPeer) (found : Option Linked) (links : ℕ → Option Linked) → links slot ≡ found
-    → tables_after config r ≡ tables_of s → configuration_of config r ≡ s.conf → IsLocRib (tables_of s) s.loc_rib → peer_at s.conf slot ≡ Some peer
-    → ((l : Linked) → links slot ≡ Some l → IsServed (export_to s slot) l)
-    → SlotAgrees config (Some peer) found (peer_route_at s.adj_in slot) (history config slot r)
-    → (session (history config slot r)).state ≡ Established → length (ring_of (history config slot r)) + 8192 ≤ 65536 → (prefix : Prefix)
-    → IsExport (tables_after config r) (export_peer_of (configuration_of config r) slot peer) prefix (held (history config slot r) prefix)
-served_slot config r s slot peer None links is tables conf chosen configured served a established room prefix =
-    let there = linked_from config (Some peer) peer None (peer_route_at s.adj_in slot) (history config slot r) refl a in
-    let never = there.1 in absurd (cc)
-served_slot config r s slot peer (Some l) links is tables conf chosen configured served a established room prefix =
-    let state : l.peer.session.state ≡ Established = ap (λ (x : Session). x.state) (a.link l refl).peer.session ∙ established in
-    let free : length l.peer.ring + 8192 ≤ 65536 = subst (λ ring. length ring + 8192 ≤ 65536) (ring-is (history config slot r) l.peer (a.link l refl).peer) room in
-    let holds : held (history config slot r) prefix ≡ export_to s slot prefix = sym ((a.link l refl).held prefix) ∙ served l is state free prefix in
-    let E : Option (List ℕ) → Type 0 = λ e. IsExport (tables_after config r) (export_peer_of (configuration_of config r) slot peer) prefix e in
-    subst E (sym holds) (export_of_run config r s slot peer prefix tables conf chosen configured)
-
 -- the end of a call: with room each peer has been served
 pub agrees_served : (config : Config) (call : Call) (r : Run) (queue : Queue) (s : SpeakerState) → Passes config call r queue s → IsFair config r call → IsThrifty config r
     → ((slot : ℕ) → slot < 64 → IsServedAt s slot) → Agrees config (turn call queue ∷ r) s
@@ -291,6 +302,7 @@ is_short config r s slot holds loc_rib short =
         is_export = subst E short.exported (export_of_run config r s slot short.peer short.prefix tables (sym holds.conf) chosen short.configured);
         news = λ same. short.lacks (here.link.held short.prefix ∙ same);
       };
+      lowest = settled_below config r s slot holds loc_rib short.below;
     }
 
 -- memory is refused to it: its session is closed, and Loc-RIB has the best of the candidates that are kept then

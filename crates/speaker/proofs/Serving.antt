@@ -12,7 +12,7 @@ use Rattle.speaker.specs.Agreement.{QueuesOn}
 use Rattle.routes.specs.Export.{IsAccepted, export_in, export_peer_of}
 use Rattle.speaker.specs.Export.{export_to}
 use Rattle.routes.specs.Linked.{Linked}
-use Rattle.speaker.specs.Serving.{IsServedBy, IsServedAt, IsShortAt, IsUpAt, HasRoomAt, IsOfSlot, IsStill, IsToldAt, Serves, Stand, IsDoneAt, IsGone, IsHad, IsNext, is_standing}
+use Rattle.speaker.specs.Serving.{AreServedBelow, IsServedBy, IsServedAt, IsShortAt, IsUpAt, HasRoomAt, IsOfSlot, IsStill, IsToldAt, Serves, Stand, IsDoneAt, IsGone, IsHad, IsNext, is_standing}
 use Rattle.routes.specs.Marks.{announced_of, withdrawn_of}
 use Rattle.speaker.specs.Queueing.{ComesFirst}
 use Rattle.routes.specs.Places.{rank_of}
@@ -58,6 +58,16 @@ IsOfSlot-more slot a b c h k = record {
 -- the exports stay while only slots differ
 pub export_kept : (old new : SpeakerState) → new ≡ record old { links = new.links } → export_to new ≡ export_to old
 export_kept old new rest = ap (λ s. export_to s) rest
+
+-- what was served is, while only another slot differs
+served_still : (slot n : ℕ) (now new : SpeakerState) → IsOfSlot n now new → slot ≢ n → IsServedAt now slot → IsServedAt new slot
+served_still slot n now new only other served peer l configured is =
+    let exports : export_to new slot ≡ export_to now slot = ap (λ e. e slot) (export_kept now new only.rest) in
+    let conf : peer_at new.conf slot ≡ peer_at now.conf slot = ap (λ (s : SpeakerState). peer_at s.conf slot) only.rest in
+    λ established room q. served peer l (sym conf ∙ configured) (sym (only.others slot other) ∙ is) established room q ∙ sym (ap (λ e. e q) exports)
+
+pub below_still : (slot : ℕ) (now new : SpeakerState) → IsOfSlot slot now new → AreServedBelow now slot → AreServedBelow new slot
+below_still slot now new only below t low = served_still t slot now new only (λ is. absurd (omega (arith, is, low))) (below t low)
 
 pub Serves-more : (slot : ℕ) (a b c : SpeakerState) → Serves slot a b → Serves slot b c → Serves slot a c
 Serves-more slot a b c h k =
@@ -147,10 +157,10 @@ first_had (Some others) octets p q held news gone below =
 pub Walks-told : {X : Type 0} (done : Prefix → Option (List ℕ) → Type 0) (there : Prefix → Option X) (slot : ℕ) (first now new : SpeakerState) (after : Option Prefix) (p : Prefix) (export : Option (List ℕ))
     → (h : Walks done slot first after now) → ((q : Prefix) → there q ≡ None → done q (held_at h.serves.after.adj_out q)) → IsNext there after (Some p)
     → rank_of p < 2 ^ 38 → HasRoomAt now slot → export_to first slot p ≡ export → held_at h.serves.after.adj_out p ≢ export → done p export → Accepts now slot p export → IsToldAt slot p export now new
-    → ((q : Prefix) → held_at h.serves.after.adj_out q ≢ export_to now slot q → ComesFirst p export q (export_to now slot q))
+    → ((q : Prefix) → held_at h.serves.after.adj_out q ≢ export_to now slot q → ComesFirst p export q (export_to now slot q)) → AreServedBelow first slot
     → Walks done slot first (Some p) new
 unfolding Serves-more
-Walks-told done there slot first now new after p export h idle next place room exported news here accepts told order =
+Walks-told done there slot first now new after p export h idle next place room exported news here accepts told order below =
     let same : told.before ≡ h.serves.after = the_slot slot now told.before h.serves.after told.was h.serves.is in
     let is : link_at new.links slot ≡ Some told.after = told.puts slot ∙ rw (eq-eqb slot slot refl) refl in
     let exports : export_to now slot p ≡ export = ap (λ e. e slot p) (export_kept first now h.serves.only.rest) ∙ exported in
@@ -164,7 +174,7 @@ Walks-told done there slot first now new after p export h idle next place room e
       grows = rw told.told.peer (omega (arith, length-append told.before.peer.ring (update_saying p export)));
       gone = λ q none held. told.told.held q ∙ gone_told p q _ export (export_to now slot) (held_at told.before.adj_out q) refl exports none held;
       only = record { rest = told.rest; others = slot_only slot now new told.after told.puts };
-      queues = queues_told slot p export now new told (rw same h.serves.up) (room told.before told.was) exports accepts (rw same news) (λ q. rw same (order q));
+      queues = queues_told slot p export now new told (rw same h.serves.up) (room told.before told.was) exports accepts (rw same news) (λ q. rw same (order q)) (below_still slot first now h.serves.only below);
     } in
     record {
       serves = Serves-more slot first now new h.serves step;
@@ -223,9 +233,9 @@ gone_by slot first now held exports q idle = subst (λ e. IsGone e q (held q)) e
 
 -- what is held and isn't exported is withdrawn
 pub Walks-withdrawn : (slot : ℕ) (first now new : SpeakerState) (after : Option Prefix) (p : Prefix) → (h : Walks (IsGone (export_to first slot)) slot first after now)
-    → IsNext (λ q. withdrawn_of (export_to now slot q) (held_at h.serves.after.adj_out q)) after (Some p) → rank_of p < 2 ^ 38 → HasRoomAt now slot → IsToldAt slot p None now new
+    → IsNext (λ q. withdrawn_of (export_to now slot q) (held_at h.serves.after.adj_out q)) after (Some p) → rank_of p < 2 ^ 38 → HasRoomAt now slot → IsToldAt slot p None now new → AreServedBelow first slot
     → Walks (IsGone (export_to first slot)) slot first (Some p) new
-Walks-withdrawn slot first now new after p h next place room told =
+Walks-withdrawn slot first now new after p h next place room told below =
     let exports : export_to now slot ≡ export_to first slot = ap (λ e. e slot) (export_kept first now h.serves.only.rest) in
     let parts = withdrawn_parts (export_to now slot p) (held_at h.serves.after.adj_out p) next.0 in
     Walks-told (IsGone (export_to first slot)) (λ q. withdrawn_of (export_to now slot q) (held_at h.serves.after.adj_out q)) slot first now new after p None h
@@ -233,7 +243,7 @@ Walks-withdrawn slot first now new after p h next place room told =
     (sym (ap (λ e. e p) exports) ∙ parts.0) (λ gone. let some = subst (λ o. IsSome o) gone parts.1 in (cc)) (λ missing. refl) (λ a some. absurd (cc)) told
     (λ q other. first_gone (export_to now slot q) p q (held_at h.serves.after.adj_out q) other (λ low none.
     done_before (IsGone (export_to first slot)) (λ x. withdrawn_of (export_to now slot x) (held_at h.serves.after.adj_out x)) (held_at h.serves.after.adj_out) after p
-    (gone_by slot first now (held_at h.serves.after.adj_out) exports) h.below next q low (sym (ap (λ e. e q) exports) ∙ none)))
+    (gone_by slot first now (held_at h.serves.after.adj_out) exports) h.below next q low (sym (ap (λ e. e q) exports) ∙ none))) below
 
 -- what is exported is good to the slot's peer
 accepts_given : (slot : ℕ) (first now : SpeakerState) (p : Prefix) (peer : ExportPeer) (octets : List ℕ) → now ≡ record first { links = now.links }
@@ -254,8 +264,8 @@ had_by slot first now held exports q idle = subst (λ e. IsHad e q (held q)) exp
 pub Walks-announced : (slot : ℕ) (first now new : SpeakerState) (after : Option Prefix) (p : Prefix) (peer : ExportPeer) (octets : List ℕ) → (h : Walks (IsHad (export_to first slot)) slot first after now)
     → Some peer ≡ option_map (export_peer_of first.conf slot) (peer_at first.conf slot) → IsNext (λ q. announced_of (export_to now slot q) (held_at h.serves.after.adj_out q)) after (Some p) → rank_of p < 2 ^ 38 → HasRoomAt now slot
     → export_in now.conf (best_at now.loc_rib) now.adj_in peer p ≡ Some octets → IsAccepted now.loc_rib now.adj_in peer p octets → IsToldAt slot p (Some octets) now new
-    → IsDoneAt (IsGone (export_to first slot)) first slot → Walks (IsHad (export_to first slot)) slot first (Some p) new
-Walks-announced slot first now new after p peer octets h is next place room some accepted told gone =
+    → IsDoneAt (IsGone (export_to first slot)) first slot → AreServedBelow first slot → Walks (IsHad (export_to first slot)) slot first (Some p) new
+Walks-announced slot first now new after p peer octets h is next place room some accepted told gone below =
     let later = room h.serves.after h.serves.is in
     let earlier : HasRoom h.serves.before = omega (arith, h.serves.grows, later) in
     let exported = export_now first now slot peer h.serves.only.rest is p ∙ some in
@@ -266,7 +276,7 @@ Walks-announced slot first now new after p peer octets h is next place room some
     (λ q other. first_had (export_to now slot q) octets p q (held_at h.serves.after.adj_out q) other
     (λ none. let never = sym (ap (λ e. e q) exports) ∙ none in h.serves.gone q never (gone h.serves.before h.serves.was earlier q never))
     (λ low o have. done_before (IsHad (export_to first slot)) (λ x. announced_of (export_to now slot x) (held_at h.serves.after.adj_out x)) (held_at h.serves.after.adj_out) after p
-    (had_by slot first now (held_at h.serves.after.adj_out) exports) h.below next q low o (sym (ap (λ e. e q) exports) ∙ have)))
+    (had_by slot first now (held_at h.serves.after.adj_out) exports) h.below next q low o (sym (ap (λ e. e q) exports) ∙ have))) below
 
 -- where nothing is exported there is nothing to be had
 pub Walks-had : (slot : ℕ) (first now : SpeakerState) (after : Option Prefix) (p : Prefix) (peer : ExportPeer) → (h : Walks (IsHad (export_to first slot)) slot first after now)
@@ -296,8 +306,8 @@ Serves-still slot first now new h still =
 -- what memory is refused to is exported, and not held just so
 pub short_still : (slot : ℕ) (first now new : SpeakerState) (p : Prefix) (peer : ExportPeer) (octets : List ℕ) → (h : Serves slot first now) → slot < 64 → HasRoomAt now slot
     → Some peer ≡ option_map (export_peer_of first.conf slot) (peer_at first.conf slot) → IsSome (announced_of (export_to now slot p) (held_at h.after.adj_out p))
-    → export_in now.conf (best_at now.loc_rib) now.adj_in peer p ≡ Some octets → IsStill now new → IsShortAt new slot
-short_still slot first now new p peer octets h within room is next some still =
+    → export_in now.conf (best_at now.loc_rib) now.adj_in peer p ≡ Some octets → IsStill now new → AreServedBelow first slot → IsShortAt new slot
+short_still slot first now new p peer octets h within room is next some still below =
     let by = served_by slot first now peer h is in
     let exports : export_to now slot p ≡ Some octets = ap (λ e. e slot p) (export_kept first now h.only.rest) ∙ export_now first now slot peer h.only.rest is p ∙ some in
     record {
@@ -312,6 +322,7 @@ short_still slot first now new p peer octets h within room is next some still =
       room = room h.after h.is;
       exported = ap (λ e. e slot p) (export_kept now new still.rest) ∙ exports;
       lacks = announced_news (export_to now slot p) (held_at h.after.adj_out p) octets exports next;
+      below = below_still slot now new (record { rest = still.rest; others = λ s other. still.links s }) (below_still slot first now h.only below);
     }
 
 -- the slot's session stood, and it stands
@@ -362,12 +373,6 @@ AreServed-start s = record {
   queues = QueuesOn-none s;
   served = λ slot below. absurd (omega (arith, below));
 }
-
-served_still : (slot n : ℕ) (now new : SpeakerState) → IsOfSlot n now new → slot ≢ n → IsServedAt now slot → IsServedAt new slot
-served_still slot n now new only other served peer l configured is =
-    let exports : export_to new slot ≡ export_to now slot = ap (λ e. e slot) (export_kept now new only.rest) in
-    let conf : peer_at new.conf slot ≡ peer_at now.conf slot = ap (λ (s : SpeakerState). peer_at s.conf slot) only.rest in
-    λ established room q. served peer l (sym conf ∙ configured) (sym (only.others slot other) ∙ is) established room q ∙ sym (ap (λ e. e q) exports)
 
 pub AreServed-rest : (first now new : SpeakerState) (n : ℕ) → AreServed first now n → IsOfSlot n now new → new ≡ record first { links = new.links }
 AreServed-rest first now new n h only = only.rest ∙ ap (λ (s : SpeakerState). record s { links = new.links }) h.rest

@@ -81,12 +81,20 @@ pub record SlotAgrees (config : Config) (found : Option ConfiguredPeer) (linked 
   pub vacant : occupant h ≡ None → ((session h).state ≡ Idle) × ((session h).timers ≡ stopped)
   pub routes_are : (prefix : Prefix) → routes prefix ≡ route h prefix
 
--- where 8,192 octets are free, the peer of each Established slot holds its export
-abbrev pub IsSettled : Config → Run → Type 0
-IsSettled config r =
-    (s : ℕ) (peer : ConfiguredPeer) → peer_at (configuration_of config r) s ≡ Some peer
+-- where 8,192 octets are free, the peer of this slot holds its export, if its session is Established
+abbrev pub IsSettledAt : Config → Run → ℕ → Type 0
+IsSettledAt config r s =
+    (peer : ConfiguredPeer) → peer_at (configuration_of config r) s ≡ Some peer
     → (session (history config s r)).state ≡ Established → length (ring_of (history config s r)) + room_for_update ≤ ring_octets
     → (prefix : Prefix) → IsExport (tables_after config r) (export_peer_of (configuration_of config r) s peer) prefix (held (history config s r) prefix)
+
+-- so it is of each slot
+abbrev pub IsSettled : Config → Run → Type 0
+IsSettled config r = (s : ℕ) → IsSettledAt config r s
+
+-- as the run stands, nothing is owed to a lower slot whose ring has room
+abbrev pub IsLowest : Config → Run → ℕ → Type 0
+IsLowest config r s = (t : ℕ) → t < s → IsSettledAt config r t
 
 -- the UPDATE names the prefix: what it tells of it doesn't depend on what was told before
 abbrev pub Names : List ℕ → Prefix → Type 0
@@ -98,7 +106,8 @@ pub record IsNews (config : Config) (r : Run) (s : ℕ) (peer : ConfiguredPeer) 
   pub news : held (history config s r) prefix ≢ export
 
 -- as the run stands, the octets are an UPDATE that says of each prefix which it names what the export to the slot has
--- and its peer doesn't hold; it names one at least, and as yet no other. Of all that the peer is owed it comes first
+-- and its peer doesn't hold; it names one at least, and as yet no other. Of all that the peer is owed it comes first, and of all
+-- slots that are owed something and have room for it this is the lowest
 pub record IsOwedIn (config : Config) (r : Run) (s : ℕ) (update : List ℕ) : Type 0 where
   pub peer : ConfiguredPeer
   pub configured : peer_at (configuration_of config r) s ≡ Some peer
@@ -109,9 +118,10 @@ pub record IsOwedIn (config : Config) (r : Run) (s : ℕ) (update : List ℕ) : 
   pub some : (prefix : Prefix) × Names update prefix
   pub each : (prefix : Prefix) → Names update prefix → IsNews config r s peer prefix (told_in update prefix)
   pub first : (prefix : Prefix) (export : Option (List ℕ)) → IsNews config r s peer prefix export → ComesFirst alone.0 alone.1.0 prefix export
+  pub lowest : IsLowest config r s
 
 -- as the run stands, the slot's session is Established, 8,192 octets of its ring are free, and the export to it has of some
--- prefix what its peer doesn't hold
+-- prefix what its peer doesn't hold; of all slots that are owed something and have room for it this is the lowest
 pub record IsShortIn (config : Config) (r : Run) (s : ℕ) : Type 0 where
   pub peer : ConfiguredPeer
   pub prefix : Prefix
@@ -120,6 +130,7 @@ pub record IsShortIn (config : Config) (r : Run) (s : ℕ) : Type 0 where
   pub established : (session (history config s r)).state ≡ Established
   pub room : length (ring_of (history config s r)) + room_for_update ≤ ring_octets
   pub news : IsNews config r s peer prefix (Some octets)
+  pub lowest : IsLowest config r s
 
 -- what is done for a slot was owed to it: an UPDATE that is queued, and what memory is refused to
 abbrev pub IsOwed : Config → Run → ℕ → Service → Type 0

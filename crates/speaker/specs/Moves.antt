@@ -29,7 +29,7 @@ use Rattle.routes.specs.Linked.{Linked, moved}
 use Rattle.routes.specs.Offers.{AreKept}
 use Rattle.speaker.specs.SpeakerState.{SpeakerState, tables_of}
 use Rattle.routes.specs.Tables.{link_at}
-use Rattle.routes.specs.declared.updates.Sender.{Sender}
+use Rattle.speaker.specs.declared.message.Standard.{Standard}
 
 -- whether the command changes how next hops resolve
 abbrev pub resolves : Command → Bool
@@ -131,10 +131,10 @@ pub record Moves (slot : ℕ) (l : Linked) (input : Input) (old new : SpeakerSta
   pub offers : AreDropped (effects_of input l.peer.session).left slot old new
   pub rest : KeepsRest old new
 
--- the sender is judged by these terms
-pub record AreOf (terms : Terms) (sender : Sender) : Type 0 where
-  pub expected_is : sender.expected ≡ expected_of terms
-  pub kind_is : sender.kind ≡ kind_of terms
+-- these terms are what the messages are judged by
+pub record AreOf (terms : Terms) (standard : Standard) : Type 0 where
+  pub expected_is : standard.expected ≡ expected_of terms
+  pub kind_is : standard.kind ≡ kind_of terms
 
 -- the UPDATE, where there is one, makes this of the slot's routes, and of no other ones
 abbrev pub IsHeard : ℕ → Option UpdateBody → RouteTable → RouteTable → Type 0

@@ -29,6 +29,10 @@ pub record IsServedBy (s : SpeakerState) (slot : ℕ) (l : Linked) : Type 0 wher
 abbrev pub IsServedAt : SpeakerState → ℕ → Type 0
 IsServedAt s slot = (peer : ConfiguredPeer) (l : Linked) → peer_at s.conf slot ≡ Some peer → link_at s.links slot ≡ Some l → IsServed (export_to s slot) l
 
+-- so it is of all lower slots
+abbrev pub AreServedBelow : SpeakerState → ℕ → Type 0
+AreServedBelow s slot = (t : ℕ) → t < slot → IsServedAt s t
+
 -- a slot with an Established session
 abbrev pub IsUpAt : SpeakerState → ℕ → Type 0
 IsUpAt s slot = (l : Linked) × (link_at s.links slot ≡ Some l) × (l.peer.session.state ≡ Established)
@@ -37,7 +41,8 @@ IsUpAt s slot = (l : Linked) × (link_at s.links slot ≡ Some l) × (l.peer.ses
 abbrev pub HasRoomAt : SpeakerState → ℕ → Type 0
 HasRoomAt s slot = (l : Linked) → link_at s.links slot ≡ Some l → HasRoom l
 
--- the slot's session is Established, its ring has room, and of some prefix its peer doesn't hold what is exported to it
+-- the slot's session is Established, its ring has room, and of some prefix its peer doesn't hold what is exported to it; all
+-- lower slots are served
 pub record IsShortAt (s : SpeakerState) (slot : ℕ) : Type 0 where
   pub peer : ConfiguredPeer
   pub linked : Linked
@@ -50,6 +55,7 @@ pub record IsShortAt (s : SpeakerState) (slot : ℕ) : Type 0 where
   pub room : HasRoom linked
   pub exported : export_to s slot prefix ≡ Some octets
   pub lacks : held_at linked.adj_out prefix ≢ Some octets
+  pub below : AreServedBelow s slot
 
 -- whether a slot is there with an Established session
 abbrev pub is_standing : Option Linked → Bool

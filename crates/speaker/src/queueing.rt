@@ -10,7 +10,7 @@ ghost use Rattle.speaker.specs.Agreement.{QueuesAll, QueuesOn, QueuesStarved};
 ghost use Rattle.routes.specs.Export.{export_peer_of};
 ghost use Rattle.speaker.specs.Export.{export_to};
 ghost use Rattle.routes.specs.Linked.{Linked};
-ghost use Rattle.speaker.specs.Serving.{IsServedBy, IsServedAt, IsShortAt, IsUpAt, HasRoomAt, IsOfSlot, IsStill, IsToldAt, Serves, Stand, IsDoneAt, IsGone, IsHad, IsNext, is_standing};
+ghost use Rattle.speaker.specs.Serving.{AreServedBelow, IsServedBy, IsServedAt, IsShortAt, IsUpAt, HasRoomAt, IsOfSlot, IsStill, IsToldAt, Serves, Stand, IsDoneAt, IsGone, IsHad, IsNext, is_standing};
 ghost use Rattle.routes.specs.Marks.{announced_of, withdrawn_of};
 ghost use Rattle.routes.specs.Told.{HasRoom};
 ghost use Rattle.routes.specs.Tables.{link_at};
@@ -84,7 +84,8 @@ impl<A: Allocator + Clone, B: Book<A>> Speaker<A, B> {
         octets: &mut Octets,
         message: &mut Octets,
     ) -> Result<(), AllocError>
-        requires { slot < 64 }
+        requires slot { slot < 64 }
+        requires below { AreServedBelow self.old slot }
         ensures only { IsOfSlot slot self.old self.new }
         ensures stand { Stand self.old self.new }
         ensures queues { QueuesOn self.old self.new }
@@ -106,6 +107,7 @@ impl<A: Allocator + Clone, B: Book<A>> Speaker<A, B> {
         requires slot { slot < 64 }
         requires peer { Some peer.now ≡ option_map (export_peer_of self.old.conf slot) (peer_at self.old.conf slot) }
         requires up { IsUpAt self.old slot }
+        requires below { AreServedBelow self.old slot }
         ensures serves { Serves slot self.old self.new }
         ensures done { IsDoneAt (IsGone (export_to self.old slot)) self.new slot }
     {
@@ -133,6 +135,7 @@ impl<A: Allocator + Clone, B: Book<A>> Speaker<A, B> {
         requires peer { Some peer.now ≡ option_map (export_peer_of self.old.conf slot) (peer_at self.old.conf slot) }
         requires up { IsUpAt self.old slot }
         requires gone { IsDoneAt (IsGone (export_to self.old slot)) self.old slot }
+        requires below { AreServedBelow self.old slot }
         ensures serves { Serves slot self.old self.new }
         ensures done { OnOk result (IsDoneAt (IsHad (export_to self.old slot)) self.new slot) }
         ensures short { OnErr result (IsShortAt self.new slot) }

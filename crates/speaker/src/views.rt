@@ -360,21 +360,11 @@ impl<A: Allocator + Clone, B: Book<A>> Speaker<A, B> {
         ensures all { result ≡ waiting_of self.now slot }
         ensures rising { IsStrictlySortedBy prefix_cmp result }
     {
-        match self.waiting_walk(slot) {
-            Some(waiting) => waiting,
-            None => WaitingPrefixes::none(),
-        }
-    }
-
-    fn waiting_walk(&self, slot: u8) -> Option<WaitingPrefixes<'_, A, B>>
-        ensures all { unwrap_or result [] ≡ waiting_of self.now slot }
-        ensures rising { IsStrictlySortedBy prefix_cmp (unwrap_or result []) }
-    {
-        let peer = export_peer(&self.conf, slot)?;
-        let link = self.links.get(&slot)?;
-        if !link.is_established() {
-            return None;
-        }
-        Some(WaitingPrefixes::new(&self.conf, &self.routing, link, peer))
+        WaitingPrefixes::new(
+            &self.conf,
+            &self.routing,
+            export_peer(&self.conf, slot),
+            self.links.get(&slot),
+        )
     }
 }

@@ -86,3 +86,6 @@ returns-in-Some-heard-clause-rises g c = rises_twice _ _ _ _ (ap (λ (s : Speake
 
 pub returns-in_default-heard-clause-rises : goal.returns-in_default-heard-clause-rises
 returns-in_default-heard-clause-rises g c = rises_once _ _ _ (ap (λ (s : SpeakerState). s.chosen) c.self.view_is) c.take_front.ensures.rises
+
+pub returns-in_default-heard-clause-counted : goal.returns-in_default-heard-clause-counted
+returns-in_default-heard-clause-counted g c = ap (λ (s : SpeakerState). s.chosen_before) c.self.view_is

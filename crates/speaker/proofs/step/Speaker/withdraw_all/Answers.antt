@@ -24,4 +24,4 @@ loop-prefix-preserved g c =
     let next = c.in-Some.ensures h.serves.after (served_by _ _ _ _ h.serves c.requires.peer) in
     let below = rw c.place-place.ensures.place at c.place-place.ensures.below in
     let room : HasRoomAt c.loop-prefix.self c.args.slot = λ l is. (c.has_room.ensures l is).0 (let has = c.if-not-has_room.false in (cc)) in
-    Walks-withdrawn _ _ _ _ _ _ h next below room c.withdraw_at.ensures
+    Walks-withdrawn _ _ _ _ _ _ h next below room c.withdraw_at.ensures c.requires.below
