@@ -316,7 +316,7 @@ cache_starves config r done octets count s t old new h was is within starves pay
 
 -- all else stays
 agrees_handed : (config : Config) (r : Run) (octets : List ℕ) (cache : Option CacheSession) (old new : SpeakerState) → Agrees config r old → CacheAgrees config (cached.Handed octets ∷ cache_history r) cache
-    → new ≡ record old { cache = cache; chosen_before = old.chosen } → Agrees config (turn (Cache_take_call octets) [] ∷ r) new
+    → new ≡ record old { cache = cache } → Agrees config (turn (Cache_take_call octets) [] ∷ r) new
 agrees_handed config r octets cache old new a agrees is = subst (λ x. Agrees config (turn (Cache_take_call octets) [] ∷ r) x) (sym is) (record {
   holds = record {
     config_is = a.holds.config_is;
@@ -328,7 +328,7 @@ agrees_handed config r octets cache old new a agrees is = subst (λ x. Agrees co
     slots = a.holds.slots;
     networks = a.holds.networks;
     kept = a.holds.kept;
-    chosen = omega arith;
+    chosen = let few = a.holds.chosen in omega (arith, few);
   };
   loc_rib = a.loc_rib;
   settled = a.settled;
@@ -336,14 +336,14 @@ agrees_handed config r octets cache old new a agrees is = subst (λ x. Agrees co
 })
 
 pub agrees_taken : (config : Config) (r : Run) (octets : List ℕ) (s t : CacheSession) (old new : SpeakerState) → Agrees config r old → old.cache ≡ Some s → (SessionAgrees (cache_history r) s → SessionAgrees (cached.Handed octets ∷ cache_history r) t)
-    → new ≡ record old { cache = Some t; chosen_before = old.chosen } → Agrees config (turn (Cache_take_call octets) [] ∷ r) new
+    → new ≡ record old { cache = Some t } → Agrees config (turn (Cache_take_call octets) [] ∷ r) new
 agrees_taken config r octets s t old new a was step is =
     let had = agreed_payloads config (cache_history r) old.cache s was a.holds.cache in
     agrees_handed config r octets (Some t) old new a (had.0, step had.1) is
 
 -- where there is no session there is nothing to hand out
-pub agrees_none : (config : Config) (r : Run) (octets : List ℕ) (old new : SpeakerState) → Agrees config r old → old.cache ≡ None → new ≡ record old { chosen_before = old.chosen } → Agrees config (turn (Cache_take_call octets) [] ∷ r) new
-agrees_none config r octets old new a was is = agrees_handed config r octets None old new a (subst (λ x. CacheAgrees config (cache_history r) x) was a.holds.cache) (is ∙ ap (λ x. record old { cache = x; chosen_before = old.chosen }) was)
+pub agrees_none : (config : Config) (r : Run) (octets : List ℕ) (old new : SpeakerState) → Agrees config r old → old.cache ≡ None → new ≡ old → Agrees config (turn (Cache_take_call octets) [] ∷ r) new
+agrees_none config r octets old new a was is = agrees_handed config r octets None old new a (subst (λ x. CacheAgrees config (cache_history r) x) was a.holds.cache) (is ∙ ap (λ x. record old { cache = x }) was)
 
 -- ---- where there is no cache session
 

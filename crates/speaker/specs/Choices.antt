@@ -111,23 +111,24 @@ choices_commanded config r (NoNetwork prefix) = 1
 choices_commanded config r (Reach prefix cost) = how_many (is_known config r) (named_to config r)
 choices_commanded config r (NoReach prefix) = how_many (is_known config r) (named_to config r)
 
--- for a call, up to its end; none for octets that are handed out
-abbrev pub choices_called : Config → Run → Call → ℕ
-choices_called config r (Up_call s) = choices_by (history config s r) (Signalled Up)
-choices_called config r (Fail_call s) = choices_by (history config s r) (Signalled Fail)
-choices_called config r (Bytes_call s octets) = choices_on octets (history config s r)
-choices_called config r (Starved_call s before octet behind) =
+-- for a call, up to its end: none for octets of a slot that are handed out. Those of the cache session leave the choices of the
+-- call before, so many, as they are
+abbrev pub choices_called : Config → Run → ℕ → Call → ℕ
+choices_called config r last (Up_call s) = choices_by (history config s r) (Signalled Up)
+choices_called config r last (Fail_call s) = choices_by (history config s r) (Signalled Fail)
+choices_called config r last (Bytes_call s octets) = choices_on octets (history config s r)
+choices_called config r last (Starved_call s before octet behind) =
     choices_on before (history config s r)
     + choices_refused (brought (onto before (history config s r)) (Octet octet)) (onto before (history config s r))
-choices_called config r (Tick_call now) = choices_cached config r (cache_history r) (cache.Ticked now) + choices_to (λ s. history config s r) now 64
-choices_called config r (Command_call command) = choices_commanded config r command
-choices_called config r (Take_call s octets) = 0
-choices_called config r Cache_up_call = choices_cached config r (cache_history r) cache.Came_up
-choices_called config r Cache_fail_call = choices_cached config r (cache_history r) cache.Failed
-choices_called config r (Cache_bytes_call octets) = choices_cached_on config r octets (cache_history r)
-choices_called config r (Cache_starved_call before octet behind) =
+choices_called config r last (Tick_call now) = choices_cached config r (cache_history r) (cache.Ticked now) + choices_to (λ s. history config s r) now 64
+choices_called config r last (Command_call command) = choices_commanded config r command
+choices_called config r last (Take_call s octets) = 0
+choices_called config r last Cache_up_call = choices_cached config r (cache_history r) cache.Came_up
+choices_called config r last Cache_fail_call = choices_cached config r (cache_history r) cache.Failed
+choices_called config r last (Cache_bytes_call octets) = choices_cached_on config r octets (cache_history r)
+choices_called config r last (Cache_starved_call before octet behind) =
     choices_cached_on config r before (cache_history r) + choices_cached config r (cache.onto before (cache_history r)) cache.Refused
-choices_called config r (Cache_take_call octets) = 0
+choices_called config r last (Cache_take_call octets) = last
 
 -- for what is done for a slot: none for an UPDATE that is queued
 abbrev pub choices_served : List slot.Event → Service → ℕ
@@ -142,4 +143,4 @@ choices_queued config call r (now ∷ queue) = choices_served (history config no
 -- for the last call of a run, with all that it did
 abbrev pub choices_in : Config → Run → ℕ
 choices_in config [] = 0
-choices_in config (now ∷ r) = choices_called config r now.call + choices_queued config now.call r now.queued
+choices_in config (now ∷ r) = choices_called config r (choices_in config r) now.call + choices_queued config now.call r now.queued

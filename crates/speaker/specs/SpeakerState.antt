@@ -14,7 +14,7 @@ use Rattle.routes.specs.Tables.{Tables, tables, link_at}
 
 -- what others see of a speaker: its settings, the moment, the configured tables, the cache session, the payloads in
 -- force, its slots, Adj-RIB-In,
--- the candidates that are kept, Loc-RIB, how often a best route was chosen so far, and how often before the last call that wasn't refused
+-- the candidates that are kept, Loc-RIB, how often a best route was chosen so far, and how often before the last step or take that wasn't refused
 pub record SpeakerState : Type 0 where
   pub config : Config
   pub moment : ℕ
@@ -56,10 +56,6 @@ is_out_of_range config = config.asn.0 == 0 || config.identifier == 0
 abbrev pub payloads_in : Option CacheSession → List Vrp
 payloads_in None = []
 payloads_in (Some session) = in_force session.client
-
--- the payloads by which routes are judged are those in force
-abbrev pub KeepsInForce : SpeakerState → Type 0
-KeepsInForce s = s.payloads ≡ payloads_in s.cache
 
 -- nothing that others see has changed: each slot is as it was, and so is all else
 pub record IsAsBefore (old new : SpeakerState) : Type 0 where

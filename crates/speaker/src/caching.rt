@@ -136,10 +136,10 @@ impl<A: Allocator + Clone, B: Book<A>> Speaker<A, B> {
         ensures handed { (s : TheSession) → self.old.cache ≡ Some s → (result ≡ min (length buf.old) (length s.ring)) × (buf.new ≡ take result s.ring ++ drop result buf.old) }
         // For every run that the speaker agrees with, it agrees with that run followed by this call.
         ensures agrees { (config : TheConfig) (r : Run) → Agrees config r self.old → Agrees config (turn (Cache_take_call (take result buf.new)) [] ∷ r) self.new }
-        ensures counted { self.new.chosen_before ≡ self.old.chosen }
+        // What was chosen stays as it was counted.
+        ensures counted { self.new.chosen_before ≡ self.old.chosen_before }
         ensures chosen { self.new.chosen ≡ self.old.chosen }
     {
-        self.begin_count();
         match &mut self.cache {
             Some(session) => session.take(buf),
             None => 0,

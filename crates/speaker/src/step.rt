@@ -41,7 +41,7 @@ pub struct Speaker<A: Allocator + Clone = Global, B: Book<A> = PlainBook<A>> {
     pub(crate) recent: RecentOctets<A>,
     // The moment of the last tick.
     pub(crate) moment: u64,
-    // How often a best route was chosen before the last call that wasn't refused.
+    // How often a best route was chosen before the last `step` or `take` that wasn't refused.
     pub(crate) chosen_before: u64,
 }
 

@@ -236,8 +236,8 @@ impl<A: Allocator + Clone, B: Book<A>> Speaker<A, B> {
         }
     }
 
-    /// How often a best route was chosen in the last call that wasn't refused. Of all calls together up to 2^64 - 1
-    /// choices are counted.
+    /// How often a best route was chosen in the last `step` or `take` that wasn't refused. Of all calls together up to
+    /// 2^64 - 1 choices are counted.
     pub fn chosen(&self) -> u64
         ensures kept { result ≡ self.now.chosen - self.now.chosen_before }
         // As often at most as what that call did allows.
