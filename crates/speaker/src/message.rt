@@ -21,9 +21,7 @@ ghost use Rattle.routes.specs.Offers.{IsSound, KeepsHeard};
 use bgp_attr::{PeerKind, UpdateFault};
 use bgp_conf::Conf;
 use bgp_fsm::{Input, State};
-use bgp_msg::{
-    Expected, Fault, Frame, MessageType, Notification, Step, read_open, read_update,
-};
+use bgp_msg::{Expected, Fault, Frame, MessageType, Notification, Step, read_open, read_update};
 use decision::Book;
 use origin_valid::PayloadTrie;
 use routes::{Link, Links, Octets, Routing, Sender, take_update};

@@ -11,7 +11,7 @@ ghost use Rattle.routes.specs.Tables.{configured_session, link_at, session_at};
 ghost use Rattle.routes.specs.Linked.{Linked};
 ghost use Rattle.speaker.specs.Queueing.{Queue, starved_in};
 
-use crate::caching::session_for;
+use crate::cache_session::session_for;
 use crate::config::Config;
 use crate::event::{Event, Report, only};
 use bgp_conf::{Command, Conf, PEER_SLOTS, Refusal};
