@@ -3,7 +3,7 @@ ghost use Rattle.std.specs.Prelude.{◌<◌};
 
 use crate::over_loopback::{Served, over_loopback};
 use net_prefix::{Asn, Prefix, Vrp};
-use program_stages::made;
+use program_stages::{lend, made};
 use rtr_cache::{Cache, CacheEvent};
 use rtr_codec::Intervals;
 use std::alloc::Global;
@@ -117,6 +117,6 @@ fn serving(rt: &impl Abort, alloc: Global) -> Cache {
 
 #[test]
 fn a_router_takes_each_payload_over_a_socket(rt: HostRuntime) {
-    let mut served = over_loopback(&rt, serving(&rt, rt.alloc()));
-    assert!(rt; takes_all(rt.alloc(), &mut served));
+    let served = over_loopback(&rt, serving(&rt, rt.alloc()));
+    assert!(rt; lend(served, |served| takes_all(rt.alloc(), served)));
 }

@@ -5,7 +5,7 @@ ghost use Rattle.wires.specs.Wires.{FitsIn, FitsInSent, calling, failing, told_b
 
 use cache_turns::{CacheLoop, Holding};
 use net_prefix::{Asn, Prefix, Vrp};
-use program_stages::made;
+use program_stages::{lend, made};
 use refusing::Refusing;
 use rtr_cache::{Cache, CacheEvent, CacheRefusal};
 use rtr_codec::Intervals;
@@ -436,7 +436,7 @@ fn turned<A: Allocator + Clone>(turns: &mut CacheLoop<MemoryWire, A>) -> Served 
 // The same of turns that could be made.
 fn served_by<A: Allocator + Clone>(turns: Option<CacheLoop<MemoryWire, A>>) -> Option<Served> {
     match turns {
-        Some(mut turns) => Some(turned(&mut turns)),
+        Some(turns) => Some(lend(turns, |turns| turned(turns))),
         None => None,
     }
 }

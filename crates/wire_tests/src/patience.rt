@@ -3,7 +3,7 @@
 use crate::over_loopback::{Served, over_loopback};
 use cache_turns::CacheLoop;
 use net_wires::{NetWire, RouterEvent};
-use program_stages::made;
+use program_stages::{lend, made};
 use rtr_cache::Cache;
 use rtr_codec::Intervals;
 use std::alloc::AllocGlobal;
@@ -122,8 +122,10 @@ where
     R: Net<Listener = TcpListener, Stream = TcpStream> + AllocGlobal + Abort,
 {
     let cache = made(rt, Cache::new(rt.alloc(), 7, Intervals::USUAL));
-    let mut served = over_loopback(rt, cache);
-    is_overdue_at(&mut served, sendings, last)
+    lend(
+        over_loopback(rt, cache),
+        |served| is_overdue_at(served, sendings, last),
+    )
 }
 
 #[test]

@@ -2,7 +2,7 @@
 
 use crate::over_loopback::{connected, some_port};
 use net_wires::NetWire;
-use program_stages::made;
+use program_stages::{lend, made};
 use std::alloc::AllocGlobal;
 use std::io::{self, Write};
 use std::net::{Ipv4Addr, Net, SocketAddr, SocketAddrV4, TcpListener, TcpStream};
@@ -200,7 +200,8 @@ fn octets_go_both_ways_and_an_end_comes_behind_them(rt: HostRuntime) {
 }
 
 // Octets that came are read only behind a turn's beginning, which hears of them.
-fn is_asked_when_told<W: Wire + Drop>(server: &mut Side<W>, router: &mut Side<W>) -> bool {
+fn is_asked_when_told<W: Wire + Drop>(sides: &mut Sides<W>) -> bool {
+    let Sides { server, router } = sides;
     server.is_at_rest()
         && router.sent(&[1]) == Sent::Octets(1)
         && server.stays_at_rest()
@@ -210,12 +211,12 @@ fn is_asked_when_told<W: Wire + Drop>(server: &mut Side<W>, router: &mut Side<W>
 
 #[test]
 fn a_socket_at_rest_is_asked_when_the_system_has_told(rt: HostRuntime) {
-    let mut sides = over_loopback(&rt);
-    assert!(rt; is_asked_when_told(&mut sides.server, &mut sides.router));
+    assert!(rt; lend(over_loopback(&rt), |sides| is_asked_when_told(sides)));
 }
 
 // A write that had to wait goes once the other side has taken what went before.
-fn goes_later<W: Wire + Drop>(server: &mut Side<W>, router: &mut Side<W>) -> bool {
+fn goes_later<W: Wire + Drop>(sides: &mut Sides<W>) -> bool {
+    let Sides { server, router } = sides;
     let count = router.filled();
     router.wire.write(&mut router.socket, &[7]) == Sent::Nothing
         && server.drains(count)
@@ -225,8 +226,7 @@ fn goes_later<W: Wire + Drop>(server: &mut Side<W>, router: &mut Side<W>) -> boo
 
 #[test]
 fn room_that_comes_back_is_told(rt: HostRuntime) {
-    let mut sides = over_loopback(&rt);
-    assert!(rt; goes_later(&mut sides.server, &mut sides.router));
+    assert!(rt; lend(over_loopback(&rt), |sides| goes_later(sides)));
 }
 
 // An attempt at an address where nobody listens.
