@@ -3,7 +3,7 @@
 use cache_program::{ListFault, Reread, ServedList};
 use cache_turns::CacheLoop;
 use net_wires::NetWire;
-use program_stages::made;
+use program_stages::{lend, made};
 use rtr_cache::Cache;
 use rtr_codec::Intervals;
 use std::alloc::{AllocGlobal, Global};
@@ -183,6 +183,15 @@ where
     is_first && follow(rt, served, &mut staying, address)
 }
 
+// The same of one that comes to the list's own address.
+fn follow_there<'a, R>(rt: &'a R, served: &mut ServedList<NetWire<'a, R>>) -> bool
+where
+    R: Net<Listener = TcpListener, Stream = TcpStream> + AllocGlobal + Abort,
+{
+    let address = served.turns().wire().local_address();
+    follow_at(rt, served, address)
+}
+
 // A cache that serves nothing.
 fn serving_none<'a, R>(rt: &'a R) -> ServedList<NetWire<'a, R>>
 where
@@ -196,7 +205,5 @@ where
 
 #[test]
 fn routers_follow_a_list_that_changes(rt: HostRuntime) {
-    let mut served = serving_none(&rt);
-    let address = served.turns().wire().local_address();
-    assert!(rt; follow_at(&rt, &mut served, address));
+    assert!(rt; lend(serving_none(&rt), |served| follow_there(&rt, served)));
 }
