@@ -3,7 +3,7 @@
 use cache_program::main_cache;
 use program_stages::{Ending, LIST_PATH, Stage, ends, remove, write};
 use std::alloc::{AllocGlobal, Global};
-use std::io::{Read, Write};
+use std::io::{self, Read, Write};
 use std::net::{SocketAddr, TcpListener, TcpStream};
 use std::test::Fail;
 
@@ -51,99 +51,126 @@ const LOG: [&str; 2] = [
 ];
 
 // Writes a list to a file, and answers its path.
-fn write_list(rt: &HostRuntime, index: usize, list: &str) -> Result<String, Fail> {
+fn write_list(rt: &HostRuntime, index: usize, list: &str) -> io::Result<String> {
     let name = format!(in rt.alloc(); "day-{index}.csv")?;
     write(rt, name.as_str(), list)
 }
 
-// The lists in files, and their paths.
-fn write_lists(rt: &HostRuntime) -> Result<Vec<String>, Fail> {
-    let mut paths = Vec::new(rt.alloc());
+// Whether the lists are in files then, at these paths.
+fn writes_lists(rt: &HostRuntime, paths: &mut Vec<String>) -> bool {
     for (index, list) in LISTS.iter().enumerate() {
-        paths.push(write_list(rt, index, list)?)?;
+        let is_written = match write_list(rt, index, list) {
+            Ok(path) => paths.push(path).is_ok(),
+            Err(_) => false,
+        };
+        if !is_written {
+            return false;
+        }
     }
-    Ok(paths)
+    true
 }
 
-fn write_settings(rt: &HostRuntime) -> Result<String, Fail> {
+fn are_removed(rt: &HostRuntime, paths: &[String]) -> bool {
+    for path in paths {
+        if remove(rt, path.as_str()).is_err() {
+            return false;
+        }
+    }
+    true
+}
+
+fn write_settings(rt: &HostRuntime) -> io::Result<String> {
     let text = format!(in rt.alloc(); "{SETTINGS}\"{LIST_PATH}\"\n")?;
     write(rt, "day.toml", text.as_str())
 }
 
 // A router that has asked for the list.
-fn asking(rt: &HostRuntime, address: SocketAddr) -> Result<TcpStream, Fail> {
+fn asking(rt: &HostRuntime, address: SocketAddr) -> io::Result<TcpStream> {
     let mut router = TcpStream::connect(rt, address)?;
     router.write_all(&RESET_QUERY)?;
     Ok(router)
 }
 
-// All that came to the router.
-fn heard(alloc: Global, router: &mut TcpStream) -> Result<Vec<u8>, Fail> {
-    let mut heard = Vec::new(alloc);
+// Whether all that comes to the router is these octets.
+fn hears(router: &mut TcpStream, heard: &mut Vec<u8>, octets: &[u8]) -> bool {
     let mut buf = [0; 500];
     for _ in 0..100 {
-        match router.read(&mut buf)? {
-            0 => break,
-            count => heard.extend_from_slice(&buf[..count])?,
+        match router.read(&mut buf) {
+            Ok(0) => break,
+            Ok(count) if heard.extend_from_slice(&buf[..count]).is_ok() => {}
+            _ => return false,
         }
     }
-    Ok(heard)
+    heard.as_slice() == octets
 }
 
-// The log where the router is at this address.
-fn log_of(alloc: Global, address: SocketAddr) -> Result<String, Fail> {
-    let [before, behind] = LOG;
-    Ok(format!(in alloc; "{before}{address}{behind}")?)
+// Whether the router has heard its day.
+fn is_heard(alloc: Global, router: &mut TcpStream) -> bool {
+    let mut heard = Vec::new(alloc);
+    hears(router, &mut heard, &HEARD)
 }
 
 // Whether 75 turns, a second each, are told by this log.
-fn is_told(stage: &Stage<'_>, settings_path: &str, log: &str) -> Result<bool, Fail> {
+fn is_told(stage: &Stage<'_>, settings_path: &str, log: &str) -> bool {
     let words = [settings_path, "75"];
     let ending = Ending {
         status: 0,
         output: log,
         errors: "",
     };
-    Ok(ends(stage.alloc(), &words, ending, |words, output, errors| {
+    ends(stage.alloc(), &words, ending, |words, output, errors| {
         main_cache(stage, words, output, errors)
-    })?)
+    }) == Ok(true)
 }
 
-// Whether the day of a router is told so.
-fn is_logged(rt: &HostRuntime, stage: &Stage<'_>, address: SocketAddr) -> Result<bool, Fail> {
-    let log = log_of(rt.alloc(), address)?;
-    let settings_path = write_settings(rt)?;
-    let is_told = is_told(stage, settings_path.as_str(), log.as_str())?;
-    remove(rt, settings_path.as_str())?;
-    Ok(is_told)
+// The same on settings in a file.
+fn is_told_on_a_file(rt: &HostRuntime, stage: &Stage<'_>, log: &str) -> bool {
+    match write_settings(rt) {
+        Ok(path) => is_told(stage, path.as_str(), log) && remove(rt, path.as_str()).is_ok(),
+        Err(_) => false,
+    }
 }
 
-// Whether the router has heard its day.
-fn is_heard(alloc: Global, router: &mut TcpStream) -> Result<bool, Fail> {
-    Ok(heard(alloc, router)?.as_slice() == HEARD.as_slice())
+// Whether the day of a router at this address is told so.
+fn is_logged(rt: &HostRuntime, stage: &Stage<'_>, address: SocketAddr) -> bool {
+    let [before, behind] = LOG;
+    match format!(in rt.alloc(); "{before}{address}{behind}") {
+        Ok(log) => is_told_on_a_file(rt, stage, log.as_str()),
+        Err(_) => false,
+    }
 }
 
-// Whether a router's day with these lists is told, and heard.
-fn goes_by(rt: &HostRuntime, listener: &TcpListener, lists: &[String]) -> Result<bool, Fail> {
-    let mut router = asking(rt, listener.local_addr()?)?;
-    let address = router.local_addr()?;
-    let stage = Stage::new(rt, listener, lists);
-    Ok(is_logged(rt, &stage, address)? && is_heard(rt.alloc(), &mut router)?)
+// Whether a router's day on this stage is told, and heard.
+fn goes_by(rt: &HostRuntime, stage: &Stage<'_>, router: &mut TcpStream) -> bool {
+    match router.local_addr() {
+        Ok(address) => is_logged(rt, stage, address) && is_heard(rt.alloc(), router),
+        Err(_) => false,
+    }
+}
+
+// The same of a router that has come to a listener, with these lists.
+fn goes_by_at(rt: &HostRuntime, listener: &TcpListener, lists: &[String]) -> bool {
+    let router = match listener.local_addr() {
+        Ok(address) => asking(rt, address),
+        Err(error) => Err(error),
+    };
+    match router {
+        Ok(mut router) => goes_by(rt, &Stage::new(rt, listener, lists), &mut router),
+        Err(_) => false,
+    }
 }
 
 // The same of lists in files.
-fn goes_by_on_files(rt: &HostRuntime, listener: &TcpListener) -> Result<bool, Fail> {
-    let lists = write_lists(rt)?;
-    let goes_by = goes_by(rt, listener, lists.as_slice())?;
-    for list in &lists {
-        remove(rt, list.as_str())?;
-    }
-    Ok(goes_by)
+fn goes_by_on_files(rt: &HostRuntime, listener: &TcpListener) -> bool {
+    let mut paths = Vec::new(rt.alloc());
+    writes_lists(rt, &mut paths)
+        && goes_by_at(rt, listener, paths.as_slice())
+        && are_removed(rt, paths.as_slice())
 }
 
 #[test]
 fn a_day_is_told_by_the_log(rt: HostRuntime) -> Result<(), Fail> {
     let listener = TcpListener::bind(&rt, "127.0.0.1:0")?;
-    assert!(rt; goes_by_on_files(&rt, &listener)?);
+    assert!(rt; goes_by_on_files(&rt, &listener));
     Ok(())
 }

@@ -39,48 +39,44 @@ const FAILED: Ending<'static> = Ending {
 };
 
 // Whether the program ends so with these words.
-fn ends_with<R>(rt: &R, words: &[&str], ending: Ending<'_>) -> Result<bool, Fail>
+fn ends_with<R>(rt: &R, words: &[&str], ending: Ending<'_>) -> bool
 where
     R: Net<Listener = TcpListener, Stream = TcpStream> + Files + Clock + AllocGlobal,
 {
-    Ok(ends(rt.alloc(), words, ending, |words, output, errors| {
+    ends(rt.alloc(), words, ending, |words, output, errors| {
         main_cache(rt, words, output, errors)
-    })?)
+    }) == Ok(true)
 }
 
-// Whether it ends so behind two turns on settings that name the list of this path.
-fn ends_at(
-    rt: &HostRuntime,
-    list_path: &str,
-    settings: &str,
-    ending: Ending<'_>,
-) -> Result<bool, Fail> {
-    let path = write_settings(rt, "csv", list_path, settings)?;
-    let has_ended = ends_with(rt, &[path.as_str(), "2"], ending)?;
-    remove(rt, path.as_str())?;
-    Ok(has_ended)
+// Whether it ends so behind two turns on settings of this path, which are removed then.
+fn ends_there(rt: &HostRuntime, path: &str, ending: Ending<'_>) -> bool {
+    let has_ended = ends_with(rt, &[path, "2"], ending);
+    remove(rt, path).is_ok() && has_ended
+}
+
+// The same of settings that name the list of this path.
+fn ends_at(rt: &HostRuntime, list_path: &str, settings: &str, ending: Ending<'_>) -> bool {
+    let has_ended = match write_settings(rt, "csv", list_path, settings) {
+        Ok(path) => ends_there(rt, path.as_str(), ending),
+        Err(_) => false,
+    };
+    remove(rt, list_path).is_ok() && has_ended
 }
 
 // The same of a list with this text, in a file of this name.
-fn ends_on(
-    rt: &HostRuntime,
-    name: &str,
-    settings: &str,
-    list: &str,
-    ending: Ending<'_>,
-) -> Result<bool, Fail> {
-    let list_path = write(rt, name, list)?;
-    let has_ended = ends_at(rt, list_path.as_str(), settings, ending)?;
-    remove(rt, list_path.as_str())?;
-    Ok(has_ended)
+fn ends_on(rt: &HostRuntime, name: &str, settings: &str, list: &str, ending: Ending<'_>) -> bool {
+    match write(rt, name, list) {
+        Ok(list_path) => ends_at(rt, list_path.as_str(), settings, ending),
+        Err(_) => false,
+    }
 }
 
 // The same of settings that are this text.
-fn ends_on_text(rt: &HostRuntime, text: &str, ending: Ending<'_>) -> Result<bool, Fail> {
-    let path = write(rt, "alone.toml", text)?;
-    let has_ended = ends_with(rt, &[path.as_str(), "2"], ending)?;
-    remove(rt, path.as_str())?;
-    Ok(has_ended)
+fn ends_on_text(rt: &HostRuntime, text: &str, ending: Ending<'_>) -> bool {
+    match write(rt, "alone.toml", text) {
+        Ok(path) => ends_there(rt, path.as_str(), ending),
+        Err(_) => false,
+    }
 }
 
 const WRONG_WORDS: [&[&str]; 10] = [
@@ -97,11 +93,10 @@ const WRONG_WORDS: [&[&str]; 10] = [
 ];
 
 #[test]
-fn wrong_words_are_arguments(rt: HostRuntime) -> Result<(), Fail> {
+fn wrong_words_are_arguments(rt: HostRuntime) {
     for words in &WRONG_WORDS {
-        assert!(rt; ends_with(&rt, words, WRONG)?, "{words:?}");
+        assert!(rt; ends_with(&rt, words, WRONG), "{words:?}");
     }
-    Ok(())
 }
 
 // Settings but for the list's path.
@@ -146,79 +141,83 @@ const BAD_SETTINGS: [&str; 27] = [
 ];
 
 #[test]
-fn settings_are_told(rt: HostRuntime) -> Result<(), Fail> {
+fn good_settings_end_well(rt: HostRuntime) {
     for settings in &GOOD_SETTINGS {
-        assert!(rt; ends_on(&rt, "good", settings, LIST, WELL)?, "{settings}");
+        assert!(rt; ends_on(&rt, "good", settings, LIST, WELL), "{settings}");
     }
+}
+
+#[test]
+fn bad_settings_are_told(rt: HostRuntime) {
     for settings in &BAD_SETTINGS {
         assert!(rt;
-            ends_on(&rt, "bad", settings, "no list", REFUSED)?,
+            ends_on(&rt, "bad", settings, "no list", REFUSED),
             "{settings}"
         );
     }
-    Ok(())
-}
-
-fn settings_at(rt: &HostRuntime, address: SocketAddr) -> Result<String, Fail> {
-    Ok(format!(in rt.alloc(); "listen = \"{address}\"\nsession = 7\n")?)
 }
 
 // Whether a list is refused before a port that is taken is tried.
-fn is_refused_first(rt: &HostRuntime, address: SocketAddr) -> Result<bool, Fail> {
-    let taken = settings_at(rt, address)?;
-    Ok(
-        ends_on(rt, "refused", taken.as_str(), "no list", REFUSED)?
-            && ends_on(rt, "taken", taken.as_str(), LIST, FAILED)?,
-    )
+fn is_refused_first(rt: &HostRuntime, address: SocketAddr) -> bool {
+    match format!(in rt.alloc(); "listen = \"{address}\"\nsession = 7\n") {
+        Ok(taken) => {
+            ends_on(rt, "refused", taken.as_str(), "no list", REFUSED)
+                && ends_on(rt, "taken", taken.as_str(), LIST, FAILED)
+        }
+        Err(_) => false,
+    }
 }
 
 #[test]
 fn a_refused_list_is_told_before_the_port_is_taken(rt: HostRuntime) -> Result<(), Fail> {
     let holder = TcpListener::bind(&rt, "127.0.0.1:0")?;
-    assert!(rt; is_refused_first(&rt, holder.local_addr()?)?);
+    let address = holder.local_addr()?;
+    assert!(rt; is_refused_first(&rt, address));
     Ok(())
 }
 
 // Whether settings that aren't there are a device.
-fn is_missing(rt: &HostRuntime) -> Result<bool, Fail> {
-    let missing = path_of(rt, "missing.toml")?;
-    ends_with(rt, &[missing.as_str(), "2"], FAILED)
+fn is_missing(rt: &HostRuntime) -> bool {
+    match path_of(rt, "missing.toml") {
+        Ok(missing) => ends_with(rt, &[missing.as_str(), "2"], FAILED),
+        Err(_) => false,
+    }
 }
 
 // Whether a list that isn't there is one, and settings without a list are none.
-fn is_without_a_list(rt: &HostRuntime) -> Result<bool, Fail> {
-    Ok(ends_on_text(rt, WITHOUT_A_LIST, FAILED)? && ends_on_text(rt, SETTINGS, REFUSED)?)
+fn is_without_a_list(rt: &HostRuntime) -> bool {
+    ends_on_text(rt, WITHOUT_A_LIST, FAILED) && ends_on_text(rt, SETTINGS, REFUSED)
 }
 
 #[test]
-fn a_file_that_cant_be_read_is_a_device(rt: HostRuntime) -> Result<(), Fail> {
-    assert!(rt; is_missing(&rt)?);
-    assert!(rt; is_without_a_list(&rt)?);
-    Ok(())
+fn a_file_that_cant_be_read_is_a_device(rt: HostRuntime) {
+    assert!(rt; is_missing(&rt) && is_without_a_list(&rt));
 }
 
-// Without a turn all is well; in the first one the program ends.
-fn ends_at_a_turn(stage: &Stage<'_>, path: &str) -> Result<bool, Fail> {
-    Ok(ends_with(stage, &[path, "0"], WELL)? && ends_with(stage, &[path, "1"], FAILED)?)
+// Whether all is well without a turn, and the program ends in the first one.
+fn ends_at_a_turn(stage: &Stage<'_>, path: &str) -> bool {
+    ends_with(stage, &[path, "0"], WELL) && ends_with(stage, &[path, "1"], FAILED)
 }
 
 // The same with a listener that can't accept.
-fn is_deaf(rt: &HostRuntime, path: &str) -> Result<bool, Fail> {
-    let deaf = deaf_listener(rt)?;
-    ends_at_a_turn(&Stage::new(rt, &deaf, &[]), path)
+fn is_deaf(rt: &HostRuntime, path: &str) -> bool {
+    match deaf_listener(rt) {
+        Ok(deaf) => ends_at_a_turn(&Stage::new(rt, &deaf, &[]), path),
+        Err(_) => false,
+    }
 }
 
 // The same of settings that name the list of this path.
-fn is_deaf_at(rt: &HostRuntime, list_path: &str) -> Result<bool, Fail> {
-    let path = write_settings(rt, "csv", list_path, SETTINGS)?;
-    let is_deaf = is_deaf(rt, path.as_str())?;
-    remove(rt, path.as_str())?;
-    Ok(is_deaf)
+fn is_deaf_at(rt: &HostRuntime, list_path: &str) -> bool {
+    match write_settings(rt, "csv", list_path, SETTINGS) {
+        Ok(path) => is_deaf(rt, path.as_str()) && remove(rt, path.as_str()).is_ok(),
+        Err(_) => false,
+    }
 }
 
 #[test]
 fn a_turn_that_cant_accept_is_a_device(rt: HostRuntime) -> Result<(), Fail> {
     let list_path = write(&rt, "deaf", LIST)?;
-    assert!(rt; is_deaf_at(&rt, list_path.as_str())?);
-    remove(&rt, list_path.as_str())
+    assert!(rt; is_deaf_at(&rt, list_path.as_str()));
+    Ok(remove(&rt, list_path.as_str())?)
 }

@@ -1,19 +1,43 @@
 //! What a client asks and where it stands, what changes by its loads and by their expiry, and each growth that a load needs
 //! refused in turn.
-ghost use Rattle.std.specs.Prelude.{◌≡◌};
+ghost use Rattle.std.specs.Prelude.{◌≡◌, ◌≤◌};
 ghost use Rattle.rtr_codec.specs.ClientState.{in_force};
 
-use crate::sets::payload;
-use net_prefix::{Transport, Vrp};
-use refusing::Refusing;
+use crate::sets::requests_of;
+use net_prefix::{Asn, Prefix, Transport, Vrp};
 use rtr_client::{Acts, Base, Client, ClientState, Input};
 use rtr_codec::{Intervals, Pdu};
-use std::alloc::{AllocError, Allocator};
+use std::alloc::{AllocError, Allocator, Global};
 use std::collections::BTreeSet;
 use std::process::Abort;
-use std::test::Fail;
 
-const TEN: u32 = 0x0a00_0000;
+// The payloads that come and go.
+const ONE: Vrp = Vrp {
+    prefix: Prefix {
+        bits: 0x0a00_0000,
+        len: 16,
+    },
+    max_len: 16,
+    asn: Asn(65_001),
+};
+
+const TWO: Vrp = Vrp {
+    prefix: Prefix {
+        bits: 0x0a00_0000,
+        len: 16,
+    },
+    max_len: 24,
+    asn: Asn(65_001),
+};
+
+const THREE: Vrp = Vrp {
+    prefix: Prefix {
+        bits: 0x0a00_0000,
+        len: 24,
+    },
+    max_len: 24,
+    asn: Asn(65_002),
+};
 
 // A client, and a set that follows it.
 #[derive(Drop)]
@@ -44,55 +68,45 @@ impl<A: Allocator + Clone> Router<A> {
     }
 }
 
-// The payloads that come and go.
-#[derive(Clone, Copy)]
-struct Three {
-    one: Vrp,
-    two: Vrp,
-    three: Vrp,
-}
-
-impl Three {
-    fn new() -> Result<Self, Fail> {
-        Ok(Three {
-            one: payload(TEN, 16, 16, 65_001)?,
-            two: payload(TEN, 16, 24, 65_001)?,
-            three: payload(TEN, 24, 24, 65_002)?,
-        })
-    }
-}
-
-fn end_of_data(serial: u32) -> Pdu<'static> {
+// A response to a Reset Query, of two payloads.
+const LOAD: [Pdu<'static>; 4] = [
+    Pdu::CacheResponse { session: 7 },
+    Pdu::Announcement(TWO),
+    Pdu::Announcement(ONE),
     Pdu::EndOfData {
         session: 7,
-        serial,
+        serial: 3,
         intervals: Intervals::USUAL,
-    }
-}
+    },
+];
 
-// A response to a Reset Query, of two payloads, at the moment 100. Answers whether memory was refused.
-fn load_all<A: Allocator + Clone>(router: &mut Router<A>, vrps: Three) -> bool {
-    let response = router.hear(Pdu::CacheResponse { session: 7 }, 100);
-    let first = router.hear(Pdu::Announcement(vrps.two), 100);
-    let second = router.hear(Pdu::Announcement(vrps.one), 100);
-    let end = router.hear(end_of_data(3), 100);
-    response.starved || first.starved || second.starved || end.starved
-}
+// The beginning of one of one payload.
+const BEGINNING: [Pdu<'static>; 2] = [Pdu::CacheResponse { session: 7 }, Pdu::Announcement(ONE)];
 
-// A response to a Serial Query, in which one payload leaves and another comes, at the moment 200.
-fn load_change<A: Allocator + Clone>(router: &mut Router<A>, vrps: Three) -> bool {
-    let response = router.hear(Pdu::CacheResponse { session: 7 }, 200);
-    let first = router.hear(Pdu::Withdrawal(vrps.one), 200);
-    let second = router.hear(Pdu::Announcement(vrps.three), 200);
-    let end = router.hear(end_of_data(4), 200);
-    response.starved || first.starved || second.starved || end.starved
-}
-
-fn notify() -> Pdu<'static> {
-    Pdu::SerialNotify {
+// A response to a Serial Query, in which one payload leaves and another comes.
+const CHANGE: [Pdu<'static>; 4] = [
+    Pdu::CacheResponse { session: 7 },
+    Pdu::Withdrawal(ONE),
+    Pdu::Announcement(THREE),
+    Pdu::EndOfData {
         session: 7,
         serial: 4,
+        intervals: Intervals::USUAL,
+    },
+];
+
+const NOTIFY: Pdu<'static> = Pdu::SerialNotify {
+    session: 7,
+    serial: 4,
+};
+
+// Hears each at this moment. Answers whether memory was refused.
+fn hear_all<A: Allocator + Clone>(router: &mut Router<A>, pdus: &[Pdu<'static>], now: u64) -> bool {
+    let mut starved = false;
+    for pdu in pdus {
+        starved = router.hear(*pdu, now).starved || starved;
     }
+    starved
 }
 
 // Whether just these payloads went and came by the last input.
@@ -109,77 +123,101 @@ fn asks<A: Allocator + Clone>(router: &mut Router<A>) -> bool {
 }
 
 // Whether the one payload of a load is in force from its End of Data, and no sooner.
-fn loads<A: Allocator + Clone>(router: &mut Router<A>, one: Vrp) -> bool {
-    router.hear(Pdu::CacheResponse { session: 7 }, 100);
-    router.hear(Pdu::Announcement(one), 100);
+fn loads<A: Allocator + Clone>(router: &mut Router<A>) -> bool {
+    hear_all(router, &BEGINNING, 100);
     let is_loading = router.client.state() == ClientState::Loading && router.has(&[]);
-    router.hear(end_of_data(3), 100);
-    is_loading && router.client.state() == ClientState::Synced && router.has(&[one])
+    router.hear(LOAD[3], 100);
+    is_loading && router.client.state() == ClientState::Synced && router.has(&[ONE])
 }
 
 // Whether a client that has this serial of session 7 asks what has changed since, when it is told that something has.
 fn asks_for_changes<A: Allocator + Clone>(router: &mut Router<A>, serial: u32) -> bool {
     let session = 7;
     router.client.base() == Some(Base { session, serial })
-        && router.hear(notify(), 200).pdu == Some(Pdu::SerialQuery { session, serial })
+        && router.hear(NOTIFY, 200).pdu == Some(Pdu::SerialQuery { session, serial })
 }
 
-#[test]
-fn a_load_is_in_force_from_its_end_of_data(rt: HostRuntime) -> Result<(), Fail> {
-    let vrps = Three::new()?;
-    let mut router = Router::new(rt.alloc())?;
-    assert!(rt; asks(&mut router));
-    assert!(rt; loads(&mut router, vrps.one));
-    assert!(rt; asks_for_changes(&mut router, 3));
-    Ok(())
+fn asks_and_loads<A: Allocator + Clone>(router: &mut Router<A>) -> bool {
+    asks(router) && loads(router) && asks_for_changes(router, 3)
 }
 
-fn expires<A: Allocator + Clone>(rt: &impl Abort, router: &mut Router<A>, vrps: Three) {
-    router.step(Input::Up, 100);
-    assert!(rt; !load_all(router, vrps));
-    router.step(Input::Fail, 200);
-    assert!(rt; router.step(Input::Tick, 800).opened);
-    router.step(Input::Tick, 7_299);
-    assert!(rt; router.has(&[vrps.one, vrps.two]));
-    router.step(Input::Tick, 7_300);
-    assert!(rt; router.has(&[]) && router.client.state() == ClientState::Opening);
-    assert!(rt; changes(router, &[vrps.one, vrps.two], &[]));
-}
-
-#[test]
-fn payloads_go_when_they_expire(rt: HostRuntime) -> Result<(), Fail> {
-    let vrps = Three::new()?;
-    let mut router = Router::new(rt.alloc())?;
-    expires(&rt, &mut router, vrps);
-    Ok(())
-}
-
-// A load of a client, of which a growth may be refused: then it isn't in force, and the connection closes. Answers whether
-// one was.
-fn begins<A: Allocator + Clone>(rt: &impl Abort, router: &mut Router<A>, vrps: Three) -> bool {
-    router.step(Input::Up, 100);
-    let starved = load_all(router, vrps);
-    if starved {
-        assert!(rt; router.has(&[]));
-        assert_eq!(rt; router.client.transport(), Transport::Closing);
-    } else {
-        assert!(rt; router.has(&[vrps.one, vrps.two]));
-        assert!(rt; changes(router, &[], &[vrps.one, vrps.two]));
+// Without payloads; there is memory.
+fn router_of(rt: &impl Abort, alloc: Global) -> Router<Global> {
+    match Router::new(alloc) {
+        Ok(router) => router,
+        Err(_) => panic!(rt; "no memory"),
     }
+}
+
+#[test]
+fn a_load_is_in_force_from_its_end_of_data(rt: HostRuntime) {
+    let mut router = router_of(&rt, rt.alloc());
+    assert!(rt; asks_and_loads(&mut router));
+}
+
+// Whether the payloads of a load whose connection fails then are in force up to this moment, and gone with it.
+fn are_gone_at<A: Allocator + Clone>(router: &mut Router<A>, end: u64) -> bool
+    requires { 1 ≤ end }
+{
+    router.step(Input::Tick, end - 1);
+    let is_there = router.has(&[ONE, TWO]);
+    router.step(Input::Tick, end);
+    let is_gone = router.has(&[]) && router.client.state() == ClientState::Opening;
+    is_there && is_gone && changes(router, &[ONE, TWO], &[])
+}
+
+fn expires<A: Allocator + Clone>(router: &mut Router<A>) -> bool {
+    router.step(Input::Up, 100);
+    let starved = hear_all(router, &LOAD, 100);
+    router.step(Input::Fail, 200);
+    !starved && router.step(Input::Tick, 800).opened && are_gone_at(router, 7_300)
+}
+
+#[test]
+fn payloads_go_when_they_expire(rt: HostRuntime) {
+    let mut router = router_of(&rt, rt.alloc());
+    assert!(rt; expires(&mut router));
+}
+
+// Whether just these payloads are in force, and these went and came; or, where a growth was refused, those that were there
+// stay, and the connection closes.
+fn is_loaded<A: Allocator + Clone>(
+    router: &Router<A>,
+    starved: bool,
+    before: &[Vrp],
+    after: &[Vrp],
+    gone: &[Vrp],
+    come: &[Vrp],
+) -> bool {
+    if starved {
+        router.has(before) && router.client.transport() == Transport::Closing
+    } else {
+        router.has(after) && changes(router, gone, come)
+    }
+}
+
+// A load of a client, of which a growth may be refused. Answers whether one was.
+fn begins<A: Allocator + Clone>(rt: &impl Abort, router: &mut Router<A>) -> bool {
+    router.step(Input::Up, 100);
+    let starved = hear_all(router, &LOAD, 100);
+    assert!(rt; is_loaded(router, starved, &[], &[ONE, TWO], &[], &[ONE, TWO]));
     starved
 }
 
 // A second load, of which a growth may be refused: then the first stays in force.
-fn goes_on<A: Allocator + Clone>(rt: &impl Abort, router: &mut Router<A>, vrps: Three) -> bool {
-    router.hear(notify(), 200);
-    let starved = load_change(router, vrps);
-    if starved {
-        assert!(rt; router.has(&[vrps.one, vrps.two]));
-        assert_eq!(rt; router.client.transport(), Transport::Closing);
-    } else {
-        assert!(rt; router.has(&[vrps.two, vrps.three]));
-        assert!(rt; changes(router, &[vrps.one], &[vrps.three]));
-    }
+fn goes_on<A: Allocator + Clone>(rt: &impl Abort, router: &mut Router<A>) -> bool {
+    router.hear(NOTIFY, 200);
+    let starved = hear_all(router, &CHANGE, 200);
+    assert!(rt;
+        is_loaded(
+            router,
+            starved,
+            &[ONE, TWO],
+            &[TWO, THREE],
+            &[ONE],
+            &[THREE]
+        )
+    );
     starved
 }
 
@@ -187,27 +225,17 @@ fn goes_on<A: Allocator + Clone>(rt: &impl Abort, router: &mut Router<A>, vrps: 
 fn load_twice<A: Allocator + Clone>(
     rt: &impl Abort,
     router: Result<Router<A>, AllocError>,
-    vrps: Three,
 ) -> bool {
     match router {
-        Ok(mut router) => begins(rt, &mut router, vrps) || goes_on(rt, &mut router, vrps),
+        Ok(mut router) => begins(rt, &mut router) || goes_on(rt, &mut router),
         Err(_) => true,
     }
 }
 
 #[test]
-fn a_refused_growth_keeps_no_part_of_a_load(rt: HostRuntime) -> Result<(), Fail> {
-    let vrps = Three::new()?;
-    let mut left = true;
-    for nth in 1..100u64 {
-        let heap = Refusing::new(rt.alloc(), nth);
-        let starved = load_twice(&rt, Router::new(&heap), vrps);
-        left = heap.has_refused();
-        assert_eq!(rt; starved, left, "{nth}");
-        if !left {
-            break;
-        }
-    }
-    assert!(rt; !left);
-    Ok(())
+fn a_refused_growth_keeps_no_part_of_a_load(rt: HostRuntime) {
+    let requests = requests_of(&rt, rt.alloc(), |heap| {
+        u32::from(load_twice(&rt, Router::new(heap)))
+    });
+    assert!(rt; requests.is_some());
 }

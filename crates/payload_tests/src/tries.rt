@@ -5,9 +5,8 @@ use crate::sets::requests_of;
 use net_prefix::Prefix;
 use prefix_trie::{Marked, Trie};
 use refusing::Refusing;
-use std::alloc::{AllocError, Allocator};
+use std::alloc::Allocator;
 use std::process::Abort;
-use std::test::Fail;
 
 // A value with marks.
 #[derive(Clone, Copy, Debug, PartialEq, Eq)]
@@ -23,261 +22,329 @@ impl Marked for Slots {
     }
 }
 
+// A prefix, and the marks of its value.
+type Entry = (Prefix, u64);
+
 // In the order of prefixes.
 #[rattlefmt::skip]
-const ENTRIES: [(u32, u8, u64); 6] = [
-    (0x0000_0000,  0, 16),
-    (0x0a00_0000,  8,  1),
-    (0x0a00_0000, 16,  4),
-    (0x0a01_0000, 16,  8),
-    (0x0a80_0000,  9,  2),
-    (0xc000_0200, 24, 32),
+const ENTRIES: [Entry; 6] = [
+    (Prefix { bits: 0x0000_0000, len: 0 },  16),
+    (Prefix { bits: 0x0a00_0000, len: 8 },   1),
+    (Prefix { bits: 0x0a00_0000, len: 16 },  4),
+    (Prefix { bits: 0x0a01_0000, len: 16 },  8),
+    (Prefix { bits: 0x0a80_0000, len: 9 },   2),
+    (Prefix { bits: 0xc000_0200, len: 24 }, 32),
 ];
 
-// Puts each entry in, the last one first.
-fn fill(trie: &mut Trie<Slots>) -> Result<(), Fail> {
-    for (bits, len, marks) in ENTRIES.iter().rev() {
-        if trie
-            .insert(Prefix::new(*bits, *len)?, Slots(*marks))
-            .is_err()
-        {
-            return Err(Fail::from(AllocError));
+// Whether each entry is put in, the last one first.
+fn fills(trie: &mut Trie<Slots>) -> bool {
+    for (prefix, marks) in ENTRIES.iter().rev() {
+        if trie.insert(*prefix, Slots(*marks)).is_err() {
+            return false;
         }
     }
-    Ok(())
+    true
 }
 
-// Whether the trie has just the entries.
+// Whether the trie has just the entries, each after the one before it.
 fn has_all(trie: &Trie<Slots>) -> bool {
     let mut last = None;
-    for (bits, len, marks) in ENTRIES {
-        let Ok(prefix) = Prefix::new(bits, len) else {
-            return false;
-        };
-        if trie.after(last) != Some(prefix) || trie.get(&prefix) != Some(&Slots(marks)) {
+    for (prefix, marks) in &ENTRIES {
+        if trie.after(last) != Some(*prefix) || trie.get(prefix) != Some(&Slots(*marks)) {
             return false;
         }
-        last = Some(prefix);
+        last = Some(*prefix);
     }
     trie.after(last).is_none() && trie.len() == ENTRIES.len()
 }
 
-#[test]
-fn entries_are_found_in_the_order_of_prefixes(rt: HostRuntime) -> Result<(), Fail> {
-    let mut trie = Trie::new(rt.alloc());
-    assert!(rt; trie.after(None).is_none() && trie.len() == 0);
-    fill(&mut trie)?;
-    assert!(rt; has_all(&trie));
-    let marked = trie.marked_after(None, 8 | 32);
-    assert!(rt; marked == Some(Prefix::new(0x0a01_0000, 16)?));
-    assert!(rt; trie.marked_after(marked, 8 | 32) == Some(Prefix::new(0xc000_0200, 24)?));
-    assert!(rt; trie.marked_after(None, 64).is_none());
-    Ok(())
+// Whether the prefixes of marks are found.
+fn finds_marked(trie: &Trie<Slots>) -> bool {
+    let first = trie.marked_after(None, 8 | 32);
+    first == Some(BELOW)
+        && trie.marked_after(first, 8 | 32) == Some(ENTRIES[5].0)
+        && trie.marked_after(None, 64).is_none()
 }
 
-// Changes the value of a prefix, and takes it out; another one isn't there.
-fn is_changed(rt: &impl Abort, trie: &mut Trie<Slots>, top: Prefix, missing: Prefix) {
-    assert!(rt; trie.update(&top, |slots: &mut Slots| slots.0 = 64));
-    assert!(rt; !trie.update(&missing, |slots: &mut Slots| slots.0 = 64));
-    assert!(rt; trie.marked_after(None, 64) == Some(top));
-    assert!(rt; trie.remove(&top) == Some(Slots(64)));
-    assert!(rt; trie.remove(&top).is_none() && trie.remove(&missing).is_none());
-    assert!(rt; trie.marked_after(None, 64).is_none());
+fn finds_entries(trie: &mut Trie<Slots>) -> bool {
+    let is_empty = trie.after(None).is_none() && trie.len() == 0;
+    is_empty && fills(trie) && has_all(trie) && finds_marked(trie)
 }
 
 #[test]
-fn an_entry_is_changed_and_taken_out(rt: HostRuntime) -> Result<(), Fail> {
-    let top = Prefix::new(0x0a00_0000, 8)?;
-    let missing = Prefix::new(0x0b00_0000, 8)?;
-    let below = Prefix::new(0x0a01_0000, 16)?;
+fn entries_are_found_in_the_order_of_prefixes(rt: HostRuntime) {
     let mut trie = Trie::new(rt.alloc());
-    fill(&mut trie)?;
-    is_changed(&rt, &mut trie, top, missing);
-    assert!(rt; trie.len() == 5 && trie.get(&below).is_some());
-    Ok(())
+    assert!(rt; finds_entries(&mut trie));
+}
+
+const TOP: Prefix = Prefix {
+    bits: 0x0a00_0000,
+    len: 8,
+};
+
+const BELOW: Prefix = Prefix {
+    bits: 0x0a01_0000,
+    len: 16,
+};
+
+const MISSING: Prefix = Prefix {
+    bits: 0x0b00_0000,
+    len: 8,
+};
+
+// Gives the value of the prefix these marks, if it is there.
+fn is_marked<A: Allocator + Clone>(trie: &mut Trie<Slots, A>, prefix: &Prefix, marks: u64) -> bool {
+    trie.update(prefix, |slots: &mut Slots| slots.0 = marks)
+}
+
+// Whether the value of a prefix is changed; another one isn't there.
+fn changes(trie: &mut Trie<Slots>) -> bool {
+    let is_changed = is_marked(trie, &TOP, 64);
+    let is_missing = !is_marked(trie, &MISSING, 64);
+    is_changed && is_missing && trie.marked_after(None, 64) == Some(TOP)
+}
+
+// Whether it is taken out then, once.
+fn takes_out(trie: &mut Trie<Slots>) -> bool {
+    let is_taken = trie.remove(&TOP) == Some(Slots(64));
+    let is_gone = trie.remove(&TOP).is_none() && trie.remove(&MISSING).is_none();
+    is_taken && is_gone && trie.marked_after(None, 64).is_none()
+}
+
+fn changes_and_takes_out(trie: &mut Trie<Slots>) -> bool {
+    let is_done = fills(trie) && changes(trie) && takes_out(trie);
+    is_done && trie.len() == 5 && trie.get(&BELOW).is_some()
+}
+
+#[test]
+fn an_entry_is_changed_and_taken_out(rt: HostRuntime) {
+    let mut trie = Trie::new(rt.alloc());
+    assert!(rt; changes_and_takes_out(&mut trie));
 }
 
 // Whether just these of the entries are still to come.
-fn comes<'a, I: Iterator<Item = (Prefix, &'a Slots)>>(
-    mut entries: I,
-    expected: &[(u32, u8, u64)],
-) -> bool
+fn comes<'a, I: Iterator<Item = (Prefix, &'a Slots)>>(mut entries: I, expected: &[Entry]) -> bool
     requires { I.can_next entries × IsFinite (I.remaining entries) }
 {
-    for (bits, len, marks) in expected {
-        let Some((prefix, slots)) = entries.next() else {
-            return false;
-        };
-        if prefix.bits != *bits || prefix.len != *len || *slots != Slots(*marks) {
+    for (prefix, marks) in expected {
+        if entries.next() != Some((*prefix, &Slots(*marks))) {
             return false;
         }
     }
     entries.next().is_none()
 }
 
-// Goes over all entries, and over those that each prefix covers.
-fn come_in_order(rt: &impl Abort, trie: &Trie<Slots>, above: &[Prefix; 6]) {
-    assert!(rt; comes(trie.iter(), &ENTRIES));
-    assert!(rt; comes(trie.covered(&above[0]), &ENTRIES));
-    assert!(rt; comes(trie.covered(&above[1]), &ENTRIES[1..5]));
-    assert!(rt; comes(trie.covered(&above[2]), &ENTRIES[2..4]));
-    assert!(rt; comes(trie.covered(&above[3]), &ENTRIES[4..5]));
-    assert!(rt; comes(trie.covered(&above[4]), &ENTRIES[5..]));
-    assert!(rt; comes(trie.covered(&above[5]), &[]));
+// Whether the prefix covers just these of the trie.
+fn covers<A: Allocator>(trie: &Trie<Slots, A>, prefix: &Prefix, expected: &[Entry]) -> bool {
+    comes(trie.covered(prefix), expected)
+}
+
+// Prefixes beside those of the entries: the lower half of one, one that covers another alone, and one that covers none.
+#[rattlefmt::skip]
+const BESIDE: [Prefix; 3] = [
+    Prefix { bits: 0x0a00_0000, len: 9 },
+    Prefix { bits: 0xc000_0000, len: 2 },
+    Prefix { bits: 0x0a01_0100, len: 24 },
+];
+
+// Whether those come that prefixes of entries cover.
+fn come_below(trie: &Trie<Slots>) -> bool {
+    covers(trie, &ENTRIES[0].0, &ENTRIES)
+        && covers(trie, &ENTRIES[1].0, &ENTRIES[1..5])
+        && covers(trie, &ENTRIES[4].0, &ENTRIES[4..5])
+}
+
+// Whether those come that the others cover.
+fn come_beside(trie: &Trie<Slots>) -> bool {
+    covers(trie, &BESIDE[0], &ENTRIES[2..4])
+        && covers(trie, &BESIDE[1], &ENTRIES[5..])
+        && covers(trie, &BESIDE[2], &[])
+}
+
+fn come_once_filled(trie: &mut Trie<Slots>) -> bool {
+    let is_empty = comes(trie.iter(), &[]);
+    is_empty && fills(trie) && comes(trie.iter(), &ENTRIES) && come_below(trie) && come_beside(trie)
 }
 
 #[test]
-fn entries_come_in_the_order_of_prefixes(rt: HostRuntime) -> Result<(), Fail> {
-    let above = [
-        Prefix::new(0, 0)?,
-        Prefix::new(0x0a00_0000, 8)?,
-        Prefix::new(0x0a00_0000, 9)?,
-        Prefix::new(0x0a80_0000, 9)?,
-        Prefix::new(0xc000_0000, 2)?,
-        Prefix::new(0x0a01_0100, 24)?,
-    ];
+fn entries_come_in_the_order_of_prefixes(rt: HostRuntime) {
     let mut trie = Trie::new(rt.alloc());
-    assert!(rt; comes(trie.iter(), &[]));
-    fill(&mut trie)?;
-    come_in_order(&rt, &trie, &above);
-    Ok(())
+    assert!(rt; come_once_filled(&mut trie));
 }
 
-// Goes over what covers a prefix.
-fn covers(rt: &impl Abort, trie: &Trie<Slots>, prefix: &Prefix) -> Result<(), Fail> {
+// The entries that cover 10.1.1.0/24.
+#[rattlefmt::skip]
+const COVERING: [Entry; 3] = [
+    (Prefix { bits: 0x0000_0000, len: 0 },  16),
+    (Prefix { bits: 0x0a00_0000, len: 8 },   1),
+    (Prefix { bits: 0x0a01_0000, len: 16 },  8),
+];
+
+// Whether what covers a prefix comes, and how many nodes are looked at meanwhile.
+fn is_covered(trie: &Trie<Slots>, prefix: &Prefix) -> bool {
     let mut covering = trie.covering(prefix);
-    assert!(rt; covering.visited() == 0);
-    for (bits, len, marks) in [ENTRIES[0], ENTRIES[1], ENTRIES[3]] {
-        assert!(rt; covering.next() == Some((Prefix::new(bits, len)?, &Slots(marks))));
+    if covering.visited() != 0 {
+        return false;
     }
-    assert!(rt; covering.next().is_none());
-    assert!(rt; 3 <= covering.visited() && covering.visited() <= 33);
-    Ok(())
+    for (prefix, marks) in &COVERING {
+        if covering.next() != Some((*prefix, &Slots(*marks))) {
+            return false;
+        }
+    }
+    covering.next().is_none() && 3 <= covering.visited() && covering.visited() <= 33
 }
 
 #[test]
-fn what_covers_a_prefix_comes_shortest_first(rt: HostRuntime) -> Result<(), Fail> {
-    let prefix = Prefix::new(0x0a01_0100, 24)?;
+fn what_covers_a_prefix_comes_shortest_first(rt: HostRuntime) {
     let mut trie = Trie::new(rt.alloc());
-    fill(&mut trie)?;
-    covers(&rt, &trie, &prefix)
+    assert!(rt; fills(&mut trie) && is_covered(&trie, &BESIDE[2]));
 }
 
 // In this order each is put at another place: into nothing, over what is in its lower half, behind and before all
 // that is there, over what is in its upper half, below a node, and at a node that had no value.
 #[rattlefmt::skip]
-const GROWING: [(u32, u8, u64); 7] = [
-    (0x0a00_0000, 16,  1),
-    (0x0a00_0000,  8,  2),
-    (0xc000_0200, 24,  4),
-    (0x0900_0000,  8,  8),
-    (0x8000_0000,  1, 16),
-    (0x0a40_0000, 16, 32),
-    (0x0000_0000,  0, 64),
+const GROWING: [Entry; 7] = [
+    (Prefix { bits: 0x0a00_0000, len: 16 },  1),
+    (Prefix { bits: 0x0a00_0000, len: 8 },   2),
+    (Prefix { bits: 0xc000_0200, len: 24 },  4),
+    (Prefix { bits: 0x0900_0000, len: 8 },   8),
+    (Prefix { bits: 0x8000_0000, len: 1 },  16),
+    (Prefix { bits: 0x0a40_0000, len: 16 }, 32),
+    (Prefix { bits: 0x0000_0000, len: 0 },  64),
 ];
 
 // How many requests for memory that takes.
 const REQUESTS: u64 = 9;
 
 // Whether the trie has just these.
-fn has_just<A: Allocator>(trie: &Trie<Slots, A>, entries: &[(u32, u8, u64)]) -> bool {
-    for (bits, len, marks) in entries {
-        let Ok(prefix) = Prefix::new(*bits, *len) else {
-            return false;
-        };
-        if trie.get(&prefix) != Some(&Slots(*marks)) {
+fn has_just<A: Allocator>(trie: &Trie<Slots, A>, entries: &[Entry]) -> bool {
+    for (prefix, marks) in entries {
+        if trie.get(prefix) != Some(&Slots(*marks)) {
             return false;
         }
     }
     trie.len() == entries.len() && trie.iter().count() == entries.len()
 }
 
+// Whether an entry that was refused isn't there, and those before it are.
+fn is_left<A: Allocator>(trie: &Trie<Slots, A>, before: &[Entry], marks: u64) -> bool {
+    has_just(trie, before) && trie.marked_after(None, marks).is_none()
+}
+
+// Puts an entry in, behind these, and again where a growth is refused. Answers whether one was.
+fn is_put_again<A: Allocator + Clone>(
+    rt: &impl Abort,
+    trie: &mut Trie<Slots, A>,
+    entry: &Entry,
+    before: &[Entry],
+) -> bool {
+    let (prefix, marks) = *entry;
+    let Err(failed) = trie.insert(prefix, Slots(marks)) else {
+        return false;
+    };
+    assert!(rt; failed.value == Slots(marks) && is_left(trie, before, marks));
+    assert!(rt; matches!(trie.insert(prefix, Slots(marks)), Ok(None)));
+    true
+}
+
 // Puts each in, and again where a growth is refused. Answers how often one was.
-fn put_all<A: Allocator + Clone>(rt: &impl Abort, trie: &mut Trie<Slots, A>) -> Result<u32, Fail> {
+fn put_all<A: Allocator + Clone>(rt: &impl Abort, trie: &mut Trie<Slots, A>) -> u32 {
     let mut refused = 0u32;
-    for (at, (bits, len, marks)) in GROWING.iter().enumerate() {
-        let prefix = Prefix::new(*bits, *len)?;
-        if let Err(failed) = trie.insert(prefix, Slots(*marks)) {
+    for (at, entry) in GROWING.iter().enumerate() {
+        if is_put_again(rt, trie, entry, &GROWING[..at]) {
             refused = refused.saturating_add(1);
-            assert!(rt; failed.value == Slots(*marks));
-            assert!(rt; has_just(trie, &GROWING[..at]));
-            assert!(rt; trie.marked_after(None, *marks).is_none());
-            assert!(rt; matches!(trie.insert(prefix, Slots(*marks)), Ok(None)));
         }
     }
     assert!(rt; has_just(trie, &GROWING));
-    Ok(refused)
+    refused
 }
 
 // Fills the trie, and answers how often a growth was refused.
-fn refusals_in<A: Allocator + Clone>(
-    rt: &impl Abort,
-    mut trie: Trie<Slots, A>,
-) -> Result<u32, Fail> {
+fn refusals_in<A: Allocator + Clone>(rt: &impl Abort, mut trie: Trie<Slots, A>) -> u32 {
     put_all(rt, &mut trie)
 }
 
 #[test]
-fn a_refused_growth_leaves_the_trie(rt: HostRuntime) -> Result<(), Fail> {
-    let requests = requests_of(&rt, rt.alloc(), |heap| refusals_in(&rt, Trie::new(heap)))?;
-    assert!(rt; requests == REQUESTS);
-    Ok(())
+fn a_refused_growth_leaves_the_trie(rt: HostRuntime) {
+    let requests = requests_of(&rt, rt.alloc(), |heap| refusals_in(&rt, Trie::new(heap)));
+    assert!(rt; requests == Some(REQUESTS));
 }
 
 // The entries of GROWING in the order of prefixes.
 #[rattlefmt::skip]
-const RISING: [(u32, u8, u64); 7] = [
-    (0x0000_0000,  0, 64),
-    (0x0900_0000,  8,  8),
-    (0x0a00_0000,  8,  2),
-    (0x0a00_0000, 16,  1),
-    (0x0a40_0000, 16, 32),
-    (0x8000_0000,  1, 16),
-    (0xc000_0200, 24,  4),
+const RISING: [Entry; 7] = [
+    (Prefix { bits: 0x0000_0000, len: 0 },  64),
+    (Prefix { bits: 0x0900_0000, len: 8 },   8),
+    (Prefix { bits: 0x0a00_0000, len: 8 },   2),
+    (Prefix { bits: 0x0a00_0000, len: 16 },  1),
+    (Prefix { bits: 0x0a40_0000, len: 16 }, 32),
+    (Prefix { bits: 0x8000_0000, len: 1 },  16),
+    (Prefix { bits: 0xc000_0200, len: 24 },  4),
 ];
 
-// Whether each call that only looks finds them.
-fn finds_all<A: Allocator>(trie: &Trie<Slots, A>) -> Result<bool, Fail> {
-    let ten = Prefix::new(0x0a00_0000, 8)?;
-    let host = Prefix::new(0x0a00_0001, 32)?;
-    let below = Prefix::new(0x0a00_0000, 16)?;
-    let marked = Prefix::new(0x0a40_0000, 16)?;
-    Ok(
-        has_just(trie, &RISING)
-            && comes(trie.iter(), &RISING)
-            && comes(trie.covered(&ten), &RISING[2..5])
-            && comes(trie.covering(&host), &[RISING[0], RISING[2], RISING[3]])
-            && trie.after(Some(ten)) == Some(below)
-            && trie.marked_after(Some(ten), 2 | 4 | 32) == Some(marked),
-    )
+// Those that cover the address 10.0.0.1.
+#[rattlefmt::skip]
+const COVERING_HOST: [Entry; 3] = [
+    (Prefix { bits: 0x0000_0000, len: 0 },  64),
+    (Prefix { bits: 0x0a00_0000, len: 8 },   2),
+    (Prefix { bits: 0x0a00_0000, len: 16 },  1),
+];
+
+const HOST: Prefix = Prefix {
+    bits: 0x0a00_0001,
+    len: 32,
+};
+
+// Whether each call that goes over the trie finds them.
+fn finds_all<A: Allocator>(trie: &Trie<Slots, A>) -> bool {
+    comes(trie.iter(), &RISING)
+        && covers(trie, &TOP, &RISING[2..5])
+        && comes(trie.covering(&HOST), &COVERING_HOST)
+}
+
+// Whether each call that looks for one finds it.
+fn finds_each<A: Allocator>(trie: &Trie<Slots, A>) -> bool {
+    has_just(trie, &RISING)
+        && trie.after(Some(TOP)) == Some(RISING[3].0)
+        && trie.marked_after(Some(TOP), 2 | 4 | 32) == Some(RISING[4].0)
 }
 
 // What the calls leave that put no new prefix in.
 #[rattlefmt::skip]
-const LEFT: [(u32, u8, u64); 5] = [
-    (0x0000_0000,  0,  64),
-    (0x0900_0000,  8, 128),
-    (0x0a40_0000, 16,  32),
-    (0x8000_0000,  1, 256),
-    (0xc000_0200, 24,   4),
+const LEFT: [Entry; 5] = [
+    (Prefix { bits: 0x0000_0000, len: 0 },   64),
+    (Prefix { bits: 0x0900_0000, len: 8 },  128),
+    (Prefix { bits: 0x0a40_0000, len: 16 },  32),
+    (Prefix { bits: 0x8000_0000, len: 1 },  256),
+    (Prefix { bits: 0xc000_0200, len: 24 },   4),
 ];
 
 // Whether each of those calls answers right.
-fn changes_what_is_there<A: Allocator + Clone>(trie: &mut Trie<Slots, A>) -> Result<bool, Fail> {
-    let nine = Prefix::new(0x0900_0000, 8)?;
-    let ten = Prefix::new(0x0a00_0000, 8)?;
-    let below = Prefix::new(0x0a00_0000, 16)?;
-    let upper = Prefix::new(0x8000_0000, 1)?;
-    let missing = Prefix::new(0x0b00_0000, 8)?;
-    Ok(
-        trie.update(&nine, |slots: &mut Slots| slots.0 = 128)
-            && !trie.update(&missing, |slots: &mut Slots| slots.0 = 128)
-            && matches!(trie.insert(upper, Slots(256)), Ok(Some(Slots(16))))
-            && trie.remove(&ten) == Some(Slots(2))
-            && trie.remove(&below) == Some(Slots(1))
-            && trie.remove(&missing).is_none()
-            && comes(trie.iter(), &LEFT),
-    )
+fn changes_what_is_there<A: Allocator + Clone>(trie: &mut Trie<Slots, A>) -> bool {
+    let is_changed = is_marked(trie, &LEFT[1].0, 128) && !is_marked(trie, &MISSING, 128);
+    let is_replaced = matches!(trie.insert(LEFT[3].0, Slots(256)), Ok(Some(Slots(16))));
+    is_changed && is_replaced && takes_two_out(trie) && comes(trie.iter(), &LEFT)
+}
+
+// Whether two entries are taken out, and another one isn't there.
+fn takes_two_out<A: Allocator + Clone>(trie: &mut Trie<Slots, A>) -> bool {
+    trie.remove(&TOP) == Some(Slots(2))
+        && trie.remove(&RISING[3].0) == Some(Slots(1))
+        && trie.remove(&MISSING).is_none()
+}
+
+// Makes each call that is to take no memory. Answers whether each is right.
+fn takes_no_memory<A: Allocator + Clone>(rt: &impl Abort, trie: &mut Trie<Slots, A>) -> bool {
+    let is_filled = put_all(rt, trie) == 0;
+    is_filled && finds_all(trie) && finds_each(trie) && changes_what_is_there(trie)
+}
+
+// Whether a new prefix is refused, and leaves the others.
+fn is_refused<A: Allocator + Clone>(trie: &mut Trie<Slots, A>) -> bool {
+    match trie.insert(MISSING, Slots(512)) {
+        Ok(_) => false,
+        Err(failed) => failed.value == Slots(512) && comes(trie.iter(), &LEFT),
+    }
 }
 
 // Fills the trie, makes each call that is to take no memory, and puts a new prefix in, which the heap has to refuse.
@@ -285,22 +352,14 @@ fn asks_for_one<B, A: Allocator + Clone>(
     rt: &impl Abort,
     heap: &Refusing<B>,
     mut trie: Trie<Slots, A>,
-) -> Result<(), Fail> {
-    assert_eq!(rt; put_all(rt, &mut trie)?, 0);
-    assert!(rt; finds_all(&trie)?);
-    assert!(rt; changes_what_is_there(&mut trie)?);
-    assert!(rt; !heap.has_refused());
-    let Err(failed) = trie.insert(Prefix::new(0x0b00_0000, 8)?, Slots(512)) else {
-        panic!(rt; "a new prefix was put in");
-    };
-    assert!(rt; heap.has_refused() && failed.value == Slots(512));
-    assert!(rt; comes(trie.iter(), &LEFT));
-    Ok(())
+) {
+    assert!(rt; takes_no_memory(rt, &mut trie) && !heap.has_refused());
+    assert!(rt; is_refused(&mut trie) && heap.has_refused());
 }
 
 // The first request behind those of GROWING is refused, whichever call makes it.
 #[test]
-fn only_an_insert_of_a_new_prefix_takes_memory(rt: HostRuntime) -> Result<(), Fail> {
+fn only_an_insert_of_a_new_prefix_takes_memory(rt: HostRuntime) {
     let heap = Refusing::new(rt.alloc(), REQUESTS + 1);
-    asks_for_one(&rt, &heap, Trie::new(&heap))
+    asks_for_one(&rt, &heap, Trie::new(&heap));
 }

@@ -1,23 +1,47 @@
 //! What is published, what changed since, what a delta leaves of a set, and its faults. More versions are in scripts.
-use crate::sets::{payload, set_of};
-use net_prefix::Vrp;
+use crate::sets::ample_set;
+use net_prefix::{Asn, Prefix, Vrp};
 use std::alloc::Global;
 use std::collections::BTreeSet;
-use std::test::Fail;
+use std::process::Abort;
 use vrp_delta::{Delta, DeltaFault, Versions, apply};
 
-const TEN: u32 = 0x0a00_0000;
+const TEN: Prefix = Prefix {
+    bits: 0x0a00_0000,
+    len: 16,
+};
 
-const TEN_ONE: u32 = 0x0a01_0000;
+const TEN_ONE: Prefix = Prefix {
+    bits: 0x0a01_0000,
+    len: 16,
+};
 
-fn delta_of(alloc: Global, withdrawn: Vrp, announced: Vrp) -> Result<Delta, Fail> {
-    Ok(Delta {
-        withdrawn: set_of(alloc, &[withdrawn])?,
-        announced: set_of(alloc, &[announced])?,
-    })
+const BEFORE: Vrp = Vrp {
+    prefix: TEN,
+    max_len: 24,
+    asn: Asn(65002),
+};
+
+const AFTER: Vrp = Vrp {
+    prefix: TEN,
+    max_len: 25,
+    asn: Asn(65002),
+};
+
+const STAYS: Vrp = Vrp {
+    prefix: TEN_ONE,
+    max_len: 16,
+    asn: Asn(65003),
+};
+
+fn delta_of(rt: &impl Abort, alloc: Global, withdrawn: Vrp, announced: Vrp) -> Delta {
+    Delta {
+        withdrawn: ample_set(rt, alloc, &[withdrawn]),
+        announced: ample_set(rt, alloc, &[announced]),
+    }
 }
 
-// Whether a set of these payloads is these others behind the delta, or refuses it so and stays.
+// Whether a set of some payloads is these others behind the delta, or refuses it so and stays.
 fn leaves(
     mut set: BTreeSet<Vrp>,
     delta: &Delta,
@@ -28,14 +52,10 @@ fn leaves(
 }
 
 #[test]
-fn a_delta_leaves_what_it_says(rt: HostRuntime) -> Result<(), Fail> {
-    let before = payload(TEN, 16, 24, 65002)?;
-    let after = payload(TEN, 16, 25, 65002)?;
-    let stays = payload(TEN_ONE, 16, 16, 65003)?;
-    let delta = delta_of(rt.alloc(), before, after)?;
-    let set = set_of(rt.alloc(), &[before, stays])?;
-    assert!(rt; leaves(set, &delta, Ok(()), &[after, stays]));
-    Ok(())
+fn a_delta_leaves_what_it_says(rt: HostRuntime) {
+    let delta = delta_of(&rt, rt.alloc(), BEFORE, AFTER);
+    let set = ample_set(&rt, rt.alloc(), &[BEFORE, STAYS]);
+    assert!(rt; leaves(set, &delta, Ok(()), &[AFTER, STAYS]));
 }
 
 // Whether just these payloads left and came since the version of the serial, if it is kept.
@@ -55,39 +75,60 @@ fn publishes(versions: &mut Versions, first: &BTreeSet<Vrp>, second: &BTreeSet<V
     is_first && versions.publish(second) == Ok(2) && versions.publish(second) == Ok(2)
 }
 
+// Whether it is told then what changed since each version.
+fn tells_changes(versions: &Versions) -> bool {
+    is_change(versions, 1, Some((&[BEFORE], &[AFTER])))
+        && is_change(versions, 2, Some((&[], &[])))
+        && is_change(versions, 0, None)
+}
+
 // Whether what changed since the first version leads from its set to the second.
-fn leads(versions: &Versions, mut first: BTreeSet<Vrp>, second: &BTreeSet<Vrp>) -> bool {
+fn leads(versions: &Versions, first: &mut BTreeSet<Vrp>, second: &BTreeSet<Vrp>) -> bool {
     match versions.delta_from(1) {
-        Ok(Some(delta)) => apply(&mut first, &delta).is_ok() && first == *second,
+        Ok(Some(delta)) => apply(first, &delta).is_ok() && *first == *second,
         _ => false,
     }
 }
 
-#[test]
-fn a_delta_leads_from_the_first_list_to_the_second(rt: HostRuntime) -> Result<(), Fail> {
-    let before = payload(TEN, 16, 24, 65002)?;
-    let after = payload(TEN, 16, 25, 65002)?;
-    let stays = payload(TEN_ONE, 16, 16, 65003)?;
-    let first = set_of(rt.alloc(), &[before, stays])?;
-    let second = set_of(rt.alloc(), &[after, stays])?;
-    let mut versions = Versions::new(rt.alloc());
-    assert!(rt; publishes(&mut versions, &first, &second));
-    assert!(rt; is_change(&versions, 1, Some((&[before], &[after]))));
-    assert!(rt; is_change(&versions, 2, Some((&[], &[]))) && is_change(&versions, 0, None));
-    assert!(rt; leads(&versions, first, &second));
-    Ok(())
+fn leads_from_the_first_to_the_second(
+    versions: &mut Versions,
+    first: &mut BTreeSet<Vrp>,
+    second: &BTreeSet<Vrp>,
+) -> bool {
+    publishes(versions, first, second) && tells_changes(versions) && leads(versions, first, second)
 }
 
 #[test]
-fn a_bad_delta_leaves_the_set(rt: HostRuntime) -> Result<(), Fail> {
-    let here = payload(TEN, 16, 24, 65002)?;
-    let gone = payload(TEN_ONE, 16, 16, 65003)?;
-    let delta = delta_of(rt.alloc(), gone, here)?;
-    let known = set_of(rt.alloc(), &[here, gone])?;
-    assert!(rt; leaves(known, &delta, Err(DeltaFault::Duplicate), &[here, gone]));
-    let unknown = set_of(rt.alloc(), &[here])?;
-    assert!(rt; leaves(unknown, &delta, Err(DeltaFault::Unknown), &[here]));
-    Ok(())
+fn a_delta_leads_from_the_first_list_to_the_second(rt: HostRuntime) {
+    let mut first = ample_set(&rt, rt.alloc(), &[BEFORE, STAYS]);
+    let second = ample_set(&rt, rt.alloc(), &[AFTER, STAYS]);
+    let mut versions = Versions::new(rt.alloc());
+    assert!(rt; leads_from_the_first_to_the_second(&mut versions, &mut first, &second));
+}
+
+// Whether a set of these payloads refuses the delta so, and stays.
+fn refuses(
+    rt: &impl Abort,
+    alloc: Global,
+    payloads: &[Vrp],
+    delta: &Delta,
+    fault: DeltaFault,
+) -> bool {
+    leaves(ample_set(rt, alloc, payloads), delta, Err(fault), payloads)
+}
+
+#[test]
+fn a_bad_delta_leaves_the_set(rt: HostRuntime) {
+    let delta = delta_of(&rt, rt.alloc(), STAYS, BEFORE);
+    assert!(rt;
+        refuses(
+            &rt,
+            rt.alloc(),
+            &[BEFORE, STAYS],
+            &delta,
+            DeltaFault::Duplicate
+        ) && refuses(&rt, rt.alloc(), &[BEFORE], &delta, DeltaFault::Unknown)
+    );
 }
 
 #[test]

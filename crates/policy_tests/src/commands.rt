@@ -1,7 +1,6 @@
 //! What no answer shows of commands: what is configured then, a name that no line has, a slot without a peer, and the numbers of
 //! refusals.
 
-use crate::given::prefix_of;
 use bgp_attr::Mode;
 use bgp_conf::{
     Action, Command, Condition, Conf, ConfiguredPeer, PeerConf, PolicyName, Refusal, Rule,
@@ -96,47 +95,60 @@ fn a_peer_is_as_it_was_configured(rt: HostRuntime) {
     assert!(rt; conf.own() == Asn(65000) && configures_each(&mut conf));
 }
 
+// 198.51.100.0/24, its lower half, and the prefix whose lower half it is.
+const NETWORK: Prefix = Prefix {
+    bits: 0xc633_6400,
+    len: 24,
+};
+
+const INNER: Prefix = Prefix {
+    bits: 0xc633_6400,
+    len: 25,
+};
+
+const OUTER: Prefix = Prefix {
+    bits: 0xc633_6400,
+    len: 23,
+};
+
 // Whether just the network is one, and the other two prefixes are none.
-fn is_network_alone(conf: &Conf, network: Prefix, others: [Prefix; 2]) -> bool {
-    conf.is_network(network) && !conf.is_network(others[0]) && !conf.is_network(others[1])
+fn is_network_alone(conf: &Conf) -> bool {
+    conf.is_network(NETWORK) && !conf.is_network(INNER) && !conf.is_network(OUTER)
 }
 
 // A second time changes nothing.
-fn comes_and_goes(conf: &mut Conf, network: Prefix, others: [Prefix; 2]) -> bool {
-    let is_first = !conf.is_network(network);
-    let comes = obeys(conf, &Command::Network(network));
-    let is_there = is_network_alone(conf, network, others);
-    let comes_again = obeys(conf, &Command::Network(network));
-    let stays = is_network_alone(conf, network, others);
-    let goes = obeys(conf, &Command::NoNetwork(network));
-    is_first && comes && is_there && comes_again && stays && goes && !conf.is_network(network)
+fn comes_and_goes(conf: &mut Conf) -> bool {
+    let is_first = !conf.is_network(NETWORK);
+    let comes = obeys(conf, &Command::Network(NETWORK)) && is_network_alone(conf);
+    let stays = obeys(conf, &Command::Network(NETWORK)) && is_network_alone(conf);
+    let goes = obeys(conf, &Command::NoNetwork(NETWORK));
+    is_first && comes && stays && goes && !conf.is_network(NETWORK)
 }
 
 #[test]
 fn a_network_comes_and_goes(rt: HostRuntime) {
-    let network = prefix_of(&rt, 0xc633_6400, 24);
-    let inner = prefix_of(&rt, 0xc633_6400, 25);
-    let outer = prefix_of(&rt, 0xc633_6400, 23);
     let mut conf = new_conf(&rt, rt.alloc());
-    assert!(rt; comes_and_goes(&mut conf, network, [inner, outer]));
+    assert!(rt; comes_and_goes(&mut conf));
 }
 
-// Entries, each an address, a length and a cost; the later one of a prefix stands in the place of the earlier one.
-const ENTRIES: [(u32, u8, u32); 4] = [
-    (0x0a00_0000, 8, 5),
-    (0x0a01_0000, 16, 7),
-    (0x0a01_0000, 16, 9),
-    (0x0a01_0203, 32, 1),
+const LONGER: Prefix = Prefix {
+    bits: 0x0a01_0000,
+    len: 16,
+};
+
+// Entries, each a prefix and a cost; the later one of a prefix stands in the place of the earlier one.
+#[rattlefmt::skip]
+const ENTRIES: [(Prefix, u32); 4] = [
+    (Prefix { bits: 0x0a00_0000, len: 8 },  5),
+    (LONGER,                                7),
+    (LONGER,                                9),
+    (Prefix { bits: 0x0a01_0203, len: 32 }, 1),
 ];
 
 // Whether the entries are taken.
 fn reaches(conf: &mut Conf) -> bool {
-    for (bits, len, cost) in &ENTRIES {
-        let is_taken = match Prefix::new(*bits, *len) {
-            Ok(prefix) => obeys(conf, &Command::Reach(prefix, *cost)),
-            Err(_) => false,
-        };
-        if !is_taken {
+    for (prefix, cost) in &ENTRIES {
+        if !obeys(conf, &Command::Reach(*prefix, *cost)) {
             return false;
         }
     }
@@ -166,18 +178,17 @@ fn has_costs(conf: &Conf, costs: &[(u32, Option<u32>)]) -> bool {
 }
 
 // Of an entry that goes, and then comes again.
-fn tells_costs(conf: &mut Conf, longer: Prefix) -> bool {
+fn tells_costs(conf: &mut Conf) -> bool {
     let is_told = reaches(conf) && has_costs(conf, &COSTS);
-    let goes = obeys(conf, &Command::NoReach(longer)) && has_costs(conf, &COSTS_WITHOUT);
-    let comes = obeys(conf, &Command::Reach(longer, 6)) && has_costs(conf, &COSTS_AGAIN);
+    let goes = obeys(conf, &Command::NoReach(LONGER)) && has_costs(conf, &COSTS_WITHOUT);
+    let comes = obeys(conf, &Command::Reach(LONGER, 6)) && has_costs(conf, &COSTS_AGAIN);
     is_told && goes && comes
 }
 
 #[test]
 fn the_longest_entry_tells_the_cost(rt: HostRuntime) {
-    let longer = prefix_of(&rt, 0x0a01_0000, 16);
     let mut conf = new_conf(&rt, rt.alloc());
-    assert!(rt; tells_costs(&mut conf, longer));
+    assert!(rt; tells_costs(&mut conf));
 }
 
 // What any route is.

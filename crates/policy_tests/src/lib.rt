@@ -7,6 +7,4 @@ mod commands;
 #[cfg(test)]
 mod export;
 #[cfg(test)]
-mod given;
-#[cfg(test)]
 mod policies;

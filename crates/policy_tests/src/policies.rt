@@ -1,7 +1,6 @@
 //! Policies: what no script says of them, that a call answers what its check says, and a refused growth.
 ghost use Rattle.std.specs.Prelude.{◌≤◌};
 
-use crate::given::prefix_of;
 use net_prefix::{Asn, Prefix};
 use origin_valid::Validity;
 use policy::{
@@ -36,27 +35,28 @@ const REJECT_ALL: Rule = Rule {
     action: Action::Reject,
 };
 
+const TEN_ONE: Prefix = Prefix {
+    bits: 0x0a01_0000,
+    len: 16,
+};
+
 // A route that has neither an origin nor a path nor a slot.
-fn network(prefix: Prefix) -> SeenRoute<'static> {
-    SeenRoute {
-        prefix,
-        state: Validity::NotFound,
-        origin: None,
-        path: None,
-        from: None,
-    }
-}
+const NETWORK: SeenRoute<'static> = SeenRoute {
+    prefix: TEN_ONE,
+    state: Validity::NotFound,
+    origin: None,
+    path: None,
+    from: None,
+};
 
 // A route without a path that slot 3 announced, and whose origin is AS 65001.
-fn announced(prefix: Prefix) -> SeenRoute<'static> {
-    SeenRoute {
-        prefix,
-        state: Validity::Valid,
-        origin: Some(Asn(65001)),
-        path: None,
-        from: Some(3),
-    }
-}
+const ANNOUNCED: SeenRoute<'static> = SeenRoute {
+    prefix: TEN_ONE,
+    state: Validity::Valid,
+    origin: Some(Asn(65001)),
+    path: None,
+    from: Some(3),
+};
 
 // Whether the policy of this name makes this of the route, whichever way the route goes.
 fn makes(policies: &Policies, name: &str, route: &SeenRoute<'_>, action: Action) -> bool {
@@ -71,14 +71,22 @@ fn sets(policies: &mut Policies, name: &str, rules: &[Rule]) -> bool {
     policies.set(name, rules).is_ok()
 }
 
-// Whether a rule of this condition matches the route.
-fn is_match(alloc: Global, condition: Condition, route: &SeenRoute<'_>) -> bool {
-    let mut policies = Policies::new(alloc);
+// Whether a rule of this condition matches the local network.
+fn is_match(policies: &mut Policies, condition: Condition) -> bool {
     let rule = Rule {
         condition,
         action: ACCEPT,
     };
-    sets(&mut policies, "one", &[rule]) && makes(&policies, "one", route, ACCEPT)
+    sets(policies, "one", &[rule]) && makes(policies, "one", &NETWORK, ACCEPT)
+}
+
+// Whether one does not, and so rejects it.
+fn is_refused(policies: &mut Policies, condition: Condition) -> bool {
+    let rule = Rule {
+        condition,
+        action: ACCEPT,
+    };
+    sets(policies, "one", &[rule]) && makes(policies, "one", &NETWORK, Action::Reject)
 }
 
 // What asks for an origin, for an AS in the path, or for a slot.
@@ -94,10 +102,10 @@ const TESTS: [Condition; 5] = [
 // Taken or told.
 #[test]
 fn what_a_route_lacks_meets_no_test(rt: HostRuntime) {
-    let route = network(prefix_of(&rt, 0x0a01_0000, 16));
-    assert!(rt; is_match(rt.alloc(), ANY, &route));
+    let mut policies = Policies::new(rt.alloc());
+    assert!(rt; is_match(&mut policies, ANY));
     for condition in &TESTS {
-        assert!(rt; !is_match(rt.alloc(), *condition, &route));
+        assert!(rt; is_refused(&mut policies, *condition));
     }
 }
 
@@ -110,9 +118,8 @@ fn reject(policies: &mut Policies, route: &SeenRoute<'_>) -> bool {
 
 #[test]
 fn no_rule_rejects(rt: HostRuntime) {
-    let route = announced(prefix_of(&rt, 0x0a01_0000, 16));
     let mut policies = Policies::new(rt.alloc());
-    assert!(rt; reject(&mut policies, &route));
+    assert!(rt; reject(&mut policies, &ANNOUNCED));
 }
 
 fn knows(policies: &Policies, name: &str) -> bool {
@@ -154,9 +161,8 @@ fn replaces_and_drops(policies: &mut Policies, route: &SeenRoute<'_>) -> bool {
 
 #[test]
 fn a_policy_is_known_until_it_is_dropped(rt: HostRuntime) {
-    let route = announced(prefix_of(&rt, 0x0a01_0000, 16));
     let mut policies = Policies::new(rt.alloc());
-    assert!(rt; replaces_and_drops(&mut policies, &route));
+    assert!(rt; replaces_and_drops(&mut policies, &ANNOUNCED));
 }
 
 const NUMBERS: [(PolicyRefusal, u8); 5] = [
@@ -231,7 +237,11 @@ enum Numbers {
 }
 
 // The rule of these numbers.
-fn rule_of(prefix: Prefix, numbers: Numbers) -> Rule {
+fn rule_of(numbers: Numbers) -> Rule {
+    let prefix = Prefix {
+        bits: 0x0a00_0000,
+        len: 8,
+    };
     let (mut condition, mut action) = (ANY, Action::Reject);
     match numbers {
         Numbers::Lengths(from, to) => condition.prefix = Some(PrefixRange { prefix, from, to }),
@@ -270,10 +280,9 @@ fn is_in_range(policies: &mut Policies, rule: Rule, refusal: Option<PolicyRefusa
 
 #[test]
 fn numbers_of_rules_have_ranges(rt: HostRuntime) {
-    let prefix = prefix_of(&rt, 0x0a00_0000, 8);
     let mut policies = Policies::new(rt.alloc());
     for (numbers, refusal) in &RANGES {
-        assert!(rt; is_in_range(&mut policies, rule_of(prefix, *numbers), *refusal));
+        assert!(rt; is_in_range(&mut policies, rule_of(*numbers), *refusal));
     }
 }
 
@@ -376,13 +385,9 @@ fn there_are_64_policies_at_most(rt: HostRuntime) {
 }
 
 // What the policy of this name makes of a local network.
-fn of_network<A: Allocator + Clone>(
-    policies: &Policies<A>,
-    name: PolicyName,
-    prefix: Prefix,
-) -> Action {
+fn of_network<A: Allocator + Clone>(policies: &Policies<A>, name: PolicyName) -> Action {
     let route = SeenRoute {
-        prefix,
+        prefix: TEN_ONE,
         state: Validity::NotFound,
         origin: None,
         path: None,
@@ -403,16 +408,16 @@ const SETTINGS: [(&str, bool); 7] = [
     ("e", false),
 ];
 
-// Whether the name is known, and what its policy makes of a local network, is as before.
+// Whether the name is known, and what its policy makes of a local network, is as before, where memory was wanting.
 fn is_left<A: Allocator + Clone>(
-    rt: &impl Abort,
     policies: &Policies<A>,
     name: PolicyName,
-    prefix: Prefix,
+    refusal: PolicyRefusal,
     before: (bool, Action),
-) {
-    assert!(rt; policies.knows(name) == before.0);
-    assert!(rt; of_network(policies, name, prefix) == before.1);
+) -> bool {
+    refusal.number() == 44
+        && policies.knows(name) == before.0
+        && of_network(policies, name) == before.1
 }
 
 // Sets a policy of one rule, and again where a growth is refused. Answers whether one was.
@@ -422,16 +427,14 @@ fn is_set_again<A: Allocator + Clone>(
     text: &str,
     rule: Rule,
 ) -> bool {
-    let prefix = prefix_of(rt, 0x0a01_0000, 16);
     let name = name_of(rt, text);
-    let before = (policies.knows(name), of_network(policies, name, prefix));
+    let before = (policies.knows(name), of_network(policies, name));
     let refusal = policies.set(text, &[rule]).err();
     if let Some(refusal) = refusal {
-        assert_eq!(rt; refusal.number(), 44);
-        is_left(rt, policies, name, prefix, before);
+        assert!(rt; is_left(policies, name, refusal, before));
         assert!(rt; policies.set(text, &[rule]).is_ok());
     }
-    assert!(rt; of_network(policies, name, prefix) == rule.action);
+    assert!(rt; of_network(policies, name) == rule.action);
     refusal.is_some()
 }
 
@@ -458,9 +461,8 @@ fn set_all<A: Allocator + Clone>(rt: &impl Abort, policies: &mut Policies<A>) ->
 // Does so, looks at the first one, and drops one. Answers how often a growth was refused.
 fn fill<A: Allocator + Clone>(rt: &impl Abort, policies: &mut Policies<A>) -> u32 {
     let refused = set_all(rt, policies);
-    let first = of_network(policies, name_of(rt, "a"), prefix_of(rt, 0x0a01_0000, 16));
-    assert!(rt; first == ACCEPT);
-    assert!(rt; policies.drop_name("b", false).is_ok());
+    let first = of_network(policies, name_of(rt, "a"));
+    assert!(rt; first == ACCEPT && policies.drop_name("b", false).is_ok());
     refused
 }
 
@@ -476,7 +478,7 @@ fn is_filled(rt: &impl Abort, alloc: Global, nth: u64) -> bool
     let heap = Refusing::new(alloc, nth);
     let refused = refusals_in(rt, Policies::new(&heap));
     let left = heap.has_refused();
-    assert_eq!(rt; refused, u32::from(left));
+    assert!(rt; refused == u32::from(left));
     left
 }
 

@@ -1,11 +1,10 @@
 //! Files of a test.
 
 use std::alloc::AllocGlobal;
-use std::test::Fail;
-use std::{env, fs, process};
+use std::{env, fs, io, process};
 
 /// A path of this process alone.
-pub fn path_of(rt: &HostRuntime, name: &str) -> Result<String, Fail> {
+pub fn path_of(rt: &HostRuntime, name: &str) -> io::Result<String> {
     let number = process::id(rt.process());
     let mut path = env::temp_dir(rt)?;
     path.push(format!(in rt.alloc(); "kenyodla-{number}-{name}")?.as_str())?;
@@ -13,7 +12,7 @@ pub fn path_of(rt: &HostRuntime, name: &str) -> Result<String, Fail> {
 }
 
 /// Writes a file of this name, and answers its path.
-pub fn write(rt: &HostRuntime, name: &str, text: &str) -> Result<String, Fail> {
+pub fn write(rt: &HostRuntime, name: &str, text: &str) -> io::Result<String> {
     let path = path_of(rt, name)?;
     fs::write(rt, path.as_str(), text)?;
     Ok(path)
@@ -25,7 +24,7 @@ pub fn write_settings(
     key: &str,
     path: &str,
     settings: &str,
-) -> Result<String, Fail> {
+) -> io::Result<String> {
     let settings_path = format!(in rt.alloc(); "{path}.toml")?;
     let text = format!(in rt.alloc(); "{key} = \"{path}\"\n{settings}")?;
     fs::write(rt, settings_path.as_str(), text.as_str())?;
@@ -33,6 +32,6 @@ pub fn write_settings(
 }
 
 /// Takes a file away.
-pub fn remove(rt: &HostRuntime, path: &str) -> Result<(), Fail> {
-    Ok(fs::remove_file(rt, path)?)
+pub fn remove(rt: &HostRuntime, path: &str) -> io::Result<()> {
+    fs::remove_file(rt, path)
 }

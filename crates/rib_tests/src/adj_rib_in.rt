@@ -115,90 +115,116 @@ fn has_route(table: &AdjIn, slot: u8, prefix: Prefix) -> bool {
     table.get(slot, prefix).is_some()
 }
 
-// Whether there are routes to just these prefixes, and of each of these slots to just its own.
-fn are_routed(table: &AdjIn, prefixes: &[Prefix], slots: &[(u8, &[Prefix])]) -> bool {
-    for (slot, own) in slots {
-        if 64 <= *slot || !has_routes(table, *slot, own) {
-            return false;
-        }
-    }
-    has_prefixes(table, prefixes)
+// 10.0.0.0/16, 10.0.0.0/24 and 192.0.2.0/24, which rise.
+const LOW: Prefix = Prefix {
+    bits: 0x0a00_0000,
+    len: 16,
+};
+
+const MIDDLE: Prefix = Prefix {
+    bits: 0x0a00_0000,
+    len: 24,
+};
+
+const HIGH: Prefix = Prefix {
+    bits: 0xc000_0200,
+    len: 24,
+};
+
+// Whether there are routes to just these prefixes, of slot 0 and of slot 1 to just their own.
+fn has_both(table: &AdjIn, all: &[Prefix], of_0: &[Prefix], of_1: &[Prefix]) -> bool {
+    has_routes(table, 0, of_0) && has_routes(table, 1, of_1) && has_prefixes(table, all)
 }
 
-// Of the routes (1, high), (0, low) and (1, low), of which one is withdrawn.
-fn keeps_the_latest(table: &mut AdjIn, low: Prefix, high: Prefix) -> bool {
-    let is_kept = are_routed(table, &[low, high], &[(0, &[low]), (1, &[low, high])]);
-    table.withdraw(1, high);
-    let is_left = are_routed(table, &[low], &[(0, &[low]), (1, &[low])]);
-    is_kept && is_left && !has_route(table, 1, high) && !table.is_routed(high)
+// Of these routes one is withdrawn.
+const KEPT: [(u8, Prefix); 3] = [(1, MIDDLE), (0, LOW), (1, LOW)];
+
+fn keeps_the_latest(table: &mut AdjIn) -> bool {
+    let is_kept = has_both(table, &[LOW, MIDDLE], &[LOW], &[LOW, MIDDLE]);
+    table.withdraw(1, MIDDLE);
+    let is_left = has_both(table, &[LOW], &[LOW], &[LOW]);
+    is_kept && is_left && !has_route(table, 1, MIDDLE) && !table.is_routed(MIDDLE)
 }
 
 // Then the sessions of both slots end.
-fn drops_both(table: &mut AdjIn, low: Prefix) -> bool {
+fn drops_both(table: &mut AdjIn) -> bool {
     table.drop_slot(1);
-    let is_left = are_routed(table, &[low], &[(0, &[low]), (1, &[])]);
+    let is_left = has_both(table, &[LOW], &[LOW], &[]);
     table.drop_slot(0);
-    is_left && are_routed(table, &[], &[(0, &[])]) && !table.is_routed(low)
+    is_left && has_both(table, &[], &[], &[]) && !table.is_routed(LOW)
 }
 
 #[test]
 fn the_latest_route_of_each_slot_is_kept(rt: HostRuntime) {
-    let low = prefix_of(&rt, 0x0a00_0000, 16);
-    let high = prefix_of(&rt, 0x0a00_0000, 24);
-    let mut table = table_of(&rt, rt.alloc(), &[(1, high), (0, low), (1, low)]);
-    assert!(rt; keeps_the_latest(&mut table, low, high) && drops_both(&mut table, low));
+    let mut table = table_of(&rt, rt.alloc(), &KEPT);
+    assert!(rt; keeps_the_latest(&mut table) && drops_both(&mut table));
 }
 
-// Of slots 2, 9 and 63, which have routes to some of the prefixes, which rise.
-fn finds_routes(table: &mut AdjIn, all: &[Prefix; 3]) -> bool {
-    let [low, middle, high] = *all;
-    let slots: [(u8, &[Prefix]); 4] = [
-        (2, &[low, high]),
-        (9, &[low]),
-        (63, &[low, middle]),
-        (8, &[]),
-    ];
-    let is_found = are_routed(table, all, &slots);
-    table.withdraw(2, low);
-    let is_left = are_routed(table, all, &[(2, &[high]), (9, &[low])]);
+// Slots 2, 9 and 63 have routes to some of the prefixes.
+const ROUTES: [(u8, Prefix); 6] = [
+    (9, LOW),
+    (63, LOW),
+    (2, LOW),
+    (2, HIGH),
+    (63, MIDDLE),
+    (9, LOW),
+];
+
+// Whether each slot has its routes.
+fn has_each(table: &AdjIn) -> bool {
+    has_routes(table, 2, &[LOW, HIGH])
+        && has_routes(table, 9, &[LOW])
+        && has_routes(table, 63, &[LOW, MIDDLE])
+        && has_routes(table, 8, &[])
+        && has_prefixes(table, &[LOW, MIDDLE, HIGH])
+}
+
+// One route is withdrawn, and then the session of slot 63 ends.
+fn finds_routes(table: &mut AdjIn) -> bool {
+    let is_found = has_each(table);
+    table.withdraw(2, LOW);
+    let is_left = has_routes(table, 2, &[HIGH])
+        && has_routes(table, 9, &[LOW])
+        && has_prefixes(table, &[LOW, MIDDLE, HIGH]);
     table.drop_slot(63);
-    is_found && is_left && are_routed(table, &[low, high], &[(63, &[]), (9, &[low])])
+    let is_gone = has_routes(table, 63, &[]) && has_routes(table, 9, &[LOW]);
+    is_found && is_left && is_gone && has_prefixes(table, &[LOW, HIGH])
 }
 
 #[test]
 fn the_routes_of_a_slot_are_found(rt: HostRuntime) {
-    let low = prefix_of(&rt, 0x0a00_0000, 16);
-    let middle = prefix_of(&rt, 0x0a00_0000, 24);
-    let high = prefix_of(&rt, 0xc000_0200, 24);
-    let routes = [
-        (9, low),
-        (63, low),
-        (2, low),
-        (2, high),
-        (63, middle),
-        (9, low),
-    ];
-    let mut table = table_of(&rt, rt.alloc(), &routes);
-    assert!(rt; finds_routes(&mut table, &[low, middle, high]));
+    let mut table = table_of(&rt, rt.alloc(), &ROUTES);
+    assert!(rt; finds_routes(&mut table));
 }
 
-// Of slots 64 and 255, and of slot 0, which has a mark.
-fn has_routes_without_marks(rt: &impl Abort, table: &mut AdjIn, low: Prefix, high: Prefix) {
-    assert!(rt; count_routes(table, 64) == 2 && has_routes(table, 0, &[low]));
+// Slots 64 and 255, and slot 0, which has a mark.
+const UNMARKED: [(u8, Prefix); 4] = [(64, LOW), (0, LOW), (255, LOW), (64, HIGH)];
+
+fn has_routes_without_marks(table: &mut AdjIn) -> bool {
+    let is_there = count_routes(table, 64) == 2 && has_routes(table, 0, &[LOW]);
     table.drop_slot(64);
-    assert!(rt; !has_route(table, 64, low) && !has_route(table, 64, high));
-    assert!(rt; has_route(table, 255, low) && has_prefixes(table, &[low]));
+    let is_gone = !has_route(table, 64, LOW) && !has_route(table, 64, HIGH);
+    let is_left = has_route(table, 255, LOW) && has_prefixes(table, &[LOW]);
     table.drop_slot(255);
-    assert!(rt; has_routes(table, 0, &[low]));
+    is_there && is_gone && is_left && has_routes(table, 0, &[LOW])
 }
 
 #[test]
 fn a_slot_without_a_mark_has_routes_too(rt: HostRuntime) {
-    let low = prefix_of(&rt, 0x0a00_0000, 16);
-    let high = prefix_of(&rt, 0xc000_0200, 24);
-    let routes = [(64, low), (0, low), (255, low), (64, high)];
-    let mut table = table_of(&rt, rt.alloc(), &routes);
-    has_routes_without_marks(&rt, &mut table, low, high);
+    let mut table = table_of(&rt, rt.alloc(), &UNMARKED);
+    assert!(rt; has_routes_without_marks(&mut table));
+}
+
+// Whether a route that was refused for want of memory isn't there, and so many others are.
+fn is_left<A: Allocator + Clone>(
+    table: &AdjIn<A>,
+    slot: u8,
+    prefix: Prefix,
+    fault: RibFault,
+    before: u32,
+) -> bool {
+    let kept = count_routes(table, 0).saturating_add(count_routes(table, 1));
+    fault.number() == 20 && table.get(slot, prefix).is_none() && kept == before
 }
 
 // Announces a route, and again where a growth is refused, behind so many others. Answers whether one was.
@@ -213,10 +239,7 @@ fn is_announced_again<A: Allocator + Clone>(
     let Some(fault) = announce(rt, table, attrs, slot, prefix) else {
         return false;
     };
-    assert_eq!(rt; fault.number(), 20);
-    assert!(rt; table.get(slot, prefix).is_none());
-    let kept = count_routes(table, 0).saturating_add(count_routes(table, 1));
-    assert_eq!(rt; kept, before);
+    assert!(rt; is_left(table, slot, prefix, fault, before));
     assert!(rt; announce(rt, table, attrs, slot, prefix).is_none());
     true
 }

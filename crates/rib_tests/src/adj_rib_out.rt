@@ -46,39 +46,48 @@ fn holds_just(table: &AdjOut, held: &[(Prefix, &[u8])]) -> bool {
     table.prefix_after(after).is_none() && routes.next().is_none()
 }
 
+const LOW: Prefix = Prefix {
+    bits: 0x0a00_0000,
+    len: 16,
+};
+
+const HIGH: Prefix = Prefix {
+    bits: 0x0a00_0000,
+    len: 24,
+};
+
 // Of a low prefix, to which one and then two is announced, and a high one.
-fn holds_the_last(alloc: Global, table: &mut AdjOut, low: Prefix, high: Prefix) -> bool {
-    let announced: [(Prefix, &[u8]); 3] = [(high, b"three"), (low, b"one"), (low, b"two")];
-    let is_taken = announces(alloc, table, &announced);
-    let is_held = holds_just(table, &[(low, b"two"), (high, b"three")]);
-    is_taken && is_held && !table.holds(low, b"one")
+fn holds_the_last(alloc: Global, table: &mut AdjOut) -> bool {
+    let announced: [(Prefix, &[u8]); 3] = [(HIGH, b"three"), (LOW, b"one"), (LOW, b"two")];
+    announces(alloc, table, &announced)
+        && holds_just(table, &[(LOW, b"two"), (HIGH, b"three")])
+        && !table.holds(LOW, b"one")
 }
 
 // Then the low one is withdrawn, and all is cleared.
-fn holds_no_more(table: &mut AdjOut, low: Prefix, high: Prefix) -> bool {
-    table.withdraw(low);
-    let is_left = table.get(low).is_none() && holds_just(table, &[(high, b"three")]);
+fn holds_no_more(table: &mut AdjOut) -> bool {
+    table.withdraw(LOW);
+    let is_left = table.get(LOW).is_none() && holds_just(table, &[(HIGH, b"three")]);
     table.clear();
     is_left && holds_just(table, &[])
 }
 
 #[test]
 fn the_peer_holds_what_it_was_last_sent(rt: HostRuntime) {
-    let low = prefix_of(&rt, 0x0a00_0000, 16);
-    let high = prefix_of(&rt, 0x0a00_0000, 24);
     let mut table = AdjOut::new(rt.alloc());
-    assert!(rt; holds_the_last(rt.alloc(), &mut table, low, high));
-    assert!(rt; holds_no_more(&mut table, low, high));
+    assert!(rt; holds_the_last(rt.alloc(), &mut table) && holds_no_more(&mut table));
 }
 
-// How many prefixes the peer holds, each with these octets.
-fn count_held<A: Allocator + Clone>(rt: &impl Abort, table: &AdjOut<A>, all: &[u8]) -> u32 {
+// Whether the peer holds so many prefixes, each with these octets.
+fn holds_so_many<A: Allocator + Clone>(table: &AdjOut<A>, all: &[u8], count: u32) -> bool {
     let mut held = 0u32;
     for (_, octets) in table.held() {
-        assert!(rt; octets == all);
+        if octets != all {
+            return false;
+        }
         held = held.saturating_add(1);
     }
-    held
+    held == count
 }
 
 // Announces a prefix, and again where a growth is refused, behind so many others. Answers whether one was.
@@ -91,8 +100,7 @@ fn is_announced_again<A: Allocator + Clone>(
 ) -> bool {
     let refused = !announce(table, prefix, octets.share());
     if refused {
-        assert!(rt; table.get(prefix).is_none());
-        assert_eq!(rt; count_held(rt, table, &[7; 40]), before);
+        assert!(rt; table.get(prefix).is_none() && holds_so_many(table, &[7; 40], before));
         assert!(rt; announce(table, prefix, octets.share()));
     }
     refused

@@ -83,57 +83,54 @@ fn row_after<A: Allocator + Clone, B: Book<A>>(
     }
 }
 
-// The slot's candidate comes or goes as `offer` says. Then the best one is of this slot, and so many choices were made.
+// Whether the slot's candidate comes or goes as `offer` says. Then the best one is of this slot, and so many choices were
+// made.
 fn turns<A: Allocator + Clone, B: Book<A>>(
-    rt: &impl Abort,
     book: &mut B,
     meter: &mut Meter,
-    prefix: Prefix,
     offered: (u8, Option<u64>),
     best: (Option<u8>, u64),
-)
+) -> bool
     requires { AreAddressed (offer_at (B.kept book.old)) }
     ensures { AreAddressed (offer_at (B.kept book.new)) }
 {
-    assert!(rt; offer(book, meter, prefix, offered.0, offered.1).is_ok());
-    is_best(rt, book, meter, prefix, best);
+    offer(book, meter, LOW, offered.0, offered.1).is_ok() && is_best(book, meter, best)
 }
 
-// The best one is of this slot, and so many choices were made.
+// Whether the best one is of this slot, and so many choices were made.
 fn is_best<A: Allocator + Clone, B: Book<A>>(
-    rt: &impl Abort,
     book: &B,
     meter: &Meter,
-    prefix: Prefix,
     best: (Option<u8>, u64),
-) {
-    assert_eq!(rt; slot_of_best(book, prefix), best.0);
-    assert_eq!(rt; meter.count(), best.1);
+) -> bool {
+    slot_of_best(book, LOW) == best.0 && meter.count() == best.1
 }
 
-// The best of two slots' candidates at a prefix, as they come, change and go.
-fn follows_its_candidates<A: Allocator + Clone, B: Book<A>>(
-    rt: &impl Abort,
-    book: &mut B,
-    prefix: Prefix,
-)
+const LOW: Prefix = Prefix {
+    bits: 0x0a00_0000,
+    len: 16,
+};
+
+// The best of two slots' candidates at a prefix, as they come and change: the same candidate again is no change.
+fn follows_its_candidates<A: Allocator + Clone, B: Book<A>>(book: &mut B, meter: &mut Meter) -> bool
+    requires { AreAddressed (offer_at (B.kept book.old)) }
+    ensures { AreAddressed (offer_at (B.kept book.new)) }
+{
+    turns(book, meter, (1, Some(100)), (Some(1), 1))
+        && turns(book, meter, (2, Some(200)), (Some(2), 2))
+        && turns(book, meter, (2, Some(200)), (Some(2), 2))
+}
+
+// The best one goes, and its place stays; then the other one goes with its place, and at last a place without a candidate,
+// without a choice.
+fn loses_its_candidates<A: Allocator + Clone, B: Book<A>>(book: &mut B, meter: &mut Meter) -> bool
     requires { AreAddressed (offer_at (B.kept book.old)) }
 {
-    let mut meter = Meter::new();
-    turns(rt, book, &mut meter, prefix, (1, Some(100)), (Some(1), 1));
-    turns(rt, book, &mut meter, prefix, (2, Some(200)), (Some(2), 2));
-
-    // The same candidate again is no change.
-    turns(rt, book, &mut meter, prefix, (2, Some(200)), (Some(2), 2));
-
-    // The best one goes, and its place stays; then the other one goes with its place.
-    turns(rt, book, &mut meter, prefix, (2, None), (Some(1), 3));
-    leave(book, &mut meter, prefix, 1);
-    is_best(rt, book, &meter, prefix, (None, 4));
-
-    // A place without a candidate goes without a choice.
-    leave(book, &mut meter, prefix, 2);
-    is_best(rt, book, &meter, prefix, (None, 4));
+    let is_first = turns(book, meter, (2, None), (Some(1), 3));
+    leave(book, meter, LOW, 1);
+    let is_second = is_best(book, meter, (None, 4));
+    leave(book, meter, LOW, 2);
+    is_first && is_second && is_best(book, meter, (None, 4))
 }
 
 // An empty book.
@@ -148,58 +145,60 @@ fn book_of<A: Allocator + Clone>(rt: &impl Abort, alloc: A) -> PlainBook<A>
 
 #[test]
 fn a_withdrawn_best_gives_way_to_the_next(rt: HostRuntime) {
-    let prefix = prefix_of(&rt, 0x0a00_0000, 16);
     let mut book = book_of(&rt, rt.alloc());
-    follows_its_candidates(&rt, &mut book, prefix);
+    let mut meter = Meter::new();
+    assert!(rt; follows_its_candidates(&mut book, &mut meter));
+    assert!(rt; loses_its_candidates(&mut book, &mut meter));
 }
 
-// The prefix and the slot of the first row above a prefix, or of all, are these.
-fn is_row<A: Allocator + Clone, B: Book<A>>(
-    rt: &impl Abort,
-    book: &B,
-    after: Option<Prefix>,
-    row: Option<(Prefix, u8)>,
-) {
-    assert_eq!(rt; row_after(book, after), row);
-}
+const MIDDLE: Prefix = Prefix {
+    bits: 0x0a00_0000,
+    len: 24,
+};
 
-// The rows of a book with candidates at two prefixes, and a place at one between them.
-fn shows_rows<A: Allocator + Clone, B: Book<A>>(
-    rt: &impl Abort,
-    book: &B,
-    low: Prefix,
-    middle: Prefix,
-    high: Prefix,
-) {
-    is_row(rt, book, None, Some((low, 3)));
-    is_row(rt, book, Some(low), Some((high, 3)));
-    is_row(rt, book, Some(middle), Some((high, 3)));
-    is_row(rt, book, Some(high), None);
+const HIGH: Prefix = Prefix {
+    bits: 0x0a01_0000,
+    len: 16,
+};
+
+// Prefixes, and the prefix of the first row above each, or of all: of a book with candidates of slot 3 at two prefixes, and
+// a place at one between them.
+const ROWS: [(Option<Prefix>, Option<Prefix>); 4] = [
+    (None, Some(LOW)),
+    (Some(LOW), Some(HIGH)),
+    (Some(MIDDLE), Some(HIGH)),
+    (Some(HIGH), None),
+];
+
+// Whether the book has those rows.
+fn shows_rows<A: Allocator + Clone, B: Book<A>>(book: &B) -> bool {
+    for (after, prefix) in &ROWS {
+        let is_row = match (row_after(book, *after), *prefix) {
+            (Some(row), Some(prefix)) => row == (prefix, 3),
+            (None, None) => true,
+            _ => false,
+        };
+        if !is_row {
+            return false;
+        }
+    }
+    true
 }
 
 // Makes those candidates and that place.
-fn make_rows<A: Allocator + Clone, B: Book<A>>(
-    book: &mut B,
-    low: Prefix,
-    middle: Prefix,
-    high: Prefix,
-) -> Result<(), AllocError>
+fn make_rows<A: Allocator + Clone, B: Book<A>>(book: &mut B) -> Result<(), AllocError>
     requires { AreAddressed (offer_at (B.kept book.old)) }
 {
     let mut meter = Meter::new();
-    offer(book, &mut meter, high, 3, Some(100))?;
-    offer(book, &mut meter, low, 3, Some(100))?;
-    book.room(3, middle)
+    offer(book, &mut meter, HIGH, 3, Some(100))?;
+    offer(book, &mut meter, LOW, 3, Some(100))?;
+    book.room(3, MIDDLE)
 }
 
 #[test]
 fn the_rows_rise(rt: HostRuntime) {
-    let low = prefix_of(&rt, 0x0a00_0000, 16);
-    let middle = prefix_of(&rt, 0x0a00_0000, 24);
-    let high = prefix_of(&rt, 0x0a01_0000, 16);
     let mut book = book_of(&rt, rt.alloc());
-    assert!(rt; make_rows(&mut book, low, middle, high).is_ok());
-    shows_rows(&rt, &book, low, middle, high);
+    assert!(rt; make_rows(&mut book).is_ok() && shows_rows(&book));
 }
 
 // Makes a place, and asks again where a growth is refused. Answers whether one was.
@@ -211,8 +210,7 @@ fn is_made_again<A: Allocator + Clone, B: Book<A>>(
 ) -> bool {
     let refused = book.room(slot, prefix).is_err();
     if refused {
-        assert_eq!(rt; slot_of_best(book, prefix), None);
-        assert!(rt; book.room(slot, prefix).is_ok());
+        assert!(rt; slot_of_best(book, prefix).is_none() && book.room(slot, prefix).is_ok());
     }
     refused
 }
@@ -240,7 +238,7 @@ fn is_filled(rt: &impl Abort, alloc: Global, nth: u64) -> bool
     let refused = fill(rt, &mut book);
     let left = heap.has_refused();
     if !left {
-        assert_eq!(rt; refused, 0);
+        assert!(rt; refused == 0);
     }
     left
 }

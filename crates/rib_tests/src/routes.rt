@@ -5,7 +5,6 @@ ghost use Rattle.decision.specs.BookContents.{offer_at};
 
 use crate::adj_rib_in::shared;
 use crate::books::candidate;
-use crate::given::prefix_of;
 use bgp_attr::Attrs;
 use decision::{Book, PlainBook};
 use loc_rib::Ribs;
@@ -44,18 +43,25 @@ fn count_of_rows<A: Allocator + Clone, B: Book<A>>(ribs: &Ribs<A, B>) -> u32 {
     count
 }
 
-// The slot of the best route to the prefix, how many rows there are, and how often one was chosen.
+const LOW: Prefix = Prefix {
+    bits: 0x0a00_0000,
+    len: 16,
+};
+
+const HIGH: Prefix = Prefix {
+    bits: 0x0a01_0000,
+    len: 16,
+};
+
+// Whether this is the slot of the best route to the prefix, there are so many rows, and one was chosen so often.
 fn shows<A: Allocator + Clone, B: Book<A>>(
-    rt: &impl Abort,
     ribs: &Ribs<A, B>,
-    best: (Prefix, Option<u8>),
+    prefix: Prefix,
+    slot: Option<u8>,
     rows: u32,
     chosen: u64,
-) {
-    let (prefix, slot) = best;
-    assert_eq!(rt; slot_of_best(ribs, prefix), slot);
-    assert_eq!(rt; count_of_rows(ribs), rows);
-    assert_eq!(rt; ribs.chosen(), chosen);
+) -> bool {
+    slot_of_best(ribs, prefix) == slot && count_of_rows(ribs) == rows && ribs.chosen() == chosen
 }
 
 // Two slots' routes to two prefixes come.
@@ -63,47 +69,34 @@ fn takes_routes<A: Allocator + Clone, B: Book<A>>(
     rt: &impl Abort,
     ribs: &mut Ribs<A, B>,
     attrs: &Rc<Attrs<A>, A>,
-    low: Prefix,
-    high: Prefix,
 ) -> Result<(), AllocError>
     requires { AreAddressed (offer_at ribs.old.book) }
 {
-    come(ribs, attrs, low, 1, 100)?;
-    come(ribs, attrs, low, 2, 200)?;
-    come(ribs, attrs, high, 2, 100)?;
-    shows(rt, ribs, (low, Some(2)), 2, 3);
-    shows(rt, ribs, (high, Some(2)), 2, 3);
+    come(ribs, attrs, LOW, 1, 100)?;
+    come(ribs, attrs, LOW, 2, 200)?;
+    come(ribs, attrs, HIGH, 2, 100)?;
+    assert!(rt; shows(ribs, LOW, Some(2), 2, 3) && shows(ribs, HIGH, Some(2), 2, 3));
 
     // The same route again makes the same candidate.
-    come(ribs, attrs, low, 2, 200)?;
-    shows(rt, ribs, (low, Some(2)), 2, 3);
+    come(ribs, attrs, LOW, 2, 200)?;
+    assert!(rt; shows(ribs, LOW, Some(2), 2, 3));
     Ok(())
 }
 
-// One of these routes is withdrawn, and the sessions of the slots end.
-fn loses_routes<A: Allocator + Clone, B: Book<A>>(
-    rt: &impl Abort,
-    ribs: &mut Ribs<A, B>,
-    low: Prefix,
-    high: Prefix,
-) {
-    // The best one is withdrawn.
-    ribs.withdraw(2, low);
-    shows(rt, ribs, (low, Some(1)), 2, 4);
-    assert!(rt; ribs.routes().get(2, low).is_none());
+// Whether the best one is withdrawn, and is no route to withdraw any more then.
+fn withdraws_the_best<A: Allocator + Clone, B: Book<A>>(ribs: &mut Ribs<A, B>) -> bool {
+    ribs.withdraw(2, LOW);
+    let is_withdrawn = shows(ribs, LOW, Some(1), 2, 4) && ribs.routes().get(2, LOW).is_none();
+    ribs.withdraw(2, LOW);
+    is_withdrawn && shows(ribs, LOW, Some(1), 2, 4)
+}
 
-    // There is no route to withdraw any more.
-    ribs.withdraw(2, low);
-    shows(rt, ribs, (low, Some(1)), 2, 4);
-
-    // The other slot's session ends.
+// Whether the other slot's session ends, and then the one that is left.
+fn ends_the_sessions<A: Allocator + Clone, B: Book<A>>(ribs: &mut Ribs<A, B>) -> bool {
     ribs.drop_slot(2);
-    shows(rt, ribs, (high, None), 1, 5);
-
-    // And so does the one that is left.
+    let is_first = shows(ribs, HIGH, None, 1, 5);
     ribs.drop_slot(1);
-    shows(rt, ribs, (low, None), 0, 6);
-    assert!(rt; ribs.routes().prefix_after(None).is_none());
+    is_first && shows(ribs, LOW, None, 0, 6) && ribs.routes().prefix_after(None).is_none()
 }
 
 // Without routes.
@@ -118,10 +111,8 @@ fn ribs_of(rt: &impl Abort, alloc: Global) -> Ribs<Global, PlainBook>
 
 #[test]
 fn candidates_go_with_their_routes(rt: HostRuntime) {
-    let low = prefix_of(&rt, 0x0a00_0000, 16);
-    let high = prefix_of(&rt, 0x0a01_0000, 16);
     let attrs = shared(&rt, rt.alloc());
     let mut ribs = ribs_of(&rt, rt.alloc());
-    assert!(rt; takes_routes(&rt, &mut ribs, &attrs, low, high).is_ok());
-    loses_routes(&rt, &mut ribs, low, high);
+    assert!(rt; takes_routes(&rt, &mut ribs, &attrs).is_ok());
+    assert!(rt; withdraws_the_best(&mut ribs) && ends_the_sessions(&mut ribs));
 }

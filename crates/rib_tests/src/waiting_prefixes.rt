@@ -48,127 +48,134 @@ fn waits<A: Allocator>(waiting: &Waiting<A>, slot: u8, owed: Owed, prefixes: &[P
     waiting.next(slot, owed, last).is_none()
 }
 
-// Makes the prefix known, and marks it; there is memory.
-fn put<A: Allocator + Clone>(
-    rt: &impl Abort,
-    waiting: &mut Waiting<A>,
-    slot: u8,
-    prefix: Prefix,
-    owed: Option<Owed>,
-)
-    requires { slot < 64 }
-{
-    assert!(rt; mark(waiting, slot, prefix, owed).is_ok());
+// A slot, a prefix, and what the slot is owed of it, if anything.
+type Mark = (u8, Prefix, Option<Owed>);
+
+// Whether each prefix is made known, and marked.
+fn marks<A: Allocator + Clone>(waiting: &mut Waiting<A>, rows: &[Mark]) -> bool {
+    for (slot, prefix, owed) in rows {
+        if 64 <= *slot || mark(waiting, *slot, *prefix, *owed).is_err() {
+            return false;
+        }
+    }
+    true
 }
 
-// This waits for the slot of just these prefixes.
-fn has<A: Allocator>(
-    rt: &impl Abort,
-    waiting: &Waiting<A>,
-    slot: u8,
-    owed: Owed,
-    prefixes: &[Prefix],
-)
-    requires { slot < 64 }
-{
-    assert!(rt; waits(waiting, slot, owed, prefixes));
+const TOP: Prefix = Prefix {
+    bits: 0x0a00_0000,
+    len: 8,
+};
+
+const LOW: Prefix = Prefix {
+    bits: 0x0a00_0000,
+    len: 16,
+};
+
+const HIGH: Prefix = Prefix {
+    bits: 0x0a80_0000,
+    len: 9,
+};
+
+const OTHER: Prefix = Prefix {
+    bits: 0xc000_0200,
+    len: 24,
+};
+
+const FOUR: [Prefix; 4] = [TOP, LOW, HIGH, OTHER];
+
+const MARKS: [Mark; 4] = [
+    (0, OTHER, Some(Owed::Withdrawal)),
+    (0, LOW, Some(Owed::Announcement)),
+    (0, TOP, Some(Owed::Withdrawal)),
+    (63, LOW, Some(Owed::Withdrawal)),
+];
+
+// Whether that waits then.
+fn has_marks<A: Allocator>(waiting: &Waiting<A>) -> bool {
+    waits(waiting, 0, Owed::Withdrawal, &[TOP, OTHER])
+        && waits(waiting, 0, Owed::Announcement, &[LOW])
+        && waits(waiting, 63, Owed::Withdrawal, &[LOW])
+        && waiting.get(0, HIGH).is_none()
+        && waiting.get(1, TOP).is_none()
 }
 
 // What waits of four prefixes.
-fn finds_what_waits<A: Allocator + Clone>(
-    rt: &impl Abort,
-    waiting: &mut Waiting<A>,
-    prefixes: [Prefix; 4],
-) {
-    let [top, low, high, other] = prefixes;
-    put(rt, waiting, 0, other, Some(Owed::Withdrawal));
-    put(rt, waiting, 0, low, Some(Owed::Announcement));
-    put(rt, waiting, 0, top, Some(Owed::Withdrawal));
-    put(rt, waiting, 63, low, Some(Owed::Withdrawal));
-    assert!(rt; waiting.add(high).is_ok());
-    assert!(rt; knows(waiting, &prefixes));
-    has(rt, waiting, 0, Owed::Withdrawal, &[top, other]);
-    has(rt, waiting, 0, Owed::Announcement, &[low]);
-    has(rt, waiting, 63, Owed::Withdrawal, &[low]);
-    assert!(rt; waiting.get(0, high).is_none() && waiting.get(1, top).is_none());
+fn finds_what_waits<A: Allocator + Clone>(waiting: &mut Waiting<A>) -> bool {
+    marks(waiting, &MARKS)
+        && waiting.add(HIGH).is_ok()
+        && knows(waiting, &FOUR)
+        && has_marks(waiting)
 }
 
 #[test]
 fn what_waits_is_found_in_the_order_of_prefixes(rt: HostRuntime) {
-    let (top, low) = (
-        prefix_of(&rt, 0x0a00_0000, 8),
-        prefix_of(&rt, 0x0a00_0000, 16),
-    );
-    let (high, other) = (
-        prefix_of(&rt, 0x0a80_0000, 9),
-        prefix_of(&rt, 0xc000_0200, 24),
-    );
     let mut waiting = Waiting::new(rt.alloc());
-    finds_what_waits(&rt, &mut waiting, [top, low, high, other]);
+    assert!(rt; finds_what_waits(&mut waiting));
+}
+
+// The later one of a slot and a prefix stands in the place of the earlier one.
+const LATER_MARKS: [Mark; 4] = [
+    (5, LOW, Some(Owed::Announcement)),
+    (5, LOW, Some(Owed::Withdrawal)),
+    (6, LOW, Some(Owed::Announcement)),
+    (5, HIGH, Some(Owed::Announcement)),
+];
+
+// Whether just these wait for slot 5.
+fn waits_for_5<A: Allocator>(
+    waiting: &Waiting<A>,
+    withdrawn: &[Prefix],
+    announced: &[Prefix],
+) -> bool {
+    waits(waiting, 5, Owed::Withdrawal, withdrawn)
+        && waits(waiting, 5, Owed::Announcement, announced)
+}
+
+// Whether what waits for slot 5 goes, and then what waits for slot 6.
+fn clears<A: Allocator + Clone>(waiting: &mut Waiting<A>) -> bool {
+    waiting.clear(5);
+    waits_for_5(waiting, &[], &[])
+        && waits(waiting, 6, Owed::Announcement, &[LOW])
+        && marks(waiting, &[(6, LOW, None)])
+        && waits(waiting, 6, Owed::Announcement, &[])
 }
 
 // What waits of two prefixes, as it changes.
-fn follows_what_waits<A: Allocator + Clone>(
-    rt: &impl Abort,
-    waiting: &mut Waiting<A>,
-    low: Prefix,
-    high: Prefix,
-) {
-    put(rt, waiting, 5, low, Some(Owed::Announcement));
-    put(rt, waiting, 5, low, Some(Owed::Withdrawal));
-    put(rt, waiting, 6, low, Some(Owed::Announcement));
-    put(rt, waiting, 5, high, Some(Owed::Announcement));
-    has(rt, waiting, 5, Owed::Withdrawal, &[low]);
-    has(rt, waiting, 5, Owed::Announcement, &[high]);
-    waiting.clear(5);
-    has(rt, waiting, 5, Owed::Withdrawal, &[]);
-    has(rt, waiting, 5, Owed::Announcement, &[]);
-    has(rt, waiting, 6, Owed::Announcement, &[low]);
-    put(rt, waiting, 6, low, None);
-    has(rt, waiting, 6, Owed::Announcement, &[]);
-    waiting.forget(low);
-    assert!(rt; knows(waiting, &[high]));
+fn follows_what_waits<A: Allocator + Clone>(waiting: &mut Waiting<A>) -> bool {
+    marks(waiting, &LATER_MARKS) && waits_for_5(waiting, &[LOW], &[HIGH]) && clears(waiting)
 }
 
 #[test]
 fn what_waits_changes_until_nothing_does(rt: HostRuntime) {
-    let (low, high) = (
-        prefix_of(&rt, 0x0a00_0000, 16),
-        prefix_of(&rt, 0x0a80_0000, 9),
-    );
     let mut waiting = Waiting::new(rt.alloc());
-    follows_what_waits(&rt, &mut waiting, low, high);
+    assert!(rt; follows_what_waits(&mut waiting));
+    waiting.forget(LOW);
+    assert!(rt; knows(&waiting, &[HIGH]));
 }
 
-// A record of which something waits is kept, and then goes.
-fn releases_records<A: Allocator + Clone>(
-    rt: &impl Abort,
-    waiting: &mut Waiting<A>,
-    low: Prefix,
-    high: Prefix,
-) {
-    put(rt, waiting, 63, low, Some(Owed::Announcement));
-    assert!(rt; waiting.add(high).is_ok());
-    waiting.release(low);
-    assert!(rt; waiting.is_known(low) && knows(waiting, &[low, high]));
-    put(rt, waiting, 63, low, None);
-    assert!(rt; waiting.is_known(low));
-    waiting.release(low);
-    assert!(rt; !waiting.is_known(low) && knows(waiting, &[high]));
+// Whether these are known when what nothing waits of is released.
+fn leaves<A: Allocator + Clone>(waiting: &mut Waiting<A>, known: &[Prefix]) -> bool {
+    waiting.release(LOW);
+    knows(waiting, known)
+}
 
-    // Of a prefix that isn't known nothing changes.
-    waiting.release(low);
-    assert!(rt; knows(waiting, &[high]));
+// A record of which something waits is kept, and then goes. Of a prefix that isn't known nothing changes.
+fn releases_records<A: Allocator + Clone>(waiting: &mut Waiting<A>) -> bool {
+    marks(waiting, &[(63, LOW, Some(Owed::Announcement))])
+        && waiting.add(HIGH).is_ok()
+        && leaves(waiting, &[LOW, HIGH])
+        && waiting.is_known(LOW)
+        && marks(waiting, &[(63, LOW, None)])
+        && waiting.is_known(LOW)
+        && leaves(waiting, &[HIGH])
+        && !waiting.is_known(LOW)
+        && leaves(waiting, &[HIGH])
 }
 
 #[test]
 fn a_record_goes_once_nothing_of_it_waits(rt: HostRuntime) {
-    let (low, high) = (
-        prefix_of(&rt, 0x0a00_0000, 16),
-        prefix_of(&rt, 0x0a80_0000, 9),
-    );
     let mut waiting = Waiting::new(rt.alloc());
-    releases_records(&rt, &mut waiting, low, high);
+    assert!(rt; releases_records(&mut waiting));
 }
 
 // Makes a prefix known, and again where a growth is refused, and marks it. Answers whether one was.
@@ -179,8 +186,9 @@ fn is_added_again<A: Allocator + Clone>(
 ) -> bool {
     let refused = waiting.add(prefix).is_err();
     if refused {
-        assert!(rt; waiting.prefix_after(Some(prefix)).is_none());
-        assert!(rt; waiting.get(7, prefix).is_none());
+        assert!(rt;
+            waiting.prefix_after(Some(prefix)).is_none() && waiting.get(7, prefix).is_none()
+        );
     }
     assert!(rt; mark(waiting, 7, prefix, Some(Owed::Announcement)).is_ok());
     refused

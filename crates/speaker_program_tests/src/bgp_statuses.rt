@@ -2,9 +2,8 @@
 
 use program_stages::{Ending, Stage, deaf_listener, ends, path_of, remove, write, write_settings};
 use speaker_program::main_bgp;
-use std::alloc::AllocGlobal;
+use std::alloc::{AllocError, AllocGlobal, Global};
 use std::net::{Net, SocketAddr, TcpListener, TcpStream};
-use std::process::Abort;
 use std::rt::{Clock, Files};
 use std::test::Fail;
 
@@ -52,27 +51,38 @@ const FAILED: Ending<'static> = Ending {
 };
 
 // Whether the program ends so with these words.
-fn ends_with<R>(rt: &R, words: &[&str], ending: Ending<'_>) -> Result<bool, Fail>
+fn ends_with<R>(rt: &R, words: &[&str], ending: Ending<'_>) -> bool
 where
     R: Net<Listener = TcpListener, Stream = TcpStream> + Files + Clock + AllocGlobal,
 {
-    Ok(ends(rt.alloc(), words, ending, |words, output, errors| {
+    ends(rt.alloc(), words, ending, |words, output, errors| {
         main_bgp(rt, words, output, errors)
-    })?)
+    }) == Ok(true)
 }
 
-// Whether it ends so behind these turns on settings that name the commands of this path.
+fn is_removed(rt: &HostRuntime, path: &str) -> bool {
+    remove(rt, path).is_ok()
+}
+
+// Whether it ends so behind these turns on settings of this path.
+fn ends_there(rt: &HostRuntime, path: &str, turns: &str, ending: Ending<'_>) -> bool {
+    let has_ended = ends_with(rt, &[path, turns], ending);
+    is_removed(rt, path) && has_ended
+}
+
+// The same of settings that name the commands of this path.
 fn ends_at(
     rt: &HostRuntime,
     commands_path: &str,
     settings: &str,
     turns: &str,
     ending: Ending<'_>,
-) -> Result<bool, Fail> {
-    let path = write_settings(rt, "commands", commands_path, settings)?;
-    let has_ended = ends_with(rt, &[path.as_str(), turns], ending)?;
-    remove(rt, path.as_str())?;
-    Ok(has_ended)
+) -> bool {
+    let has_ended = match write_settings(rt, "commands", commands_path, settings) {
+        Ok(path) => ends_there(rt, path.as_str(), turns, ending),
+        Err(_) => false,
+    };
+    is_removed(rt, commands_path) && has_ended
 }
 
 // The same of a file with these commands.
@@ -82,29 +92,24 @@ fn ends_behind(
     commands: &str,
     turns: &str,
     ending: Ending<'_>,
-) -> Result<bool, Fail> {
-    let commands_path = write(rt, "commands", commands)?;
-    let has_ended = ends_at(rt, commands_path.as_str(), settings, turns, ending)?;
-    remove(rt, commands_path.as_str())?;
-    Ok(has_ended)
+) -> bool {
+    match write(rt, "commands", commands) {
+        Ok(path) => ends_at(rt, path.as_str(), settings, turns, ending),
+        Err(_) => false,
+    }
 }
 
 // The same behind two turns.
-fn ends_on(
-    rt: &HostRuntime,
-    settings: &str,
-    commands: &str,
-    ending: Ending<'_>,
-) -> Result<bool, Fail> {
+fn ends_on(rt: &HostRuntime, settings: &str, commands: &str, ending: Ending<'_>) -> bool {
     ends_behind(rt, settings, commands, "2", ending)
 }
 
 // The same of settings that are this text.
-fn ends_on_text(rt: &HostRuntime, text: &str, ending: Ending<'_>) -> Result<bool, Fail> {
-    let path = write(rt, "alone.toml", text)?;
-    let has_ended = ends_with(rt, &[path.as_str(), "2"], ending)?;
-    remove(rt, path.as_str())?;
-    Ok(has_ended)
+fn ends_on_text(rt: &HostRuntime, text: &str, ending: Ending<'_>) -> bool {
+    match write(rt, "alone.toml", text) {
+        Ok(path) => ends_there(rt, path.as_str(), "2", ending),
+        Err(_) => false,
+    }
 }
 
 const WRONG_WORDS: [&[&str]; 7] = [
@@ -118,11 +123,10 @@ const WRONG_WORDS: [&[&str]; 7] = [
 ];
 
 #[test]
-fn wrong_words_are_arguments(rt: HostRuntime) -> Result<(), Fail> {
+fn wrong_words_are_arguments(rt: HostRuntime) {
     for words in &WRONG_WORDS {
-        assert!(rt; ends_with(&rt, words, WRONG)?, "{words:?}");
+        assert!(rt; ends_with(&rt, words, WRONG), "{words:?}");
     }
-    Ok(())
 }
 
 // Settings but for the path of the commands, with commands that fill their slots.
@@ -170,18 +174,18 @@ const BAD_SETTINGS: [&str; 26] = [
 ];
 
 #[test]
-fn settings_are_told(rt: HostRuntime) -> Result<(), Fail> {
+fn good_settings_end_well(rt: HostRuntime) {
     for (settings, commands) in &GOOD_SETTINGS {
-        assert!(rt; ends_on(&rt, settings, commands, WELL)?, "{settings}");
+        assert!(rt; ends_on(&rt, settings, commands, WELL), "{settings}");
     }
-    // Settings are judged before the commands are.
+}
+
+// Settings are judged before the commands are.
+#[test]
+fn bad_settings_are_told(rt: HostRuntime) {
     for settings in &BAD_SETTINGS {
-        assert!(rt;
-            ends_on(&rt, settings, "no command", REFUSED)?,
-            "{settings}"
-        );
+        assert!(rt; ends_on(&rt, settings, "no command", REFUSED), "{settings}");
     }
-    Ok(())
 }
 
 // Lines that are no commands, though each but the last four is a line of a script.
@@ -225,37 +229,51 @@ const REFUSED_LINES: [(&str, u8); 9] = [
 ];
 
 // Whether the line, behind a comment, a peer and an empty line, is told by its number.
-fn is_bad_line(rt: &HostRuntime, line: &str) -> Result<bool, Fail> {
-    let commands = format!(in rt.alloc(); "# A peer\n{PEER}\n{line}\nnopolicy all\n")?;
-    ends_on(rt, ONE_PEER, commands.as_str(), BAD_LINE_4)
+fn is_bad_line(rt: &HostRuntime, line: &str) -> bool {
+    match format!(in rt.alloc(); "# A peer\n{PEER}\n{line}\nnopolicy all\n") {
+        Ok(commands) => ends_on(rt, ONE_PEER, commands.as_str(), BAD_LINE_4),
+        Err(_) => false,
+    }
 }
 
-// What is told of the third line where it is refused so.
-fn refusal_of(rt: &HostRuntime, number: u8) -> Result<String, Fail> {
-    Ok(format!(in rt.alloc(); "ovbgpd: settings: line 3: refused {number}\n")?)
-}
-
-// Whether the line, behind an empty line and a peer, is told by its number and that of the refusal.
-fn is_refused_line(rt: &HostRuntime, line: &str, number: u8) -> Result<bool, Fail> {
-    let commands = format!(in rt.alloc(); "\r\n{PEER}{line}\nno command")?;
-    let errors = refusal_of(rt, number)?;
+// Whether these commands end the program so that this is told.
+fn ends_in_errors(rt: &HostRuntime, commands: &str, errors: &str) -> bool {
     let ending = Ending {
         status: 1,
         output: "",
-        errors: errors.as_str(),
+        errors,
     };
-    ends_on(rt, ONE_PEER, commands.as_str(), ending)
+    ends_on(rt, ONE_PEER, commands, ending)
+}
+
+// Whether the third line of these commands is told by its number and that of the refusal.
+fn is_refused_by(rt: &HostRuntime, commands: &str, number: u8) -> bool {
+    match format!(in rt.alloc(); "ovbgpd: settings: line 3: refused {number}\n") {
+        Ok(errors) => ends_in_errors(rt, commands, errors.as_str()),
+        Err(_) => false,
+    }
+}
+
+// The same of the line behind an empty line and a peer.
+fn is_refused_line(rt: &HostRuntime, line: &str, number: u8) -> bool {
+    match format!(in rt.alloc(); "\r\n{PEER}{line}\nno command") {
+        Ok(commands) => is_refused_by(rt, commands.as_str(), number),
+        Err(_) => false,
+    }
 }
 
 #[test]
-fn lines_are_told_by_their_number(rt: HostRuntime) -> Result<(), Fail> {
+fn bad_lines_are_told_by_their_number(rt: HostRuntime) {
     for line in &BAD_LINES {
-        assert!(rt; is_bad_line(&rt, line)?, "{line}");
+        assert!(rt; is_bad_line(&rt, line), "{line}");
     }
+}
+
+#[test]
+fn refused_lines_are_told_by_their_number(rt: HostRuntime) {
     for (line, number) in &REFUSED_LINES {
-        assert!(rt; is_refused_line(&rt, line, *number)?, "{line}");
+        assert!(rt; is_refused_line(&rt, line, *number), "{line}");
     }
-    Ok(())
 }
 
 // Commands behind which not just slot 0 has a peer: none has, another one, two, and none any more.
@@ -271,13 +289,13 @@ const DROPPED_AND_BACK: &str =
     "peer 0 65001 192.0.2.11 192.0.2.1 passive 180 all all\ndrop 0\npeer 0 65001 192.0.2.11 192.0.2.1 passive 180 all all\n";
 
 #[test]
-fn other_slots_than_those_of_the_commands_are_settings(rt: HostRuntime) -> Result<(), Fail> {
+fn other_slots_than_those_of_the_commands_are_settings(rt: HostRuntime) {
     for commands in &OTHER_SLOTS {
-        assert!(rt; ends_on(&rt, ONE_PEER, commands, REFUSED)?, "{commands}");
+        assert!(rt; ends_on(&rt, ONE_PEER, commands, REFUSED), "{commands}");
     }
-    assert!(rt; ends_on(&rt, SETTINGS, PEER, REFUSED)?);
-    assert!(rt; ends_on(&rt, ONE_PEER, DROPPED_AND_BACK, WELL)?);
-    Ok(())
+    assert!(rt;
+        ends_on(&rt, SETTINGS, PEER, REFUSED) && ends_on(&rt, ONE_PEER, DROPPED_AND_BACK, WELL)
+    );
 }
 
 // Behind the commands of two networks.
@@ -288,81 +306,118 @@ const TWO_NETWORKS: Ending<'static> = Ending {
 };
 
 #[test]
-fn loc_rib_is_printed_behind_the_turns(rt: HostRuntime) -> Result<(), Fail> {
+fn loc_rib_is_printed_behind_the_turns(rt: HostRuntime) {
     let commands = "network 198.51.100.0/24\nnetwork 10.0.0.0/8\n";
     for turns in &["0", "3"] {
         assert!(rt;
-            ends_behind(&rt, SETTINGS, commands, turns, TWO_NETWORKS)?,
+            ends_behind(&rt, SETTINGS, commands, turns, TWO_NETWORKS),
             "{turns}"
         );
     }
-    Ok(())
 }
 
-fn settings_at(rt: &HostRuntime, address: SocketAddr) -> Result<String, Fail> {
-    Ok(format!(in rt.alloc(); "listen = \"{address}\"\n{SETTINGS}")?)
+// Whether settings that listen where another listens are told, of slots without a peer before.
+fn tells_slots_first(rt: &HostRuntime, address: SocketAddr) -> bool {
+    match format!(in rt.alloc(); "listen = \"{address}\"\n{SETTINGS}") {
+        Ok(taken) => {
+            ends_on(rt, taken.as_str(), PEER, REFUSED) && ends_on(rt, taken.as_str(), "", FAILED)
+        }
+        Err(_) => false,
+    }
 }
 
 #[test]
 fn slots_are_told_before_the_port_is_taken(rt: HostRuntime) -> Result<(), Fail> {
     let holder = TcpListener::bind(&rt, "127.0.0.1:0")?;
-    let taken = settings_at(&rt, holder.local_addr()?)?;
-    assert!(rt; ends_on(&rt, taken.as_str(), PEER, REFUSED)?);
-    assert!(rt; ends_on(&rt, taken.as_str(), "", FAILED)?);
+    let address = holder.local_addr()?;
+    assert!(rt; tells_slots_first(&rt, address));
     Ok(())
 }
 
+// Whether a path that leads to no file is told.
+fn is_missed(rt: &HostRuntime) -> bool {
+    match path_of(rt, "missing.toml") {
+        Ok(path) => ends_with(rt, &[path.as_str(), "2"], FAILED),
+        Err(_) => false,
+    }
+}
+
 #[test]
-fn a_file_that_cant_be_read_is_a_device(rt: HostRuntime) -> Result<(), Fail> {
-    let missing = path_of(&rt, "missing.toml")?;
-    assert!(rt; ends_with(&rt, &[missing.as_str(), "2"], FAILED)?);
-    assert!(rt; ends_on_text(&rt, WITHOUT_COMMANDS, FAILED)?);
-    assert!(rt; ends_on_text(&rt, SETTINGS, REFUSED)?);
-    Ok(())
+fn a_file_that_cant_be_read_is_a_device(rt: HostRuntime) {
+    assert!(rt; is_missed(&rt) && ends_on_text(&rt, WITHOUT_COMMANDS, FAILED));
+    assert!(rt; ends_on_text(&rt, SETTINGS, REFUSED));
 }
 
 // Settings that listen, but for the path of the commands.
 const LISTENING: &str = "listen = \"127.0.0.1:0\"\nas = 65000\nidentifier = \"192.0.2.1\"\n";
 
-// Without a turn all is well; in the first one the program ends.
-fn is_deaf(stage: &Stage<'_>, rt: &impl Abort, path: &str) -> Result<(), Fail> {
-    assert!(rt; ends_with(stage, &[path, "0"], WELL)?);
-    assert!(rt; ends_with(stage, &[path, "1"], FAILED)?);
-    Ok(())
+// Whether all is well without a turn, and the program ends in the first one.
+fn is_deaf(stage: &Stage<'_>, path: &str) -> bool {
+    ends_with(stage, &[path, "0"], WELL) && ends_with(stage, &[path, "1"], FAILED)
+}
+
+// The same of a host whose listener can't accept.
+fn ends_deaf(rt: &HostRuntime, path: &str) -> bool {
+    match deaf_listener(rt) {
+        Ok(deaf) => is_deaf(&Stage::new(rt, &deaf, &[]), path),
+        Err(_) => false,
+    }
+}
+
+// The same of settings that listen, beside the commands of this path.
+fn ends_deaf_behind(rt: &HostRuntime, commands_path: &str) -> bool {
+    match write_settings(rt, "commands", commands_path, LISTENING) {
+        Ok(path) => ends_deaf(rt, path.as_str()) && is_removed(rt, path.as_str()),
+        Err(_) => false,
+    }
 }
 
 #[test]
 fn a_turn_that_cant_accept_is_a_device(rt: HostRuntime) -> Result<(), Fail> {
     let commands_path = write(&rt, "deaf", "")?;
-    let path = write_settings(&rt, "commands", commands_path.as_str(), LISTENING)?;
-    let deaf = deaf_listener(&rt)?;
-    is_deaf(&Stage::new(&rt, &deaf, &[]), &rt, path.as_str())?;
-    remove(&rt, commands_path.as_str())?;
-    remove(&rt, path.as_str())
+    assert!(rt; ends_deaf_behind(&rt, commands_path.as_str()));
+    Ok(remove(&rt, commands_path.as_str())?)
 }
 
-// The words of a turn on settings of this path.
-fn words_of(rt: &HostRuntime, path: &str) -> Result<[String; 2], Fail> {
-    Ok([
-        String::from_str(rt.alloc(), path)?,
-        String::from_str(rt.alloc(), "1")?,
-    ])
-}
-
-// The exit status, where the output takes so many octets.
+// The exit status with these words, where the output takes so many octets.
 fn status_with_room(rt: &HostRuntime, words: &[String], room: &mut [u8]) -> u8 {
     let mut output = room;
     let mut errors = Vec::new(rt.alloc());
     main_bgp(rt, words, &mut output, &mut errors)
 }
 
+// Whether the output of a turn fits into four octets, and fails where only three do.
+fn is_full(rt: &HostRuntime, words: &[String]) -> bool {
+    status_with_room(rt, words, &mut [0; 4]) == 0 && status_with_room(rt, words, &mut [0; 3]) == 2
+}
+
+// The words of a turn on settings of this path.
+fn words_of(alloc: Global, path: &str) -> Result<[String; 2], AllocError> {
+    Ok([
+        String::from_str(alloc, path)?,
+        String::from_str(alloc, "1")?,
+    ])
+}
+
+// The same of settings of this path.
+fn is_full_at(rt: &HostRuntime, path: &str) -> bool {
+    match words_of(rt.alloc(), path) {
+        Ok(words) => is_full(rt, &words),
+        Err(_) => false,
+    }
+}
+
+// The same of settings that listen, beside the commands of this path.
+fn is_full_behind(rt: &HostRuntime, commands_path: &str) -> bool {
+    match write_settings(rt, "commands", commands_path, LISTENING) {
+        Ok(path) => is_full_at(rt, path.as_str()) && is_removed(rt, path.as_str()),
+        Err(_) => false,
+    }
+}
+
 #[test]
 fn output_that_fails_is_a_device(rt: HostRuntime) -> Result<(), Fail> {
     let commands_path = write(&rt, "full", "")?;
-    let path = write_settings(&rt, "commands", commands_path.as_str(), LISTENING)?;
-    let words = words_of(&rt, path.as_str())?;
-    assert!(rt; status_with_room(&rt, &words, &mut [0; 4]) == 0);
-    assert!(rt; status_with_room(&rt, &words, &mut [0; 3]) == 2);
-    remove(&rt, commands_path.as_str())?;
-    remove(&rt, path.as_str())
+    assert!(rt; is_full_behind(&rt, commands_path.as_str()));
+    Ok(remove(&rt, commands_path.as_str())?)
 }

@@ -2,7 +2,6 @@
 
 use net_wires::AcceptFault;
 use std::io;
-use std::test::Fail;
 
 // EPERM, EINTR, EAGAIN, ENONET, EPROTO, ENOPROTOOPT, EOPNOTSUPP, ENETDOWN, ENETUNREACH, ECONNABORTED, ECONNRESET,
 // ETIMEDOUT, EHOSTDOWN, EHOSTUNREACH.
@@ -28,9 +27,10 @@ fn means(codes: &[i32], fault: AcceptFault) -> bool {
 }
 
 #[test]
-fn a_fault_of_one_connection_ends_nothing(rt: HostRuntime) -> Result<(), Fail> {
-    assert!(rt; means(&OF_ONE, AcceptFault::OfOne));
-    assert!(rt; means(&WANTING, AcceptFault::Wanting));
-    assert!(rt; means(&OF_ALL, AcceptFault::OfAll));
-    Ok(())
+fn a_fault_of_one_connection_ends_nothing(rt: HostRuntime) {
+    assert!(rt;
+        means(&OF_ONE, AcceptFault::OfOne)
+            && means(&WANTING, AcceptFault::Wanting)
+            && means(&OF_ALL, AcceptFault::OfAll)
+    );
 }

@@ -1,22 +1,26 @@
 //! What clients hold: the serial of the last End of Data that was handed out whole.
 use net_prefix::{Asn, Prefix, Vrp};
+use program_stages::made;
 use rtr_cache::{Cache, CacheEvent};
 use rtr_codec::Intervals;
 use std::alloc::Global;
-use std::collections::BTreeSet;
-use std::test::Fail;
 
 const RESET_QUERY: [u8; 8] = [1, 2, 0, 0, 0, 0, 0, 8];
 
 // A Serial Query of session 7 and serial 1.
 const SERIAL_QUERY: [u8; 12] = [1, 1, 0, 7, 0, 0, 0, 12, 0, 0, 0, 1];
 
-const PREFIXES: [&str; 2] = ["10.0.0.0/16", "10.1.0.0/16"];
+// 10.0.0.0/16 and 10.1.0.0/16, up to length 24.
+#[rattlefmt::skip]
+const PAYLOADS: [Vrp; 2] = [
+    Vrp { prefix: Prefix { bits: 0x0A00_0000, len: 16 }, max_len: 24, asn: Asn(65_002) },
+    Vrp { prefix: Prefix { bits: 0x0A01_0000, len: 16 }, max_len: 24, asn: Asn(65_002) },
+];
 
 // What happens to a cache with one client, which has the key 0.
 #[derive(Clone, Copy)]
 enum Step {
-    // The payloads of so many prefixes are loaded.
+    // So many payloads are loaded.
     Load(usize),
     Up,
     Query(&'static [u8]),
@@ -47,26 +51,16 @@ const STEPS: [(Step, Option<u32>); 15] = [
     (Step::Down, None),
 ];
 
-// The payloads of the first prefixes.
-fn payload_set(alloc: Global, count: usize) -> Option<BTreeSet<Vrp>> {
-    let mut set = BTreeSet::new(alloc);
-    for prefix in PREFIXES.iter().take(count) {
-        let payload = Vrp::new(Prefix::parse(prefix).ok()?, 24, Asn(65_002)).ok()?;
-        let _ = set.insert(payload).ok()?;
-    }
-    Some(set)
-}
-
 // Whether the event is taken.
 fn takes(cache: &mut Cache, event: CacheEvent<'_, Global>) -> bool {
     cache.step(event).is_ok()
 }
 
-// Whether the payloads of so many prefixes are taken.
+// Whether so many payloads are taken.
 fn loads(alloc: Global, cache: &mut Cache, count: usize) -> bool {
-    match payload_set(alloc, count) {
-        Some(set) => takes(cache, CacheEvent::Load(&set)),
-        None => false,
+    match PAYLOADS.iter().copied().take(count).collect(alloc) {
+        Ok(set) => takes(cache, CacheEvent::Load(&set)),
+        Err(_) => false,
     }
 }
 
@@ -103,9 +97,8 @@ fn steps_played(alloc: Global, cache: &mut Cache) -> usize {
 }
 
 #[test]
-fn a_client_holds_what_has_come_to_its_end(rt: HostRuntime) -> Result<(), Fail> {
-    let mut cache = Cache::new(rt.alloc(), 7, Intervals::USUAL)?;
+fn a_client_holds_what_has_come_to_its_end(rt: HostRuntime) {
+    let mut cache = made(&rt, Cache::new(rt.alloc(), 7, Intervals::USUAL));
     let played = steps_played(rt.alloc(), &mut cache);
     assert!(rt; played == STEPS.len(), "{played}");
-    Ok(())
 }

@@ -1,15 +1,16 @@
 //! A router without a program of its own takes a list over a loopback socket.
+ghost use Rattle.std.specs.Prelude.{◌<◌};
 
 use crate::over_loopback::{Served, over_loopback};
 use net_prefix::{Asn, Prefix, Vrp};
-use program_stages::lend;
-use rtr_cache::{Cache, CacheEvent, CacheRefusal};
+use program_stages::{lend, made};
+use rtr_cache::{Cache, CacheEvent};
 use rtr_codec::Intervals;
-use std::alloc::{AllocGlobal, Global};
+use std::alloc::Global;
 use std::collections::BTreeSet;
 use std::io::{ErrorKind, Read, Write};
 use std::net::TcpStream;
-use std::test::Fail;
+use std::process::Abort;
 use wires::Wire;
 
 const PAYLOADS: u32 = 1_000;
@@ -24,13 +25,25 @@ const END_OF_DATA: [u8; 24] = [
 ];
 
 // 10.0.0.0/24, 10.0.1.0/24 and so on, up to length 24, of AS65002.
-fn payload_set(alloc: Global) -> Option<BTreeSet<Vrp>> {
-    let mut set = BTreeSet::new(alloc);
+fn payload_at(index: u32) -> Option<Vrp>
+    requires { index < 1000 }
+{
+    let prefix = Prefix::new(0x0A00_0000 + 256 * index, 24).ok()?;
+    Vrp::new(prefix, 24, Asn(65_002)).ok()
+}
+
+// Whether the set takes all of them.
+fn takes_payloads(set: &mut BTreeSet<Vrp>) -> bool {
     for index in 0..PAYLOADS {
-        let prefix = Prefix::new(0x0A00_0000 + 256 * index, 24).ok()?;
-        let _ = set.insert(Vrp::new(prefix, 24, Asn(65_002)).ok()?).ok()?;
+        let is_taken = match payload_at(index) {
+            Some(payload) => set.insert(payload).is_ok(),
+            None => false,
+        };
+        if !is_taken {
+            return false;
+        }
     }
-    Some(set)
+    true
 }
 
 // The IPv4 Prefix of a payload.
@@ -40,65 +53,70 @@ fn ipv4_prefix(index: u32) -> [u8; 20] {
     [1, 4, 0, 0, 0, 0, 0, 20, 1, 24, 24, 0, 10, high, low, 0, 0, 0, 0xFD, 0xEA]
 }
 
-// What a Reset Query gets of a cache of session 7 with this list: a Cache Response, an IPv4 Prefix for each payload,
-// and an End of Data.
-fn expected(alloc: Global) -> Result<Vec<u8>, Fail> {
-    let mut octets = Vec::new(alloc);
-    octets.extend_from_slice(&CACHE_RESPONSE)?;
-    for index in 0..PAYLOADS {
-        octets.extend_from_slice(&ipv4_prefix(index))?;
+// Whether a text takes what a Reset Query gets of a cache of session 7 with this list: a Cache Response, an IPv4 Prefix for
+// each payload, and an End of Data.
+fn takes_expected(octets: &mut Vec<u8>) -> bool {
+    if octets.extend_from_slice(&CACHE_RESPONSE).is_err() {
+        return false;
     }
-    octets.extend_from_slice(&END_OF_DATA)?;
-    Ok(octets)
+    for index in 0..PAYLOADS {
+        if octets.extend_from_slice(&ipv4_prefix(index)).is_err() {
+            return false;
+        }
+    }
+    octets.extend_from_slice(&END_OF_DATA).is_ok()
 }
 
-// Takes what has come, if anything has.
-fn take(router: &mut TcpStream, taken: &mut Vec<u8>) -> Result<(), Fail> {
+// Whether what has come, if anything has, is taken.
+fn takes(router: &mut TcpStream, taken: &mut Vec<u8>) -> bool {
     let mut buf = [0; 1_500];
     match router.read(&mut buf) {
-        Ok(count) => taken.extend_from_slice(&buf[..count])?,
-        Err(error) if error.kind() == ErrorKind::WouldBlock => {}
-        Err(error) => return Err(Fail::from(error)),
+        Ok(count) => taken.extend_from_slice(&buf[..count]).is_ok(),
+        Err(error) => error.kind() == ErrorKind::WouldBlock,
     }
-    Ok(())
 }
 
 // Takes what comes in so many turns.
-fn take_in_turns<W: Wire + Drop>(
-    served: &mut Served<W, TcpStream>,
-    taken: &mut Vec<u8>,
-) -> Result<(), Fail> {
+fn takes_in_turns<W: Wire + Drop>(served: &mut Served<W, TcpStream>, taken: &mut Vec<u8>) -> bool {
     for _ in 0..2_000 {
-        served.turns.turn(0)?;
-        take(&mut served.router, taken)?;
+        if served.turns.turn(0).is_err() || !takes(&mut served.router, taken) {
+            return false;
+        }
     }
-    Ok(())
+    true
+}
+
+// Whether the router asks for the list, without a wait.
+fn asks(router: &mut TcpStream) -> bool {
+    router.set_nonblocking(true).is_ok() && router.write_all(&RESET_QUERY).is_ok()
 }
 
 // Whether the router, which asks for the list, gets all, and no connection is lost.
-fn takes_all<W: Wire + Drop>(
-    alloc: Global,
-    served: &mut Served<W, TcpStream>,
-) -> Result<bool, Fail> {
-    served.router.set_nonblocking(true)?;
-    served.router.write_all(&RESET_QUERY)?;
+fn takes_all<W: Wire + Drop>(alloc: Global, served: &mut Served<W, TcpStream>) -> bool {
     let mut taken = Vec::new(alloc);
-    take_in_turns(served, &mut taken)?;
-    let expected = expected(alloc)?;
-    Ok(taken.as_slice() == expected.as_slice() && served.turns.lost() == 0)
+    let mut expected = Vec::new(alloc);
+    asks(&mut served.router)
+        && takes_in_turns(served, &mut taken)
+        && takes_expected(&mut expected)
+        && taken.as_slice() == expected.as_slice()
+        && served.turns.lost() == 0
+}
+
+// Whether the cache serves all payloads.
+fn serves(alloc: Global, cache: &mut Cache) -> bool {
+    let mut set = BTreeSet::new(alloc);
+    takes_payloads(&mut set) && cache.step(CacheEvent::Load(&set)).is_ok()
 }
 
 // A cache that serves all payloads.
-fn serving(alloc: Global) -> Result<Cache, CacheRefusal> {
-    let set = payload_set(alloc).ok_or(CacheRefusal::NoMemory)?;
-    let mut cache = Cache::new(alloc, 7, Intervals::USUAL)?;
-    let _ = cache.step(CacheEvent::Load(&set))?;
-    Ok(cache)
+fn serving(rt: &impl Abort, alloc: Global) -> Cache {
+    let mut cache = made(rt, Cache::new(alloc, 7, Intervals::USUAL));
+    assert!(rt; serves(alloc, &mut cache));
+    cache
 }
 
 #[test]
-fn a_router_takes_each_payload_over_a_socket(rt: HostRuntime) -> Result<(), Fail> {
-    let served = over_loopback(&rt, serving(rt.alloc()))?;
-    assert!(rt; lend(served, |served| takes_all(rt.alloc(), served))?);
-    Ok(())
+fn a_router_takes_each_payload_over_a_socket(rt: HostRuntime) {
+    let served = over_loopback(&rt, serving(&rt, rt.alloc()));
+    assert!(rt; lend(served, |served| takes_all(rt.alloc(), served)));
 }

@@ -5,6 +5,7 @@ ghost use Rattle.wires.specs.Wires.{FitsIn, FitsInSent, calling, failing, told_b
 
 use cache_turns::{CacheLoop, Holding};
 use net_prefix::{Asn, Prefix, Vrp};
+use program_stages::{lend, made};
 use refusing::Refusing;
 use rtr_cache::{Cache, CacheEvent, CacheRefusal};
 use rtr_codec::Intervals;
@@ -14,7 +15,6 @@ use std::collections::BTreeSet;
 use std::marker::Model;
 use std::net::{Ipv4Addr, SocketAddr, SocketAddrV4};
 use std::process::Abort;
-use std::test::Fail;
 use std::time::Duration;
 use wires::{Accepted, Attempt, Log, LoopFault, Note, Parting, Received, Sent, Wire};
 
@@ -343,11 +343,19 @@ struct Served {
     holding: [Holding; 2],
 }
 
+// The payload of the list.
+const LISTED: Vrp = Vrp {
+    prefix: Prefix {
+        bits: 0x0A00_0000,
+        len: 16,
+    },
+    max_len: 24,
+    asn: Asn(65_002),
+};
+
 // The list.
-fn listed(alloc: Global) -> Result<BTreeSet<Vrp>, Fail> {
-    let mut set = BTreeSet::new(alloc);
-    let _ = set.insert(Vrp::new(Prefix::parse("10.0.0.0/16")?, 24, Asn(65_002))?)?;
-    Ok(set)
+fn listed(rt: &impl Abort, alloc: Global) -> BTreeSet<Vrp> {
+    made(rt, [LISTED].iter().copied().collect(alloc))
 }
 
 // Loads the list, and brings so many clients, which say nothing.
@@ -363,26 +371,33 @@ fn fill<A: Allocator + Clone>(
     Ok(())
 }
 
-// A cache of the list with so many clients that say nothing.
+// A cache of the list with so many clients that say nothing, where it could be made.
 fn filled<A: Allocator + Clone>(
-    alloc: A,
+    cache: Result<Cache<A>, CacheRefusal>,
     set: &BTreeSet<Vrp>,
     silent: u64,
-) -> Result<Cache<A>, CacheRefusal> {
-    let mut cache = Cache::new(alloc, 7, Intervals::USUAL)?;
-    fill(&mut cache, set, silent)?;
-    Ok(cache)
+) -> Option<Cache<A>> {
+    match cache {
+        Ok(mut cache) => {
+            if fill(&mut cache, set, silent).is_ok() {
+                Some(cache)
+            } else {
+                None
+            }
+        }
+        Err(_) => None,
+    }
 }
 
-// Its turns, before the first.
-fn prepared<A: Allocator + Clone>(
+// Its turns, before the first, where they could be made.
+fn prepared<A: Allocator + Clone + Copy>(
     alloc: A,
     set: &BTreeSet<Vrp>,
     silent: u64,
     fails_at: u64,
-) -> Result<CacheLoop<MemoryWire, A>, CacheRefusal> {
-    let cache = filled(alloc.clone()?, set, silent)?;
-    Ok(CacheLoop::new(alloc, MemoryWire::failing_at(fails_at), cache)?)
+) -> Option<CacheLoop<MemoryWire, A>> {
+    let cache = filled(Cache::new(alloc, 7, Intervals::USUAL), set, silent)?;
+    CacheLoop::new(alloc, MemoryWire::failing_at(fails_at), cache).ok()
 }
 
 // Takes twenty turns, unless one stops them.
@@ -413,15 +428,22 @@ fn told_of<A: Allocator + Clone>(
 }
 
 // Serves the routers for twenty turns.
-fn turned<A: Allocator + Clone>(mut turns: CacheLoop<MemoryWire, A>) -> Served {
-    let fault = fault_of_turns(&mut turns);
-    told_of(&turns, fault)
+fn turned<A: Allocator + Clone>(turns: &mut CacheLoop<MemoryWire, A>) -> Served {
+    let fault = fault_of_turns(turns);
+    told_of(turns, fault)
+}
+
+// The same of turns that could be made.
+fn served_by<A: Allocator + Clone>(turns: Option<CacheLoop<MemoryWire, A>>) -> Option<Served> {
+    match turns {
+        Some(turns) => Some(lend(turns, |turns| turned(turns))),
+        None => None,
+    }
 }
 
 // Serves the routers beside so many clients that say nothing.
-fn serve(rt: &impl AllocGlobal, silent: u64, fails_at: u64) -> Result<Served, Fail> {
-    let set = listed(rt.alloc())?;
-    Ok(turned(prepared(rt.alloc(), &set, silent, fails_at)?))
+fn serve(alloc: Global, set: &BTreeSet<Vrp>, silent: u64, fails_at: u64) -> Option<Served> {
+    served_by(prepared(alloc, set, silent, fails_at))
 }
 
 impl Router {
@@ -484,17 +506,25 @@ fn holding(current: usize, behind: usize) -> Holding {
     }
 }
 
-#[test]
-fn a_failing_call_costs_one_client(rt: HostRuntime) -> Result<(), Fail> {
+// With each call failing in turn, its client alone is lost.
+fn lose_the_client_alone(rt: &(impl AllocGlobal + Abort), set: &BTreeSet<Vrp>) {
     for fails_at in 1..1_000 {
-        let served = serve(&rt, 0, fails_at)?;
+        let Some(served) = serve(rt.alloc(), set, 0, fails_at) else {
+            panic!(rt; "no memory");
+        };
         assert!(rt; served.is_as_expected(), "{fails_at}");
         if served.failed.is_none() {
             assert!(rt; fails_at > 50, "{fails_at}");
-            return Ok(());
+            return;
         }
     }
     panic!(rt; "each run had a fault");
+}
+
+#[test]
+fn a_failing_call_costs_one_client(rt: HostRuntime) {
+    let set = listed(&rt, rt.alloc());
+    lose_the_client_alone(&rt, &set);
 }
 
 // Whether there was no place for the last router, which has said nothing and heard nothing; none has a connection.
@@ -509,11 +539,18 @@ fn is_full(served: &Served) -> bool {
         && served.holding == [holding(0, 0), holding(0, 0)]
 }
 
+// Whether that is so beside as many clients as leave place for two.
+fn is_full_for_the_last(alloc: Global, set: &BTreeSet<Vrp>) -> bool {
+    match serve(alloc, set, 254, 0) {
+        Some(served) => is_full(&served),
+        None => false,
+    }
+}
+
 #[test]
-fn a_refused_client_is_closed_and_the_others_are_served(rt: HostRuntime) -> Result<(), Fail> {
-    let served = serve(&rt, 254, 0)?;
-    assert!(rt; is_full(&served));
-    Ok(())
+fn a_refused_client_is_closed_and_the_others_are_served(rt: HostRuntime) {
+    let set = listed(&rt, rt.alloc());
+    assert!(rt; is_full_for_the_last(rt.alloc(), &set));
 }
 
 // What serving the routers has led to where a request for memory was refused, if one was.
@@ -529,10 +566,7 @@ fn with_refusal(alloc: Global, set: &BTreeSet<Vrp>, nth: u64) -> Refused
     requires { 1 ≤ nth }
 {
     let heap = Refusing::new(alloc, nth);
-    let served = match prepared(&heap, set, 0, 0) {
-        Ok(turns) => Some(turned(turns)),
-        Err(_) => None,
-    };
+    let served = served_by(prepared(&heap, set, 0, 0));
     Refused {
         has_refused: heap.has_refused(),
         served,
@@ -586,7 +620,7 @@ impl Refused {
 }
 
 // With each request refused in turn, at most one router is lost.
-fn lose_one_at_most<R: AllocGlobal + Abort>(rt: &R, set: &BTreeSet<Vrp>) {
+fn lose_one_at_most(rt: &(impl AllocGlobal + Abort), set: &BTreeSet<Vrp>) {
     let mut without_memory = 0u64;
     for nth in 1..1_000 {
         let refused = with_refusal(rt.alloc(), set, nth);
@@ -602,8 +636,7 @@ fn lose_one_at_most<R: AllocGlobal + Abort>(rt: &R, set: &BTreeSet<Vrp>) {
 }
 
 #[test]
-fn a_refused_growth_costs_one_router(rt: HostRuntime) -> Result<(), Fail> {
-    let set = listed(rt.alloc())?;
+fn a_refused_growth_costs_one_router(rt: HostRuntime) {
+    let set = listed(&rt, rt.alloc());
     lose_one_at_most(&rt, &set);
-    Ok(())
 }

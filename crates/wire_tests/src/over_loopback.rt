@@ -2,11 +2,12 @@
 
 use cache_turns::CacheLoop;
 use net_wires::NetWire;
-use rtr_cache::{Cache, CacheRefusal};
-use std::alloc::{AllocGlobal, Global};
+use program_stages::made;
+use rtr_cache::Cache;
+use std::alloc::AllocGlobal;
 use std::io::{self, ErrorKind};
 use std::net::{Ipv4Addr, Net, SocketAddr, SocketAddrV4, TcpListener, TcpStream};
-use std::test::Fail;
+use std::process::Abort;
 use wires::Wire;
 
 /// The turns of a cache, and the router's side of a connection to it.
@@ -14,18 +15,6 @@ use wires::Wire;
 pub struct Served<W: Wire, S> {
     pub turns: CacheLoop<W>,
     pub router: S,
-}
-
-// Each of these where each could be made.
-fn joined<W: Wire + Drop, S: Drop>(
-    alloc: Global,
-    wire: W,
-    cache: Result<Cache, CacheRefusal>,
-    router: io::Result<S>,
-) -> Result<Served<W, S>, Fail> {
-    let router = router?;
-    let turns = CacheLoop::new(alloc, wire, cache?)?;
-    Ok(Served { turns, router })
 }
 
 /// Some port of loopback.
@@ -45,14 +34,12 @@ where
 }
 
 /// The turns of a cache that listens at some port, and a router that has connected.
-pub fn over_loopback<'a, R>(
-    rt: &'a R,
-    cache: Result<Cache, CacheRefusal>,
-) -> Result<Served<NetWire<'a, R>, TcpStream>, Fail>
+pub fn over_loopback<'a, R>(rt: &'a R, cache: Cache) -> Served<NetWire<'a, R>, TcpStream>
 where
-    R: Net<Listener = TcpListener, Stream = TcpStream> + AllocGlobal,
+    R: Net<Listener = TcpListener, Stream = TcpStream> + AllocGlobal + Abort,
 {
-    let wire = NetWire::listening(rt, some_port())?;
-    let router = connected(rt, wire.local_address());
-    joined(rt.alloc(), wire, cache, router)
+    let wire = made(rt, NetWire::listening(rt, some_port()));
+    let router = made(rt, connected(rt, wire.local_address()));
+    let turns = made(rt, CacheLoop::new(rt.alloc(), wire, cache));
+    Served { turns, router }
 }

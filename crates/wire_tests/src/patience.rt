@@ -3,13 +3,13 @@
 use crate::over_loopback::{Served, over_loopback};
 use cache_turns::CacheLoop;
 use net_wires::{NetWire, RouterEvent};
-use program_stages::lend;
+use program_stages::{lend, made};
 use rtr_cache::Cache;
 use rtr_codec::Intervals;
 use std::alloc::AllocGlobal;
-use std::io::{self, Write};
+use std::io::Write;
 use std::net::{Net, TcpListener, TcpStream};
-use std::test::Fail;
+use std::process::Abort;
 use wires::{Parting, Wire};
 
 // What a router sends, and at which moment; behind it the connection is still there.
@@ -72,17 +72,14 @@ fn stands_at<W: Wire + Drop>(turns: &mut CacheLoop<W>, now: u64) -> bool {
 }
 
 // Whether it stands as long as the router sends so.
-fn stands<W: Wire + Drop, S: Write>(
-    served: &mut Served<W, S>,
-    sendings: &[Sending],
-) -> io::Result<bool> {
+fn stands<W: Wire + Drop, S: Write>(served: &mut Served<W, S>, sendings: &[Sending]) -> bool {
     for sending in sendings {
-        served.router.write_all(sending.octets)?;
-        if !stands_at(&mut served.turns, sending.now) {
-            return Ok(false);
+        let is_sent = served.router.write_all(sending.octets).is_ok();
+        if !is_sent || !stands_at(&mut served.turns, sending.now) {
+            return false;
         }
     }
-    Ok(true)
+    true
 }
 
 // Whether there is no connection behind a turn at this moment.
@@ -95,12 +92,10 @@ fn stands_till<W: Wire + Drop, S: Write>(
     served: &mut Served<W, S>,
     sendings: &[Sending],
     last: u64,
-) -> io::Result<bool> {
-    Ok(
-        stands_at(&mut served.turns, 0)
-            && stands(served, sendings)?
-            && is_gone_at(&mut served.turns, last),
-    )
+) -> bool {
+    stands_at(&mut served.turns, 0)
+        && stands(served, sendings)
+        && is_gone_at(&mut served.turns, last)
 }
 
 // The same where its end is seen.
@@ -108,37 +103,37 @@ fn is_overdue_at<R>(
     served: &mut Served<NetWire<'_, R>, TcpStream>,
     sendings: &[Sending],
     last: u64,
-) -> io::Result<bool>
+) -> bool
 where
     R: Net<Listener = TcpListener, Stream = TcpStream> + AllocGlobal,
 {
-    let went = RouterEvent::Went(served.router.local_addr()?, Parting::Overdue);
-    let goes = stands_till(served, sendings, last)?;
-    Ok(goes && served.turns.wire().events().contains(&went))
+    match served.router.local_addr() {
+        Ok(address) => {
+            let went = RouterEvent::Went(address, Parting::Overdue);
+            stands_till(served, sendings, last) && served.turns.wire().events().contains(&went)
+        }
+        Err(_) => false,
+    }
 }
 
 // The same of a router that connects.
-fn loses<R>(rt: &R, sendings: &[Sending], last: u64) -> Result<bool, Fail>
+fn loses<R>(rt: &R, sendings: &[Sending], last: u64) -> bool
 where
-    R: Net<Listener = TcpListener, Stream = TcpStream> + AllocGlobal,
+    R: Net<Listener = TcpListener, Stream = TcpStream> + AllocGlobal + Abort,
 {
-    let served = over_loopback(rt, Cache::new(rt.alloc(), 7, Intervals::USUAL))?;
-    Ok(lend(served, |served| is_overdue_at(served, sendings, last))?)
+    let cache = made(rt, Cache::new(rt.alloc(), 7, Intervals::USUAL));
+    lend(
+        over_loopback(rt, cache),
+        |served| is_overdue_at(served, sendings, last),
+    )
 }
 
 #[test]
-fn a_client_without_a_whole_pdu_loses_its_place_after_a_minute(
-    rt: HostRuntime,
-) -> Result<(), Fail> {
-    assert!(rt; loses(&rt, &SILENT, 60)?);
-    assert!(rt; loses(&rt, &SLOW, 60)?);
-    Ok(())
+fn a_client_without_a_whole_pdu_loses_its_place_after_a_minute(rt: HostRuntime) {
+    assert!(rt; loses(&rt, &SILENT, 60) && loses(&rt, &SLOW, 60));
 }
 
 #[test]
-fn a_client_that_asks_no_more_loses_its_place_after_the_expire_interval(
-    rt: HostRuntime,
-) -> Result<(), Fail> {
-    assert!(rt; loses(&rt, &ASKING, 14_399)?);
-    Ok(())
+fn a_client_that_asks_no_more_loses_its_place_after_the_expire_interval(rt: HostRuntime) {
+    assert!(rt; loses(&rt, &ASKING, 14_399));
 }

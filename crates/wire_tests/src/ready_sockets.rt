@@ -2,9 +2,10 @@
 
 use crate::over_loopback::{connected, some_port};
 use net_wires::NetWire;
+use program_stages::{lend, made};
 use std::alloc::AllocGlobal;
 use std::io::{self, Write};
-use std::net::{Net, SocketAddr, TcpListener, TcpStream};
+use std::net::{Ipv4Addr, Net, SocketAddr, SocketAddrV4, TcpListener, TcpStream};
 use std::process::Abort;
 use std::test::Fail;
 use std::time::{Clock, Duration, Instant};
@@ -126,42 +127,30 @@ struct Sides<W: Wire> {
 }
 
 // The router's wire with a socket, once it is connected.
-fn connecting<W: Wire + Drop>(wire: W, address: SocketAddr) -> Result<Side<W>, Fail> {
+fn connecting<W: Wire + Drop>(rt: &impl Abort, wire: W, address: SocketAddr) -> Side<W> {
     let mut wire = wire;
-    let mut socket = wire.connect(address).ok_or("no attempt")?;
-    if outcome(&mut wire, &mut socket) != Attempt::Connected {
-        return Err(Fail::new("not connected"));
-    }
-    Ok(Side { wire, socket })
+    let mut socket = made(rt, wire.connect(address).ok_or(()));
+    assert!(rt; outcome(&mut wire, &mut socket) == Attempt::Connected);
+    Side { wire, socket }
 }
 
 // The server's wire with the socket of the connection that came.
-fn accepting<W: Wire + Drop>(wire: W) -> Result<Side<W>, Fail> {
+fn accepting<W: Wire + Drop>(rt: &impl Abort, wire: W) -> Side<W> {
     let mut wire = wire;
-    let socket = accepted(&mut wire).ok_or("none accepted")?;
-    Ok(Side { wire, socket })
+    let socket = made(rt, accepted(&mut wire).ok_or(()));
+    Side { wire, socket }
 }
 
-// A connection between two wires.
-fn joined<W: Wire + Drop>(
-    server: W,
-    address: Option<SocketAddr>,
-    router: io::Result<W>,
-) -> Result<Sides<W>, Fail> {
-    let address = address.ok_or("no address")?;
-    let router = connecting(router?, address)?;
-    let server = accepting(server)?;
-    Ok(Sides { server, router })
-}
-
-// The same over loopback.
-fn over_loopback<R>(rt: &R) -> Result<Sides<NetWire<'_, R>>, Fail>
+// A connection between two wires over loopback.
+fn over_loopback<R>(rt: &R) -> Sides<NetWire<'_, R>>
 where
-    R: Net<Listener = TcpListener, Stream = TcpStream> + AllocGlobal,
+    R: Net<Listener = TcpListener, Stream = TcpStream> + AllocGlobal + Abort,
 {
-    let server = NetWire::listening(rt, some_port())?;
-    let address = server.local_address();
-    joined(server, address, NetWire::new(rt))
+    let server = made(rt, NetWire::listening(rt, some_port()));
+    let address = made(rt, server.local_address().ok_or(()));
+    let router = connecting(rt, made(rt, NetWire::new(rt)), address);
+    let server = accepting(rt, server);
+    Sides { server, router }
 }
 
 // Octets go to the router.
@@ -169,13 +158,15 @@ fn go_back<W: Wire>(server: &mut Side<W>, router: &mut Side<W>) -> bool {
     server.sent(&[4, 5]) == Sent::Octets(2) && router.received(&mut [0; 8]) == Received::Octets(2)
 }
 
-// The one says its last, and closes the connection.
-fn says_the_last<W: Wire + Drop>(router: Side<W>) -> bool {
-    let mut router = router;
-    let sent = router.sent(&[1, 2, 3]);
+// The one says its last.
+fn says_the_last<W: Wire>(router: &mut Side<W>) -> bool {
+    router.sent(&[1, 2, 3]) == Sent::Octets(3)
+}
+
+// Then it closes the connection.
+fn closes<W: Wire + Drop>(router: Side<W>) {
     let Side { mut wire, socket } = router;
     wire.close(socket, Parting::Closed);
-    sent == Sent::Octets(3)
 }
 
 // The other hears what was said. Fewer octets come than the buffer holds, and the end of input is there already.
@@ -198,24 +189,19 @@ fn part<W: Wire + Drop>(sides: Sides<W>) -> bool {
         mut server,
         mut router,
     } = sides;
-    go_back(&mut server, &mut router)
-        && says_the_last(router)
-        && hears_the_last(&mut server)
-        && hears_the_end(&mut server)
+    let is_said = go_back(&mut server, &mut router) && says_the_last(&mut router);
+    closes(router);
+    is_said && hears_the_last(&mut server) && hears_the_end(&mut server)
 }
 
 #[test]
-fn octets_go_both_ways_and_an_end_comes_behind_them(rt: HostRuntime) -> Result<(), Fail> {
-    assert!(rt; part(over_loopback(&rt)?));
-    Ok(())
+fn octets_go_both_ways_and_an_end_comes_behind_them(rt: HostRuntime) {
+    assert!(rt; part(over_loopback(&rt)));
 }
 
 // Octets that came are read only behind a turn's beginning, which hears of them.
-fn is_asked_when_told<W: Wire + Drop>(sides: Sides<W>) -> bool {
-    let Sides {
-        mut server,
-        mut router,
-    } = sides;
+fn is_asked_when_told<W: Wire + Drop>(sides: &mut Sides<W>) -> bool {
+    let Sides { server, router } = sides;
     server.is_at_rest()
         && router.sent(&[1]) == Sent::Octets(1)
         && server.stays_at_rest()
@@ -224,17 +210,13 @@ fn is_asked_when_told<W: Wire + Drop>(sides: Sides<W>) -> bool {
 }
 
 #[test]
-fn a_socket_at_rest_is_asked_when_the_system_has_told(rt: HostRuntime) -> Result<(), Fail> {
-    assert!(rt; is_asked_when_told(over_loopback(&rt)?));
-    Ok(())
+fn a_socket_at_rest_is_asked_when_the_system_has_told(rt: HostRuntime) {
+    assert!(rt; lend(over_loopback(&rt), |sides| is_asked_when_told(sides)));
 }
 
 // A write that had to wait goes once the other side has taken what went before.
-fn goes_later<W: Wire + Drop>(sides: Sides<W>) -> bool {
-    let Sides {
-        mut server,
-        mut router,
-    } = sides;
+fn goes_later<W: Wire + Drop>(sides: &mut Sides<W>) -> bool {
+    let Sides { server, router } = sides;
     let count = router.filled();
     router.wire.write(&mut router.socket, &[7]) == Sent::Nothing
         && server.drains(count)
@@ -243,9 +225,8 @@ fn goes_later<W: Wire + Drop>(sides: Sides<W>) -> bool {
 }
 
 #[test]
-fn room_that_comes_back_is_told(rt: HostRuntime) -> Result<(), Fail> {
-    assert!(rt; goes_later(over_loopback(&rt)?));
-    Ok(())
+fn room_that_comes_back_is_told(rt: HostRuntime) {
+    assert!(rt; lend(over_loopback(&rt), |sides| goes_later(sides)));
 }
 
 // An attempt at an address where nobody listens.
@@ -259,19 +240,16 @@ fn fails_once<W: Wire>(router: &mut W, address: SocketAddr) -> bool {
 }
 
 // Whether nothing comes to a wire without a listener, where the attempt fails.
-fn is_alone<W: Wire + Drop>(listens: bool, wire: W, address: SocketAddr) -> bool {
-    let mut wire = wire;
-    !listens && matches!(wire.accept(), Accepted::Nothing) && fails_once(&mut wire, address)
+fn is_alone<W: Wire>(router: &mut W, address: SocketAddr) -> bool {
+    matches!(router.accept(), Accepted::Nothing) && fails_once(router, address)
 }
 
 #[test]
-fn an_attempt_that_fails_is_one_fault(rt: HostRuntime) -> Result<(), Fail> {
+fn an_attempt_that_fails_is_one_fault(rt: HostRuntime) {
     // Nobody listens at port 1.
-    let address = "127.0.0.1:1".parse()?;
-    let router = NetWire::new(&rt)?;
-    let listens = router.local_address().is_some();
-    assert!(rt; is_alone(listens, router, address));
-    Ok(())
+    let address = SocketAddr::V4(SocketAddrV4::new(Ipv4Addr::LOCALHOST, 1));
+    let mut router = made(&rt, NetWire::new(&rt));
+    assert!(rt; router.local_address().is_none() && is_alone(&mut router, address));
 }
 
 // Behind a connection that came there is no rest, and the new socket is ready for octets that go.
@@ -284,41 +262,59 @@ fn comes<W: Wire>(server: &mut W) -> Option<W::Socket> {
 }
 
 // Whether the next octet is there behind a rest.
-fn wakes<W: Wire, S: Write>(side: &mut Side<W>, router: &mut S) -> io::Result<bool> {
-    router.write_all(&[1])?;
+fn wakes<W: Wire, S: Write>(side: &mut Side<W>, router: &mut S) -> bool {
+    let is_written = router.write_all(&[1]).is_ok();
     side.wire.wait(long());
     let received = side.wire.read(&mut side.socket, &mut [0; 8]);
-    Ok(received == Received::Octets(1) && side.wire.octets_in() == 1 && side.wire.octets_out() == 0)
+    is_written
+        && received == Received::Octets(1)
+        && side.wire.octets_in() == 1
+        && side.wire.octets_out() == 0
 }
 
-// Whether a rest takes its time, since nothing is ready.
-fn rests<W: Wire>(rt: &impl Clock, server: &mut W) -> io::Result<bool> {
+// How long a rest takes that is to take so long, since nothing is ready.
+fn rested<W: Wire>(rt: &impl Clock, server: &mut W, rest: Duration) -> io::Result<Duration> {
     server.wait(long());
     let start = Instant::now(rt)?;
-    let rest = Duration::from_millis(20);
     server.wait(rest);
-    Ok(start.elapsed(rt)? >= rest)
+    start.elapsed(rt)
+}
+
+// Whether it takes its time.
+fn rests<W: Wire>(rt: &impl Clock, server: &mut W) -> bool {
+    let rest = Duration::from_millis(20);
+    match rested(rt, server, rest) {
+        Ok(rested) => rested >= rest,
+        Err(_) => false,
+    }
 }
 
 // A rest ends at once where octets can go or come.
-fn is_woken<W: Wire + Drop, S: Write + Drop>(
-    rt: &impl Clock,
+fn is_woken<W: Wire + Drop, S: Write>(
+    rt: &(impl Clock + Abort),
     server: W,
-    router: io::Result<S>,
-) -> Result<bool, Fail> {
-    let mut router = router?;
+    router: &mut S,
+) -> bool {
     let mut wire = server;
-    let socket = comes(&mut wire).ok_or("none accepted")?;
+    let socket = made(rt, comes(&mut wire).ok_or(()));
     let mut side = Side { wire, socket };
-    Ok(wakes(&mut side, &mut router)? && rests(rt, &mut side.wire)?)
+    wakes(&mut side, router) && rests(rt, &mut side.wire)
+}
+
+// The same over loopback.
+fn is_woken_over_loopback<R>(rt: &R) -> bool
+where
+    R: Net<Listener = TcpListener, Stream = TcpStream> + AllocGlobal + Clock + Abort,
+{
+    let server = made(rt, NetWire::listening(rt, some_port()));
+    let mut router = made(rt, connected(rt, server.local_address()));
+    is_woken(rt, server, &mut router)
 }
 
 #[test]
 fn a_rest_ends_when_a_socket_is_ready(rt: HostRuntime) -> Result<(), Fail> {
     let start = Instant::now(&rt)?;
-    let server = NetWire::listening(&rt, some_port())?;
-    let router = connected(&rt, server.local_address());
-    assert!(rt; is_woken(&rt, server, router)?);
+    assert!(rt; is_woken_over_loopback(&rt));
     assert!(rt; start.elapsed(&rt)? < long());
     Ok(())
 }

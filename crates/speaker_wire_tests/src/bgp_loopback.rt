@@ -1,18 +1,17 @@
 //! Speakers over loopback sockets, with a cache and with one another.
 
 use cache_turns::CacheLoop;
-use net_prefix::{Asn, Vrp};
+use net_prefix::Asn;
 use net_wires::NetWire;
+use program_stages::made;
 use rtr_cache::{Cache, CacheEvent};
 use rtr_codec::Intervals;
 use scenario::{Table, obey_lines, show};
 use speaker::{ClientState, Config, Speaker, State};
 use speaker_turns::{End, SpeakerLoop};
 use std::alloc::{AllocGlobal, Global};
-use std::collections::BTreeSet;
-use std::net::{Net, SocketAddr, TcpListener, TcpStream};
+use std::net::{Ipv4Addr, Net, SocketAddr, SocketAddrV4, TcpListener, TcpStream};
 use std::process::Abort;
-use std::test::Fail;
 use vrp_csv::read_list;
 use wires::Wire;
 
@@ -21,38 +20,46 @@ const TURNS: u32 = 200;
 
 const LIST: &str = "ASN,IP Prefix,Max Length,Trust Anchor\nAS65002,10.0.0.0/16,24,ta\n";
 
-// Whether the cache publishes this set.
-fn publishes(cache: &mut Cache, set: &BTreeSet<Vrp>) -> bool {
-    cache.step(CacheEvent::Load(set)).is_ok()
+// Whether the cache publishes the list.
+fn publishes(alloc: Global, cache: &mut Cache) -> bool {
+    match read_list(alloc, LIST.as_bytes()) {
+        Ok(loaded) => cache.step(CacheEvent::Load(&loaded.set)).is_ok(),
+        Err(_) => false,
+    }
 }
 
-// A cache of session 7.
-fn made(alloc: Global) -> Result<Cache, Fail> {
-    Ok(Cache::new(alloc, 7, Intervals::USUAL)?)
+// A cache of session 7 that serves the list.
+fn serving(rt: &impl Abort, alloc: Global) -> Cache {
+    let mut cache = made(rt, Cache::new(alloc, 7, Intervals::USUAL));
+    assert!(rt; publishes(alloc, &mut cache));
+    cache
 }
 
-// One that serves the list.
-fn serving(rt: &impl Abort, alloc: Global) -> Result<Cache, Fail> {
-    let loaded = read_list(alloc, LIST.as_bytes())?;
-    let mut cache = made(alloc)?;
-    assert!(rt; publishes(&mut cache, &loaded.set));
-    Ok(cache)
+// A speaker that has obeyed these commands.
+fn obedient(rt: &impl Abort, alloc: Global, config: Config, commands: &str) -> Speaker {
+    let mut speaker = made(rt, Speaker::new(alloc, config));
+    assert!(rt; obey_lines(alloc, commands.as_bytes(), &mut speaker).is_ok());
+    speaker
 }
 
-// A speaker that has obeyed these commands, before its first turn.
+// Its turns, before the first.
 fn speaking<'a, R>(
     rt: &'a R,
     listen: Option<SocketAddr>,
     config: Config,
     commands: &str,
-) -> Result<SpeakerLoop<NetWire<'a, R>>, Fail>
+) -> SpeakerLoop<NetWire<'a, R>>
 where
-    R: Net<Listener = TcpListener, Stream = TcpStream> + AllocGlobal,
+    R: Net<Listener = TcpListener, Stream = TcpStream> + AllocGlobal + Abort,
 {
-    let wire = NetWire::open(rt, listen)?;
-    let mut speaker = Speaker::new(rt.alloc(), config)?;
-    obey_lines(rt.alloc(), commands.as_bytes(), &mut speaker)?;
-    Ok(SpeakerLoop::new(rt.alloc(), wire, speaker)?)
+    let speaker = obedient(rt, rt.alloc(), config, commands);
+    let wire = made(rt, NetWire::open(rt, listen));
+    made(rt, SpeakerLoop::new(rt.alloc(), wire, speaker))
+}
+
+// Some port of loopback.
+fn some_port() -> SocketAddr {
+    SocketAddr::V4(SocketAddrV4::new(Ipv4Addr::LOCALHOST, 0))
 }
 
 // Whether `show` shows these rows.
@@ -97,27 +104,32 @@ fn is_nothing_lost<W: Wire + Drop>(cache: &CacheLoop<W>, speaker: &SpeakerLoop<W
     cache.lost() == 0 && speaker.lost() == 0
 }
 
-// The speaker comes to have just what the cache serves.
-fn takes_the_list<W: Wire + Drop, R: AllocGlobal + Abort>(
-    rt: &R,
+// Whether the speaker comes to have just what the cache serves.
+fn takes_the_list<W: Wire + Drop>(
+    alloc: Global,
     cache: &mut CacheLoop<W>,
     speaker: &mut SpeakerLoop<W>,
-) {
-    let rows = "10.0.0.0/16-24 AS65002\nend\n";
-    assert!(rt; synchronizes(cache, speaker));
-    assert!(rt; shows(rt.alloc(), speaker, Table::Payloads, rows));
-    assert!(rt; is_nothing_lost(cache, speaker));
+) -> bool {
+    synchronizes(cache, speaker)
+        && shows(
+            alloc,
+            speaker,
+            Table::Payloads,
+            "10.0.0.0/16-24 AS65002\nend\n",
+        )
+        && is_nothing_lost(cache, speaker)
 }
 
 // A cache that serves the list over loopback.
-fn serving_over_loopback<'a, R>(rt: &'a R) -> Result<CacheLoop<NetWire<'a, R>>, Fail>
+fn serving_over_loopback<'a, R>(rt: &'a R) -> CacheLoop<NetWire<'a, R>>
 where
     R: Net<Listener = TcpListener, Stream = TcpStream> + AllocGlobal + Abort,
 {
-    let address = "127.0.0.1:0".parse()?;
-    let cache = serving(rt, rt.alloc())?;
-    let wire = NetWire::listening(rt, address)?;
-    Ok(CacheLoop::new(rt.alloc(), wire, cache)?)
+    let wire = made(rt, NetWire::listening(rt, some_port()));
+    made(
+        rt,
+        CacheLoop::new(rt.alloc(), wire, serving(rt, rt.alloc())),
+    )
 }
 
 // A speaker whose cache is at this address comes to have its list.
@@ -125,7 +137,7 @@ fn takes_the_list_at<'a, R>(
     rt: &'a R,
     cache: &mut CacheLoop<NetWire<'a, R>>,
     address: SocketAddr,
-) -> Result<(), Fail>
+) -> bool
 where
     R: Net<Listener = TcpListener, Stream = TcpStream> + AllocGlobal + Abort,
 {
@@ -134,17 +146,26 @@ where
         identifier: 0xC000_0201,
         cache: true,
     };
-    let mut speaker = speaking(rt, None, config, "")?;
+    let mut speaker = speaking(rt, None, config, "");
     speaker.set_remote(End::Cache, address);
-    takes_the_list(rt, cache, &mut speaker);
-    Ok(())
+    takes_the_list(rt.alloc(), cache, &mut speaker)
+}
+
+// The same of the cache's own address.
+fn takes_its_list<'a, R>(rt: &'a R, cache: &mut CacheLoop<NetWire<'a, R>>) -> bool
+where
+    R: Net<Listener = TcpListener, Stream = TcpStream> + AllocGlobal + Abort,
+{
+    match cache.wire().local_address() {
+        Some(address) => takes_the_list_at(rt, cache, address),
+        None => false,
+    }
 }
 
 #[test]
-fn a_speaker_takes_the_list_of_a_cache(rt: HostRuntime) -> Result<(), Fail> {
-    let mut cache = serving_over_loopback(&rt)?;
-    let address = cache.wire().local_address().ok_or("no address")?;
-    takes_the_list_at(&rt, &mut cache, address)
+fn a_speaker_takes_the_list_of_a_cache(rt: HostRuntime) {
+    let mut cache = serving_over_loopback(&rt);
+    assert!(rt; takes_its_list(&rt, &mut cache));
 }
 
 // That of AS 65001 waits for the other one.
@@ -190,26 +211,32 @@ fn is_established<W: Wire + Drop>(speaker: &SpeakerLoop<W>) -> bool {
     speaker.speaker().session(0) == Some(State::Established)
 }
 
-// Both come to Established, and each one's Loc-RIB has both networks.
-fn tell_each_other<W: Wire + Drop, R: AllocGlobal + Abort>(
-    rt: &R,
+// What the Loc-RIB of each shows then.
+const PASSIVE_ROWS: &str =
+    "198.51.100.0/24 local NotFound 4294967296\n203.0.113.0/24 0 NotFound 100\nend\n";
+
+const ACTIVE_ROWS: &str =
+    "198.51.100.0/24 0 NotFound 100\n203.0.113.0/24 local NotFound 4294967296\nend\n";
+
+// Whether both come to Established, and each one's Loc-RIB has both networks.
+fn tell_each_other<W: Wire + Drop>(
+    alloc: Global,
     passive: &mut SpeakerLoop<W>,
     active: &mut SpeakerLoop<W>,
-) {
-    assert!(rt; exchange(passive, active, 2));
-    assert!(rt; is_established(passive) && is_established(active));
-    let rows = "198.51.100.0/24 local NotFound 4294967296\n203.0.113.0/24 0 NotFound 100\nend\n";
-    assert!(rt; shows(rt.alloc(), passive, Table::Rib, rows));
-    let rows = "198.51.100.0/24 0 NotFound 100\n203.0.113.0/24 local NotFound 4294967296\nend\n";
-    assert!(rt; shows(rt.alloc(), active, Table::Rib, rows));
+) -> bool {
+    exchange(passive, active, 2)
+        && is_established(passive)
+        && is_established(active)
+        && shows(alloc, passive, Table::Rib, PASSIVE_ROWS)
+        && shows(alloc, active, Table::Rib, ACTIVE_ROWS)
 }
 
-// A speaker whose peer is at this address, and its peer, tell each other their networks.
+// Whether a speaker whose peer is at this address, and its peer, tell each other their networks.
 fn tells_that_at<'a, R>(
     rt: &'a R,
     passive: &mut SpeakerLoop<NetWire<'a, R>>,
     address: SocketAddr,
-) -> Result<(), Fail>
+) -> bool
 where
     R: Net<Listener = TcpListener, Stream = TcpStream> + AllocGlobal + Abort,
 {
@@ -218,22 +245,32 @@ where
         identifier: 0xC000_0202,
         cache: false,
     };
-    let mut active = speaking(rt, None, config, ACTIVE)?;
+    let mut active = speaking(rt, None, config, ACTIVE);
     active.set_remote(End::Peer(0), address);
-    tell_each_other(rt, passive, &mut active);
-    Ok(())
+    tell_each_other(rt.alloc(), passive, &mut active)
+}
+
+// The same at the peer's own address.
+fn tells_its_peer<'a, R>(rt: &'a R, passive: &mut SpeakerLoop<NetWire<'a, R>>) -> bool
+where
+    R: Net<Listener = TcpListener, Stream = TcpStream> + AllocGlobal + Abort,
+{
+    match passive.wire().local_address() {
+        Some(address) => {
+            passive.set_remote(End::Peer(0), address);
+            tells_that_at(rt, passive, address)
+        }
+        None => false,
+    }
 }
 
 #[test]
-fn two_speakers_tell_each_other_their_networks(rt: HostRuntime) -> Result<(), Fail> {
+fn two_speakers_tell_each_other_their_networks(rt: HostRuntime) {
     let config = Config {
         asn: Asn(65_001),
         identifier: 0xC000_0201,
         cache: false,
     };
-    let listen = "127.0.0.1:0".parse()?;
-    let mut passive = speaking(&rt, Some(listen), config, PASSIVE)?;
-    let address = passive.wire().local_address().ok_or("no address")?;
-    passive.set_remote(End::Peer(0), address);
-    tells_that_at(&rt, &mut passive, address)
+    let mut passive = speaking(&rt, Some(some_port()), config, PASSIVE);
+    assert!(rt; tells_its_peer(&rt, &mut passive));
 }

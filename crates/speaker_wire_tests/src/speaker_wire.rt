@@ -5,6 +5,7 @@ ghost use Rattle.wires.specs.Wires.{FitsIn, FitsInSent, calling, failing, told_b
 
 use bgp_attr::Mode;
 use net_prefix::{Asn, Prefix};
+use program_stages::made;
 use speaker::{ClientState, Command, Config, Event, PeerConf, Speaker, State};
 use speaker_turns::{End, SpeakerLoop};
 use std::alloc::AllocGlobal;
@@ -12,7 +13,6 @@ use std::cmp::min;
 use std::marker::Model;
 use std::net::{Ipv4Addr, SocketAddr, SocketAddrV4};
 use std::process::Abort;
-use std::test::Fail;
 use std::time::Duration;
 use wires::{Accepted, Attempt, Log, LoopFault, Note, Parting, Received, Sent, Wire};
 
@@ -340,63 +340,72 @@ fn obeys(speaker: &mut Speaker, commands: &[Command<'_>]) -> bool {
     true
 }
 
+// Whether it has both peers then, enabled.
+fn has_peers(speaker: &mut Speaker) -> bool {
+    let reached = Prefix {
+        bits: 0xC000_0200,
+        len: 24,
+    };
+    let commands = [
+        Command::AddPeer(0, peer(65_001, 11, Mode::Passive)),
+        Command::AddPeer(1, peer(65_002, 12, Mode::Active)),
+        Command::Reach(reached, 10),
+        Command::Enable(0),
+        Command::Enable(1),
+    ];
+    obeys(speaker, &commands)
+}
+
 // A speaker with both peers, enabled, and a cache.
-fn prepared(rt: &impl AllocGlobal) -> Result<Speaker, Fail> {
+fn prepared(rt: &(impl AllocGlobal + Abort)) -> Speaker {
     let config = Config {
         asn: Asn(65_000),
         identifier: 0xC000_0201,
         cache: true,
     };
-    let commands = [
-        Command::AddPeer(0, peer(65_001, 11, Mode::Passive)),
-        Command::AddPeer(1, peer(65_002, 12, Mode::Active)),
-        Command::Reach(Prefix::parse("192.0.2.0/24")?, 10),
-        Command::Enable(0),
-        Command::Enable(1),
-    ];
-    let mut speaker = Speaker::new(rt.alloc(), config)?;
-    if !obeys(&mut speaker, &commands) {
-        return Err(Fail::new("a command is refused"));
-    }
-    Ok(speaker)
+    let mut speaker = made(rt, Speaker::new(rt.alloc(), config));
+    assert!(rt; has_peers(&mut speaker));
+    speaker
 }
 
-fn fault_of_turn(turns: &mut SpeakerLoop<MemoryWire>) -> Option<LoopFault> {
-    turns.turn(0).err()
-}
-
-// Takes twenty turns at the moment 0.
-fn after_turns(mut turns: SpeakerLoop<MemoryWire>) -> Turned {
-    let mut fault = None;
+// Takes twenty turns at the moment 0, unless one stops them.
+fn fault_of_turns(turns: &mut SpeakerLoop<MemoryWire>) -> Option<LoopFault> {
     for _ in 0..20 {
-        fault = fault_of_turn(&mut turns);
-        if fault.is_some() {
-            break;
+        if let Err(fault) = turns.turn(0) {
+            return Some(fault);
         }
     }
+    None
+}
+
+// What they have led to.
+fn told_of(turns: &SpeakerLoop<MemoryWire>, fault: Option<LoopFault>) -> Turned {
     let wire = turns.wire();
     let speaker = turns.speaker();
+    let told = wire.faults.saturating_add(wire.ends);
     Turned {
         sides: wire.sides,
         failed: wire.failed,
         fault,
-        counts: [
-            wire.faults.saturating_add(wire.ends),
-            turns.lost(),
-            turns.closed(),
-        ],
+        counts: [told, turns.lost(), turns.closed()],
         sessions: [speaker.session(0), speaker.session(1)],
         cache: speaker.cache_session(),
     }
 }
 
-fn serve(rt: &impl AllocGlobal, fails_at: u64) -> Result<Turned, Fail> {
-    let wire = MemoryWire::failing_at(fails_at);
-    let mut turns = SpeakerLoop::new(rt.alloc(), wire, prepared(rt)?)?;
+// What twenty turns lead to, once each side has its address.
+fn after_turns(turns: &mut SpeakerLoop<MemoryWire>) -> Turned {
     turns.set_remote(End::Peer(0), address_of(0));
     turns.set_remote(End::Peer(1), address_of(1));
     turns.set_remote(End::Cache, address_of(2));
-    Ok(after_turns(turns))
+    let fault = fault_of_turns(turns);
+    told_of(turns, fault)
+}
+
+fn serve(rt: &(impl AllocGlobal + Abort), fails_at: u64) -> Turned {
+    let wire = MemoryWire::failing_at(fails_at);
+    let mut turns = made(rt, SpeakerLoop::new(rt.alloc(), wire, prepared(rt)));
+    after_turns(&mut turns)
 }
 
 // Whether a session goes on, or, where it is the one that failed, awaits its next beginning.
@@ -416,28 +425,33 @@ fn is_as_expected(turned: &Turned, side: usize) -> bool {
     }
 }
 
-// What a run has led to where a call of one side has failed, or none has.
-fn goes_on(rt: &impl Abort, turned: &Turned) {
-    assert!(rt; turned.fault.is_none());
+// Whether a run has gone on where a call of one side has failed, or none has.
+fn goes_on(turned: &Turned) -> bool {
     for side in 0..3 {
-        assert!(rt; is_as_expected(turned, side), "{side}");
+        if !is_as_expected(turned, side) {
+            return false;
+        }
     }
     let [told, lost, closed] = turned.counts;
-    assert!(rt; lost == told.saturating_add(closed));
+    turned.fault.is_none() && lost == told.saturating_add(closed)
+}
+
+// Whether the call that has failed, if one has, has led to what it should.
+fn is_well_led(turned: &Turned) -> bool {
+    match turned.failed {
+        Some(Call::Accept) => turned.fault == Some(LoopFault::Accept),
+        Some(Call::OfSide(_)) | None => goes_on(turned),
+    }
 }
 
 #[test]
-fn a_failing_call_costs_one_session(rt: HostRuntime) -> Result<(), Fail> {
+fn a_failing_call_costs_one_session(rt: HostRuntime) {
     for fails_at in 1..1_000 {
-        let turned = serve(&rt, fails_at)?;
-        match turned.failed {
-            Some(Call::Accept) => assert!(rt; turned.fault == Some(LoopFault::Accept)),
-            Some(Call::OfSide(_)) => goes_on(&rt, &turned),
-            None => {
-                goes_on(&rt, &turned);
-                assert!(rt; fails_at > 50, "{fails_at}");
-                return Ok(());
-            }
+        let turned = serve(&rt, fails_at);
+        assert!(rt; is_well_led(&turned), "{fails_at}");
+        if turned.failed.is_none() {
+            assert!(rt; fails_at > 50, "{fails_at}");
+            return;
         }
     }
     panic!(rt; "each run had a fault");

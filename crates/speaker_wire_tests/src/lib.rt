@@ -1,0 +1,8 @@
+//! Tests alone: speakers over the system's sockets, with a cache and with one another, and one over a wire in memory each of
+//! whose calls fails once.
+#![tactic(auto)]
+
+#[cfg(test)]
+mod bgp_loopback;
+#[cfg(test)]
+mod speaker_wire;
