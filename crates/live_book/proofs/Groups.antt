@@ -1,13 +1,10 @@
 -- The best of each neighbor AS is enough.
-use Rattle.std.proofs.Common.{◌≡◌, ◌≢◌, ◌↔◌, ℕ, Bool, true, false, cond, ◌||◌, ◌&&◌, ◌==◌, inl, inr, nat_lt, List, [], ◌∷◌, filter, Contains, refl, sym, ◌∙◌, ap, subst, arith}
+use Rattle.std.proofs.Common.{◌≡◌, ◌≢◌, ◌↔◌, ℕ, Bool, true, false, not, cond, ◌||◌, ◌&&◌, ◌==◌, inl, inr, nat_lt, List, [], ◌∷◌, filter, Contains, refl, sym, ◌∙◌, ap, subst, arith}
 use Rattle.std.proofs.lemmas.Bool.Decides.{nat_tests}
 use Rattle.std.proofs.lemmas.List.Kept.{AllPairs-filter}
+use Rattle.bgp_attr.specs.PathAttributes.{origin_octet}
 use Rattle.decision.specs.declared.candidate.Candidate.{Candidate}
-use Rattle.decision.specs.declared.selection.Step.{Step}
-use Rattle.decision.specs.declared.selection.Step.TheVariants.{FewestAses, LowestOrigin, ExternalFirst, LowestCost, LowestIdentifier, LowestAddress}
 use Rattle.decision.specs.Selection.{unbeaten, has_greater_degree, has_fewer_ases, has_lower_origin, med_of, has_lower_med, is_external_alone, has_lower_cost, has_lower_identifier, has_lower_address, selection, IsSelected, AreDistinct, DifferInRank}
-use Rattle.decision.specs.Steps.{beats, key_of}
-use Rattle.decision.proofs.Best.{beats-key}
 use Rattle.decision.proofs.One.{Among, among_unbeaten, among_selection, before_address, one_selected}
 use Rattle.decision.proofs.Laws.{at_among, contains_among, among_one, unbeaten_among}
 use Rattle.live_book.specs.NeighborBests.{of_neighbor, IsBestOfNeighbor}
@@ -23,14 +20,30 @@ record IsWeak (beats : Candidate → Candidate → Bool) : Type 0 where
 not_below : (a b c : ℕ) → nat_lt a b ≡ false → nat_lt c a ≡ false → nat_lt c b ≡ false
 not_below a b c e f = grind (arith, nat_tests)
 
-weak_lower : (key : Candidate → ℕ) → IsWeak (λ d x. nat_lt (key d) (key x))
-weak_lower key = record { through = λ x y z. not_below (key x) (key y) (key z) }
-
 weak_greater : IsWeak has_greater_degree
 weak_greater = record { through = λ x y z e f. not_below x.degree z.degree y.degree f e }
 
-weak_step : (step : Step) → IsWeak (beats step)
-weak_step step = subst IsWeak (beats-key step) (weak_lower (key_of step))
+weak_ases : IsWeak has_fewer_ases
+weak_ases = record { through = λ x y z. not_below x.path_length y.path_length z.path_length }
+
+weak_origin : IsWeak has_lower_origin
+weak_origin = record { through = λ x y z. not_below (origin_octet x.origin) (origin_octet y.origin) (origin_octet z.origin) }
+
+external_through : (x y z : Bool) → (x && not y) ≡ false → (z && not x) ≡ false → (z && not y) ≡ false
+external_through x true true e f = refl
+external_through x true false e f = refl
+external_through true false z e f = cc
+external_through false false true e f = cc
+external_through false false false e f = refl
+
+weak_external : IsWeak is_external_alone
+weak_external = record { through = λ x y z. external_through x.external y.external z.external }
+
+weak_cost : IsWeak has_lower_cost
+weak_cost = record { through = λ x y z. not_below x.cost y.cost z.cost }
+
+weak_identifier : IsWeak has_lower_identifier
+weak_identifier = record { through = λ x y z. not_below x.identifier y.identifier z.identifier }
 
 -- what is left of more is left of fewer
 stays : (beats : Candidate → Candidate → Bool) (cs ds : List Candidate) → Within ds cs → (x : Candidate) → Among x (unbeaten beats cs) → Among x ds → Among x (unbeaten beats ds)
@@ -63,9 +76,9 @@ three_within cs ds within x at there =
     let within_first : Within (unbeaten has_greater_degree ds) (unbeaten has_greater_degree cs) = still_within has_greater_degree weak_greater cs ds within x first there in
     let here_first : Among x (unbeaten has_greater_degree ds) = stays has_greater_degree cs ds within x first there in
     let within_second : Within (unbeaten has_fewer_ases (unbeaten has_greater_degree ds)) (unbeaten has_fewer_ases (unbeaten has_greater_degree cs)) =
-    still_within has_fewer_ases (weak_step FewestAses) _ _ within_first x second here_first in
+    still_within has_fewer_ases weak_ases _ _ within_first x second here_first in
     let here_second : Among x (unbeaten has_fewer_ases (unbeaten has_greater_degree ds)) = stays has_fewer_ases _ _ within_first x second here_first in
-    still_within has_lower_origin (weak_step LowestOrigin) _ _ within_second x at here_second
+    still_within has_lower_origin weak_origin _ _ within_second x at here_second
 
 -- x is left of fewer, where z is that
 pub three_here : (cs ds : List Candidate) → Within ds cs → (x : Candidate) → Among x (three cs) → Among x ds → (z : Candidate) → Among z (three cs) → Among z ds → Among z (three ds)
@@ -75,7 +88,7 @@ three_here cs ds within x at there z also member =
     let within_first : Within (unbeaten has_greater_degree ds) (unbeaten has_greater_degree cs) = still_within has_greater_degree weak_greater cs ds within x first there in
     let here_first : Among x (unbeaten has_greater_degree ds) = stays has_greater_degree cs ds within x first there in
     let within_second : Within (unbeaten has_fewer_ases (unbeaten has_greater_degree ds)) (unbeaten has_fewer_ases (unbeaten has_greater_degree cs)) =
-    still_within has_fewer_ases (weak_step FewestAses) _ _ within_first x second here_first in
+    still_within has_fewer_ases weak_ases _ _ within_first x second here_first in
     let z_second : Among z (unbeaten has_fewer_ases (unbeaten has_greater_degree cs)) = (among_unbeaten has_lower_origin _ z also).0 in
     let z_first : Among z (unbeaten has_greater_degree cs) = (among_unbeaten has_fewer_ases _ z z_second).0 in
     let z_here_first : Among z (unbeaten has_greater_degree ds) = stays has_greater_degree cs ds within z z_first member in
@@ -87,13 +100,13 @@ four_here cs ds within x at there =
     let third : Among x (unbeaten has_lower_identifier (unbeaten has_lower_cost (unbeaten is_external_alone cs))) = (among_unbeaten has_lower_address _ x at).0 in
     let second : Among x (unbeaten has_lower_cost (unbeaten is_external_alone cs)) = (among_unbeaten has_lower_identifier _ x third).0 in
     let first : Among x (unbeaten is_external_alone cs) = (among_unbeaten has_lower_cost _ x second).0 in
-    let within_first : Within (unbeaten is_external_alone ds) (unbeaten is_external_alone cs) = still_within is_external_alone (weak_step ExternalFirst) cs ds within x first there in
+    let within_first : Within (unbeaten is_external_alone ds) (unbeaten is_external_alone cs) = still_within is_external_alone weak_external cs ds within x first there in
     let here_first : Among x (unbeaten is_external_alone ds) = stays is_external_alone cs ds within x first there in
     let within_second : Within (unbeaten has_lower_cost (unbeaten is_external_alone ds)) (unbeaten has_lower_cost (unbeaten is_external_alone cs)) =
-    still_within has_lower_cost (weak_step LowestCost) _ _ within_first x second here_first in
+    still_within has_lower_cost weak_cost _ _ within_first x second here_first in
     let here_second : Among x (unbeaten has_lower_cost (unbeaten is_external_alone ds)) = stays has_lower_cost _ _ within_first x second here_first in
     let within_third : Within (unbeaten has_lower_identifier (unbeaten has_lower_cost (unbeaten is_external_alone ds))) (unbeaten has_lower_identifier (unbeaten has_lower_cost (unbeaten is_external_alone cs))) =
-    still_within has_lower_identifier (weak_step LowestIdentifier) _ _ within_second x third here_second in
+    still_within has_lower_identifier weak_identifier _ _ within_second x third here_second in
     let here_third : Among x (unbeaten has_lower_identifier (unbeaten has_lower_cost (unbeaten is_external_alone ds))) = stays has_lower_identifier _ _ within_second x third here_second in
     stays has_lower_address _ _ within_third x at here_third
 
