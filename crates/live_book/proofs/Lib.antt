@@ -1,1 +1,4 @@
 pub mod Groups
+pub mod PlaceBests
+pub mod Moves
+pub mod Rounds

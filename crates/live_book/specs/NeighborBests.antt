@@ -1,8 +1,8 @@
 -- The best candidate of each neighbor AS, and who is compared with whom where candidates change.
-use Rattle.std.specs.Prelude.{ℕ, ◌≡◌, ◌≢◌, ◌==◌, Bool, true, false, not, ◌&&◌, ◌⊎◌, ◌↔◌, Option, Some, None, List, [], ◌∷◌, filter, filter_map, map, if◌then◌else◌}
+use Rattle.std.specs.Prelude.{ℕ, ◌≡◌, ◌≢◌, ◌==◌, Bool, true, false, not, ◌&&◌, ◌⊎◌, ◌↔◌, Option, Some, None, List, [], ◌∷◌, filter, filter_map, map, get_or, option_and_then, if◌then◌else◌}
 use Rattle.std.specs.List.{list_any}
-use Rattle.decision.specs.BookContents.{changed}
-use Rattle.decision.specs.KeptPlaces.{candidates_of}
+use Rattle.decision.specs.BookContents.{candidate_of, changed}
+use Rattle.decision.specs.KeptPlaces.{ArePlaces, IsBestAt, candidates_of}
 use Rattle.decision.specs.Selection.{IsSelected}
 use Rattle.decision.specs.declared.book.Change.{Change}
 use Rattle.decision.specs.declared.candidate.Candidate.{Candidate}
@@ -63,9 +63,9 @@ abbrev pub IsPlace : Place → List Place → Type 0
 IsPlace p [] = ⊥
 IsPlace p (q ∷ qs) = (q ≡ p) ⊎ IsPlace p qs
 
--- just those candidates lead that are the best of their neighbor AS, and none is open
+-- just those candidates lead that are the best of their neighbor AS
 abbrev pub AreBests : List Place → Type 0
-AreBests ps = (p : Place) → IsPlace p ps → (is_open p.standing ≡ false) × ((c : Candidate) → p.candidate ≡ Some c → (leads p.standing ≡ true) ↔ IsBestOfNeighbor (offered ps) c)
+AreBests ps = (p : Place) → IsPlace p ps → (c : Candidate) → p.candidate ≡ Some c → (leads p.standing ≡ true) ↔ IsBestOfNeighbor (offered ps) c
 
 -- the best of each neighbor AS isn't behind, and of each AS one leads at most
 pub record AreFair (ps : List Place) : Type 0 where
@@ -94,10 +94,14 @@ opened_by changes p = neighbor_if (leads p.standing && is_named changes p.slot) 
 abbrev pub opened_of : List Change → List Place → List ℕ
 opened_of changes ps = filter_map (opened_by changes) ps
 
+-- the neighbor AS is one of these
+abbrev pub has_neighbor : List ℕ → ℕ → Bool
+has_neighbor ns n = list_any (λ m. m == n) ns
+
 -- the candidate came by one of these neighbor ASes
 abbrev pub is_opened : List ℕ → Option Candidate → Bool
 is_opened ns None = false
-is_opened ns (Some c) = list_any (λ n. n == c.neighbor.0) ns
+is_opened ns (Some c) = has_neighbor ns c.neighbor.0
 
 -- how a place stands after the changes
 abbrev pub standing_of : List Change → List ℕ → Place → Standing
@@ -150,3 +154,14 @@ keeps_lead ps slot = list_any (λ p. p.slot == slot && is_kept p.standing) ps
 abbrev pub last_round : List Place → Option ℕ → Round
 last_round ps None = Bests
 last_round ps (Some slot) = if keeps_lead ps slot then Newcomers slot else Bests
+
+-- ---- what is known before each comparison
+
+-- the best of all is that of places where each that leads as before has led
+abbrev pub IsBestBefore : List Place → Option ℕ → Type 0
+IsBestBefore ps best =
+    (old : List Place) × ArePlaces (slots_of old) × AreBests old × IsBestAt (slots_of old) (option_and_then (candidate_of (slots_of old)) best) × HaveStood leads old ps
+
+-- the neighbor AS in which the kth place is to be compared
+abbrev pub to_settle_at : List Place → ℕ → Option ℕ
+to_settle_at ps k = neighbor_to_settle (get_or ps k (empty_place 0))

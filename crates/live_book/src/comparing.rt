@@ -1,9 +1,8 @@
 //! Which candidates are compared with one another after a change.
-ghost use Rattle.std.specs.Prelude.{◌≡◌, ◌≢◌, ◌≤◌, ◌+◌, ◌-◌, ◌^◌, ◌↔◌, [], length, map, min, IsTrue, MatchOption, Option};
-ghost use Rattle.decision.specs.BookContents.{AreApart, candidate_of, changed};
+ghost use Rattle.std.specs.Prelude.{◌≡◌, ℕ, ◌≤◌, ◌<◌, ◌+◌, ◌-◌, ◌^◌, length, map, min, None, Some, option_and_then};
+ghost use Rattle.decision.specs.BookContents.{candidate_of, changed};
 ghost use Rattle.decision.specs.KeptPlaces.{ArePlaces, IsBestAt, with_changes};
-ghost use Rattle.decision.specs.Selection.{AreDistinct, IsSelected};
-ghost use Rattle.live_book.specs.NeighborBests.{AreBests, AreFair, HaveStood, contender, contenders_of, is_in, is_kept, is_named, is_of, is_open, is_opened, keeps_lead, last_round, leads, moved, narrowed, neighbor_to_settle, opened_by, opened_of, slots_of, standing_of};
+ghost use Rattle.live_book.specs.NeighborBests.{AreBests, AreFair, HaveStood, IsBestBefore, contender, contenders_of, has_neighbor, is_in, is_kept, is_named, is_of, is_open, is_opened, keeps_lead, last_round, leads, moved, narrowed, neighbor_to_settle, opened_by, opened_of, slots_of, standing_of, to_settle_at};
 
 use crate::place::{Place, Standing};
 use arrayvec::ArrayVec;
@@ -64,14 +63,19 @@ fn opened(changes: &[Change], places: &[Place]) -> ArrayVec<u32, MAX_CANDIDATES>
     neighbors
 }
 
+// Whether the neighbor AS is one of these.
+fn has_neighbor(opened: &[u32], neighbor: u32) -> bool
+    ensures { result ≡ has_neighbor opened.now neighbor }
+{
+    opened.iter().any(|other| *other == neighbor)
+}
+
 // Whether the candidate came by one of these neighbor ASes.
 fn is_opened(opened: &[u32], candidate: Option<Candidate>) -> bool
     ensures { result ≡ is_opened opened.now candidate }
 {
     match candidate {
-        Some(candidate) => opened
-            .iter()
-            .any(|neighbor| *neighbor == candidate.neighbor.0),
+        Some(candidate) => has_neighbor(opened, candidate.neighbor.0),
         None => false,
     }
 }
@@ -112,6 +116,12 @@ fn move_each(changes: &[Change], opened: &[u32], places: &mut [Place])
 
 // Makes the changes, and opens what has to be compared.
 pub(crate) fn open(changes: &[Change], places: &mut [Place])
+    requires kept { ArePlaces (slots_of places.old) }
+    requires bests { AreBests places.old }
+    requires after { ArePlaces (with_changes changes.now (slots_of places.old)) }
+    ensures slots { slots_of places.new ≡ with_changes changes.now (slots_of places.old) }
+    ensures fair { AreFair places.new }
+    ensures stood { HaveStood leads places.old places.new }
 {
     let neighbors = opened(changes, places);
     move_each(changes, &neighbors, places);
@@ -197,6 +207,13 @@ fn narrow_each(neighbor: u32, best: u8, places: &mut [Place])
 
 // Compares those of one neighbor AS that aren't behind.
 fn settle(neighbor: u32, places: &mut [Place])
+    requires kept { ArePlaces (slots_of places.old) }
+    requires fair { AreFair places.old }
+    ensures slots { slots_of places.new ≡ slots_of places.old }
+    ensures fair { AreFair places.new }
+    ensures stood { HaveStood is_kept places.old places.new }
+    ensures closed { (k : ℕ) → to_settle_at places.old k ≡ None → to_settle_at places.new k ≡ None }
+    ensures settled { (k : ℕ) → to_settle_at places.old k ≡ Some neighbor → to_settle_at places.new k ≡ None }
 {
     let mut meter = Meter::new();
     let candidates = contenders(Round::Neighbor(neighbor), places);
@@ -217,6 +234,11 @@ fn neighbor_to_settle(place: &Place) -> Option<u32>
 
 // Compares each neighbor AS in which one is open.
 pub(crate) fn settle_each(places: &mut [Place])
+    requires kept { ArePlaces (slots_of places.old) }
+    requires fair { AreFair places.old }
+    ensures slots { slots_of places.new ≡ slots_of places.old }
+    ensures bests { AreBests places.new }
+    ensures stood { HaveStood is_kept places.old places.new }
 {
     for index in 0..places.len() {
         if let Some(neighbor) = neighbor_to_settle(&places[index]) {
@@ -244,9 +266,21 @@ fn last_round(places: &[Place], best: Option<u8>) -> Round
     }
 }
 
+// A count has 64 bits.
+fn is_count(count: u64)
+    ensures { count < 2 ^ 64 }
+{}
+
 // The slot of the best of all.
 pub(crate) fn best_of(meter: &mut Meter, places: &[Place], best: Option<u8>) -> Option<u8>
+    requires kept { ArePlaces (slots_of places.now) }
+    requires bests { AreBests places.now }
+    requires before { IsBestBefore places.now best }
+    ensures best { IsBestAt (slots_of places.now) (option_and_then (candidate_of (slots_of places.now)) result) }
+    ensures counted { (meter.old.count ≤ meter.new.count) × (meter.new.count ≤ meter.old.count + 1) }
+    ensures chosen { meter.new.count ≡ min (meter.old.count + 1) (2 ^ 64 - 1) }
 {
+    is_count(meter.count());
     let candidates = contenders(last_round(places, best), places);
     match choose(meter, &candidates) {
         Some(best) => Some(best.slot),

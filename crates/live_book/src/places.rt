@@ -1,9 +1,9 @@
 //! The places of one prefix.
-ghost use Rattle.std.specs.Prelude.{◌≡◌, ◌≢◌, ◌≤◌, ◌+◌, ◌-◌, ◌^◌, ◌++◌, ◌∷◌, ◌&&◌, [], None, true, Option, Some, All, IfOk, IfSome, IsTrue, ◌↔◌, is_ok, length, min, nat_eq, not, if◌then◌else◌};
+ghost use Rattle.std.specs.Prelude.{◌≡◌, ◌≢◌, ◌≤◌, ◌+◌, ◌-◌, ◌^◌, ◌++◌, ◌∷◌, ◌&&◌, [], None, true, Option, Some, All, IfOk, IfSome, IsTrue, ◌↔◌, filter, is_ok, length, min, nat_eq, not, if◌then◌else◌};
 ghost use Rattle.std.specs.Map.{lookup};
 ghost use Rattle.decision.specs.BookContents.{AreApart, candidate_of, is_placed};
-ghost use Rattle.decision.specs.KeptPlaces.{IsKept, with_changes, without_slot};
-ghost use Rattle.live_book.specs.NeighborBests.{AreBests, slots_of};
+ghost use Rattle.decision.specs.KeptPlaces.{ArePlaces, IsKept, with_changes, without_slot};
+ghost use Rattle.live_book.specs.NeighborBests.{AreBests, HaveStood, empty_place, leads, slots_of};
 
 use crate::comparing::{after, best_of, open, settle_each};
 use crate::place::Place;
@@ -103,6 +103,9 @@ impl<A: Allocator> Places<A> {
 
 // Makes a place for the slot, and takes no more memory than it needs.
 fn add_place<A: Allocator>(places: &mut Vec<Place, A>, slot: u8) -> Result<(), AllocError>
+    ensures places { places.new.items ≡ (if is_ok result && not (is_placed (slots_of places.old.items) slot) then places.old.items ++ empty_place slot ∷ [] else places.old.items) }
+    ensures few { length places.old.items ≤ 65 → length places.new.items ≤ 65 }
+    ensures there { is_placed (slots_of places.old.items) slot ≡ true → is_ok result ≡ true }
 {
     if has_place(places, slot) {
         return Ok(());
@@ -117,6 +120,7 @@ fn add_place<A: Allocator>(places: &mut Vec<Place, A>, slot: u8) -> Result<(), A
 
 // Takes the slot's place away.
 fn remove_place<A: Allocator>(places: &mut Vec<Place, A>, slot: u8)
+    ensures { places.new.items ≡ filter (λ place. not (nat_eq slot place.slot)) places.old.items }
 {
     places.retain(|place| slot != place.slot);
 }
@@ -182,11 +186,23 @@ fn is_one(first: &Candidate, second: &Candidate) -> bool
 
 // Makes the changes, and finds the best one of each neighbor AS.
 fn make<A: Allocator>(changes: &[Change], places: &mut Vec<Place, A>)
+    requires kept { ArePlaces (slots_of places.old.items) }
+    requires bests { AreBests places.old.items }
+    requires after { ArePlaces (with_changes changes.now (slots_of places.old.items)) }
+    ensures slots { slots_of places.new.items ≡ with_changes changes.now (slots_of places.old.items) }
+    ensures bests { AreBests places.new.items }
+    ensures stood { HaveStood leads places.old.items places.new.items }
 {
     make_each(changes, places.as_mut_slice());
 }
 
 fn make_each(changes: &[Change], places: &mut [Place])
+    requires kept { ArePlaces (slots_of places.old) }
+    requires bests { AreBests places.old }
+    requires after { ArePlaces (with_changes changes.now (slots_of places.old)) }
+    ensures slots { slots_of places.new ≡ with_changes changes.now (slots_of places.old) }
+    ensures bests { AreBests places.new }
+    ensures stood { HaveStood leads places.old places.new }
 {
     open(changes, places);
     settle_each(places);
