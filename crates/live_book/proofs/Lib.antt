@@ -2,3 +2,4 @@ pub mod Groups
 pub mod PlaceBests
 pub mod Moves
 pub mod Rounds
+pub mod Leaving
