@@ -1,5 +1,5 @@
 -- The best of each neighbor AS is enough.
-use Rattle.std.proofs.Common.{◌≡◌, ◌≢◌, ◌↔◌, ℕ, Bool, true, false, not, cond, ◌||◌, ◌&&◌, ◌==◌, inl, inr, nat_lt, List, [], ◌∷◌, filter, Contains, refl, sym, ◌∙◌, ap, subst, arith}
+use Rattle.std.proofs.Common.{◌≡◌, ◌≢◌, ◌↔◌, ℕ, Bool, true, false, not, cond, ◌&&◌, ◌==◌, inl, inr, nat_lt, List, [], ◌∷◌, filter, Contains, refl, sym, ◌∙◌, ap, subst, arith}
 use Rattle.std.proofs.lemmas.Bool.Decides.{nat_tests}
 use Rattle.std.proofs.lemmas.List.Kept.{AllPairs-filter}
 use Rattle.bgp_attr.specs.PathAttributes.{origin_octet}

@@ -1,10 +1,10 @@
 -- What the changes make of the places.
-use Rattle.std.proofs.Common.{◌≡◌, ◌≢◌, ℕ, Bool, true, false, not, cond, ◌||◌, ◌&&◌, ◌==◌, inl, inr, nat_eq, List, [], ◌∷◌, map, filter_map, Option, Some, None, refl, sym, ◌∙◌, ap, subst, arith}
+use Rattle.std.proofs.Common.{◌≡◌, ◌≢◌, ℕ, Bool, true, false, cond, ◌||◌, ◌&&◌, ◌==◌, inl, inr, nat_eq, List, [], ◌∷◌, map, Option, Some, None, refl, sym, ◌∙◌, ap, subst, arith}
 use Rattle.std.specs.List.{cons_option, list_any}
 use Rattle.std.proofs.lemmas.Bool.Decides.{nat_tests}
 use Rattle.decision.specs.BookContents.{changed}
-use Rattle.decision.specs.KeptPlaces.{ArePlaces, candidates_of, with_changes}
-use Rattle.decision.specs.Selection.{AreDistinct, selection}
+use Rattle.decision.specs.KeptPlaces.{ArePlaces, with_changes}
+use Rattle.decision.specs.Selection.{selection}
 use Rattle.decision.specs.declared.book.Change.{Change}
 use Rattle.decision.specs.declared.candidate.Candidate.{Candidate}
 use Rattle.decision.proofs.BestPlaces.{distinct_places}
@@ -14,8 +14,8 @@ use Rattle.live_book.specs.NeighborBests.{AreBests, AreFair, HaveStood, IsBestOf
 use Rattle.live_book.specs.declared.place.Place.{Place}
 use Rattle.live_book.specs.declared.place.Standing.{Standing}
 use Rattle.live_book.specs.declared.place.Standing.TheVariants.{Behind, Open, Leads, Won}
-use Rattle.live_book.proofs.Groups.{Within, distinct_group, group_neighbor, group_within, in_group, selected_of_neighbor}
-use Rattle.live_book.proofs.PlaceBests.{HasPlace, among_offered, mapped_place, of_mapped, place_mapped, place_of, same_candidate, same_place, same_rank}
+use Rattle.live_book.proofs.Groups.{distinct_group, group_neighbor, group_within, in_group, selected_of_neighbor}
+use Rattle.live_book.proofs.PlaceBests.{HasPlace, among_offered, of_mapped, place_mapped, place_of, same_candidate, same_place, same_rank}
 
 -- ---- standings after changes
 
@@ -113,6 +113,7 @@ two_selected cs ds x y same at_x y_there at_y x_there =
     within es z (inl is) one other = subst (λ c. Among c es) is one
     within es z (inr (inl is)) one other = subst (λ c. Among c es) is other
     within es z (inr (inr at)) one other = absurd at
+
     neighbor : (n : ℕ) (z : Candidate) → Among z (x ∷ y ∷ []) → x.neighbor.0 ≡ n → y.neighbor.0 ≡ n → z.neighbor.0 ≡ n
     neighbor n z (inl is) one other = ap (λ c. c.neighbor.0) (sym is) ∙ one
     neighbor n z (inr (inl is)) one other = ap (λ c. c.neighbor.0) (sym is) ∙ other

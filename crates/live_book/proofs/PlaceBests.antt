@@ -1,18 +1,16 @@
 -- Places with their candidates, and members of mapped lists of them.
-use Rattle.std.proofs.Common.{◌≡◌, ◌≢◌, ◌⊎◌, ◌↔◌, ℕ, ◌+◌, ◌<◌, ◌≤◌, zero, suc, Bool, true, false, not, cond, ◌&&◌, inl, inr, nat_eq, List, [], ◌∷◌, ◌++◌, map, filter, filter_map, get_or, take, drop, set, length, All, Option, Some, None, is_some, option_and_then, slice_index_or, refl, sym, ◌∙◌, ap, subst, arith}
+use Rattle.std.proofs.Common.{◌≡◌, ◌≢◌, ◌⊎◌, ◌↔◌, ℕ, ◌+◌, ◌<◌, ◌≤◌, zero, suc, Bool, true, false, not, cond, inl, inr, nat_eq, List, [], ◌∷◌, ◌++◌, map, filter, filter_map, get_or, take, drop, set, length, Option, Some, None, option_and_then, refl, sym, ◌∙◌, ap, subst, arith}
 use Rattle.std.proofs.lemmas.List.{get_or_default, take_more, length_push}
 use Rattle.std.proofs.lemmas.List.Elements.{filter_map-append}
 use Rattle.std.proofs.lemmas.List.Edits.{map_over_more}
-use Rattle.std.proofs.lemmas.List.Kept.{AllPairs-cons}
 use Rattle.std.specs.List.{AllByRecursion, IsDistinct, cons_option}
 use Rattle.std.specs.Map.{lookup, keys_of}
 use Rattle.decision.specs.BookContents.{candidate_of, changed}
-use Rattle.decision.specs.KeptPlaces.{ArePlaces, candidates_of, with_changes, without_slot}
-use Rattle.decision.specs.Selection.{AreDistinct, DifferInRank, unbeaten, has_greater_degree, has_lower_address, selection}
+use Rattle.decision.specs.KeptPlaces.{ArePlaces, with_changes, without_slot}
+use Rattle.decision.specs.Selection.{has_greater_degree, has_lower_address, selection}
 use Rattle.decision.specs.declared.book.Change.{Change}
 use Rattle.decision.specs.declared.candidate.Candidate.{Candidate}
 use Rattle.decision.proofs.BestPlaces.{among_candidates}
-use Rattle.decision.proofs.Laws.{at_among}
 use Rattle.decision.proofs.One.{Among, among_unbeaten, among_selection, before_address}
 use Rattle.decision.proofs.PlaceLists.{same_slot, slot_itself, other_slot, slots_differ, turned}
 use Rattle.live_book.specs.NeighborBests.{AreBests, IsBestOfNeighbor, IsPlace, empty_place, leads, offered, slots_of}

@@ -1,5 +1,5 @@
 -- Who is compared, and what is known afterwards.
-use Rattle.std.proofs.Common.{◌≡◌, ◌≢◌, ℕ, ◌<◌, zero, suc, Bool, true, false, not, cond, ◌||◌, ◌&&◌, ◌==◌, inl, inr, nat_eq, List, [], ◌∷◌, map, filter_map, get_or, length, All, Option, Some, None, MatchOption, slice_index_or, option_and_then, option_map, refl, sym, ◌∙◌, ap, subst, arith}
+use Rattle.std.proofs.Common.{◌≡◌, ◌≢◌, ℕ, ◌<◌, zero, suc, Bool, true, false, not, cond, ◌||◌, ◌&&◌, ◌==◌, inl, inr, nat_eq, List, [], ◌∷◌, map, get_or, length, All, Option, Some, None, MatchOption, slice_index_or, refl, sym, ◌∙◌, ap, subst, arith}
 use Rattle.std.specs.Map.{keys_of}
 use Rattle.std.specs.List.{AllByRecursion, IsDistinct, cons_option, list_any}
 use Rattle.std.proofs.lemmas.Bool.Decides.{nat_tests}
@@ -11,16 +11,14 @@ use Rattle.decision.specs.declared.candidate.Candidate.{Candidate}
 use Rattle.decision.proofs.BestPlaces.{distinct_places}
 use Rattle.decision.proofs.Laws.{at_among, among_one}
 use Rattle.decision.proofs.One.{Among, among_selection, one_selected}
-use Rattle.decision.proofs.PlaceLists.{same_slot}
 use Rattle.live_book.specs.NeighborBests.{AreBests, AreFair, HaveStood, IsBestBefore, IsBestOfNeighbor, IsPlace, contender, contenders_of, empty_place, is_behind, is_in, is_kept, is_of, is_open, keeps_lead, last_round, leads, narrowed, narrowed_standing, neighbor_if, neighbor_to_settle, of_neighbor, offered, slots_of, to_settle_at}
 use Rattle.live_book.specs.declared.comparing.Round.{Round}
 use Rattle.live_book.specs.declared.comparing.Round.TheVariants.{Neighbor, Newcomers, Bests}
 use Rattle.live_book.specs.declared.place.Place.{Place}
 use Rattle.live_book.specs.declared.place.Standing.{Standing}
 use Rattle.live_book.specs.declared.place.Standing.TheVariants.{Behind, Open, Leads, Won}
-use Rattle.live_book.proofs.Groups.{Within, distinct_group, group_neighbor, group_within, in_group, selected_among, selected_best, selected_of_bests, selected_of_neighbor}
-use Rattle.live_book.proofs.Moves.{two_selected}
-use Rattle.live_book.proofs.PlaceBests.{HasPlace, among_offered, at_mapped, at_place, index_of, mapped_place, of_mapped, place_mapped, place_of, same_candidate, same_place, same_rank, slots_same}
+use Rattle.live_book.proofs.Groups.{Within, distinct_group, group_neighbor, group_within, in_group, selected_best, selected_of_bests, selected_of_neighbor}
+use Rattle.live_book.proofs.PlaceBests.{HasPlace, among_offered, at_mapped, at_place, index_of, of_mapped, place_of, same_candidate, same_place, same_rank, slots_same}
 
 -- ---- who takes part
 
@@ -309,8 +307,10 @@ bests_settled ps are fair closed p at c e = (λ led. is_best p at c e led, λ be
     closed_at q there d f =
         let index : (k : ℕ) × (k < length ps) × (get_or ps k (empty_place 0) ≡ q) = index_of ps (empty_place 0) q there in
         none_open (is_open q.standing) d (ap (neighbor_if (is_open q.standing)) (sym f) ∙ ap neighbor_to_settle (sym index.2) ∙ closed index.0 index.1)
+
     best_leads : (q : Place) → IsPlace q ps → (d : Candidate) → q.candidate ≡ Some d → IsBestOfNeighbor (offered ps) d → leads q.standing ≡ true
     best_leads q there d f best = leads_else q.standing (fair.held q there d f best) (closed_at q there d f)
+
     is_best : (q : Place) → IsPlace q ps → (d : Candidate) → q.candidate ≡ Some d → leads q.standing ≡ true → IsBestOfNeighbor (offered ps) d
     is_best q there d f led =
         let n : ℕ = d.neighbor.0 in

@@ -1,5 +1,5 @@
 -- The best candidate of each neighbor AS, and who is compared with whom where candidates change.
-use Rattle.std.specs.Prelude.{ℕ, ◌≡◌, ◌≢◌, ◌==◌, Bool, true, false, not, ◌&&◌, ◌⊎◌, ◌↔◌, Option, Some, None, List, [], ◌∷◌, filter, filter_map, map, get_or, option_and_then, if◌then◌else◌}
+use Rattle.std.specs.Prelude.{ℕ, ◌≡◌, ◌==◌, Bool, true, false, not, ◌&&◌, ◌⊎◌, ◌↔◌, Option, Some, None, List, [], ◌∷◌, filter, filter_map, map, get_or, option_and_then, if◌then◌else◌}
 use Rattle.std.specs.List.{list_any}
 use Rattle.decision.specs.BookContents.{candidate_of, changed}
 use Rattle.decision.specs.KeptPlaces.{ArePlaces, IsBestAt, candidates_of}

@@ -7,8 +7,8 @@ ghost use Rattle.decision.specs.KeptPlaces.{Puts, alone};
 ghost use Rattle.decision.specs.BookContents.{candidate_of, is_placed, kept_at, places_at, rows_of};
 ghost use Rattle.net_prefix.specs.PrefixOrder.{prefix_cmp};
 
-use decision::{Book, Candidate, Change, Meter};
 use crate::places::Places;
+use decision::{Book, Candidate, Change, Meter};
 use net_prefix::Prefix;
 use std::alloc::{AllocError, Allocator, Global};
 use std::collections::{BTreeMap, btree_map};

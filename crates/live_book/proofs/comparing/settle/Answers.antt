@@ -1,4 +1,4 @@
-use Rattle.std.proofs.Common.{◌≡◌, None, map, sym, subst, ◌∙◌, ap}
+use Rattle.std.proofs.Common.{◌≡◌, None, sym, subst, ◌∙◌, ap}
 use Rattle.decision.specs.Selection.{AreDistinct, IsSelected}
 use Rattle.live_book.specs.NeighborBests.{AreFair, HaveStood, contenders_of, is_kept, slots_of, to_settle_at}
 use Rattle.live_book.specs.declared.comparing.Round.TheVariants.{Neighbor}

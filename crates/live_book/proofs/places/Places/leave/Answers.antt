@@ -30,7 +30,7 @@ returns-clause-kept g c =
     ap (λ k. candidate_of k.places c.args.slot) c.self.view_is ∙ ap (λ ps. candidate_of ps c.args.slot) c.change.ensures.places ∙ gone_none c.args.slot c.args.self.now.places in (
       subst ArePlaces (sym (ap slots_of c.remove_place.ensures ∙ slots_without c.args.slot c.self.inside.places.items)) (places_without c.args.slot (slots_of c.self.inside.places.items) is.0),
       subst (λ xs. IsBestAt xs (option_and_then (candidate_of xs) c.self.inside.best)) (sym (ap slots_of c.remove_place.ensures ∙ slots_without c.args.slot c.self.inside.places.items))
-      (best_stays c.args.slot (slots_of c.self.inside.places.items) is.0 none c.self.inside.best is.1),
+          (best_stays c.args.slot (slots_of c.self.inside.places.items) is.0 none c.self.inside.best is.1),
     )
 
 pub returns-clause-never : goal.returns-clause-never
