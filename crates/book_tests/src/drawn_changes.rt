@@ -149,8 +149,8 @@ fn run(rt: &impl Abort, alloc: Global, slots: u8, calls: u32) {
 
 #[test]
 fn both_books_choose_alike(rt: HostRuntime) {
-    run(&rt, rt.alloc(), 2, 2_000);
-    run(&rt, rt.alloc(), 5, 4_000);
-    run(&rt, rt.alloc(), 12, 4_000);
-    run(&rt, rt.alloc(), 64, 4_000);
+    run(&rt, rt.alloc(), 2, 10_000);
+    run(&rt, rt.alloc(), 5, 30_000);
+    run(&rt, rt.alloc(), 12, 30_000);
+    run(&rt, rt.alloc(), 64, 30_000);
 }
