@@ -1,0 +1,144 @@
+//! Both books side by side, and the candidates that they were given.
+ghost use Rattle.std.specs.Prelude.{◌≡◌, IfSome};
+ghost use Rattle.book_tests.specs.Addressed.{AreAddressed, IsOwn};
+ghost use Rattle.decision.specs.BookContents.{offer_at};
+ghost use Rattle.decision.specs.Selection.{AreDistinct};
+
+use arrayvec::ArrayVec;
+use decision::{Book, Candidate, Change, Meter, PlainBook, choose};
+use live_book::LiveBook;
+use net_prefix::Prefix;
+use std::alloc::{AllocError, Allocator};
+use std::process::Abort;
+
+/// The prefix of all tests.
+pub fn prefix_of(rt: &impl Abort) -> Prefix {
+    match Prefix::new(0x0a00_0000, 16) {
+        Ok(prefix) => prefix,
+        Err(_) => panic!(rt; "no prefix"),
+    }
+}
+
+/// An empty book.
+pub fn plain_book<A: Allocator + Clone>(rt: &impl Abort, alloc: A) -> PlainBook<A>
+    ensures { AreAddressed (offer_at result) }
+{
+    match PlainBook::empty(alloc) {
+        Ok(book) => book,
+        Err(_) => panic!(rt; "no memory"),
+    }
+}
+
+/// An empty book that keeps the best of each neighbor AS.
+pub fn live_book<A: Allocator + Clone>(rt: &impl Abort, alloc: A) -> LiveBook<A>
+    ensures { AreAddressed (offer_at result) }
+{
+    match LiveBook::empty(alloc) {
+        Ok(book) => book,
+        Err(_) => panic!(rt; "no memory"),
+    }
+}
+
+/// What the books have counted, and the candidates that they were given, by slot.
+#[derive(Drop)]
+pub struct Given {
+    pub plain: Meter,
+    pub live: Meter,
+    pub offers: [Option<Candidate>; 64],
+}
+
+impl Given {
+    pub fn new() -> Given {
+        Given {
+            plain: Meter::new(),
+            live: Meter::new(),
+            offers: [None; 64],
+        }
+    }
+
+    /// The slot's candidate from now on, or that it has none.
+    pub fn note(&mut self, change: Change) {
+        let slot = usize::from(change.slot);
+        if slot < 64 {
+            self.offers[slot] = change.candidate;
+        }
+    }
+
+    /// The selection of all candidates, and as many choices in both books.
+    pub fn agrees(&self, plain: Option<Candidate>, live: Option<Candidate>) -> bool {
+        let mut meter = Meter::new();
+        let best = choose(&mut meter, &candidates(&self.offers));
+        plain == best && live == best && self.plain.count() == self.live.count()
+    }
+}
+
+// The candidate, if it has this address.
+fn of_address(offer: Option<Candidate>, address: u32) -> Option<Candidate>
+    ensures { IfSome result (λ c. c.address ≡ address) }
+{
+    match offer {
+        Some(candidate) if candidate.address == address => Some(candidate),
+        _ => None,
+    }
+}
+
+// The candidates that have their slots for addresses.
+fn candidates(offers: &[Option<Candidate>; 64]) -> ArrayVec<Candidate, 64>
+    ensures { AreDistinct result.items }
+{
+    let mut candidates = ArrayVec::new();
+    for slot in 0..64u32 {
+        if let Some(candidate) = of_address(offers[slot as usize], slot) {
+            candidates.push(candidate);
+        }
+    }
+    candidates
+}
+
+/// The change is made.
+pub fn offer<A: Allocator + Clone, B: Book<A>>(
+    book: &mut B,
+    meter: &mut Meter,
+    prefix: Prefix,
+    change: Change,
+) -> Result<(), AllocError>
+    requires addressed { AreAddressed (offer_at (B.kept book.old)) }
+    requires own { IsOwn change }
+    ensures { AreAddressed (offer_at (B.kept book.new)) }
+{
+    book.room(change.slot, prefix)?;
+    book.change(meter, prefix, &[change]);
+    Ok(())
+}
+
+/// Both changes are made in one call.
+pub fn offer_two<A: Allocator + Clone, B: Book<A>>(
+    book: &mut B,
+    meter: &mut Meter,
+    prefix: Prefix,
+    first: Change,
+    second: Change,
+) -> Result<(), AllocError>
+    requires addressed { AreAddressed (offer_at (B.kept book.old)) }
+    requires first { IsOwn first }
+    requires second { IsOwn second }
+    ensures { AreAddressed (offer_at (B.kept book.new)) }
+{
+    book.room(first.slot, prefix)?;
+    book.room(second.slot, prefix)?;
+    book.change(meter, prefix, &[first, second]);
+    Ok(())
+}
+
+/// The slot leaves the prefix.
+pub fn leave<A: Allocator + Clone, B: Book<A>>(
+    book: &mut B,
+    meter: &mut Meter,
+    prefix: Prefix,
+    slot: u8,
+)
+    requires { AreAddressed (offer_at (B.kept book.old)) }
+    ensures { AreAddressed (offer_at (B.kept book.new)) }
+{
+    book.leave(meter, slot, prefix);
+}

@@ -1,0 +1,5 @@
+pub mod Groups
+pub mod PlaceBests
+pub mod Moves
+pub mod Rounds
+pub mod Leaving
