@@ -1,3 +1,5 @@
+pub mod EndedWell
 pub mod Newest
 pub mod Opening
+pub mod ServedTurns
 pub mod Told

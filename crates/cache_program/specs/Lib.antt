@@ -1,4 +1,5 @@
 pub mod Exits
 pub mod Passing
 pub mod Rereads
+pub mod ServedTurns
 pub mod ToldSettings

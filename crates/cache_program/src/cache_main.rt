@@ -1,7 +1,15 @@
 //! What the main of `ovcache` does.
-ghost use Rattle.std.specs.Prelude.{◌≡◌, ◌≢◌, ◌≤◌, ℕ, List, Err, IfErr, IfOk, false};
-ghost use Rattle.cache_program.specs.ToldSettings.{IsCacheOf};
+ghost use Rattle.std.specs.Prelude.{◌≡◌, ◌≢◌, ◌≤◌, [], ℕ, List, Ok, Err, IfErr, IfOk, OnOk, false, if◌then◌else◌};
+ghost use Rattle.toml.specs.Data.{Members};
+ghost use Rattle.cache_program.specs.Passing.{have_passed};
+ghost use Rattle.cache_program.specs.Rereads.{Served};
+ghost use Rattle.cache_program.specs.ServedTurns.{IsBegun, IsServed, ServesOnce, ServesSoMany};
+ghost use Rattle.cache_program.specs.ToldSettings.{IsCacheOf, IsToldBy};
+ghost use Rattle.cache_program.specs.declared.settings.CacheSettings.{CacheSettings};
+ghost use Rattle.settings_keys.specs.Keys.{IsTableOf};
+ghost use Rattle.cache_turns.specs.Turns.{idle};
 ghost use Rattle.program_endings.specs.Words.{IsCall};
+ghost use Rattle.wires.specs.Wires.{WireState};
 
 use crate::every::Every;
 use crate::journal::{LogLine, log};
@@ -10,15 +18,16 @@ use crate::reread::Reread;
 use crate::served_list::ServedList;
 use crate::settings::CacheSettings;
 use cache_turns::CacheLoop;
+use clocks::{MonotonicClock, SecondsClock};
 use net_wires::{NetWire, REST_MILLISECONDS};
 use program_endings::{ExitFault, end, read_words};
 use rtr_cache::Cache;
-use std::alloc::AllocGlobal;
+use std::alloc::{AllocGlobal, Global};
 use std::fs;
 use std::io::Write;
 use std::net::{Net, TcpListener, TcpStream};
 use std::rt::{Clock, Files};
-use std::time::{Duration, Instant};
+use std::time::Duration;
 use wires::Wire;
 
 /// `ovcache SETTINGS TURNS`: a cache that serves the list of its settings for so many turns. Its output is the log, and
@@ -35,45 +44,76 @@ where
     ensures range { result ≤ 2 }
     ensures output { ((path : List ℕ) (turns : ℕ) → ¬ (IsCall words.now path turns)) → output.new ≡ output.old }
     ensures silent { result ≡ 0 → errors.new ≡ errors.old }
+    // The status is 0 only where the settings of some file were served for just the turns of the words.
+    ensures serves { result ≡ 0 → (path : List ℕ) × (turns : ℕ) × (octets : List ℕ) × (table : Members) × (settings : CacheSettings) × (behind : List ℕ) × (served : Served)
+        × IsCall words.now path turns × IsTableOf octets table × IsToldBy table settings × IsServed settings turns [] behind served }
 {
-    end("ovcache", run_cache(rt, words, output), errors)
+    let mut clock = MonotonicClock::new(rt);
+    end("ovcache", run_cache(rt, words, output, &mut clock), errors)
 }
 
-fn run_cache<R, O: Write>(rt: &R, words: &[String], output: &mut O) -> Result<(), ExitFault>
+// What the words ask for, by this clock.
+fn run_cache<R, O: Write, C: SecondsClock>(
+    rt: &R,
+    words: &[String],
+    output: &mut O,
+    clock: &mut C,
+) -> Result<(), ExitFault>
 where
     R: Net<Listener = TcpListener, Stream = TcpStream> + Files + Clock + AllocGlobal,
     ensures wrong { ((path : List ℕ) (turns : ℕ) → ¬ (IsCall words.now path turns)) → result ≡ Err ExitFault.Arguments }
     ensures right { (path : List ℕ) (turns : ℕ) → IsCall words.now path turns → result ≢ Err ExitFault.Arguments }
     ensures output { result ≡ Err ExitFault.Arguments → output.new ≡ output.old }
+    // Where all went well, the settings of some file were served for just the turns of the words.
+    ensures serves { OnOk result ((path : List ℕ) × (turns : ℕ) × (octets : List ℕ) × (table : Members) × (settings : CacheSettings) × (served : Served)
+        × IsCall words.now path turns × IsTableOf octets table × IsToldBy table settings
+        × IsServed settings turns (C.readings clock.old) (C.readings clock.new) served) }
 {
     let (path, turns) = read_words(words)?;
     let settings = read_settings(rt, path)?;
-    serve_cache(rt, &settings, turns, output)
+    serve_cache(rt, &settings, turns, output, clock)
 }
 
 // The settings in the file of this path.
 fn read_settings<R: Files + AllocGlobal>(rt: &R, path: &str) -> Result<CacheSettings, ExitFault>
-    ensures { IfErr result (λ fault. fault ≢ ExitFault.Arguments) }
+    ensures fault { IfErr result (λ fault. fault ≢ ExitFault.Arguments) }
+    ensures told { IfOk result (λ settings. (octets : List ℕ) × (table : Members) × IsTableOf octets table × IsToldBy table settings) }
 {
     let octets = fs::read(rt, path)?;
-    Ok(CacheSettings::read(rt.alloc(), octets.as_slice())?)
+    settings_in(rt.alloc(), octets.as_slice())
 }
 
-/// Serves the list of these settings for so many turns: it is read before the first, and again between two of them, as
-/// `ServedList::serve` says of each. Nothing is written to the output where they ask for no log.
-pub fn serve_cache<R, O: Write>(
+// The settings that the octets of a file tell.
+fn settings_in(alloc: Global, octets: &[u8]) -> Result<CacheSettings, ExitFault>
+    ensures fault { IfErr result (λ fault. fault ≢ ExitFault.Arguments) }
+    ensures told { IfOk result (λ settings. (table : Members) × IsTableOf octets.now table × IsToldBy table settings) }
+{
+    match CacheSettings::read(alloc, octets) {
+        Ok(settings) => Ok(settings),
+        Err(fault) => Err(fault.into()),
+    }
+}
+
+/// Serves the list of these settings for so many turns, each at the moment that the clock tells for it: the list is read
+/// before the first, and again between two of them, as `ServedList::serve` says of each. Nothing is written to the output
+/// where they ask for no log.
+pub fn serve_cache<R, O: Write, C: SecondsClock>(
     rt: &R,
     settings: &CacheSettings,
     turns: u64,
     output: &mut O,
+    clock: &mut C,
 ) -> Result<(), ExitFault>
 where
     R: Net<Listener = TcpListener, Stream = TcpStream> + Files + Clock + AllocGlobal,
     ensures fault { IfErr result (λ fault. fault ≢ ExitFault.Arguments) }
     ensures quiet { settings.now.log ≡ false → output.new ≡ output.old }
+    ensures serves { OnOk result ((served : Served) × IsServed settings.now turns (C.readings clock.old) (C.readings clock.new) served) }
 {
     let mut served = begin(rt, settings, output)?;
-    take_turns(rt, settings, &mut served, turns, output)
+    // The moment 0, from which the list is read again.
+    let _start = clock.read()?;
+    take_turns(rt, settings, &mut served, turns, output, clock)
 }
 
 // The list of the settings, before its first turn.
@@ -85,8 +125,7 @@ fn begin<'a, R, O: Write>(
 where
     R: Net<Listener = TcpListener, Stream = TcpStream> + Files + Clock + AllocGlobal,
     ensures fault { IfErr result (λ fault. fault ≢ ExitFault.Arguments) }
-    ensures cache { IfOk result (λ served. IsCacheOf settings.now served.turns.cache) }
-    ensures patience { IfOk result (λ served. served.turns.patience ≡ settings.now.patience) }
+    ensures begins { IfOk result (IsBegun settings.now) }
     ensures quiet { settings.now.log ≡ false → output.new ≡ output.old }
 {
     let (cache, serial, payloads) = load_cache(rt, settings, output)?;
@@ -103,43 +142,77 @@ fn over_sockets<'a, R>(
 where
     R: Net<Listener = TcpListener, Stream = TcpStream> + AllocGlobal,
     ensures fault { IfErr result (λ fault. fault ≢ ExitFault.Arguments) }
-    ensures cache { IfOk result (λ turns. turns.cache ≡ cache) }
-    ensures patience { IfOk result (λ turns. turns.patience ≡ settings.now.patience) }
+    ensures idle { IfOk result (λ turns. (wire : WireState) × (turns ≡ idle settings.now.patience cache wire)) }
 {
     let wire = NetWire::listening(rt, settings.listen)?;
     Ok(CacheLoop::with_patience(rt.alloc(), wire, cache, settings.patience)?)
 }
 
-// So many turns.
-fn take_turns<R, O: Write>(
+// So many turns, each at the moment that is read for it.
+fn take_turns<R, O: Write, C: SecondsClock>(
     rt: &R,
     settings: &CacheSettings,
     served: &mut ServedList<NetWire<'_, R>>,
     turns: u64,
+    output: &mut O,
+    clock: &mut C,
+) -> Result<(), ExitFault>
+where
+    R: Net<Listener = TcpListener, Stream = TcpStream> + Files + Clock + AllocGlobal,
+    ensures fault { IfErr result (λ fault. fault ≢ ExitFault.Arguments) }
+    ensures quiet { settings.now.log ≡ false → output.new ≡ output.old }
+    ensures turns { OnOk result (ServesSoMany settings.now.reread turns (C.readings clock.old) (C.readings clock.new) served.old served.new) }
+{
+    let mut reread = Every::new(settings.reread);
+    let mut status = Every::new(settings.status);
+    for _ in 0..turns {
+        let now = clock.read()?;
+        serve_once(rt, settings, served, now, &mut reread, output)?;
+        rest(rt, settings.log, served, status.is_due(now), output);
+    }
+    Ok(())
+}
+
+// The end of what is done at a moment: the status is told where it is due, and then the sockets rest.
+fn rest<R: Clock, W: Wire + Drop, O: Write>(
+    rt: &R,
+    is_on: bool,
+    served: &mut ServedList<W>,
+    is_due: bool,
+    output: &mut O,
+)
+    ensures same { served.new ≡ served.old }
+    ensures quiet { is_on ≡ false → output.new ≡ output.old }
+{
+    if is_due {
+        tell_status(rt, is_on, served, output);
+    }
+    served.wait(Duration::from_millis(REST_MILLISECONDS));
+}
+
+// What is done at a moment, and what the log says of it.
+fn serve_once<R, O: Write>(
+    rt: &R,
+    settings: &CacheSettings,
+    served: &mut ServedList<NetWire<'_, R>>,
+    now: u64,
+    reread: &mut Every,
     output: &mut O,
 ) -> Result<(), ExitFault>
 where
     R: Net<Listener = TcpListener, Stream = TcpStream> + Files + Clock + AllocGlobal,
     ensures fault { IfErr result (λ fault. fault ≢ ExitFault.Arguments) }
     ensures quiet { settings.now.log ≡ false → output.new ≡ output.old }
+    ensures due { reread.new ≡ record reread.old { last = if have_passed reread.old.seconds reread.old.last now then now else reread.old.last } }
+    ensures serves { OnOk result (ServesOnce (have_passed reread.old.seconds reread.old.last now) now served.old served.new) }
 {
-    let start = Instant::now(rt)?;
-    let mut reread = Every::new(settings.reread);
-    let mut status = Every::new(settings.status);
-    for _ in 0..turns {
-        let now = start.elapsed(rt)?.as_secs();
-        let list = || fs::open(rt, settings.csv.as_str());
-        let (led, turned) = served.serve(rt.alloc(), now, &mut reread, list);
-        if let Some(led) = led {
-            tell_list(rt, settings.log, led, served.payloads(), output);
-        }
-        turned?;
-        tell_routers(rt, settings.log, served, output);
-        if status.is_due(now) {
-            tell_status(rt, settings.log, served, output);
-        }
-        served.wait(Duration::from_millis(REST_MILLISECONDS));
+    let list = || fs::open(rt, settings.csv.as_str());
+    let (led, turned) = served.serve(rt.alloc(), now, reread, list);
+    if let Some(led) = led {
+        tell_list(rt, settings.log, led, served.payloads(), output);
     }
+    turned?;
+    tell_routers(rt, settings.log, served, output);
     Ok(())
 }
 

@@ -3,17 +3,18 @@ use Rattle.std.proofs.Common.{◌≡◌, ◌≢◌, ◌≤◌, ◌<◌, ◌-◌,
 use Rattle.std.proofs.lemmas.Bool.{cases_eq}
 use Rattle.std.specs.declared.net.socket_addr.SocketAddr.{SocketAddr}
 use Rattle.std.proofs.lemmas.Option.{same_Some}
+use Rattle.net_prefix.specs.declared.payload.Vrp.{Vrp}
 use Rattle.rtr_cache.specs.declared.other_session.OtherSession.{OtherSession}
 use Rattle.rtr_cache.specs.CacheState.{CacheState, ComesUp as CacheComesUp, client_at, empty_cache, tells_client}
 use Rattle.rtr_cache.specs.CacheTable.{fresh_conn}
-use Rattle.rtr_cache.specs.ClientHistory.{CameUp, IsRun, StaysUp, Ticked, Turn, WentDown, handed_out, turn_of}
+use Rattle.rtr_cache.specs.ClientHistory.{CameUp, IsRun, Loaded, StaysUp, Ticked, Turn, WentDown, handed_out, turn_of}
 use Rattle.rtr_cache.specs.declared.event.CacheReport.{CacheReport}
 use Rattle.rtr_cache.proofs.TellingHistories.{told_from_empty}
 use Rattle.rtr_codec.specs.declared.intervals.Intervals.{Intervals}
 use Rattle.cache_turns.specs.Carrying.{CarriesWhole, heard}
 use Rattle.cache_turns.specs.Patience.{arriving_at}
 use Rattle.cache_turns.specs.Serving.{Connection, Sides, judged}
-use Rattle.cache_turns.specs.Turns.{Accepts, ComesUp, GoesDown, IsTold, LacksMemory, LinksStay, OtherLinksStay, Stops, TakesTurn, TakesTurns, TellsCache, Turns, VisitsBelow, VisitsConnection, VisitsLink, idle, link_at, link_left, parting_for, settled, sides}
+use Rattle.cache_turns.specs.Turns.{Accepts, ComesUp, GoesDown, IsTold, LacksMemory, LinksStay, Load, LoadsSet, OtherLinksStay, Step, Stops, TakesStep, TakesSteps, TakesTurn, TellsCache, TurnAt, Turns, VisitsBelow, VisitsConnection, VisitsLink, idle, link_at, link_left, parting_for, settled, sides}
 use Rattle.cache_turns.specs.declared.link.Visit.{Visit}
 use Rattle.cache_turns.specs.declared.link.Visit.TheVariants.{Stays, Faulty, Ended, Closed, Overdue}
 use Rattle.cache_turns.specs.declared.patience.Moments.{Moments}
@@ -440,16 +441,38 @@ turn_carries first now old new (Ok nothing) are turn below =
     ticks
 turn_carries first now old new (Err stop.Accept) are stops below = passed first old new are (stops_passes old new stops)
 
-turns_arrive : (moments : List ℕ) (old new : Turns) → TakesTurns moments old new → old.counts.wire.sockets ≤ new.counts.wire.sockets
-turns_arrive [] old new same = omega (arith, ap (λ (t : Turns). t.counts.wire.sockets) same)
-turns_arrive (now ∷ moments) old new turns =
-    omega (arith, turn_arrives now old turns.0 turns.1 turns.2, turns_arrive moments turns.0 new turns.3)
+-- a set that is loaded leaves the connections
+pub load_passes : (set : List Vrp) (old new : Turns) → LoadsSet set old new → Passes old new
+load_passes set old new loads =
+    record {
+      history = turn_of old.cache (Loaded set loads.result) ∷ [];
+      calls = [];
+      run = (refl, loads.loads);
+      asks = ap (λ (t : Turns). t.counts.wire.calls) loads.same;
+      sockets = omega (arith, ap (λ (t : Turns). t.counts.wire.sockets) loads.same);
+      quiet = λ other another is. record { hears = refl; hands = refl; up = (tt, tt) };
+      rests = λ number. record { gives = refl; takes = refl };
+      links = λ key. ap (λ (t : Turns). link_at t key) loads.same;
+    }
 
-turns_carry : (first : CacheState) (moments : List ℕ) (old new : Turns) → AreCarried first old → TakesTurns moments old new → new.counts.wire.sockets < 2 ^ 64 - 1 → AreCarried first new
-turns_carry first [] old new are same below = subst (λ (t : Turns). AreCarried first t) (sym same) are
-turns_carry first (now ∷ moments) old new are turns below =
-    let come : turns.0.counts.wire.sockets < 2 ^ 64 - 1 = omega (arith, below, turns_arrive moments turns.0 new turns.3) in
-    turns_carry first moments turns.0 new (turn_carries first now old turns.0 turns.1 are turns.2 come) turns.3 below
+step_arrives : (step : Step) (old new : Turns) → TakesStep step old new → old.counts.wire.sockets ≤ new.counts.wire.sockets
+step_arrives (TurnAt now) old new turn = turn_arrives now old new turn.0 turn.1
+step_arrives (Load set) old new loads = (load_passes set old new loads).sockets
+
+steps_arrive : (steps : List Step) (old new : Turns) → TakesSteps steps old new → old.counts.wire.sockets ≤ new.counts.wire.sockets
+steps_arrive [] old new same = omega (arith, ap (λ (t : Turns). t.counts.wire.sockets) same)
+steps_arrive (step ∷ steps) old new taken =
+    omega (arith, step_arrives step old taken.0 taken.1, steps_arrive steps taken.0 new taken.2)
+
+step_carries : (first : CacheState) (step : Step) (old new : Turns) → AreCarried first old → TakesStep step old new → new.counts.wire.sockets < 2 ^ 64 - 1 → AreCarried first new
+step_carries first (TurnAt now) old new are turn below = turn_carries first now old new turn.0 are turn.1 below
+step_carries first (Load set) old new are loads below = passed first old new are (load_passes set old new loads)
+
+steps_carry : (first : CacheState) (steps : List Step) (old new : Turns) → AreCarried first old → TakesSteps steps old new → new.counts.wire.sockets < 2 ^ 64 - 1 → AreCarried first new
+steps_carry first [] old new are same below = subst (λ (t : Turns). AreCarried first t) (sym same) are
+steps_carry first (step ∷ steps) old new are taken below =
+    let come : taken.0.counts.wire.sockets < 2 ^ 64 - 1 = omega (arith, below, steps_arrive steps taken.0 new taken.2) in
+    steps_carry first steps taken.0 new (step_carries first step old taken.0 are taken.1 come) taken.2 below
 
 at_first : (patience : Patience) (first : CacheState) (before : List Turn) (cache : CacheState) → IsRun first before cache → AreCarried first (idle patience cache nothing_told)
 at_first patience first before cache made =
@@ -463,10 +486,10 @@ at_first patience first before cache made =
     }
 
 -- each connection carries whole versions
-pub carries_whole : (session : ℕ) (intervals : Intervals) (other_session : OtherSession) (before : List Turn) (patience : Patience) (cache : CacheState) (moments : List ℕ) (new : Turns) (key : ℕ) (link : Connection) → IsRun (empty_cache session intervals other_session) before cache → TakesTurns moments (idle patience cache nothing_told) new → new.counts.wire.sockets < 2 ^ 64 - 1 → link_at new key ≡ Some link → CarriesWhole (empty_cache session intervals other_session) new key link
-carries_whole session intervals other_session before patience cache moments new key link made turns below is =
+pub carries_whole : (session : ℕ) (intervals : Intervals) (other_session : OtherSession) (before : List Turn) (patience : Patience) (cache : CacheState) (steps : List Step) (new : Turns) (key : ℕ) (link : Connection) → IsRun (empty_cache session intervals other_session) before cache → TakesSteps steps (idle patience cache nothing_told) new → new.counts.wire.sockets < 2 ^ 64 - 1 → link_at new key ≡ Some link → CarriesWhole (empty_cache session intervals other_session) new key link
+carries_whole session intervals other_session before patience cache steps new key link made taken below is =
     let first = empty_cache session intervals other_session in
-    let c = (turns_carry first moments (idle patience cache nothing_told) new (at_first patience first before cache made) turns below).each key link is in
+    let c = (steps_carry first steps (idle patience cache nothing_told) new (at_first patience first before cache made) taken below).each key link is in
     record {
       before = c.before;
       start = c.start;

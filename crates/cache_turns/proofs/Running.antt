@@ -3,10 +3,10 @@ use Rattle.std.proofs.Common.{ℕ, zero, suc, List, [], ◌∷◌, ◌++◌, ref
 use Rattle.rtr_cache.specs.CacheState.{CacheState, tells_client}
 use Rattle.rtr_cache.specs.ClientHistory.{Call, CameUp, IsRun, Makes, Turn, WentDown, turn_of}
 use Rattle.cache_turns.specs.Serving.{Connection}
-use Rattle.cache_turns.specs.Turns.{ComesUp, TakesTurn, TakesTurns, TellsCache, Turns, VisitsBelow, VisitsLink, link_at, sides}
+use Rattle.cache_turns.specs.Turns.{ComesUp, Load, Step, TakesStep, TakesSteps, TakesTurn, TellsCache, TurnAt, Turns, VisitsBelow, VisitsLink, link_at, sides}
 use Rattle.cache_turns.specs.declared.link.Visit.{Visit}
 use Rattle.cache_turns.specs.declared.link.Visit.TheVariants.{Stays, Faulty, Ended, Closed, Overdue}
-use Rattle.cache_turns.proofs.Carrying.{Passes, accepts_passes, stops_passes, tick_passes}
+use Rattle.cache_turns.proofs.Carrying.{Passes, accepts_passes, load_passes, stops_passes, tick_passes}
 use Rattle.cache_turns.proofs.Exchanges.{run_on, serves_carries}
 use Rattle.wires.specs.declared.fault.LoopFault.{LoopFault}
 use Rattle.wires.specs.declared.fault.LoopFault.TheVariants.{Accept}
@@ -52,10 +52,14 @@ turn_leads now old new (Ok nothing) turn =
     (leads_on turn.admitted.cache turn.visited.cache new.cache (visits_lead now _ turn.admitted turn.visited turn.visits) (passes_lead turn.visited new (tick_passes now turn.visited new turn.tells)))
 turn_leads now old new (Err Accept) stops = passes_lead old new (stops_passes old new stops)
 
--- any turns lead on from a run
-pub turns_lead : (moments : List ℕ) (start : CacheState) (before : List Turn) (old new : Turns) → IsRun start before old.cache → TakesTurns moments old new → (after : List Turn) × IsRun start (after ++ before) new.cache
-turns_lead [] start before old new run same = ([], subst (λ (c : CacheState). IsRun start before c) (sym (ap (λ (t : Turns). t.cache) same)) run)
-turns_lead (now ∷ moments) start before old new run turns =
-    let calls = turn_leads now old turns.0 turns.1 turns.2 in
-    let more = turns_lead moments start (calls.0 ++ before) turns.0 new (run_on start old.cache turns.0.cache before calls.0 run calls.1) turns.3 in
+step_leads : (step : Step) (old new : Turns) → TakesStep step old new → Leads old.cache new.cache
+step_leads (TurnAt now) old new turn = turn_leads now old new turn.0 turn.1
+step_leads (Load set) old new loads = passes_lead old new (load_passes set old new loads)
+
+-- any steps lead on from a run
+pub steps_lead : (steps : List Step) (start : CacheState) (before : List Turn) (old new : Turns) → IsRun start before old.cache → TakesSteps steps old new → (after : List Turn) × IsRun start (after ++ before) new.cache
+steps_lead [] start before old new run same = ([], subst (λ (c : CacheState). IsRun start before c) (sym (ap (λ (t : Turns). t.cache) same)) run)
+steps_lead (step ∷ steps) start before old new run taken =
+    let calls = step_leads step old taken.0 taken.1 in
+    let more = steps_lead steps start (calls.0 ++ before) taken.0 new (run_on start old.cache taken.0.cache before calls.0 run calls.1) taken.2 in
     (more.0 ++ calls.0, subst (λ (h : List Turn). IsRun start h new.cache) (sym (append_assoc more.0 calls.0 before)) more.1)

@@ -1,5 +1,5 @@
-use Rattle.cache_turns.proofs.Running.{turns_lead}
+use Rattle.cache_turns.proofs.Running.{steps_lead}
 use Rattle.cache_turns.proofs.laws.turns_are_calls_of_the_cache.Goals as goal
 
 pub returns : goal.returns
-returns c = turns_lead
+returns c = steps_lead

@@ -1,0 +1,5 @@
+use Rattle.cache_program.proofs.ServedTurns.{served_are_steps}
+use Rattle.cache_program.proofs.laws.served_turns_are_steps.Goals as goal
+
+pub returns : goal.returns
+returns c = served_are_steps

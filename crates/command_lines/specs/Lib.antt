@@ -1,0 +1,3 @@
+pub mod CommandWords
+pub mod RuleWords
+pub mod Words
