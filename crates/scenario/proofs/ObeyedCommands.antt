@@ -1,5 +1,5 @@
 -- How commands follow one another.
-use Rattle.std.proofs.Common.{◌≡◌, ◌≤◌, ◌+◌, ◌-◌, ◌++◌, ◌∙◌, ℕ, suc, true, List, [], ◌∷◌, Option, None, Some, IfSome, MatchOption, Result, Ok, Err, length, refl, sym, ap, subst, take, add_assoc, add-zero, append_assoc, length-append, zero-add, arith}
+use Rattle.std.proofs.Common.{◌≡◌, ◌≤◌, ◌+◌, ◌-◌, ◌++◌, ◌∙◌, ℕ, Bool, suc, true, false, List, [], ◌∷◌, Option, None, Some, IfSome, MatchOption, Result, Ok, Err, length, refl, sym, ap, subst, take, append_assoc, append-nil, if◌then◌else◌, is_ok, length-append, arith}
 use Rattle.std.proofs.Math.Seq.{take-append_seam}
 use Rattle.std.specs.Io.BufRead.{drop_through}
 use Rattle.std.specs.Option.{option_map}
@@ -22,35 +22,50 @@ use Rattle.speaker.specs.declared.config.Config.{Config}
 use Rattle.speaker.specs.declared.event.Event.{Event}
 use Rattle.speaker.specs.declared.event.Report.{Report}
 use Rattle.scenario.specs.CommandFaults.{NamesLine}
-use Rattle.scenario.specs.FileLines.{commands_in, commands_on, lines, ReadsLine}
-use Rattle.scenario.specs.ObeyedCommands.{AreCommands, ObeysBefore, ObeysMany, ObeysSome, ObeysUpTo}
+use Rattle.command_lines.specs.CommandWords.{Says}
+use Rattle.command_lines.specs.Words.{words_in}
+use Rattle.scenario.specs.FileLines.{lines, ReadsLine, says_nothing, without_end}
+use Rattle.std.specs.Bool.{MatchBool}
+use Rattle.scenario.specs.ObeyedCommands.{AreCommandsOf, AreTurnsOf, Obeys, ObeysBefore, ObeysSome, ObeysUpTo, Takes}
 use Rattle.scenario.specs.declared.commands.CommandsFault.{CommandsFault}
 use Rattle.scenario.specs.declared.commands.CommandsFault.TheVariants.{BadLine, Refused, Device, NoMemory}
 
-are_commands-append : (more r : Run) → AreCommands more → AreCommands r → AreCommands (more ++ r)
-are_commands-append [] r none commands = commands
-are_commands-append (now ∷ more) r commands others = (commands.0, are_commands-append more r commands.1 others)
+-- no line is obeyed
+pub obeys_none : (s : SpeakerState) → Obeys [] s s
+obeys_none s config r agrees = ([], refl, agrees)
 
-obeys_none : (s : SpeakerState) → ObeysMany 0 s s
-obeys_none s config r agrees = ([], refl, tt, agrees)
+are_commands-append : (one two : List (List ℕ)) (first second : Run) → AreCommandsOf one first → AreCommandsOf two second → AreCommandsOf (one ++ two) (second ++ first)
+are_commands-append [] two first second none are = subst (λ r. AreCommandsOf two r) (sym (ap (λ (r : Run). second ++ r) none ∙ append-nil second)) are
+are_commands-append (line ∷ one) two first second are more =
+    (second ++ are.0, are.1, ap (λ (r : Run). second ++ r) are.2 ∙ sym (append_assoc second are.0 are.1), are.3, are_commands-append one two are.0 second are.4 more)
 
--- an accepted command, which has this report
-pub obeys_one : (command : Command) (Reports : Config → Run → Turn → Type 0) (old new : SpeakerState)
-    → ((config : Config) (r : Run) → Agrees config r old → (now : Turn) × (asked now.call ≡ Command_call command) × Reports config r now × Agrees config (now ∷ r) new)
-    → ObeysMany 1 old new
-obeys_one command Reports old new obeys config r agrees =
-    let more = obeys config r agrees in
-    (more.0 ∷ [], refl, ((command, more.1), tt), more.3)
+obeys_then : (one two : List (List ℕ)) (old mid new : SpeakerState) → Obeys one old mid → Obeys two mid new → Obeys (one ++ two) old new
+obeys_then one two old mid new first second config r agrees =
+    let a = first config r agrees in
+    let b = second config (a.0 ++ r) a.2 in
+    let agreed : Agrees config ((b.0 ++ a.0) ++ r) new = rw append_assoc b.2 in
+    (b.0 ++ a.0, are_commands-append one two a.0 b.0 a.1 b.1, agreed)
 
-obeys_then : (n m : ℕ) (old mid new : SpeakerState) → ObeysMany n old mid → ObeysMany m mid new → ObeysMany (n + m) old new
-obeys_then n m old mid new first second config r agrees =
-    let one = first config r agrees in
-    let two = second config (one.0 ++ r) one.3 in
-    let agreed : Agrees config ((two.0 ++ one.0) ++ r) new = rw append_assoc two.3 in
-    (two.0 ++ one.0, omega (arith, length-append two.0 one.0, one.1, two.1), are_commands-append two.0 one.0 two.2 one.2, agreed)
+pub obeys_some : (one two : List (List ℕ)) (old mid new : SpeakerState) → Obeys one old mid → Obeys two mid new → ObeysSome old new
+obeys_some one two old mid new first second = (one ++ two, obeys_then one two old mid new first second)
 
-pub obeys_some : (n m : ℕ) (old mid new : SpeakerState) → ObeysMany n old mid → ObeysMany m mid new → ObeysSome old new
-obeys_some n m old mid new first second = (n + m, obeys_then n m old mid new first second)
+-- a line that says nothing
+turns_of_nothing : (line : List ℕ) → says_nothing line ≡ true → AreTurnsOf line []
+turns_of_nothing line nothing = subst (λ (b : Bool). MatchBool b ([] ≡ []) _) (sym nothing) refl
+
+pub obeys_nothing : (line : List ℕ) (s : SpeakerState) → says_nothing line ≡ true → Obeys (line ∷ []) s s
+obeys_nothing line s nothing config r agrees = ([], ([], [], refl, turns_of_nothing line nothing, refl), agrees)
+
+-- a line whose command was accepted
+obeys_command : (line : List ℕ) (command : Command) (old new : SpeakerState) → says_nothing line ≡ false → Says (words_in (without_end line)) command → Takes command (Ok tt) old new → Obeys (line ∷ []) old new
+obeys_command line command old new says said takes config r agrees =
+    let now = takes config r agrees in
+    (now.0 ∷ [], ([], now.0 ∷ [], refl, subst (λ (b : Bool). MatchBool b (now.0 ∷ [] ≡ []) _) (sym says) (now.0, refl, command, said, now.1), refl), now.2)
+
+-- a line that was handed in: its command was accepted, or refused
+pub obeys_line : (line : List ℕ) (command : Command) (result : Result (Unit {0}) CommandsFault) (old new : SpeakerState) → says_nothing line ≡ false → Says (words_in (without_end line)) command → Takes command result old new → Obeys (if is_ok result then line ∷ [] else []) old new
+obeys_line line command (Ok done) old new says said takes = obeys_command line command old new says said takes
+obeys_line line command (Err fault) old new says said takes = λ config r agrees. ([], refl, takes config r agrees)
 
 -- a speaker of which nothing that others see has changed agrees with the same runs
 agrees_as_before : (config : Config) (r : Run) (old new : SpeakerState) → IsAsBefore old new → Agrees config r old → Agrees config r new
@@ -86,89 +101,78 @@ abbrev err_of : Refusal → Result Report Refusal
 err_of why = Err why
 
 -- a refused command is none
-pub obeys_refused : (first : Option Refusal) (event : Event) (why : Refusal) (old new : SpeakerState)
-    → MatchOption first ((why ≡ Memory) × LacksMemory event old new) (λ w. (err_of why ≡ err_of w) × (new ≡ old)) → ObeysMany 0 old new
-obeys_refused None event why old new lacks = λ config r agrees. ([], refl, tt, agrees_as_before config r old new lacks.1.1 agrees)
-obeys_refused (Some w) event why old new same = λ config r agrees. ([], refl, tt, rw same.1 agrees)
+pub takes_nothing : (first : Option Refusal) (event : Event) (why : Refusal) (old new : SpeakerState)
+    → MatchOption first ((why ≡ Memory) × LacksMemory event old new) (λ w. (err_of why ≡ err_of w) × (new ≡ old)) → (config : Config) (r : Run) → Agrees config r old → Agrees config r new
+takes_nothing None event why old new lacks config r agrees = agrees_as_before config r old new lacks.1.1 agrees
+takes_nothing (Some w) event why old new same config r agrees = rw same.1 agrees
 
--- the lines before the one of this number were read, which have so many commands, and the others are left
-pub record IsReadUpTo (left : Option (List ℕ)) (number count : ℕ) (text : List ℕ) : Type 0 where
-  pub read : List (List ℕ)
+-- the lines before the one of this number were read, and the others are left
+pub record IsReadUpTo (left : Option (List ℕ)) (number : ℕ) (read : List (List ℕ)) (text : List ℕ) : Type 0 where
   pub unread : List ℕ
   pub left_is : left ≡ Some unread
   pub lines_are : lines text ≡ read ++ lines unread
   pub numbered : length read + 1 ≡ number
-  pub counted : count ≡ commands_in read
 
--- how far a file has been obeyed: so many commands of it were accepted, those on the lines before the one of this number
+-- how far a file has been obeyed: the lines that were read, those before the one of this number
 pub record IsObeyedUpTo (known left : Option (List ℕ)) (number : ℕ) (old new : SpeakerState) : Type 0 where
-  pub count : ℕ
-  pub obeyed : ObeysMany count old new
-  pub rest : (text : List ℕ) → known ≡ Some text → IsReadUpTo left number count text
+  pub read : List (List ℕ)
+  pub obeyed : Obeys read old new
+  pub rest : (text : List ℕ) → known ≡ Some text → IsReadUpTo left number read text
 
 pub obeyed_none : (known : Option (List ℕ)) (s : SpeakerState) → IsObeyedUpTo known known 1 s s
 obeyed_none known s = record {
-  count = 0;
+  read = [];
   obeyed = obeys_none s;
-  rest = λ text is. record { read = []; unread = text; left_is = is; lines_are = refl; numbered = omega arith; counted = refl };
+  rest = λ text is. record { unread = text; left_is = is; lines_are = refl; numbered = omega arith };
 }
-
-commands_in-append : (read more : List (List ℕ)) → commands_in (read ++ more) ≡ commands_in read + commands_in more
-commands_in-append [] more = sym (zero-add (commands_in more))
-commands_in-append (line ∷ read) more = ap (λ n. commands_on line + n) (commands_in-append read more) ∙ sym (add_assoc (commands_on line) (commands_in read) (commands_in more))
 
 -- one more line
 pub obeyed_line : (known left behind : Option (List ℕ)) (number : ℕ) (line : List ℕ) (old mid new : SpeakerState) → IsObeyedUpTo known left number old mid → ReadsLine left true line behind
-    → ObeysMany (commands_on line) mid new → IsObeyedUpTo known behind (number + 1) old new
+    → Obeys (line ∷ []) mid new → IsObeyedUpTo known behind (number + 1) old new
 obeyed_line known left behind number line old mid new so_far reads obeys =
     record {
-      count = so_far.count + commands_on line;
-      obeyed = obeys_then so_far.count (commands_on line) old mid new so_far.obeyed obeys;
+      read = so_far.read ++ line ∷ [];
+      obeyed = obeys_then so_far.read (line ∷ []) old mid new so_far.obeyed obeys;
       rest = λ text is.
           let at = so_far.rest text is in
           let cut = subst (λ x. ReadsLine x true line behind) at.left_is reads in
           let rest : List ℕ = drop_through 10 at.unread in
           let numbered = at.numbered in
-          let counted = at.counted in
           record {
-            read = at.read ++ line ∷ [];
             unread = rest;
             left_is = cut.1;
-            lines_are = at.lines_are ∙ ap (λ l. at.read ++ l) cut.0 ∙ sym (append_assoc at.read (line ∷ []) (lines rest));
-            numbered = omega (arith, numbered, length-append at.read (line ∷ []));
-            counted = omega (arith, counted, commands_in-append at.read (line ∷ []));
+            lines_are = at.lines_are ∙ ap (λ l. so_far.read ++ l) cut.0 ∙ sym (append_assoc so_far.read (line ∷ []) (lines rest));
+            numbered = omega (arith, numbered, length-append so_far.read (line ∷ []));
           };
     }
 
 -- all lines
 pub obeyed_all : (known left : Option (List ℕ)) (number : ℕ) (old new : SpeakerState) → IsObeyedUpTo known left number old new → IfSome left (λ unread. unread ≡ [])
-    → (text : List ℕ) → known ≡ Some text → ObeysMany (commands_in (lines text)) old new
+    → (text : List ℕ) → known ≡ Some text → Obeys (lines text) old new
 obeyed_all known left number old new so_far ended text is =
     let at = so_far.rest text is in
     let none : at.unread ≡ [] = subst (λ x. IfSome x (λ unread. unread ≡ [])) at.left_is ended in
-    let all : lines text ≡ at.read ++ [] = at.lines_are ∙ ap (λ x. at.read ++ lines x) none in
-    let counted : so_far.count ≡ commands_in (lines text) = at.counted ∙ omega (arith, commands_in-append at.read []) ∙ ap commands_in (sym all) in
-    subst (λ n. ObeysMany n old new) counted so_far.obeyed
+    let all : lines text ≡ so_far.read = at.lines_are ∙ ap (λ x. so_far.read ++ lines x) none ∙ append-nil so_far.read in
+    subst (λ ls. Obeys ls old new) (sym all) so_far.obeyed
 
 -- the lines before this one
 before_line : (known left behind : Option (List ℕ)) (number : ℕ) (line : List ℕ) (old mid new : SpeakerState) (n : ℕ) → IsObeyedUpTo known left number old mid
-    → ReadsLine left true line behind → ObeysMany 0 mid new → n ≡ number → (text : List ℕ) → known ≡ Some text
-    → (1 ≤ n) × (n ≤ length (lines text)) × ObeysMany (commands_in (take (n - 1) (lines text))) old new
+    → ReadsLine left true line behind → Obeys [] mid new → n ≡ number → (text : List ℕ) → known ≡ Some text
+    → (1 ≤ n) × (n ≤ length (lines text)) × Obeys (take (n - 1) (lines text)) old new
 before_line known left behind number line old mid new n so_far reads none same text is =
     let at = so_far.rest text is in
     let cut = subst (λ x. ReadsLine x true line behind) at.left_is reads in
     let rest : List (List ℕ) = lines (drop_through 10 at.unread) in
-    let all : lines text ≡ at.read ++ line ∷ rest = at.lines_are ∙ ap (λ l. at.read ++ l) cut.0 in
+    let all : lines text ≡ so_far.read ++ line ∷ rest = at.lines_are ∙ ap (λ l. so_far.read ++ l) cut.0 in
     let numbered = at.numbered in
-    let long : length (lines text) ≡ length at.read + suc (length rest) = ap (λ (l : List (List ℕ)). length l) all ∙ length-append at.read (line ∷ rest) in
-    let place : n - 1 ≡ length at.read = omega arith in
-    let front : take (n - 1) (lines text) ≡ at.read = ap (λ k. take k (lines text)) place ∙ ap (λ l. take (length at.read) l) all ∙ take-append_seam at.read (line ∷ rest) in
-    let counted : so_far.count + 0 ≡ commands_in (take (n - 1) (lines text)) = add-zero so_far.count ∙ at.counted ∙ ap commands_in (sym front) in
-    (omega arith, omega arith, subst (λ m. ObeysMany m old new) counted (obeys_then so_far.count 0 old mid new so_far.obeyed none))
+    let long : length (lines text) ≡ length so_far.read + suc (length rest) = ap (λ (l : List (List ℕ)). length l) all ∙ length-append so_far.read (line ∷ rest) in
+    let place : n - 1 ≡ length so_far.read = omega arith in
+    let front : take (n - 1) (lines text) ≡ so_far.read = ap (λ k. take k (lines text)) place ∙ ap (λ l. take (length so_far.read) l) all ∙ take-append_seam so_far.read (line ∷ rest) in
+    (omega arith, omega arith, subst (λ ls. Obeys ls old new) (append-nil so_far.read ∙ sym front) (obeys_then so_far.read [] old mid new so_far.obeyed none))
 
 -- the lines before one that is at fault
 pub obeyed_before : (known left behind : Option (List ℕ)) (number : ℕ) (line : List ℕ) (old mid new : SpeakerState) (fault : CommandsFault) → IsObeyedUpTo known left number old mid
-    → ReadsLine left true line behind → ObeysMany 0 mid new → NamesLine number fault → (text : List ℕ) → known ≡ Some text → ObeysBefore (lines text) fault old new
+    → ReadsLine left true line behind → Obeys [] mid new → NamesLine number fault → (text : List ℕ) → known ≡ Some text → ObeysBefore (lines text) fault old new
 obeyed_before known left behind number line old mid new (BadLine n) so_far reads none names text is = before_line known left behind number line old mid new n so_far reads none names text is
 obeyed_before known left behind number line old mid new (Refused n why) so_far reads none names text is = before_line known left behind number line old mid new n so_far reads none names.0 text is
 obeyed_before known left behind number line old mid new NoMemory so_far reads none names text is = tt

@@ -1,5 +1,6 @@
 -- The lines of a file.
-use Rattle.std.specs.Prelude.{◌≡◌, ◌==◌, ◌||◌, ◌&&◌, ◌+◌, ℕ, Bool, true, false, List, [], ◌∷◌, Option, Some, IfSome, if◌then◌else◌}
+use Rattle.std.specs.Prelude.{◌≡◌, ◌==◌, ◌||◌, ◌&&◌, ◌-◌, ℕ, Bool, true, false, List, [], ◌∷◌, Option, Some, IfSome, drop, if◌then◌else◌, length, nat_eq, take}
+use Rattle.std.specs.Cmp.Lexicographic.{pointwise}
 use Rattle.std.specs.Io.BufRead.{drop_through}
 
 -- the octet stands in front of the first line
@@ -28,14 +29,13 @@ is_comment (octet ∷ line) = octet == 35
 abbrev pub says_nothing : List ℕ → Bool
 says_nothing line = is_blank line || is_comment line
 
--- how many commands the line has, if it is right
-abbrev pub commands_on : List ℕ → ℕ
-commands_on line = if says_nothing line then 0 else 1
+-- the line has this end
+abbrev pub has_end : List ℕ → List ℕ → Bool
+has_end end line = pointwise nat_eq (drop (length line - length end) line) end
 
--- how many the lines have
-abbrev pub commands_in : List (List ℕ) → ℕ
-commands_in [] = 0
-commands_in (line ∷ more) = commands_on line + commands_in more
+-- a line without a carriage return and a line feed at its end, or without a line feed there
+abbrev pub without_end : List ℕ → List ℕ
+without_end line = if has_end (13 ∷ 10 ∷ []) line then take (length line - 2) line else if has_end (10 ∷ []) line then take (length line - 1) line else line
 
 -- where it is known which octets are left, the first of their lines was read, and those behind it are left; there was none
 -- where no octets were

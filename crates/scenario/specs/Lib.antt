@@ -2,3 +2,4 @@ pub mod CommandFaults
 pub mod FileLines
 pub mod LineNumbers
 pub mod ObeyedCommands
+pub mod ScriptLines

@@ -1,12 +1,12 @@
 //! Obeying a file of commands.
-ghost use Rattle.std.specs.Prelude.{◌≡◌, ℕ, List, Some, IfErr, is_ok, if◌then◌else◌};
+ghost use Rattle.std.specs.Prelude.{◌≡◌, ◌∷◌, [], ℕ, List, Some, IfErr, is_ok, if◌then◌else◌};
 ghost use Rattle.scenario.specs.CommandFaults.{CountsFromOne, IsOutside, NamesLine, fault_of};
-ghost use Rattle.scenario.specs.FileLines.{commands_on, lines};
-ghost use Rattle.scenario.specs.ObeyedCommands.{ObeysMany, ObeysSome, ObeysUpTo};
+ghost use Rattle.scenario.specs.FileLines.{lines};
+ghost use Rattle.scenario.specs.ObeyedCommands.{Obeys, ObeysSome, ObeysUpTo, Takes};
 
-use crate::line::{Line, LineFault, SpeakerLine};
 use crate::reading::{ascii_text, is_passed_over, is_want_of_memory, read_line, without_line_end};
 use bgp_conf::{Command, Refusal};
+use command_lines::{CommandLine, LineFault};
 use speaker::{Event, Speaker};
 use std::alloc::Global;
 use std::io::{self, BufRead};
@@ -82,7 +82,7 @@ fn obey_line(
     line: &[u8],
     speaker: &mut Speaker,
 ) -> Result<(), CommandsFault>
-    ensures obeys { ObeysMany (if is_ok result then commands_on line.now else 0) speaker.old speaker.new }
+    ensures obeys { Obeys (if is_ok result then line.now ∷ [] else []) speaker.old speaker.new }
     ensures line { IfErr result (NamesLine number) }
 {
     if is_passed_over(line) {
@@ -91,18 +91,15 @@ fn obey_line(
     let Some(text) = ascii_text(without_line_end(line)) else {
         return Err(CommandsFault::BadLine(number));
     };
-    match Line::parse(alloc, text) {
-        Ok(Line::Drive(SpeakerLine::Obey(command))) => obey(speaker, number, command),
-        Ok(Line::Drive(SpeakerLine::SetPolicy(name, rules))) => {
-            obey(speaker, number, Command::SetPolicy(name, rules.as_slice()))
-        }
-        Ok(_) | Err(LineFault::BadLine) => Err(CommandsFault::BadLine(number)),
+    match CommandLine::parse(alloc, text) {
+        Ok(said) => obey(speaker, number, said.command()),
+        Err(LineFault::BadLine) => Err(CommandsFault::BadLine(number)),
         Err(LineFault::NoMemory) => Err(CommandsFault::NoMemory),
     }
 }
 
 fn obey(speaker: &mut Speaker, number: u64, command: Command<'_>) -> Result<(), CommandsFault>
-    ensures obeys { ObeysMany (if is_ok result then 1 else 0) speaker.old speaker.new }
+    ensures obeys { Takes command result speaker.old speaker.new }
     ensures line { IfErr result (NamesLine number) }
 {
     match speaker.step(Event::Command(command)) {

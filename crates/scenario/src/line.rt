@@ -1,17 +1,15 @@
 //! The lines of a script.
-ghost use Rattle.std.specs.Prelude.{◌≡◌};
-ghost use Rattle.scenario.specs.declared.line.LineFault.TheVariants.{NoMemory};
+ghost use Rattle.std.specs.Prelude.{◌≡◌, IfOk, IfSome, map};
+ghost use Rattle.command_lines.specs.Words.{words_in};
+ghost use Rattle.scenario.specs.ScriptLines.{IsNoCommand, SaysItsCommand};
+ghost use Rattle.scenario.specs.declared.line.Line.TheVariants.{Drive};
 
-use crate::fields::{address, number};
-use crate::policy_line::rule_of;
-use bgp_attr::Mode;
-use bgp_conf::{Command, PeerConf};
+use command_lines::{CommandLine, LineFault, address, number, words_of};
 use hex::FromHexError;
-use net_prefix::{Asn, Prefix};
+use net_prefix::Asn;
 use rtr_codec::Intervals;
-use speaker::{Config, Rule};
-use std::alloc::{AllocError, Global};
-use thiserror::Error;
+use speaker::Config;
+use std::alloc::Global;
 
 /// A line of a script. Its words are separated by single spaces.
 #[derive(Drop)]
@@ -31,12 +29,8 @@ pub enum Line<'a> {
 /// A line that a speaker answers.
 #[derive(Drop)]
 pub enum SpeakerLine<'a> {
-    /// `peer SLOT AS ADDRESS LOCAL active|passive HOLD IMPORT EXPORT`, `drop SLOT`, `enable SLOT`, `disable SLOT`,
-    /// `nopolicy NAME`, `use in SLOT NAME`, `use out SLOT NAME`, `network PREFIX`, `nonetwork PREFIX`, `reach PREFIX COST` or
-    /// `noreach PREFIX`
-    Obey(Command<'a>),
-    /// `policy NAME RULE ; RULE ..`
-    SetPolicy(&'a str, Vec<Rule>),
+    /// A line of a file of commands
+    Obey(CommandLine<'a>),
     /// `up SLOT`
     Up(u8),
     /// `fail SLOT`
@@ -85,33 +79,20 @@ pub enum Table {
     Waiting(u8),
 }
 
-/// Why a text is no line.
-#[derive(Clone, Copy, Debug, PartialEq, Eq, Error)]
-pub enum LineFault {
-    #[error("bad line")]
-    BadLine,
-    #[error("no memory")]
-    NoMemory,
-}
-
-impl From<AllocError> for LineFault {
-    ghost from_gives = { λ _ fault. fault ≡ NoMemory };
-
-    fn from(_error: AllocError) -> LineFault {
-        LineFault::NoMemory
-    }
-}
-
 impl Line<'_> {
     /// The line that this text is.
-    pub fn parse(alloc: Global, text: &str) -> Result<Line<'_>, LineFault> {
-        let words: Vec<&str> = text.split(' ').collect(alloc)?;
+    pub fn parse(alloc: Global, text: &str) -> Result<Line<'_>, LineFault>
+        ensures { IfOk result (SaysItsCommand (words_in text.now)) }
+    {
+        let words = words_of(alloc, text)?;
         line_with_octets(alloc, words.as_slice())
     }
 }
 
 // The line that these words are.
-fn line_with_octets<'a>(alloc: Global, words: &[&'a str]) -> Result<Line<'a>, LineFault> {
+fn line_with_octets<'a>(alloc: Global, words: &[&'a str]) -> Result<Line<'a>, LineFault>
+    ensures { IfOk result (SaysItsCommand (map (λ word. word.now) words.now)) }
+{
     match words {
         ["bytes", slot, hex] => {
             let slot = number(slot).ok_or(LineFault::BadLine)?;
@@ -122,12 +103,18 @@ fn line_with_octets<'a>(alloc: Global, words: &[&'a str]) -> Result<Line<'a>, Li
             let key = number(key).ok_or(LineFault::BadLine)?;
             Ok(Line::Serve(CacheLine::Bytes(key, octets(alloc, hex)?)))
         }
-        ["policy", name, words @ ..] => {
-            let name = name_of(name).ok_or(LineFault::BadLine)?;
-            Ok(Line::Drive(SpeakerLine::SetPolicy(name, rules_of(alloc, words)?)))
-        }
-        words => line_of(words).ok_or(LineFault::BadLine),
+        words => other_line(alloc, words),
     }
+}
+
+// A line without octets: one of a script's own, or one that commands.
+fn other_line<'a>(alloc: Global, words: &[&'a str]) -> Result<Line<'a>, LineFault>
+    ensures { IfOk result (SaysItsCommand (map (λ word. word.now) words.now)) }
+{
+    if let Some(line) = line_of(words) {
+        return Ok(line);
+    }
+    Ok(Line::Drive(SpeakerLine::Obey(CommandLine::of(alloc, words)?)))
 }
 
 fn octets(alloc: Global, hex: &str) -> Result<Vec<u8>, LineFault> {
@@ -141,27 +128,10 @@ fn octets(alloc: Global, hex: &str) -> Result<Vec<u8>, LineFault> {
     }
 }
 
-// The rules between the words `;`: at least one.
-fn rules_of(alloc: Global, words: &[&str]) -> Result<Vec<Rule>, LineFault> {
-    let mut rules = Vec::new(alloc);
-    for words in words.split(|word| *word == ";") {
-        let rule = rule_of(words).ok_or(LineFault::BadLine)?;
-        if rules.push(rule).is_err() {
-            return Err(LineFault::NoMemory);
-        }
-    }
-    Ok(rules)
-}
-
-// A word that may name something: not an empty one.
-fn name_of<'a>(word: &&'a str) -> Option<&'a str> {
-    if word.is_empty() {
-        return None;
-    }
-    Some(*word)
-}
-
-fn line_of<'a>(words: &[&'a str]) -> Option<Line<'a>> {
+// A line that is a script's own.
+fn line_of<'a>(words: &[&'a str]) -> Option<Line<'a>>
+    ensures { IfSome result IsNoCommand }
+{
     let line = match words {
         ["speaker", asn, identifier, cache] => Line::Speaker(Config {
             asn: Asn(number(asn)?),
@@ -186,7 +156,9 @@ fn line_of<'a>(words: &[&'a str]) -> Option<Line<'a>> {
     Some(line)
 }
 
-fn speaker_line<'a>(words: &[&'a str]) -> Option<SpeakerLine<'a>> {
+fn speaker_line<'a>(words: &[&'a str]) -> Option<SpeakerLine<'a>>
+    ensures { IfSome result (λ line. IsNoCommand (Drive line)) }
+{
     let line = match words {
         ["up", slot] => SpeakerLine::Up(number(slot)?),
         ["fail", slot] => SpeakerLine::Fail(number(slot)?),
@@ -196,50 +168,9 @@ fn speaker_line<'a>(words: &[&'a str]) -> Option<SpeakerLine<'a>> {
         ["tick", seconds] => SpeakerLine::Tick(number(seconds)?),
         ["take", slot, max] => SpeakerLine::Take(number(slot)?, number(max)?),
         ["show", words @ ..] => SpeakerLine::Show(table_of(words)?),
-        words => SpeakerLine::Obey(command(words)?),
-    };
-    Some(line)
-}
-
-fn command<'a>(words: &[&'a str]) -> Option<Command<'a>> {
-    let command = match words {
-        ["peer", slot, words @ ..] => Command::AddPeer(number(slot)?, peer(words)?),
-        ["drop", slot] => Command::RemovePeer(number(slot)?),
-        ["enable", slot] => Command::Enable(number(slot)?),
-        ["disable", slot] => Command::Disable(number(slot)?),
-        ["use", "in", slot, name] => Command::UseIn(number(slot)?, name_of(name)?),
-        ["use", "out", slot, name] => Command::UseOut(number(slot)?, name_of(name)?),
-        words => command_for_all(words)?,
-    };
-    Some(command)
-}
-
-// A command that is for no slot alone.
-fn command_for_all<'a>(words: &[&'a str]) -> Option<Command<'a>> {
-    let command = match words {
-        ["nopolicy", name] => Command::DropPolicy(name_of(name)?),
-        ["network", prefix] => Command::Network(Prefix::parse(prefix).ok()?),
-        ["nonetwork", prefix] => Command::NoNetwork(Prefix::parse(prefix).ok()?),
-        ["reach", prefix, cost] => Command::Reach(Prefix::parse(prefix).ok()?, number(cost)?),
-        ["noreach", prefix] => Command::NoReach(Prefix::parse(prefix).ok()?),
         _ => return None,
     };
-    Some(command)
-}
-
-fn peer<'a>(words: &[&'a str]) -> Option<PeerConf<'a>> {
-    let [asn, peer_address, local, mode, hold, import, export] = words else {
-        return None;
-    };
-    Some(PeerConf {
-        asn: Asn(number(asn)?),
-        address: address(peer_address)?,
-        local: address(local)?,
-        mode: mode_of(mode)?,
-        hold: number(hold)?,
-        import: name_of(import)?,
-        export: name_of(export)?,
-    })
+    Some(line)
 }
 
 // Whether a speaker has a cache session.
@@ -247,14 +178,6 @@ fn cache_word(text: &str) -> Option<bool> {
     match text {
         "cache" => Some(true),
         "nocache" => Some(false),
-        _ => None,
-    }
-}
-
-fn mode_of(text: &str) -> Option<Mode> {
-    match text {
-        "active" => Some(Mode::Active),
-        "passive" => Some(Mode::Passive),
         _ => None,
     }
 }

@@ -1,6 +1,6 @@
 //! The lines of a file.
-ghost use Rattle.std.specs.Prelude.{◌≡◌, IfOk};
-ghost use Rattle.scenario.specs.FileLines.{ReadsLine, says_nothing};
+ghost use Rattle.std.specs.Prelude.{◌≡◌, IfOk, IfSome};
+ghost use Rattle.scenario.specs.FileLines.{ReadsLine, says_nothing, without_end};
 
 use std::io::{self, BufRead, ErrorKind};
 
@@ -14,10 +14,12 @@ pub(crate) fn read_line<R: BufRead + Drop>(reader: &mut R, line: &mut Vec<u8>) -
 }
 
 /// A line without its line feed and the carriage return before that.
-pub(crate) fn without_line_end(line: &[u8]) -> &[u8] {
-    match line {
-        [text @ .., b'\r', b'\n'] | [text @ .., b'\n'] => text,
-        _ => line,
+pub(crate) fn without_line_end(line: &[u8]) -> &[u8]
+    ensures { result.now ≡ without_end line.now }
+{
+    match line.strip_suffix(b"\r\n") {
+        Some(text) => text,
+        None => line.strip_suffix(b"\n").unwrap_or(line),
     }
 }
 
@@ -32,7 +34,9 @@ pub(crate) fn is_passed_over(line: &[u8]) -> bool
 }
 
 /// The text of ASCII octets.
-pub(crate) fn ascii_text(octets: &[u8]) -> Option<&str> {
+pub(crate) fn ascii_text(octets: &[u8]) -> Option<&str>
+    ensures { IfSome result (λ text. text.now ≡ octets.now) }
+{
     if !octets.is_ascii() {
         return None;
     }

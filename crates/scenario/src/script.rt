@@ -4,10 +4,10 @@ ghost use Rattle.scenario.specs.LineNumbers.{IsOutside, NamesLine, CountsFromOne
 
 use crate::answer::{Answer, Starved, write_answer};
 use crate::cache::ScriptCache;
-use crate::line::{CacheLine, Line, LineFault, SpeakerLine};
+use crate::line::{CacheLine, Line, SpeakerLine};
 use crate::reading::{ascii_text, is_passed_over, is_want_of_memory, read_line, without_line_end};
 use crate::tables::show;
-use bgp_conf::Command;
+use command_lines::LineFault;
 use rtr_cache::Cache;
 use rtr_codec::Intervals;
 use speaker::{Config, Event, Report, Speaker};
@@ -306,11 +306,7 @@ fn hand_on<A: Allocator + Clone>(
     report: &mut Report,
 ) -> Answer<'static> {
     match line {
-        SpeakerLine::Obey(command) => step(speaker, Event::Command(*command), report),
-        SpeakerLine::SetPolicy(name, rules) => {
-            let command = Command::SetPolicy(name, rules.as_slice());
-            step(speaker, Event::Command(command), report)
-        }
+        SpeakerLine::Obey(line) => step(speaker, Event::Command(line.command()), report),
         SpeakerLine::Up(slot) => step(speaker, Event::Up(*slot), report),
         SpeakerLine::Fail(slot) => step(speaker, Event::Fail(*slot), report),
         SpeakerLine::Bytes(slot, octets) => {

@@ -1,11 +1,12 @@
 //! What the main of `ovbgpd` does.
-ghost use Rattle.std.specs.Prelude.{◌≡◌, [], ◌≢◌, ◌≤◌, ◌↔◌, ℕ, List, Err, IfErr, IfOk, OnOk, IsTrue, is_some};
-ghost use Rattle.speaker_program.specs.Commanded.{IsCommanded, TakesSoMany};
+ghost use Rattle.std.specs.Prelude.{◌≡◌, [], ◌≢◌, ◌≤◌, ◌↔◌, ℕ, List, Some, Err, IfErr, IfOk, OnOk, IsTrue, is_some};
+ghost use Rattle.speaker_program.specs.Commanded.{IsCommanded, IsCommandedBy, TakesSoMany};
 ghost use Rattle.speaker_program.specs.Endings.{EndsSo};
 ghost use Rattle.speaker_program.specs.Begun.{IsBegun, IsServed, with_remotes};
 ghost use Rattle.speaker_program.specs.declared.settings.SpeakerSettings.{SpeakerSettings};
 ghost use Rattle.speaker_program.specs.Slots.{HasJust, is_configured};
 ghost use Rattle.program_endings.specs.Words.{IsCall};
+ghost use Rattle.scenario.specs.FileLines.{lines};
 ghost use Rattle.scenario.specs.ObeyedCommands.{ObeysSome};
 ghost use Rattle.speaker.specs.Agreement.{Agrees};
 
@@ -20,7 +21,7 @@ use speaker::{Config, Speaker};
 use speaker_turns::{End, SpeakerLoop};
 use std::alloc::{AllocGlobal, Global};
 use std::fs;
-use std::io::{self, BufReader, Write};
+use std::io::{self, BufRead, BufReader, Write};
 use std::net::{Net, SocketAddr, TcpListener, TcpStream};
 use std::rt::{Clock, Files};
 use std::time::Duration;
@@ -179,13 +180,27 @@ fn command<R: Files + AllocGlobal>(
 {
     let file = fs::open(rt, settings.commands.as_str())?;
     let reader = BufReader::new(rt.alloc(), file)?;
-    if let Err(fault) = obey_lines(rt.alloc(), reader, speaker) {
-        return Err(of_commands(fault));
-    }
+    command_from(rt.alloc(), reader, speaker)?;
     if !are_configured(speaker, settings.peers.as_slice()) {
         return Err(ExitFault::Settings);
     }
     Ok(())
+}
+
+// Hands the commands that a reader has to the speaker, line by line.
+fn command_from<R: BufRead + Drop>(
+    alloc: Global,
+    reader: R,
+    speaker: &mut Speaker,
+) -> Result<(), ExitFault>
+    ensures fault { IfErr result (λ fault. fault ≢ ExitFault.Arguments) }
+    ensures each { (text : List ℕ) → R.remaining reader ≡ Some text → IsCommandedBy (lines text) result speaker.old speaker.new }
+    ensures some { ObeysSome speaker.old speaker.new }
+{
+    match obey_lines(alloc, reader, speaker) {
+        Ok(()) => Ok(()),
+        Err(fault) => Err(of_commands(fault)),
+    }
 }
 
 // Whether the slots that are configured are just those of the peers.

@@ -12,7 +12,7 @@ returns-in_err-command-clause-fault g c =
 pub returns-clause-commands : goal.returns-clause-commands
 returns-clause-commands g c =
     let more = c.command.ensures.commands.1 c.config.result [] c.in_ok-speaker.ensures.agrees in
-    (more.0, more.2, subst (λ (config : Config). Agrees config more.0 c.command.new.speaker) c.config.ensures (rw append-nil at more.3))
+    (c.command.ensures.commands.0, more.0, more.1, subst (λ (config : Config). Agrees config more.0 c.command.new.speaker) c.config.ensures (rw append-nil at more.2))
 
 pub returns-in_err-speaker-clause-fault : goal.returns-in_err-speaker-clause-fault
 returns-in_err-speaker-clause-fault g c =
