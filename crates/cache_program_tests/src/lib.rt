@@ -4,6 +4,8 @@
 #[cfg(test)]
 mod day;
 #[cfg(test)]
+mod made;
+#[cfg(test)]
 mod rereads;
 #[cfg(test)]
 mod statuses;

@@ -1,9 +1,10 @@
 //! The list is read again while routers are served.
 
+use crate::made::made;
 use cache_program::{ListFault, Reread, ServedList};
 use cache_turns::CacheLoop;
 use net_wires::NetWire;
-use program_stages::{lend, made};
+use program_stages::lend;
 use rtr_cache::Cache;
 use rtr_codec::Intervals;
 use std::alloc::{AllocGlobal, Global};

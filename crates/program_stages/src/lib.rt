@@ -12,5 +12,5 @@ mod stage;
 
 pub use ending::{Ending, ends};
 pub use files::{path_of, remove, write, write_settings};
-pub use lending::{lend, made};
+pub use lending::lend;
 pub use stage::{LIST_PATH, Stage, deaf_listener};

@@ -1,9 +1,9 @@
 //! Speakers over loopback sockets, with a cache and with one another.
 
+use crate::made::made;
 use cache_turns::CacheLoop;
 use net_prefix::Asn;
 use net_wires::NetWire;
-use program_stages::made;
 use rtr_cache::{Cache, CacheEvent};
 use rtr_codec::Intervals;
 use scenario::{Table, obey_lines, show};

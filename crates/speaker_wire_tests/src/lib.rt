@@ -5,4 +5,6 @@
 #[cfg(test)]
 mod bgp_loopback;
 #[cfg(test)]
+mod made;
+#[cfg(test)]
 mod speaker_wire;

@@ -3,9 +3,9 @@ ghost use Rattle.std.specs.Prelude.{◌≡◌, ◌≤◌, if◌then◌else◌, l
 ghost use Rattle.wires.specs.Calls.{call_of};
 ghost use Rattle.wires.specs.Wires.{FitsIn, FitsInSent, calling, failing, told_by_attempt, told_by_read, told_by_write};
 
+use crate::made::made;
 use bgp_attr::Mode;
 use net_prefix::{Asn, Prefix};
-use program_stages::made;
 use speaker::{ClientState, Command, Config, Event, PeerConf, Speaker, State};
 use speaker_turns::{End, SpeakerLoop};
 use std::alloc::AllocGlobal;

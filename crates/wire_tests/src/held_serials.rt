@@ -1,6 +1,6 @@
 //! What clients hold: the serial of the last End of Data that was handed out whole.
+use crate::made::made;
 use net_prefix::{Asn, Prefix, Vrp};
-use program_stages::made;
 use rtr_cache::{Cache, CacheEvent};
 use rtr_codec::Intervals;
 use std::alloc::Global;

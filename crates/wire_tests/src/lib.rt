@@ -9,6 +9,8 @@ mod held_serials;
 #[cfg(test)]
 mod loopback;
 #[cfg(test)]
+mod made;
+#[cfg(test)]
 mod memory_wire;
 #[cfg(test)]
 mod other_session;

@@ -1,9 +1,10 @@
 //! A router without a program of its own takes a list over a loopback socket.
 ghost use Rattle.std.specs.Prelude.{◌<◌};
 
+use crate::made::made;
 use crate::over_loopback::{Served, over_loopback};
 use net_prefix::{Asn, Prefix, Vrp};
-use program_stages::{lend, made};
+use program_stages::lend;
 use rtr_cache::{Cache, CacheEvent};
 use rtr_codec::Intervals;
 use std::alloc::Global;

@@ -3,9 +3,10 @@ ghost use Rattle.std.specs.Prelude.{◌≡◌, ◌≤◌, if◌then◌else◌, l
 ghost use Rattle.wires.specs.Calls.{call_of};
 ghost use Rattle.wires.specs.Wires.{FitsIn, FitsInSent, calling, failing, told_by_read, told_by_write};
 
+use crate::made::made;
 use cache_turns::{CacheLoop, Holding};
 use net_prefix::{Asn, Prefix, Vrp};
-use program_stages::{lend, made};
+use program_stages::lend;
 use refusing::Refusing;
 use rtr_cache::{Cache, CacheEvent, CacheRefusal};
 use rtr_codec::Intervals;

@@ -1,6 +1,6 @@
 //! A cache that resets another session: scripts make none that does.
+use crate::made::made;
 use net_prefix::{Transport, Vrp};
-use program_stages::made;
 use rtr_cache::{Cache, CacheEvent, OtherSession};
 use rtr_codec::Intervals;
 use std::alloc::Global;

@@ -1,8 +1,8 @@
 //! A cache over loopback, and a router without a program of its own.
 
+use crate::made::made;
 use cache_turns::CacheLoop;
 use net_wires::NetWire;
-use program_stages::made;
 use rtr_cache::Cache;
 use std::alloc::AllocGlobal;
 use std::io::{self, ErrorKind};

@@ -1,9 +1,10 @@
 //! Routers that are silent for too long lose their places.
 
+use crate::made::made;
 use crate::over_loopback::{Served, over_loopback};
 use cache_turns::CacheLoop;
 use net_wires::{NetWire, RouterEvent};
-use program_stages::{lend, made};
+use program_stages::lend;
 use rtr_cache::Cache;
 use rtr_codec::Intervals;
 use std::alloc::AllocGlobal;

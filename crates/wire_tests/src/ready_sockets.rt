@@ -1,8 +1,9 @@
 //! Wires without a loop: what sockets tell, and that one at rest isn't asked.
 
+use crate::made::made;
 use crate::over_loopback::{connected, some_port};
 use net_wires::NetWire;
-use program_stages::{lend, made};
+use program_stages::lend;
 use std::alloc::AllocGlobal;
 use std::io::{self, Write};
 use std::net::{Ipv4Addr, Net, SocketAddr, SocketAddrV4, TcpListener, TcpStream};
