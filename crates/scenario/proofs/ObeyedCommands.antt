@@ -26,7 +26,7 @@ use Rattle.command_lines.specs.CommandWords.{Says}
 use Rattle.command_lines.specs.Words.{words_in}
 use Rattle.scenario.specs.FileLines.{lines, ReadsLine, says_nothing, without_end}
 use Rattle.std.specs.Bool.{MatchBool}
-use Rattle.scenario.specs.ObeyedCommands.{AreCommandsOf, AreTurnsOf, Obeys, ObeysBefore, ObeysSome, ObeysUpTo, Takes}
+use Rattle.scenario.specs.ObeyedCommands.{IsCommandOn, AreCommandsOf, AreTurnsOf, Obeys, ObeysBefore, ObeysSome, ObeysUpTo, Takes}
 use Rattle.scenario.specs.declared.commands.CommandsFault.{CommandsFault}
 use Rattle.scenario.specs.declared.commands.CommandsFault.TheVariants.{BadLine, Refused, Device, NoMemory}
 
@@ -51,7 +51,12 @@ obeys_some one two old mid new first second = (one ++ two, obeys_then one two ol
 
 -- a line that says nothing
 turns_of_nothing : (line : List ℕ) → says_nothing line ≡ true → AreTurnsOf line []
-turns_of_nothing line nothing = subst (λ (b : Bool). MatchBool b ([] ≡ []) _) (sym nothing) refl
+turns_of_nothing line nothing =
+    let none : Run = [] in
+    let N : Type 0 = none ≡ none in
+    let O : Type 0 = (now : Turn) × (none ≡ now ∷ []) × IsCommandOn line now in
+    let start : N = refl in
+    subst (λ (b : Bool). MatchBool b N O) (sym nothing) start
 
 pub obeys_nothing : (line : List ℕ) (s : SpeakerState) → says_nothing line ≡ true → Obeys (line ∷ []) s s
 obeys_nothing line s nothing config r agrees = ([], ([], [], refl, turns_of_nothing line nothing, refl), agrees)
@@ -60,7 +65,11 @@ obeys_nothing line s nothing config r agrees = ([], ([], [], refl, turns_of_noth
 obeys_command : (line : List ℕ) (command : Command) (old new : SpeakerState) → says_nothing line ≡ false → Says (words_in (without_end line)) command → Takes command (Ok tt) old new → Obeys (line ∷ []) old new
 obeys_command line command old new says said takes config r agrees =
     let now = takes config r agrees in
-    (now.0 ∷ [], ([], now.0 ∷ [], refl, subst (λ (b : Bool). MatchBool b (now.0 ∷ [] ≡ []) _) (sym says) (now.0, refl, command, said, now.1), refl), now.2)
+    let done : Run = now.0 ∷ [] in
+    let N : Type 0 = done ≡ [] in
+    let O : Type 0 = (t : Turn) × (done ≡ t ∷ []) × IsCommandOn line t in
+    let on : O = (now.0, refl, (command, said, now.1)) in
+    (done, ([], done, refl, subst (λ (b : Bool). MatchBool b N O) (sym says) on, refl), now.2)
 
 -- a line that was handed in: its command was accepted, or refused
 pub obeys_line : (line : List ℕ) (command : Command) (result : Result (Unit {0}) CommandsFault) (old new : SpeakerState) → says_nothing line ≡ false → Says (words_in (without_end line)) command → Takes command result old new → Obeys (if is_ok result then line ∷ [] else []) old new

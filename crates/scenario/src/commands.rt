@@ -99,7 +99,7 @@ fn obey_line(
 }
 
 fn obey(speaker: &mut Speaker, number: u64, command: Command<'_>) -> Result<(), CommandsFault>
-    ensures obeys { Takes command result speaker.old speaker.new }
+    ensures obeys { Takes command.entry result speaker.old speaker.new }
     ensures line { IfErr result (NamesLine number) }
 {
     match speaker.step(Event::Command(command)) {

@@ -21,8 +21,8 @@ mod script;
 mod tables;
 
 pub use answer::Answer;
-pub use commands::{CommandsFault, obey_lines};
 pub use command_lines::LineFault;
+pub use commands::{CommandsFault, obey_lines};
 pub use line::{CacheLine, Line, SpeakerLine, Table};
 pub use script::{PlayFault, Stage, play};
 pub use tables::show;

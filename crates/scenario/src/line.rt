@@ -132,6 +132,16 @@ fn octets(alloc: Global, hex: &str) -> Result<Vec<u8>, LineFault> {
 fn line_of<'a>(words: &[&'a str]) -> Option<Line<'a>>
     ensures { IfSome result IsNoCommand }
 {
+    match speaker_line(words) {
+        Some(line) => Some(Line::Drive(line)),
+        None => stage_line(words),
+    }
+}
+
+// A line that makes a speaker or a cache, or is one for the cache.
+fn stage_line<'a>(words: &[&'a str]) -> Option<Line<'a>>
+    ensures { IfSome result IsNoCommand }
+{
     let line = match words {
         ["speaker", asn, identifier, cache] => Line::Speaker(Config {
             asn: Asn(number(asn)?),
@@ -151,7 +161,7 @@ fn line_of<'a>(words: &[&'a str]) -> Option<Line<'a>>
         ["cdown", key] => Line::Serve(CacheLine::Down(number(key)?)),
         ["ctick", seconds] => Line::Serve(CacheLine::Tick(number(seconds)?)),
         ["ctake", key, max] => Line::Serve(CacheLine::Take(number(key)?, number(max)?)),
-        words => Line::Drive(speaker_line(words)?),
+        _ => return None,
     };
     Some(line)
 }

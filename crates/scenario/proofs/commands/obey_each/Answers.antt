@@ -1,3 +1,4 @@
+use Rattle.std.proofs.Common.{[]}
 use Rattle.scenario.proofs.ObeyedCommands.{obeyed_none, obeyed_line, obeyed_all, obeyed_before, obeyed_with, obeys_some}
 use Rattle.scenario.proofs.commands.obey_each.Goals as goal
 
@@ -13,7 +14,7 @@ returns-in_err-obey_line-clause-each g c = λ text is.
     (obeyed_before _ _ (g.R.Read.remaining c.read_line.new.reader) _ c.as_slice.result.now _ _ _ _ c.loop-number.invariant (rw c.as_slice.ensures.value (rw c.if-not-branch.false at c.in_ok-read_line.ensures)) c.in_err-obey_line.ensures.obeys c.in_err-obey_line.ensures.line text is)
 
 pub returns-in_err-obey_line-clause-some : goal.returns-in_err-obey_line-clause-some
-returns-in_err-obey_line-clause-some g c = obeys_some _ _ _ _ _ c.loop-number.invariant.obeyed c.in_err-obey_line.ensures.obeys
+returns-in_err-obey_line-clause-some g c = obeys_some _ [] _ _ _ c.loop-number.invariant.obeyed c.in_err-obey_line.ensures.obeys
 
 pub loop-number-preserved : goal.loop-number-preserved
 loop-number-preserved g c =

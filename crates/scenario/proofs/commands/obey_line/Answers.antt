@@ -9,5 +9,5 @@ returns-then-is_passed_over-clause-obeys c = obeys_nothing c.args.line.now _ (sy
 
 pub returns-in-Ok-clause-obeys : goal.returns-in-Ok-clause-obeys
 returns-in-Ok-clause-obeys c =
-    let text = c.ascii_text.ensures in
+    let text = c.in-Some.ensures in
     obeys_line c.args.line.now c.command.result c.obey.result _ _ (sym c.is_passed_over.ensures ∙ c.if-is_passed_over.false) (subst (λ (t : List ℕ). Says (words_in t) c.command.result) (text ∙ c.without_line_end.ensures) (c.command.ensures _ c.in-Ok.ensures)) c.obey.ensures.obeys
