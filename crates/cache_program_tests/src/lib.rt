@@ -4,8 +4,6 @@
 #[cfg(test)]
 mod day;
 #[cfg(test)]
-mod made;
-#[cfg(test)]
 mod rereads;
 #[cfg(test)]
 mod statuses;

@@ -1,6 +1,5 @@
 //! The list is read again while routers are served.
 
-use crate::made::made;
 use cache_program::{ListFault, Reread, ServedList};
 use cache_turns::CacheLoop;
 use net_wires::NetWire;
@@ -9,8 +8,8 @@ use rtr_cache::Cache;
 use rtr_codec::Intervals;
 use std::alloc::{AllocGlobal, Global};
 use std::io::{self, ErrorKind, Read, Write};
-use std::net::{Ipv4Addr, Net, SocketAddr, SocketAddrV4, TcpListener, TcpStream};
-use std::process::Abort;
+use std::net::{Net, SocketAddr, TcpListener, TcpStream};
+use std::test::Fail;
 use wires::Wire;
 
 const RESET_QUERY: [u8; 8] = [1, 2, 0, 0, 0, 0, 0, 8];
@@ -157,54 +156,34 @@ fn hears_anew<W: Wire + Drop, S: Read + Drop>(
 fn follow<R, W: Wire + Drop>(
     rt: &R,
     served: &mut ServedList<W>,
-    staying: &mut TcpStream,
-    address: SocketAddr,
-) -> bool
+    address: Option<SocketAddr>,
+) -> Result<bool, Fail>
 where
     R: Net<Listener = TcpListener, Stream = TcpStream> + AllocGlobal,
 {
-    hears_of_both(rt.alloc(), served, staying)
-        && hears_anew(rt.alloc(), served, asking(rt, address))
-        && hears_no_more(rt.alloc(), served, staying)
-        && hears_anew(rt.alloc(), served, asking(rt, address))
-}
-
-// The same of a router that comes to this address.
-fn follow_at<R, W: Wire + Drop>(
-    rt: &R,
-    served: &mut ServedList<W>,
-    address: Option<SocketAddr>,
-) -> bool
-where
-    R: Net<Listener = TcpListener, Stream = TcpStream> + AllocGlobal + Abort,
-{
-    let address = made(rt, address.ok_or(()));
+    let address = address.ok_or("no address")?;
     let is_first = is_published(rt.alloc(), served, FIRST, 1);
-    let mut staying = made(rt, asking(rt, address));
-    is_first && follow(rt, served, &mut staying, address)
-}
-
-// The same of one that comes to the list's own address.
-fn follow_there<'a, R>(rt: &'a R, served: &mut ServedList<NetWire<'a, R>>) -> bool
-where
-    R: Net<Listener = TcpListener, Stream = TcpStream> + AllocGlobal + Abort,
-{
-    let address = served.turns().wire().local_address();
-    follow_at(rt, served, address)
+    let mut staying = asking(rt, address)?;
+    Ok(
+        is_first
+            && hears_of_both(rt.alloc(), served, &mut staying)
+            && hears_anew(rt.alloc(), served, asking(rt, address))
+            && hears_no_more(rt.alloc(), served, &mut staying)
+            && hears_anew(rt.alloc(), served, asking(rt, address)),
+    )
 }
 
 // A cache that serves nothing.
-fn serving_none<'a, R>(rt: &'a R) -> ServedList<NetWire<'a, R>>
-where
-    R: Net<Listener = TcpListener, Stream = TcpStream> + AllocGlobal + Abort,
-{
-    let some_port = SocketAddr::V4(SocketAddrV4::new(Ipv4Addr::LOCALHOST, 0));
-    let wire = made(rt, NetWire::listening(rt, some_port));
-    let cache = made(rt, Cache::new(rt.alloc(), 7, Intervals::USUAL));
-    ServedList::new(made(rt, CacheLoop::new(rt.alloc(), wire, cache)), 0, 0)
+fn serving_none<W: Wire + Drop>(alloc: Global, wire: W) -> Result<ServedList<W>, Fail> {
+    let cache = Cache::new(alloc, 7, Intervals::USUAL)?;
+    Ok(ServedList::new(CacheLoop::new(alloc, wire, cache)?, 0, 0))
 }
 
 #[test]
-fn routers_follow_a_list_that_changes(rt: HostRuntime) {
-    assert!(rt; lend(serving_none(&rt), |served| follow_there(&rt, served)));
+fn routers_follow_a_list_that_changes(rt: HostRuntime) -> Result<(), Fail> {
+    let wire = NetWire::listening(&rt, "127.0.0.1:0".parse()?)?;
+    let address = wire.local_address();
+    let served = serving_none(rt.alloc(), wire)?;
+    assert!(rt; lend(served, |served| follow(&rt, served, address))?);
+    Ok(())
 }
