@@ -6,6 +6,8 @@ use Rattle.decision.specs.KeptPlaces.{ArePlaces, IsBestAt, candidates_of}
 use Rattle.decision.specs.Selection.{IsSelected}
 use Rattle.decision.specs.declared.book.Change.{Change}
 use Rattle.decision.specs.declared.candidate.Candidate.{Candidate}
+use Rattle.live_book.specs.declared.comparing.Few.{Few}
+use Rattle.live_book.specs.declared.comparing.Few.TheVariants.{Nobody, One, Two, Many}
 use Rattle.live_book.specs.declared.comparing.Round.{Round}
 use Rattle.live_book.specs.declared.comparing.Round.TheVariants.{Neighbor, Newcomers, Bests}
 use Rattle.live_book.specs.declared.place.Place.{Place}
@@ -131,6 +133,20 @@ contender round p = if is_in round p then p.candidate else None
 
 abbrev pub contenders_of : Round → List Place → List Candidate
 contenders_of round ps = filter_map (contender round) ps
+
+-- these are just the few; of many nothing is said
+abbrev pub AreFew : List Candidate → Few → Type 0
+AreFew cs Nobody = cs ≡ []
+AreFew cs (One c) = cs ≡ c ∷ []
+AreFew cs (Two c d) = cs ≡ c ∷ d ∷ []
+AreFew cs Many = Unit {0}
+
+-- the few, with one more behind them
+abbrev pub few_with : Few → Candidate → Few
+few_with Nobody e = One e
+few_with (One c) e = Two c e
+few_with (Two c d) e = Many
+few_with Many e = Many
 
 -- a place where this slot has the best of the neighbor AS
 abbrev pub narrowed_standing : ℕ → ℕ → Place → Standing

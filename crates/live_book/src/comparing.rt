@@ -1,8 +1,9 @@
 //! Which candidates are compared with one another after a change.
-ghost use Rattle.std.specs.Prelude.{◌≡◌, ℕ, ◌≤◌, ◌<◌, ◌+◌, ◌-◌, ◌^◌, length, map, min, None, Some, option_and_then};
+ghost use Rattle.std.specs.Prelude.{◌≡◌, ℕ, ◌≤◌, ◌<◌, ◌+◌, ◌-◌, ◌^◌, [], length, map, min, MatchOption, None, Some, option_and_then};
+ghost use Rattle.decision.specs.Selection.{IsSelected};
 ghost use Rattle.decision.specs.BookContents.{candidate_of, changed};
 ghost use Rattle.decision.specs.KeptPlaces.{ArePlaces, IsBestAt, with_changes};
-ghost use Rattle.live_book.specs.NeighborBests.{AreBests, AreFair, HaveStood, IsBestBefore, contender, contenders_of, has_neighbor, is_in, is_kept, is_named, is_of, is_open, is_opened, keeps_lead, last_round, leads, moved, narrowed, neighbor_to_settle, opened_by, opened_of, slots_of, standing_of, to_settle_at};
+ghost use Rattle.live_book.specs.NeighborBests.{AreBests, AreFair, AreFew, HaveStood, IsBestBefore, contender, contenders_of, few_with, has_neighbor, is_in, is_kept, is_named, is_of, is_open, is_opened, keeps_lead, last_round, leads, moved, narrowed, neighbor_to_settle, opened_by, opened_of, slots_of, standing_of, to_settle_at};
 
 use crate::place::{Place, Standing};
 use arrayvec::ArrayVec;
@@ -15,6 +16,28 @@ pub(crate) enum Round {
     Neighbor(u32),
     Newcomers(u8),
     Bests,
+}
+
+// Those who take part, while they are two at most.
+#[derive(Clone, Copy)]
+enum Few {
+    Nobody,
+    One(Candidate),
+    Two(Candidate, Candidate),
+    Many,
+}
+
+impl Few {
+    // With one more behind them.
+    fn with(self, candidate: Candidate) -> Few
+        ensures { result ≡ few_with self candidate }
+    {
+        match self {
+            Few::Nobody => Few::One(candidate),
+            Few::One(one) => Few::Two(one, candidate),
+            Few::Two(..) | Few::Many => Few::Many,
+        }
+    }
 }
 
 // What the changes make of a slot's candidate: the last one of the slot holds.
@@ -119,6 +142,7 @@ pub(crate) fn open(changes: &[Change], places: &mut [Place])
     requires kept { ArePlaces (slots_of places.old) }
     requires bests { AreBests places.old }
     requires after { ArePlaces (with_changes changes.now (slots_of places.old)) }
+    ensures moved { places.new ≡ map (moved changes.now (opened_of changes.now places.old)) places.old }
     ensures slots { slots_of places.new ≡ with_changes changes.now (slots_of places.old) }
     ensures fair { AreFair places.new }
     ensures stood { HaveStood leads places.old places.new }
@@ -177,6 +201,33 @@ fn contenders(round: Round, places: &[Place]) -> ArrayVec<Candidate, MAX_CANDIDA
     candidates
 }
 
+// Who takes part, where it is two at most.
+fn gathered(round: Round, places: &[Place]) -> Few
+    ensures { AreFew (contenders_of round places.now) result }
+{
+    let mut few = Few::Nobody;
+    for place in places {
+        if let Some(candidate) = contender(round, place) {
+            few = few.with(candidate);
+        }
+    }
+    few
+}
+
+// The best of those who take part. One or two, as where a prefix has no more candidates, need no list that has room for all.
+fn best_in(meter: &mut Meter, round: Round, places: &[Place]) -> Option<Candidate>
+    requires { ArePlaces (slots_of places.now) }
+    ensures counted { meter.new.count ≡ min (meter.old.count + 1) (2 ^ 64 - 1) }
+    ensures selected { MatchOption result (contenders_of round places.now ≡ []) (λ c. IsSelected (contenders_of round places.now) c) }
+{
+    match gathered(round, places) {
+        Few::Nobody => choose(meter, &[]),
+        Few::One(one) => choose(meter, &[one]),
+        Few::Two(one, other) => choose(meter, &[one, other]),
+        Few::Many => choose(meter, &contenders(round, places)),
+    }
+}
+
 // How a place stands where the slot has the best one of the neighbor AS.
 fn narrowed(neighbor: u32, best: u8, place: &Place) -> Place
     ensures { result ≡ narrowed neighbor best place.now }
@@ -209,6 +260,7 @@ fn narrow_each(neighbor: u32, best: u8, places: &mut [Place])
 fn settle(neighbor: u32, places: &mut [Place])
     requires kept { ArePlaces (slots_of places.old) }
     requires fair { AreFair places.old }
+    requires open { (k : ℕ) × (to_settle_at places.old k ≡ Some neighbor) }
     ensures slots { slots_of places.new ≡ slots_of places.old }
     ensures fair { AreFair places.new }
     ensures stood { HaveStood is_kept places.old places.new }
@@ -216,8 +268,7 @@ fn settle(neighbor: u32, places: &mut [Place])
     ensures settled { (k : ℕ) → to_settle_at places.old k ≡ Some neighbor → to_settle_at places.new k ≡ None }
 {
     let mut meter = Meter::new();
-    let candidates = contenders(Round::Neighbor(neighbor), places);
-    if let Some(best) = choose(&mut meter, &candidates) {
+    if let Some(best) = best_in(&mut meter, Round::Neighbor(neighbor), places) {
         narrow_each(neighbor, best.slot, places);
     }
 }
@@ -281,8 +332,7 @@ pub(crate) fn best_of(meter: &mut Meter, places: &[Place], best: Option<u8>) -> 
     ensures chosen { meter.new.count ≡ min (meter.old.count + 1) (2 ^ 64 - 1) }
 {
     is_count(meter.count());
-    let candidates = contenders(last_round(places, best), places);
-    match choose(meter, &candidates) {
+    match best_in(meter, last_round(places, best), places) {
         Some(best) => Some(best.slot),
         None => None,
     }

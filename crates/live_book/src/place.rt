@@ -63,8 +63,9 @@ impl Standing {
 #[derive(Clone, Copy, Debug)]
 pub struct Place {
     pub slot: u8,
-    pub candidate: Option<Candidate>,
+    // Beside the slot, where it takes no octet more.
     pub standing: Standing,
+    pub candidate: Option<Candidate>,
 }
 
 impl Place {

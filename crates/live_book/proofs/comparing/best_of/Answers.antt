@@ -1,25 +1,18 @@
 use Rattle.std.proofs.Common.{◌≡◌, Some, None, sym, subst, ◌∙◌, ap}
-use Rattle.decision.specs.Selection.{AreDistinct, IsSelected}
+use Rattle.decision.specs.Selection.{IsSelected}
 use Rattle.decision.proofs.BestPlaces.{best_chosen}
 use Rattle.live_book.specs.NeighborBests.{contenders_of, last_round, slots_of}
-use Rattle.live_book.proofs.Rounds.{distinct_contenders, last_chosen}
+use Rattle.live_book.proofs.Rounds.{last_chosen}
 use Rattle.live_book.proofs.comparing.best_of.Goals as goal
-
-pub choose-requires : goal.choose-requires
-choose-requires c =
-    let is : c.deref.result.now ≡ contenders_of (last_round c.args.places.now c.args.best) c.args.places.now =
-    c.deref.ensures.0 ∙ c.contenders-candidates.ensures ∙ ap (λ round. contenders_of round c.args.places.now) c.last_round.ensures in
-    record { distinct = subst AreDistinct (sym is) (distinct_contenders (last_round c.args.places.now c.args.best) c.args.places.now c.requires.kept) }
 
 pub returns-in-Some-clause-best : goal.returns-in-Some-clause-best
 returns-in-Some-clause-best c =
-    let is : c.deref.result.now ≡ contenders_of (last_round c.args.places.now c.args.best) c.args.places.now =
-    c.deref.ensures.0 ∙ c.contenders-candidates.ensures ∙ ap (λ round. contenders_of round c.args.places.now) c.last_round.ensures in
+    let chosen : IsSelected (contenders_of (last_round c.args.places.now c.args.best) c.args.places.now) c.in-Some.best =
+    subst (λ round. IsSelected (contenders_of round c.args.places.now) c.in-Some.best) c.last_round.ensures c.in-Some.ensures.selected in
     best_chosen (slots_of c.args.places.now) c.requires.kept (Some c.in-Some.best)
-    (last_chosen c.args.places.now c.args.best c.requires.kept c.requires.bests c.requires.before (Some c.in-Some.best) (subst (λ cs. IsSelected cs c.in-Some.best) is c.in-Some.ensures.selected))
+    (last_chosen c.args.places.now c.args.best c.requires.kept c.requires.bests c.requires.before (Some c.in-Some.best) chosen)
 
 pub returns-in-None-clause-best : goal.returns-in-None-clause-best
 returns-in-None-clause-best c =
-    let is : c.deref.result.now ≡ contenders_of (last_round c.args.places.now c.args.best) c.args.places.now =
-    c.deref.ensures.0 ∙ c.contenders-candidates.ensures ∙ ap (λ round. contenders_of round c.args.places.now) c.last_round.ensures in
-    last_chosen c.args.places.now c.args.best c.requires.kept c.requires.bests c.requires.before None (sym is ∙ c.in-None.ensures.selected)
+    last_chosen c.args.places.now c.args.best c.requires.kept c.requires.bests c.requires.before None
+    (sym (ap (λ round. contenders_of round c.args.places.now) c.last_round.ensures) ∙ c.in-None.ensures.selected)

@@ -3,6 +3,10 @@ use Rattle.live_book.specs.NeighborBests.{AreFair, HaveStood, leads, moved, open
 use Rattle.live_book.proofs.Moves.{fair_moved, slots_moved, stood_moved}
 use Rattle.live_book.proofs.comparing.open.Goals as goal
 
+pub returns-clause-moved : goal.returns-clause-moved
+returns-clause-moved c =
+    c.move_each.ensures ∙ ap (λ ns. map (moved c.args.changes.now ns) c.args.places.now) (c.deref.ensures.0 ∙ c.opened-neighbors.ensures)
+
 pub returns-clause-slots : goal.returns-clause-slots
 returns-clause-slots c =
     let made : c.move_each.new.places ≡ map (moved c.args.changes.now (opened_of c.args.changes.now c.args.places.now)) c.args.places.now =

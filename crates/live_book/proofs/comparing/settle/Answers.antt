@@ -1,23 +1,14 @@
 use Rattle.std.proofs.Common.{◌≡◌, None, sym, subst, ◌∙◌, ap}
-use Rattle.decision.specs.Selection.{AreDistinct, IsSelected}
-use Rattle.live_book.specs.NeighborBests.{AreFair, HaveStood, contenders_of, is_kept, slots_of, to_settle_at}
-use Rattle.live_book.specs.declared.comparing.Round.TheVariants.{Neighbor}
-use Rattle.live_book.proofs.Rounds.{distinct_contenders, fair_narrowed, narrowed_closed, narrowed_settled, none_to_settle, slots_narrowed, stood_narrowed}
+use Rattle.live_book.specs.NeighborBests.{AreFair, HaveStood, is_kept, slots_of, to_settle_at}
+use Rattle.live_book.proofs.Rounds.{fair_narrowed, narrowed_closed, narrowed_settled, none_to_settle, slots_narrowed, stood_narrowed}
 use Rattle.live_book.proofs.comparing.settle.Goals as goal
-
-pub choose-requires : goal.choose-requires
-choose-requires c = record {
-  distinct = subst AreDistinct (sym (c.deref.ensures.0 ∙ c.contenders-candidates.ensures)) (distinct_contenders (Neighbor c.args.neighbor) c.args.places.now c.requires.kept);
-}
 
 pub returns-in-Some-clause-slots : goal.returns-in-Some-clause-slots
 returns-in-Some-clause-slots c = ap slots_of c.narrow_each.ensures ∙ slots_narrowed c.args.neighbor c.in-Some.best.slot c.args.places.now
 
 pub returns-in-Some-clause-fair : goal.returns-in-Some-clause-fair
 returns-in-Some-clause-fair c =
-    let chosen : IsSelected (contenders_of (Neighbor c.args.neighbor) c.args.places.now) c.in-Some.best =
-    subst (λ cs. IsSelected cs c.in-Some.best) (c.deref.ensures.0 ∙ c.contenders-candidates.ensures) c.in-Some.ensures.selected in
-    subst AreFair (sym c.narrow_each.ensures) (fair_narrowed c.args.neighbor c.args.places.now c.requires.kept c.requires.fair c.in-Some.best chosen)
+    subst AreFair (sym c.narrow_each.ensures) (fair_narrowed c.args.neighbor c.args.places.now c.requires.kept c.requires.fair c.in-Some.best c.in-Some.ensures.selected)
 
 pub returns-in-Some-clause-stood : goal.returns-in-Some-clause-stood
 returns-in-Some-clause-stood c = subst (HaveStood is_kept c.args.places.now) (sym c.narrow_each.ensures) (stood_narrowed c.args.neighbor c.in-Some.best.slot c.args.places.now)
@@ -32,4 +23,4 @@ returns-in-Some-clause-settled c = λ k e.
 
 pub returns-in_default-clause-settled : goal.returns-in_default-clause-settled
 returns-in_default-clause-settled c = λ k e.
-    absurd (none_to_settle c.args.neighbor c.args.places.now (sym (c.deref.ensures.0 ∙ c.contenders-candidates.ensures) ∙ c.in_default.ensures.selected) k e)
+    absurd (none_to_settle c.args.neighbor c.args.places.now c.in_default.ensures.selected k e)
