@@ -3,14 +3,15 @@
 use crate::calls::Call;
 use crate::fault::Fault;
 use crate::lines::{Lines, number_at, row_of};
+use decision::Book;
 use scenario::Stage;
 use speaker::{Speaker, Transport};
 use std::alloc::{Allocator, Global};
 use std::io::{self, Write};
 
 /// Plays the lines of a call, and puts in what they answer in the place of what the text was.
-pub fn answer<A: Allocator + Clone + Copy>(
-    stage: &mut Stage<A>,
+pub fn answer<A: Allocator + Clone + Copy, B: Book<A>>(
+    stage: &mut Stage<A, B>,
     call: Call<'_>,
     text: &mut Vec<u8>,
 ) -> Result<(), Fault> {
@@ -22,8 +23,8 @@ pub fn answer<A: Allocator + Clone + Copy>(
 }
 
 /// Has all octets of a slot handed out at this call.
-pub fn take_all<A: Allocator + Clone + Copy>(
-    stage: &mut Stage<A>,
+pub fn take_all<A: Allocator + Clone + Copy, B: Book<A>>(
+    stage: &mut Stage<A, B>,
     call: Call<'_>,
     slot: u8,
     alloc: Global,
@@ -33,8 +34,8 @@ pub fn take_all<A: Allocator + Clone + Copy>(
     answer(stage, call.with(line.as_str().as_bytes()), text)
 }
 
-fn answer_line<A: Allocator + Clone + Copy>(
-    stage: &mut Stage<A>,
+fn answer_line<A: Allocator + Clone + Copy, B: Book<A>>(
+    stage: &mut Stage<A, B>,
     line: Call<'_>,
     text: &mut Vec<u8>,
 ) -> Result<(), Fault> {
@@ -45,8 +46,8 @@ fn answer_line<A: Allocator + Clone + Copy>(
     }
 }
 
-fn play_line<A: Allocator + Clone + Copy>(
-    stage: &mut Stage<A>,
+fn play_line<A: Allocator + Clone + Copy, B: Book<A>>(
+    stage: &mut Stage<A, B>,
     line: Call<'_>,
     text: &mut Vec<u8>,
 ) -> Result<(), Fault> {
@@ -64,8 +65,8 @@ fn is_look(line: &[u8]) -> bool {
         || line.starts_with(b"transport ")
 }
 
-fn look<A: Allocator + Clone + Copy>(
-    stage: &Stage<A>,
+fn look<A: Allocator + Clone + Copy, B: Book<A>>(
+    stage: &Stage<A, B>,
     line: &[u8],
     text: &mut Vec<u8>,
 ) -> io::Result<()> {
@@ -81,7 +82,7 @@ fn look<A: Allocator + Clone + Copy>(
     }
 }
 
-fn transport_at<A: Allocator + Clone>(speaker: &Speaker<A>, slot: u64) -> Transport {
+fn transport_at<A: Allocator + Clone, B: Book<A>>(speaker: &Speaker<A, B>, slot: u64) -> Transport {
     speaker.transport(u8::try_from(slot).unwrap_or(u8::MAX))
 }
 

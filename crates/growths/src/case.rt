@@ -10,6 +10,8 @@ use crate::lines::{Lines, row_of};
 use crate::pair::Pair;
 use crate::refused::{MOST_CALLS, Met, play_on};
 use crate::rows::{count_of, has_row, is_met, number_behind};
+use decision::{Book, PlainBook};
+use live_book::LiveBook;
 use refusing::Refusing;
 use scenario::Stage;
 use speaker::Report;
@@ -75,14 +77,23 @@ fn play(alloc: Global, case: Case<'_>, endings: &mut Vec<u8>) -> Result<Counts, 
 }
 
 fn play_with_memory(alloc: Global, case: Case<'_>) -> Result<(), Fault> {
-    lend(Stage::new(alloc, alloc), |stage| {
+    play_over_book::<PlainBook>(alloc, case)?;
+    play_over_book::<LiveBook>(alloc, case)
+}
+
+fn play_over_book<B: Book<Global>>(alloc: Global, case: Case<'_>) -> Result<(), Fault> {
+    lend(Stage::<Global, B>::new(alloc, alloc), |stage| {
         let mut text = Vec::new(alloc);
         answers_as_told(stage, &mut text, case)
     })
 }
 
 // Where no request is refused the script answers what is told.
-fn answers_as_told(stage: &mut Stage, text: &mut Vec<u8>, case: Case<'_>) -> Result<(), Fault> {
+fn answers_as_told<B: Book<Global>>(
+    stage: &mut Stage<Global, B>,
+    text: &mut Vec<u8>,
+    case: Case<'_>,
+) -> Result<(), Fault> {
     let mut script = case.script;
     let mut told = case.told;
     for number in 1..MOST_CALLS {
@@ -97,8 +108,8 @@ fn answers_as_told(stage: &mut Stage, text: &mut Vec<u8>, case: Case<'_>) -> Res
 }
 
 // What is told behind the call's answer.
-fn told_behind<'a>(
-    stage: &mut Stage,
+fn told_behind<'a, B: Book<Global>>(
+    stage: &mut Stage<Global, B>,
     call: Call<'_>,
     text: &mut Vec<u8>,
     rows: &[u8],
@@ -160,24 +171,27 @@ fn refuse_twice(
     play_over(alloc, case, &heap, &heap)
 }
 
-// Both runs are over stages of their own: the speaker and the cache of the first are made over this heap.
+// Both runs are over stages of their own: the speaker and the cache of the first are made over this heap, and its book is a
+// LiveBook, that of the other a PlainBook.
 fn play_over<A: Allocator + Clone + Copy, B>(
     alloc: Global,
     case: Case<'_>,
     heap: A,
     requests: &Refusing<B>,
 ) -> Result<Met, Fault> {
-    let tested = Stage::new(alloc, heap);
-    lend_both(tested, Stage::new(alloc, alloc), |tested, whole| {
-        play_both(alloc, case, tested, whole, requests)
-    })
+    let tested = Stage::<A, LiveBook<A>>::new(alloc, heap);
+    lend_both(
+        tested,
+        Stage::<Global, PlainBook>::new(alloc, alloc),
+        |tested, whole| { play_both(alloc, case, tested, whole, requests) },
+    )
 }
 
 fn play_both<A: Allocator + Clone + Copy, B>(
     alloc: Global,
     case: Case<'_>,
-    tested: &mut Stage<A>,
-    whole: &mut Stage,
+    tested: &mut Stage<A, LiveBook<A>>,
+    whole: &mut Stage<Global, PlainBook>,
     requests: &Refusing<B>,
 ) -> Result<Met, Fault> {
     let mut pair = Pair::of(alloc, tested, whole);

@@ -5,6 +5,8 @@ use crate::calls::Call;
 use crate::endings::{Ending, is_told_and_closed};
 use crate::fault::{Fault, Wrong};
 use crate::views::{Scope, shows_alike};
+use decision::PlainBook;
+use live_book::LiveBook;
 use scenario::Stage;
 use speaker::Report;
 use std::alloc::{Allocator, Global};
@@ -40,19 +42,23 @@ pub trait Runs {
     fn shows_alike(&mut self, ending: Ending, scope: Scope, number: u64) -> bool;
 }
 
-/// The two, and what each answered last.
+/// The two, the first over a LiveBook and the other over a PlainBook, and what each answered last.
 #[derive(Drop)]
 pub struct Pair<'a, A: Allocator + Clone> {
     alloc: Global,
-    tested: &'a mut Stage<A>,
-    whole: &'a mut Stage,
+    tested: &'a mut Stage<A, LiveBook<A>>,
+    whole: &'a mut Stage<Global, PlainBook>,
     answer: Vec<u8>,
     told: Vec<u8>,
     fault: Option<Fault>,
 }
 
 impl<'a, A: Allocator + Clone + Copy> Pair<'a, A> {
-    pub fn of(alloc: Global, tested: &'a mut Stage<A>, whole: &'a mut Stage) -> Self {
+    pub fn of(
+        alloc: Global,
+        tested: &'a mut Stage<A, LiveBook<A>>,
+        whole: &'a mut Stage<Global, PlainBook>,
+    ) -> Self {
         Pair {
             alloc,
             tested,

@@ -3,6 +3,7 @@
 use crate::endings::Ending;
 use crate::fault::{Fault, Wrong};
 use crate::lines::{Lines, number_at, row_of, split_line, word_at};
+use decision::{Book, PlainBook};
 use rtr_cache::Cache;
 use scenario::{Stage, Table, show};
 use speaker::{Speaker, Transport};
@@ -23,7 +24,7 @@ trait View {
     fn chosen(&self) -> u64;
 }
 
-impl<A: Allocator + Clone> View for Speaker<A> {
+impl<A: Allocator + Clone, B: Book<A>> View for Speaker<A, B> {
     fn show(&self, table: Table, text: &mut Vec<u8>) -> io::Result<()> {
         show(self, table, text)
     }
@@ -71,10 +72,10 @@ impl Scope {
 }
 
 /// Whether both show the same, but for what the ending leaves.
-pub fn shows_alike<A: Allocator + Clone + Copy>(
+pub fn shows_alike<A: Allocator + Clone + Copy, B: Book<A>>(
     alloc: Global,
-    tested: &Stage<A>,
-    whole: &Stage,
+    tested: &Stage<A, B>,
+    whole: &Stage<Global, PlainBook>,
     ending: Ending,
     scope: Scope,
 ) -> Result<bool, Fault> {

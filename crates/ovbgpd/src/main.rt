@@ -5,6 +5,7 @@
 //! on standard error.
 #![tactic(auto)]
 
+use live_book::LiveBook;
 use speaker_program::main_bgp;
 use std::io::LineWriter;
 use std::process::ExitCode;
@@ -19,7 +20,7 @@ fn run(rt: &HostRuntime) -> io::Result<u8> {
     let words = words(rt)?;
     let mut output = LineWriter::new(rt.alloc(), io::writer(rt))?;
     let mut errors = rt.stderr();
-    let status = main_bgp(rt, words.as_slice(), &mut output, &mut errors);
+    let status = main_bgp::<LiveBook, _, _, _>(rt, words.as_slice(), &mut output, &mut errors);
     Ok(status)
 }
 

@@ -2,6 +2,7 @@
 ghost use Rattle.std.specs.Prelude.{◌≡◌, ◌≤◌, ◌<◌, length, Err};
 ghost use Rattle.ovplay.specs.Exits.{exit_of_script};
 
+use live_book::LiveBook;
 use program_endings::{ExitFault, end};
 use scenario::{PlayFault, play};
 use std::alloc::AllocGlobal;
@@ -36,7 +37,7 @@ fn run_play<R: AllocGlobal, I: BufRead + Drop, O: Write>(
     if !words.is_empty() {
         return Err(ExitFault::Arguments);
     }
-    play(rt.alloc(), input, output).map_err(of_script)
+    play::<LiveBook, _, _>(rt.alloc(), input, output).map_err(of_script)
 }
 
 // What ends the program where its script does.

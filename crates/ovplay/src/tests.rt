@@ -1,6 +1,7 @@
 //! Each text of `ovplay` with its exit status.
 
 use crate::play_main::main_play;
+use live_book::LiveBook;
 use scenario::{PlayFault, play};
 use std::alloc::AllocGlobal;
 use std::io::{self, BufRead, BufReader, ErrorKind, Read};
@@ -105,8 +106,14 @@ fn a_writer_without_room_is_a_device_fault(rt: HostRuntime) {
     let script: &[u8] = b"speaker 65000 192.0.2.1 nocache";
     let mut octets = [0u8; 2];
     let mut room = octets.as_mut_slice();
-    assert_eq!(rt; play(rt.alloc(), script, &mut room), Err(PlayFault::Device));
+    assert_eq!(rt;
+        play::<LiveBook, _, _>(rt.alloc(), script, &mut room),
+        Err(PlayFault::Device)
+    );
     let mut octets = [0u8; 3];
     let mut room = octets.as_mut_slice();
-    assert_eq!(rt; play(rt.alloc(), script, &mut room), Ok(()));
+    assert_eq!(rt;
+        play::<LiveBook, _, _>(rt.alloc(), script, &mut room),
+        Ok(())
+    );
 }

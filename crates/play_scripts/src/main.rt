@@ -1,8 +1,8 @@
 //! Plays the scripts of its data, and compares what they answer with what is told.
 //!
 //! The file `scripts` names them, one a line; empty lines and lines that begin with `#` are passed over. The lines of
-//! `NAME.in` are handed to `scenario::play`, and the answers must be `NAME.out`, octet for octet, where the bad line that
-//! ends a script is its last answer. A file may have several cases, and messages that are cut at each octet
+//! `NAME.in` are handed to `scenario::play`, over a speaker with a `PlainBook` and over one with a `LiveBook`. Both must
+//! answer alike, and the answers must be `NAME.out`, octet for octet, where the bad line that ends a script is its last one. A file may have several cases, and messages that are cut at each octet
 //! (`script_files`). Each name has a line on standard output, and the last line counts them.
 //!
 //! Exit status 0 where all answer as told; 1 where one doesn't; 2 where a file can't be read or memory is wanting.
@@ -10,6 +10,8 @@
 
 ghost use Rattle.std.specs.Prelude.{⊤};
 
+use decision::{Book, PlainBook};
+use live_book::LiveBook;
 use scenario::{PlayFault, play};
 use script_files::{Player, Shelf, Tally, Unplayed, play_listed};
 use std::alloc::{AllocGlobal, Global};
@@ -29,16 +31,26 @@ impl Player for Scenario {
     ghost answers = { λ player script found. ⊤ };
 
     fn play(&self, script: &[u8]) -> Result<Vec<u8>, Unplayed> {
-        let mut written = Vec::new(self.alloc);
-        match play(self.alloc, script, &mut written) {
-            Ok(()) => Ok(written),
-            Err(PlayFault::BadLine(number)) => {
-                let fault = PlayFault::BadLine(number);
-                writeln!(written, "{fault}")?;
-                Ok(written)
-            }
-            Err(_) => Err(Unplayed),
+        let mut answers = played::<PlainBook>(self.alloc, script)?;
+        let live = played::<LiveBook>(self.alloc, script)?;
+        if live.as_slice() != answers.as_slice() {
+            writeln!(answers, "otherwise over LiveBook")?;
         }
+        Ok(answers)
+    }
+}
+
+// What a script answers over a speaker with such a book.
+fn played<B: Book<Global>>(alloc: Global, script: &[u8]) -> Result<Vec<u8>, Unplayed> {
+    let mut written = Vec::new(alloc);
+    match play::<B, _, _>(alloc, script, &mut written) {
+        Ok(()) => Ok(written),
+        Err(PlayFault::BadLine(number)) => {
+            let fault = PlayFault::BadLine(number);
+            writeln!(written, "{fault}")?;
+            Ok(written)
+        }
+        Err(_) => Err(Unplayed),
     }
 }
 

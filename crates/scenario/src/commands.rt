@@ -7,6 +7,7 @@ ghost use Rattle.scenario.specs.ObeyedCommands.{Obeys, ObeysSome, ObeysUpTo, Tak
 use crate::reading::{ascii_text, is_passed_over, is_want_of_memory, read_line, without_line_end};
 use bgp_conf::{Command, Refusal};
 use command_lines::{CommandLine, LineFault};
+use decision::Book;
 use speaker::{Event, Speaker};
 use std::alloc::Global;
 use std::io::{self, BufRead};
@@ -43,10 +44,10 @@ impl From<io::Error> for CommandsFault {
 
 /// Hands the commands of a file to the speaker, line by line, up to the first that is none or is refused. Empty lines and lines that
 /// begin with `#` are passed over.
-pub fn obey_lines<R: BufRead + Drop>(
+pub fn obey_lines<R: BufRead + Drop, B: Book<Global>>(
     alloc: Global,
     mut reader: R,
-    speaker: &mut Speaker,
+    speaker: &mut Speaker<Global, B>,
 ) -> Result<(), CommandsFault>
     ensures each { (text : List ℕ) → R.remaining reader ≡ Some text → ObeysUpTo (lines text) result speaker.old speaker.new }
     ensures some { ObeysSome speaker.old speaker.new }
@@ -57,11 +58,11 @@ pub fn obey_lines<R: BufRead + Drop>(
 }
 
 // Obeys the lines, each read into the text.
-fn obey_each<R: BufRead + Drop>(
+fn obey_each<R: BufRead + Drop, B: Book<Global>>(
     alloc: Global,
     reader: &mut R,
     text: &mut Vec<u8>,
-    speaker: &mut Speaker,
+    speaker: &mut Speaker<Global, B>,
 ) -> Result<(), CommandsFault>
     ensures each { (octets : List ℕ) → R.remaining reader.old ≡ Some octets → ObeysUpTo (lines octets) result speaker.old speaker.new }
     ensures some { ObeysSome speaker.old speaker.new }
@@ -76,11 +77,11 @@ fn obey_each<R: BufRead + Drop>(
     Err(CommandsFault::Device)
 }
 
-fn obey_line(
+fn obey_line<B: Book<Global>>(
     alloc: Global,
     number: u64,
     line: &[u8],
-    speaker: &mut Speaker,
+    speaker: &mut Speaker<Global, B>,
 ) -> Result<(), CommandsFault>
     ensures obeys { Obeys (if is_ok result then line.now ∷ [] else []) speaker.old speaker.new }
     ensures line { IfErr result (NamesLine number) }
@@ -98,7 +99,11 @@ fn obey_line(
     }
 }
 
-fn obey(speaker: &mut Speaker, number: u64, command: Command<'_>) -> Result<(), CommandsFault>
+fn obey<B: Book<Global>>(
+    speaker: &mut Speaker<Global, B>,
+    number: u64,
+    command: Command<'_>,
+) -> Result<(), CommandsFault>
     ensures obeys { Takes command.entry result speaker.old speaker.new }
     ensures line { IfErr result (NamesLine number) }
 {

@@ -8,6 +8,8 @@ use crate::line::{CacheLine, Line, SpeakerLine};
 use crate::reading::{ascii_text, is_passed_over, is_want_of_memory, read_line, without_line_end};
 use crate::tables::show;
 use command_lines::LineFault;
+use decision::Book;
+use live_book::LiveBook;
 use rtr_cache::Cache;
 use rtr_codec::Intervals;
 use speaker::{Config, Event, Report, Speaker};
@@ -52,23 +54,23 @@ impl From<io::Error> for PlayFault {
     }
 }
 
-/// Plays a script: answers each line before the next one is read.
-pub fn play<R: BufRead + Drop, W: Write>(
+/// Plays a script, over a speaker with such a book: answers each line before the next one is read.
+pub fn play<B: Book<Global>, R: BufRead + Drop, W: Write>(
     alloc: Global,
     mut reader: R,
     writer: &mut W,
 ) -> Result<(), PlayFault>
     ensures { IfErr result CountsFromOne }
 {
-    let mut stage = Stage::new(alloc, alloc)?;
+    let mut stage = Stage::<Global, B>::new(alloc, alloc)?;
     let mut text = Vec::new(alloc);
     play_lines(&mut reader, &mut stage, &mut text, writer)
 }
 
 // Plays the lines, each read into the text.
-fn play_lines<R: BufRead + Drop, W: Write>(
+fn play_lines<B: Book<Global>, R: BufRead + Drop, W: Write>(
     reader: &mut R,
-    stage: &mut Stage,
+    stage: &mut Stage<Global, B>,
     text: &mut Vec<u8>,
     writer: &mut W,
 ) -> Result<(), PlayFault>
@@ -85,18 +87,18 @@ fn play_lines<R: BufRead + Drop, W: Write>(
 
 /// What a script has made so far: its speaker and its cache, over a heap of their own, and room for what they hand out.
 #[derive(Drop)]
-pub struct Stage<A: Allocator + Clone = Global> {
+pub struct Stage<A: Allocator + Clone = Global, B: Book<A> = LiveBook<A>> {
     alloc: Global,
     heap: A,
-    speaker: Option<Speaker<A>>,
+    speaker: Option<Speaker<A, B>>,
     cache: Option<ScriptCache<A>>,
     report: Report,
     taken: Vec<u8>,
 }
 
-impl<A: Allocator + Clone + Copy> Stage<A> {
+impl<A: Allocator + Clone + Copy, B: Book<A>> Stage<A, B> {
     /// Nothing is made yet. What the speaker and the cache keep will be had from the heap.
-    pub fn new(alloc: Global, heap: A) -> Result<Stage<A>, AllocError> {
+    pub fn new(alloc: Global, heap: A) -> Result<Stage<A, B>, AllocError> {
         let taken = vec![in alloc; 0; MAX_TAKE]?;
         Ok(Stage {
             alloc,
@@ -142,7 +144,7 @@ impl<A: Allocator + Clone + Copy> Stage<A> {
     }
 
     /// The speaker, once a line has made it.
-    pub fn speaker(&self) -> Option<&Speaker<A>> {
+    pub fn speaker(&self) -> Option<&Speaker<A, B>> {
         self.speaker.as_ref()
     }
 
@@ -282,8 +284,8 @@ impl<A: Allocator + Clone + Copy> Stage<A> {
 }
 
 // Hands in a line for the speaker, and answers it.
-fn drive<A: Allocator + Clone, W: Write>(
-    speaker: &mut Speaker<A>,
+fn drive<A: Allocator + Clone, B: Book<A>, W: Write>(
+    speaker: &mut Speaker<A, B>,
     line: &SpeakerLine<'_>,
     room: &mut [u8],
     report: &mut Report,
@@ -300,8 +302,8 @@ fn drive<A: Allocator + Clone, W: Write>(
 }
 
 // Hands in the event of a line; one that takes or shows has none.
-fn hand_on<A: Allocator + Clone>(
-    speaker: &mut Speaker<A>,
+fn hand_on<A: Allocator + Clone, B: Book<A>>(
+    speaker: &mut Speaker<A, B>,
     line: &SpeakerLine<'_>,
     report: &mut Report,
 ) -> Answer<'static> {
@@ -324,8 +326,8 @@ fn hand_on<A: Allocator + Clone>(
     }
 }
 
-fn step<A: Allocator + Clone>(
-    speaker: &mut Speaker<A>,
+fn step<A: Allocator + Clone, B: Book<A>>(
+    speaker: &mut Speaker<A, B>,
     event: Event<'_>,
     report: &mut Report,
 ) -> Answer<'static> {
@@ -342,8 +344,8 @@ fn step<A: Allocator + Clone>(
 }
 
 // Hands out at most `max` octets, and no more than there is room for.
-fn take<'a, A: Allocator + Clone>(
-    speaker: &mut Speaker<A>,
+fn take<'a, A: Allocator + Clone, B: Book<A>>(
+    speaker: &mut Speaker<A, B>,
     slot: u8,
     max: u32,
     room: &'a mut [u8],
@@ -363,8 +365,8 @@ fn take<'a, A: Allocator + Clone>(
 }
 
 // The same of the ring of the cache session.
-fn take_cache<'a, A: Allocator + Clone>(
-    speaker: &mut Speaker<A>,
+fn take_cache<'a, A: Allocator + Clone, B: Book<A>>(
+    speaker: &mut Speaker<A, B>,
     max: u32,
     room: &'a mut [u8],
 ) -> Answer<'a> {

@@ -5,6 +5,7 @@ use crate::line::Table;
 use arrayvec::ArrayVec;
 use bgp_attr::write_attrs;
 use bgp_conf::PEER_SLOTS;
+use decision::Book;
 use speaker::Speaker;
 use std::alloc::Allocator;
 use std::io::{self, Write};
@@ -13,8 +14,8 @@ use std::io::{self, Write};
 const MAX_ROWS: usize = usize::MAX;
 
 /// Writes the rows of the table, a line each, and `end`.
-pub fn show<A: Allocator + Clone, W: Write>(
-    speaker: &Speaker<A>,
+pub fn show<A: Allocator + Clone, B: Book<A>, W: Write>(
+    speaker: &Speaker<A, B>,
     table: Table,
     writer: &mut W,
 ) -> io::Result<()> {
@@ -22,8 +23,8 @@ pub fn show<A: Allocator + Clone, W: Write>(
     write_answer(writer, Answer::End)
 }
 
-fn show_rows<A: Allocator + Clone, W: Write>(
-    speaker: &Speaker<A>,
+fn show_rows<A: Allocator + Clone, B: Book<A>, W: Write>(
+    speaker: &Speaker<A, B>,
     table: Table,
     writer: &mut W,
 ) -> io::Result<()> {
@@ -37,8 +38,8 @@ fn show_rows<A: Allocator + Clone, W: Write>(
     }
 }
 
-fn show_sessions<A: Allocator + Clone, W: Write>(
-    speaker: &Speaker<A>,
+fn show_sessions<A: Allocator + Clone, B: Book<A>, W: Write>(
+    speaker: &Speaker<A, B>,
     writer: &mut W,
 ) -> io::Result<()> {
     for slot in 0..PEER_SLOTS {
@@ -52,8 +53,8 @@ fn show_sessions<A: Allocator + Clone, W: Write>(
     Ok(())
 }
 
-fn show_rib<A: Allocator + Clone, W: Write>(
-    speaker: &Speaker<A>,
+fn show_rib<A: Allocator + Clone, B: Book<A>, W: Write>(
+    speaker: &Speaker<A, B>,
     writer: &mut W,
 ) -> io::Result<()> {
     for route in speaker.loc_rib().take(MAX_ROWS) {
@@ -62,8 +63,8 @@ fn show_rib<A: Allocator + Clone, W: Write>(
     Ok(())
 }
 
-fn show_payloads<A: Allocator + Clone, W: Write>(
-    speaker: &Speaker<A>,
+fn show_payloads<A: Allocator + Clone, B: Book<A>, W: Write>(
+    speaker: &Speaker<A, B>,
     writer: &mut W,
 ) -> io::Result<()> {
     for payload in speaker.payloads().take(MAX_ROWS) {
@@ -72,8 +73,8 @@ fn show_payloads<A: Allocator + Clone, W: Write>(
     Ok(())
 }
 
-fn show_in<A: Allocator + Clone, W: Write>(
-    speaker: &Speaker<A>,
+fn show_in<A: Allocator + Clone, B: Book<A>, W: Write>(
+    speaker: &Speaker<A, B>,
     slot: u8,
     writer: &mut W,
 ) -> io::Result<()> {
@@ -85,8 +86,8 @@ fn show_in<A: Allocator + Clone, W: Write>(
     Ok(())
 }
 
-fn show_held<A: Allocator + Clone, W: Write>(
-    speaker: &Speaker<A>,
+fn show_held<A: Allocator + Clone, B: Book<A>, W: Write>(
+    speaker: &Speaker<A, B>,
     slot: u8,
     writer: &mut W,
 ) -> io::Result<()> {
@@ -96,8 +97,8 @@ fn show_held<A: Allocator + Clone, W: Write>(
     Ok(())
 }
 
-fn show_waiting<A: Allocator + Clone, W: Write>(
-    speaker: &Speaker<A>,
+fn show_waiting<A: Allocator + Clone, B: Book<A>, W: Write>(
+    speaker: &Speaker<A, B>,
     slot: u8,
     writer: &mut W,
 ) -> io::Result<()> {

@@ -7,22 +7,24 @@ use crate::config::Config;
 use crate::event::{Event, Report};
 use crate::step::Speaker;
 use bgp_conf::Refusal;
+use decision::Book;
+use live_book::LiveBook;
 use std::alloc::{Allocator, Global};
 
 /// The answers to a list of events, and the speaker after them.
 #[derive(Drop)]
-pub struct Trace<A: Allocator + Clone = Global> {
+pub struct Trace<A: Allocator + Clone = Global, B: Book<A> = LiveBook<A>> {
     /// The answer to each event, in order.
     pub answers: Vec<Result<Report, Refusal>, A>,
-    pub speaker: Speaker<A>,
+    pub speaker: Speaker<A, B>,
 }
 
 /// Plays events on a new speaker. Refused as `Speaker::new` is, and by 44.
-pub fn run<A: Allocator + Clone + Copy>(
+pub fn run<A: Allocator + Clone + Copy, B: Book<A>>(
     alloc: A,
     config: Config,
     events: &[Event<'_>],
-) -> Result<Trace<A>, Refusal>
+) -> Result<Trace<A, B>, Refusal>
     // The answers lead to a run that the speaker agrees with; each event that is refused is answered by its first refusal
     // after the run so far.
     ensures played { IfOk result (λ trace. IsPlayed config events.now trace.answers.items trace.speaker) }
@@ -30,7 +32,7 @@ pub fn run<A: Allocator + Clone + Copy>(
     ensures range { (result ≡ Err Refusal.Range) ↔ (is_out_of_range config ≡ true) }
     ensures err { IfErr result (λ why. (why ≡ Refusal.Range) ⊎ (why ≡ Refusal.NoMemory)) }
 {
-    let mut speaker = Speaker::new(alloc, config)?;
+    let mut speaker = Speaker::<A, B>::new(alloc, config)?;
     let Ok(for_answers) = speaker.alloc.clone() else {
         return Err(Refusal::NoMemory);
     };

@@ -16,7 +16,8 @@ use crate::config::Config;
 use crate::event::{Event, Report, only};
 use bgp_conf::{Command, Conf, PEER_SLOTS, Refusal};
 use bgp_fsm::Input;
-use decision::{Book, PlainBook};
+use decision::Book;
+use live_book::LiveBook;
 use net_prefix::{Asn, Transport};
 use origin_valid::PayloadTrie;
 use rib_out::RecentOctets;
@@ -28,7 +29,7 @@ use std::marker::Model;
 
 /// A BGP speaker (RFC 4271): its peers' sessions, Adj-RIB-In, Loc-RIB and what each peer was sent.
 #[derive(Drop)]
-pub struct Speaker<A: Allocator + Clone = Global, B: Book<A> = PlainBook<A>> {
+pub struct Speaker<A: Allocator + Clone = Global, B: Book<A> = LiveBook<A>> {
     pub(crate) alloc: A,
     pub(crate) config: Config,
     pub(crate) conf: Conf<A>,

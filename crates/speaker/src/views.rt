@@ -27,7 +27,8 @@ ghost use Rattle.bgp_peer.specs.PeerLimits.{ring_octets, room_for_update};
 use crate::step::Speaker;
 use bgp_attr::Attrs;
 use bgp_fsm::State;
-use decision::{Book, LOCAL_SLOT, PlainBook};
+use decision::{Book, LOCAL_SLOT};
+use live_book::LiveBook;
 use loc_rib::Rows;
 use net_prefix::{Prefix, Transport, Vrp};
 use origin_valid::Validity;
@@ -50,7 +51,7 @@ pub struct BestRoute {
 
 /// Loc-RIB in rising order.
 #[derive(Drop)]
-pub struct LocRib<'a, A: Allocator + Clone = Global, B: Book<A> = PlainBook<A>> {
+pub struct LocRib<'a, A: Allocator + Clone = Global, B: Book<A> = LiveBook<A>> {
     pub(crate) rows: Rows<'a, A, B>,
 }
 

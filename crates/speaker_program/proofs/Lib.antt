@@ -1,3 +1,4 @@
+pub mod EndedWell
 pub mod OtherFaults
 pub mod ServedWords
 pub mod TakenSlots

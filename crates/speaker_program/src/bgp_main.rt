@@ -1,10 +1,14 @@
 //! What the main of `ovbgpd` does.
 ghost use Rattle.std.specs.Prelude.{◌≡◌, [], ◌≢◌, ◌≤◌, ◌↔◌, ℕ, List, Some, Err, IfErr, IfOk, OnOk, IsTrue, is_some};
+ghost use Rattle.toml.specs.Data.{Members};
 ghost use Rattle.speaker_program.specs.Commanded.{IsCommanded, IsCommandedBy, TakesSoMany};
 ghost use Rattle.speaker_program.specs.Endings.{EndsSo};
 ghost use Rattle.speaker_program.specs.Begun.{IsBegun, IsServed, with_remotes};
 ghost use Rattle.speaker_program.specs.declared.settings.SpeakerSettings.{SpeakerSettings};
 ghost use Rattle.speaker_program.specs.Slots.{HasJust, is_configured};
+ghost use Rattle.speaker_program.specs.ToldSettings.{IsToldBy};
+ghost use Rattle.settings_keys.specs.Keys.{IsTableOf};
+ghost use Rattle.speaker_turns.specs.Turns.{Turns};
 ghost use Rattle.program_endings.specs.Words.{IsCall};
 ghost use Rattle.scenario.specs.FileLines.{lines};
 ghost use Rattle.scenario.specs.ObeyedCommands.{ObeysSome};
@@ -14,6 +18,7 @@ use crate::exits::{of_commands, of_speaker};
 use crate::settings::{SpeakerSettings, has_slot};
 use bgp_conf::PEER_SLOTS;
 use clocks::{MonotonicClock, SecondsClock};
+use decision::Book;
 use net_wires::{NetWire, REST_MILLISECONDS};
 use program_endings::{ExitFault, end, read_words};
 use scenario::{Table, obey_lines, show};
@@ -29,7 +34,7 @@ use wires::Wire;
 
 /// `ovbgpd SETTINGS TURNS`: a speaker that obeys the commands of its settings and then serves its sessions for so many turns.
 /// Behind them its Loc-RIB stands on `output`; a fault has its line on `errors`. The answer is the exit status.
-pub fn main_bgp<R, O: Write, E: Write>(
+pub fn main_bgp<B: Book<Global>, R, O: Write, E: Write>(
     rt: &R,
     words: &[String],
     output: &mut O,
@@ -41,9 +46,12 @@ where
     ensures range { result ≤ 2 }
     ensures output { ((path : List ℕ) (turns : ℕ) → ¬ (IsCall words.now path turns)) → output.new ≡ output.old }
     ensures silent { result ≡ 0 → errors.new ≡ errors.old }
+    // The status is 0 only where the settings that a file tells were served for just the turns of the words.
+    ensures serves { result ≡ 0 → (path : List ℕ) × (turns : ℕ) × (octets : List ℕ) × (table : Members) × (settings : SpeakerSettings) × (behind : List ℕ) × (served : Turns)
+        × IsCall words.now path turns × IsTableOf octets table × IsToldBy table settings × IsServed settings turns [] behind served }
 {
     let mut clock = MonotonicClock::new(rt);
-    let served = run_bgp(rt, words, output, &mut clock, |listen| {
+    let served = run_bgp::<B, _, _, _, _, _>(rt, words, output, &mut clock, |listen| {
         NetWire::open(rt, listen)
     });
     end("ovbgpd", ending(served), errors)
@@ -60,13 +68,13 @@ fn ending<T: Drop>(served: Result<T, ExitFault>) -> Result<(), ExitFault>
 }
 
 // What the words ask for, over the wire that is opened where the settings listen, by this clock.
-fn run_bgp<R, O: Write, W: Wire + Drop, C: SecondsClock, F>(
+fn run_bgp<B: Book<Global>, R, O: Write, W: Wire + Drop, C: SecondsClock, F>(
     rt: &R,
     words: &[String],
     output: &mut O,
     clock: &mut C,
     opens: F,
-) -> Result<SpeakerLoop<W>, ExitFault>
+) -> Result<SpeakerLoop<W, Global, B>, ExitFault>
 where
     R: Files + AllocGlobal,
     F: FnOnce(Option<SocketAddr>) -> io::Result<W>,
@@ -74,9 +82,10 @@ where
     ensures wrong { ((path : List ℕ) (turns : ℕ) → ¬ (IsCall words.now path turns)) → result ≡ Err ExitFault.Arguments }
     ensures right { (path : List ℕ) (turns : ℕ) → IsCall words.now path turns → result ≢ Err ExitFault.Arguments }
     ensures output { result ≡ Err ExitFault.Arguments → output.new ≡ output.old }
-    // The speaker of some settings, with their commands obeyed and their remotes told, has taken just the turns of the words.
-    ensures serves { IfOk result (λ served. (path : List ℕ) × (turns : ℕ) × (settings : SpeakerSettings)
-        × IsCall words.now path turns × IsServed settings turns (C.readings clock.old) (C.readings clock.new) served) }
+    // The speaker of the settings that a file tells, with their commands obeyed and their remotes told, has taken just the turns
+    // of the words.
+    ensures serves { IfOk result (λ served. (path : List ℕ) × (turns : ℕ) × (octets : List ℕ) × (table : Members) × (settings : SpeakerSettings)
+        × IsCall words.now path turns × IsTableOf octets table × IsToldBy table settings × IsServed settings turns (C.readings clock.old) (C.readings clock.new) served) }
 {
     let (path, turns) = read_words(words)?;
     let settings = read_settings(rt, path)?;
@@ -84,14 +93,14 @@ where
 }
 
 // So many turns of these settings, behind which Loc-RIB is printed.
-fn serve<R: Files + AllocGlobal, O: Write, W: Wire + Drop, C: SecondsClock, F>(
+fn serve<B: Book<Global>, R: Files + AllocGlobal, O: Write, W: Wire + Drop, C: SecondsClock, F>(
     rt: &R,
     settings: &SpeakerSettings,
     turns: u64,
     output: &mut O,
     clock: &mut C,
     opens: F,
-) -> Result<SpeakerLoop<W>, ExitFault>
+) -> Result<SpeakerLoop<W, Global, B>, ExitFault>
 where
     F: FnOnce(Option<SocketAddr>) -> io::Result<W>,
     requires { F.IsAlwaysCallable opens }
@@ -105,8 +114,8 @@ where
 }
 
 // Prints Loc-RIB.
-fn show_routes<W: Wire + Drop, O: Write>(
-    served: &SpeakerLoop<W>,
+fn show_routes<B: Book<Global>, W: Wire + Drop, O: Write>(
+    served: &SpeakerLoop<W, Global, B>,
     output: &mut O,
 ) -> Result<(), ExitFault>
     ensures { IfErr result (λ fault. fault ≢ ExitFault.Arguments) }
@@ -118,18 +127,30 @@ fn show_routes<W: Wire + Drop, O: Write>(
 
 // The settings in the file of this path.
 fn read_settings<R: Files + AllocGlobal>(rt: &R, path: &str) -> Result<SpeakerSettings, ExitFault>
-    ensures { IfErr result (λ fault. fault ≢ ExitFault.Arguments) }
+    ensures fault { IfErr result (λ fault. fault ≢ ExitFault.Arguments) }
+    ensures told { IfOk result (λ settings. (octets : List ℕ) × (table : Members) × IsTableOf octets table × IsToldBy table settings) }
 {
     let octets = fs::read(rt, path)?;
-    Ok(SpeakerSettings::read(rt.alloc(), octets.as_slice())?)
+    settings_in(rt.alloc(), octets.as_slice())
+}
+
+// The settings that the octets of a file tell.
+fn settings_in(alloc: Global, octets: &[u8]) -> Result<SpeakerSettings, ExitFault>
+    ensures fault { IfErr result (λ fault. fault ≢ ExitFault.Arguments) }
+    ensures told { IfOk result (λ settings. (table : Members) × IsTableOf octets.now table × IsToldBy table settings) }
+{
+    match SpeakerSettings::read(alloc, octets) {
+        Ok(settings) => Ok(settings),
+        Err(fault) => Err(fault.into()),
+    }
 }
 
 // The loop of the settings, before its first turn.
-fn begin<R: Files + AllocGlobal, W: Wire + Drop, F>(
+fn begin<B: Book<Global>, R: Files + AllocGlobal, W: Wire + Drop, F>(
     rt: &R,
     settings: &SpeakerSettings,
     opens: F,
-) -> Result<SpeakerLoop<W>, ExitFault>
+) -> Result<SpeakerLoop<W, Global, B>, ExitFault>
 where
     F: FnOnce(Option<SocketAddr>) -> io::Result<W>,
     requires { F.IsAlwaysCallable opens }
@@ -144,10 +165,10 @@ where
 }
 
 // The speaker of the settings, which has obeyed their commands.
-fn commanded<R: Files + AllocGlobal>(
+fn commanded<B: Book<Global>, R: Files + AllocGlobal>(
     rt: &R,
     settings: &SpeakerSettings,
-) -> Result<Speaker, ExitFault>
+) -> Result<Speaker<Global, B>, ExitFault>
     ensures fault { IfErr result (λ fault. fault ≢ ExitFault.Arguments) }
     ensures slots { IfOk result (HasJust settings.now.peers.items) }
     ensures commands { IfOk result (IsCommanded (record { asn = settings.now.asn; identifier = settings.now.identifier; cache = is_some settings.now.cache })) }
@@ -158,7 +179,7 @@ fn commanded<R: Files + AllocGlobal>(
 }
 
 // A speaker that has obeyed no command.
-fn made(alloc: Global, config: Config) -> Result<Speaker, ExitFault>
+fn made<B: Book<Global>>(alloc: Global, config: Config) -> Result<Speaker<Global, B>, ExitFault>
     ensures fault { IfErr result (λ fault. fault ≢ ExitFault.Arguments) }
     ensures agrees { IfOk result (λ speaker. Agrees config [] speaker) }
 {
@@ -169,10 +190,10 @@ fn made(alloc: Global, config: Config) -> Result<Speaker, ExitFault>
 }
 
 // Hands the commands of the settings to the speaker, whose slots are to be just those of the settings then.
-fn command<R: Files + AllocGlobal>(
+fn command<B: Book<Global>, R: Files + AllocGlobal>(
     rt: &R,
     settings: &SpeakerSettings,
-    speaker: &mut Speaker,
+    speaker: &mut Speaker<Global, B>,
 ) -> Result<(), ExitFault>
     ensures fault { IfErr result (λ fault. fault ≢ ExitFault.Arguments) }
     ensures slots { OnOk result (HasJust settings.now.peers.items speaker.new) }
@@ -188,10 +209,10 @@ fn command<R: Files + AllocGlobal>(
 }
 
 // Hands the commands that a reader has to the speaker, line by line.
-fn command_from<R: BufRead + Drop>(
+fn command_from<B: Book<Global>, R: BufRead + Drop>(
     alloc: Global,
     reader: R,
-    speaker: &mut Speaker,
+    speaker: &mut Speaker<Global, B>,
 ) -> Result<(), ExitFault>
     ensures fault { IfErr result (λ fault. fault ≢ ExitFault.Arguments) }
     ensures each { (text : List ℕ) → R.remaining reader ≡ Some text → IsCommandedBy (lines text) result speaker.old speaker.new }
@@ -204,7 +225,7 @@ fn command_from<R: BufRead + Drop>(
 }
 
 // Whether the slots that are configured are just those of the peers.
-fn are_configured(speaker: &Speaker, peers: &[(u8, SocketAddr)]) -> bool
+fn are_configured<B: Book<Global>>(speaker: &Speaker<Global, B>, peers: &[(u8, SocketAddr)]) -> bool
     ensures { IsTrue result ↔ HasJust peers.now speaker.now }
 {
     for slot in 0..PEER_SLOTS {
@@ -215,14 +236,17 @@ fn are_configured(speaker: &Speaker, peers: &[(u8, SocketAddr)]) -> bool
     true
 }
 
-fn is_configured(speaker: &Speaker, slot: u8) -> bool
+fn is_configured<B: Book<Global>>(speaker: &Speaker<Global, B>, slot: u8) -> bool
     ensures { result ≡ is_configured speaker.now slot }
 {
     speaker.session(slot).is_some()
 }
 
 // Tells where the peers are, and the cache.
-fn tell_remotes<W: Wire + Drop>(settings: &SpeakerSettings, served: &mut SpeakerLoop<W>)
+fn tell_remotes<B: Book<Global>, W: Wire + Drop>(
+    settings: &SpeakerSettings,
+    served: &mut SpeakerLoop<W, Global, B>,
+)
     ensures { served.new ≡ with_remotes settings.now.peers.items settings.now.cache served.old }
 {
     for (slot, remote) in &settings.peers {
@@ -234,9 +258,9 @@ fn tell_remotes<W: Wire + Drop>(settings: &SpeakerSettings, served: &mut Speaker
 }
 
 // So many turns, each at the moment that is read for it.
-fn take_turns<C: SecondsClock, W: Wire + Drop>(
+fn take_turns<B: Book<Global>, C: SecondsClock, W: Wire + Drop>(
     clock: &mut C,
-    served: &mut SpeakerLoop<W>,
+    served: &mut SpeakerLoop<W, Global, B>,
     turns: u64,
 ) -> Result<(), ExitFault>
     ensures fault { IfErr result (λ fault. fault ≢ ExitFault.Arguments) }

@@ -1,5 +1,6 @@
 //! Each text of `ovbgpd` with its exit status.
 
+use live_book::LiveBook;
 use program_stages::{Ending, Stage, deaf_listener, ends, path_of, remove, write, write_settings};
 use speaker_program::main_bgp;
 use std::alloc::{AllocError, AllocGlobal, Global};
@@ -56,7 +57,7 @@ where
     R: Net<Listener = TcpListener, Stream = TcpStream> + Files + Clock + AllocGlobal,
 {
     ends(rt.alloc(), words, ending, |words, output, errors| {
-        main_bgp(rt, words, output, errors)
+        main_bgp::<LiveBook, _, _, _>(rt, words, output, errors)
     }) == Ok(true)
 }
 
@@ -383,7 +384,7 @@ fn a_turn_that_cant_accept_is_a_device(rt: HostRuntime) -> Result<(), Fail> {
 fn status_with_room(rt: &HostRuntime, words: &[String], room: &mut [u8]) -> u8 {
     let mut output = room;
     let mut errors = Vec::new(rt.alloc());
-    main_bgp(rt, words, &mut output, &mut errors)
+    main_bgp::<LiveBook, _, _, _>(rt, words, &mut output, &mut errors)
 }
 
 // Whether the output of a turn fits into four octets, and fails where only three do.

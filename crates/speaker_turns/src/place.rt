@@ -12,6 +12,7 @@ use crate::end::End;
 use crate::line::{Line, is_from};
 use crate::serving::{attend, settle};
 use crate::sessions::{come_up, fail, has_opened, transport};
+use decision::Book;
 use net_prefix::Transport;
 use speaker::{Report, Speaker};
 use std::alloc::{AllocError, Allocator, Global};
@@ -74,7 +75,12 @@ impl<W: Wire, A: Allocator + Clone> Place<W, A> {
     }
 
     /// Begins to connect, where the session has begun an attempt and none stands here.
-    pub fn begin(&mut self, end: End, wire: &mut W, speaker: &mut Speaker<A>) -> Visit
+    pub fn begin<B: Book<A>>(
+        &mut self,
+        end: End,
+        wire: &mut W,
+        speaker: &mut Speaker<A, B>,
+    ) -> Visit
         ensures { Begins end self.old (record { wire = W.state wire.old; speaker = speaker.old }) result self.new (record { wire = W.state wire.new; speaker = speaker.new }) }
     {
         let Some(remote) = self.awaited(end, speaker) else {
@@ -93,7 +99,7 @@ impl<W: Wire, A: Allocator + Clone> Place<W, A> {
     }
 
     // The address to which an attempt is to begin.
-    fn awaited(&self, end: End, speaker: &Speaker<A>) -> Option<SocketAddr>
+    fn awaited<B: Book<A>>(&self, end: End, speaker: &Speaker<A, B>) -> Option<SocketAddr>
         ensures { result ≡ awaited_at (transport_of speaker.now end) self.now }
     {
         match transport(speaker, end) {
@@ -106,7 +112,7 @@ impl<W: Wire, A: Allocator + Clone> Place<W, A> {
     }
 
     /// Whether the session waits for a connection from this address.
-    pub fn awaits(&self, end: End, speaker: &Speaker<A>, address: SocketAddr) -> bool
+    pub fn awaits<B: Book<A>>(&self, end: End, speaker: &Speaker<A, B>, address: SocketAddr) -> bool
         ensures { IsTrue result ↔ Awaits (transport_of speaker.now end) self.now address }
     {
         match transport(speaker, end) {
@@ -116,7 +122,13 @@ impl<W: Wire, A: Allocator + Clone> Place<W, A> {
     }
 
     /// A connection has come. It is closed where the session doesn't take it.
-    pub fn admit(&mut self, end: End, socket: W::Socket, wire: &mut W, speaker: &mut Speaker<A>)
+    pub fn admit<B: Book<A>>(
+        &mut self,
+        end: End,
+        socket: W::Socket,
+        wire: &mut W,
+        speaker: &mut Speaker<A, B>,
+    )
         ensures asks { Asks (up_call end) (awaits_up (wanted_transport_of speaker.old end)) speaker.old speaker.new }
         ensures taken { awaits_up (wanted_transport_of speaker.old end) ≡ true → (self.new ≡ seated (up (W.number socket) (W.address socket)) self.old) × (W.state wire.new ≡ W.state wire.old) }
         ensures closed { awaits_up (wanted_transport_of speaker.old end) ≡ false → (self.new ≡ self.old) × (W.state wire.new ≡ closing (W.number socket) NoPlace (W.state wire.old)) }
@@ -136,12 +148,12 @@ impl<W: Wire, A: Allocator + Clone> Place<W, A> {
     }
 
     /// Where the report tells that the session begins an attempt again, the one that stands here gives way to it.
-    pub fn give_way(
+    pub fn give_way<B: Book<A>>(
         &mut self,
         report: &Report,
         end: End,
         wire: &mut W,
-        speaker: &Speaker<A>,
+        speaker: &Speaker<A, B>,
     ) -> Visit
         ensures { GivesWay report.now end self.old (record { wire = W.state wire.old; speaker = speaker.now }) result self.new (record { wire = W.state wire.new; speaker = speaker.now }) }
     {
@@ -152,7 +164,7 @@ impl<W: Wire, A: Allocator + Clone> Place<W, A> {
     }
 
     // Ends an attempt that stands here.
-    fn leave_attempt(&mut self, wire: &mut W, speaker: &Speaker<A>)
+    fn leave_attempt<B: Book<A>>(&mut self, wire: &mut W, speaker: &Speaker<A, B>)
         ensures { GivesWayWhat self.old.line self.old (record { wire = W.state wire.old; speaker = speaker.now }) self.new (record { wire = W.state wire.new; speaker = speaker.now }) }
     {
         let Some(line) = self.line.take() else {
@@ -165,12 +177,12 @@ impl<W: Wire, A: Allocator + Clone> Place<W, A> {
     }
 
     /// What came is handed to the session, and what the speaker has queued for it goes out.
-    pub fn visit(
+    pub fn visit<B: Book<A>>(
         &mut self,
         end: End,
         now: u64,
         wire: &mut W,
-        speaker: &mut Speaker<A>,
+        speaker: &mut Speaker<A, B>,
         buf: &mut [u8],
     ) -> Visit
         requires { length buf.old ≡ turn_octets }

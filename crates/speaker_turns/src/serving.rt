@@ -9,19 +9,20 @@ use crate::end::End;
 use crate::line::Line;
 use crate::place::Visit;
 use crate::sessions::{come_up, fail, hear, take, transport};
+use decision::Book;
 use net_prefix::Transport;
 use speaker::Speaker;
 use std::alloc::Allocator;
 use wires::{Attempt, Outgoing, Parting, Received, Sent, Wire};
 
 /// What came is handed to the session, and what the speaker has queued for it goes out; an attempt is asked how it stands.
-pub(crate) fn attend<W: Wire, A: Allocator + Clone>(
+pub(crate) fn attend<W: Wire, A: Allocator + Clone, B: Book<A>>(
     line: &mut Line<W>,
     outgoing: &mut Outgoing<A>,
     end: End,
     now: u64,
     wire: &mut W,
-    speaker: &mut Speaker<A>,
+    speaker: &mut Speaker<A, B>,
     buf: &mut [u8],
 ) -> Visit
     requires { length buf.old ≡ turn_octets }
@@ -35,13 +36,13 @@ pub(crate) fn attend<W: Wire, A: Allocator + Clone>(
 }
 
 // A connection is served where its session carries one.
-fn attend_connection<W: Wire, A: Allocator + Clone>(
+fn attend_connection<W: Wire, A: Allocator + Clone, B: Book<A>>(
     line: &mut Line<W>,
     outgoing: &mut Outgoing<A>,
     end: End,
     now: u64,
     wire: &mut W,
-    speaker: &mut Speaker<A>,
+    speaker: &mut Speaker<A, B>,
     buf: &mut [u8],
 ) -> Visit
     requires { length buf.old ≡ turn_octets }
@@ -57,11 +58,11 @@ fn attend_connection<W: Wire, A: Allocator + Clone>(
 }
 
 // An attempt is looked at where its session has begun one.
-fn attend_attempt<W: Wire, A: Allocator + Clone>(
+fn attend_attempt<W: Wire, A: Allocator + Clone, B: Book<A>>(
     line: &mut Line<W>,
     end: End,
     wire: &mut W,
-    speaker: &mut Speaker<A>,
+    speaker: &mut Speaker<A, B>,
 ) -> Visit
     ensures { (waiting : List ℕ) → AttendsAttempt (is_opening (transport_of speaker.old end)) end line.old waiting (record { wire = W.state wire.old; speaker = speaker.old }) result line.new waiting (record { wire = W.state wire.new; speaker = speaker.new }) }
 {
@@ -74,11 +75,11 @@ fn attend_attempt<W: Wire, A: Allocator + Clone>(
 }
 
 // Asks how an attempt stands.
-fn look<W: Wire, A: Allocator + Clone>(
+fn look<W: Wire, A: Allocator + Clone, B: Book<A>>(
     line: &mut Line<W>,
     end: End,
     wire: &mut W,
-    speaker: &mut Speaker<A>,
+    speaker: &mut Speaker<A, B>,
 ) -> Visit
     ensures { Looks end line.old (record { wire = W.state wire.old; speaker = speaker.old }) result line.new (record { wire = W.state wire.new; speaker = speaker.new }) }
 {
@@ -95,13 +96,13 @@ fn look<W: Wire, A: Allocator + Clone>(
     }
 }
 
-fn serve<W: Wire, A: Allocator + Clone>(
+fn serve<W: Wire, A: Allocator + Clone, B: Book<A>>(
     line: &mut Line<W>,
     outgoing: &mut Outgoing<A>,
     end: End,
     now: u64,
     wire: &mut W,
-    speaker: &mut Speaker<A>,
+    speaker: &mut Speaker<A, B>,
     buf: &mut [u8],
 ) -> Visit
     requires { length buf.old ≡ turn_octets }
@@ -118,11 +119,11 @@ fn serve<W: Wire, A: Allocator + Clone>(
 }
 
 // Hands what came to the session.
-fn receive<W: Wire, A: Allocator + Clone>(
+fn receive<W: Wire, A: Allocator + Clone, B: Book<A>>(
     line: &mut Line<W>,
     end: End,
     wire: &mut W,
-    speaker: &mut Speaker<A>,
+    speaker: &mut Speaker<A, B>,
     buf: &mut [u8],
 ) -> Received
     requires { length buf.old ≡ turn_octets }
@@ -138,13 +139,13 @@ fn receive<W: Wire, A: Allocator + Clone>(
 }
 
 // Answers the session. One that was closed for too long, though not all is written, loses its place.
-fn answer_now<W: Wire, A: Allocator + Clone>(
+fn answer_now<W: Wire, A: Allocator + Clone, B: Book<A>>(
     line: &mut Line<W>,
     outgoing: &mut Outgoing<A>,
     end: End,
     now: u64,
     wire: &mut W,
-    speaker: &mut Speaker<A>,
+    speaker: &mut Speaker<A, B>,
     buf: &mut [u8],
 ) -> Visit
     requires { length buf.old ≡ turn_octets }
@@ -167,12 +168,12 @@ fn judge(found: Visit, is_over: bool) -> Visit
 }
 
 // Takes what is to be written, where all that was taken is written, and writes it.
-fn answer<W: Wire, A: Allocator + Clone>(
+fn answer<W: Wire, A: Allocator + Clone, B: Book<A>>(
     line: &mut Line<W>,
     outgoing: &mut Outgoing<A>,
     end: End,
     wire: &mut W,
-    speaker: &mut Speaker<A>,
+    speaker: &mut Speaker<A, B>,
     buf: &mut [u8],
 ) -> Visit
     requires { length buf.old ≡ turn_octets }
@@ -191,10 +192,10 @@ fn answer<W: Wire, A: Allocator + Clone>(
 }
 
 // Takes what the speaker has queued for the session, as much as fits, where none wait.
-fn refill<A: Allocator + Clone>(
+fn refill<A: Allocator + Clone, B: Book<A>>(
     outgoing: &mut Outgoing<A>,
     end: End,
-    speaker: &mut Speaker<A>,
+    speaker: &mut Speaker<A, B>,
     buf: &mut [u8],
 )
     requires { length buf.old ≡ turn_octets }
@@ -227,12 +228,12 @@ fn write<W: Wire, A: Allocator + Clone>(
 }
 
 /// The connection goes on, or ends.
-pub(crate) fn settle<W: Wire, A: Allocator + Clone>(
+pub(crate) fn settle<W: Wire, A: Allocator + Clone, B: Book<A>>(
     line: Line<W>,
     end: End,
     visit: Visit,
     wire: &mut W,
-    speaker: &mut Speaker<A>,
+    speaker: &mut Speaker<A, B>,
 ) -> Option<Line<W>>
     ensures settles { Settles visit end line (record { wire = W.state wire.old; speaker = speaker.old }) (record { wire = W.state wire.new; speaker = speaker.new }) }
     ensures left { result ≡ line_left visit line }
@@ -249,12 +250,12 @@ pub(crate) fn settle<W: Wire, A: Allocator + Clone>(
 }
 
 // Ends a connection, or an attempt at one, and tells its session.
-fn lose<W: Wire, A: Allocator + Clone>(
+fn lose<W: Wire, A: Allocator + Clone, B: Book<A>>(
     line: Line<W>,
     end: End,
     parting: Parting,
     wire: &mut W,
-    speaker: &mut Speaker<A>,
+    speaker: &mut Speaker<A, B>,
 )
     ensures { Loses end parting line.number (record { wire = W.state wire.old; speaker = speaker.old }) (record { wire = W.state wire.new; speaker = speaker.new }) }
 {

@@ -9,12 +9,16 @@ ghost use Rattle.speaker_turns.specs.declared.end.End.TheVariants.{Cache, Peer};
 
 use crate::end::End;
 use bgp_conf::PEER_SLOTS;
+use decision::Book;
 use net_prefix::Transport;
 use speaker::{Event, Report, Speaker};
 use std::alloc::Allocator;
 
 /// What stands between the session and its connection.
-pub(crate) fn transport<A: Allocator + Clone>(speaker: &Speaker<A>, end: End) -> Transport
+pub(crate) fn transport<A: Allocator + Clone, B: Book<A>>(
+    speaker: &Speaker<A, B>,
+    end: End,
+) -> Transport
     ensures { result ≡ transport_of speaker.now end }
 {
     match end {
@@ -24,7 +28,10 @@ pub(crate) fn transport<A: Allocator + Clone>(speaker: &Speaker<A>, end: End) ->
 }
 
 /// The connection is there; answers whether the session takes it.
-pub(crate) fn come_up<A: Allocator + Clone>(speaker: &mut Speaker<A>, end: End) -> bool
+pub(crate) fn come_up<A: Allocator + Clone, B: Book<A>>(
+    speaker: &mut Speaker<A, B>,
+    end: End,
+) -> bool
     ensures takes { result ≡ awaits_up (wanted_transport_of speaker.old end) }
     ensures asks { Asks (up_call end) result speaker.old speaker.new }
 {
@@ -35,7 +42,7 @@ pub(crate) fn come_up<A: Allocator + Clone>(speaker: &mut Speaker<A>, end: End) 
 }
 
 /// The connection, or the attempt at one, is gone.
-pub(crate) fn fail<A: Allocator + Clone>(speaker: &mut Speaker<A>, end: End)
+pub(crate) fn fail<A: Allocator + Clone, B: Book<A>>(speaker: &mut Speaker<A, B>, end: End)
     ensures { Asks (fail_call end) (may_fail (transport_of speaker.old end)) speaker.old speaker.new }
 {
     let _taken = match end {
@@ -45,7 +52,11 @@ pub(crate) fn fail<A: Allocator + Clone>(speaker: &mut Speaker<A>, end: End)
 }
 
 /// Octets have come on the connection.
-pub(crate) fn hear<A: Allocator + Clone>(speaker: &mut Speaker<A>, end: End, octets: &[u8])
+pub(crate) fn hear<A: Allocator + Clone, B: Book<A>>(
+    speaker: &mut Speaker<A, B>,
+    end: End,
+    octets: &[u8],
+)
     ensures { Asks (bytes_call end octets.now) (may_bring_octets (transport_of speaker.old end)) speaker.old speaker.new }
 {
     let _taken = match end {
@@ -55,7 +66,7 @@ pub(crate) fn hear<A: Allocator + Clone>(speaker: &mut Speaker<A>, end: End, oct
 }
 
 // Hands in an event that takes no memory of its own; answers whether it wasn't refused.
-fn make<A: Allocator + Clone>(speaker: &mut Speaker<A>, event: Event<'_>) -> bool
+fn make<A: Allocator + Clone, B: Book<A>>(speaker: &mut Speaker<A, B>, event: Event<'_>) -> bool
     requires { Grows speaker.old.conf event → ⊥ }
     ensures made { result ≡ is_none (refusal_of speaker.old event.entry) }
     ensures asks { Asks (call_of event.entry) result speaker.old speaker.new }
@@ -64,8 +75,8 @@ fn make<A: Allocator + Clone>(speaker: &mut Speaker<A>, event: Event<'_>) -> boo
 }
 
 /// Takes what the speaker has queued for the session, as much as the buffer holds, and answers how many octets.
-pub(crate) fn take<A: Allocator + Clone>(
-    speaker: &mut Speaker<A>,
+pub(crate) fn take<A: Allocator + Clone, B: Book<A>>(
+    speaker: &mut Speaker<A, B>,
     end: End,
     buf: &mut [u8],
 ) -> usize
@@ -80,7 +91,11 @@ pub(crate) fn take<A: Allocator + Clone>(
     }
 }
 
-fn take_of_slot<A: Allocator + Clone>(speaker: &mut Speaker<A>, slot: u8, buf: &mut [u8]) -> usize
+fn take_of_slot<A: Allocator + Clone, B: Book<A>>(
+    speaker: &mut Speaker<A, B>,
+    slot: u8,
+    buf: &mut [u8],
+) -> usize
     ensures bound { result ≤ length buf.new }
     ensures room { length buf.new ≡ length buf.old }
     ensures octets { take result buf.new ≡ take (length buf.old) (queued_for speaker.old (Peer slot)) }
@@ -92,7 +107,10 @@ fn take_of_slot<A: Allocator + Clone>(speaker: &mut Speaker<A>, slot: u8, buf: &
     }
 }
 
-fn take_of_cache<A: Allocator + Clone>(speaker: &mut Speaker<A>, buf: &mut [u8]) -> usize
+fn take_of_cache<A: Allocator + Clone, B: Book<A>>(
+    speaker: &mut Speaker<A, B>,
+    buf: &mut [u8],
+) -> usize
     ensures bound { result ≤ length buf.new }
     ensures room { length buf.new ≡ length buf.old }
     ensures octets { take result buf.new ≡ take (length buf.old) (queued_for speaker.old Cache) }
@@ -102,7 +120,10 @@ fn take_of_cache<A: Allocator + Clone>(speaker: &mut Speaker<A>, buf: &mut [u8])
 }
 
 /// Tells the speaker the moment. A moment before the last one tells it nothing.
-pub(crate) fn tick<A: Allocator + Clone>(speaker: &mut Speaker<A>, now: u64) -> Report
+pub(crate) fn tick<A: Allocator + Clone, B: Book<A>>(
+    speaker: &mut Speaker<A, B>,
+    now: u64,
+) -> Report
     ensures { Ticks now (nat_le speaker.old.moment now) speaker.old result speaker.new }
 {
     match speaker.step(Event::Tick(now)) {

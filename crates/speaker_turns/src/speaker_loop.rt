@@ -8,6 +8,8 @@ ghost use Rattle.speaker_turns.specs.Turns.{Admits, AtAll, AtPlace, AwaitsAt, Gi
 use crate::end::{End, PLACES};
 use crate::place::{Place, Visit};
 use crate::sessions::tick;
+use decision::Book;
+use live_book::LiveBook;
 use speaker::{Report, Speaker};
 use std::alloc::{AllocError, Allocator, Global};
 use std::marker::Model;
@@ -17,16 +19,16 @@ use wires::{Accepted, LoopFault, Parting, TURN_OCTETS, Wire};
 
 /// A speaker and the connections of its sessions.
 #[derive(Drop)]
-pub struct SpeakerLoop<W: Wire, A: Allocator + Clone = Global> {
+pub struct SpeakerLoop<W: Wire, A: Allocator + Clone = Global, B: Book<A> = LiveBook<A>> {
     wire: W,
-    speaker: Speaker<A>,
+    speaker: Speaker<A, B>,
     // That of the slot s stands at s, and that of the cache behind them.
     places: Vec<Place<W, A>, A>,
     lost: u64,
     closed: u64,
 }
 
-impl<W: Wire, A: Allocator + Clone> Model for SpeakerLoop<W, A> {
+impl<W: Wire, A: Allocator + Clone, B: Book<A>> Model for SpeakerLoop<W, A, B> {
     ghost use Rattle.std.specs.Prelude.{◌≡◌, length};
     ghost use Rattle.speaker_turns.specs.Ends.{place_count};
     ghost use Rattle.speaker_turns.specs.Turns.{Turns};
@@ -38,9 +40,9 @@ impl<W: Wire, A: Allocator + Clone> Model for SpeakerLoop<W, A> {
     ghost invariant = { λ l. length l.places.items ≡ place_count };
 }
 
-impl<W: Wire + Drop> SpeakerLoop<W> {
+impl<W: Wire + Drop, B: Book<Global>> SpeakerLoop<W, Global, B> {
     /// The turns of this speaker on this wire, before the first. Of no session it is known where its other side is.
-    pub fn new(alloc: Global, wire: W, speaker: Speaker) -> Result<Self, AllocError>
+    pub fn new(alloc: Global, wire: W, speaker: Speaker<Global, B>) -> Result<Self, AllocError>
         ensures { IfOk result (λ turns. turns ≡ idle speaker (W.state wire)) }
     {
         let mut places = Vec::new(alloc.clone()?);
@@ -55,7 +57,7 @@ impl<W: Wire + Drop> SpeakerLoop<W> {
     }
 }
 
-impl<W: Wire + Drop, A: Allocator + Clone> SpeakerLoop<W, A> {
+impl<W: Wire + Drop, A: Allocator + Clone, B: Book<A>> SpeakerLoop<W, A, B> {
     /// The other side of the session is there: attempts go to this address, and a connection that comes from it is the session's,
     /// whatever its port.
     pub fn set_remote(&mut self, end: End, remote: SocketAddr)
@@ -81,7 +83,7 @@ impl<W: Wire + Drop, A: Allocator + Clone> SpeakerLoop<W, A> {
     }
 
     /// The speaker.
-    pub fn speaker(&self) -> &Speaker<A>
+    pub fn speaker(&self) -> &Speaker<A, B>
         ensures { result.now ≡ self.now.speaker }
     {
         &self.speaker

@@ -3,4 +3,6 @@ use Rattle.speaker_program.proofs.bgp_main.run_bgp.Goals as goal
 
 pub returns-clause-serves : goal.returns-clause-serves
 returns-clause-serves g c =
-    if_ok_so c.serve.result (λ served is. (c.in_ok-path.path.now, c.in_ok-path.turns, c.in_ok-settings.settings, c.in_ok-path.ensures, is)) c.serve.ensures.serves
+    let told = c.in_ok-settings.ensures.told in
+    if_ok_so c.serve.result
+    (λ served is. (c.in_ok-path.path.now, c.in_ok-path.turns, told.0, told.1, c.in_ok-settings.settings, c.in_ok-path.ensures, told.2, told.3, is)) c.serve.ensures.serves

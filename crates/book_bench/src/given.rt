@@ -1,6 +1,6 @@
 //! Both books side by side, and the candidates that they were given.
 ghost use Rattle.std.specs.Prelude.{◌≡◌, IfSome};
-ghost use Rattle.book_tests.specs.Addressed.{AreAddressed, IsOwn};
+ghost use Rattle.book_bench.specs.Addressed.{AreAddressed, IsOwn};
 ghost use Rattle.decision.specs.BookContents.{offer_at};
 ghost use Rattle.decision.specs.Selection.{AreDistinct};
 
@@ -93,22 +93,6 @@ fn candidates(offers: &[Option<Candidate>; 64]) -> ArrayVec<Candidate, 64>
         }
     }
     candidates
-}
-
-/// The change is made.
-pub fn offer<A: Allocator + Clone, B: Book<A>>(
-    book: &mut B,
-    meter: &mut Meter,
-    prefix: Prefix,
-    change: Change,
-) -> Result<(), AllocError>
-    requires addressed { AreAddressed (offer_at (B.kept book.old)) }
-    requires own { IsOwn change }
-    ensures { AreAddressed (offer_at (B.kept book.new)) }
-{
-    book.room(change.slot, prefix)?;
-    book.change(meter, prefix, &[change]);
-    Ok(())
 }
 
 /// Both changes are made in one call.

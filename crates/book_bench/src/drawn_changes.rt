@@ -1,9 +1,10 @@
 //! Changes that are drawn, over both books and the selection anew.
-ghost use Rattle.book_tests.specs.Addressed.{AreAddressed, IsOwn};
+ghost use Rattle.book_bench.specs.Addressed.{AreAddressed, IsOwn};
 ghost use Rattle.decision.specs.BookContents.{offer_at};
 
+use crate::books::offer;
 use crate::drawn::{Generator, draw};
-use crate::given::{Given, leave, live_book, offer, offer_two, plain_book, prefix_of};
+use crate::given::{Given, leave, live_book, offer_two, plain_book, prefix_of};
 use decision::{Book, Change};
 use net_prefix::Prefix;
 use std::alloc::{Allocator, Global};

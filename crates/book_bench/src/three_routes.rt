@@ -1,9 +1,10 @@
 //! Three routes of which each beats one other: the best one changes where another one is withdrawn.
 ghost use Rattle.std.specs.Prelude.{◌≡◌};
-ghost use Rattle.book_tests.specs.Addressed.{AreAddressed, IsOwn};
+ghost use Rattle.book_bench.specs.Addressed.{AreAddressed, IsOwn};
 ghost use Rattle.decision.specs.BookContents.{offer_at};
 
-use crate::given::{live_book, offer, plain_book, prefix_of};
+use crate::books::offer;
+use crate::given::{live_book, plain_book, prefix_of};
 use bgp_attr::Origin;
 use decision::{Book, Candidate, Change, Meter};
 use net_prefix::{Asn, Prefix};

@@ -1,9 +1,9 @@
 use Rattle.std.proofs.Common.{◌≡◌, ◌<◌, ◌≤◌, ◌+◌, ◌++◌, ◌∷◌, [], All, List, length, ap, sym, subst, ◌∙◌, arith}
 use Rattle.std.proofs.lemmas.List.{length_push}
 use Rattle.decision.specs.declared.candidate.Candidate.{Candidate}
-use Rattle.book_tests.proofs.Addresses.{Rise, below_more, below_pushed, distinct_rising, rise_more}
-use Rattle.book_tests.proofs.given.candidates.Goals as goal
-use Rattle.book_tests.proofs.given.candidates.Goals.{in-Some, in_default}
+use Rattle.book_bench.proofs.Addresses.{Rise, below_more, below_pushed, distinct_rising, rise_more}
+use Rattle.book_bench.proofs.given.candidates.Goals as goal
+use Rattle.book_bench.proofs.given.candidates.Goals.{in-Some, in_default}
 
 pub loop-slot-preserved : goal.loop-slot-preserved
 loop-slot-preserved c =

@@ -5,7 +5,7 @@ use Rattle.std.proofs.lemmas.List.Elements.{All-cons, All-head, All-nil, All-pus
 use Rattle.std.proofs.lemmas.List.Kept.{AllPairs-cons}
 use Rattle.std.specs.Ordering.{is_eq}
 use Rattle.net_prefix.proofs.Ranks.{cmp_same}
-use Rattle.book_tests.specs.Addressed.{AreAddressed, IsOwn}
+use Rattle.book_bench.specs.Addressed.{AreAddressed, IsOwn}
 use Rattle.decision.specs.BookContents.{AreApart, changed, is_prefix}
 use Rattle.decision.specs.Selection.{AreDistinct, DifferInRank}
 use Rattle.decision.specs.declared.book.Change.{Change}

@@ -1,7 +1,7 @@
 use Rattle.std.proofs.Common.{◌≡◌, ◌∷◌, [], IfSome, is_ok, true, ap}
 use Rattle.decision.specs.BookContents.{changed, has_place_at}
-use Rattle.book_tests.proofs.Addresses.{addressed_as, addressed_kept, apart_kept, keeps_one, one_all, own_slot, place_made}
-use Rattle.book_tests.proofs.given.offer.Goals as goal
+use Rattle.book_bench.proofs.Addresses.{addressed_as, addressed_kept, apart_kept, keeps_one, one_all, own_slot, place_made}
+use Rattle.book_bench.proofs.books.offer.Goals as goal
 
 pub returns-in_err-room : goal.returns-in_err-room
 returns-in_err-room g c = addressed_as _ _ c.requires.addressed c.room.ensures.offers

@@ -1,6 +1,6 @@
-use Rattle.book_tests.specs.Addressed.{AreAddressed}
+use Rattle.book_bench.specs.Addressed.{AreAddressed}
 use Rattle.decision.specs.BookContents.{offer_at}
-use Rattle.book_tests.proofs.drawn_changes.turns.Given as goal
+use Rattle.book_bench.proofs.drawn_changes.turns.Given as goal
 
 abbrev pub invariant-loop-call : goal.invariant-loop-call
 invariant-loop-call g l = record {

@@ -1,6 +1,6 @@
 use Rattle.std.proofs.Common.{◌≤◌, ◌<◌, length, All}
-use Rattle.book_tests.proofs.Addresses.{Rise}
-use Rattle.book_tests.proofs.given.candidates.Given as goal
+use Rattle.book_bench.proofs.Addresses.{Rise}
+use Rattle.book_bench.proofs.given.candidates.Given as goal
 
 abbrev pub invariant-loop-slot : goal.invariant-loop-slot
 invariant-loop-slot l = record {
