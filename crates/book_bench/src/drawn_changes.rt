@@ -3,8 +3,9 @@ ghost use Rattle.book_bench.specs.Addressed.{AreAddressed, IsOwn};
 ghost use Rattle.decision.specs.BookContents.{offer_at};
 
 use crate::books::offer;
+use crate::changes::prefix_of;
 use crate::drawn::{Generator, draw};
-use crate::given::{Given, leave, live_book, offer_two, plain_book, prefix_of};
+use crate::given::{Given, leave, live_book, offer_two, plain_book};
 use decision::{Book, Change};
 use net_prefix::Prefix;
 use std::alloc::{Allocator, Global};
@@ -132,7 +133,7 @@ fn turns<A: Allocator + Clone, P: Book<A>, L: Book<A>>(
     requires plain { AreAddressed (offer_at (P.kept plain.old)) }
     requires live { AreAddressed (offer_at (L.kept live.old)) }
 {
-    let prefix = prefix_of(rt);
+    let prefix = prefix_of(0);
     let mut generator = Generator::new();
     let mut given = Given::new();
     for _call in 0..calls {

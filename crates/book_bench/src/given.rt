@@ -11,14 +11,6 @@ use net_prefix::Prefix;
 use std::alloc::{AllocError, Allocator};
 use std::process::Abort;
 
-/// The prefix of all tests.
-pub fn prefix_of(rt: &impl Abort) -> Prefix {
-    match Prefix::new(0x0a00_0000, 16) {
-        Ok(prefix) => prefix,
-        Err(_) => panic!(rt; "no prefix"),
-    }
-}
-
 /// An empty book.
 pub fn plain_book<A: Allocator + Clone>(rt: &impl Abort, alloc: A) -> PlainBook<A>
     ensures { AreAddressed (offer_at result) }

@@ -4,7 +4,8 @@
 //! `book_bench BOOK PREFIXES CANDIDATES NEIGHBORS WHAT CHANGES`: so many candidates, by so many neighbor ASes in turn, are
 //! offered to a `plain` or a `live` book at each of the prefixes. Then the `best` or the `worst` candidate of a prefix goes
 //! and comes, or the `med` of the best changes, as often as it is told, from prefix to prefix. It prints how often a best
-//! route was chosen. Exit status 0; 1 where the words are wrong; 2 where memory is wanting or standard output fails.
+//! route was chosen. Exit status 0; 1 where the words are wrong, also where a prefix would have more candidates than slots; 2
+//! where memory is wanting or standard output fails.
 #![tactic(auto)]
 
 mod books;
@@ -51,6 +52,9 @@ fn main(rt: HostRuntime) -> io::Result<ExitCode> {
         eprintln!(&rt; "book_bench: arguments")?;
         return Ok(ExitCode::from(1));
     };
-    run(&rt, &plan)?;
+    if run(&rt, &plan).is_err() {
+        eprintln!(&rt; "book_bench: device")?;
+        return Ok(ExitCode::from(2));
+    }
     Ok(ExitCode::from(0))
 }

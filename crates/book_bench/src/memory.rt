@@ -65,7 +65,7 @@ fn only_a_new_place_takes_memory(rt: HostRuntime) {
 }
 
 #[test]
-fn of_a_plain_book_too(rt: HostRuntime) {
+fn only_a_new_place_of_a_plain_book_does(rt: HostRuntime) {
     for nth in 1..REQUESTS {
         let heap = Refusing::new(rt.alloc(), nth);
         let mut book = plain_book(&rt, &heap);

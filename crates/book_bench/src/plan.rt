@@ -1,5 +1,7 @@
 //! What is measured.
 
+use decision::MAX_CANDIDATES;
+
 /// The book that is measured.
 #[derive(Clone, Copy)]
 pub enum Kind {
@@ -30,7 +32,7 @@ pub struct Plan {
 }
 
 impl Plan {
-    /// What the words say, where they are six.
+    /// What the words say, where they are six, and no more candidates than a prefix has.
     pub fn read(words: &[String]) -> Option<Plan> {
         let [book, prefixes, candidates, neighbors, what, changes] = words else {
             return None;
@@ -38,12 +40,21 @@ impl Plan {
         Some(Plan {
             kind: kind_of(book.as_str())?,
             prefixes: prefixes.as_str().parse().ok()?,
-            candidates: candidates.as_str().parse().ok()?,
+            candidates: candidates_of(candidates.as_str())?,
             neighbors: neighbors.as_str().parse().ok()?,
             what: what_of(what.as_str())?,
             changes: changes.as_str().parse().ok()?,
         })
     }
+}
+
+// No more than a prefix has.
+fn candidates_of(word: &str) -> Option<u8> {
+    let candidates: u8 = word.parse().ok()?;
+    if usize::from(candidates) > MAX_CANDIDATES {
+        return None;
+    }
+    Some(candidates)
 }
 
 fn kind_of(word: &str) -> Option<Kind> {

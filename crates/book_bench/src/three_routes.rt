@@ -4,7 +4,8 @@ ghost use Rattle.book_bench.specs.Addressed.{AreAddressed, IsOwn};
 ghost use Rattle.decision.specs.BookContents.{offer_at};
 
 use crate::books::offer;
-use crate::given::{live_book, plain_book, prefix_of};
+use crate::changes::prefix_of;
+use crate::given::{live_book, plain_book};
 use bgp_attr::Origin;
 use decision::{Book, Candidate, Change, Meter};
 use net_prefix::{Asn, Prefix};
@@ -79,7 +80,7 @@ fn goes(slot: u8) -> Change
 fn turn_by_turn<A: Allocator + Clone, B: Book<A>>(rt: &impl Abort, book: &mut B)
     requires { AreAddressed (offer_at (B.kept book.old)) }
 {
-    let prefix = prefix_of(rt);
+    let prefix = prefix_of(0);
     turns(rt, book, prefix, comes(3, 65002, None, 2), Some(3));
     turns(rt, book, prefix, comes(1, 65001, Some(20), 1), Some(1));
     turns(rt, book, prefix, comes(2, 65001, Some(10), 3), Some(3));
