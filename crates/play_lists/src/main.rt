@@ -1,0 +1,107 @@
+//! Loads the payload lists of its data, and compares what that answers with what is told.
+//!
+//! The file `lists` names them, one a line; empty lines and lines that begin with `#` are passed over. Each `NAME.in` has
+//! several lists, each behind a line `# case`; `NAME.out` has the answers to each. A list is read as JSON or as
+//! comma-separated values, by `format_of`. It answers how many rows there are and how many are skipped, and then each
+//! payload of its set, a line each; or why it is refused. Each name has a line on standard output, and the last line
+//! counts them.
+//!
+//! Exit status 0 where all answer as told; 1 where one doesn't; 2 where a file can't be read or memory is wanting.
+#![tactic(auto)]
+
+ghost use Rattle.std.specs.Prelude.{⊤};
+
+use script_files::{Player, Shelf, Tally, Unplayed, play_listed};
+use std::alloc::{AllocGlobal, Global};
+use std::fs;
+use std::io::{self, LineWriter, Write};
+use std::process::ExitCode;
+use std::rt::Files;
+use vrp_csv::Loaded;
+use vrp_json::{ListFormat, format_of};
+
+/// The readers of payload lists.
+#[derive(Drop)]
+struct Readers {
+    alloc: Global,
+}
+
+impl Player for Readers {
+    // What they answer, the files show.
+    ghost answers = { λ player script found. ⊤ };
+
+    fn play(&self, script: &[u8]) -> Result<Vec<u8>, Unplayed> {
+        let mut answer = Vec::new(self.alloc);
+        match format_of(script) {
+            ListFormat::Json => match vrp_json::read_list(self.alloc, script) {
+                Ok(loaded) => tell(&loaded, &mut answer)?,
+                Err(fault) => writeln!(answer, "refused: {fault}")?,
+            },
+            ListFormat::Csv => match vrp_csv::read_list(self.alloc, script) {
+                Ok(loaded) => tell(&loaded, &mut answer)?,
+                Err(fault) => writeln!(answer, "refused: {fault}")?,
+            },
+        }
+        Ok(answer)
+    }
+}
+
+// Tells what was loaded.
+fn tell<W: Write>(loaded: &Loaded, answer: &mut W) -> io::Result<()> {
+    let (rows, skipped) = (loaded.rows, loaded.skipped);
+    writeln!(answer, "rows {rows} skipped {skipped}")?;
+    for payload in loaded.set.iter() {
+        writeln!(answer, "{payload}")?;
+    }
+    Ok(())
+}
+
+/// The files of the data, `NAME.in` and `NAME.out` for each name.
+#[derive(Drop)]
+struct Data<'a, R> {
+    rt: &'a R,
+}
+
+impl<'a, R: Files + AllocGlobal> Shelf for Data<'a, R> {
+    // What a file has is the system's.
+    ghost scripts = { λ shelf name text. ⊤ };
+
+    ghost told_texts = { λ shelf name text. ⊤ };
+
+    fn script(&self, name: &[u8]) -> Result<Vec<u8>, Unplayed> {
+        read(self.rt, name, "in")
+    }
+
+    fn told(&self, name: &[u8]) -> Result<Vec<u8>, Unplayed> {
+        read(self.rt, name, "out")
+    }
+}
+
+fn read<R: Files + AllocGlobal>(rt: &R, name: &[u8], ending: &str) -> Result<Vec<u8>, Unplayed> {
+    let Ok(name) = str::from_utf8(name) else {
+        return Err(Unplayed);
+    };
+    let path = format!(in rt.alloc(); "{name}.{ending}")?;
+    Ok(fs::read(rt, path.as_str())?)
+}
+
+fn run(rt: &HostRuntime) -> Result<Tally, Unplayed> {
+    let mut output = LineWriter::new(rt.alloc(), io::writer(rt))?;
+    let list = fs::read(rt, "lists")?;
+    let player = Readers { alloc: rt.alloc() };
+    let shelf = Data { rt };
+    let tally = play_listed(rt.alloc(), &player, &shelf, list.as_slice(), &mut output)?;
+    let (lists, as_told) = (tally.scripts(), tally.as_told);
+    writeln!(output, "{lists} files, {as_told} as told")?;
+    Ok(tally)
+}
+
+fn main(rt: HostRuntime) -> io::Result<ExitCode> {
+    match run(&rt) {
+        Ok(tally) => Ok(ExitCode::from(tally.status())),
+        Err(Unplayed) => {
+            eprintln!(rt; "play_lists: device")?;
+            Ok(ExitCode::from(2))
+        }
+    }
+}

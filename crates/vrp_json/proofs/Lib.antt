@@ -1,0 +1,5 @@
+mod Documents
+mod Entries
+mod Meanings
+mod ReadEntries
+mod Steps

@@ -1,0 +1,4 @@
+pub mod ListFormats
+pub mod PayloadDocument
+pub mod PayloadEntries
+pub mod Places
