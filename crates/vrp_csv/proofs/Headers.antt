@@ -1,7 +1,7 @@
 -- Headers, field by field.
 use Rattle.std.proofs.Common.{◌≡◌, ◌≤◌, ◌⊎◌, ◌++◌, ℕ, List, [], ◌∷◌, length, codes, Some, unwrap_or, inl, inr, refl, ap, arith}
 use Rattle.csv.specs.Records.{field_at}
-use Rattle.vrp_csv.specs.PayloadRows.{IsHeader, NamesPayloads, payload_names}
+use Rattle.vrp_csv.specs.PayloadRows.{IsHeader, NamesExtended, NamesPayloads, extended_names, payload_names}
 
 one_field : (a b : List ℕ) → Some a ≡ Some b → a ≡ b
 one_field a b h = ap (λ o. unwrap_or o []) h
@@ -23,26 +23,47 @@ five (a ∷ b ∷ []) h len last = absurd (omega (arith, len))
 five (a ∷ b ∷ c ∷ []) h len last = absurd (omega (arith, len))
 five (a ∷ b ∷ c ∷ d ∷ []) h len last = absurd (omega (arith, len))
 five (a ∷ b ∷ c ∷ d ∷ e ∷ []) h len last =
-    inr (λ i. one_field a _ h.0 i ∷ one_field b _ h.1 i ∷ one_field c _ h.2 i ∷ one_field d _ h.3 i ∷ one_field e _ last i ∷ [])
+    inr (inl (λ i. one_field a _ h.0 i ∷ one_field b _ h.1 i ∷ one_field c _ h.2 i ∷ one_field d _ h.3 i ∷ one_field e _ last i ∷ []))
 five (a ∷ b ∷ c ∷ d ∷ e ∷ f ∷ more) h len last = absurd (omega (arith, len))
+
+pub six : (fields : List (List ℕ)) → NamesExtended fields → length fields ≡ 6 → IsHeader fields
+unfolding field_at
+six [] h len = absurd (omega (arith, len))
+six (a ∷ []) h len = absurd (omega (arith, len))
+six (a ∷ b ∷ []) h len = absurd (omega (arith, len))
+six (a ∷ b ∷ c ∷ []) h len = absurd (omega (arith, len))
+six (a ∷ b ∷ c ∷ d ∷ []) h len = absurd (omega (arith, len))
+six (a ∷ b ∷ c ∷ d ∷ e ∷ []) h len = absurd (omega (arith, len))
+six (a ∷ b ∷ c ∷ d ∷ e ∷ f ∷ []) h len =
+    inr (inr (λ i. one_field a _ h.0 i ∷ one_field b _ h.1 i ∷ one_field c _ h.2 i ∷ one_field d _ h.3 i ∷ one_field e _ h.4 i ∷ one_field f _ h.5 i ∷ []))
+six (a ∷ b ∷ c ∷ d ∷ e ∷ f ∷ g ∷ more) h len = absurd (omega (arith, len))
 
 named : (more : List (List ℕ)) → NamesPayloads (payload_names ++ more)
 unfolding field_at
 named more = (refl, refl, refl, refl)
 
-pub names_from_header : (fields : List (List ℕ)) → IsHeader fields → NamesPayloads fields
-names_from_header fields (inl h) = rw h (named [])
-names_from_header fields (inr h) = rw h (named (codes "Expires" ∷ []))
+extended : NamesExtended extended_names
+unfolding field_at
+extended = (refl, refl, refl, refl, refl, refl)
 
 last_field : field_at (payload_names ++ codes "Expires" ∷ []) 4 ≡ Some (codes "Expires")
 unfolding field_at
 last_field = refl
 
-pub width_from_header : (fields : List (List ℕ)) → IsHeader fields → (length fields ≡ 4) ⊎ ((length fields ≡ 5) × (field_at fields 4 ≡ Some (codes "Expires")))
-width_from_header fields (inl h) = inl (ap length h)
-width_from_header fields (inr h) = inr (ap length h, rw h last_field)
+-- the kinds of header
+abbrev pub HeaderKind : List (List ℕ) → Type 0
+HeaderKind fields =
+    (NamesPayloads fields × (length fields ≡ 4))
+    ⊎ (NamesPayloads fields × (length fields ≡ 5) × (field_at fields 4 ≡ Some (codes "Expires")))
+    ⊎ (NamesExtended fields × (length fields ≡ 6))
+
+pub kind_from_header : (fields : List (List ℕ)) → IsHeader fields → HeaderKind fields
+kind_from_header fields (inl h) = inl (rw h (named []), ap length h)
+kind_from_header fields (inr (inl h)) = inr (inl (rw h (named (codes "Expires" ∷ [])), ap length h, rw h last_field))
+kind_from_header fields (inr (inr h)) = inr (inr (rw h extended, ap length h))
 
 -- a header has four fields or more
 pub wide_header : (fields : List (List ℕ)) → IsHeader fields → 4 ≤ length fields
 wide_header fields (inl h) = omega (arith, ap length h)
-wide_header fields (inr h) = omega (arith, ap length h)
+wide_header fields (inr (inl h)) = omega (arith, ap length h)
+wide_header fields (inr (inr h)) = omega (arith, ap length h)

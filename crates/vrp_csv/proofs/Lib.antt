@@ -1,6 +1,6 @@
-mod Digits
+pub mod Digits
 mod Headers
 mod Meanings
-mod ReadRows
+pub mod ReadRows
 mod RecordLists
 mod Rows

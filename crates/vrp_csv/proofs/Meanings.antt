@@ -8,7 +8,7 @@ use Rattle.net_prefix.proofs.Unique.{writes_one}
 use Rattle.net_prefix.specs.MaxLengths.{IsMaxLength}
 use Rattle.net_prefix.specs.PrefixText.{Writes}
 use Rattle.vrp_csv.specs.PayloadList.{AreRows, HasFaultBehind, IsLoad, IsRefused, IsRefusedBehind, IsStop}
-use Rattle.vrp_csv.specs.PayloadRows.{HasAsn, IsRow, field_of}
+use Rattle.vrp_csv.specs.PayloadRows.{HasAsn, IsRow, field_of, front_of}
 use Rattle.vrp_csv.specs.declared.fault.RowFault.{RowFault}
 use Rattle.vrp_csv.specs.declared.fault.RowFault.TheVariants as fault
 use Rattle.vrp_csv.specs.declared.list.Loaded.{Loaded}
@@ -26,14 +26,14 @@ colon_one false h k = cc h
 
 payload_one : (width : ℕ) (fields : List (List ℕ)) (v w : Vrp) → IsRow width fields (Ok (Some v)) → IsRow width fields (Ok (Some w)) → v ≡ w
 payload_one width fields v w h k =
-    let prefix = prefix_one (field_of fields 1) v.prefix w.prefix h.0.2 k.0.2 in
+    let prefix = prefix_one (field_of fields (front_of width + 1)) v.prefix w.prefix h.0.2 k.0.2 in
     let len = ap (λ (p : Prefix). p.len) prefix in
-    same_payload v w prefix (max_one w.prefix.len (field_of fields 2) v.max_len w.max_len (rw len at h.1) k.1) (asn_one width fields v.asn.0 w.asn.0 h.0.0 k.0.0)
+    same_payload v w prefix (max_one w.prefix.len (field_of fields (front_of width + 2)) v.max_len w.max_len (rw len at h.1) k.1) (asn_one width fields v.asn.0 w.asn.0 h.0.0 k.0.0)
 
 -- a payload's row has no other answer
 payload_or_max : (width : ℕ) (fields : List (List ℕ)) (v : Vrp) → IsRow width fields (Ok (Some v)) → IsRow width fields (Err fault.Max) → ⊥
 payload_or_max width fields v h (asn, prefix, has, none) =
-    let same = prefix_one (field_of fields 1) v.prefix prefix h.0.2 has.2 in
+    let same = prefix_one (field_of fields (front_of width + 1)) v.prefix prefix h.0.2 has.2 in
     let fits : IsMaxLength v.prefix.len v.max_len = (v.reaches, v.short) in
     let len = ap (λ (p : Prefix). p.len) same in
     none v.max_len (rw len at h.1) (rw len at fits)

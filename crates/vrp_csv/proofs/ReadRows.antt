@@ -43,10 +43,10 @@ any_push : {X : Type 0} (test : X → Bool) (xs : List X) (x : X) → list_any t
 any_push test [] x = refl
 any_push test (y ∷ ys) x = ap (λ b. test y || b) (any_push test ys x) ∙ joined (test y) (test x) (list_any test ys)
 
-count_push : {X : Type 0} (test : X → Bool) (xs : List X) (x : X) → count_by test (xs ++ x ∷ []) ≡ count_by test xs + cond (test x) 1 0
+pub count_push : {X : Type 0} (test : X → Bool) (xs : List X) (x : X) → count_by test (xs ++ x ∷ []) ≡ count_by test xs + cond (test x) 1 0
 count_push test xs x = sum_by-append (λ y. cond (test y) 1 0) xs (x ∷ []) ∙ ap (λ n. count_by test xs + n) (omega arith)
 
-set_push : (answers : List (Option Vrp)) (answer : Option Vrp) (old new : Loaded) → IsSetOf answers old.set.keys → TakesIn answer old new → IsSetOf (answers ++ answer ∷ []) new.set.keys
+pub set_push : (answers : List (Option Vrp)) (answer : Option Vrp) (old new : Loaded) → IsSetOf answers old.set.keys → TakesIn answer old new → IsSetOf (answers ++ answer ∷ []) new.set.keys
 set_push answers None old new h t =
     rw t.0 (h.0, λ payload. h.1 payload ∙ sym (any_push (gives payload) answers None))
 set_push answers (Some other) old new h t =
@@ -63,7 +63,7 @@ pub rows_more : (answer : Option Vrp) (old new : Loaded) → TakesIn answer old 
 rows_more None old new t = t.1
 rows_more (Some payload) old new t = t.1
 
-skipped_more : (answer : Option Vrp) (old new : Loaded) → TakesIn answer old new → new.skipped ≡ old.skipped + cond (is_none answer) 1 0
+pub skipped_more : (answer : Option Vrp) (old new : Loaded) → TakesIn answer old new → new.skipped ≡ old.skipped + cond (is_none answer) 1 0
 skipped_more None old new t = t.2
 skipped_more (Some payload) old new t = omega (arith, t.2)
 
@@ -95,7 +95,7 @@ takes_more width rows row answer old new left after (rest, is, before, whole, lo
       load_push width before row answer old new load row_is t,
     )
 
-append_nil : {X : Type 0} (xs : List X) → xs ++ [] ≡ xs
+pub append_nil : {X : Type 0} (xs : List X) → xs ++ [] ≡ xs
 append_nil [] = refl
 append_nil (x ∷ xs) = ap (λ l. x ∷ l) (append_nil xs)
 

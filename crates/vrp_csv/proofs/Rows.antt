@@ -1,5 +1,5 @@
 -- What a row's fields say, and that they say one thing.
-use Rattle.std.proofs.Common.{◌≡◌, ◌<◌, ◌≤◌, ◌∙◌, ℕ, List, Bor, length, Option, None, option_map, inl, inr, sym, ap, arith}
+use Rattle.std.proofs.Common.{◌≡◌, ◌<◌, ◌∙◌, ℕ, List, Bor, length, Option, None, option_map, inl, inr, sym, ap, arith}
 use Rattle.csv.specs.Records.{field_at}
 use Rattle.csv.proofs.RecordFacts.{field-there}
 use Rattle.net_prefix.specs.Cover.{HasNoHostBits}
@@ -12,9 +12,9 @@ use Rattle.net_prefix.proofs.Unique.{writes_one}
 use Rattle.vrp_csv.specs.PayloadRows.{WritesMax}
 
 -- a row of four fields or more has its first three
-pub no_field : (fields : List (List ℕ)) (place width : ℕ) (r : Option (Bor (List ℕ))) → length fields ≡ width → 4 ≤ width → place < 4 → option_map (λ (s : Bor (List ℕ)). s.now) r ≡ field_at fields place → r ≡ None → ⊥
-no_field fields place width r len wide near value none =
-    field-there fields place (omega (arith, len, wide, near)) (sym value ∙ ap (option_map (λ (s : Bor (List ℕ)). s.now)) none)
+pub no_field : (fields : List (List ℕ)) (place width : ℕ) (r : Option (Bor (List ℕ))) → length fields ≡ width → place < width → option_map (λ (s : Bor (List ℕ)). s.now) r ≡ field_at fields place → r ≡ None → ⊥
+no_field fields place width r len near value none =
+    field-there fields place (omega (arith, len, near)) (sym value ∙ ap (option_map (λ (s : Bor (List ℕ)). s.now)) none)
 
 -- a text that names no prefix writes none
 pub writes_none : (text : List ℕ) (fault : PrefixFault) → NamesNone text fault → (prefix : Prefix) → Writes text prefix.bits prefix.len → ⊥

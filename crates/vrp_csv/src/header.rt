@@ -1,16 +1,23 @@
 //! The first record of a payload list.
 ghost use Rattle.std.specs.Prelude.{◌≡◌, ◌↔◌, IsTrue, MatchOption, Some, length};
 ghost use Rattle.csv.specs.Records.{field_at, fields_of};
-ghost use Rattle.vrp_csv.specs.PayloadRows.{IsHeader, NamesPayloads};
+ghost use Rattle.vrp_csv.specs.PayloadRows.{IsHeader, NamesExtended, NamesPayloads};
 
 use csv::ByteRecord;
 
 /// How many fields each row has under this header, where these fields are one.
-#[tactic(auto, using(crate::proofs::Headers::four, crate::proofs::Headers::five, crate::proofs::Headers::names_from_header, crate::proofs::Headers::width_from_header))]
+#[tactic(auto, using(crate::proofs::Headers::four, crate::proofs::Headers::five, crate::proofs::Headers::six, crate::proofs::Headers::kind_from_header))]
 pub(crate) fn header_width(fields: &ByteRecord) -> Option<usize>
     ensures { MatchOption result (¬ (IsHeader (fields_of fields.now))) (λ width. IsHeader (fields_of fields.now) × (width ≡ length (fields_of fields.now))) }
 {
     let width = fields.len();
+    if width == 6 {
+        return if names_extended(fields) {
+            Some(width)
+        } else {
+            None
+        };
+    }
     if !names_payloads(fields) {
         return None;
     }
@@ -28,6 +35,18 @@ fn names_payloads(fields: &ByteRecord) -> bool
         && is_field(fields, 1, b"IP Prefix")
         && is_field(fields, 2, b"Max Length")
         && is_field(fields, 3, b"Trust Anchor")
+}
+
+// Whether the first six fields are those of a payload with its object's place and time.
+fn names_extended(fields: &ByteRecord) -> bool
+    ensures { IsTrue result ↔ NamesExtended (fields_of fields.now) }
+{
+    is_field(fields, 0, b"URI")
+        && is_field(fields, 1, b"ASN")
+        && is_field(fields, 2, b"IP Prefix")
+        && is_field(fields, 3, b"Max Length")
+        && is_field(fields, 4, b"Not Before")
+        && is_field(fields, 5, b"Not After")
 }
 
 // Whether there is this field at this place.

@@ -15,3 +15,4 @@ mod row;
 pub use fault::{CsvFault, RowFault};
 pub use list::{Loaded, read_list};
 pub use meaning::records_mean_one_thing;
+pub use row::{read_asn, read_number};

@@ -1,9 +1,9 @@
 //! The rows of a payload list.
-ghost use Rattle.std.specs.Prelude.{◌≡◌, ◌≢◌, ◌≤◌, ◌<◌, ◌^◌, ℕ, MatchOption, length};
+ghost use Rattle.std.specs.Prelude.{◌≡◌, ◌≢◌, ◌≤◌, ◌<◌, ◌+◌, ◌^◌, ℕ, MatchOption, length};
 ghost use Rattle.csv.specs.Records.{fields_of};
 ghost use Rattle.net_prefix.specs.PrefixText.{Writes};
 ghost use Rattle.net_prefix.specs.declared.prefix.Prefix.{Prefix};
-ghost use Rattle.vrp_csv.specs.PayloadRows.{IsRow, WritesAsn, WritesMax, WritesNumber, field_of, without_letters};
+ghost use Rattle.vrp_csv.specs.PayloadRows.{IsRow, WritesAsn, WritesMax, WritesNumber, field_of, front_of, without_letters};
 
 use crate::fault::RowFault;
 use csv::ByteRecord;
@@ -46,25 +46,33 @@ pub(crate) fn read_row(fields: &ByteRecord, width: usize) -> Result<Option<Vrp>,
 #[tactic(auto, using(crate::proofs::Rows::no_field))]
 fn first_fields(fields: &ByteRecord, width: usize) -> Option<(&[u8], &[u8], &[u8])>
     requires { 4 ≤ width }
-    ensures { MatchOption result (length (fields_of fields.now) ≢ width) (λ first. (length (fields_of fields.now) ≡ width) × (first.0.now ≡ field_of (fields_of fields.now) 0) × (first.1.now ≡ field_of (fields_of fields.now) 1) × (first.2.now ≡ field_of (fields_of fields.now) 2)) }
+    ensures { MatchOption result (length (fields_of fields.now) ≢ width) (λ first. (length (fields_of fields.now) ≡ width) × (first.0.now ≡ field_of (fields_of fields.now) (front_of width)) × (first.1.now ≡ field_of (fields_of fields.now) (front_of width + 1)) × (first.2.now ≡ field_of (fields_of fields.now) (front_of width + 2))) }
 {
     if fields.len() != width {
         return None;
     }
-    let Some(asn) = fields.get(0) else {
+    let front = front_of(width);
+    let Some(asn) = fields.get(front) else {
         return None;
     };
-    let Some(prefix) = fields.get(1) else {
+    let Some(prefix) = fields.get(front + 1) else {
         return None;
     };
-    let Some(max_len) = fields.get(2) else {
+    let Some(max_len) = fields.get(front + 2) else {
         return None;
     };
     Some((asn, prefix, max_len))
 }
 
-// The AS that the text writes: `AS` in either case or nothing, then digits.
-fn read_asn(text: &[u8]) -> Option<Asn>
+// How many fields stand in front of a payload's in rows of so many.
+fn front_of(width: usize) -> usize
+    ensures { result ≡ front_of width }
+{
+    if width == 6 { 1 } else { 0 }
+}
+
+/// The AS that the text writes: `AS` in either case or nothing, then digits.
+pub fn read_asn(text: &[u8]) -> Option<Asn>
     ensures { MatchOption result ((asn : ℕ) → ¬ (WritesAsn text.now asn)) (λ asn. WritesAsn text.now asn.0) }
 {
     match read_number(without_letters(text), ASN_DIGITS) {
@@ -112,8 +120,8 @@ fn read_max(text: &[u8], len: u8) -> Option<u8>
     }
 }
 
-// The number that the text writes in one decimal digit or more, and no more than so many.
-fn read_number(text: &[u8], most: usize) -> Option<u32>
+/// The number that the text writes in one decimal digit or more, and no more than so many.
+pub fn read_number(text: &[u8], most: usize) -> Option<u32>
     ensures { MatchOption result ((number : ℕ) → number < 2 ^ 32 → ¬ (WritesNumber most text.now number)) (λ number. WritesNumber most text.now number) }
 {
     // `parse` passes over a plus.
