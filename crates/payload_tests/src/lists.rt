@@ -22,8 +22,8 @@ fn rows_end_as_lines_do(rt: HostRuntime) {
 
 // A device that gives its octets one by one, and then fails.
 #[derive(Drop)]
-struct Failing<'a> {
-    octets: &'a [u8],
+pub(crate) struct Failing<'a> {
+    pub(crate) octets: &'a [u8],
 }
 
 impl<'a> Read for Failing<'a> {

@@ -1,0 +1,10 @@
+use Rattle.std.proofs.Common.{◌∙◌, ℕ, List, subst}
+use Rattle.vrp_json.specs.PayloadDocument.{IsRefused}
+use Rattle.payload_lists.proofs.list.read_json.Goals as goal
+
+pub returns-in-Err : goal.returns-in-Err
+returns-in-Err g c = λ rest left. c.fault_of.ensures _
+
+pub returns : goal.returns
+returns g c = λ rest left.
+    subst (λ (octets : List ℕ). IsRefused octets c.in-Err-read_list.fault) (c.as_slice.ensures.value ∙ (rw left at c.in_default.ensures.bytes)) c.in-Err-read_list.ensures

@@ -1,0 +1,81 @@
+//! Lists in either format, of a device that gives its octets one by one.
+
+use crate::lists::Failing;
+use payload_lists::{PayloadListFault, read_payloads};
+use std::alloc::Global;
+use std::io::Read;
+use vrp_csv::{CsvFault, RowFault};
+use vrp_json::JsonFault;
+
+const ROWS: &[u8] = b"ASN,IP Prefix,Max Length,Trust Anchor\nAS1,10.0.0.0/8,9,ta\n";
+
+const JSON: &[u8] =
+    b" \t\r\n {\"roas\": [{\"asn\": 1, \"prefix\": \"10.0.0.0/8\", \"maxLength\": 9}]}\n";
+
+// How many rows a list has whose device ends behind these octets, and how many payloads.
+fn counts(alloc: Global, octets: &[u8]) -> Option<(u64, usize)> {
+    let device = Failing { octets }.take(octets.len() as u64);
+    let loaded = read_payloads(alloc, device).ok()?;
+    Some((loaded.rows, loaded.set.len()))
+}
+
+#[test]
+fn a_list_may_come_octet_by_octet(rt: HostRuntime) {
+    assert!(rt; counts(rt.alloc(), ROWS) == Some((1, 1)));
+    assert!(rt; counts(rt.alloc(), JSON) == Some((1, 1)));
+}
+
+const FAILS_AT_ROW_0: PayloadListFault = PayloadListFault::Row(CsvFault {
+    fault: RowFault::Io,
+    row: 0,
+});
+
+const FAILS_AT_ROW_2: PayloadListFault = PayloadListFault::Row(CsvFault {
+    fault: RowFault::Io,
+    row: 2,
+});
+
+const NO_HEADER: PayloadListFault = PayloadListFault::Row(CsvFault {
+    fault: RowFault::Header,
+    row: 0,
+});
+
+// Lists whose device fails behind these octets, and why they are refused.
+#[rattlefmt::skip]
+const FAILING: [(&[u8], PayloadListFault); 6] = [
+    (b"",          FAILS_AT_ROW_0),
+    (b" \r\n\t",   FAILS_AT_ROW_0),
+    (b"ASN,IP",    FAILS_AT_ROW_0),
+    (ROWS,         FAILS_AT_ROW_2),
+    (b"\n{",       PayloadListFault::Io),
+    (JSON,         PayloadListFault::Io),
+];
+
+// Lists that end behind these octets.
+#[rattlefmt::skip]
+const ENDING: [(&[u8], PayloadListFault); 6] = [
+    (b"",              NO_HEADER),
+    (b" \r\n\t",       NO_HEADER),
+    (b"\xEF\xBB\xBF{}", NO_HEADER),
+    (b"[]",            NO_HEADER),
+    (b"\n{}",          PayloadListFault::Json(JsonFault::NoRoas)),
+    (b" {",            PayloadListFault::Json(JsonFault::Text(2))),
+];
+
+fn refusal<L: Read + Drop>(alloc: Global, list: L) -> Option<PayloadListFault> {
+    read_payloads(alloc, list).err()
+}
+
+#[test]
+fn a_failing_device_is_told_in_either_format(rt: HostRuntime) {
+    for (octets, fault) in &FAILING {
+        assert!(rt; refusal(rt.alloc(), Failing { octets: *octets }) == Some(*fault));
+    }
+}
+
+#[test]
+fn the_first_octet_tells_the_format(rt: HostRuntime) {
+    for (octets, fault) in &ENDING {
+        assert!(rt; refusal(rt.alloc(), *octets) == Some(*fault));
+    }
+}
