@@ -7,11 +7,11 @@ use Rattle.net_wires.specs.declared.readiness.Readiness.{Readiness}
 
 -- for reading and for writing
 abbrev pub for_both : Readiness
-for_both = record { may_read = true; may_write = true }
+for_both = record { may_read = true; may_write = true; is_ending = false }
 
 -- for what was known, and for what is told
 abbrev pub joined : Readiness → Readiness → Readiness
-joined told known = record { may_read = told.may_read || known.may_read; may_write = told.may_write || known.may_write }
+joined told known = record { may_read = told.may_read || known.may_read; may_write = told.may_write || known.may_write; is_ending = told.is_ending || known.is_ending }
 
 -- not for reading, and not for writing
 abbrev pub not_to_read : Readiness → Readiness
@@ -52,6 +52,7 @@ abbrev pub told_by : Event → Readiness
 told_by event = record {
   may_read = is_readable event || is_read_closed event || is_error event;
   may_write = is_writable event || is_write_closed event || is_error event;
+  is_ending = is_read_closed event || is_error event;
 }
 
 -- the number that names the listener

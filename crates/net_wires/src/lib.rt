@@ -13,6 +13,7 @@ mod net_socket;
 mod net_wire;
 mod readiness;
 mod router_event;
+mod system_sockets;
 mod waiter;
 
 pub use accept_fault::AcceptFault;

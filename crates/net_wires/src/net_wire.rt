@@ -1,21 +1,22 @@
 //! The system's TCP sockets.
-ghost use Rattle.std.specs.Prelude.{◌≡◌, IfOk, length};
-ghost use Rattle.wires.specs.Calls.{call_of};
-ghost use Rattle.wires.specs.Wires.{FitsIn, FitsInSent, calling, failing, nothing_told, one_more, told_by_attempt, told_by_read, told_by_write};
+ghost use Rattle.std.specs.Prelude.{◌≡◌, IfOk, None, Some, false, true};
+ghost use Rattle.wires.specs.Wires.{failing, one_more, told_by_attempt, told_by_read, told_by_write};
+ghost use Rattle.net_wires.specs.Opening.{opened_at, telling};
 
 use crate::accept_fault::AcceptFault;
 use crate::net_socket::NetSocket;
 use crate::readiness::Readiness;
 use crate::router_event::RouterEvent;
+use crate::system_sockets::SystemSockets;
 use crate::waiter::Waiter;
 use mio::net::TcpStream;
 use std::alloc::AllocGlobal;
-use std::io::{self, ErrorKind, Read, Write};
+use std::io::{self, ErrorKind};
 use std::marker::Model;
 use std::mem;
-use std::net::{self, Net, OpenListener, SocketAddr, TcpListener};
+use std::net::{self, Net, SocketAddr, TcpListener};
 use std::time::Duration;
-use wires::{Accepted, Attempt, Log, Note, Parting, Received, Sent, Wire};
+use wires::{Accepted, Attempt, Parting, Received, Sent, Wire};
 
 /// How long a program rests at most between two turns (own choice).
 pub const REST_MILLISECONDS: u64 = 50;
@@ -24,8 +25,7 @@ pub const REST_MILLISECONDS: u64 = 50;
 /// `wait` hear what has become ready; the system is asked to accept, to read and to write only where that may do something.
 #[derive(Drop)]
 pub struct NetWire<'a, R: Net<Listener = TcpListener, Stream = net::TcpStream> + AllocGlobal> {
-    net: &'a R,
-    listener: Option<TcpListener>,
+    system: SystemSockets<'a, R>,
     waiter: Waiter,
     faults: u64,
     accept_faults: u64,
@@ -33,7 +33,6 @@ pub struct NetWire<'a, R: Net<Listener = TcpListener, Stream = net::TcpStream> +
     sockets: u64,
     octets_in: u64,
     octets_out: u64,
-    calls: Log,
     // Whether a connection came or an attempt has led to one, or octets came or went, since the last wait.
     is_busy: bool,
     // What was seen since a connection was asked for last. Where there is no memory for more, it is left out.
@@ -44,40 +43,42 @@ pub struct NetWire<'a, R: Net<Listener = TcpListener, Stream = net::TcpStream> +
 
 impl<'a, R: Net<Listener = TcpListener, Stream = net::TcpStream> + AllocGlobal> Model
     for NetWire<'a, R> {
-    ghost use Rattle.wires.specs.Wires.{WireState};
+    ghost use Rattle.net_wires.specs.Opening.{OpenedWire};
 
-    ghost Value = { WireState };
+    ghost Value = { OpenedWire };
 
-    ghost view = { λ wire. record { faults = wire.faults; accept_faults = wire.accept_faults; ends = wire.ends; sockets = wire.sockets; octets_in = wire.octets_in; octets_out = wire.octets_out; calls = wire.calls.calls } };
+    ghost view = { λ wire. record {
+      listens = wire.system.listens;
+      state = record { faults = wire.faults; accept_faults = wire.accept_faults; ends = wire.ends; sockets = wire.sockets; octets_in = wire.octets_in; octets_out = wire.octets_out; calls = wire.system.calls };
+    } };
 }
 
 impl<'a, R: Net<Listener = TcpListener, Stream = net::TcpStream> + AllocGlobal> NetWire<'a, R> {
     /// A wire that only connects.
     pub fn new(net: &'a R) -> io::Result<Self>
-        ensures { IfOk result (λ wire. wire ≡ nothing_told) }
+        ensures { IfOk result (λ wire. wire ≡ opened_at None) }
     {
         NetWire::open(net, None)
     }
 
     /// A wire that listens at the address too.
     pub fn listening(net: &'a R, address: SocketAddr) -> io::Result<Self>
-        ensures { IfOk result (λ wire. wire ≡ nothing_told) }
+        ensures { IfOk result (λ wire. wire ≡ opened_at (Some address)) }
     {
         NetWire::open(net, Some(address))
     }
 
     /// A wire that listens too where an address is given.
     pub fn open(net: &'a R, address: Option<SocketAddr>) -> io::Result<Self>
-        ensures { IfOk result (λ wire. wire ≡ nothing_told) }
+        ensures { IfOk result (λ wire. wire ≡ opened_at address) }
     {
         let waiter = Waiter::new(net)?;
-        let listener = match address {
-            Some(address) => Some(listener_at(net, address, &waiter)?),
-            None => None,
-        };
+        let system = SystemSockets::open(net, address)?;
+        if let Some(listener) = system.listener() {
+            waiter.watch_listener(listener)?;
+        }
         Ok(NetWire {
-            net,
-            listener,
+            system,
             waiter,
             faults: 0,
             accept_faults: 0,
@@ -85,7 +86,6 @@ impl<'a, R: Net<Listener = TcpListener, Stream = net::TcpStream> + AllocGlobal> 
             sockets: 0,
             octets_in: 0,
             octets_out: 0,
-            calls: Log::new(),
             is_busy: false,
             events: Vec::new(net.alloc()),
             lacks_descriptors: false,
@@ -94,7 +94,7 @@ impl<'a, R: Net<Listener = TcpListener, Stream = net::TcpStream> + AllocGlobal> 
 
     /// Where the wire listens, if it does.
     pub fn local_address(&self) -> Option<SocketAddr> {
-        match &self.listener {
+        match self.system.listener() {
             Some(listener) => listener.local_addr().ok(),
             None => None,
         }
@@ -114,9 +114,9 @@ impl<'a, R: Net<Listener = TcpListener, Stream = net::TcpStream> + AllocGlobal> 
 
     // The next socket.
     fn next_socket(&mut self, stream: TcpStream, address: SocketAddr, known: Readiness) -> NetSocket
-        ensures number { result.number ≡ self.old.sockets }
+        ensures number { result.number ≡ self.old.state.sockets }
         ensures address { result.address ≡ address }
-        ensures tells { self.new ≡ record self.old { sockets = one_more self.old.sockets } }
+        ensures tells { self.new ≡ telling (λ state. record state { sockets = one_more state.sockets }) self.old }
     {
         let number = self.sockets;
         self.sockets = self.sockets.saturating_add(1);
@@ -127,32 +127,6 @@ impl<'a, R: Net<Listener = TcpListener, Stream = net::TcpStream> + AllocGlobal> 
             address,
             number,
             key,
-        }
-    }
-
-    // A connection that waits, where one may.
-    fn next_connection(&mut self) -> io::Result<Option<(net::TcpStream, SocketAddr)>>
-        ensures { self.new ≡ self.old }
-    {
-        let Some(listener) = &self.listener else {
-            return Ok(None);
-        };
-        if !self.waiter.may_accept {
-            return Ok(None);
-        }
-        match listener.accept() {
-            Ok((stream, address)) => {
-                self.is_busy = true;
-                self.lacks_descriptors = false;
-                // A connection that can't be made one that doesn't wait is gone.
-                let stays = stream.set_nonblocking(true).is_ok();
-                Ok(stays.then_some((stream, address)))
-            }
-            Err(error) if error.kind() == ErrorKind::WouldBlock => {
-                self.waiter.may_accept = false;
-                Ok(None)
-            }
-            Err(error) => Err(error),
         }
     }
 
@@ -168,122 +142,97 @@ impl<'a, R: Net<Listener = TcpListener, Stream = net::TcpStream> + AllocGlobal> 
 
     // Counts a fault.
     fn fail(&mut self)
-        ensures { self.new ≡ failing self.old }
+        ensures { self.new ≡ telling failing self.old }
     {
         self.faults = self.faults.saturating_add(1);
     }
 
-    // Keeps a call in mind, for proofs alone.
-    fn note(&mut self, note: &Note<'_>)
-        ensures { self.new ≡ calling (call_of note.now) self.old }
+    // Counts what an attempt tells.
+    fn count_attempt(&mut self, attempt: Attempt)
+        ensures { self.new ≡ telling (told_by_attempt attempt) self.old }
     {
-        self.calls = self.calls.then(note);
-    }
-
-    // Looks how an attempt stands, and counts what that tells.
-    fn look(&mut self, socket: &NetSocket) -> Attempt
-        ensures { self.new ≡ told_by_attempt result self.old }
-    {
-        if !self.waiter.sockets.readiness(socket.key).may_write {
-            return Attempt::Pending;
-        }
-        let attempt = socket.attempt();
         match attempt {
             Attempt::Connected => self.is_busy = true,
             Attempt::Pending => {}
             Attempt::Fault => self.fail(),
         }
-        attempt
     }
 
-    // Reads, and counts what that tells.
-    fn receive(&mut self, socket: &mut NetSocket, buf: &mut [u8]) -> Received
-        ensures bound { FitsIn (length buf.new) result }
-        ensures same { (socket.new.number ≡ socket.old.number) × (socket.new.address ≡ socket.old.address) }
-        ensures tells { self.new ≡ told_by_read result self.old }
+    // Counts what a read tells.
+    fn count_read(&mut self, received: Received)
+        ensures { self.new ≡ telling (told_by_read received) self.old }
     {
-        if !self.waiter.sockets.readiness(socket.key).may_read {
-            return Received::Nothing;
-        }
-        match socket.stream.read(buf) {
-            Ok(0) => {
-                self.ends = self.ends.saturating_add(1);
-                Received::End
-            }
-            Ok(count) => {
+        match received {
+            Received::Octets(count) => {
                 self.is_busy = true;
                 self.octets_in = self.octets_in.saturating_add(count as u64);
-                Received::Octets(count)
             }
-            Err(error) => match error.kind() {
-                ErrorKind::WouldBlock => {
-                    self.waiter.sockets.rest_reading(socket.key);
-                    Received::Nothing
-                }
-                ErrorKind::Interrupted => Received::Nothing,
-                _ => {
-                    self.fail();
-                    Received::Fault
-                }
-            },
+            Received::Nothing => {}
+            Received::End => self.ends = self.ends.saturating_add(1),
+            Received::Fault => self.fail(),
         }
     }
 
-    // Writes, and counts what that tells.
-    fn send(&mut self, socket: &mut NetSocket, octets: &[u8]) -> Sent
-        ensures bound { FitsInSent (length octets.now) result }
-        ensures same { (socket.new.number ≡ socket.old.number) × (socket.new.address ≡ socket.old.address) }
-        ensures tells { self.new ≡ told_by_write result self.old }
+    // Counts what a write tells.
+    fn count_write(&mut self, sent: Sent)
+        ensures { self.new ≡ telling (told_by_write sent) self.old }
     {
-        if !self.waiter.sockets.readiness(socket.key).may_write {
-            return Sent::Nothing;
-        }
-        match socket.stream.write(octets) {
-            Ok(count) => {
+        match sent {
+            Sent::Octets(count) => {
                 self.is_busy = true;
                 self.octets_out = self.octets_out.saturating_add(count as u64);
-                Sent::Octets(count)
             }
-            Err(error) => match error.kind() {
-                ErrorKind::WouldBlock => {
-                    self.waiter.sockets.rest_writing(socket.key);
-                    Sent::Nothing
-                }
-                ErrorKind::Interrupted => Sent::Nothing,
-                _ => {
-                    self.fail();
-                    Sent::Fault
-                }
-            },
+            Sent::Nothing => {}
+            Sent::Fault => self.fail(),
         }
     }
-}
 
-// A listener at the address, which is watched.
-fn listener_at<R: Net<Listener = TcpListener, Stream = net::TcpStream>>(
-    net: &R,
-    address: SocketAddr,
-    waiter: &Waiter,
-) -> io::Result<TcpListener> {
-    let listener = TcpListener::bind(net, address)?;
-    listener.set_nonblocking(true)?;
-    waiter.watch_listener(&listener)?;
-    Ok(listener)
+    // A connection that came.
+    fn take_in(&mut self, stream: TcpStream, address: SocketAddr) -> NetSocket
+        ensures number { result.number ≡ self.old.state.sockets }
+        ensures address { result.address ≡ address }
+        ensures tells { self.new ≡ telling (λ state. record state { sockets = one_more state.sockets }) self.old }
+    {
+        self.see(RouterEvent::Came(address));
+        self.next_socket(stream, address, Readiness::BOTH)
+    }
+
+    // What a fault of accepting leads to: whether the listener has failed.
+    fn judge_accept(&mut self, error: &io::Error) -> bool
+        ensures fails { result ≡ true → self.new ≡ telling (λ state. record state { faults = one_more state.faults; accept_faults = one_more state.accept_faults }) self.old }
+        ensures stays { result ≡ false → self.new ≡ self.old }
+    {
+        if error.kind() == ErrorKind::WouldBlock {
+            self.waiter.may_accept = false;
+            return false;
+        }
+        match AcceptFault::of(error) {
+            AcceptFault::OfOne => false,
+            AcceptFault::Wanting => {
+                self.lack_descriptors();
+                false
+            }
+            AcceptFault::OfAll => {
+                self.fail();
+                self.accept_faults = self.accept_faults.saturating_add(1);
+                true
+            }
+        }
+    }
 }
 
 impl<R: Net<Listener = TcpListener, Stream = net::TcpStream> + AllocGlobal> Wire
     for NetWire<'_, R> {
     type Socket = NetSocket;
 
-    ghost state = { λ wire. wire };
+    ghost state = { λ wire. wire.state };
 
     ghost number = { λ socket. socket.number };
 
     ghost address = { λ socket. socket.address };
 
     fn connect(&mut self, to: SocketAddr) -> Option<NetSocket> {
-        self.note(&Note::Connect(to));
-        match TcpStream::connect(self.net, to) {
+        match self.system.connect(to) {
             Ok(stream) => Some(self.next_socket(stream, to, Readiness::ATTEMPT)),
             Err(_) => {
                 self.fail();
@@ -293,60 +242,75 @@ impl<R: Net<Listener = TcpListener, Stream = net::TcpStream> + AllocGlobal> Wire
     }
 
     fn attempt(&mut self, socket: &mut NetSocket) -> Attempt {
-        let attempt = self.look(socket);
-        self.note(&Note::Try(socket.number, attempt));
+        let attempt = if self.waiter.sockets.readiness(socket.key).may_write {
+            self.system.attempt(socket)
+        } else {
+            self.system.leave_attempt(socket)
+        };
+        self.count_attempt(attempt);
         attempt
     }
 
     fn accept(&mut self) -> Accepted<NetSocket> {
         self.events.clear();
         self.waiter.poll(Duration::ZERO);
-        match self.next_connection() {
-            Ok(Some((stream, address))) => {
-                self.note(&Note::Accept(Some(address)));
-                self.see(RouterEvent::Came(address));
-                let stream = TcpStream::from_std(stream);
-                let socket = self.next_socket(stream, address, Readiness::BOTH);
-                Accepted::Connection(socket, address)
-            }
-            Ok(None) => {
-                self.note(&Note::Accept(None));
-                Accepted::Nothing
-            }
-            Err(error) => {
-                self.note(&Note::Accept(None));
-                match AcceptFault::of(&error) {
-                    AcceptFault::OfOne => Accepted::Nothing,
-                    AcceptFault::Wanting => {
-                        self.lack_descriptors();
-                        Accepted::Nothing
+        if self.system.listener().is_none() || !self.waiter.may_accept {
+            self.system.leave_accept();
+            return Accepted::Nothing;
+        }
+        match self.system.accept() {
+            Ok(came) => {
+                self.is_busy = true;
+                self.lacks_descriptors = false;
+                match came {
+                    Some((stream, address)) => {
+                        Accepted::Connection(self.take_in(stream, address), address)
                     }
-                    AcceptFault::OfAll => {
-                        self.fail();
-                        self.accept_faults = self.accept_faults.saturating_add(1);
-                        Accepted::Fault
-                    }
+                    None => Accepted::Nothing,
                 }
             }
+            Err(error) => match self.judge_accept(&error) {
+                true => Accepted::Fault,
+                false => Accepted::Nothing,
+            },
         }
     }
 
     fn read(&mut self, socket: &mut NetSocket, buf: &mut [u8]) -> Received {
-        let received = self.receive(socket, buf);
-        self.note(&Note::Read(socket.number, buf, received));
-        received
+        if !self.waiter.sockets.readiness(socket.key).may_read {
+            return self.system.leave_unread(socket, buf);
+        }
+        let answer = self.system.read(socket, buf);
+        if answer.would_wait {
+            self.waiter.sockets.rest_reading(socket.key);
+        }
+        self.count_read(answer.told);
+        answer.told
     }
 
     fn write(&mut self, socket: &mut NetSocket, octets: &[u8]) -> Sent {
-        let sent = self.send(socket, octets);
-        self.note(&Note::Write(socket.number, octets, sent));
-        sent
+        if !self.waiter.sockets.readiness(socket.key).may_write {
+            return self.system.leave_unwritten(socket, octets);
+        }
+        let answer = self.system.write(socket, octets);
+        if answer.would_wait {
+            self.waiter.sockets.rest_writing(socket.key);
+        }
+        self.count_write(answer.told);
+        answer.told
+    }
+
+    fn is_ending(&mut self, socket: &NetSocket) -> bool {
+        let known = self.waiter.sockets.readiness(socket.key);
+        // It is to be visited soon.
+        self.is_busy = known.is_ending || self.is_busy;
+        self.system.look(socket, known.is_ending)
     }
 
     fn close(&mut self, socket: NetSocket, parting: Parting) {
         self.waiter.sockets.remove(socket.key);
         self.see(RouterEvent::Went(socket.address, parting));
-        self.note(&Note::Close(socket.number, parting));
+        self.system.close(socket, parting);
     }
 
     // Behind a turn that moved anything there is no rest.

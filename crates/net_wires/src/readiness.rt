@@ -1,7 +1,7 @@
 //! What sockets may be ready for, as far as the system has told.
 ghost use Rattle.std.specs.Prelude.{◌≡◌, [], IfSome, IfNone, None, Some};
 ghost use Rattle.slab.specs.Slab.{SameValues, Updates, get};
-ghost use Rattle.net_wires.specs.Readiness.{AllMayBeReady, Changes, Forgets, joined, not_to_read, not_to_write, readiness_of};
+ghost use Rattle.net_wires.specs.Readiness.{AllMayBeReady, Changes, Forgets, for_both, joined, not_to_read, not_to_write, readiness_of};
 
 use slab::Slab;
 use std::alloc::Global;
@@ -12,6 +12,8 @@ use std::marker::Model;
 pub(crate) struct Readiness {
     pub may_read: bool,
     pub may_write: bool,
+    /// Whether the system has told that its connection ends.
+    pub is_ending: bool,
 }
 
 impl Readiness {
@@ -19,12 +21,14 @@ impl Readiness {
     pub const BOTH: Readiness = Readiness {
         may_read: true,
         may_write: true,
+        is_ending: false,
     };
 
     /// An attempt to connect is there once it may be written to.
     pub const ATTEMPT: Readiness = Readiness {
         may_read: true,
         may_write: false,
+        is_ending: false,
     };
 }
 
@@ -89,6 +93,7 @@ impl WatchedSockets {
         if let Some(known) = self.sockets.get_mut(key) {
             known.may_read = told.may_read || known.may_read;
             known.may_write = told.may_write || known.may_write;
+            known.is_ending = told.is_ending || known.is_ending;
         }
     }
 
@@ -97,7 +102,16 @@ impl WatchedSockets {
         ensures { AllMayBeReady self.new }
     {
         for key in 0..self.sockets.capacity() {
-            self.tell(key, Readiness::BOTH);
+            self.lose(key);
+        }
+    }
+
+    // What the system has told of the socket is lost.
+    fn lose(&mut self, key: usize)
+        ensures { Changes (λ known. for_both) (Some key) self.old self.new }
+    {
+        if let Some(known) = self.sockets.get_mut(key) {
+            *known = Readiness::BOTH;
         }
     }
 

@@ -117,5 +117,6 @@ fn told_by(event: &Event) -> Readiness
     Readiness {
         may_read: event.is_readable() || event.is_read_closed() || event.is_error(),
         may_write: event.is_writable() || event.is_write_closed() || event.is_error(),
+        is_ending: event.is_read_closed() || event.is_error(),
     }
 }

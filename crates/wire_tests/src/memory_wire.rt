@@ -304,6 +304,11 @@ impl Wire for MemoryWire {
         sent
     }
 
+    fn is_ending(&mut self, socket: &Plug) -> bool {
+        self.note(&Note::Look(socket.number, false));
+        false
+    }
+
     fn close(&mut self, socket: Plug, parting: Parting) {
         if let Some(router) = self.routers.get_mut(socket.router) {
             router.parting = Some(parting);

@@ -81,6 +81,18 @@ impl<W: Wire> Side<W> {
         Sent::Nothing
     }
 
+    // Whether it becomes known that the connection ends.
+    fn comes_to_an_end(&mut self) -> bool {
+        for _ in 0..TURNS {
+            let _none = self.wire.accept();
+            if self.wire.is_ending(&self.socket) {
+                return true;
+            }
+            self.wire.wait(short());
+        }
+        false
+    }
+
     // Whether a read finds nothing.
     fn is_at_rest(&mut self) -> bool {
         self.wire.read(&mut self.socket, &mut [0; 8]) == Received::Nothing
@@ -170,10 +182,12 @@ fn closes<W: Wire + Drop>(router: Side<W>) {
     wire.close(socket, Parting::Closed);
 }
 
-// The other hears what was said. Fewer octets come than the buffer holds, and the end of input is there already.
+// The other hears what was said. Fewer octets come than the buffer holds, and that the end of input is there already is known
+// before they are read.
 fn hears_the_last<W: Wire>(server: &mut Side<W>) -> bool {
     let mut buf = [0; 8];
-    server.received(&mut buf) == Received::Octets(3)
+    server.comes_to_an_end()
+        && server.received(&mut buf) == Received::Octets(3)
         && buf == [1, 2, 3, 0, 0, 0, 0, 0]
         && server.wire.ends() == 0
 }
@@ -190,7 +204,8 @@ fn part<W: Wire + Drop>(sides: Sides<W>) -> bool {
         mut server,
         mut router,
     } = sides;
-    let is_said = go_back(&mut server, &mut router) && says_the_last(&mut router);
+    let stands = !server.wire.is_ending(&server.socket);
+    let is_said = stands && go_back(&mut server, &mut router) && says_the_last(&mut router);
     closes(router);
     is_said && hears_the_last(&mut server) && hears_the_end(&mut server)
 }
@@ -228,6 +243,62 @@ fn goes_later<W: Wire + Drop>(sides: &mut Sides<W>) -> bool {
 #[test]
 fn room_that_comes_back_is_told(rt: HostRuntime) {
     assert!(rt; lend(over_loopback(&rt), |sides| goes_later(sides)));
+}
+
+// A buffer takes no more than it holds, and what is behind that comes with the next read.
+fn comes_in_pieces<W: Wire + Drop>(sides: &mut Sides<W>) -> bool {
+    let Sides { server, router } = sides;
+    let mut buf = [0; 2];
+    router.sent(&[1, 2, 3]) == Sent::Octets(3)
+        && server.received(&mut buf) == Received::Octets(2)
+        && buf == [1, 2]
+        && server.received(&mut buf) == Received::Octets(1)
+        && buf == [3, 2]
+}
+
+#[test]
+fn a_short_buffer_takes_what_it_holds(rt: HostRuntime) {
+    assert!(rt; lend(over_loopback(&rt), |sides| comes_in_pieces(sides)));
+}
+
+// Of more octets than the system holds a part goes, and just that comes.
+fn goes_in_part<W: Wire + Drop>(sides: &mut Sides<W>, octets: &[u8]) -> bool {
+    let Sides { server, router } = sides;
+    let Sent::Octets(count) = router.sent(octets) else {
+        return false;
+    };
+    count < octets.len() && router.wire.octets_out() == count as u64 && server.drains(count as u64)
+}
+
+#[test]
+fn a_full_buffer_takes_a_part(rt: HostRuntime) {
+    let octets = made(&rt, vec![in rt.alloc(); 7; 33_554_432]);
+    assert!(rt;
+        lend(
+            over_loopback(&rt),
+            |sides| goes_in_part(sides, octets.as_slice())
+        )
+    );
+}
+
+// One side closes the connection although it hasn't read all: the other is told a fault by the next read, and by a write.
+fn is_reset<W: Wire + Drop>(sides: Sides<W>) -> bool {
+    let Sides {
+        mut server,
+        mut router,
+    } = sides;
+    let is_left = router.sent(&[1, 2]) == Sent::Octets(2)
+        && server.received(&mut [0; 1]) == Received::Octets(1);
+    closes(server);
+    is_left
+        && router.received(&mut [0; 8]) == Received::Fault
+        && router.sent(&[3]) == Sent::Fault
+        && router.wire.faults() == 2
+}
+
+#[test]
+fn a_reset_is_a_fault(rt: HostRuntime) {
+    assert!(rt; is_reset(over_loopback(&rt)));
 }
 
 // An attempt at an address where nobody listens.

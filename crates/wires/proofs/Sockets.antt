@@ -1,7 +1,7 @@
 -- What calls of one socket carry, and that they carry nothing of another.
 use Rattle.std.proofs.Common.{◌≡◌, ◌≢◌, ◌==◌, ℕ, Bool, true, false, if◌then◌else◌, List, [], ◌∷◌, ◌++◌, refl, sym, ap, ◌∙◌, append_assoc, append-nil, take}
 use Rattle.std.proofs.lemmas.Bool.{ne_eqb}
-use Rattle.wires.specs.Calls.{WireCall, Accept, Close, Connect, Read, Try, Write}
+use Rattle.wires.specs.Calls.{WireCall, Accept, Close, Connect, Look, Read, Try, Write}
 use Rattle.wires.specs.Carried.{given, given_by, taken, taken_by}
 use Rattle.wires.specs.declared.wire.Received.TheVariants.{Octets as Came, Nothing as NoneCame, End, Fault as ReadFault}
 use Rattle.wires.specs.declared.wire.Sent.TheVariants.{Octets as Went, Nothing as NoneWent, Fault as WriteFault}
@@ -25,6 +25,7 @@ IsOfSocket number (Accept from) = Unit {0}
 IsOfSocket number (Read other buf received) = other ≡ number
 IsOfSocket number (Write other octets sent) = other ≡ number
 IsOfSocket number (Close other why) = Unit {0}
+IsOfSocket number (Look other is_ending) = Unit {0}
 
 abbrev pub AreOfSocket : ℕ → List WireCall → Type 0
 AreOfSocket number [] = Unit {0}
@@ -49,6 +50,7 @@ idle_call number other (Write k octets (Went count)) is differs =
 idle_call number other (Write k octets NoneWent) is differs = record { gives = refl; takes = refl }
 idle_call number other (Write k octets WriteFault) is differs = record { gives = refl; takes = refl }
 idle_call number other (Close k why) is differs = record { gives = refl; takes = refl }
+idle_call number other (Look k is_ending) is differs = record { gives = refl; takes = refl }
 
 pub idle_socket : (number other : ℕ) (calls : List WireCall) → AreOfSocket number calls → other ≢ number → IsIdle other calls
 idle_socket number other [] are differs = record { gives = refl; takes = refl }

@@ -1,10 +1,10 @@
 -- What a wire is asked, call by call, and what it answers.
-use Rattle.std.specs.Prelude.{◌≡◌, ◌⊎◌, ℕ, List, Option, Some, None, refl}
+use Rattle.std.specs.Prelude.{◌≡◌, ◌⊎◌, ℕ, Bool, List, Option, Some, None, refl}
 use Rattle.std.specs.declared.net.socket_addr.SocketAddr.{SocketAddr}
 use Rattle.std.specs.declared.net.socket_addr.SocketAddr.TheVariants.{V4, V6}
 use mathlib.Core.Logic.{inl, inr}
 use Rattle.std.specs.Coded.{Coded, code_by, coded×, coded⊎, coded_list, coded_ℕ}
-use base.Stored.{coded_unit}
+use base.Stored.{coded_bool, coded_unit}
 use Rattle.wires.specs.declared.log.Note.{Note}
 use Rattle.wires.specs.declared.log.Note.TheVariants as note
 use Rattle.wires.specs.declared.wire.Attempt.{Attempt}
@@ -24,6 +24,7 @@ pub data WireCall : Type 0 where
   Read : (number : ℕ) (buf : List ℕ) (received : Received) → WireCall  -- the buffer is as the read left it
   Write : (number : ℕ) (octets : List ℕ) (sent : Sent) → WireCall  -- all that was offered
   Close : (number : ℕ) (parting : Parting) → WireCall  -- why it ends
+  Look : (number : ℕ) (is_ending : Bool) → WireCall  -- whether the system has told that it ends
 
 -- what a wire notes of a call
 abbrev pub call_of : Note → WireCall
@@ -33,6 +34,7 @@ call_of (note.Accept from) = Accept from
 call_of (note.Read number buf received) = Read number buf.now received
 call_of (note.Write number octets sent) = Write number octets.now sent
 call_of (note.Close number parting) = Close number parting
+call_of (note.Look number is_ending) = Look number is_ending
 
 -- how proofs keep the answers of attempts, of reads and of writes, and why a connection ends
 abbrev attempt_sum : Attempt → Unit {0} ⊎ (Unit {0} ⊎ Unit {0})
@@ -149,7 +151,7 @@ address_code = code_by AddressSum (coded⊎ (coded× (coded_list coded_ℕ) code
 
 -- and the calls
 abbrev CallSum : Type 0
-CallSum = SocketAddr ⊎ ((ℕ × Attempt) ⊎ ((Unit {0} ⊎ SocketAddr) ⊎ ((ℕ × (List ℕ × Received)) ⊎ ((ℕ × (List ℕ × Sent)) ⊎ (ℕ × Parting)))))
+CallSum = SocketAddr ⊎ ((ℕ × Attempt) ⊎ ((Unit {0} ⊎ SocketAddr) ⊎ ((ℕ × (List ℕ × Received)) ⊎ ((ℕ × (List ℕ × Sent)) ⊎ ((ℕ × Parting) ⊎ (ℕ × Bool))))))
 
 abbrev call_sum : WireCall → CallSum
 call_sum (Connect to) = inl to
@@ -158,7 +160,8 @@ call_sum (Accept None) = inr (inr (inl (inl tt)))
 call_sum (Accept (Some from)) = inr (inr (inl (inr from)))
 call_sum (Read number buf received) = inr (inr (inr (inl (number, (buf, received)))))
 call_sum (Write number octets sent) = inr (inr (inr (inr (inl (number, (octets, sent))))))
-call_sum (Close number parting) = inr (inr (inr (inr (inr (number, parting)))))
+call_sum (Close number parting) = inr (inr (inr (inr (inr (inl (number, parting))))))
+call_sum (Look number is_ending) = inr (inr (inr (inr (inr (inr (number, is_ending))))))
 
 abbrev call_from : CallSum → WireCall
 call_from (inl to) = Connect to
@@ -167,7 +170,8 @@ call_from (inr (inr (inl (inl _)))) = Accept None
 call_from (inr (inr (inl (inr from)))) = Accept (Some from)
 call_from (inr (inr (inr (inl r)))) = Read r.0 r.1.0 r.1.1
 call_from (inr (inr (inr (inr (inl w))))) = Write w.0 w.1.0 w.1.1
-call_from (inr (inr (inr (inr (inr c))))) = Close c.0 c.1
+call_from (inr (inr (inr (inr (inr (inl c)))))) = Close c.0 c.1
+call_from (inr (inr (inr (inr (inr (inr l)))))) = Look l.0 l.1
 
 pub call_back : (call : WireCall) → call_from (call_sum call) ≡ call
 call_back (Connect to) = refl
@@ -177,9 +181,10 @@ call_back (Accept (Some from)) = refl
 call_back (Read number buf received) = refl
 call_back (Write number octets sent) = refl
 call_back (Close number parting) = refl
+call_back (Look number is_ending) = refl
 
 abbrev pub call_code : Coded WireCall
 call_code =
     code_by CallSum
-    (coded⊎ address_code (coded⊎ (coded× coded_ℕ attempt_code) (coded⊎ (coded⊎ coded_unit address_code) (coded⊎ (coded× coded_ℕ (coded× (coded_list coded_ℕ) received_code)) (coded⊎ (coded× coded_ℕ (coded× (coded_list coded_ℕ) sent_code)) (coded× coded_ℕ parting_code))))))
+    (coded⊎ address_code (coded⊎ (coded× coded_ℕ attempt_code) (coded⊎ (coded⊎ coded_unit address_code) (coded⊎ (coded× coded_ℕ (coded× (coded_list coded_ℕ) received_code)) (coded⊎ (coded× coded_ℕ (coded× (coded_list coded_ℕ) sent_code)) (coded⊎ (coded× coded_ℕ parting_code) (coded× coded_ℕ coded_bool)))))))
     call_sum call_from call_back

@@ -1,7 +1,7 @@
 -- What the calls of a wire make of it: each is kept in mind with its answer, and each fault, each end of input, each socket and each octet is counted.
-use Rattle.std.specs.Prelude.{◌≡◌, ◌+◌, ◌-◌, ◌^◌, ◌≤◌, ℕ, nat_lt, min, if◌then◌else◌, List, [], ◌∷◌, Option, Some, None, ⊤}
+use Rattle.std.specs.Prelude.{◌≡◌, ◌+◌, ◌-◌, ◌^◌, ◌≤◌, ℕ, Bool, nat_lt, min, if◌then◌else◌, List, [], ◌∷◌, Option, Some, None, ⊤}
 use Rattle.std.specs.declared.net.socket_addr.SocketAddr.{SocketAddr}
-use Rattle.wires.specs.Calls.{WireCall, Connect, Try, Accept, Read, Write, Close}
+use Rattle.wires.specs.Calls.{WireCall, Connect, Try, Accept, Read, Write, Close, Look}
 use Rattle.wires.specs.declared.wire.Accepted.{Accepted}
 use Rattle.wires.specs.declared.wire.Accepted.TheVariants.{Connection, Nothing as NoneWaits, Fault as AcceptFault}
 use Rattle.wires.specs.declared.wire.Attempt.{Attempt}
@@ -94,6 +94,10 @@ writing number octets sent wire = calling (Write number octets sent) (told_by_wr
 -- behind a close
 abbrev pub closing : ℕ → Parting → WireState → WireState
 closing number parting wire = calling (Close number parting) wire
+
+-- behind a look at whether the connection of a socket ends
+abbrev pub looking : ℕ → Bool → WireState → WireState
+looking number is_ending wire = calling (Look number is_ending) wire
 
 -- a read puts no more octets into a buffer than it holds
 abbrev pub FitsIn : ℕ → Received → Type 0

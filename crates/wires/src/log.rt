@@ -30,6 +30,8 @@ pub enum Note<'a> {
     /// All octets that were offered.
     Write(u64, &'a [u8], Sent),
     Close(u64, Parting),
+    /// Whether its connection is known to end.
+    Look(u64, bool),
 }
 
 impl Log {

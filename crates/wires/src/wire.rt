@@ -1,7 +1,7 @@
 //! What turns ask of sockets.
 ghost use Rattle.std.specs.Prelude.{◌≡◌, ℕ, length};
 ghost use Rattle.std.specs.declared.net.socket_addr.SocketAddr.{SocketAddr as Address};
-ghost use Rattle.wires.specs.Wires.{FitsIn, FitsInSent, IsSocketTo, IsSocketThatCame, WireState, accepting, attempting, closing, connecting, reading, writing};
+ghost use Rattle.wires.specs.Wires.{FitsIn, FitsInSent, IsSocketTo, IsSocketThatCame, WireState, accepting, attempting, closing, connecting, looking, reading, writing};
 
 use std::net::SocketAddr;
 use std::time::Duration;
@@ -114,6 +114,11 @@ pub trait Wire {
         ensures bound { FitsInSent (length octets.now) result }
         ensures same { (number socket.new ≡ number socket.old) × (address socket.new ≡ address socket.old) }
         ensures tells { state self.new ≡ writing (number socket.old) octets.now result (state self.old) };
+
+    /// Whether it is known that the connection ends: its other side sends no more, or it has failed. What came before may
+    /// still be there to be read.
+    fn is_ending(&mut self, socket: &Self::Socket) -> bool
+        ensures { state self.new ≡ looking (number socket.now) result (state self.old) };
 
     /// Ends the connection.
     fn close(&mut self, socket: Self::Socket, parting: Parting)
