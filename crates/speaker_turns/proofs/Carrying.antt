@@ -19,14 +19,14 @@ use Rattle.wires.specs.declared.wire.Parting.TheVariants as parting
 use Rattle.wires.proofs.Counting.{goes_on, goes_on_by_one}
 use Rattle.wires.proofs.Sockets.{IsIdle, given-on, idle_on, taken-on}
 use Rattle.speaker_turns.specs.Carrying.{CarriesOwn, ComesLast, IsFresh, StaysUp, handed, heard}
-use Rattle.speaker_turns.specs.Ends.{end_at, place_count}
-use Rattle.speaker_turns.specs.Serving.{Begins, Connection, PlaceState, Sides, Visits, seated, up}
-use Rattle.speaker_turns.specs.Sessions.{Asks, Makes, Ticks, asked_in, up_call, wanted_transport_of}
-use Rattle.speaker_turns.specs.Turns.{Accepts, AtAll, AtPlace, AtPlaces, GivesWay, IsTold, LetsIn, NoneComes, SitsDown, Stops, StopsTurn, TakesTurn, TakesTurns, Turned, Turns, TurnsAway, counted, has_opened, place_at, sides, vacant}
+use Rattle.speaker_turns.specs.Ends.{end_at, place_count, place_of}
+use Rattle.speaker_turns.specs.Serving.{Begins, Connection, PlaceState, Sides, seated, up}
+use Rattle.speaker_turns.specs.Sessions.{Asks, Makes, Ticks, up_call, wanted_transport_of}
+use Rattle.speaker_turns.specs.Turns.{Accepts, AtAll, AtPlace, AtPlaces, GivesWay, IsTold, LetsIn, NoneComes, SitsDown, Stops, TakesTurn, TakesTurns, Turns, TurnsAway, VisitsAll, VisitsBut, has_opened, is_off, is_the_one, next_behind, place_at, sides, vacant}
 use Rattle.speaker_turns.specs.declared.end.End.{End}
 use Rattle.speaker_turns.specs.declared.place.Visit.{Visit}
-use Rattle.speaker_turns.proofs.Asking.{AreOf, Silent, handed-on, heard-on, makes_none, makes_on, of_up, silent, up-on}
-use Rattle.speaker_turns.proofs.Effects.{After, Effect, NotThere, Standing, begins_effect, gives_way_effect, visits_effect}
+use Rattle.speaker_turns.proofs.Asking.{Silent, handed-on, heard-on, makes_none, makes_on, of_up, silent, up-on}
+use Rattle.speaker_turns.proofs.Effects.{After, Effect, Standing, begins_effect, gives_way_effect, visits_unless_effect}
 use Rattle.speaker_turns.proofs.Effects.After.{Begun, Goes, Gone, SitsDown as NowSits}
 use Rattle.speaker_turns.proofs.Effects.Standing.{Comes, Keeps, Tries}
 use Rattle.speaker_turns.proofs.Places.{as_many, counted_wire, elsewhere, here}
@@ -532,11 +532,32 @@ told_leads now old new all told =
 begins_lead : (old new : Turns) → length old.places ≡ place_count → AtAll Begins old new → LeadsOn old new
 begins_lead old new all begins = all_lead Begins begins_effect old new all begins
 
+-- from where on the next turn looks is nothing that sockets carry
+next_leads : (old new : Turns) (next : ℕ) → new ≡ record old { next = next } → LeadsOn old new
+next_leads old new next same =
+    passes_lead old new
+    (record {
+      asks = [];
+      calls = [];
+      makes = makes_none old.speaker new.speaker (ap (λ (t : Turns). t.speaker) same);
+      told = ap (λ (t : Turns). t.counts.wire.calls) same;
+      sockets = omega (arith, ap (λ (t : Turns). t.counts.wire.sockets) same);
+      quiet = quiet_none;
+      rests = λ number. record { gives = refl; takes = refl };
+      same = ap (λ (t : Turns). t.places) same;
+    })
+
+visits_lead : (now : ℕ) (old new : Turns) → length old.places ≡ place_count → VisitsAll now old new → LeadsOn old new
+visits_lead now old new all visits =
+    leads_both old visits.visited new
+    (all_lead (VisitsBut old.next visits.one now) (λ key place before visit left behind few unless. visits_unless_effect (is_off old.next visits.one (place_of (end_at key))) key now place before visit (is_the_one visits.one (place_of (end_at key))) left behind few unless) old visits.visited all visits.visits)
+    (next_leads visits.visited new (next_behind visits.one) visits.goes_on)
+
 turn_leads : (now : ℕ) (old new : Turns) (result : Result (Unit {0}) LoopFault) → length old.places ≡ place_count → TakesTurn now old result new → LeadsOn old new
 turn_leads now old new (Ok nothing) all turn =
     let begins = begins_lead old turn.begun all turn.begins in
     let accepts = accepts_lead turn.begun turn.admitted (begins.all ∙ all) turn.accepts in
-    let visits = all_lead (Visits now) (λ key. visits_effect key now) turn.admitted turn.visited (accepts.all ∙ (begins.all ∙ all)) turn.visits in
+    let visits = visits_lead now turn.admitted turn.visited (accepts.all ∙ (begins.all ∙ all)) turn.visits in
     leads_both old turn.begun new begins
     (leads_both turn.begun turn.admitted new accepts
     (leads_both turn.admitted turn.visited new visits (told_leads now turn.visited new (visits.all ∙ (accepts.all ∙ (begins.all ∙ all))) turn.tells)))

@@ -1,12 +1,12 @@
 -- What turns count, one step after another: the connections lost are those of the wire's faults, of its ends of input and of the loop's closes.
-use Rattle.std.proofs.Common.{◌≡◌, ◌<◌, ◌≤◌, ◌+◌, ◌-◌, ◌^◌, ℕ, zero, suc, Bool, false, true, List, [], ◌∷◌, refl, sym, ap, ◌∙◌, subst, arith, inl, inr, ◌⊎◌, Option, Some, None, Result, Ok, Err, length}
+use Rattle.std.proofs.Common.{◌≡◌, ℕ, zero, suc, Bool, false, true, List, [], ◌∷◌, refl, sym, ap, ◌∙◌, subst, arith, inl, inr, Option, Some, None, Result, Ok, Err, length}
 use Rattle.std.specs.declared.net.socket_addr.SocketAddr.{SocketAddr}
 use Rattle.net_prefix.specs.declared.transport.Transport.{Transport}
 use Rattle.net_prefix.specs.declared.transport.Transport.TheVariants as transport
 use Rattle.speaker.specs.FirstRefusal.{awaits_up, may_bring_octets}
 use Rattle.speaker.specs.declared.event.Report.{Report}
-use Rattle.wires.specs.Counts.{AreBelowGreatest, Counts, LosesJust, LosesNoMore, losing_one}
-use Rattle.wires.specs.Wires.{WireState, attempting, closing, one_more, reading, writing}
+use Rattle.wires.specs.Counts.{Counts, LosesJust, LosesNoMore}
+use Rattle.wires.specs.Wires.{WireState, attempting, one_more, reading, writing}
 use Rattle.wires.specs.declared.fault.LoopFault.{LoopFault}
 use Rattle.wires.specs.declared.fault.LoopFault.TheVariants.{Accept}
 use Rattle.wires.specs.declared.wire.Attempt.{Attempt}
@@ -16,11 +16,11 @@ use Rattle.wires.specs.declared.wire.Received.TheVariants.{Octets as Came, Nothi
 use Rattle.wires.specs.declared.wire.Sent.{Sent}
 use Rattle.wires.specs.declared.wire.Sent.TheVariants.{Octets as Went, Nothing as NoneWent, Fault as WriteFault}
 use Rattle.wires.proofs.Counting.{LosesAsCounted, counted_as, goes_on, goes_on_by_one, loses_both, loses_by_close, loses_by_end, loses_by_fault, loses_none, loses_nothing, no_more}
-use Rattle.speaker_turns.specs.Ends.{end_at}
+use Rattle.speaker_turns.specs.Ends.{end_at, place_of}
 use Rattle.speaker_turns.specs.Losses.{LosesAllButOne}
-use Rattle.speaker_turns.specs.Serving.{Answers, AnswersAt, Attends, AttendsAttempt, AttendsUp, Begins, BeginsTo, Connection, Finds, GivesWayIf, GivesWayUp, GivesWayWhat, GoesOn, IsUnwanted, Looks, PlaceState, Reads, Serves, Settles, Sides, Visits, VisitsWhat, awaited_at, found_at_rest, found_by_write, found_up, is_opening, judged}
+use Rattle.speaker_turns.specs.Serving.{Answers, AnswersAt, Attends, AttendsAttempt, AttendsUp, Begins, BeginsTo, Connection, Finds, GivesWayIf, GivesWayUp, GivesWayWhat, GoesOn, IsUnwanted, Looks, LooksUp, LooksWhat, PlaceState, Reads, Serves, Settles, Sides, Visits, VisitsTold, VisitsWhat, awaited_at, found_at_rest, found_by_write, found_up, is_opening, judged}
 use Rattle.speaker_turns.specs.Sessions.{transport_of, wanted_transport_of}
-use Rattle.speaker_turns.specs.Turns.{Accepts, AtAll, AtPlace, AtPlaces, GivesWay, IsTold, LetsIn, SitsDown, TakesTurn, Turned, Turns, counted, has_opened, place_at, sides}
+use Rattle.speaker_turns.specs.Turns.{Accepts, AtPlaces, GivesWay, SitsDown, TakesTurn, Turned, Turns, VisitsBut, counted, has_opened, is_off, is_the_one, place_at, sides}
 use Rattle.speaker_turns.specs.declared.end.End.{End}
 use Rattle.speaker_turns.specs.declared.place.Visit.{Visit}
 use Rattle.speaker_turns.specs.declared.place.Visit.TheVariants.{Stays, Faulty, Ended, Closed, Overdue, Unwanted}
@@ -188,6 +188,25 @@ visits_tell now end old before visit left behind visits = by_line old.line visit
         tells_on visit before.wire v.served.wire behind.wire (attends_tell line.is_up end now line old.waiting before visit v.after v.left v.served v.attends)
         (settles_tell visit end v.after v.served behind v.settles)
 
+visits_but_tell : (next : ℕ) (one : Option ℕ) (now : ℕ) → TellsAll (VisitsBut next one now)
+visits_but_tell next one now end old before visit left behind unless = by_line old.line unless.looks
+  where
+    visited : (told is_off is_one : Bool) → VisitsTold told is_off now end old (record before { wire = unless.wire }) visit is_one left behind → Tells visit unless.wire behind.wire
+    visited false is_off is_one visits = visits_tell now end old (record before { wire = unless.wire }) visit left behind visits.1
+    visited true false is_one visits = visits_tell now end old (record before { wire = unless.wire }) visit left behind visits.1
+    visited true true is_one off = tells_found visit Stays unless.wire behind.wire off.1.visit_is (told_same unless.wire behind.wire (ap (λ (s : Sides). s.wire) off.1.sides_are))
+
+    behind_same : unless.wire.faults ≡ before.wire.faults → unless.wire.ends ≡ before.wire.ends → Tells visit before.wire behind.wire
+    behind_same faults ends = goes_on_tells visit before.wire unless.wire behind.wire faults ends (visited unless.told (is_off next one (place_of end)) (is_the_one one (place_of end)) unless.visits)
+
+    by_up : (up : Bool) (line : Connection) → LooksUp up line before.wire unless.told unless.wire → Tells visit before.wire behind.wire
+    by_up false line looks = behind_same (ap (λ (w : WireState). w.faults) looks.1) (ap (λ (w : WireState). w.ends) looks.1)
+    by_up true line looks = behind_same (ap (λ (w : WireState). w.faults) looks) (ap (λ (w : WireState). w.ends) looks)
+
+    by_line : (line : Option Connection) → LooksWhat line before.wire unless.told unless.wire → Tells visit before.wire behind.wire
+    by_line None looks = behind_same (ap (λ (w : WireState). w.faults) looks.1) (ap (λ (w : WireState). w.ends) looks.1)
+    by_line (Some line) looks = by_up line.is_up line looks
+
 gives_tell : (report : Report) → TellsAll (GivesWay report)
 gives_tell report end old before visit left behind gives =
     tells_found visit Stays before.wire behind.wire gives.visit_is (by_test (has_opened report end) gives.gives)
@@ -224,7 +243,8 @@ turned_loses : (now : ℕ) (old new : Turns) → Turned now old new → LosesAsC
 turned_loses now old new turn =
     loses_both _ _ _ (at_places_lose Begins begins_tell (length old.places) old turn.begun turn.begins)
     (loses_both _ _ _ (accepts_lose turn.begun turn.admitted turn.accepts)
-    (loses_both _ _ _ (at_places_lose (Visits now) (visits_tell now) (length turn.admitted.places) turn.admitted turn.visited turn.visits)
+    (loses_both _ _ _ (counted_as _ _ _ (ap (λ (t : Turns). t.counts) turn.visits.goes_on)
+    (at_places_lose (VisitsBut turn.admitted.next turn.visits.one now) (visits_but_tell turn.admitted.next turn.visits.one now) (length turn.admitted.places) turn.admitted turn.visits.visited turn.visits.visits))
     (loses_both _ _ _ (counted_as turn.visited.counts turn.visited.counts turn.tells.told.counts (ap (λ (t : Turns). t.counts) turn.tells.same) (loses_none turn.visited.counts))
     (at_places_lose (GivesWay turn.tells.report) (gives_tell turn.tells.report) (length turn.tells.told.places) turn.tells.told new turn.tells.gives_way))))
 

@@ -1,11 +1,10 @@
 -- What happens at the place of one session: which calls are made for it, and what stands there behind them.
-use Rattle.std.proofs.Common.{◌≡◌, ◌≢◌, ◌≤◌, ◌<◌, ◌⊎◌, ℕ, Bool, true, false, List, [], ◌∷◌, ◌++◌, refl, sym, ap, subst, ◌∙◌, append-nil, inl, inr, Option, Some, None, arith}
-use Rattle.std.proofs.lemmas.Option.{same_Some}
+use Rattle.std.proofs.Common.{◌≡◌, ◌≢◌, ◌≤◌, ◌<◌, ℕ, Bool, true, false, List, [], ◌∷◌, ◌++◌, refl, sym, ap, subst, ◌∙◌, append_assoc, append-nil, inl, inr, Option, Some, None, arith}
 use Rattle.speaker.specs.FirstRefusal.{awaits_up, may_bring_octets, may_fail}
 use Rattle.speaker.specs.Runs.{Call}
 use Rattle.speaker.specs.SpeakerState.{SpeakerState}
-use Rattle.wires.specs.Calls.{WireCall, Close, Connect, Try}
-use Rattle.wires.specs.Carried.{given, taken}
+use Rattle.wires.specs.Calls.{WireCall, Close, Connect, Look, Try}
+use Rattle.wires.specs.Carried.{given, given_by, taken, taken_by}
 use Rattle.wires.specs.Wires.{WireState, attempting, one_more}
 use Rattle.wires.specs.declared.wire.Attempt.{Attempt}
 use Rattle.wires.specs.declared.wire.Attempt.TheVariants.{Connected, Pending, Fault as AttemptFault}
@@ -15,7 +14,7 @@ use Rattle.wires.proofs.Counting.{goes_on}
 use Rattle.wires.proofs.Sockets.{AreOfSocket, IsIdle, idle_socket}
 use Rattle.speaker_turns.specs.Carrying.{ComesLast, StaysUp, handed, heard}
 use Rattle.speaker_turns.specs.Ends.{end_at}
-use Rattle.speaker_turns.specs.Serving.{Attempts, Attends, AttendsAttempt, AttendsUp, Begins, BeginsTo, ComesUp, Connection, FailsToAttempt, Fails, Finds, GivesWayIf, GivesWayUp, GivesWayWhat, IsUnwanted, Looks, Loses, PlaceState, Settles, Sides, Visits, VisitsLine, VisitsWhat, awaited_at, is_opening, line_left}
+use Rattle.speaker_turns.specs.Serving.{Attends, AttendsAttempt, AttendsUp, Begins, BeginsTo, Connection, Finds, GivesWayIf, GivesWayUp, GivesWayWhat, IsUnwanted, Looks, LooksUp, LooksWhat, Loses, PlaceState, Settles, Sides, Visits, VisitsTold, VisitsUnless, VisitsWhat, awaited_at, is_opening, line_left}
 use Rattle.speaker_turns.specs.Sessions.{Asks, Makes, fail_call, transport_of, up_call, wanted_transport_of}
 use Rattle.speaker_turns.specs.declared.place.Visit.{Visit}
 use Rattle.speaker_turns.specs.declared.place.Visit.TheVariants.{Stays, Faulty, Ended, Closed, Overdue, Unwanted}
@@ -23,7 +22,7 @@ use Rattle.net_prefix.specs.declared.transport.Transport.{Transport}
 use Rattle.net_prefix.specs.declared.transport.Transport.TheVariants as transport
 use Rattle.std.specs.declared.net.socket_addr.SocketAddr.{SocketAddr}
 use Rattle.speaker_turns.proofs.Asking.{AreOf, are-on, are_made, asks_makes, if_made, makes_none, makes_on, of_fail, of_up}
-use Rattle.speaker_turns.proofs.Exchanges.{Carries, Served, nothing_carries, serves_carries}
+use Rattle.speaker_turns.proofs.Exchanges.{serves_carries}
 
 -- how what stood at a place stands behind these calls: a connection has carried more, an attempt is one still, or has led to a connection
 pub data Standing (key : ℕ) (line after : Connection) (waiting left : List ℕ) (asks : List Call) (calls : List WireCall) : Type 0 where
@@ -291,6 +290,69 @@ visits_effect key now old before visit left behind few visits = by_line old.line
         settled_effect visit key line v.after old before v.served v.left left behind few is
         (attends_tended line.is_up key now line old.waiting before visit v.after v.left v.served few refl v.attends)
         v.settles v.place_is
+
+-- a look carries nothing
+given_behind_look : (number other : ℕ) (told : Bool) (calls : List WireCall) → given number (calls ++ Look other told ∷ []) ≡ given number calls
+given_behind_look number other told [] = refl
+given_behind_look number other told (call ∷ calls) = ap (λ (l : List ℕ). l ++ given_by number call) (given_behind_look number other told calls)
+
+taken_behind_look : (number other : ℕ) (told : Bool) (calls : List WireCall) → taken number (calls ++ Look other told ∷ []) ≡ taken number calls
+taken_behind_look number other told [] = refl
+taken_behind_look number other told (call ∷ calls) = ap (λ (l : List ℕ). l ++ taken_by number call) (taken_behind_look number other told calls)
+
+idle_behind_look : (number other : ℕ) (told : Bool) (calls : List WireCall) → IsIdle number calls → IsIdle number (calls ++ Look other told ∷ [])
+idle_behind_look number other told calls idle =
+    record { gives = given_behind_look number other told calls ∙ idle.gives; takes = taken_behind_look number other told calls ∙ idle.takes }
+
+standing_behind_look : (key : ℕ) (line after : Connection) (waiting left : List ℕ) (asks : List Call) (calls : List WireCall) (other : ℕ) (told : Bool) → Standing key line after waiting left asks calls → Standing key line after waiting left asks (calls ++ Look other told ∷ [])
+standing_behind_look key line after waiting left asks calls other told (Keeps was is up hears takes) =
+    Keeps was is up (hears ∙ sym (given_behind_look line.number other told calls)) (takes ∙ ap (λ (l : List ℕ). l ++ left) (sym (taken_behind_look line.number other told calls)))
+standing_behind_look key line after waiting left asks calls other told (Tries was is same idle) = Tries was is same (idle_behind_look line.number other told calls idle)
+standing_behind_look key line after waiting left asks calls other told (Comes was is same idle last) = Comes was is same (idle_behind_look line.number other told calls idle) last
+
+after_behind_look : (key : ℕ) (old : PlaceState) (before looked behind : WireState) (asks : List Call) (calls : List WireCall) (left : PlaceState) (other : ℕ) (told : Bool) → looked.sockets ≡ before.sockets → After key old looked behind asks calls left → After key old before behind asks (calls ++ Look other told ∷ []) left
+after_behind_look key old before looked behind asks calls left other told same (Gone none) = Gone none
+after_behind_look key old before looked behind asks calls left other told same (Goes line after was is number stands) =
+    Goes line after was is number (standing_behind_look key line after old.waiting left.waiting asks calls other told stands)
+after_behind_look key old before looked behind asks calls left other told same (Begun after is number down sockets none idle) =
+    Begun after is (number ∙ same) down (sockets ∙ ap one_more same) none (λ number. idle_behind_look number other told calls (idle number))
+after_behind_look key old before looked behind asks calls left other told same (SitsDown after is number up sockets none idle last) =
+    SitsDown after is (number ∙ same) up (sockets ∙ ap one_more same) none (λ number. idle_behind_look number other told calls (idle number)) last
+
+-- what happens behind a look
+behind_look : (key : ℕ) (old : PlaceState) (before : Sides) (wire : WireState) (left : PlaceState) (behind : Sides) (other : ℕ) (told : Bool) → wire.calls ≡ Look other told ∷ before.wire.calls → wire.sockets ≡ before.wire.sockets → Effect key old (record before { wire = wire }) left behind → Effect key old before left behind
+behind_look key old before wire left behind other told calls sockets effect =
+    record {
+      asks = effect.asks;
+      calls = effect.calls ++ Look other told ∷ [];
+      makes = effect.makes;
+      told = effect.told ∙ (ap (λ (l : List WireCall). effect.calls ++ l) calls ∙ sym (append_assoc effect.calls (Look other told ∷ []) before.wire.calls));
+      sockets = omega (arith, effect.sockets, sockets);
+      of_session = effect.of_session;
+      rests = λ number apart. idle_behind_look number other told effect.calls (effect.rests number apart);
+      after = after_behind_look key old before.wire wire behind.wire effect.asks effect.calls left other told sockets effect.after;
+    }
+
+-- a visit, unless it is put off
+pub visits_unless_effect : (is_off : Bool) (key now : ℕ) (old : PlaceState) (before : Sides) (visit : Visit) (is_one : Bool) (left : PlaceState) (behind : Sides) → key < 65 → VisitsUnless is_off now (end_at key) old before visit is_one left behind → Effect key old before left behind
+visits_unless_effect is_off key now old before visit is_one left behind few unless = by_line old.line refl unless.looks
+  where
+    visited : (told is_off : Bool) → VisitsTold told is_off now (end_at key) old (record before { wire = unless.wire }) visit is_one left behind → Effect key old (record before { wire = unless.wire }) left behind
+    visited false is_off visits = visits_effect key now old (record before { wire = unless.wire }) visit left behind few visits.1
+    visited true false visits = visits_effect key now old (record before { wire = unless.wire }) visit left behind few visits.1
+    visited true true off = nothing_happens key old (record before { wire = unless.wire }) left behind off.1.place_is off.1.sides_are
+
+    unasked : unless.wire ≡ before.wire → Effect key old before left behind
+    unasked same = subst (λ (w : WireState). Effect key old (record before { wire = w }) left behind) same (visited unless.told is_off unless.visits)
+
+    by_up : (up : Bool) (line : Connection) → LooksUp up line before.wire unless.told unless.wire → Effect key old before left behind
+    by_up false line looks = unasked looks.1
+    by_up true line looks =
+        behind_look key old before unless.wire left behind line.number unless.told (ap (λ (w : WireState). w.calls) looks) (ap (λ (w : WireState). w.sockets) looks) (visited unless.told is_off unless.visits)
+
+    by_line : (line : Option Connection) → old.line ≡ line → LooksWhat line before.wire unless.told unless.wire → Effect key old before left behind
+    by_line None is looks = unasked looks.1
+    by_line (Some line) is looks = by_up line.is_up line looks
 
 -- an attempt gives way
 pub gives_way_effect : (test : Bool) (key : ℕ) (old : PlaceState) (before : Sides) (left : PlaceState) (behind : Sides) → GivesWayIf test old before left behind → Effect key old before left behind

@@ -1,8 +1,6 @@
 -- What a connection carries while it is served: calls of the speaker and of the wire.
-use Rattle.std.proofs.Common.{◌≡◌, ◌≢◌, ◌<◌, ℕ, Bool, true, false, List, [], ◌∷◌, ◌++◌, refl, sym, ap, subst, ◌∙◌, append_assoc, append-nil, take-append-drop, Option, Some, None, is_some, take, drop, zero, suc}
+use Rattle.std.proofs.Common.{◌≡◌, ◌<◌, ℕ, Bool, true, false, List, [], ◌∷◌, ◌++◌, refl, sym, ap, subst, ◌∙◌, append_assoc, append-nil, take-append-drop, Option, Some, None, is_some, take, drop, zero, suc}
 use Rattle.std.proofs.lemmas.Bool.{eq-eqb}
-use Rattle.net_prefix.specs.declared.transport.Transport.{Transport}
-use Rattle.rtr_session.specs.SessionState.{Session as CacheSession}
 use Rattle.speaker.specs.FirstRefusal.{may_bring_octets}
 use Rattle.routes.specs.Linked.{Linked}
 use Rattle.speaker.specs.Runs.{Call}

@@ -2,6 +2,7 @@ mod Asking
 mod Carrying
 mod Counting
 mod Effects
+mod Ending
 mod Exchanges
 mod Places
 mod Stepping

@@ -2,7 +2,6 @@
 use Rattle.std.proofs.Common.{◌≡◌, ◌≢◌, ◌<◌, ℕ, zero, suc, List, [], ◌∷◌, refl, ap, arith, ◌∙◌, length, slice_index_or, slice_set}
 use Rattle.std.proofs.lemmas.List.{get_or-set_other, get_or-set_same, length-set}
 use Rattle.wires.specs.Counts.{Counts}
-use Rattle.wires.specs.Wires.{WireState}
 use Rattle.std.proofs.Common.{Option, Some, subst, sym}
 use Rattle.speaker_turns.specs.Serving.{Attends, Connection, PlaceState, Settles, Sides, Visits, VisitsWhat, line_left}
 use Rattle.speaker_turns.specs.declared.end.End.{End}
@@ -44,7 +43,7 @@ any_default (x ∷ xs) zero one other within = refl
 any_default (x ∷ xs) (suc key) one other within = any_default xs key one other (omega (arith, within))
 
 -- what happens at a place, in its parts
-pub at_place_by : (Happens : End → PlaceState → Sides → Visit → PlaceState → Sides → Type 0) (old mid new : Turns) (key : ℕ) (end : End) (found : PlaceState) (visit : Visit) (left : PlaceState) (behind : Sides) → end ≡ end_at key → key < length old.places → found ≡ slice_index_or old.places key found → Happens end found (sides old) visit left behind → mid ≡ record { counts = record old.counts { wire = behind.wire }; speaker = behind.speaker; places = slice_set old.places key left } → new ≡ record mid { counts = counted visit mid.counts } → AtPlace Happens old key new
+pub at_place_by : (Happens : End → PlaceState → Sides → Visit → PlaceState → Sides → Type 0) (old mid new : Turns) (key : ℕ) (end : End) (found : PlaceState) (visit : Visit) (left : PlaceState) (behind : Sides) → end ≡ end_at key → key < length old.places → found ≡ slice_index_or old.places key found → Happens end found (sides old) visit left behind → mid ≡ record { counts = record old.counts { wire = behind.wire }; speaker = behind.speaker; places = slice_set old.places key left; next = old.next } → new ≡ record mid { counts = counted visit mid.counts } → AtPlace Happens old key new
 at_place_by Happens old mid new key end found visit left behind is within at happens between counts =
     record {
       visit = visit;
@@ -54,4 +53,5 @@ at_place_by Happens old mid new key end found visit left behind is within at hap
       counts = ap (λ (t : Turns). t.counts) counts ∙ ap (λ (t : Turns). counted visit t.counts) between;
       speaker = ap (λ (t : Turns). t.speaker) counts ∙ ap (λ (t : Turns). t.speaker) between;
       places = ap (λ (t : Turns). t.places) counts ∙ ap (λ (t : Turns). t.places) between;
+      next = ap (λ (t : Turns). t.next) counts ∙ ap (λ (t : Turns). t.next) between;
     }

@@ -1,5 +1,5 @@
 -- What happens at the place of one session: an attempt begins, a connection comes or is visited, an attempt gives way.
-use Rattle.std.specs.Prelude.{◌≡◌, ◌≢◌, ◌+◌, ◌⊎◌, ◌&&◌, ◌||◌, ℕ, List, [], Bool, false, true, not, nat_le, is_none, length, Option, Some, None, if◌then◌else◌, take, drop, ⊤}
+use Rattle.std.specs.Prelude.{◌≡◌, ◌≢◌, ◌+◌, ◌⊎◌, ℕ, List, [], Bool, false, true, nat_le, is_none, length, Option, Some, None, if◌then◌else◌, take, drop}
 use Rattle.std.specs.declared.net.socket_addr.SocketAddr.{SocketAddr}
 use Rattle.net_prefix.specs.declared.transport.Transport.{Transport}
 use Rattle.net_prefix.specs.declared.transport.Transport.TheVariants as transport
@@ -7,7 +7,7 @@ use Rattle.speaker.specs.FirstRefusal.{awaits_up, may_bring_octets, may_fail}
 use Rattle.speaker.specs.SpeakerState.{SpeakerState}
 use Rattle.wires.specs.Calls.{Connect}
 use Rattle.wires.specs.TurnOctets.{turn_octets}
-use Rattle.wires.specs.Wires.{FitsIn, WireState, attempting, calling, closing, failing, one_more, reading, writing}
+use Rattle.wires.specs.Wires.{FitsIn, WireState, attempting, calling, closing, failing, looking, one_more, reading, writing}
 use Rattle.wires.specs.declared.wire.Attempt.{Attempt}
 use Rattle.wires.specs.declared.wire.Attempt.TheVariants.{Connected, Pending, Fault as AttemptFault}
 use Rattle.wires.specs.declared.wire.Parting.{Parting}
@@ -283,6 +283,37 @@ VisitsWhat end now (Some line) old before visit new behind = VisitsLine end now 
 
 abbrev pub Visits : ℕ → End → PlaceState → Sides → Visit → PlaceState → Sides → Type 0
 Visits now end old before visit new behind = VisitsWhat end now old.line old before visit new behind
+
+-- the wire is asked whether a connection is known to end; of an attempt, and where nothing stands, it is asked nothing
+abbrev pub LooksUp : Bool → Connection → WireState → Bool → WireState → Type 0
+LooksUp true line old told new = new ≡ looking line.number told old
+LooksUp false line old told new = (told ≡ false) × (new ≡ old)
+
+abbrev pub LooksWhat : Option Connection → WireState → Bool → WireState → Type 0
+LooksWhat None old told new = (told ≡ false) × (new ≡ old)
+LooksWhat (Some line) old told new = LooksUp line.is_up line old told new
+
+-- nothing is done at a place in this turn
+pub record PutsOff (old : PlaceState) (before : Sides) (visit : Visit) (new : PlaceState) (behind : Sides) : Type 0 where
+  pub visit_is : visit ≡ Stays
+  pub place_is : new ≡ old
+  pub sides_are : behind ≡ before
+
+-- a connection that is known to end is visited, and is then the one of this turn, or put off
+abbrev pub VisitsEnding : Bool → ℕ → End → PlaceState → Sides → Visit → Bool → PlaceState → Sides → Type 0
+VisitsEnding true now end old before visit is_one new behind = (is_one ≡ false) × PutsOff old before visit new behind
+VisitsEnding false now end old before visit is_one new behind = (is_one ≡ true) × Visits now end old before visit new behind
+
+abbrev pub VisitsTold : Bool → Bool → ℕ → End → PlaceState → Sides → Visit → Bool → PlaceState → Sides → Type 0
+VisitsTold false is_off now end old before visit is_one new behind = (is_one ≡ false) × Visits now end old before visit new behind
+VisitsTold true is_off now end old before visit is_one new behind = VisitsEnding is_off now end old before visit is_one new behind
+
+-- a visit at this moment, unless the connection is known to end and is put off; it tells whether it was to one that ends
+pub record VisitsUnless (is_off : Bool) (now : ℕ) (end : End) (old : PlaceState) (before : Sides) (visit : Visit) (is_one : Bool) (new : PlaceState) (behind : Sides) : Type 0 where
+  pub told : Bool
+  pub wire : WireState
+  pub looks : LooksWhat old.line before.wire told wire
+  pub visits : VisitsTold told is_off now end old (record before { wire = wire }) visit is_one new behind
 
 -- an attempt gives way to one that its session begins again
 abbrev pub GivesWayUp : Bool → Connection → PlaceState → Sides → PlaceState → Sides → Type 0

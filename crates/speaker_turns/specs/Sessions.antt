@@ -1,7 +1,6 @@
 -- What turns ask of a speaker for one of its sessions, and what the speaker makes of it.
-use Rattle.std.specs.Prelude.{◌≡◌, ◌<◌, ◌++◌, ℕ, List, [], ◌∷◌, Bool, true, false, is_some, nat_le, nat_lt, if◌then◌else◌, Option, Some, None}
+use Rattle.std.specs.Prelude.{◌≡◌, ◌++◌, ℕ, List, [], ◌∷◌, Bool, true, false, is_some, Option, Some, None}
 use Rattle.net_prefix.specs.declared.transport.Transport.{Transport}
-use Rattle.net_prefix.specs.declared.transport.Transport.TheVariants as transport
 use Rattle.rtr_session.specs.SessionState.{Session as CacheSession}
 use Rattle.speaker.specs.Agreement.{Agrees}
 use Rattle.speaker.specs.FirstRefusal.{cache_transport_of}

@@ -1,5 +1,6 @@
 -- A turn: attempts begin where sessions ask for them, the wire is asked for a connection, which is let in or closed, each place is visited once, and the speaker is told the moment.
-use Rattle.std.specs.Prelude.{◌≡◌, ◌<◌, ◌⊎◌, ◌^◌, ◌&&◌, ℕ, zero, suc, List, [], ◌∷◌, length, Bool, true, false, is_none, nat_le, nat_lt, replicate, Option, Some, None, Result, Ok, Err, slice_index_or, slice_set, if◌then◌else◌}
+use Rattle.std.specs.Prelude.{◌≡◌, ◌<◌, ◌≤◌, ◌⊎◌, ◌+◌, ◌==◌, ◌&&◌, ◌||◌, ℕ, zero, suc, List, [], ◌∷◌, length, Bool, true, false, nat_le, nat_lt, replicate, Option, Some, None, Result, Ok, Err, slice_index_or, slice_set, if◌then◌else◌}
+use Rattle.std.specs.Option.{IfSome}
 use Rattle.std.specs.Net.Socket.{socket_ip}
 use Rattle.std.specs.declared.net.socket_addr.SocketAddr.{SocketAddr}
 use Rattle.net_prefix.specs.declared.transport.Transport.{Transport}
@@ -15,7 +16,7 @@ use Rattle.wires.specs.declared.fault.LoopFault.{LoopFault}
 use Rattle.wires.specs.declared.fault.LoopFault.TheVariants as stop
 use Rattle.wires.specs.declared.wire.Parting.TheVariants as parting
 use Rattle.speaker_turns.specs.Ends.{end_at, place_of, place_count}
-use Rattle.speaker_turns.specs.Serving.{Begins, Connection, GivesWayIf, PlaceState, Sides, Visits, seated, up}
+use Rattle.speaker_turns.specs.Serving.{Begins, GivesWayIf, PlaceState, Sides, VisitsUnless, seated, up}
 use Rattle.speaker_turns.specs.Sessions.{Asks, Ticks, transport_of, up_call, wanted_transport_of}
 use Rattle.speaker_turns.specs.declared.end.End.{End}
 use Rattle.speaker_turns.specs.declared.end.End.TheVariants.{Peer, Cache}
@@ -27,6 +28,7 @@ pub record Turns : Type 0 where
   pub counts : Counts
   pub speaker : SpeakerState
   pub places : List PlaceState
+  pub next : ℕ
 
 -- a place of which nothing is known
 abbrev pub vacant : PlaceState
@@ -37,7 +39,7 @@ place_at turns key = slice_index_or turns.places key vacant
 
 -- a loop before its first turn: of no session it is known where its other side is
 abbrev pub idle : SpeakerState → WireState → Turns
-idle speaker wire = record { counts = record { lost = 0; closed = 0; wire = wire }; speaker = speaker; places = replicate place_count vacant }
+idle speaker wire = record { counts = record { lost = 0; closed = 0; wire = wire }; speaker = speaker; places = replicate place_count vacant; next = 0 }
 
 -- the other side of a session is there; a slot that isn't there has no place
 abbrev pub with_remote : End → SocketAddr → Turns → Turns
@@ -68,6 +70,7 @@ pub record AtPlace (Happens : End → PlaceState → Sides → Visit → PlaceSt
   pub counts : new.counts ≡ counted visit (record old.counts { wire = behind.wire })
   pub speaker : new.speaker ≡ behind.speaker
   pub places : new.places ≡ slice_set old.places key left
+  pub next : new.next ≡ old.next
 
 -- so at each of the first places, one after another
 abbrev pub AtPlaces : (End → PlaceState → Sides → Visit → PlaceState → Sides → Type 0) → ℕ → Turns → Turns → Type 0
@@ -149,6 +152,44 @@ pub record IsTold (now : ℕ) (old new : Turns) : Type 0 where
   pub same : told ≡ record old { speaker = told.speaker }
   pub gives_way : AtAll (GivesWay report) told new
 
+-- whether this place is that of the connection that ends and is visited in this turn
+abbrev pub is_the_one : Option ℕ → ℕ → Bool
+is_the_one None key = false
+is_the_one (Some one) key = one == key
+
+-- whether that one stands at a lower place
+abbrev pub comes_behind : Option ℕ → ℕ → Bool
+comes_behind None key = false
+comes_behind (Some one) key = nat_lt one key
+
+-- a connection at this place that is known to end is put off: it was the turn of those from a higher place on, or of a lower one
+abbrev pub is_off : ℕ → Option ℕ → ℕ → Bool
+is_off next one key = nat_lt key next || comes_behind one key
+
+-- a visit in a turn in which this is the one that ends
+abbrev pub VisitsBut : ℕ → Option ℕ → ℕ → End → PlaceState → Sides → Visit → PlaceState → Sides → Type 0
+VisitsBut next one now end old before visit new behind =
+    VisitsUnless (is_off next one (place_of end)) now end old before visit (is_the_one one (place_of end)) new behind
+
+-- from where on the next turn looks for one: behind the one of this turn, or from the first place on
+abbrev pub next_behind : Option ℕ → ℕ
+next_behind None = 0
+next_behind (Some one) = one + 1
+
+-- each place is visited. Of the connections that are known to end, just the first from a place on is; all others are put off
+pub record VisitsAll (now : ℕ) (old new : Turns) : Type 0 where
+  pub one : Option ℕ
+  pub within : IfSome one (λ o. (old.next ≤ o) × (o < length old.places))
+  pub visited : Turns
+  pub visits : AtAll (VisitsBut old.next one now) old visited
+  pub goes_on : new ≡ record visited { next = next_behind one }
+
+-- behind a turn in which a place was put off, the next one looks nearer to it: below it, or from the first place on, until it
+-- comes to it
+abbrev pub IsNearer : ℕ → ℕ → ℕ → Type 0
+IsNearer key before behind =
+    (key < before → (behind ≡ 0) ⊎ (before < behind)) × (before ≤ key → (before < behind) × (behind ≤ key))
+
 -- the four steps of a turn
 pub record Turned (now : ℕ) (old new : Turns) : Type 0 where
   pub begun : Turns
@@ -156,7 +197,7 @@ pub record Turned (now : ℕ) (old new : Turns) : Type 0 where
   pub visited : Turns
   pub begins : AtAll Begins old begun
   pub accepts : Accepts begun admitted
-  pub visits : AtAll (Visits now) admitted visited
+  pub visits : VisitsAll now admitted visited
   pub tells : IsTold now visited new
 
 -- one that can't accept ends behind the first step

@@ -9,7 +9,7 @@ ghost use Rattle.speaker_turns.specs.Carrying.{CarriesOwn, IsFresh};
 ghost use Rattle.speaker_turns.specs.Ends.{place_count};
 ghost use Rattle.speaker_turns.specs.Losses.{LosesAllButOne};
 ghost use Rattle.speaker_turns.specs.Serving.{Connection};
-ghost use Rattle.speaker_turns.specs.Turns.{TakesTurn, TakesTurns, Turns, place_at};
+ghost use Rattle.speaker_turns.specs.Turns.{IsNearer, TakesTurn, TakesTurns, Turns, VisitsAll, is_off, place_at};
 
 /// A turn that goes well loses just as many connections, and attempts at one, as the wire told faults and ends of input and the
 /// loop closed connections of sessions that the speaker had closed, while no count is at the greatest u64; in one that can't
@@ -18,6 +18,13 @@ pub fn as_many_are_lost_as_are_counted()
     ensures well { (now : ℕ) (old new : Turns) (done : Unit {0}) → TakesTurn now old (Ok done) new → LosesJust old.counts new.counts }
     ensures stops { (now : ℕ) (old new : Turns) (fault : LoopFault) → TakesTurn now old (Err fault) new → LosesAllButOne old.counts new.counts }
     ensures any { (now : ℕ) (old new : Turns) (result : Result (Unit {0}) LoopFault) → TakesTurn now old result new → LosesNoMore old.counts new.counts }
+{}
+
+/// A connection that is known to end and is put off in a turn is nearer to its own turn behind it: where its place is below the
+/// one from which the turn looked, the next one looks from a higher place, or from the first one; else from a higher one that
+/// isn't above its place. So it is visited in one of 132 turns.
+pub fn those_that_end_have_their_turn()
+    ensures { (now key : ℕ) (old new : Turns) (visits : VisitsAll now old new) → is_off old.next visits.one key ≡ true → IsNearer key old.next new.next }
 {}
 
 /// Whatever turns are taken, the speaker is as calls of it leave it: for every run that it agreed with, it agrees with that run

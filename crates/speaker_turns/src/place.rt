@@ -4,7 +4,7 @@ ghost use Rattle.speaker.specs.FirstRefusal.{awaits_up};
 ghost use Rattle.wires.specs.TurnOctets.{turn_octets};
 ghost use Rattle.wires.specs.Wires.{closing};
 ghost use Rattle.wires.specs.declared.wire.Parting.TheVariants.{NoPlace};
-ghost use Rattle.speaker_turns.specs.Serving.{Begins, GivesWayWhat, Visits, awaited_at, seated, up};
+ghost use Rattle.speaker_turns.specs.Serving.{Begins, GivesWayWhat, LooksWhat, Visits, VisitsUnless, awaited_at, seated, up};
 ghost use Rattle.speaker_turns.specs.Sessions.{Asks, transport_of, up_call, wanted_transport_of};
 ghost use Rattle.speaker_turns.specs.Turns.{Awaits, GivesWay, vacant};
 
@@ -173,6 +173,38 @@ impl<W: Wire, A: Allocator + Clone> Place<W, A> {
         match line.is_up {
             true => self.line = Some(line),
             false => wire.close(line.socket, Parting::Unwanted),
+        }
+    }
+
+    /// Visits what stands here, unless it is a connection that is known to end and is put off. Tells too whether one that ends
+    /// was visited.
+    pub fn visit_unless<B: Book<A>>(
+        &mut self,
+        is_off: bool,
+        end: End,
+        now: u64,
+        wire: &mut W,
+        speaker: &mut Speaker<A, B>,
+        buf: &mut [u8],
+    ) -> (Visit, bool)
+        requires { length buf.old ≡ turn_octets }
+        ensures visits { VisitsUnless is_off now end self.old (record { wire = W.state wire.old; speaker = speaker.old }) result.0 result.1 self.new (record { wire = W.state wire.new; speaker = speaker.new }) }
+        ensures room { length buf.new ≡ turn_octets }
+    {
+        let is_ending = self.is_ending(wire);
+        if is_ending && is_off {
+            return (Visit::Stays, false);
+        }
+        (self.visit(end, now, wire, speaker, buf), is_ending)
+    }
+
+    // Whether what stands here is a connection that is known to end.
+    fn is_ending(&self, wire: &mut W) -> bool
+        ensures { LooksWhat self.now.line (W.state wire.old) result (W.state wire.new) }
+    {
+        match &self.line {
+            Some(line) if line.is_up => wire.is_ending(&line.socket),
+            _ => false,
         }
     }
 

@@ -1,9 +1,10 @@
 //! The turns of a speaker: sessions connect, hear and are answered.
-ghost use Rattle.std.specs.Prelude.{◌≡◌, ◌<◌, ℕ, IfOk, MatchOption, OnOk, length, replicate, []};
+ghost use Rattle.std.specs.Prelude.{◌≡◌, ◌<◌, ◌≤◌, ◌||◌, ℕ, IfOk, MatchOption, OnOk, Some, if◌then◌else◌, is_some, length, nat_lt, replicate, []};
+ghost use Rattle.std.specs.Option.{IfSome};
 ghost use Rattle.wires.specs.TurnOctets.{turn_octets};
 ghost use Rattle.speaker_turns.specs.Ends.{place_count};
-ghost use Rattle.speaker_turns.specs.Serving.{Begins, Visits};
-ghost use Rattle.speaker_turns.specs.Turns.{Admits, AtAll, AtPlace, AwaitsAt, GivesWay, IsTold, TakesTurn, counted, idle, vacant, with_remote};
+ghost use Rattle.speaker_turns.specs.Serving.{Begins, VisitsUnless};
+ghost use Rattle.speaker_turns.specs.Turns.{Admits, AtAll, AtPlace, AwaitsAt, GivesWay, IsTold, TakesTurn, VisitsAll, VisitsBut, counted, idle, vacant, with_remote};
 
 use crate::end::{End, PLACES};
 use crate::place::{Place, Visit};
@@ -24,6 +25,8 @@ pub struct SpeakerLoop<W: Wire, A: Allocator + Clone = Global, B: Book<A> = Live
     speaker: Speaker<A, B>,
     // That of the slot s stands at s, and that of the cache behind them.
     places: Vec<Place<W, A>, A>,
+    // From this place on a turn looks for a connection that ends.
+    next: usize,
     lost: u64,
     closed: u64,
 }
@@ -35,7 +38,7 @@ impl<W: Wire, A: Allocator + Clone, B: Book<A>> Model for SpeakerLoop<W, A, B> {
 
     ghost Value = { Turns };
 
-    ghost view = { λ l. record { counts = record { lost = l.lost; closed = l.closed; wire = W.state l.wire }; speaker = l.speaker; places = l.places.items } };
+    ghost view = { λ l. record { counts = record { lost = l.lost; closed = l.closed; wire = W.state l.wire }; speaker = l.speaker; places = l.places.items; next = l.next } };
 
     ghost invariant = { λ l. length l.places.items ≡ place_count };
 }
@@ -51,6 +54,7 @@ impl<W: Wire + Drop, B: Book<Global>> SpeakerLoop<W, Global, B> {
             wire,
             speaker,
             places,
+            next: 0,
             lost: 0,
             closed: 0,
         })
@@ -71,7 +75,8 @@ impl<W: Wire + Drop, A: Allocator + Clone, B: Book<A>> SpeakerLoop<W, A, B> {
 
     /// One turn: attempts begin where sessions ask for them, a connection that waits is accepted, what came on each is handed
     /// to its session and what the speaker has queued for it goes out, and the speaker is told the moment. A moment before the
-    /// last one tells it nothing.
+    /// last one tells it nothing. Of the connections that are known to end one is visited a turn, since losing its routes may
+    /// take long: between two of them all others are served, and their sessions told the moment.
     pub fn turn(&mut self, now: u64) -> Result<(), LoopFault>
         ensures { TakesTurn now self.old result self.new }
     {
@@ -168,23 +173,43 @@ impl<W: Wire + Drop, A: Allocator + Clone, B: Book<A>> SpeakerLoop<W, A, B> {
         None
     }
 
-    #[tactic(auto, unfolding(wires::specs::TurnOctets::turn_octets))]
+    #[tactic(auto, unfolding(crate::specs::Ends::place_count))]
     fn visit_all(&mut self, now: u64)
-        ensures { AtAll (Visits now) self.old self.new }
+        ensures { VisitsAll now self.old self.new }
     {
-        let mut buf = [0; TURN_OCTETS];
-        for place in 0..self.places.len() {
-            self.visit(place, now, &mut buf);
-        }
+        let one = self.visit_each(now);
+        self.next = match one {
+            Some(one) => one + 1,
+            None => 0,
+        };
     }
 
-    fn visit(&mut self, place: usize, now: u64, buf: &mut [u8])
+    // Visits each place, and tells at which a connection that ends was visited.
+    #[tactic(auto, unfolding(wires::specs::TurnOctets::turn_octets))]
+    fn visit_each(&mut self, now: u64) -> Option<usize>
+        ensures visits { AtAll (VisitsBut self.old.next result now) self.old self.new }
+        ensures within { IfSome result (λ one. (self.old.next ≤ one) × (one < length self.old.places)) }
+        ensures few { IfSome result (λ one. one < place_count) }
+    {
+        let mut buf = [0; TURN_OCTETS];
+        let mut one = None;
+        for place in 0..self.places.len() {
+            let is_off = is_put_off(place, self.next, one);
+            let is_one = self.visit(place, is_off, now, &mut buf);
+            one = the_one(is_one, place, one);
+        }
+        one
+    }
+
+    // Tells whether a connection that ends was visited.
+    fn visit(&mut self, place: usize, is_off: bool, now: u64, buf: &mut [u8]) -> bool
         requires place { place < length self.old.places }
         requires room { length buf.old ≡ turn_octets }
-        ensures visits { AtPlace (Visits now) self.old place self.new }
+        ensures visits { AtPlace (λ end old before visit new behind. VisitsUnless is_off now end old before visit result new behind) self.old place self.new }
         ensures room { length buf.new ≡ turn_octets }
     {
-        let visit = self.places[place].visit(
+        let (visit, is_one) = self.places[place].visit_unless(
+            is_off,
             End::at(place),
             now,
             &mut self.wire,
@@ -192,6 +217,7 @@ impl<W: Wire + Drop, A: Allocator + Clone, B: Book<A>> SpeakerLoop<W, A, B> {
             buf,
         );
         self.count(visit);
+        is_one
     }
 
     // Counts what happened at a place.
@@ -231,6 +257,23 @@ impl<W: Wire + Drop, A: Allocator + Clone, B: Book<A>> SpeakerLoop<W, A, B> {
         let end = End::at(place);
         let visit = self.places[place].give_way(report, end, &mut self.wire, &self.speaker);
         self.count(visit);
+    }
+}
+
+// Whether a connection at this place is put off, where it ends: it isn't its turn yet, or one was visited already.
+fn is_put_off(place: usize, next: usize, one: Option<usize>) -> bool
+    ensures { result ≡ (nat_lt place next || is_some one) }
+{
+    place < next || one.is_some()
+}
+
+// At which place one that ends was visited, behind a visit to this place.
+fn the_one(is_one: bool, place: usize, one: Option<usize>) -> Option<usize>
+    ensures { result ≡ (if is_one then Some place else one) }
+{
+    match is_one {
+        true => Some(place),
+        false => one,
     }
 }
 

@@ -75,6 +75,9 @@ struct MemoryWire {
     calls: u64,
     fails_at: u64,
     failed: Option<Call>,
+    // How often a connection was asked for, and from how often on both peers send no more.
+    turns: u64,
+    ends_at: u64,
     faults: u64,
     accept_faults: u64,
     ends: u64,
@@ -123,6 +126,8 @@ impl MemoryWire {
             calls: 0,
             fails_at,
             failed: None,
+            turns: 0,
+            ends_at: u64::MAX,
             faults: 0,
             accept_faults: 0,
             ends: 0,
@@ -131,6 +136,19 @@ impl MemoryWire {
             octets_out: 0,
             log: Log::new(),
         }
+    }
+
+    // Both peers send no more once a connection was asked for so often.
+    fn ending_at(ends_at: u64) -> MemoryWire {
+        MemoryWire {
+            ends_at,
+            ..MemoryWire::failing_at(0)
+        }
+    }
+
+    // Whether a side sends no more.
+    fn is_over(&self, side: usize) -> bool {
+        side < 2 && self.turns >= self.ends_at
     }
 
     // Counts a call, and whether it fails.
@@ -177,6 +195,10 @@ impl MemoryWire {
             return Received::Fault;
         }
         match self.say(side, buf) {
+            0 if self.is_over(side) => {
+                self.ends = self.ends.saturating_add(1);
+                Received::End
+            }
             0 => Received::Nothing,
             count => {
                 self.octets_in = self.octets_in.saturating_add(count as u64);
@@ -245,6 +267,7 @@ impl Wire for MemoryWire {
     }
 
     fn accept(&mut self) -> Accepted<Plug> {
+        self.turns = self.turns.saturating_add(1);
         if self.fails(Call::Accept) {
             self.note(&Note::Accept(None));
             self.accept_faults = self.accept_faults.saturating_add(1);
@@ -277,6 +300,12 @@ impl Wire for MemoryWire {
         let sent = self.send(socket.side, octets);
         self.note(&Note::Write(socket.number, octets, sent));
         sent
+    }
+
+    fn is_ending(&mut self, socket: &Plug) -> bool {
+        let is_ending = self.is_over(socket.side);
+        self.note(&Note::Look(socket.number, is_ending));
+        is_ending
     }
 
     fn close(&mut self, socket: Plug, parting: Parting) {
@@ -455,4 +484,32 @@ fn a_failing_call_costs_one_session(rt: HostRuntime) {
         }
     }
     panic!(rt; "each run had a fault");
+}
+
+// The sessions of both peers, and that of the cache, behind a turn at this moment.
+fn sessions_at(turns: &mut SpeakerLoop<MemoryWire>, now: u64) -> [bool; 3] {
+    let _taken = turns.turn(now);
+    let speaker = turns.speaker();
+    [
+        speaker.session(0) == Some(State::Established),
+        speaker.session(1) == Some(State::Established),
+        speaker.cache_session() == Some(ClientState::Synced),
+    ]
+}
+
+// Both peers are gone at once, and the turns in which they are lost take long: one is lost in each of them, and all others are
+// served and told the moment in between.
+fn loses_one_a_turn(turns: &mut SpeakerLoop<MemoryWire>) -> bool {
+    let _well = after_turns(turns);
+    sessions_at(turns, 0) == [false, true, true]
+        && sessions_at(turns, 62) == [false, false, true]
+        && turns.wire().ends == 2
+        && turns.lost() == 2
+}
+
+#[test]
+fn one_that_ends_is_visited_a_turn(rt: HostRuntime) {
+    let wire = MemoryWire::ending_at(21);
+    let mut turns = made(&rt, SpeakerLoop::new(rt.alloc(), wire, prepared(&rt)));
+    assert!(rt; loses_one_a_turn(&mut turns));
 }

@@ -1,4 +1,4 @@
-use Rattle.std.proofs.Common.{◌≡◌, ◌∙◌, refl, sym, ap, subst, Option}
+use Rattle.std.proofs.Common.{◌∙◌, sym, ap, subst, Option}
 use Rattle.speaker_turns.specs.Serving.{Connection, PlaceState, Visits}
 use Rattle.speaker_turns.proofs.Places.{visited}
 use Rattle.speaker_turns.proofs.place.Place.visit.Goals as goal

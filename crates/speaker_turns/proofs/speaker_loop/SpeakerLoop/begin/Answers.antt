@@ -1,6 +1,6 @@
 use Rattle.std.proofs.Common.{◌<◌, length, refl, subst, sym}
-use Rattle.speaker_turns.specs.Serving.{Begins, Visits}
-use Rattle.speaker_turns.specs.Turns.{AtPlace, GivesWay, Turns}
+use Rattle.speaker_turns.specs.Serving.{Begins}
+use Rattle.speaker_turns.specs.Turns.{AtPlace, Turns}
 use Rattle.speaker_turns.proofs.Places.{at_place_by}
 use Rattle.speaker_turns.proofs.speaker_loop.SpeakerLoop.begin.Goals as goal
 

@@ -1,7 +1,6 @@
 use Rattle.std.proofs.Common.{◌≡◌, length}
-use Rattle.wires.specs.TurnOctets.{turn_octets}
-use Rattle.speaker_turns.specs.Serving.{Begins, Visits}
-use Rattle.speaker_turns.specs.Turns.{AtPlaces, GivesWay}
+use Rattle.speaker_turns.specs.Serving.{Begins}
+use Rattle.speaker_turns.specs.Turns.{AtPlaces}
 use Rattle.speaker_turns.proofs.speaker_loop.SpeakerLoop.begin_all.Given as goal
 
 abbrev pub invariant-loop-place : goal.invariant-loop-place

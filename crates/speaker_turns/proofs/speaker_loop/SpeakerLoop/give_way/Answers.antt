@@ -1,5 +1,4 @@
 use Rattle.std.proofs.Common.{◌<◌, length, refl, subst, sym}
-use Rattle.speaker_turns.specs.Serving.{Begins, Visits}
 use Rattle.speaker_turns.specs.Turns.{AtPlace, GivesWay, Turns}
 use Rattle.speaker_turns.proofs.Places.{at_place_by}
 use Rattle.speaker_turns.proofs.speaker_loop.SpeakerLoop.give_way.Goals as goal

@@ -1,6 +1,4 @@
 use Rattle.std.proofs.Common.{◌≡◌, length}
-use Rattle.wires.specs.TurnOctets.{turn_octets}
-use Rattle.speaker_turns.specs.Serving.{Begins, Visits}
 use Rattle.speaker_turns.specs.Turns.{AtPlaces, GivesWay}
 use Rattle.speaker_turns.proofs.speaker_loop.SpeakerLoop.give_way_all.Given as goal
 
