@@ -1,9 +1,13 @@
 -- What is known where serving ended well.
-use Rattle.std.proofs.Common.{◌≡◌, Result, Ok, Err, IfOk, ap, ◌∙◌, sym}
+use Rattle.std.proofs.Common.{◌≡◌, ℕ, List, Option, Result, Ok, Err, IfOk, ap, ◌∙◌, sym}
 use Rattle.program_endings.specs.Exits.{status_at_end, status_of}
 use Rattle.program_endings.specs.declared.fault.ExitFault.{ExitFault}
 use Rattle.program_endings.specs.declared.fault.ExitFault.TheVariants.{Arguments, Settings, BadLine, RefusedLine, Device}
+use Rattle.speaker_program.specs.Begun.{IsServed}
 use Rattle.speaker_program.specs.Endings.{EndsSo}
+use Rattle.speaker_program.specs.declared.settings.SpeakerSettings.{SpeakerSettings}
+use Rattle.speaker_turns.specs.Turns.{Turns}
+use Rattle.wires.specs.Wires.{WireState}
 
 never_zero : (fault : ExitFault) → status_of fault ≡ 0 → ⊥
 never_zero Arguments zero = absurd cc
@@ -16,3 +20,22 @@ never_zero Device zero = absurd cc
 pub served_so : {T : Type 0} {P : T → Type 0} (r : Result T ExitFault) (ended : Result (Unit {0}) ExitFault) → EndsSo r ended → status_at_end ended ≡ 0 → IfOk r P → (x : T) × P x
 served_so (Ok x) ended ends zero is = (x, is)
 served_so (Err fault) ended ends zero is = absurd (never_zero fault (sym (ap status_at_end ends) ∙ zero))
+
+-- what is known of texts and of wires may be said more weakly
+pub served_as : (Told Tells : Option (List ℕ) → Type 0) (Opened Opens : WireState → Type 0) (settings : SpeakerSettings) (count : ℕ) (before behind : List ℕ) (turns : Turns) → IsServed Told Opened settings count before behind turns → ((text : Option (List ℕ)) → Told text → Tells text) → ((wire : WireState) → Opened wire → Opens wire) → IsServed Tells Opens settings count before behind turns
+served_as Told Tells Opened Opens settings count before behind turns is tells opens =
+    record {
+      begun = is.begun;
+      begins =
+          record {
+            speaker = is.begins.speaker;
+            text = is.begins.text;
+            wire = is.begins.wire;
+            told = tells is.begins.text is.begins.told;
+            opened = opens is.begins.wire is.begins.opened;
+            commanded = is.begins.commanded;
+            slots = is.begins.slots;
+            remotes = is.begins.remotes;
+          };
+      takes = is.takes;
+    }

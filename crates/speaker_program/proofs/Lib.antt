@@ -1,3 +1,4 @@
+pub mod Commanding
 pub mod EndedWell
 pub mod OtherFaults
 pub mod ServedWords

@@ -1,5 +1,5 @@
 -- What settings tell, they tell in one way.
-use Rattle.std.proofs.Common.{◌≡◌, ◌<◌, ◌==◌, ◌++◌, ℕ, zero, suc, Bool, true, false, List, [], ◌∷◌, Option, None, Some, nat_abs, length, take, get_or, get_or-take, length-take-le, refl, ap, sym, subst, ◌∙◌, arith, true≢false, codes}
+use Rattle.std.proofs.Common.{◌≡◌, ◌<◌, ◌==◌, ◌++◌, ℕ, zero, suc, true, false, List, [], ◌∷◌, Option, None, Some, nat_abs, length, take, get_or, get_or-take, length-take-le, refl, ap, sym, subst, ◌∙◌, arith, true≢false, codes}
 use Rattle.std.proofs.lemmas.Option.{same_Some}
 use Rattle.std.proofs.lemmas.List.Folds.{list_any_none}
 use Rattle.std.proofs.NetLemmas.Theorems.{IsIpv4Text_unique}

@@ -22,17 +22,29 @@ with_cache (Some remote) turns = with_remote Cache remote turns
 abbrev pub with_remotes : List (ℕ × Address) → Option Address → Turns → Turns
 with_remotes peers cache turns = with_cache cache (with_peers peers turns)
 
--- a loop before its first turn: its speaker is as the commands of the settings leave one of their AS, Identifier and cache, its
--- slots are just those of the settings, and it knows where each peer of the settings is, and their cache
-pub record IsBegun (settings : SpeakerSettings) (turns : Turns) : Type 0 where
+-- the text of a reader that is given, as far as it is known
+abbrev pub TextFrom : {L : Type 0} → (L → Type 0) → (L → Option (List ℕ)) → Option (List ℕ) → Type 0
+TextFrom {L} gives remaining text = (lines : L) × gives lines × (text ≡ remaining lines)
+
+-- the state of a wire that is given
+abbrev pub StateFrom : {W : Type 0} → (W → Type 0) → (W → WireState) → WireState → Type 0
+StateFrom {W} gives state_of state = (wire : W) × gives wire × (state ≡ state_of wire)
+
+-- a loop before its first turn: its speaker is as the commands of the settings, of such a text, leave one of their AS, Identifier
+-- and cache, its slots are just those of the settings, and over such a wire it knows where each peer of the settings is, and their
+-- cache
+pub record IsBegun (Told : Option (List ℕ) → Type 0) (Opened : WireState → Type 0) (settings : SpeakerSettings) (turns : Turns) : Type 0 where
   pub speaker : SpeakerState
+  pub text : Option (List ℕ)
   pub wire : WireState
-  pub commanded : IsCommanded (record { asn = settings.asn; identifier = settings.identifier; cache = is_some settings.cache }) speaker
+  pub told : Told text
+  pub opened : Opened wire
+  pub commanded : IsCommanded text (record { asn = settings.asn; identifier = settings.identifier; cache = is_some settings.cache }) speaker
   pub slots : HasJust settings.peers.items speaker
   pub remotes : turns ≡ with_remotes settings.peers.items settings.cache (idle speaker wire)
 
 -- from there so many turns were taken, each at the moment that the clock told for it
-pub record IsServed (settings : SpeakerSettings) (count : ℕ) (before behind : List ℕ) (turns : Turns) : Type 0 where
+pub record IsServed (Told : Option (List ℕ) → Type 0) (Opened : WireState → Type 0) (settings : SpeakerSettings) (count : ℕ) (before behind : List ℕ) (turns : Turns) : Type 0 where
   pub begun : Turns
-  pub begins : IsBegun settings begun
+  pub begins : IsBegun Told Opened settings begun
   pub takes : TakesSoMany count (Ok tt) before behind begun turns

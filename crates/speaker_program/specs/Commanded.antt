@@ -1,6 +1,7 @@
 -- What settings and their commands make of a speaker, and turns of its loop.
-use Rattle.std.specs.Prelude.{◌≡◌, ℕ, List, Result, Ok, Err, OnOk, length}
+use Rattle.std.specs.Prelude.{◌≡◌, ◌<◌, ◌⊎◌, ℕ, List, [], ◌∷◌, Option, Some, Result, Ok, Err, length}
 use Rattle.clocks.specs.Moments.{NeverGoBack, told_behind}
+use Rattle.scenario.specs.FileLines.{lines}
 use Rattle.scenario.specs.ObeyedCommands.{AreCommandsOf, Obeys, ObeysBefore}
 use Rattle.scenario.specs.declared.commands.CommandsFault.{CommandsFault}
 use Rattle.speaker_program.specs.Exits.{exit_of_commands}
@@ -8,22 +9,54 @@ use Rattle.speaker.specs.Agreement.{Agrees}
 use Rattle.speaker.specs.Runs.{Run}
 use Rattle.speaker.specs.SpeakerState.{SpeakerState}
 use Rattle.speaker.specs.declared.config.Config.{Config}
-use Rattle.speaker_turns.specs.Turns.{TakesTurns, Turns}
+use Rattle.speaker_turns.specs.Turns.{TakesTurn, Turns}
 use Rattle.program_endings.specs.declared.fault.ExitFault.{ExitFault}
+use Rattle.wires.specs.declared.fault.LoopFault.TheVariants.{Accept}
 
--- the speaker is as the commands on some lines leave one of this configuration
-abbrev pub IsCommanded : Config → SpeakerState → Type 0
-IsCommanded config s = (lines : List (List ℕ)) × (r : Run) × AreCommandsOf lines r × Agrees config r s
+-- the lines are those of the text, where it is known
+abbrev pub AreLinesOf : Option (List ℕ) → List (List ℕ) → Type 0
+AreLinesOf text on = (octets : List ℕ) → text ≡ Some octets → on ≡ lines octets
+
+-- the speaker is as the commands on the lines of the text leave one of this configuration
+abbrev pub IsCommanded : Option (List ℕ) → Config → SpeakerState → Type 0
+IsCommanded text config s = (on : List (List ℕ)) × (r : Run) × AreLinesOf text on × AreCommandsOf on r × Agrees config r s
+
+-- the commands on the lines of the text were accepted, in order
+abbrev pub ObeysText : Option (List ℕ) → SpeakerState → SpeakerState → Type 0
+ObeysText text old new = (on : List (List ℕ)) × AreLinesOf text on × Obeys on old new
 
 -- the commands on these lines were accepted, in order, or those before the line of a fault, which is what ends the program
 abbrev pub IsCommandedBy : List (List ℕ) → Result (Unit {0}) ExitFault → SpeakerState → SpeakerState → Type 0
-IsCommandedBy lines (Ok done) old new = Obeys lines old new
-IsCommandedBy lines (Err exit) old new = (fault : CommandsFault) × (exit ≡ exit_of_commands fault) × ObeysBefore lines fault old new
+IsCommandedBy on (Ok done) old new = Obeys on old new
+IsCommandedBy on (Err exit) old new = (fault : CommandsFault) × (exit ≡ exit_of_commands fault) × ObeysBefore on fault old new
 
--- turns were taken, each at the moment that the clock told for it, just so many where nothing failed
-pub record TakesSoMany (count : ℕ) (result : Result (Unit {0}) ExitFault) (before behind : List ℕ) (old new : Turns) : Type 0 where
+-- turns at these moments, one after another, each of which went well
+abbrev pub TakeWell : List ℕ → Turns → Turns → Type 0
+TakeWell [] old new = new ≡ old
+TakeWell (now ∷ moments) old new = (mid : Turns) × TakesTurn now old (Ok tt) mid × TakeWell moments mid new
+
+-- one more couldn't accept
+pub record StopsBehind (moments : List ℕ) (now : ℕ) (old new : Turns) : Type 0 where
+  pub mid : Turns
+  pub well : TakeWell moments old mid
+  pub stops : TakesTurn now mid (Err Accept) new
+
+-- so many turns, each at the moment that the clock told for it
+pub record TakesAll (count : ℕ) (before behind : List ℕ) (old new : Turns) : Type 0 where
   pub moments : List ℕ
-  pub taken : TakesTurns moments old new
+  pub taken : TakeWell moments old new
   pub told : behind ≡ told_behind moments before
   pub forward : NeverGoBack before → NeverGoBack behind
-  pub counted : OnOk result (length moments ≡ count)
+  pub counted : length moments ≡ count
+
+-- fewer, behind which the clock failed, or a turn that couldn't accept
+pub record TakesFewer (count : ℕ) (before behind : List ℕ) (old new : Turns) : Type 0 where
+  pub moments : List ℕ
+  pub fewer : length moments < count
+  pub ends : ((behind ≡ told_behind moments before) × TakeWell moments old new) ⊎ ((now : ℕ) × (behind ≡ now ∷ told_behind moments before) × StopsBehind moments now old new)
+  pub forward : NeverGoBack before → NeverGoBack behind
+
+-- turns were taken: just so many where nothing failed
+abbrev pub TakesSoMany : ℕ → Result (Unit {0}) ExitFault → List ℕ → List ℕ → Turns → Turns → Type 0
+TakesSoMany count (Ok done) before behind old new = TakesAll count before behind old new
+TakesSoMany count (Err fault) before behind old new = TakesFewer count before behind old new

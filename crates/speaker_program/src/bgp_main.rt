@@ -1,9 +1,11 @@
 //! What the main of `ovbgpd` does.
-ghost use Rattle.std.specs.Prelude.{◌≡◌, [], ◌≢◌, ◌≤◌, ◌↔◌, ℕ, List, Some, Err, IfErr, IfOk, OnOk, IsTrue, is_some};
+ghost use Rattle.std.specs.Prelude.{◌≡◌, [], ◌≢◌, ◌≤◌, ◌↔◌, ℕ, List, Vec, Ok, Some, Err, IfErr, IfOk, OnOk, IsTrue, ⊤, is_some, string_bytes};
+ghost use Rattle.std.specs.Fn.{FnOnceReturnsAt};
+ghost use Rattle.std.specs.Global.{Global as TheGlobal};
 ghost use Rattle.toml.specs.Data.{Members};
-ghost use Rattle.speaker_program.specs.Commanded.{IsCommanded, IsCommandedBy, TakesSoMany};
+ghost use Rattle.speaker_program.specs.Commanded.{IsCommanded, IsCommandedBy, ObeysText, TakesSoMany};
 ghost use Rattle.speaker_program.specs.Endings.{EndsSo};
-ghost use Rattle.speaker_program.specs.Begun.{IsBegun, IsServed, with_remotes};
+ghost use Rattle.speaker_program.specs.Begun.{IsBegun, IsServed, StateFrom, TextFrom, with_remotes};
 ghost use Rattle.speaker_program.specs.declared.settings.SpeakerSettings.{SpeakerSettings};
 ghost use Rattle.speaker_program.specs.Slots.{HasJust, is_configured};
 ghost use Rattle.speaker_program.specs.ToldSettings.{IsToldBy};
@@ -11,8 +13,8 @@ ghost use Rattle.settings_keys.specs.Keys.{IsTableOf};
 ghost use Rattle.speaker_turns.specs.Turns.{Turns};
 ghost use Rattle.program_endings.specs.Words.{IsCall};
 ghost use Rattle.scenario.specs.FileLines.{lines};
-ghost use Rattle.scenario.specs.ObeyedCommands.{ObeysSome};
 ghost use Rattle.speaker.specs.Agreement.{Agrees};
+ghost use Rattle.net_wires.specs.Opening.{opened_at};
 
 use crate::exits::{of_commands, of_speaker};
 use crate::settings::{SpeakerSettings, has_slot};
@@ -46,15 +48,47 @@ where
     ensures range { result ≤ 2 }
     ensures output { ((path : List ℕ) (turns : ℕ) → ¬ (IsCall words.now path turns)) → output.new ≡ output.old }
     ensures silent { result ≡ 0 → errors.new ≡ errors.old }
-    // The status is 0 only where the settings that a file tells were served for just the turns of the words.
+    // The status is 0 only where the settings that a file tells were served for just the turns of the words, over a wire that was
+    // opened where they listen.
     ensures serves { result ≡ 0 → (path : List ℕ) × (turns : ℕ) × (octets : List ℕ) × (table : Members) × (settings : SpeakerSettings) × (behind : List ℕ) × (served : Turns)
-        × IsCall words.now path turns × IsTableOf octets table × IsToldBy table settings × IsServed settings turns [] behind served }
+        × IsCall words.now path turns × IsTableOf octets table × IsToldBy table settings
+        × IsServed (λ text. ⊤) (StateFrom (λ wire. wire ≡ opened_at settings.listen) (λ wire. wire.state)) settings turns [] behind served }
 {
     let mut clock = MonotonicClock::new(rt);
-    let served = run_bgp::<B, _, _, _, _, _>(rt, words, output, &mut clock, |listen| {
-        NetWire::open(rt, listen)
-    });
+    let served = serve_words::<B, _, _, _>(rt, words, output, &mut clock);
     end("ovbgpd", ending(served), errors)
+}
+
+// What the words ask for, by the system's files and sockets.
+fn serve_words<'a, B: Book<Global>, R, O: Write, C: SecondsClock>(
+    rt: &'a R,
+    words: &[String],
+    output: &mut O,
+    clock: &mut C,
+) -> Result<SpeakerLoop<NetWire<'a, R>, Global, B>, ExitFault>
+where
+    R: Net<Listener = TcpListener, Stream = TcpStream> + Files + AllocGlobal,
+    ensures wrong { ((path : List ℕ) (turns : ℕ) → ¬ (IsCall words.now path turns)) → result ≡ Err ExitFault.Arguments }
+    ensures output { result ≡ Err ExitFault.Arguments → output.new ≡ output.old }
+    ensures serves { IfOk result (λ served. (path : List ℕ) × (turns : ℕ) × (octets : List ℕ) × (table : Members) × (settings : SpeakerSettings)
+        × IsCall words.now path turns × IsTableOf octets table × IsToldBy table settings
+        × IsServed (λ text. ⊤) (StateFrom (λ wire. wire ≡ opened_at settings.listen) (λ wire. wire.state)) settings turns (C.readings clock.old) (C.readings clock.new) served) }
+{
+    run_bgp(
+        rt.alloc(),
+        words,
+        output,
+        clock,
+        |path: &str| fs::read(rt, path),
+        |path: &str| lines_of(rt, path),
+        |listen| NetWire::open(rt, listen),
+    )
+}
+
+// The lines of the file of this path.
+fn lines_of<R: Files + AllocGlobal>(rt: &R, path: &str) -> io::Result<BufReader<R::File>> {
+    let file = fs::open(rt, path)?;
+    BufReader::new(rt.alloc(), file)
 }
 
 // How serving ended.
@@ -67,47 +101,58 @@ fn ending<T: Drop>(served: Result<T, ExitFault>) -> Result<(), ExitFault>
     }
 }
 
-// What the words ask for, over the wire that is opened where the settings listen, by this clock.
-fn run_bgp<B: Book<Global>, R, O: Write, W: Wire + Drop, C: SecondsClock, F>(
-    rt: &R,
+// What the words ask for, by what reading files and opening the wire gives, and by this clock.
+fn run_bgp<B: Book<Global>, O: Write, C: SecondsClock, L: BufRead + Drop, W: Wire + Drop, S, M, F>(
+    alloc: Global,
     words: &[String],
     output: &mut O,
     clock: &mut C,
+    reads: S,
+    commands: M,
     opens: F,
 ) -> Result<SpeakerLoop<W, Global, B>, ExitFault>
 where
-    R: Files + AllocGlobal,
+    S: FnOnce(&str) -> io::Result<Vec<u8>>,
+    M: FnOnce(&str) -> io::Result<L>,
     F: FnOnce(Option<SocketAddr>) -> io::Result<W>,
-    requires { F.IsAlwaysCallable opens }
+    requires reads { S.IsAlwaysCallable reads }
+    requires commands { M.IsAlwaysCallable commands }
+    requires opens { F.IsAlwaysCallable opens }
     ensures wrong { ((path : List ℕ) (turns : ℕ) → ¬ (IsCall words.now path turns)) → result ≡ Err ExitFault.Arguments }
     ensures right { (path : List ℕ) (turns : ℕ) → IsCall words.now path turns → result ≢ Err ExitFault.Arguments }
     ensures output { result ≡ Err ExitFault.Arguments → output.new ≡ output.old }
-    // The speaker of the settings that a file tells, with their commands obeyed and their remotes told, has taken just the turns
-    // of the words.
-    ensures serves { IfOk result (λ served. (path : List ℕ) × (turns : ℕ) × (octets : List ℕ) × (table : Members) × (settings : SpeakerSettings)
-        × IsCall words.now path turns × IsTableOf octets table × IsToldBy table settings × IsServed settings turns (C.readings clock.old) (C.readings clock.new) served) }
+    // The speaker of the settings that the file of the words tells has obeyed just the commands of the file of the settings, it was
+    // told their remotes, and has taken just the turns of the words over the wire that was opened where they listen.
+    ensures serves { IfOk result (λ served. (path : List ℕ) × (turns : ℕ) × (octets : Vec ℕ TheGlobal) × (table : Members) × (settings : SpeakerSettings)
+        × IsCall words.now path turns × FnOnceReturnsAt S.FnOnce reads path (Ok octets) × IsTableOf octets.items table × IsToldBy table settings
+        × IsServed (TextFrom (λ lines. FnOnceReturnsAt M.FnOnce commands (string_bytes settings.commands) (Ok lines)) L.remaining)
+        (StateFrom (λ wire. F.post opens settings.listen (Ok wire)) W.state) settings turns (C.readings clock.old) (C.readings clock.new) served) }
 {
     let (path, turns) = read_words(words)?;
-    let settings = read_settings(rt, path)?;
-    serve(rt, &settings, turns, output, clock, opens)
+    let settings = read_settings(alloc, path, reads)?;
+    serve(alloc, &settings, turns, output, clock, commands, opens)
 }
 
 // So many turns of these settings, behind which Loc-RIB is printed.
-fn serve<B: Book<Global>, R: Files + AllocGlobal, O: Write, W: Wire + Drop, C: SecondsClock, F>(
-    rt: &R,
+fn serve<B: Book<Global>, O: Write, C: SecondsClock, L: BufRead + Drop, W: Wire + Drop, M, F>(
+    alloc: Global,
     settings: &SpeakerSettings,
     turns: u64,
     output: &mut O,
     clock: &mut C,
+    commands: M,
     opens: F,
 ) -> Result<SpeakerLoop<W, Global, B>, ExitFault>
 where
+    M: FnOnce(&str) -> io::Result<L>,
     F: FnOnce(Option<SocketAddr>) -> io::Result<W>,
-    requires { F.IsAlwaysCallable opens }
+    requires commands { M.IsAlwaysCallable commands }
+    requires opens { F.IsAlwaysCallable opens }
     ensures fault { IfErr result (λ fault. fault ≢ ExitFault.Arguments) }
-    ensures serves { IfOk result (λ served. IsServed settings.now turns (C.readings clock.old) (C.readings clock.new) served) }
+    ensures serves { IfOk result (λ served. IsServed (TextFrom (λ lines. FnOnceReturnsAt M.FnOnce commands (string_bytes settings.now.commands) (Ok lines)) L.remaining)
+        (StateFrom (λ wire. F.post opens settings.now.listen (Ok wire)) W.state) settings.now turns (C.readings clock.old) (C.readings clock.new) served) }
 {
-    let mut served = begin(rt, settings, opens)?;
+    let mut served = begin(alloc, settings, commands, opens)?;
     take_turns(clock, &mut served, turns)?;
     show_routes(&served, output)?;
     Ok(served)
@@ -126,12 +171,15 @@ fn show_routes<B: Book<Global>, W: Wire + Drop, O: Write>(
 }
 
 // The settings in the file of this path.
-fn read_settings<R: Files + AllocGlobal>(rt: &R, path: &str) -> Result<SpeakerSettings, ExitFault>
+fn read_settings<S>(alloc: Global, path: &str, reads: S) -> Result<SpeakerSettings, ExitFault>
+where
+    S: FnOnce(&str) -> io::Result<Vec<u8>>,
+    requires { S.IsAlwaysCallable reads }
     ensures fault { IfErr result (λ fault. fault ≢ ExitFault.Arguments) }
-    ensures told { IfOk result (λ settings. (octets : List ℕ) × (table : Members) × IsTableOf octets table × IsToldBy table settings) }
+    ensures told { IfOk result (λ settings. (octets : Vec ℕ TheGlobal) × (table : Members) × FnOnceReturnsAt S.FnOnce reads path.now (Ok octets) × IsTableOf octets.items table × IsToldBy table settings) }
 {
-    let octets = fs::read(rt, path)?;
-    settings_in(rt.alloc(), octets.as_slice())
+    let octets = reads(path)?;
+    settings_in(alloc, octets.as_slice())
 }
 
 // The settings that the octets of a file tell.
@@ -146,35 +194,44 @@ fn settings_in(alloc: Global, octets: &[u8]) -> Result<SpeakerSettings, ExitFaul
 }
 
 // The loop of the settings, before its first turn.
-fn begin<B: Book<Global>, R: Files + AllocGlobal, W: Wire + Drop, F>(
-    rt: &R,
+fn begin<B: Book<Global>, L: BufRead + Drop, W: Wire + Drop, M, F>(
+    alloc: Global,
     settings: &SpeakerSettings,
+    commands: M,
     opens: F,
 ) -> Result<SpeakerLoop<W, Global, B>, ExitFault>
 where
+    M: FnOnce(&str) -> io::Result<L>,
     F: FnOnce(Option<SocketAddr>) -> io::Result<W>,
-    requires { F.IsAlwaysCallable opens }
+    requires commands { M.IsAlwaysCallable commands }
+    requires opens { F.IsAlwaysCallable opens }
     ensures fault { IfErr result (λ fault. fault ≢ ExitFault.Arguments) }
-    ensures begins { IfOk result (λ served. IsBegun settings.now served) }
+    ensures begins { IfOk result (λ served. IsBegun (TextFrom (λ lines. FnOnceReturnsAt M.FnOnce commands (string_bytes settings.now.commands) (Ok lines)) L.remaining)
+        (StateFrom (λ wire. F.post opens settings.now.listen (Ok wire)) W.state) settings.now served) }
 {
-    let speaker = commanded(rt, settings)?;
+    let speaker = commanded(alloc, settings, commands)?;
     let wire = opens(settings.listen)?;
-    let mut served = SpeakerLoop::new(rt.alloc(), wire, speaker)?;
+    let mut served = SpeakerLoop::new(alloc, wire, speaker)?;
     tell_remotes(settings, &mut served);
     Ok(served)
 }
 
 // The speaker of the settings, which has obeyed their commands.
-fn commanded<B: Book<Global>, R: Files + AllocGlobal>(
-    rt: &R,
+fn commanded<B: Book<Global>, L: BufRead + Drop, M>(
+    alloc: Global,
     settings: &SpeakerSettings,
+    commands: M,
 ) -> Result<Speaker<Global, B>, ExitFault>
+where
+    M: FnOnce(&str) -> io::Result<L>,
+    requires { M.IsAlwaysCallable commands }
     ensures fault { IfErr result (λ fault. fault ≢ ExitFault.Arguments) }
     ensures slots { IfOk result (HasJust settings.now.peers.items) }
-    ensures commands { IfOk result (IsCommanded (record { asn = settings.now.asn; identifier = settings.now.identifier; cache = is_some settings.now.cache })) }
+    ensures commands { IfOk result (λ speaker. (lines : L) × FnOnceReturnsAt M.FnOnce commands (string_bytes settings.now.commands) (Ok lines)
+        × IsCommanded (L.remaining lines) (record { asn = settings.now.asn; identifier = settings.now.identifier; cache = is_some settings.now.cache }) speaker) }
 {
-    let mut speaker = made(rt.alloc(), settings.config())?;
-    command(rt, settings, &mut speaker)?;
+    let mut speaker = made(alloc, settings.config())?;
+    command(alloc, settings, &mut speaker, commands)?;
     Ok(speaker)
 }
 
@@ -190,18 +247,21 @@ fn made<B: Book<Global>>(alloc: Global, config: Config) -> Result<Speaker<Global
 }
 
 // Hands the commands of the settings to the speaker, whose slots are to be just those of the settings then.
-fn command<B: Book<Global>, R: Files + AllocGlobal>(
-    rt: &R,
+fn command<B: Book<Global>, L: BufRead + Drop, M>(
+    alloc: Global,
     settings: &SpeakerSettings,
     speaker: &mut Speaker<Global, B>,
+    commands: M,
 ) -> Result<(), ExitFault>
+where
+    M: FnOnce(&str) -> io::Result<L>,
+    requires { M.IsAlwaysCallable commands }
     ensures fault { IfErr result (λ fault. fault ≢ ExitFault.Arguments) }
     ensures slots { OnOk result (HasJust settings.now.peers.items speaker.new) }
-    ensures commands { ObeysSome speaker.old speaker.new }
+    ensures commands { OnOk result ((lines : L) × FnOnceReturnsAt M.FnOnce commands (string_bytes settings.now.commands) (Ok lines) × ObeysText (L.remaining lines) speaker.old speaker.new) }
 {
-    let file = fs::open(rt, settings.commands.as_str())?;
-    let reader = BufReader::new(rt.alloc(), file)?;
-    command_from(rt.alloc(), reader, speaker)?;
+    let lines = commands(settings.commands.as_str())?;
+    command_from(alloc, lines, speaker)?;
     if !are_configured(speaker, settings.peers.as_slice()) {
         return Err(ExitFault::Settings);
     }
@@ -216,7 +276,7 @@ fn command_from<B: Book<Global>, R: BufRead + Drop>(
 ) -> Result<(), ExitFault>
     ensures fault { IfErr result (λ fault. fault ≢ ExitFault.Arguments) }
     ensures each { (text : List ℕ) → R.remaining reader ≡ Some text → IsCommandedBy (lines text) result speaker.old speaker.new }
-    ensures some { ObeysSome speaker.old speaker.new }
+    ensures obeys { OnOk result (ObeysText (R.remaining reader) speaker.old speaker.new) }
 {
     match obey_lines(alloc, reader, speaker) {
         Ok(()) => Ok(()),
@@ -263,7 +323,7 @@ fn take_turns<B: Book<Global>, C: SecondsClock, W: Wire + Drop>(
     served: &mut SpeakerLoop<W, Global, B>,
     turns: u64,
 ) -> Result<(), ExitFault>
-    ensures fault { IfErr result (λ fault. fault ≢ ExitFault.Arguments) }
+    ensures fault { IfErr result (λ fault. fault ≡ ExitFault.Device) }
     ensures turns { TakesSoMany turns result (C.readings clock.old) (C.readings clock.new) served.old served.new }
 {
     for _ in 0..turns {

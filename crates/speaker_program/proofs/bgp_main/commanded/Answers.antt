@@ -1,7 +1,7 @@
 use Rattle.std.proofs.Common.{[], subst}
-use Rattle.std.proofs.lemmas.List.{append-nil}
 use Rattle.speaker.specs.Agreement.{Agrees}
 use Rattle.speaker.specs.declared.config.Config.{Config}
+use Rattle.speaker_program.proofs.Commanding.{commanded_by}
 use Rattle.speaker_program.proofs.OtherFaults.{other_fault}
 use Rattle.speaker_program.proofs.bgp_main.commanded.Goals as goal
 
@@ -11,8 +11,8 @@ returns-in_err-command-clause-fault g c =
 
 pub returns-clause-commands : goal.returns-clause-commands
 returns-clause-commands g c =
-    let more = c.command.ensures.commands.1 c.config.result [] c.in_ok-speaker.ensures.agrees in
-    (c.command.ensures.commands.0, more.0, more.1, subst (λ (config : Config). Agrees config more.0 c.command.new.speaker) c.config.ensures (rw append-nil at more.2))
+    let obeys = c.in_ok-command.ensures.commands in
+    (obeys.0, obeys.1, commanded_by _ _ _ _ (subst (λ (config : Config). Agrees config [] c.in_ok-speaker.speaker) c.config.ensures c.in_ok-speaker.ensures.agrees) obeys.2)
 
 pub returns-in_err-speaker-clause-fault : goal.returns-in_err-speaker-clause-fault
 returns-in_err-speaker-clause-fault g c =
