@@ -1,94 +1,130 @@
--- Reading the list again (own): a list that can't be had leaves everything as it is, and one that can is published,
--- unless it is the one that is served.
-use Rattle.std.specs.Prelude.{◌≡◌, ◌⊎◌, ℕ, Bool, true, false, List, [], ◌∷◌, Option, Some, None, Result, Ok, Err, length}
-use Rattle.csv.specs.Reading.{default_config, records, strip_bom}
+-- Reading the list again (own): a list that can't be had, or that a guard refuses, leaves everything as it is, and any other
+-- is published, unless it is the one that is served.
+use Rattle.std.specs.Prelude.{◌≡◌, ℕ, Bool, true, false, List, [], ◌∷◌, Option, Some, None, Result, Ok, is_some, length}
+use Rattle.list_guards.specs.Guarding.{guard_fault}
+use Rattle.list_guards.specs.declared.GuardFault.{GuardFault}
+use Rattle.list_guards.specs.declared.Guards.{Guards}
 use Rattle.net_prefix.specs.declared.payload.Vrp.{Vrp}
+use Rattle.payload_lists.specs.PayloadLists.{IsListOf, IsRefusedAs}
+use Rattle.payload_lists.specs.declared.fault.PayloadListFault.{PayloadListFault}
 use Rattle.rtr_cache.specs.CacheState.{tells_serial}
 use Rattle.rtr_cache.specs.ClientHistory.{Loaded as Loads, Makes}
-use Rattle.vrp_csv.specs.PayloadList.{IsLoad, IsRefused}
-use Rattle.vrp_csv.specs.declared.fault.CsvFault.{CsvFault}
 use Rattle.vrp_csv.specs.declared.list.Loaded.{Loaded}
 use Rattle.vrp_delta.specs.Versions.{Version, is_newest_set, newest_serial, serial_after}
 use Rattle.cache_turns.specs.Turns.{TakesTurn, Turns}
 use Rattle.wires.specs.declared.fault.LoopFault.{LoopFault}
 use Rattle.cache_program.specs.declared.reread.ListFault.{ListFault}
-use Rattle.cache_program.specs.declared.reread.ListFault.TheVariants.{NoFile, Row, NoMemory}
+use Rattle.cache_program.specs.declared.reread.ListFault.TheVariants.{NoFile, List as OfList, Guard, NoMemory}
 use Rattle.cache_program.specs.declared.reread.Reread.{Reread}
 use Rattle.cache_program.specs.declared.reread.Reread.TheVariants.{Refused, Same, Published}
 
--- how many payloads the newest version has
-abbrev pub newest_count : List Version → ℕ
-newest_count [] = 0
-newest_count (version ∷ older) = length version.set
+-- the payloads of the newest version, and none before the first
+abbrev pub newest_set : List Version → List Vrp
+newest_set [] = []
+newest_set (version ∷ older) = version.set
 
--- a loop and what its cache serves: the newest serial, and how many payloads that version has
+-- a loop and what its cache serves: the newest serial, and how many payloads that version has. Lists have to keep to the
+-- guards, and one that could be had was read last at this moment
 pub record Served : Type 0 where
   pub turns : Turns
+  pub guards : Guards
   pub serial : ℕ
   pub payloads : ℕ
+  pub read : ℕ
 
 -- they are those of the newest version that is kept
 pub record IsNewest (kept : List Version) (serial payloads : ℕ) : Type 0 where
   pub serial_is : serial ≡ newest_serial kept
-  pub payloads_are : payloads ≡ newest_count kept
+  pub payloads_are : payloads ≡ length (newest_set kept)
+
+-- and what a guard looks at are these payloads
+pub record IsServing (guards : Guards) (kept : List Version) (serial payloads : ℕ) (looked_at : List Vrp) : Type 0 where
+  pub newest : IsNewest kept serial payloads
+  pub served : is_some guards.max_shrink ≡ true → looked_at ≡ newest_set kept
 
 -- what the cache keeps, the newest version first
 abbrev pub versions : Served → List Version
 versions served = served.turns.cache.shared.kept
 
+-- the payloads that are served
+abbrev pub served_set : Served → List Vrp
+served_set served = newest_set (versions served)
+
+-- why a set isn't served in the place of this one
+abbrev pub fault_of_guards : Served → List Vrp → Option GuardFault
+fault_of_guards served set = guard_fault served.guards (served_set served) set
+
 -- the set is that of the list that the text spells; of a file whose text isn't known nothing is said
 abbrev pub IsSetOfText : Option (List ℕ) → List Vrp → Type 0
 IsSetOfText file set =
     (text : List ℕ) → file ≡ Some text
-    → (loaded : Loaded) × IsLoad (records default_config (strip_bom text)) loaded × (set ≡ loaded.set.keys)
+    → (loaded : Loaded) × IsListOf text loaded × (set ≡ loaded.set.keys)
 
 -- the list of the text is refused so
-abbrev pub IsRefusedText : Option (List ℕ) → CsvFault → Type 0
-IsRefusedText file refused = (text : List ℕ) → file ≡ Some text → IsRefused (records default_config (strip_bom text)) refused.fault refused.row
+abbrev pub IsRefusedText : Option (List ℕ) → PayloadListFault → Type 0
+IsRefusedText file refused = (text : List ℕ) → file ≡ Some text → IsRefusedAs text refused
 
--- why the list of a file that was opened can't be had; that memory was refused is not said
-abbrev pub IsNoList : Option (List ℕ) → ListFault → Type 0
-IsNoList file NoFile = ⊥
-IsNoList file (Row refused) = IsRefusedText file refused
-IsNoList file NoMemory = Unit {0}
+-- so the guards judge the set of the list that the text spells
+pub record IsGuarded (file : Option (List ℕ)) (served : Served) (fault : Option GuardFault) : Type 0 where
+  pub set : List Vrp
+  pub of_text : IsSetOfText file set
+  pub judged : fault_of_guards served set ≡ fault
 
--- the set is handed to the cache, which changes nothing else: what it serves behind that has this serial
-pub record HandsIn (set : List Vrp) (old : Served) (under : ℕ) (new : Served) : Type 0 where
+-- why the list of a file that was opened can't be had: a fault of it, a guard, or that memory was refused to a list that passed
+abbrev pub IsNoList : Option (List ℕ) → Served → ListFault → Type 0
+IsNoList file served NoFile = ⊥
+IsNoList file served (OfList refused) = IsRefusedText file refused
+IsNoList file served (Guard why) = IsGuarded file served (Some why)
+IsNoList file served NoMemory = IsGuarded file served None
+
+-- the set is handed to the cache, which changes nothing else: what it serves behind that has this serial, and was read at
+-- this moment
+pub record HandsIn (now : ℕ) (set : List Vrp) (old : Served) (under : ℕ) (new : Served) : Type 0 where
   pub makes : Makes old.turns.cache (Loads set (Ok (tells_serial under))) new.turns.cache
   pub same : new.turns ≡ record old.turns { cache = new.turns.cache }
+  pub guards : new.guards ≡ old.guards
+  pub passes : fault_of_guards old set ≡ None
   pub serial : new.serial ≡ under
   pub payloads : new.payloads ≡ length set
+  pub read : new.read ≡ now
 
--- what handing in a set has led to: nothing, where there is no memory for it. Where it is the newest one already, the
--- same versions are kept; else it is one more, under the next serial
-abbrev pub Publishes : List Vrp → Served → Reread → Served → Type 0
-Publishes set old (Refused why) new = (why ≡ NoMemory) × (new ≡ old)
-Publishes set old Same new =
-    (is_newest_set (versions old) set ≡ true) × (versions new ≡ versions old) × HandsIn set old (newest_serial (versions old)) new
-Publishes set old (Published serial) new =
-    (is_newest_set (versions old) set ≡ false) × (serial ≡ serial_after (newest_serial (versions old))) × HandsIn set old serial new
+-- why a set isn't handed in: a guard, or that there is no memory for one that passed
+abbrev pub IsKeptOut : List Vrp → Served → ListFault → Type 0
+IsKeptOut set served NoFile = ⊥
+IsKeptOut set served (OfList refused) = ⊥
+IsKeptOut set served (Guard why) = fault_of_guards served set ≡ Some why
+IsKeptOut set served NoMemory = fault_of_guards served set ≡ None
+
+-- what handing in a set has led to: nothing, where a guard refuses it or there is no memory for it. Where it is the newest
+-- one already, the same versions are kept; else it is one more, under the next serial
+abbrev pub Publishes : ℕ → List Vrp → Served → Reread → Served → Type 0
+Publishes now set old (Refused why) new = IsKeptOut set old why × (new ≡ old)
+Publishes now set old Same new =
+    (is_newest_set (versions old) set ≡ true) × (versions new ≡ versions old) × HandsIn now set old (newest_serial (versions old)) new
+Publishes now set old (Published serial) new =
+    (is_newest_set (versions old) set ≡ false) × (serial ≡ serial_after (newest_serial (versions old))) × HandsIn now set old serial new
 
 -- what reading a file that was opened has led to: nothing, since its list can't be had, or the set that it spells was
 -- handed in
-abbrev pub RereadsFile : Option (List ℕ) → Served → Reread → Served → Type 0
-RereadsFile file old (Refused why) new = IsNoList file why × (new ≡ old)
-RereadsFile file old Same new = (set : List Vrp) × IsSetOfText file set × Publishes set old Same new
-RereadsFile file old (Published serial) new = (set : List Vrp) × IsSetOfText file set × Publishes set old (Published serial) new
+abbrev pub RereadsFile : ℕ → Option (List ℕ) → Served → Reread → Served → Type 0
+RereadsFile now file old (Refused why) new = IsNoList file old why × (new ≡ old)
+RereadsFile now file old Same new = (set : List Vrp) × IsSetOfText file set × Publishes now set old Same new
+RereadsFile now file old (Published serial) new = (set : List Vrp) × IsSetOfText file set × Publishes now set old (Published serial) new
 
 -- what reading the list again has led to: nothing, where its file couldn't be opened, or what reading the file has
-abbrev pub Rereads : {L E : Type 0} → (L → Option (List ℕ)) → Result L E → Served → Reread → Served → Type 0
-Rereads remaining (Ok file) old answer new = RereadsFile (remaining file) old answer new
-Rereads remaining (Err why) old answer new = (answer ≡ Refused NoFile) × (new ≡ old)
+abbrev pub Rereads : ℕ → Option (Option (List ℕ)) → Served → Reread → Served → Type 0
+Rereads now None old answer new = (answer ≡ Refused NoFile) × (new ≡ old)
+Rereads now (Some file) old answer new = RereadsFile now file old answer new
 
--- the list is read again just where it is due: its file is opened, or can't be
-abbrev pub RereadsWhenDue : {L : Type 0} → (L → Option (List ℕ)) → Bool → Served → Option Reread → Served → Type 0
-RereadsWhenDue remaining false old answer new = (answer ≡ None) × (new ≡ old)
-RereadsWhenDue {L} remaining true old answer new =
-    (led : Reread) × (answer ≡ Some led) × (((file : L) × RereadsFile (remaining file) old led new) ⊎ ((led ≡ Refused NoFile) × (new ≡ old)))
+-- the list is read again just where it is due: it is what the system gives at its path then
+abbrev pub RereadsWhenDue : (Option (Option (List ℕ)) → Type 0) → Bool → ℕ → Served → Option Reread → Served → Type 0
+RereadsWhenDue Lists false now old answer new = (answer ≡ None) × (new ≡ old)
+RereadsWhenDue Lists true now old answer new =
+    (led : Reread) × (answer ≡ Some led) × (list : Option (Option (List ℕ))) × Lists list × Rereads now list old led new
 
 -- what is done at a moment: the list is read again where it is due, and then a turn is taken
-pub record ServesAt {L : Type 0} (remaining : L → Option (List ℕ)) (is_due : Bool) (now : ℕ) (old : Served) (answer : Option Reread) (result : Result (Unit {0}) LoopFault) (new : Served) : Type 0 where
+pub record ServesAt (Lists : Option (Option (List ℕ)) → Type 0) (is_due : Bool) (now : ℕ) (old : Served) (answer : Option Reread) (result : Result (Unit {0}) LoopFault) (new : Served) : Type 0 where
   pub between : Served
-  pub rereads : RereadsWhenDue remaining is_due old answer between
+  pub rereads : RereadsWhenDue Lists is_due now old answer between
   pub takes : TakesTurn now between.turns result new.turns
   pub same : new ≡ record between { turns = new.turns }

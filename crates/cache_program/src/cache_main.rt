@@ -1,11 +1,13 @@
 //! What the main of `ovcache` does.
-ghost use Rattle.std.specs.Prelude.{◌≡◌, ◌≢◌, ◌≤◌, [], ℕ, List, Ok, Err, IfErr, IfOk, OnOk, false, if◌then◌else◌};
+ghost use Rattle.std.specs.Prelude.{◌≡◌, ◌≢◌, ◌≤◌, [], ℕ, List, Ok, Err, IfErr, IfOk, OnOk, false, if◌then◌else◌, string_bytes};
+ghost use Rattle.std.specs.Fn.{FnReturnsAt};
 ghost use Rattle.toml.specs.Data.{Members};
+ghost use Rattle.cache_program.specs.Opened.{AnyList, AnySecond, AnyWire, Gives, Listens, Tells};
 ghost use Rattle.cache_program.specs.Passing.{have_passed};
 ghost use Rattle.cache_program.specs.Rereads.{Served};
 ghost use Rattle.cache_program.specs.ServedTurns.{IsBegun, IsServed, ServesOnce, ServesSoMany};
-ghost use Rattle.cache_program.specs.ToldSettings.{IsCacheOf, IsToldBy};
-ghost use Rattle.cache_program.specs.declared.settings.CacheSettings.{CacheSettings};
+ghost use Rattle.cache_settings.specs.ToldSettings.{IsToldBy};
+ghost use Rattle.cache_settings.specs.declared.settings.CacheSettings.{CacheSettings};
 ghost use Rattle.settings_keys.specs.Keys.{IsTableOf};
 ghost use Rattle.cache_turns.specs.Turns.{idle};
 ghost use Rattle.program_endings.specs.Words.{IsCall};
@@ -16,7 +18,8 @@ use crate::journal::{LogLine, log};
 use crate::loading::load_cache;
 use crate::reread::Reread;
 use crate::served_list::ServedList;
-use crate::settings::CacheSettings;
+use crate::watched::Watched;
+use cache_settings::CacheSettings;
 use cache_turns::CacheLoop;
 use clocks::{MonotonicClock, SecondsClock};
 use net_wires::{NetWire, REST_MILLISECONDS};
@@ -24,10 +27,10 @@ use program_endings::{ExitFault, end, read_words};
 use rtr_cache::Cache;
 use std::alloc::{AllocGlobal, Global};
 use std::fs;
-use std::io::Write;
-use std::net::{Net, TcpListener, TcpStream};
+use std::io::{self, Read, Write};
+use std::net::{Net, SocketAddr, TcpListener, TcpStream};
 use std::rt::{Clock, Files};
-use std::time::Duration;
+use std::time::{Duration, SystemTime};
 use wires::Wire;
 
 /// `ovcache SETTINGS TURNS`: a cache that serves the list of its settings for so many turns. Its output is the log, and
@@ -46,32 +49,51 @@ where
     ensures silent { result ≡ 0 → errors.new ≡ errors.old }
     // The status is 0 only where the settings of some file were served for just the turns of the words.
     ensures serves { result ≡ 0 → (path : List ℕ) × (turns : ℕ) × (octets : List ℕ) × (table : Members) × (settings : CacheSettings) × (behind : List ℕ) × (served : Served)
-        × IsCall words.now path turns × IsTableOf octets table × IsToldBy table settings × IsServed settings turns [] behind served }
+        × IsCall words.now path turns × IsTableOf octets table × IsToldBy table settings × IsServed AnyList AnyWire AnySecond settings turns [] behind served }
 {
     let mut clock = MonotonicClock::new(rt);
-    end("ovcache", run_cache(rt, words, output, &mut clock), errors)
+    let served = run_cache(
+        rt,
+        words,
+        output,
+        &mut clock,
+        |path| fs::open(rt, path),
+        |listen| NetWire::listening(rt, listen),
+        || Ok(SystemTime::UNIX_EPOCH.elapsed(rt)?.as_secs()),
+    );
+    end("ovcache", served, errors)
 }
 
-// What the words ask for, by this clock.
-fn run_cache<R, O: Write, C: SecondsClock>(
+// What the words ask for, by this clock: a list is what opening its path answers, the wire what listening at an address does,
+// and the second of the start, since 1970, is told.
+fn run_cache<R, O: Write, C: SecondsClock, L: Read + Drop, W: Wire + Watched + Drop, F, G, S>(
     rt: &R,
     words: &[String],
     output: &mut O,
     clock: &mut C,
+    opens: F,
+    listens: G,
+    tells: S,
 ) -> Result<(), ExitFault>
 where
-    R: Net<Listener = TcpListener, Stream = TcpStream> + Files + Clock + AllocGlobal,
+    R: Files + Clock + AllocGlobal,
+    F: Fn(&str) -> io::Result<L>,
+    G: FnOnce(SocketAddr) -> io::Result<W>,
+    S: FnOnce() -> io::Result<u64>,
+    requires opens { F.IsAlwaysCallable opens }
+    requires listens { G.IsAlwaysCallable listens }
+    requires tells { S.IsAlwaysCallable tells }
     ensures wrong { ((path : List ℕ) (turns : ℕ) → ¬ (IsCall words.now path turns)) → result ≡ Err ExitFault.Arguments }
     ensures right { (path : List ℕ) (turns : ℕ) → IsCall words.now path turns → result ≢ Err ExitFault.Arguments }
     ensures output { result ≡ Err ExitFault.Arguments → output.new ≡ output.old }
     // Where all went well, the settings of some file were served for just the turns of the words.
     ensures serves { OnOk result ((path : List ℕ) × (turns : ℕ) × (octets : List ℕ) × (table : Members) × (settings : CacheSettings) × (served : Served)
         × IsCall words.now path turns × IsTableOf octets table × IsToldBy table settings
-        × IsServed settings turns (C.readings clock.old) (C.readings clock.new) served) }
+        × IsServed (Gives (FnReturnsAt F.Fn opens (string_bytes settings.csv)) L.remaining) (Listens (G.post listens settings.listen) W.state) (Tells (S.post tells)) settings turns (C.readings clock.old) (C.readings clock.new) served) }
 {
     let (path, turns) = read_words(words)?;
     let settings = read_settings(rt, path)?;
-    serve_cache(rt, &settings, turns, output, clock)
+    serve_cache(rt, &settings, turns, output, clock, opens, listens, tells)
 }
 
 // The settings in the file of this path.
@@ -95,119 +117,148 @@ fn settings_in(alloc: Global, octets: &[u8]) -> Result<CacheSettings, ExitFault>
 }
 
 /// Serves the list of these settings for so many turns, each at the moment that the clock tells for it: the list is read
-/// before the first, and again between two of them, as `ServedList::serve` says of each. Nothing is written to the output
-/// where they ask for no log.
-pub fn serve_cache<R, O: Write, C: SecondsClock>(
+/// before the first, and again between two of them, as `ServedList::serve` says of each. It is what `opens` answers at its
+/// path; the wire is what `listens` answers at the address where the settings listen, and `tells` is the second of the start,
+/// since 1970. Nothing is written to the output where they ask for no log.
+pub fn serve_cache<R, O: Write, C: SecondsClock, L: Read + Drop, W: Wire + Watched + Drop, F, G, S>(
     rt: &R,
     settings: &CacheSettings,
     turns: u64,
     output: &mut O,
     clock: &mut C,
+    opens: F,
+    listens: G,
+    tells: S,
 ) -> Result<(), ExitFault>
 where
-    R: Net<Listener = TcpListener, Stream = TcpStream> + Files + Clock + AllocGlobal,
+    R: Files + Clock + AllocGlobal,
+    F: Fn(&str) -> io::Result<L>,
+    G: FnOnce(SocketAddr) -> io::Result<W>,
+    S: FnOnce() -> io::Result<u64>,
+    requires opens { F.IsAlwaysCallable opens }
+    requires listens { G.IsAlwaysCallable listens }
+    requires tells { S.IsAlwaysCallable tells }
     ensures fault { IfErr result (λ fault. fault ≢ ExitFault.Arguments) }
     ensures quiet { settings.now.log ≡ false → output.new ≡ output.old }
-    ensures serves { OnOk result ((served : Served) × IsServed settings.now turns (C.readings clock.old) (C.readings clock.new) served) }
+    ensures serves { OnOk result ((served : Served) × IsServed (Gives (FnReturnsAt F.Fn opens (string_bytes settings.now.csv)) L.remaining) (Listens (G.post listens settings.now.listen) W.state) (Tells (S.post tells)) settings.now turns (C.readings clock.old) (C.readings clock.new) served) }
 {
-    let mut served = begin(rt, settings, output)?;
+    let mut served = begin(rt, settings, output, &opens, listens, tells)?;
     // The moment 0, from which the list is read again.
     let _start = clock.read()?;
-    take_turns(rt, settings, &mut served, turns, output, clock)
+    take_turns(rt, settings, &mut served, turns, output, clock, &opens)
 }
 
 // The list of the settings, before its first turn.
-fn begin<'a, R, O: Write>(
-    rt: &'a R,
+fn begin<R, O: Write, L: Read + Drop, W: Wire + Watched + Drop, F, G, S>(
+    rt: &R,
     settings: &CacheSettings,
     output: &mut O,
-) -> Result<ServedList<NetWire<'a, R>>, ExitFault>
+    opens: &F,
+    listens: G,
+    tells: S,
+) -> Result<ServedList<W>, ExitFault>
 where
-    R: Net<Listener = TcpListener, Stream = TcpStream> + Files + Clock + AllocGlobal,
+    R: Clock + AllocGlobal,
+    F: Fn(&str) -> io::Result<L>,
+    G: FnOnce(SocketAddr) -> io::Result<W>,
+    S: FnOnce() -> io::Result<u64>,
+    requires opens { F.IsAlwaysCallable opens.now }
+    requires listens { G.IsAlwaysCallable listens }
+    requires tells { S.IsAlwaysCallable tells }
     ensures fault { IfErr result (λ fault. fault ≢ ExitFault.Arguments) }
-    ensures begins { IfOk result (IsBegun settings.now) }
+    ensures begins { IfOk result (IsBegun (Gives (FnReturnsAt F.Fn opens.now (string_bytes settings.now.csv)) L.remaining) (Listens (G.post listens settings.now.listen) W.state) (Tells (S.post tells)) settings.now) }
     ensures quiet { settings.now.log ≡ false → output.new ≡ output.old }
 {
-    let (cache, serial, payloads) = load_cache(rt, settings, output)?;
-    let turns = over_sockets(rt, settings, cache)?;
-    Ok(ServedList::new(turns, serial, payloads))
+    let second = tells()?;
+    let (cache, serial, set) = load_cache(rt, settings, second, output, opens)?;
+    let turns = over_wire(rt.alloc(), settings, cache, listens)?;
+    Ok(ServedList::new(turns, settings.guards, serial, set))
 }
 
 // The turns of a cache where the settings say that it listens.
-fn over_sockets<'a, R>(
-    rt: &'a R,
+fn over_wire<W: Wire + Drop, G>(
+    alloc: Global,
     settings: &CacheSettings,
     cache: Cache,
-) -> Result<CacheLoop<NetWire<'a, R>>, ExitFault>
+    listens: G,
+) -> Result<CacheLoop<W>, ExitFault>
 where
-    R: Net<Listener = TcpListener, Stream = TcpStream> + AllocGlobal,
+    G: FnOnce(SocketAddr) -> io::Result<W>,
+    requires { G.IsAlwaysCallable listens }
     ensures fault { IfErr result (λ fault. fault ≢ ExitFault.Arguments) }
-    ensures idle { IfOk result (λ turns. (wire : WireState) × (turns ≡ idle settings.now.patience cache wire)) }
+    ensures idle { IfOk result (λ turns. (wire : WireState) × Listens (G.post listens settings.now.listen) W.state wire × (turns ≡ idle settings.now.patience cache wire)) }
 {
-    let wire = NetWire::listening(rt, settings.listen)?;
-    Ok(CacheLoop::with_patience(rt.alloc(), wire, cache, settings.patience)?)
+    let wire = listens(settings.listen)?;
+    Ok(CacheLoop::with_patience(alloc, wire, cache, settings.patience)?)
 }
 
 // So many turns, each at the moment that is read for it.
-fn take_turns<R, O: Write, C: SecondsClock>(
+fn take_turns<R, O: Write, C: SecondsClock, L: Read + Drop, W: Wire + Watched + Drop, F>(
     rt: &R,
     settings: &CacheSettings,
-    served: &mut ServedList<NetWire<'_, R>>,
+    served: &mut ServedList<W>,
     turns: u64,
     output: &mut O,
     clock: &mut C,
+    opens: &F,
 ) -> Result<(), ExitFault>
 where
-    R: Net<Listener = TcpListener, Stream = TcpStream> + Files + Clock + AllocGlobal,
+    R: Files + Clock + AllocGlobal,
+    F: Fn(&str) -> io::Result<L>,
+    requires { F.IsAlwaysCallable opens.now }
     ensures fault { IfErr result (λ fault. fault ≢ ExitFault.Arguments) }
     ensures quiet { settings.now.log ≡ false → output.new ≡ output.old }
-    ensures turns { OnOk result (ServesSoMany settings.now.reread turns (C.readings clock.old) (C.readings clock.new) served.old served.new) }
+    ensures turns { OnOk result (ServesSoMany (Gives (FnReturnsAt F.Fn opens.now (string_bytes settings.now.csv)) L.remaining) settings.now.reread turns (C.readings clock.old) (C.readings clock.new) served.old served.new) }
 {
     let mut reread = Every::new(settings.reread);
     let mut status = Every::new(settings.status);
     for _ in 0..turns {
         let now = clock.read()?;
-        serve_once(rt, settings, served, now, &mut reread, output)?;
-        rest(rt, settings.log, served, status.is_due(now), output);
+        serve_once(rt, settings, served, now, &mut reread, output, opens)?;
+        rest(rt, settings, served, now, status.is_due(now), output);
     }
     Ok(())
 }
 
 // The end of what is done at a moment: the status is told where it is due, and then the sockets rest.
-fn rest<R: Clock, W: Wire + Drop, O: Write>(
+fn rest<R: Files + Clock, W: Wire + Drop, O: Write>(
     rt: &R,
-    is_on: bool,
+    settings: &CacheSettings,
     served: &mut ServedList<W>,
+    now: u64,
     is_due: bool,
     output: &mut O,
 )
     ensures same { served.new ≡ served.old }
-    ensures quiet { is_on ≡ false → output.new ≡ output.old }
+    ensures quiet { settings.now.log ≡ false → output.new ≡ output.old }
 {
     if is_due {
-        tell_status(rt, is_on, served, output);
+        tell_status(rt, settings.log, served, now, output);
+        tell_age(rt, settings, output);
     }
     served.wait(Duration::from_millis(REST_MILLISECONDS));
 }
 
 // What is done at a moment, and what the log says of it.
-fn serve_once<R, O: Write>(
+fn serve_once<R, O: Write, L: Read + Drop, W: Wire + Watched + Drop, F>(
     rt: &R,
     settings: &CacheSettings,
-    served: &mut ServedList<NetWire<'_, R>>,
+    served: &mut ServedList<W>,
     now: u64,
     reread: &mut Every,
     output: &mut O,
+    opens: &F,
 ) -> Result<(), ExitFault>
 where
-    R: Net<Listener = TcpListener, Stream = TcpStream> + Files + Clock + AllocGlobal,
+    R: Clock + AllocGlobal,
+    F: Fn(&str) -> io::Result<L>,
+    requires { F.IsAlwaysCallable opens.now }
     ensures fault { IfErr result (λ fault. fault ≢ ExitFault.Arguments) }
     ensures quiet { settings.now.log ≡ false → output.new ≡ output.old }
     ensures due { reread.new ≡ record reread.old { last = if have_passed reread.old.seconds reread.old.last now then now else reread.old.last } }
-    ensures serves { OnOk result (ServesOnce (have_passed reread.old.seconds reread.old.last now) now served.old served.new) }
+    ensures serves { OnOk result (ServesOnce (Gives (FnReturnsAt F.Fn opens.now (string_bytes settings.now.csv)) L.remaining) (have_passed reread.old.seconds reread.old.last now) now served.old served.new) }
 {
-    let list = || fs::open(rt, settings.csv.as_str());
-    let (led, turned) = served.serve(rt.alloc(), now, reread, list);
+    let (led, turned) = served.serve(rt.alloc(), now, reread, settings.csv.as_str(), opens);
     if let Some(led) = led {
         tell_list(rt, settings.log, led, served.payloads(), output);
     }
@@ -229,20 +280,18 @@ fn tell_list<R: Clock, O: Write>(rt: &R, is_on: bool, led: Reread, payloads: usi
 }
 
 // Writes what the last turn saw of routers to the log.
-fn tell_routers<R, O: Write>(
+fn tell_routers<R: Clock, W: Wire + Watched + Drop, O: Write>(
     rt: &R,
     is_on: bool,
-    served: &ServedList<NetWire<'_, R>>,
+    served: &ServedList<W>,
     output: &mut O,
 )
-where
-    R: Net<Listener = TcpListener, Stream = TcpStream> + Files + Clock + AllocGlobal,
     ensures { is_on ≡ false → output.new ≡ output.old }
 {
     if !is_on {
         return;
     }
-    for event in served.turns().wire().events() {
+    for event in served.turns().wire().seen() {
         log(rt, is_on, output, LogLine::Router(*event));
     }
 }
@@ -252,6 +301,7 @@ fn tell_status<R: Clock, W: Wire + Drop, O: Write>(
     rt: &R,
     is_on: bool,
     served: &ServedList<W>,
+    now: u64,
     output: &mut O,
 )
     ensures { is_on ≡ false → output.new ≡ output.old }
@@ -269,6 +319,28 @@ fn tell_status<R: Clock, W: Wire + Drop, O: Write>(
         without: holding.without,
         octets_in: wire.octets_in(),
         octets_out: wire.octets_out(),
+        seconds: now.saturating_sub(served.read()),
     };
     log(rt, is_on, output, line);
+}
+
+// Warns in the log where the list's file was written too long ago, or its time can't be told.
+fn tell_age<R: Files + Clock, O: Write>(rt: &R, settings: &CacheSettings, output: &mut O)
+    ensures { settings.now.log ≡ false → output.new ≡ output.old }
+{
+    let Some(most) = settings.max_age else {
+        return;
+    };
+    let line = match age_of(rt, settings.csv.as_str()) {
+        Ok(seconds) if seconds <= most as u64 => return,
+        Ok(seconds) => LogLine::Old { seconds, most },
+        Err(_) => LogLine::NoAge,
+    };
+    log(rt, settings.log, output, line);
+}
+
+// How many seconds ago a file was written.
+fn age_of<R: Files + Clock>(rt: &R, path: &str) -> io::Result<u64> {
+    let written = fs::metadata(rt, path)?.modified()?;
+    Ok(written.elapsed(rt)?.as_secs())
 }

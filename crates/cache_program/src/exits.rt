@@ -1,19 +1,55 @@
 //! What faults of the list and of the cache are to the program.
 ghost use Rattle.std.specs.Prelude.{◌≡◌, ◌≢◌};
-ghost use Rattle.cache_program.specs.Exits.{exit_of_list, exit_of_refusal};
+ghost use Rattle.cache_program.specs.Exits.{exit_of_first_list, exit_of_json, exit_of_list, exit_of_refusal, exit_of_row};
 
+use crate::reread::ListFault;
+use payload_lists::PayloadListFault;
 use program_endings::ExitFault;
 use rtr_cache::CacheRefusal;
-use vrp_csv::{CsvFault, RowFault};
+use vrp_csv::RowFault;
+use vrp_json::JsonFault;
 
 /// What ends the program where its list is refused.
-pub fn of_list(refused: CsvFault) -> ExitFault
-    ensures exit { result ≡ exit_of_list refused.fault }
+pub fn of_list(refused: PayloadListFault) -> ExitFault
+    ensures exit { result ≡ exit_of_list refused }
     ensures other { result ≢ ExitFault.Arguments }
 {
-    match refused.fault {
+    match refused {
+        PayloadListFault::Row(refused) => of_row(refused.fault),
+        PayloadListFault::Json(fault) => of_json(fault),
+        PayloadListFault::Io => ExitFault::Device,
+    }
+}
+
+fn of_row(fault: RowFault) -> ExitFault
+    ensures exit { result ≡ exit_of_row fault }
+    ensures other { result ≢ ExitFault.Arguments }
+{
+    match fault {
         RowFault::Io | RowFault::NoMemory => ExitFault::Device,
         _ => ExitFault::Settings,
+    }
+}
+
+fn of_json(fault: JsonFault) -> ExitFault
+    ensures exit { result ≡ exit_of_json fault }
+    ensures other { result ≢ ExitFault.Arguments }
+{
+    match fault {
+        JsonFault::NoMemory => ExitFault::Device,
+        _ => ExitFault::Settings,
+    }
+}
+
+/// What ends the program where its first list can't be had.
+pub fn of_first_list(why: ListFault) -> ExitFault
+    ensures exit { result ≡ exit_of_first_list why }
+    ensures other { result ≢ ExitFault.Arguments }
+{
+    match why {
+        ListFault::List(refused) => of_list(refused),
+        ListFault::Guard(_) => ExitFault::Settings,
+        ListFault::NoFile | ListFault::NoMemory => ExitFault::Device,
     }
 }
 

@@ -21,12 +21,21 @@ pub enum LogLine {
     /// A list can't be had.
     #[error("list refused: {0}")]
     Refused(ListFault),
+    /// The list's file was written longer ago than it may be.
+    #[error("list old: written {seconds} seconds ago, and {most} may be")]
+    Old {
+        seconds: u64,
+        most: u32,
+    },
+    /// When the list's file was written can't be told.
+    #[error("list old: when it was written can't be told")]
+    NoAge,
     /// A router came or went.
     #[error("{0}")]
     Router(RouterEvent),
-    /// What is served, to how many routers, how many of them hold it, another list, and none, and how many octets came
-    /// and went since the start.
-    #[error("status: serial {serial}, payloads {payloads}, routers {routers} ({current} current, {behind} behind, {without} without), octets {octets_in} in, {octets_out} out")]
+    /// What is served, to how many routers, how many of them hold it, another list, and none, how many octets came and went
+    /// since the start, and how many seconds ago a list was read that could be had.
+    #[error("status: serial {serial}, payloads {payloads}, routers {routers} ({current} current, {behind} behind, {without} without), octets {octets_in} in, {octets_out} out, list read {seconds} seconds ago")]
     Status {
         serial: u32,
         payloads: usize,
@@ -36,6 +45,7 @@ pub enum LogLine {
         without: usize,
         octets_in: u64,
         octets_out: u64,
+        seconds: u64,
     },
 }
 

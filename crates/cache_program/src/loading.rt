@@ -1,48 +1,57 @@
 //! The cache of settings, and the list with which it begins.
-ghost use Rattle.std.specs.Prelude.{◌≡◌, ◌≢◌, IfErr, IfOk, false, length};
-ghost use Rattle.cache_program.specs.Rereads.{IsNewest};
-ghost use Rattle.cache_program.specs.ToldSettings.{IsCacheOf, IsSessionOf};
+ghost use Rattle.std.specs.Prelude.{◌≡◌, ◌≢◌, [], IfErr, IfOk, MatchResult, None, false, string_bytes};
+ghost use Rattle.std.specs.Fn.{FnReturnsAt};
+ghost use Rattle.list_guards.specs.Guarding.{guard_fault};
+ghost use Rattle.cache_program.specs.CacheOfSettings.{IsCacheOf, IsSessionOf};
+ghost use Rattle.cache_program.specs.FirstList.{IsFirst, IsNoFirst, IsRefusedFirst, Passes};
+ghost use Rattle.cache_program.specs.Opened.{Gives};
+ghost use Rattle.vrp_delta.specs.Versions.{kept_after, newest_serial};
 
-use crate::exits::{of_list, of_refusal};
+use crate::exits::{of_first_list, of_refusal};
 use crate::journal::{LogLine, log};
 use crate::reread::ListFault;
-use crate::settings::{CacheSettings, SessionSource};
+use cache_settings::{CacheSettings, SessionSource};
+use list_guards::Guards;
 use net_prefix::Vrp;
+use payload_lists::read_payloads;
 use program_endings::ExitFault;
 use rtr_cache::{Cache, CacheEvent};
-use std::alloc::AllocGlobal;
+use std::alloc::{AllocGlobal, Global};
 use std::collections::BTreeSet;
-use std::fs;
-use std::io::{Read, Write};
-use std::rt::{Clock, Files};
-use std::time::SystemTime;
-use vrp_csv::{Loaded, read_list};
+use std::io::{self, Read, Write};
+use std::rt::Clock;
 
-/// The cache of the settings, with their list: its serial, and how many payloads it has.
-pub(crate) fn load_cache<R: Files + Clock + AllocGlobal, O: Write>(
+/// The cache of the settings, begun in this second since 1970, with the list that is opened at their path: its serial, and
+/// its payloads.
+pub(crate) fn load_cache<R: Clock + AllocGlobal, O: Write, L: Read + Drop, F>(
     rt: &R,
     settings: &CacheSettings,
+    second: u64,
     output: &mut O,
-) -> Result<(Cache, u32, usize), ExitFault>
+    opens: &F,
+) -> Result<(Cache, u32, BTreeSet<Vrp>), ExitFault>
+where
+    F: Fn(&str) -> io::Result<L>,
+    requires { F.IsAlwaysCallable opens.now }
     ensures fault { IfErr result (λ fault. fault ≢ ExitFault.Arguments) }
-    ensures cache { IfOk result (λ loaded. IsCacheOf settings.now loaded.0) }
-    ensures newest { IfOk result (λ loaded. IsNewest loaded.0.shared.kept loaded.1 loaded.2) }
+    ensures cache { IfOk result (λ loaded. IsCacheOf settings.now second loaded.0) }
+    ensures first { IfOk result (λ loaded. IsFirst (Gives (FnReturnsAt F.Fn opens.now (string_bytes settings.now.csv)) L.remaining) settings.now.guards loaded.0.shared.kept loaded.1 loaded.2.keys) }
     ensures quiet { settings.now.log ≡ false → output.new ≡ output.old }
 {
-    let mut cache = made_cache(rt, settings)?;
-    let (serial, payloads) = load_list(rt, settings, &mut cache, output)?;
-    Ok((cache, serial, payloads))
+    let mut cache = made_cache(rt.alloc(), settings, second)?;
+    let (serial, set) = load_list(rt, settings, &mut cache, output, opens)?;
+    Ok((cache, serial, set))
 }
 
 // The cache of the settings, without a list.
-fn made_cache<R: Clock + AllocGlobal>(rt: &R, settings: &CacheSettings) -> Result<Cache, ExitFault>
+fn made_cache(alloc: Global, settings: &CacheSettings, second: u64) -> Result<Cache, ExitFault>
     ensures fault { IfErr result (λ fault. fault ≢ ExitFault.Arguments) }
-    ensures cache { IfOk result (IsCacheOf settings.now) }
+    ensures cache { IfOk result (IsCacheOf settings.now second) }
+    ensures none { IfOk result (λ cache. cache.shared.kept ≡ []) }
 {
-    let session = session_id(rt, settings.session)?;
     let made = Cache::with_other_session(
-        rt.alloc(),
-        session,
+        alloc,
+        session_id(settings.session, second),
         settings.intervals,
         settings.other_session,
     );
@@ -53,65 +62,94 @@ fn made_cache<R: Clock + AllocGlobal>(rt: &R, settings: &CacheSettings) -> Resul
 }
 
 // The session id. By the clock it is the low 16 bits of the seconds since 1970: another one in each of 65,536 seconds.
-fn session_id<R: Clock>(rt: &R, session: SessionSource) -> Result<u16, ExitFault>
-    ensures fault { IfErr result (λ fault. fault ≢ ExitFault.Arguments) }
-    ensures session { IfOk result (IsSessionOf session) }
+fn session_id(session: SessionSource, second: u64) -> u16
+    ensures { IsSessionOf session second result }
 {
     match session {
-        SessionSource::Id(id) => Ok(id),
-        SessionSource::Clock => Ok((SystemTime::UNIX_EPOCH.elapsed(rt)?.as_secs() % 65_536) as u16),
+        SessionSource::Id(id) => id,
+        SessionSource::Clock => (second % 65_536) as u16,
     }
 }
 
 // Has the cache serve the list of the settings.
-fn load_list<R: Files + Clock + AllocGlobal, O: Write>(
+fn load_list<R: Clock + AllocGlobal, O: Write, L: Read + Drop, F>(
     rt: &R,
     settings: &CacheSettings,
     cache: &mut Cache,
     output: &mut O,
-) -> Result<(u32, usize), ExitFault>
+    opens: &F,
+) -> Result<(u32, BTreeSet<Vrp>), ExitFault>
+where
+    F: Fn(&str) -> io::Result<L>,
+    requires opens { F.IsAlwaysCallable opens.now }
+    requires none { cache.old.shared.kept ≡ [] }
     ensures fault { IfErr result (λ fault. fault ≢ ExitFault.Arguments) }
     ensures terms { IfOk result (λ loaded. cache.new.shared ≡ record cache.old.shared { kept = cache.new.shared.kept }) }
-    ensures newest { IfOk result (λ loaded. IsNewest cache.new.shared.kept loaded.0 loaded.1) }
+    ensures first { IfOk result (λ loaded. IsFirst (Gives (FnReturnsAt F.Fn opens.now (string_bytes settings.now.csv)) L.remaining) settings.now.guards cache.new.shared.kept loaded.0 loaded.1.keys) }
     ensures quiet { settings.now.log ≡ false → output.new ≡ output.old }
 {
-    let list = fs::open(rt, settings.csv.as_str())?;
-    let loaded = read_told(rt, settings.log, list, output)?;
-    let serial = publish(cache, &loaded.set)?;
-    let payloads = loaded.set.len();
+    let list = opens(settings.csv.as_str())?;
+    let set = read_told(rt, settings, list, output)?;
+    let serial = publish(cache, &set)?;
+    let payloads = set.len();
     log(
         rt,
         settings.log,
         output,
         LogLine::Loaded { serial, payloads },
     );
-    Ok((serial, payloads))
+    Ok((serial, set))
 }
 
-// The list of a file; where it is refused, the log tells why.
+// The set of a file's list; where it can't be had, the log tells why.
 fn read_told<R: Clock + AllocGlobal, L: Read + Drop, O: Write>(
     rt: &R,
-    is_on: bool,
+    settings: &CacheSettings,
     list: L,
     output: &mut O,
-) -> Result<Loaded, ExitFault>
+) -> Result<BTreeSet<Vrp>, ExitFault>
     ensures fault { IfErr result (λ fault. fault ≢ ExitFault.Arguments) }
-    ensures quiet { is_on ≡ false → output.new ≡ output.old }
+    ensures set { IfOk result (λ set. Passes settings.now.guards (L.remaining list) set.keys) }
+    ensures quiet { settings.now.log ≡ false → output.new ≡ output.old }
 {
-    match read_list(rt.alloc(), list) {
-        Ok(loaded) => Ok(loaded),
-        Err(refused) => {
-            log(rt, is_on, output, LogLine::Refused(ListFault::Row(refused)));
-            Err(of_list(refused))
+    match first_set(rt.alloc(), &settings.guards, list) {
+        Ok(set) => Ok(set),
+        Err(why) => {
+            log(rt, settings.log, output, LogLine::Refused(why));
+            Err(of_first_list(why))
         }
+    }
+}
+
+// The set of a file's list, where it is a list and the guards let it be served first.
+fn first_set<L: Read + Drop>(
+    alloc: Global,
+    guards: &Guards,
+    list: L,
+) -> Result<BTreeSet<Vrp>, ListFault>
+    ensures { MatchResult result (λ set. Passes guards.now (L.remaining list) set.keys) (λ why. IsNoFirst guards.now (L.remaining list) why) }
+{
+    match read_payloads(alloc, list) {
+        Ok(loaded) => guarded(alloc, guards, loaded.set),
+        Err(refused) => Err(ListFault::List(refused)),
+    }
+}
+
+// The set, where the guards let it be served first.
+fn guarded(alloc: Global, guards: &Guards, set: BTreeSet<Vrp>) -> Result<BTreeSet<Vrp>, ListFault>
+    ensures { MatchResult result (λ passed. (passed ≡ set) × (guard_fault guards.now [] set.keys ≡ None)) (λ why. IsRefusedFirst guards.now set.keys why) }
+{
+    match guards.judge(&BTreeSet::new(alloc), &set) {
+        Ok(()) => Ok(set),
+        Err(why) => Err(ListFault::Guard(why)),
     }
 }
 
 // Hands the set to the cache, which serves it under this serial.
 fn publish(cache: &mut Cache, set: &BTreeSet<Vrp>) -> Result<u32, ExitFault>
     ensures fault { IfErr result (λ fault. fault ≢ ExitFault.Arguments) }
-    ensures terms { IfOk result (λ serial. cache.new.shared ≡ record cache.old.shared { kept = cache.new.shared.kept }) }
-    ensures newest { IfOk result (λ serial. IsNewest cache.new.shared.kept serial (length set.now.keys)) }
+    ensures terms { IfOk result (λ serial. cache.new.shared ≡ record cache.old.shared { kept = kept_after cache.old.shared.kept set.now.keys }) }
+    ensures serial { IfOk result (λ serial. serial ≡ newest_serial cache.new.shared.kept) }
 {
     match cache.step(CacheEvent::Load(set)) {
         Ok(report) => Ok(report.serial.unwrap_or(0)),

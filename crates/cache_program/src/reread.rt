@@ -1,6 +1,7 @@
 //! What reading the list again has led to.
+use list_guards::GuardFault;
+use payload_lists::PayloadListFault;
 use thiserror::Error;
-use vrp_csv::CsvFault;
 
 /// Why a list can't be had.
 #[derive(Clone, Copy, Debug, PartialEq, Eq, Error)]
@@ -8,9 +9,12 @@ pub enum ListFault {
     /// The file can't be opened.
     #[error("the file can't be opened")]
     NoFile,
-    /// The list is refused at a row, or reading failed there.
+    /// The list is refused, or reading failed.
     #[error("{0}")]
-    Row(CsvFault),
+    List(PayloadListFault),
+    /// A guard of the settings refuses it.
+    #[error("{0}")]
+    Guard(GuardFault),
     /// The cache has no memory for it.
     #[error("there is no memory to publish it")]
     NoMemory,

@@ -1,51 +1,66 @@
 //! A payload list that is served while its file changes.
-ghost use Rattle.std.specs.Prelude.{◌≡◌, if◌then◌else◌};
+ghost use Rattle.std.specs.Prelude.{◌≡◌, None, Some, MatchResult, if◌then◌else◌, is_some, length, true};
+ghost use Rattle.std.specs.Fn.{FnReturnsAt};
 ghost use Rattle.cache_turns.specs.Turns.{TakesTurn};
+ghost use Rattle.list_guards.specs.Guarding.{guard_fault};
+ghost use Rattle.cache_program.specs.Opened.{Gives, opened};
 ghost use Rattle.cache_program.specs.Passing.{have_passed};
-ghost use Rattle.cache_program.specs.Rereads.{IsNewest, Publishes, Rereads, RereadsWhenDue, ServesAt};
+ghost use Rattle.cache_program.specs.Rereads.{IsNewest, Publishes, Rereads, RereadsWhenDue, ServesAt, newest_set, served_set};
 
 use crate::every::Every;
 use crate::reread::{ListFault, Reread};
 use cache_turns::CacheLoop;
+use list_guards::{GuardFault, Guards};
 use net_prefix::Vrp;
+use payload_lists::read_payloads;
 use std::alloc::Global;
 use std::collections::BTreeSet;
 use std::io::{self, Read};
 use std::marker::Model;
 use std::time::Duration;
-use vrp_csv::read_list;
 use wires::{LoopFault, Wire};
 
 /// The turns of a cache, and what it serves.
 #[derive(Drop)]
 pub struct ServedList<W: Wire> {
     turns: CacheLoop<W>,
+    // What a list has to keep to.
+    guards: Guards,
     // The serial that is served.
     serial: u32,
     // How many payloads the set that is served has.
     payloads: usize,
+    // The set that is served, where a guard looks at it.
+    looked_at: BTreeSet<Vrp>,
+    // The moment when a list was read last that could be had.
+    read: u64,
 }
 
 impl<W: Wire> Model for ServedList<W> {
-    ghost use Rattle.cache_program.specs.Rereads.{IsNewest, Served};
+    ghost use Rattle.cache_program.specs.Rereads.{IsServing, Served};
 
     ghost Value = { Served };
 
-    ghost view = { λ s. record { turns = s.turns; serial = s.serial; payloads = s.payloads } };
+    ghost view = { λ s. record { turns = s.turns; guards = s.guards; serial = s.serial; payloads = s.payloads; read = s.read } };
 
-    ghost invariant = { λ s. IsNewest s.turns.cache.shared.kept s.serial s.payloads };
+    ghost invariant = { λ s. IsServing s.guards s.turns.cache.shared.kept s.serial s.payloads s.looked_at.keys };
 }
 
 impl<W: Wire + Drop> ServedList<W> {
-    /// The turns of a cache that serves so many payloads under this serial.
-    pub fn new(turns: CacheLoop<W>, serial: u32, payloads: usize) -> Self
-        requires { IsNewest turns.cache.shared.kept serial payloads }
-        ensures { result ≡ record { turns = turns; serial = serial; payloads = payloads } }
+    /// The turns of a cache that serves this set under this serial, at the moment 0. Lists have to keep to these guards.
+    pub fn new(turns: CacheLoop<W>, guards: Guards, serial: u32, set: BTreeSet<Vrp>) -> Self
+        requires newest { IsNewest turns.cache.shared.kept serial (length set.keys) }
+        requires set { set.keys ≡ newest_set turns.cache.shared.kept }
+        ensures { result ≡ record { turns = turns; guards = guards; serial = serial; payloads = length set.keys; read = 0 } }
     {
+        let payloads = set.len();
         ServedList {
             turns,
+            guards,
             serial,
             payloads,
+            looked_at: kept_for(&guards, set),
+            read: 0,
         }
     }
 
@@ -57,36 +72,38 @@ impl<W: Wire + Drop> ServedList<W> {
         self.turns.turn(now)
     }
 
-    /// What is done at a moment: where the list is due, its file is opened and it is read again; then a turn is taken.
+    /// What is done at a moment: where the list is due, its path is opened and it is read again; then a turn is taken.
     /// Answers what reading the list again has led to, where it was due, and what the turn has.
-    pub fn serve<L: Read + Drop, F: FnOnce() -> io::Result<L>>(
+    pub fn serve<L: Read + Drop, F: Fn(&str) -> io::Result<L>>(
         &mut self,
         alloc: Global,
         now: u64,
         due: &mut Every,
-        opens: F,
+        path: &str,
+        opens: &F,
     ) -> (Option<Reread>, Result<(), LoopFault>)
-        requires { F.IsAlwaysCallable opens }
-        ensures serves { ServesAt L.remaining (have_passed due.old.seconds due.old.last now) now self.old result.0 result.1 self.new }
+        requires { F.IsAlwaysCallable opens.now }
+        ensures serves { ServesAt (Gives (FnReturnsAt F.Fn opens.now path.now) L.remaining) (have_passed due.old.seconds due.old.last now) now self.old result.0 result.1 self.new }
         ensures due { due.new ≡ record due.old { last = if have_passed due.old.seconds due.old.last now then now else due.old.last } }
     {
-        let reread = self.reread_when_due(alloc, now, due, opens);
+        let reread = self.reread_when_due(alloc, now, due, path, opens);
         (reread, self.turn(now))
     }
 
-    fn reread_when_due<L: Read + Drop, F: FnOnce() -> io::Result<L>>(
+    fn reread_when_due<L: Read + Drop, F: Fn(&str) -> io::Result<L>>(
         &mut self,
         alloc: Global,
         now: u64,
         due: &mut Every,
-        opens: F,
+        path: &str,
+        opens: &F,
     ) -> Option<Reread>
-        requires { F.IsAlwaysCallable opens }
-        ensures rereads { RereadsWhenDue L.remaining (have_passed due.old.seconds due.old.last now) self.old result self.new }
+        requires { F.IsAlwaysCallable opens.now }
+        ensures rereads { RereadsWhenDue (Gives (FnReturnsAt F.Fn opens.now path.now) L.remaining) (have_passed due.old.seconds due.old.last now) now self.old result self.new }
         ensures due { due.new ≡ record due.old { last = if have_passed due.old.seconds due.old.last now then now else due.old.last } }
     {
         if due.is_due(now) {
-            Some(self.reread(alloc, opens()))
+            Some(self.reread(alloc, now, opens(path)))
         } else {
             None
         }
@@ -99,30 +116,50 @@ impl<W: Wire + Drop> ServedList<W> {
         self.turns.wait(most);
     }
 
-    /// Takes the list of a file that was opened again. A list that can't be had changes nothing, and one that is served
-    /// already publishes nothing.
-    pub fn reread<L: Read + Drop>(&mut self, alloc: Global, file: io::Result<L>) -> Reread
-        ensures { Rereads L.remaining file self.old result self.new }
+    /// Takes the list of a file that was opened again at this moment. A list that can't be had, or that a guard refuses,
+    /// changes nothing, and one that is served already publishes nothing.
+    pub fn reread<L: Read + Drop>(&mut self, alloc: Global, now: u64, file: io::Result<L>) -> Reread
+        ensures { Rereads now (opened L.remaining file) self.old result self.new }
     {
         let Ok(file) = file else {
             return Reread::Refused(ListFault::NoFile);
         };
-        match read_list(alloc, file) {
-            Ok(loaded) => self.publish(&loaded.set),
-            Err(refused) => Reread::Refused(ListFault::Row(refused)),
+        match read_payloads(alloc, file) {
+            Ok(loaded) => self.publish(now, loaded.set),
+            Err(refused) => Reread::Refused(ListFault::List(refused)),
         }
     }
 
-    // Hands a set to the cache.
-    fn publish(&mut self, set: &BTreeSet<Vrp>) -> Reread
-        ensures { Publishes set.now.keys self.old result self.new }
+    // Hands a set to the cache that the guards let pass.
+    fn publish(&mut self, now: u64, set: BTreeSet<Vrp>) -> Reread
+        ensures { Publishes now set.keys self.old result self.new }
     {
-        let Ok(report) = self.turns.load(set) else {
+        match self.judge(&set) {
+            Ok(()) => self.hand_in(now, set),
+            Err(why) => Reread::Refused(ListFault::Guard(why)),
+        }
+    }
+
+    // Whether the guards let a set be served in the place of this one.
+    fn judge(&self, set: &BTreeSet<Vrp>) -> Result<(), GuardFault>
+        ensures { MatchResult result (λ passed. guard_fault self.now.guards (served_set self.now) set.now.keys ≡ None) (λ why. guard_fault self.now.guards (served_set self.now) set.now.keys ≡ Some why) }
+    {
+        self.guards.judge(&self.looked_at, set)
+    }
+
+    // Hands a set to the cache.
+    fn hand_in(&mut self, now: u64, set: BTreeSet<Vrp>) -> Reread
+        requires { guard_fault self.old.guards (served_set self.old) set.keys ≡ None }
+        ensures { Publishes now set.keys self.old result self.new }
+    {
+        let Ok(report) = self.turns.load(&set) else {
             return Reread::Refused(ListFault::NoMemory);
         };
         let before = self.serial;
         self.serial = report.serial.unwrap_or(before);
         self.payloads = set.len();
+        self.looked_at = kept_for(&self.guards, set);
+        self.read = now;
         if self.serial == before {
             return Reread::Same;
         }
@@ -149,4 +186,22 @@ impl<W: Wire + Drop> ServedList<W> {
     {
         self.payloads
     }
+
+    /// The moment when a list was read last that could be had.
+    pub fn read(&self) -> u64
+        ensures { result ≡ self.now.read }
+    {
+        self.read
+    }
+}
+
+// The set, where a guard looks at it; else nothing of it is kept.
+fn kept_for(guards: &Guards, set: BTreeSet<Vrp>) -> BTreeSet<Vrp>
+    ensures { is_some guards.now.max_shrink ≡ true → result.keys ≡ set.keys }
+{
+    let mut set = set;
+    if !guards.look_at_served() {
+        set.clear();
+    }
+    set
 }

@@ -8,7 +8,7 @@ use std::net::{SocketAddr, TcpListener, TcpStream};
 use std::test::Fail;
 
 const SETTINGS: &str =
-    "listen = \"127.0.0.1:0\"\nsession = 7\nreread = 10\nlog = true\nstatus = 60\ncsv = ";
+    "listen = \"127.0.0.1:0\"\nsession = 7\nreread = 10\nlog = true\nstatus = 60\nmin_payloads = 1\nmax_shrink = 100\nmax_age = 60\ncsv = ";
 
 const FIRST: &str = "ASN,IP Prefix,Max Length,Trust Anchor\nAS65002,10.0.0.0/16,24,ta\n";
 
@@ -21,8 +21,10 @@ const FAULTY: &str =
 const BOTH: &str =
     "ASN,IP Prefix,Max Length,Trust Anchor\nAS65002,10.0.0.0/16,24,ta\nAS65002,10.1.0.0/16,24,ta\n";
 
+const NONE: &str = "ASN,IP Prefix,Max Length,Trust Anchor\n";
+
 // What the list's path leads to, one opening after another; behind that it leads to nothing.
-const LISTS: [&str; 6] = [FIRST, SECOND, SECOND, FAULTY, "", BOTH];
+const LISTS: [&str; 7] = [FIRST, SECOND, SECOND, FAULTY, "", BOTH, NONE];
 
 const RESET_QUERY: [u8; 8] = [1, 2, 0, 0, 0, 0, 0, 8];
 
@@ -44,22 +46,28 @@ const LOG: [&str; 2] = [
 2026-01-01T00:00:30Z list refused: row 2: the prefix is no IPv4 prefix
 2026-01-01T00:00:40Z list refused: row 0: the first row is not the header of a payload list
 2026-01-01T00:00:50Z list loaded: serial 3, payloads 2
-2026-01-01T00:01:00Z list refused: the file can't be opened
-2026-01-01T00:01:00Z status: serial 3, payloads 2, routers 1 (0 current, 1 behind, 0 without), octets 8 in, 64 out
+2026-01-01T00:01:00Z list refused: it has 0 payloads, and 1 are wanted
+2026-01-01T00:01:00Z status: serial 3, payloads 2, routers 1 (0 current, 1 behind, 0 without), octets 8 in, 64 out, list read 10 seconds ago
+2026-01-01T00:01:00Z list old: when it was written can't be told
 2026-01-01T00:01:10Z list refused: the file can't be opened
 ",
 ];
 
 // Writes a list to a file, and answers its path.
-fn write_list(rt: &HostRuntime, index: usize, list: &str) -> io::Result<String> {
-    let name = format!(in rt.alloc(); "day-{index}.csv")?;
+fn write_list(rt: &HostRuntime, day: &str, index: usize, list: &str) -> io::Result<String> {
+    let name = format!(in rt.alloc(); "{day}-{index}")?;
     write(rt, name.as_str(), list)
 }
 
-// Whether the lists are in files then, at these paths.
-fn writes_lists(rt: &HostRuntime, paths: &mut Vec<String>) -> bool {
-    for (index, list) in LISTS.iter().enumerate() {
-        let is_written = match write_list(rt, index, list) {
+// Whether the lists of a day are in files then, at these paths.
+pub(crate) fn writes_lists(
+    rt: &HostRuntime,
+    day: &str,
+    lists: &[&str],
+    paths: &mut Vec<String>,
+) -> bool {
+    for (index, list) in lists.iter().enumerate() {
+        let is_written = match write_list(rt, day, index, list) {
             Ok(path) => paths.push(path).is_ok(),
             Err(_) => false,
         };
@@ -70,7 +78,7 @@ fn writes_lists(rt: &HostRuntime, paths: &mut Vec<String>) -> bool {
     true
 }
 
-fn are_removed(rt: &HostRuntime, paths: &[String]) -> bool {
+pub(crate) fn are_removed(rt: &HostRuntime, paths: &[String]) -> bool {
     for path in paths {
         if remove(rt, path.as_str()).is_err() {
             return false;
@@ -79,9 +87,10 @@ fn are_removed(rt: &HostRuntime, paths: &[String]) -> bool {
     true
 }
 
-fn write_settings(rt: &HostRuntime) -> io::Result<String> {
+fn write_settings(rt: &HostRuntime, day: &str) -> io::Result<String> {
     let text = format!(in rt.alloc(); "{SETTINGS}\"{LIST_PATH}\"\n")?;
-    write(rt, "day.toml", text.as_str())
+    let name = format!(in rt.alloc(); "{day}.toml")?;
+    write(rt, name.as_str(), text.as_str())
 }
 
 // A router that has asked for the list.
@@ -124,8 +133,8 @@ fn is_told(stage: &Stage<'_>, settings_path: &str, log: &str) -> bool {
 }
 
 // The same on settings in a file.
-fn is_told_on_a_file(rt: &HostRuntime, stage: &Stage<'_>, log: &str) -> bool {
-    match write_settings(rt) {
+pub(crate) fn is_told_on_a_file(rt: &HostRuntime, day: &str, stage: &Stage<'_>, log: &str) -> bool {
+    match write_settings(rt, day) {
         Ok(path) => is_told(stage, path.as_str(), log) && remove(rt, path.as_str()).is_ok(),
         Err(_) => false,
     }
@@ -135,7 +144,7 @@ fn is_told_on_a_file(rt: &HostRuntime, stage: &Stage<'_>, log: &str) -> bool {
 fn is_logged(rt: &HostRuntime, stage: &Stage<'_>, address: SocketAddr) -> bool {
     let [before, behind] = LOG;
     match format!(in rt.alloc(); "{before}{address}{behind}") {
-        Ok(log) => is_told_on_a_file(rt, stage, log.as_str()),
+        Ok(log) => is_told_on_a_file(rt, "day", stage, log.as_str()),
         Err(_) => false,
     }
 }
@@ -163,7 +172,7 @@ fn goes_by_at(rt: &HostRuntime, listener: &TcpListener, lists: &[String]) -> boo
 // The same of lists in files.
 fn goes_by_on_files(rt: &HostRuntime, listener: &TcpListener) -> bool {
     let mut paths = Vec::new(rt.alloc());
-    writes_lists(rt, &mut paths)
+    writes_lists(rt, "day", &LISTS, &mut paths)
         && goes_by_at(rt, listener, paths.as_slice())
         && are_removed(rt, paths.as_slice())
 }

@@ -1,8 +1,13 @@
-//! Tests alone: a list that is read again while routers are served, a day of `ovcache`, and its texts and statuses.
+//! Tests alone: a list that is read again while routers are served, and guarded, lists in either format, a day of
+//! `ovcache`, and its texts and statuses.
 #![tactic(auto)]
 
 #[cfg(test)]
 mod day;
+#[cfg(test)]
+mod formats;
+#[cfg(test)]
+mod guards;
 #[cfg(test)]
 mod rereads;
 #[cfg(test)]

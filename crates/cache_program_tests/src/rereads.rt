@@ -2,11 +2,13 @@
 
 use cache_program::{ListFault, Reread, ServedList};
 use cache_turns::CacheLoop;
+use list_guards::Guards;
 use net_wires::NetWire;
 use program_stages::lend;
 use rtr_cache::Cache;
 use rtr_codec::Intervals;
 use std::alloc::{AllocGlobal, Global};
+use std::collections::BTreeSet;
 use std::io::{self, ErrorKind, Read, Write};
 use std::net::{Net, SocketAddr, TcpListener, TcpStream};
 use std::test::Fail;
@@ -14,7 +16,7 @@ use wires::Wire;
 
 const RESET_QUERY: [u8; 8] = [1, 2, 0, 0, 0, 0, 0, 8];
 
-const FIRST: &str = "ASN,IP Prefix,Max Length,Trust Anchor\nAS65002,10.0.0.0/16,24,ta\n";
+pub(crate) const FIRST: &str = "ASN,IP Prefix,Max Length,Trust Anchor\nAS65002,10.0.0.0/16,24,ta\n";
 
 const SECOND: &str = "ASN,IP Prefix,Max Length,Trust Anchor\nAS65002,10.1.0.0/16,24,ta\n";
 
@@ -28,7 +30,7 @@ const FAULTY: &str =
 
 // What a Reset Query gets where 10.SECOND.0.0/16 up to length 24 of AS65002 is served under the serial.
 #[rattlefmt::skip]
-const fn list(second: u8, serial: u8) -> [u8; 52] {
+pub(crate) const fn list(second: u8, serial: u8) -> [u8; 52] {
     [
         1, 3, 0, 7, 0, 0, 0, 8,
         1, 4, 0, 0, 0, 0, 0, 20, 1, 16, 24, 0, 10, second, 0, 0, 0, 0, 0xFD, 0xEA,
@@ -41,7 +43,7 @@ const fn notify(serial: u8) -> [u8; 12] {
 }
 
 // A router that has asked for the list.
-fn asking<R>(rt: &R, address: SocketAddr) -> io::Result<TcpStream>
+pub(crate) fn asking<R>(rt: &R, address: SocketAddr) -> io::Result<TcpStream>
 where
     R: Net<Listener = TcpListener, Stream = TcpStream>,
 {
@@ -61,7 +63,7 @@ fn takes<S: Read>(router: &mut S, heard: &mut Vec<u8>) -> bool {
 }
 
 // Whether just these octets come to a router in so many turns.
-fn hears<W: Wire + Drop, S: Read>(
+pub(crate) fn hears<W: Wire + Drop, S: Read>(
     alloc: Global,
     served: &mut ServedList<W>,
     router: &mut S,
@@ -77,12 +79,16 @@ fn hears<W: Wire + Drop, S: Read>(
 }
 
 // Reads a list again.
-fn reread<W: Wire + Drop>(alloc: Global, served: &mut ServedList<W>, text: &str) -> Reread {
-    served.reread(alloc, Ok(text.as_bytes()))
+pub(crate) fn reread<W: Wire + Drop>(
+    alloc: Global,
+    served: &mut ServedList<W>,
+    text: &str,
+) -> Reread {
+    served.reread(alloc, 0, Ok(text.as_bytes()))
 }
 
 // Whether the list is published under the serial when it is read again.
-fn is_published<W: Wire + Drop>(
+pub(crate) fn is_published<W: Wire + Drop>(
     alloc: Global,
     served: &mut ServedList<W>,
     text: &str,
@@ -92,15 +98,23 @@ fn is_published<W: Wire + Drop>(
 }
 
 // Whether it is the set that is served.
-fn is_same<W: Wire + Drop>(alloc: Global, served: &mut ServedList<W>, text: &str) -> bool {
+pub(crate) fn is_same<W: Wire + Drop>(
+    alloc: Global,
+    served: &mut ServedList<W>,
+    text: &str,
+) -> bool {
     matches!(reread(alloc, served, text), Reread::Same)
 }
 
-// Whether it is refused for a row.
-fn is_refused<W: Wire + Drop>(alloc: Global, served: &mut ServedList<W>, text: &str) -> bool {
+// Whether it is refused as a list.
+pub(crate) fn is_refused<W: Wire + Drop>(
+    alloc: Global,
+    served: &mut ServedList<W>,
+    text: &str,
+) -> bool {
     matches!(
         reread(alloc, served, text),
-        Reread::Refused(ListFault::Row(_))
+        Reread::Refused(ListFault::List(_))
     )
 }
 
@@ -108,7 +122,7 @@ fn is_refused<W: Wire + Drop>(alloc: Global, served: &mut ServedList<W>, text: &
 fn is_missing<W: Wire + Drop>(alloc: Global, served: &mut ServedList<W>) -> bool {
     let missing: io::Result<&[u8]> = Err(io::Error::from(ErrorKind::NotFound));
     matches!(
-        served.reread(alloc, missing),
+        served.reread(alloc, 0, missing),
         Reread::Refused(ListFault::NoFile)
     )
 }
@@ -173,17 +187,22 @@ where
     )
 }
 
-// A cache that serves nothing.
-fn serving_none<W: Wire + Drop>(alloc: Global, wire: W) -> Result<ServedList<W>, Fail> {
+// A cache that serves nothing, and whose lists have to keep to these guards.
+pub(crate) fn serving_none<W: Wire + Drop>(
+    alloc: Global,
+    wire: W,
+    guards: Guards,
+) -> Result<ServedList<W>, Fail> {
     let cache = Cache::new(alloc, 7, Intervals::USUAL)?;
-    Ok(ServedList::new(CacheLoop::new(alloc, wire, cache)?, 0, 0))
+    let turns = CacheLoop::new(alloc, wire, cache)?;
+    Ok(ServedList::new(turns, guards, 0, BTreeSet::new(alloc)))
 }
 
 #[test]
 fn routers_follow_a_list_that_changes(rt: HostRuntime) -> Result<(), Fail> {
     let wire = NetWire::listening(&rt, "127.0.0.1:0".parse()?)?;
     let address = wire.local_address();
-    let served = serving_none(rt.alloc(), wire)?;
+    let served = serving_none(rt.alloc(), wire, Guards::NONE)?;
     assert!(rt; lend(served, |served| follow(&rt, served, address))?);
     Ok(())
 }

@@ -100,7 +100,7 @@ fn wrong_words_are_arguments(rt: HostRuntime) {
 }
 
 // Settings but for the list's path.
-const GOOD_SETTINGS: [&str; 7] = [
+const GOOD_SETTINGS: [&str; 9] = [
     SETTINGS,
     "session = 0\nlisten = \"127.0.0.1:0\"\nrefresh = 1\nretry = 7200\nexpire = 172800\n",
     "session = 65535\nlisten = \"127.0.0.1:0\"\nother = [1]\n[table]\nsession = \"no\"\n",
@@ -108,9 +108,11 @@ const GOOD_SETTINGS: [&str; 7] = [
     "session = 7\nlisten = \"127.0.0.1:0\"\nother_session = \"report\"\n",
     "session = 7\nlisten = \"127.0.0.1:0\"\nreread = 1\nlog = false\nstatus = 4294967295\n",
     "session = 7\nlisten = \"127.0.0.1:0\"\nfirst = 1\nidle = 3601\n",
+    "session = 7\nlisten = \"127.0.0.1:0\"\nmin_payloads = 1\nmax_shrink = 0\nmax_age = 1\n",
+    "session = 7\nlisten = \"127.0.0.1:0\"\nmin_payloads = 0\nmax_shrink = 100\nmax_age = 4294967295\n",
 ];
 
-const BAD_SETTINGS: [&str; 27] = [
+const BAD_SETTINGS: [&str; 34] = [
     "listen = \"127.0.0.1:0\"\nsession = 7\nno toml",
     "listen = \"127.0.0.1:0\"\n",
     "session = 7\n",
@@ -138,6 +140,13 @@ const BAD_SETTINGS: [&str; 27] = [
     "listen = \"127.0.0.1:0\"\nsession = 7\nfirst = 0\n",
     "listen = \"127.0.0.1:0\"\nsession = 7\nidle = 3600\n",
     "listen = \"127.0.0.1:0\"\nsession = 7\nidle = \"no\"\n",
+    "listen = \"127.0.0.1:0\"\nsession = 7\nmin_payloads = -1\n",
+    "listen = \"127.0.0.1:0\"\nsession = 7\nmin_payloads = \"1\"\n",
+    "listen = \"127.0.0.1:0\"\nsession = 7\nmin_payloads = 4294967296\n",
+    "listen = \"127.0.0.1:0\"\nsession = 7\nmax_shrink = 101\n",
+    "listen = \"127.0.0.1:0\"\nsession = 7\nmax_shrink = \"50\"\n",
+    "listen = \"127.0.0.1:0\"\nsession = 7\nmax_age = 0\n",
+    "listen = \"127.0.0.1:0\"\nsession = 7\nmax_age = 1.5\n",
 ];
 
 #[test]
@@ -154,6 +163,26 @@ fn bad_settings_are_told(rt: HostRuntime) {
             ends_on(&rt, "bad", settings, "no list", REFUSED),
             "{settings}"
         );
+    }
+}
+
+#[test]
+fn a_first_list_below_the_least_is_refused(rt: HostRuntime) {
+    let settings = "listen = \"127.0.0.1:0\"\nsession = 7\nmin_payloads = 2\n";
+    assert!(rt; ends_on(&rt, "few", settings, LIST, REFUSED));
+}
+
+// Lists in JSON, good ones and refused ones.
+const GOOD_JSON: &str =
+    " {\"roas\": [{\"prefix\": \"10.0.0.0/16\", \"maxLength\": 24, \"asn\": 65002}]}";
+
+const BAD_JSON: [&str; 4] = ["{", "{}", "{\"roas\": {}}", "{\"roas\": [{}]}"];
+
+#[test]
+fn a_first_list_in_json_is_served_or_told(rt: HostRuntime) {
+    assert!(rt; ends_on(&rt, "json", SETTINGS, GOOD_JSON, WELL));
+    for list in &BAD_JSON {
+        assert!(rt; ends_on(&rt, "bad-json", SETTINGS, list, REFUSED), "{list}");
     }
 }
 
