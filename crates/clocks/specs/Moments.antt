@@ -1,5 +1,5 @@
 -- Moments that a clock tells.
-use Rattle.std.specs.Prelude.{◌≡◌, ◌≤◌, ◌-◌, ◌/◌, ℕ, ⊤, List, [], ◌∷◌, Option}
+use Rattle.std.specs.Prelude.{◌≡◌, ◌≤◌, ◌-◌, ◌/◌, ℕ, ⊤, max, List, [], ◌∷◌, Option, Some, None, option_map}
 use Rattle.std.specs.Time.{instant_nanos}
 use Rattle.std.specs.declared.time.Instant.{Instant}
 
@@ -13,14 +13,35 @@ abbrev pub NeverGoBack : List ℕ → Type 0
 NeverGoBack [] = ⊤
 NeverGoBack (now ∷ moments) = IsNotBefore now moments × NeverGoBack moments
 
--- the whole seconds from one instant to another
-abbrev pub seconds_between : Instant → Instant → ℕ
-seconds_between start reading = (instant_nanos reading - instant_nanos start) / 1000000000
+-- the last of these moments, the last one first; 0 where there is none
+abbrev pub latest : List ℕ → ℕ
+latest [] = 0
+latest (now ∷ moments) = now
 
--- the system's clock, as others see it: when it was first read, the last moment that was told, and all of them, the last one first
+-- the first of these instants and one behind them, the last one first
+abbrev pub first_of : List ℕ → ℕ → ℕ
+first_of [] now = now
+first_of (before ∷ instants) now = first_of instants before
+
+-- what a clock tells that the system's clock answered these instants, in nanoseconds, the last one first: at each the whole
+-- seconds since the first, or the moment that was told before it, where that is later
+abbrev pub moments_of : List ℕ → List ℕ
+moments_of [] = []
+moments_of (now ∷ instants) = max ((now - first_of instants now) / 1000000000) (latest (moments_of instants)) ∷ moments_of instants
+
+-- the first of these instants, if there is one
+abbrev pub first_if_any : List ℕ → Option ℕ
+first_if_any [] = None
+first_if_any (now ∷ instants) = Some (first_of instants now)
+
+-- what is kept of the instants: the first, and the last moment that was told
+pub record IsKept (start : Option Instant) (last : ℕ) (instants : List ℕ) : Type 0 where
+  pub started : option_map instant_nanos start ≡ first_if_any instants
+  pub told : last ≡ latest (moments_of instants)
+
+-- the system's clock, as others see it: the instants that it answered, and the moments that were told, the last one first
 pub record Clocked : Type 0 where
-  pub start : Option Instant
-  pub last : ℕ
+  pub instants : List ℕ
   pub moments : List ℕ
 
 -- what a clock has told behind these moments, the last one first

@@ -1,4 +1,4 @@
--- `then` picks the moments of the new one. Assumes `Logic`.
+-- `then` picks the instants of the new one. Assumes `Logic`.
 use Rattle.std.proofs.Common.{List, [], ◌∷◌, ◌++◌, refl}
 use seplogic.Ra.Ura.{Ura}
 use mir.Syntax.{Fn}
@@ -18,13 +18,14 @@ use types.ByLocal.{alloc_all, pass_all, free_all, look_at, sets}
 use denote.Exit.{yes}
 use denote.RattleType.{owns}
 use denote.Builtin.{RefOf}
-use denote.Signature.{plain, types_at, named_lft}
+use denote.Signature.{plain, types_at}
 use denote.Steps.{nothing}
 use denote.Triple.Clauses.{Clauses, Ended, closing}
 use denote.Triple.Entry.{alive}
 use denote.Triple.Spec.{Meets, triple_of}
 use denote.Triple.Table.{entered}
 use denote.Triple.Walked.{says, Stays, stay_dropped, walk_of, ends_at, walk_Meets, Goes-dropped}
+use Rattle.std.specs.Time.{instant_nanos}
 use Rattle.clocks.proofs.Walks.{none, none_made}
 use Rattle.clocks.specs.contracts.readings.Readings as Readings
 use Rattle.clocks.specs.contracts.readings.Reading as Reading
@@ -61,7 +62,7 @@ module _ {M : Type 1} {𝓤 : Ura M} (𝓛 : Logic 𝓤) (at_mem : Memory → SP
         let vss = z.0.4 in
         let u : Val = vptr a.0.ref_ptr.0 a.0.ref_ptr.1 in
         let v : Val = vptr a.1.0.ref_ptr.0 a.1.0.ref_ptr.1 in
-        let readings : (Readings.the_row).Denot = record { moments = a.1.0.now.0 ∷ a.0.now.moments } in
+        let readings : (Readings.the_row).Denot = record { instants = instant_nanos a.1.0.now.0 ∷ a.0.now.instants } in
         qed 𝓛 ((raw toks ⊛ ‵ (owns (types_at ended.signature.params z.0.0) a vss)) ∷ raw ((held z.0.0 a).requires z.1) ∷ []) ∵
         keep ! (0 ∷ []) $ split ! $ move ! (1 ∷ []) $ fsplit ! $ fsplit ! $ feq_l ! (λ is₀. drop ! $ fsplit ! $ fsplit ! $ feq_l ! (λ is₁. drop ! $ drop ! $
         regoal ! (λ (us : List Val). prop (WpFn 𝓤 H C Λ function (us ++ (vss.1.0 ++ [])) Post)) is₀ refl $
