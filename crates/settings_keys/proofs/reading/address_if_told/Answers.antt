@@ -1,7 +1,7 @@
 use Rattle.std.proofs.Common.{ap, not, ◌∙◌}
 use Rattle.settings_keys.specs.Keys.{IsAddress}
 use Rattle.settings_keys.proofs.Faults.{nothing_if_there, passes_on}
-use Rattle.settings_keys.proofs.address_if_told.Goals as goal
+use Rattle.settings_keys.proofs.reading.address_if_told.Goals as goal
 
 pub returns-in_err-address_of : goal.returns-in_err-address_of
 returns-in_err-address_of c =
