@@ -1,13 +1,13 @@
 -- What a cache's settings are, key by key (own).
-use Rattle.std.specs.Prelude.{◌≡◌, ◌<◌, ◌≤◌, ◌^◌, ℕ, pos, Bool, true, false, List, [], ◌∷◌, Some, codes, string_bytes}
-use Rattle.toml.specs.Data.{Data, Members, as_bool, as_integer, get_member}
+use Rattle.std.specs.Prelude.{◌≡◌, ◌<◌, ◌≤◌, ◌^◌, ℕ, pos, true, false, List, [], ◌∷◌, Some, codes, string_bytes}
+use Rattle.toml.specs.Data.{Data, Members, as_integer, get_member}
 use Rattle.cache_turns.specs.declared.patience.Patience.{Patience}
 use Rattle.list_guards.specs.declared.Guards.{Guards}
 use Rattle.rtr_cache.specs.declared.other_session.OtherSession.{OtherSession}
 use Rattle.rtr_cache.specs.declared.other_session.OtherSession.TheVariants.{Report, Reset}
 use Rattle.rtr_codec.specs.Intervals.{are_lawful}
 use Rattle.rtr_codec.specs.declared.intervals.Intervals.{Intervals}
-use Rattle.settings_keys.specs.Keys.{IsAddress, IsNumber, IsText, IsTold, IsToldIfThere, IsToldOrUsual}
+use Rattle.settings_keys.specs.Keys.{IsAddress, IsNumber, IsText, IsTold, IsToldIfThere, IsToldOrUsual, IsYesOrNo}
 use Rattle.settings_keys.specs.KnownKeys.{HasNoKeyBut}
 use Rattle.cache_settings.specs.declared.settings.CacheSettings.{CacheSettings}
 use Rattle.cache_settings.specs.declared.settings.SessionSource.{SessionSource}
@@ -27,10 +27,6 @@ IsSession found Clock = IsText found (codes "clock")
 abbrev pub IsOtherSession : Data → OtherSession → Type 0
 IsOtherSession found Report = IsText found (codes "report")
 IsOtherSession found Reset = IsText found (codes "reset")
-
--- yes or no
-abbrev pub IsYesOrNo : Data → Bool → Type 0
-IsYesOrNo found is_on = as_bool found ≡ Some is_on
 
 -- the intervals are those at their keys, or the usual ones, and lawful
 pub record AreIntervals (table : Members) (intervals : Intervals) : Type 0 where

@@ -1,12 +1,12 @@
 //! The settings of a cache.
-ghost use Rattle.std.specs.Prelude.{◌≡◌, ◌≤◌, ◌<◌, IfOk, IfSome, codes, false, true};
+ghost use Rattle.std.specs.Prelude.{◌≡◌, ◌≤◌, ◌<◌, IfOk, IfSome, codes, true};
 ghost use Rattle.toml.specs.Data.{Members, get_member};
 ghost use Rattle.toml.specs.View.{table_view};
 ghost use Rattle.rtr_cache.specs.declared.other_session.OtherSession.TheVariants.{Report};
 ghost use Rattle.rtr_codec.specs.Intervals.{are_lawful};
 ghost use Rattle.settings_keys.specs.Causes.{IsBad};
 ghost use Rattle.settings_keys.specs.Keys.{Answers, AnswersInMemory, IsNumber, IsTableOf, IsTold, IsToldIfThere, IsToldOrUsual};
-ghost use Rattle.cache_settings.specs.ToldSettings.{AreGuards, AreIntervals, AreTerms, IsOtherSession, IsPatience, IsPerCent, IsSeconds, IsSession, IsToldBy, IsYesOrNo};
+ghost use Rattle.cache_settings.specs.ToldSettings.{AreGuards, AreIntervals, AreTerms, IsOtherSession, IsPatience, IsPerCent, IsSeconds, IsSession, IsToldBy};
 
 use cache_turns::Patience;
 use list_guards::Guards;
@@ -14,7 +14,7 @@ use rtr_cache::OtherSession;
 use rtr_codec::Intervals;
 use settings_keys::{
     SettingsCause, SettingsFault, Wanted, address_of, bad, bad_number, bad_value, lacks, number_of,
-    only_known, read_table, text_of, value_at,
+    only_known, read_table, text_of, value_at, yes_or_no_of,
 };
 use std::alloc::Global;
 use std::net::SocketAddr;
@@ -152,7 +152,7 @@ fn terms_of(alloc: Global, table: &Table) -> Result<Terms, SettingsFault>
     let guards = guards_of(alloc, table)?;
     let reread = seconds_of(alloc, table, "reread")?;
     let max_age = seconds_of(alloc, table, "max_age")?;
-    let log = has_log(alloc, table)?;
+    let log = yes_or_no_of(alloc, table, "log")?;
     let status = seconds_of(alloc, table, "status")?;
     Ok(Terms {
         session,
@@ -343,18 +343,5 @@ fn seconds_of(
         None => Ok(None),
         Some(0) => Err(bad_number(key, 0, SECONDS)),
         Some(seconds) => Ok(Some(seconds)),
-    }
-}
-
-// Whether there is to be a log: none where the key isn't there.
-fn has_log(alloc: Global, table: &Table) -> Result<bool, SettingsFault>
-    ensures { Answers (IsToldOrUsual IsYesOrNo false (get_member (codes "log") (table_view table.now))) result }
-{
-    let Some(value) = value_at(table, "log") else {
-        return Ok(false);
-    };
-    match value.as_bool() {
-        Some(log) => Ok(log),
-        None => Err(bad_value(alloc, "log", value, Wanted::YesOrNo)),
     }
 }

@@ -1,11 +1,11 @@
 //! What stands at a key.
-ghost use Rattle.std.specs.Prelude.{◌≡◌, ℕ, List, IfErr, IsUtf8, MatchResult, None, Some, option_map};
+ghost use Rattle.std.specs.Prelude.{◌≡◌, ℕ, List, IfErr, IsUtf8, MatchResult, None, Some, false, option_map};
 ghost use Rattle.toml.specs.Data.{Members, get_member};
 ghost use Rattle.toml.specs.Errors.{IsBlank};
 ghost use Rattle.toml.specs.Parse.{parse_document};
 ghost use Rattle.toml.specs.View.{table_view, view};
 ghost use Rattle.settings_keys.specs.Causes.{IsBad};
-ghost use Rattle.settings_keys.specs.Keys.{Answers, IsAddress, IsNumber, IsTableOf, IsText, IsTold, IsToldIfThere};
+ghost use Rattle.settings_keys.specs.Keys.{Answers, IsAddress, IsNumber, IsTableOf, IsText, IsTold, IsToldIfThere, IsToldOrUsual, IsYesOrNo};
 
 use crate::cause::{SettingsCause, SettingsFault, Wanted, bad, bad_text, bad_value, lacks};
 use std::alloc::Global;
@@ -136,5 +136,18 @@ pub fn number_of(
     match u32::try_from(number) {
         Ok(number) => Ok(Some(number)),
         Err(_) => Err(bad_value(alloc, key, value, wanted)),
+    }
+}
+
+/// Whether a key is told `true`; false where the key isn't there. `Settings` where its value is neither `true` nor `false`.
+pub fn yes_or_no_of(alloc: Global, table: &Table, key: &'static str) -> Result<bool, SettingsFault>
+    ensures { Answers (IsToldOrUsual IsYesOrNo false (get_member key.now (table_view table.now))) result }
+{
+    let Some(value) = value_at(table, key) else {
+        return Ok(false);
+    };
+    match value.as_bool() {
+        Some(is_on) => Ok(is_on),
+        None => Err(bad_value(alloc, key, value, Wanted::YesOrNo)),
     }
 }
