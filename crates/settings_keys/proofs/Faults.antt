@@ -8,7 +8,8 @@ use Rattle.toml.specs.declared.value.Value.{Value}
 use Rattle.settings_keys.specs.Keys.{Answers, AnswersInMemory, IsSpelled, IsTableOf, IsText, IsTold, IsToldIfThere}
 use Rattle.settings_keys.specs.declared.cause.SettingsFault.{SettingsFault}
 use Rattle.settings_keys.specs.declared.cause.SettingsFault.TheVariants.{Settings, NoMemory}
-use Rattle.settings_keys.specs.Causes.{IsBad, TellsUnknown}
+use Rattle.settings_keys.specs.Causes.{IsBad, TellsUnknown, placed}
+use Rattle.settings_keys.specs.declared.cause.SettingsPlace.{SettingsPlace}
 
 -- nothing is told
 abbrev pub TellsNothing : {A : Type 0} → (A → Type 0) → Type 0
@@ -84,3 +85,8 @@ unknown_key Needs (Ok value) fault first is tells leads = absurd is
 unknown_key Needs (Err (Settings place cause)) fault None is tells leads = absurd tells
 unknown_key Needs (Err (Settings place cause)) fault (Some key) is tells leads = λ value told. (let wrong = leads value told in absurd cc)
 unknown_key Needs (Err NoMemory) fault first is tells leads = tt
+
+-- wherever the fault is
+pub in_its_place : {B : Type 0} (Needs : B → Type 0) (place : SettingsPlace) (fault : SettingsFault) → AnswersInMemory Needs (Err fault) → AnswersInMemory Needs (Err (placed place fault))
+in_its_place Needs place (Settings before cause) none = none
+in_its_place Needs place NoMemory none = tt

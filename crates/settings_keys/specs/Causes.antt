@@ -2,6 +2,7 @@
 use Rattle.std.specs.Prelude.{◌≡◌, ℕ, List, Option, Some, None, string_bytes, ⊤}
 use Rattle.settings_keys.specs.declared.cause.SettingsFault.{SettingsFault}
 use Rattle.settings_keys.specs.declared.cause.SettingsFault.TheVariants.{Settings, NoMemory}
+use Rattle.settings_keys.specs.declared.cause.SettingsPlace.{SettingsPlace}
 use Rattle.settings_keys.specs.declared.cause.SettingsCause.{SettingsCause}
 use Rattle.settings_keys.specs.declared.cause.SettingsCause.TheVariants.{UnknownKey}
 
@@ -20,3 +21,8 @@ abbrev pub TellsUnknown : SettingsFault → Option (List ℕ) → Type 0
 TellsUnknown fault None = ⊥
 TellsUnknown (Settings place cause) (Some key) = IsUnknown cause key
 TellsUnknown NoMemory (Some key) = ⊤
+
+-- the same fault, in this place
+abbrev pub placed : SettingsPlace → SettingsFault → SettingsFault
+placed place (Settings before cause) = Settings place cause
+placed place NoMemory = NoMemory

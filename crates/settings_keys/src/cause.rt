@@ -2,7 +2,7 @@
 ghost use Rattle.settings_keys.specs.SettingsExits.{exit_of_settings};
 ghost use Rattle.std.specs.Prelude.{◌≡◌};
 ghost use Rattle.settings_keys.specs.declared.cause.SettingsFault.TheVariants.{NoMemory};
-ghost use Rattle.settings_keys.specs.Causes.{IsBad};
+ghost use Rattle.settings_keys.specs.Causes.{IsBad, placed};
 
 use crate::found::{Found, Quoted};
 use program_endings::ExitFault;
@@ -120,15 +120,12 @@ impl SettingsFault {
         }
     }
 
-    /// The same, of the table of this number of an array.
-    pub fn in_table(self, name: &'static str, number: usize) -> SettingsFault
-        ensures bad { IsBad self → IsBad result }
-        ensures memory { self ≡ NoMemory → result ≡ NoMemory }
+    /// The same fault, in this place.
+    pub fn at(self, place: SettingsPlace) -> SettingsFault
+        ensures { result ≡ placed place self }
     {
         match self {
-            SettingsFault::Settings(_, cause) => {
-                SettingsFault::Settings(SettingsPlace::Table(name, number), cause)
-            }
+            SettingsFault::Settings(_, cause) => SettingsFault::Settings(place, cause),
             SettingsFault::NoMemory => SettingsFault::NoMemory,
         }
     }

@@ -1,4 +1,5 @@
 pub mod Begun
+pub mod Checked
 pub mod Commanded
 pub mod Endings
 pub mod Exits

@@ -7,6 +7,7 @@ use Rattle.std.specs.declared.net.socket_addr.SocketAddr.{SocketAddr as Address}
 use Rattle.toml.specs.Data.{Data, Items, Members, as_array, as_table, get_member, no_items, item}
 use Rattle.net_prefix.specs.declared.asn.Asn.{Asn}
 use Rattle.settings_keys.specs.Keys.{IsAddress, IsNumber, IsSpelled, IsText, IsTold, IsToldIfThere, IsToldOrUsual, IsYesOrNo}
+use Rattle.settings_keys.specs.KnownKeys.{HasNoKeyBut}
 use Rattle.speaker_program.specs.Slots.{AreSlots}
 use Rattle.speaker_program.specs.declared.settings.SpeakerSettings.{SpeakerSettings}
 
@@ -23,10 +24,17 @@ IsIdentifier found identifier =
 abbrev pub IsSlot : Data → ℕ → Type 0
 IsSlot found slot = IsNumber found slot × (slot < 64)
 
--- a table of a slot and where its peer is
+-- the keys of the settings, and of each peer's table
+abbrev pub keys_of_a_speaker : List (List ℕ)
+keys_of_a_speaker = codes "as" ∷ codes "identifier" ∷ codes "commands" ∷ codes "cache" ∷ codes "multiprotocol" ∷ codes "listen" ∷ codes "peer" ∷ []
+
+abbrev pub keys_of_a_peer : List (List ℕ)
+keys_of_a_peer = codes "slot" ∷ codes "remote" ∷ []
+
+-- a table of a slot and where its peer is, and of nothing else
 abbrev pub IsPeer : Data → ℕ × Address → Type 0
 IsPeer found peer =
-    (table : Members) × (as_table found ≡ Some table)
+    (table : Members) × (as_table found ≡ Some table) × HasNoKeyBut keys_of_a_peer table
     × IsTold IsSlot (get_member (codes "slot") table) peer.0 × IsTold IsAddress (get_member (codes "remote") table) peer.1
 
 -- tables of these peers, in order
@@ -41,8 +49,9 @@ abbrev pub ArePeersAt : Option Data → List (ℕ × Address) → Type 0
 ArePeersAt None peers = peers ≡ []
 ArePeersAt (Some found) peers = (entries : Items) × (as_array found ≡ Some entries) × ArePeers entries peers × AreSlots peers
 
--- the settings are what stands at their keys
+-- the settings are what stands at their keys, and there are no others
 pub record IsToldBy (table : Members) (settings : SpeakerSettings) : Type 0 where
+  pub keys : HasNoKeyBut keys_of_a_speaker table
   pub asn : IsTold IsAsn (get_member (codes "as") table) settings.asn
   pub identifier : IsTold IsIdentifier (get_member (codes "identifier") table) settings.identifier
   pub commands : IsTold IsText (get_member (codes "commands") table) (string_bytes settings.commands)

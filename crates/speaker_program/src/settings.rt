@@ -2,6 +2,7 @@
 ghost use Rattle.std.specs.Prelude.{◌≡◌, ◌≤◌, ◌<◌, IfOk, codes, is_some};
 ghost use Rattle.toml.specs.Data.{Members, get_member};
 ghost use Rattle.toml.specs.View.{items_view, table_view, view};
+ghost use Rattle.settings_keys.specs.Causes.{IsBad};
 ghost use Rattle.settings_keys.specs.Keys.{Answers, AnswersInMemory, IsTableOf, IsTold};
 ghost use Rattle.speaker_program.specs.Slots.{AreSlots, has_slot};
 ghost use Rattle.speaker_program.specs.ToldSettings.{ArePeers, ArePeersAt, IsAsn, IsIdentifier, IsPeer, IsSlot, IsToldBy};
@@ -9,8 +10,8 @@ ghost use Rattle.speaker_program.specs.ToldSettings.{ArePeers, ArePeersAt, IsAsn
 use bgp_conf::PEER_SLOTS;
 use net_prefix::Asn;
 use settings_keys::{
-    SettingsFault, address_if_told, address_of, number_of, read_table, text_of, value_at,
-    yes_or_no_of,
+    SettingsCause, SettingsFault, SettingsPlace, Wanted, address_if_told, address_of, bad_number,
+    bad_text, bad_value, lacks, number_of, only_known, read_table, text_as, text_of, value_at, yes_or_no_of,
 };
 use speaker::Config;
 use std::alloc::Global;
@@ -40,7 +41,7 @@ impl SpeakerSettings {
     /// The settings that the octets of a file tell in TOML: `as`, a number from 1 to 4294967295, `identifier`, the text of
     /// an IPv4 address other than 0.0.0.0, and `commands`, a text; and, where they are there, `multiprotocol`, `true` or
     /// `false`, `cache` and `listen`, each the text of an address and a port, and the tables `peer`, each with `slot`, from 0 to
-    /// 63 and none twice, and `remote`, the text of an address and a port. Keys of other names are passed over. Anything else is
+    /// 63 and none twice, and `remote`, the text of an address and a port. There are no keys of other names. Anything else is
     /// `Settings`.
     pub fn read(alloc: Global, octets: &[u8]) -> Result<SpeakerSettings, SettingsFault>
         ensures told { AnswersInMemory (λ settings. (table : Members) × IsTableOf octets.now table × IsToldBy table settings) result }
@@ -57,13 +58,14 @@ impl SpeakerSettings {
         ensures own { IfOk result (λ settings. (1 ≤ settings.asn.0) × (1 ≤ settings.identifier)) }
         ensures slots { IfOk result (λ settings. AreSlots settings.peers.items) }
     {
-        let asn = asn_of(table)?;
-        let identifier = identifier_of(table)?;
-        let path = text_of(table, "commands")?;
+        only_known(alloc, table, "ovbgpd", &KEYS)?;
+        let asn = asn_of(alloc, table)?;
+        let identifier = identifier_of(alloc, table)?;
+        let path = text_of(alloc, table, "commands")?;
         let commands = String::from_str(alloc, path)?;
-        let cache = address_if_told(table, "cache")?;
-        let multiprotocol = yes_or_no_of(table, "multiprotocol")?;
-        let listen = address_if_told(table, "listen")?;
+        let cache = address_if_told(alloc, table, "cache")?;
+        let multiprotocol = yes_or_no_of(alloc, table, "multiprotocol")?;
+        let listen = address_if_told(alloc, table, "listen")?;
         let peers = peers_of(alloc, table)?;
         Ok(SpeakerSettings {
             asn,
@@ -89,25 +91,41 @@ impl SpeakerSettings {
     }
 }
 
+// The keys of the settings, and of each peer's table.
+const KEYS: [&str; 7] = [
+    "as",
+    "identifier",
+    "commands",
+    "cache",
+    "multiprotocol",
+    "listen",
+    "peer",
+];
+const PEER_KEYS: [&str; 2] = ["slot", "remote"];
+
 // The speaker's AS, which is not 0.
-fn asn_of(table: &Table) -> Result<Asn, SettingsFault>
+fn asn_of(alloc: Global, table: &Table) -> Result<Asn, SettingsFault>
     ensures { Answers (IsTold IsAsn (get_member (codes "as") (table_view table.now))) result }
 {
-    match number_of(table, "as")? {
-        None | Some(0) => Err(SettingsFault::Settings),
+    let wanted = Wanted::Number(1, u32::MAX);
+    match number_of(alloc, table, "as", wanted)? {
+        None => Err(lacks("as")),
+        Some(0) => Err(bad_number("as", 0, wanted)),
         Some(number) => Ok(Asn(number)),
     }
 }
 
 // The speaker's BGP Identifier: four numbers with dots between them, not all 0.
-fn identifier_of(table: &Table) -> Result<u32, SettingsFault>
+fn identifier_of(alloc: Global, table: &Table) -> Result<u32, SettingsFault>
     ensures { Answers (IsTold IsIdentifier (get_member (codes "identifier") (table_view table.now))) result }
 {
-    let Ok(address) = text_of(table, "identifier")?.parse::<Ipv4Addr>() else {
-        return Err(SettingsFault::Settings);
+    let wanted = Wanted::Identifier;
+    let text = text_as(alloc, table, "identifier", wanted)?;
+    let Ok(address) = text.parse::<Ipv4Addr>() else {
+        return Err(bad_text(alloc, "identifier", text, wanted));
     };
     match address.to_bits() {
-        0 => Err(SettingsFault::Settings),
+        0 => Err(bad_text(alloc, "identifier", text, wanted)),
         identifier => Ok(identifier),
     }
 }
@@ -121,7 +139,7 @@ fn peers_of(alloc: Global, table: &Table) -> Result<Vec<(u8, SocketAddr)>, Setti
         return Ok(Vec::new(alloc));
     };
     let Some(entries) = value.as_array() else {
-        return Err(SettingsFault::Settings);
+        return Err(bad_value(alloc, "peer", value, Wanted::Tables));
     };
     each_peer(alloc, entries.as_slice())
 }
@@ -133,9 +151,10 @@ fn each_peer(alloc: Global, entries: &[Value]) -> Result<Vec<(u8, SocketAddr)>, 
 {
     let mut peers = Vec::new(alloc);
     for entry in entries {
-        let peer = peer_of(entry)?;
+        let number = peers.len() + 1;
+        let peer = numbered_peer(alloc, entry, number)?;
         if has_slot(peers.as_slice(), peer.0) {
-            return Err(SettingsFault::Settings);
+            return Err(slot_again(number, peer.0));
         }
         if peers.push(peer).is_err() {
             return Err(SettingsFault::NoMemory);
@@ -144,26 +163,53 @@ fn each_peer(alloc: Global, entries: &[Value]) -> Result<Vec<(u8, SocketAddr)>, 
     Ok(peers)
 }
 
-fn peer_of(entry: &Value) -> Result<(u8, SocketAddr), SettingsFault>
-    ensures { Answers (IsPeer (view entry.now)) result }
+// That an earlier table than the one of this number has the slot.
+fn slot_again(number: usize, slot: u8) -> SettingsFault
+    ensures { IsBad result }
+{
+    let cause = SettingsCause::Again {
+        key: "slot",
+        number: slot as u32,
+    };
+    SettingsFault::Settings(SettingsPlace::Table("peer", number), cause)
+}
+
+// The slot and the address of the peer of the table of this number.
+fn numbered_peer(
+    alloc: Global,
+    entry: &Value,
+    number: usize,
+) -> Result<(u8, SocketAddr), SettingsFault>
+    ensures { AnswersInMemory (IsPeer (view entry.now)) result }
+{
+    match peer_of(alloc, entry) {
+        Ok(peer) => Ok(peer),
+        Err(fault) => Err(fault.at(SettingsPlace::Table("peer", number))),
+    }
+}
+
+fn peer_of(alloc: Global, entry: &Value) -> Result<(u8, SocketAddr), SettingsFault>
+    ensures { AnswersInMemory (IsPeer (view entry.now)) result }
 {
     let Some(table) = entry.as_table() else {
-        return Err(SettingsFault::Settings);
+        return Err(bad_value(alloc, "peer", entry, Wanted::Table));
     };
-    let slot = slot_of(table)?;
-    let remote = address_of(table, "remote")?;
+    only_known(alloc, table, "a peer", &PEER_KEYS)?;
+    let slot = slot_of(alloc, table)?;
+    let remote = address_of(alloc, table, "remote")?;
     Ok((slot, remote))
 }
 
-fn slot_of(table: &Table) -> Result<u8, SettingsFault>
+fn slot_of(alloc: Global, table: &Table) -> Result<u8, SettingsFault>
     ensures { Answers (IsTold IsSlot (get_member (codes "slot") (table_view table.now))) result }
 {
-    let Some(number) = number_of(table, "slot")? else {
-        return Err(SettingsFault::Settings);
+    let wanted = Wanted::Number(0, PEER_SLOTS as u32 - 1);
+    let Some(number) = number_of(alloc, table, "slot", wanted)? else {
+        return Err(lacks("slot"));
     };
     match u8::try_from(number) {
         Ok(slot) if slot < PEER_SLOTS => Ok(slot),
-        _ => Err(SettingsFault::Settings),
+        _ => Err(bad_number("slot", number, wanted)),
     }
 }
 
