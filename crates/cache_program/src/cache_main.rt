@@ -1,5 +1,6 @@
 //! What the main of `ovcache` does.
-ghost use Rattle.std.specs.Prelude.{◌≡◌, ◌≤◌, [], ℕ, List, Option, Ok, IfErr, IfOk, OnOk, false, if◌then◌else◌, length, string_bytes};
+ghost use Rattle.std.specs.Prelude.{◌≡◌, ◌≤◌, [], ◌∷◌, ℕ, List, Option, Ok, IfErr, IfOk, MatchResult, OnErr, OnOk, false, if◌then◌else◌, length, string_bytes};
+ghost use Rattle.clocks.specs.Moments.{IsNotBefore};
 ghost use Rattle.std.specs.Fn.{FnReturnsAt};
 ghost use Rattle.toml.specs.Data.{Members};
 ghost use Rattle.std.specs.Result.{IsErrAnd};
@@ -185,9 +186,32 @@ where
         × IsCall words.now path turns × IsTableOf octets table × IsToldBy table settings
         × IsServed (Gives (FnReturnsAt F.Fn opens (string_bytes settings.csv)) L.remaining) (Listens (G.post listens settings.listen) W.state) (Tells (S.post tells)) settings turns (C.readings clock.old) (C.readings clock.new) served) }
 {
-    let (path, turns) = read_words(words).map_err(CacheFault::Words)?;
+    let (path, turns) = call_of(words)?;
     let settings = read_settings(rt, path)?;
     serve_cache(rt, &settings, turns, output, clock, opens, listens, tells)
+}
+
+// The path of the settings and the number of turns.
+fn call_of(words: &[String]) -> Result<(&str, u64), CacheFault>
+    ensures { MatchResult result (λ read. IsCall words.now read.0.now read.1) (λ fault. IsOfWords fault × ((path : List ℕ) (turns : ℕ) → ¬ (IsCall words.now path turns))) }
+{
+    match read_words(words) {
+        Ok(call) => Ok(call),
+        Err(why) => Err(CacheFault::Words(why)),
+    }
+}
+
+// The moment.
+fn read_clock<C: SecondsClock>(clock: &mut C) -> Result<u64, CacheFault>
+    ensures fault { IfErr result (λ fault. ¬ (IsOfWords fault)) }
+    ensures told { IfOk result (λ now. C.readings clock.new ≡ now ∷ C.readings clock.old) }
+    ensures forward { IfOk result (λ now. IsNotBefore now (C.readings clock.old)) }
+    ensures failed { OnErr result (C.readings clock.new ≡ C.readings clock.old) }
+{
+    match clock.read() {
+        Ok(now) => Ok(now),
+        Err(error) => Err(CacheFault::Clock(error)),
+    }
 }
 
 // The settings in the file of this path.
@@ -240,7 +264,7 @@ where
 {
     let mut served = begin(rt, settings, output, &opens, listens, tells)?;
     // The moment 0, from which the list is read again.
-    let _start = clock.read().map_err(CacheFault::Clock)?;
+    let _start = read_clock(clock)?;
     take_turns(rt, settings, &mut served, turns, output, clock, &opens)
 }
 
@@ -313,7 +337,7 @@ where
     let mut reread = Every::new(settings.reread);
     let mut status = Every::new(settings.status);
     for _ in 0..turns {
-        let now = clock.read().map_err(CacheFault::Clock)?;
+        let now = read_clock(clock)?;
         serve_once(rt, settings, served, now, &mut reread, output, opens)?;
         rest(rt, settings, served, now, status.is_due(now), output);
     }

@@ -1,5 +1,5 @@
 //! The cache of settings, and the list with which it begins.
-ghost use Rattle.std.specs.Prelude.{◌≡◌, [], IfErr, IfOk, MatchResult, None, false, string_bytes};
+ghost use Rattle.std.specs.Prelude.{◌≡◌, [], IfErr, IfOk, MatchResult, None, Some, false, string_bytes};
 ghost use Rattle.std.specs.Fn.{FnReturnsAt};
 ghost use Rattle.list_guards.specs.Guarding.{guard_fault};
 ghost use Rattle.cache_program.specs.CacheOfSettings.{IsCacheOf, IsSessionOf};
@@ -88,11 +88,7 @@ where
     ensures first { IfOk result (λ loaded. IsFirst (Gives (FnReturnsAt F.Fn opens.now (string_bytes settings.now.csv)) L.remaining) settings.now.guards cache.new.shared.kept loaded.0 loaded.1.keys) }
     ensures quiet { settings.now.log ≡ false → output.new ≡ output.old }
 {
-    let path = settings.csv.as_str();
-    let list = match opens(path) {
-        Ok(list) => list,
-        Err(error) => return Err(CacheFault::unread(rt.alloc(), path, error)),
-    };
+    let list = opened_list(rt.alloc(), settings.csv.as_str(), opens)?;
     let set = read_told(rt, settings, list, output)?;
     let serial = publish(cache, &set)?;
     let payloads = set.len();
@@ -103,6 +99,20 @@ where
         LogLine::Loaded { serial, payloads },
     );
     Ok((serial, set))
+}
+
+// The list that is opened at a path.
+fn opened_list<L: Read + Drop, F>(alloc: Global, path: &str, opens: &F) -> Result<L, CacheFault>
+where
+    F: Fn(&str) -> io::Result<L>,
+    requires { F.IsAlwaysCallable opens.now }
+    ensures fault { IfErr result (λ fault. ¬ (IsOfWords fault)) }
+    ensures given { IfOk result (λ list. Gives (FnReturnsAt F.Fn opens.now path.now) L.remaining (Some (L.remaining list))) }
+{
+    match opens(path) {
+        Ok(list) => Ok(list),
+        Err(error) => Err(CacheFault::unread(alloc, path, error)),
+    }
 }
 
 // The set of a file's list; where it can't be had, the log tells why.

@@ -18,4 +18,4 @@ pub use cause::{
 };
 pub use found::{Found, Quoted};
 pub use known::only_known;
-pub use reading::{address_if_told, address_of, number_of, read_table, text_as, text_of, value_at};
+pub use reading::{address_if_told, address_of, number_of, read_table, text_as, text_of, value_at, yes_or_no_of};

@@ -1,5 +1,6 @@
 //! What the main of `ovbgpd` does.
-ghost use Rattle.std.specs.Prelude.{◌≡◌, [], ◌≤◌, ℕ, List, Vec, Ok, Some, IfErr, IfOk, MatchOption, OnOk, ⊤, is_some, string_bytes};
+ghost use Rattle.std.specs.Prelude.{◌≡◌, [], ◌∷◌, ◌≤◌, ℕ, List, Vec, Ok, Some, IfErr, IfOk, MatchOption, MatchResult, OnErr, OnOk, ⊤, is_some, string_bytes};
+ghost use Rattle.clocks.specs.Moments.{IsNotBefore};
 ghost use Rattle.std.specs.Fn.{FnOnceReturnsAt};
 ghost use Rattle.std.specs.Global.{Global as TheGlobal};
 ghost use Rattle.toml.specs.Data.{Members};
@@ -224,7 +225,7 @@ where
         × IsServed (TextFrom (λ lines. FnOnceReturnsAt M.FnOnce commands (string_bytes settings.commands) (Ok lines)) L.remaining)
         (StateFrom (λ wire. F.post opens settings.listen (Ok wire)) W.state) settings turns (C.readings clock.old) (C.readings clock.new) served) }
 {
-    let (path, turns) = read_words(words).map_err(SpeakerFault::Words)?;
+    let (path, turns) = call_of(words)?;
     let settings = read_settings(alloc, path, reads)?;
     serve(alloc, &settings, turns, output, clock, commands, opens)
 }
@@ -263,6 +264,29 @@ fn show_routes<B: Book<Global>, W: Wire + Drop, O: Write>(
 {
     show(served.speaker(), Table::Rib, output).map_err(SpeakerFault::Output)?;
     output.flush().map_err(SpeakerFault::Output)
+}
+
+// The path of the settings and the number of turns.
+fn call_of(words: &[String]) -> Result<(&str, u64), SpeakerFault>
+    ensures { MatchResult result (λ read. IsCall words.now read.0.now read.1) (λ fault. IsOfWords fault × ((path : List ℕ) (turns : ℕ) → ¬ (IsCall words.now path turns))) }
+{
+    match read_words(words) {
+        Ok(call) => Ok(call),
+        Err(why) => Err(SpeakerFault::Words(why)),
+    }
+}
+
+// The moment.
+fn read_clock<C: SecondsClock>(clock: &mut C) -> Result<u64, SpeakerFault>
+    ensures fault { IfErr result (λ fault. ¬ (IsOfWords fault)) }
+    ensures told { IfOk result (λ now. C.readings clock.new ≡ now ∷ C.readings clock.old) }
+    ensures forward { IfOk result (λ now. IsNotBefore now (C.readings clock.old)) }
+    ensures failed { OnErr result (C.readings clock.new ≡ C.readings clock.old) }
+{
+    match clock.read() {
+        Ok(now) => Ok(now),
+        Err(error) => Err(SpeakerFault::Clock(error)),
+    }
 }
 
 // The settings in the file of this path.
@@ -450,7 +474,7 @@ fn take_turns<B: Book<Global>, C: SecondsClock, W: Wire + Drop>(
     ensures turns { TakesSoMany turns result (C.readings clock.old) (C.readings clock.new) served.old served.new }
 {
     for _ in 0..turns {
-        let now = clock.read().map_err(SpeakerFault::Clock)?;
+        let now = read_clock(clock)?;
         served.turn(now)?;
         served.wait(Duration::from_millis(REST_MILLISECONDS));
     }
