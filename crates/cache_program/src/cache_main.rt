@@ -116,7 +116,7 @@ fn ending<E: Write>(ended: Result<(), CacheFault>, errors: &mut E) -> u8
 fn answer<R, O: Write>(rt: &R, aside: Aside<'_>, output: &mut O) -> Result<(), CacheFault>
 where
     R: Files + AllocGlobal,
-    ensures { OnOk result (IsCheckedBy aside) }
+    ensures { OnOk result (IsCheckedBy aside.entry) }
 {
     match aside {
         Aside::Help => print(HELP, output).map_err(CacheFault::Output),

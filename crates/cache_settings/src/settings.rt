@@ -13,7 +13,7 @@ use list_guards::Guards;
 use rtr_cache::OtherSession;
 use rtr_codec::Intervals;
 use settings_keys::{
-    SettingsCause, SettingsFault, Wanted, address_of, bad, bad_number, bad_value, lacks, number_of,
+    Owner, SettingsFault, Wanted, address_of, bad_number, bad_value, lacks, not_greater, number_of,
     only_known, read_table, text_of, value_at, yes_or_no_of,
 };
 use std::alloc::Global;
@@ -81,7 +81,7 @@ impl CacheSettings {
         ensures reread { IfOk result (λ settings. IfSome settings.reread (λ seconds. 1 ≤ seconds)) }
         ensures status { IfOk result (λ settings. IfSome settings.status (λ seconds. 1 ≤ seconds)) }
     {
-        only_known(alloc, table, "ovcache", &KEYS)?;
+        only_known(alloc, table, Owner::Cache, &KEYS)?;
         let listen = address_of(alloc, table, "listen")?;
         let path = text_of(alloc, table, "csv")?;
         let csv = String::from_str(alloc, path)?;
@@ -172,12 +172,12 @@ fn session_of(alloc: Global, table: &Table) -> Result<SessionSource, SettingsFau
     ensures { Answers (IsTold IsSession (get_member (codes "session") (table_view table.now))) result }
 {
     let Some(value) = value_at(table, "session") else {
-        return Err(lacks("session"));
+        return Err(lacks(alloc, "session"));
     };
     if let Some("clock") = value.as_str() {
         return Ok(SessionSource::Clock);
     }
-    let wanted = Wanted::NumberOrWord(u16::MAX as u32, "clock");
+    let wanted = Wanted::Session;
     let Some(number) = value.as_integer() else {
         return Err(bad_value(alloc, "session", value, wanted));
     };
@@ -201,7 +201,7 @@ fn other_session_of(alloc: Global, table: &Table) -> Result<OtherSession, Settin
             alloc,
             "other_session",
             value,
-            Wanted::Word("report", "reset"),
+            Wanted::OtherSession,
         )),
     }
 }
@@ -212,7 +212,7 @@ const RETRY: Wanted = Wanted::Number(1, 7200);
 const EXPIRE: Wanted = Wanted::Number(600, 172_800);
 
 // Which interval is out of its range, or that the last one isn't the greatest (RFC 8210 section 6).
-fn unlawful(intervals: Intervals) -> SettingsFault
+fn unlawful(alloc: Global, intervals: Intervals) -> SettingsFault
     ensures { IsBad result }
 {
     let Intervals {
@@ -221,30 +221,18 @@ fn unlawful(intervals: Intervals) -> SettingsFault
         expire,
     } = intervals;
     if refresh == 0 || refresh > 86_400 {
-        return bad_number("refresh", refresh, REFRESH);
+        return bad_number(alloc, "refresh", refresh, REFRESH);
     }
     if retry == 0 || retry > 7200 {
-        return bad_number("retry", retry, RETRY);
+        return bad_number(alloc, "retry", retry, RETRY);
     }
     if expire < 600 || expire > 172_800 {
-        return bad_number("expire", expire, EXPIRE);
+        return bad_number(alloc, "expire", expire, EXPIRE);
     }
     if expire <= refresh {
-        return bad_greater("expire", expire, "refresh", refresh);
+        return not_greater(alloc, "expire", expire, "refresh", refresh);
     }
-    bad_greater("expire", expire, "retry", retry)
-}
-
-// That one number isn't greater than another.
-fn bad_greater(key: &'static str, number: u32, other: &'static str, least: u32) -> SettingsFault
-    ensures { IsBad result }
-{
-    bad(SettingsCause::NotGreater {
-        key,
-        number,
-        other,
-        least,
-    })
+    not_greater(alloc, "expire", expire, "retry", retry)
 }
 
 // The intervals; one whose key isn't there is the usual one.
@@ -262,7 +250,7 @@ fn intervals_of(alloc: Global, table: &Table) -> Result<Intervals, SettingsFault
         expire,
     };
     if !intervals.are_lawful() {
-        return Err(unlawful(intervals));
+        return Err(unlawful(alloc, intervals));
     }
     Ok(intervals)
 }
@@ -281,7 +269,7 @@ fn patience_of(
     let first = seconds_of(alloc, table, "first")?.unwrap_or(Patience::USUAL.first);
     let idle = seconds_of(alloc, table, "idle")?.unwrap_or(intervals.expire);
     if idle <= intervals.refresh {
-        return Err(bad_greater("idle", idle, "refresh", intervals.refresh));
+        return Err(not_greater(alloc, "idle", idle, "refresh", intervals.refresh));
     }
     Ok(Patience { first, idle })
 }
@@ -302,7 +290,7 @@ fn guards_of(alloc: Global, table: &Table) -> Result<Guards, SettingsFault>
 fn per_cent_of(
     alloc: Global,
     table: &Table,
-    key: &'static str,
+    key: &str,
 ) -> Result<Option<u8>, SettingsFault>
     ensures { Answers (IsToldIfThere IsPerCent (get_member key.now (table_view table.now))) result }
 {
@@ -310,7 +298,7 @@ fn per_cent_of(
     match number_of(alloc, table, key, wanted)? {
         None => Ok(None),
         Some(share) if share <= 100 => Ok(Some(share as u8)),
-        Some(share) => Err(bad_number(key, share, wanted)),
+        Some(share) => Err(bad_number(alloc, key, share, wanted)),
     }
 }
 
@@ -318,7 +306,7 @@ fn per_cent_of(
 fn number_or(
     alloc: Global,
     table: &Table,
-    key: &'static str,
+    key: &str,
     usual: u32,
     wanted: Wanted,
 ) -> Result<u32, SettingsFault>
@@ -334,14 +322,14 @@ fn number_or(
 fn seconds_of(
     alloc: Global,
     table: &Table,
-    key: &'static str,
+    key: &str,
 ) -> Result<Option<u32>, SettingsFault>
     ensures told { Answers (IsToldIfThere IsSeconds (get_member key.now (table_view table.now))) result }
     ensures some { IfOk result (λ seconds. IfSome seconds (λ number. 1 ≤ number)) }
 {
     match number_of(alloc, table, key, SECONDS)? {
         None => Ok(None),
-        Some(0) => Err(bad_number(key, 0, SECONDS)),
+        Some(0) => Err(bad_number(alloc, key, 0, SECONDS)),
         Some(seconds) => Ok(Some(seconds)),
     }
 }

@@ -4,7 +4,7 @@ ghost use Rattle.std.specs.Prelude.{◌≡◌};
 ghost use Rattle.settings_keys.specs.declared.cause.SettingsFault.TheVariants.{NoMemory};
 ghost use Rattle.settings_keys.specs.Causes.{IsBad, placed};
 
-use crate::found::{Found, Quoted};
+use crate::found::{Found, Name, Quoted};
 use program_endings::ExitFault;
 use std::alloc::{AllocError, Global};
 use std::fmt::{self, Display, Formatter};
@@ -21,12 +21,10 @@ pub enum Wanted {
     /// A number within these bounds.
     #[error("no number from {0} to {1}")]
     Number(u32, u32),
-    /// A number up to this one, or this word.
-    #[error("neither a number from 0 to {0} nor '{1}'")]
-    NumberOrWord(u32, &'static str),
-    /// One of these words.
-    #[error("neither '{0}' nor '{1}'")]
-    Word(&'static str, &'static str),
+    #[error("neither a number from 0 to 65535 nor 'clock'")]
+    Session,
+    #[error("neither 'report' nor 'reset'")]
+    OtherSession,
     #[error("neither true nor false")]
     YesOrNo,
     #[error("no IPv4 address other than 0.0.0.0")]
@@ -35,6 +33,18 @@ pub enum Wanted {
     Table,
     #[error("no array of tables")]
     Tables,
+}
+
+/// Whose keys are known.
+#[derive(Clone, Copy, Debug, PartialEq, Eq, Error)]
+pub enum Owner {
+    #[error("ovcache")]
+    Cache,
+    #[error("ovbgpd")]
+    Speaker,
+    /// The table of a peer.
+    #[error("a peer")]
+    Peer,
 }
 
 /// What is wrong with settings.
@@ -53,47 +63,47 @@ pub enum SettingsCause {
     #[error("{key} is no key of {owner}; the nearest is '{nearest}'", key = Quoted(.key.as_str()))]
     UnknownKey {
         key: String,
-        owner: &'static str,
-        nearest: &'static str,
+        owner: Owner,
+        nearest: Name,
     },
     /// The key has to be there.
     #[error("'{0}' isn't there")]
-    Lacks(&'static str),
+    Lacks(Name),
     /// The key has another value than it can have.
     #[error("{key}: {found} is {wanted}")]
     Value {
-        key: &'static str,
+        key: Name,
         found: Found,
         wanted: Wanted,
     },
     /// One number has to be greater than another.
     #[error("{key}: {number} isn't greater than '{other}', which is {least}")]
     NotGreater {
-        key: &'static str,
+        key: Name,
         number: u32,
-        other: &'static str,
+        other: Name,
         least: u32,
     },
     /// The number stands at this key of an earlier table.
     #[error("{key}: {number} stands in an earlier table")]
     Again {
-        key: &'static str,
+        key: Name,
         number: u32,
     },
 }
 
-/// Where in settings something is wrong: at the top, or in the table of this number, counted from 1, of an array.
+/// Where in settings something is wrong: at the top, or in the table of the peer of this number, counted from 1.
 #[derive(Clone, Copy, Debug, PartialEq, Eq)]
 pub enum SettingsPlace {
     Top,
-    Table(&'static str, usize),
+    Peer(usize),
 }
 
 impl Display for SettingsPlace {
     fn fmt<W: fmt::Write>(&self, f: &mut Formatter<W>) -> fmt::Result {
         match self {
             SettingsPlace::Top => Ok(()),
-            SettingsPlace::Table(name, number) => write!(f, "{name} {number}: "),
+            SettingsPlace::Peer(number) => write!(f, "peer {number}: "),
         }
     }
 }
@@ -147,32 +157,63 @@ pub fn bad(cause: SettingsCause) -> SettingsFault
 }
 
 /// The fault of a key that has to be there.
-pub fn lacks(key: &'static str) -> SettingsFault
+pub fn lacks(alloc: Global, key: &str) -> SettingsFault
     ensures { IsBad result }
 {
-    bad(SettingsCause::Lacks(key))
+    bad(SettingsCause::Lacks(Name::of(alloc, key)))
 }
 
 /// The fault of a key with this value.
-pub fn bad_value(alloc: Global, key: &'static str, value: &Value, wanted: Wanted) -> SettingsFault
+pub fn bad_value(alloc: Global, key: &str, value: &Value, wanted: Wanted) -> SettingsFault
     ensures { IsBad result }
 {
     let found = Found::of(alloc, value);
+    let key = Name::of(alloc, key);
     bad(SettingsCause::Value { key, found, wanted })
 }
 
 /// The fault of a key with this number.
-pub fn bad_number(key: &'static str, number: u32, wanted: Wanted) -> SettingsFault
+pub fn bad_number(alloc: Global, key: &str, number: u32, wanted: Wanted) -> SettingsFault
     ensures { IsBad result }
 {
     let found = Found::Number(number as i64);
+    let key = Name::of(alloc, key);
     bad(SettingsCause::Value { key, found, wanted })
 }
 
+/// The fault of a key whose number isn't greater than that of another.
+pub fn not_greater(
+    alloc: Global,
+    key: &str,
+    number: u32,
+    other: &str,
+    least: u32,
+) -> SettingsFault
+    ensures { IsBad result }
+{
+    let key = Name::of(alloc, key);
+    let other = Name::of(alloc, other);
+    bad(SettingsCause::NotGreater {
+        key,
+        number,
+        other,
+        least,
+    })
+}
+
+/// The fault of a key whose number stands at that key of an earlier table.
+pub fn again(alloc: Global, key: &str, number: u32) -> SettingsFault
+    ensures { IsBad result }
+{
+    let key = Name::of(alloc, key);
+    bad(SettingsCause::Again { key, number })
+}
+
 /// The fault of a key with this text.
-pub fn bad_text(alloc: Global, key: &'static str, text: &str, wanted: Wanted) -> SettingsFault
+pub fn bad_text(alloc: Global, key: &str, text: &str, wanted: Wanted) -> SettingsFault
     ensures { IsBad result }
 {
     let found = Found::of_text(alloc, text);
+    let key = Name::of(alloc, key);
     bad(SettingsCause::Value { key, found, wanted })
 }

@@ -2,6 +2,7 @@
 
 use std::alloc::Global;
 use std::fmt::{self, Display, Formatter};
+use thiserror::Error;
 use toml::Value;
 
 /// What stands at a key, as a fault shows it.
@@ -11,7 +12,22 @@ pub enum Found {
     Number(i64),
     YesOrNo(bool),
     /// Another value, or a text for which there was no memory, by the name of its kind.
-    Other(&'static str),
+    Other(Kind),
+}
+
+/// The kind of a value.
+#[derive(Clone, Copy, Debug, PartialEq, Eq, Error)]
+pub enum Kind {
+    #[error("the text")]
+    Text,
+    #[error("a number with a point")]
+    Float,
+    #[error("a date or a time")]
+    Datetime,
+    #[error("an array")]
+    Array,
+    #[error("a table")]
+    Table,
 }
 
 impl Found {
@@ -21,10 +37,10 @@ impl Found {
             Value::String(text) => Found::of_text(alloc, text.as_str()),
             Value::Integer(number) => Found::Number(*number),
             Value::Boolean(is_on) => Found::YesOrNo(*is_on),
-            Value::Float(_) => Found::Other("a number with a point"),
-            Value::Datetime(_) => Found::Other("a date or a time"),
-            Value::Array(_) => Found::Other("an array"),
-            Value::Table(_) => Found::Other("a table"),
+            Value::Float(_) => Found::Other(Kind::Float),
+            Value::Datetime(_) => Found::Other(Kind::Datetime),
+            Value::Array(_) => Found::Other(Kind::Array),
+            Value::Table(_) => Found::Other(Kind::Table),
         }
     }
 
@@ -32,7 +48,7 @@ impl Found {
     pub fn of_text(alloc: Global, text: &str) -> Found {
         match String::from_str(alloc, text) {
             Ok(text) => Found::Text(text),
-            Err(_) => Found::Other("the text"),
+            Err(_) => Found::Other(Kind::Text),
         }
     }
 }
@@ -43,7 +59,7 @@ impl Display for Found {
             Found::Text(text) => Display::fmt(&Quoted(text.as_str()), f),
             Found::Number(number) => Display::fmt(number, f),
             Found::YesOrNo(is_on) => Display::fmt(is_on, f),
-            Found::Other(kind) => f.write_str(kind),
+            Found::Other(kind) => Display::fmt(kind, f),
         }
     }
 }
@@ -62,5 +78,29 @@ impl Display for Quoted<'_> {
             Display::fmt(&character.escape_debug(), f)?;
         }
         f.write_str("'")
+    }
+}
+
+/// The name of a key, as far as there was memory for it.
+#[derive(Debug, Drop)]
+pub struct Name {
+    text: Option<String>,
+}
+
+impl Name {
+    /// This name.
+    pub fn of(alloc: Global, text: &str) -> Name {
+        Name {
+            text: String::from_str(alloc, text).ok(),
+        }
+    }
+}
+
+impl Display for Name {
+    fn fmt<W: fmt::Write>(&self, f: &mut Formatter<W>) -> fmt::Result {
+        match &self.text {
+            Some(text) => f.write_str(text.as_str()),
+            None => f.write_str("a key"),
+        }
     }
 }

@@ -6,7 +6,8 @@ ghost use Rattle.std.specs.Str.{bytes_eq};
 ghost use Rattle.settings_keys.specs.KnownKeys.{HasNoKeyBut, first_unknown};
 ghost use Rattle.settings_keys.specs.Causes.{TellsUnknown};
 
-use crate::cause::{SettingsCause, SettingsFault, SettingsPlace};
+use crate::cause::{Owner, SettingsCause, SettingsFault, SettingsPlace};
+use crate::found::Name;
 use std::alloc::{AllocError, Global};
 use strsim::levenshtein;
 use toml::Table;
@@ -16,8 +17,8 @@ use toml::Table;
 pub fn only_known(
     alloc: Global,
     table: &Table,
-    owner: &'static str,
-    known: &[&'static str],
+    owner: Owner,
+    known: &[&str],
 ) -> Result<(), SettingsFault>
     ensures { MatchResult result (λ done. HasNoKeyBut (map (λ key. key.now) known.now) (table_view table.now)) (λ fault. TellsUnknown fault (first_unknown (map (λ key. key.now) known.now) (table_view table.now))) }
 {
@@ -28,7 +29,7 @@ pub fn only_known(
 }
 
 // The first key of the table that isn't known.
-fn first_unknown<'a>(table: &'a Table, known: &[&'static str]) -> Option<&'a str>
+fn first_unknown<'a>(table: &'a Table, known: &[&str]) -> Option<&'a str>
     ensures { option_map (λ key. key.now) result ≡ first_unknown (map (λ key. key.now) known.now) (table_view table.now) }
 {
     for key in table.keys() {
@@ -39,7 +40,7 @@ fn first_unknown<'a>(table: &'a Table, known: &[&'static str]) -> Option<&'a str
     None
 }
 
-fn is_known(key: &str, known: &[&'static str]) -> bool
+fn is_known(key: &str, known: &[&str]) -> bool
     ensures { result ≡ list_any (λ name. bytes_eq name.now key.now) known.now }
 {
     known.iter().any(|name| *name == key)
@@ -49,8 +50,8 @@ fn is_known(key: &str, known: &[&'static str]) -> bool
 fn unknown_key(
     alloc: Global,
     key: &str,
-    owner: &'static str,
-    known: &[&'static str],
+    owner: Owner,
+    known: &[&str],
 ) -> SettingsFault
     ensures { TellsUnknown result (Some key.now) }
 {
@@ -59,6 +60,7 @@ fn unknown_key(
     };
     match String::from_str(alloc, key) {
         Ok(key) => {
+            let nearest = Name::of(alloc, nearest);
             let cause = SettingsCause::UnknownKey {
                 key,
                 owner,
@@ -71,13 +73,17 @@ fn unknown_key(
 }
 
 // The known key from which the fewest edits lead to this one.
-fn nearest(alloc: Global, key: &str, known: &[&'static str]) -> Result<&'static str, AllocError> {
+fn nearest<'a>(
+    alloc: Global,
+    key: &str,
+    known: &[&'a str],
+) -> Result<&'a str, AllocError> {
     let mut nearest = "";
     let mut fewest = usize::MAX;
     for name in known {
         let edits = levenshtein(alloc, name, key)?;
         if edits < fewest {
-            nearest = name;
+            nearest = *name;
             fewest = edits;
         }
     }

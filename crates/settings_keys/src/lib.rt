@@ -13,9 +13,11 @@ mod known;
 mod reading;
 
 pub use cause::{
-    SettingsCause, SettingsFault, SettingsPlace, Wanted, bad, bad_number, bad_text, bad_value,
-    lacks,
+    Owner, SettingsCause, SettingsFault, SettingsPlace, Wanted, again, bad, bad_number, bad_text,
+    bad_value, lacks, not_greater,
 };
-pub use found::{Found, Quoted};
+pub use found::{Found, Kind, Name, Quoted};
 pub use known::only_known;
-pub use reading::{address_if_told, address_of, number_of, read_table, text_as, text_of, value_at, yes_or_no_of};
+pub use reading::{
+    address_if_told, address_of, number_of, read_table, text_as, text_of, value_at, yes_or_no_of,
+};

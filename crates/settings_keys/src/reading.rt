@@ -62,7 +62,7 @@ pub fn value_at<'a>(table: &'a Table, key: &str) -> Option<&'a Value>
 pub fn text_of<'a>(
     alloc: Global,
     table: &'a Table,
-    key: &'static str,
+    key: &str,
 ) -> Result<&'a str, SettingsFault>
     ensures { MatchResult result (λ text. IsTold IsText (get_member key.now (table_view table.now)) text.now) (λ fault. IsBad fault × ((text : List ℕ) → ¬ (IsTold IsText (get_member key.now (table_view table.now)) text))) }
 {
@@ -73,13 +73,13 @@ pub fn text_of<'a>(
 pub fn text_as<'a>(
     alloc: Global,
     table: &'a Table,
-    key: &'static str,
+    key: &str,
     wanted: Wanted,
 ) -> Result<&'a str, SettingsFault>
     ensures { MatchResult result (λ text. IsTold IsText (get_member key.now (table_view table.now)) text.now) (λ fault. IsBad fault × ((text : List ℕ) → ¬ (IsTold IsText (get_member key.now (table_view table.now)) text))) }
 {
     let Some(value) = value_at(table, key) else {
-        return Err(lacks(key));
+        return Err(lacks(alloc, key));
     };
     match value.as_str() {
         Some(text) => Ok(text),
@@ -92,7 +92,7 @@ pub fn text_as<'a>(
 pub fn address_of(
     alloc: Global,
     table: &Table,
-    key: &'static str,
+    key: &str,
 ) -> Result<SocketAddr, SettingsFault>
     ensures { Answers (IsTold IsAddress (get_member key.now (table_view table.now))) result }
 {
@@ -107,7 +107,7 @@ pub fn address_of(
 pub fn address_if_told(
     alloc: Global,
     table: &Table,
-    key: &'static str,
+    key: &str,
 ) -> Result<Option<SocketAddr>, SettingsFault>
     ensures { Answers (IsToldIfThere IsAddress (get_member key.now (table_view table.now))) result }
 {
@@ -122,7 +122,7 @@ pub fn address_if_told(
 pub fn number_of(
     alloc: Global,
     table: &Table,
-    key: &'static str,
+    key: &str,
     wanted: Wanted,
 ) -> Result<Option<u32>, SettingsFault>
     ensures { Answers (IsToldIfThere IsNumber (get_member key.now (table_view table.now))) result }
@@ -140,7 +140,7 @@ pub fn number_of(
 }
 
 /// Whether a key is told `true`; false where the key isn't there. `Settings` where its value is neither `true` nor `false`.
-pub fn yes_or_no_of(alloc: Global, table: &Table, key: &'static str) -> Result<bool, SettingsFault>
+pub fn yes_or_no_of(alloc: Global, table: &Table, key: &str) -> Result<bool, SettingsFault>
     ensures { Answers (IsToldOrUsual IsYesOrNo false (get_member key.now (table_view table.now))) result }
 {
     let Some(value) = value_at(table, key) else {

@@ -5,7 +5,7 @@ use Rattle.program_endings.specs.declared.fault.ExitFault.{ExitFault}
 use Rattle.program_endings.specs.declared.fault.ExitFault.TheVariants.{Arguments, Settings, BadLine, RefusedLine, Device}
 use Rattle.speaker_program.specs.Begun.{IsServed}
 use Rattle.speaker_program.specs.Endings.{EndsSo}
-use Rattle.speaker_program.specs.declared.settings.SpeakerSettings.{SpeakerSettings}
+use Rattle.speaker_settings.specs.declared.settings.SpeakerSettings.{SpeakerSettings}
 use Rattle.speaker_turns.specs.Turns.{Turns}
 use Rattle.wires.specs.Wires.{WireState}
 

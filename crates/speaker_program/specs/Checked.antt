@@ -7,8 +7,8 @@ use Rattle.settings_keys.specs.Keys.{IsTableOf}
 use Rattle.speaker.specs.SpeakerState.{SpeakerState}
 use Rattle.speaker_program.specs.Commanded.{IsCommanded}
 use Rattle.speaker_program.specs.Slots.{HasJust}
-use Rattle.speaker_program.specs.ToldSettings.{IsToldBy}
-use Rattle.speaker_program.specs.declared.settings.SpeakerSettings.{SpeakerSettings}
+use Rattle.speaker_settings.specs.ToldSettings.{IsToldBy}
+use Rattle.speaker_settings.specs.declared.settings.SpeakerSettings.{SpeakerSettings}
 
 -- the octets of some file tell settings, and the commands of some file leave a speaker of them, with just their slots
 pub record IsChecked : Type 0 where

@@ -4,4 +4,3 @@ pub mod Commanded
 pub mod Endings
 pub mod Exits
 pub mod Slots
-pub mod ToldSettings

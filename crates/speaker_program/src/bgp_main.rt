@@ -11,9 +11,9 @@ ghost use Rattle.program_endings.specs.Asides.{Asks};
 ghost use Rattle.program_endings.specs.declared.aside.Aside.{Aside};
 ghost use Rattle.std.specs.Result.{IsErrAnd};
 ghost use Rattle.speaker_program.specs.Begun.{IsBegun, IsServed, StateFrom, TextFrom, with_remotes};
-ghost use Rattle.speaker_program.specs.declared.settings.SpeakerSettings.{SpeakerSettings};
+ghost use Rattle.speaker_settings.specs.declared.settings.SpeakerSettings.{SpeakerSettings};
 ghost use Rattle.speaker_program.specs.Slots.{HasJust, is_configured};
-ghost use Rattle.speaker_program.specs.ToldSettings.{IsToldBy};
+ghost use Rattle.speaker_settings.specs.ToldSettings.{IsToldBy};
 ghost use Rattle.settings_keys.specs.Keys.{IsTableOf};
 ghost use Rattle.speaker_turns.specs.Turns.{Turns};
 ghost use Rattle.program_endings.specs.Words.{IsCall};
@@ -23,7 +23,6 @@ ghost use Rattle.net_wires.specs.Opening.{opened_at};
 
 use crate::fault::SpeakerFault;
 use crate::help::{HELP, VERSION};
-use crate::settings::{SpeakerSettings, has_slot};
 use bgp_conf::PEER_SLOTS;
 use clocks::{MonotonicClock, SecondsClock};
 use decision::Book;
@@ -31,6 +30,7 @@ use net_wires::{NetWire, REST_MILLISECONDS};
 use program_endings::{Aside, aside_of, end, print, read_words};
 use scenario::{Table, obey_lines, show};
 use speaker::{Config, Speaker};
+use speaker_settings::{SpeakerSettings, has_slot};
 use speaker_turns::{End, SpeakerLoop};
 use std::alloc::{AllocGlobal, Global};
 use std::fs;
@@ -114,7 +114,7 @@ fn answer<B: Book<Global>, R, O: Write>(
 ) -> Result<(), SpeakerFault>
 where
     R: Files + AllocGlobal,
-    ensures { OnOk result (IsCheckedBy aside) }
+    ensures { OnOk result (IsCheckedBy aside.entry) }
 {
     match aside {
         Aside::Help => print(HELP, output).map_err(SpeakerFault::Output),
@@ -369,9 +369,21 @@ where
     ensures commands { IfOk result (λ speaker. (lines : L) × FnOnceReturnsAt M.FnOnce commands (string_bytes settings.now.commands) (Ok lines)
         × IsCommanded (L.remaining lines) (record { asn = settings.now.asn; identifier = settings.now.identifier; cache = is_some settings.now.cache; multiprotocol = settings.now.multiprotocol }) speaker) }
 {
-    let mut speaker = made(alloc, settings.config())?;
+    let mut speaker = made(alloc, config_of(settings))?;
     command(alloc, settings, &mut speaker, commands)?;
     Ok(speaker)
+}
+
+// What the speaker of the settings is made with.
+fn config_of(settings: &SpeakerSettings) -> Config
+    ensures { result ≡ record { asn = settings.now.asn; identifier = settings.now.identifier; cache = is_some settings.now.cache; multiprotocol = settings.now.multiprotocol } }
+{
+    Config {
+        asn: settings.asn,
+        identifier: settings.identifier,
+        cache: settings.cache.is_some(),
+        multiprotocol: settings.multiprotocol,
+    }
 }
 
 // A speaker that has obeyed no command.

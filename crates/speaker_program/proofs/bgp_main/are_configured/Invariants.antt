@@ -1,5 +1,6 @@
 use Rattle.std.proofs.Common.{◌≡◌, ℕ, ◌<◌}
-use Rattle.speaker_program.specs.Slots.{has_slot, is_configured}
+use Rattle.speaker_program.specs.Slots.{is_configured}
+use Rattle.speaker_settings.specs.PeerSlots.{has_slot}
 use Rattle.speaker_program.proofs.bgp_main.are_configured.Given as goal
 
 abbrev pub invariant-loop-slot : goal.invariant-loop-slot

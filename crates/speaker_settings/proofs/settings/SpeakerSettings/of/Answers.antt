@@ -1,13 +1,18 @@
 use Rattle.std.proofs.Common.{string_bytes}
 use Rattle.toml.specs.View.{table_view}
-use Rattle.speaker_program.specs.ToldSettings.{IsToldBy}
-use Rattle.settings_keys.proofs.Faults.{at_fault, in_memory, passes_on, passes_on_in_memory, starves}
-use Rattle.speaker_program.proofs.settings.SpeakerSettings.of.Goals as goal
+use Rattle.speaker_settings.specs.ToldSettings.{IsToldBy}
+use Rattle.settings_keys.proofs.Faults.{at_fault, in_memory, passes_on, passes_on_in_memory, starves, unknown_key}
+use Rattle.speaker_settings.proofs.settings.SpeakerSettings.of.Goals as goal
+
+pub returns-in_err-only_known-clause-told : goal.returns-in_err-only_known-clause-told
+returns-in_err-only_known-clause-told c =
+    let needs = IsToldBy (table_view c.args.table.now) in
+    unknown_key needs c.from_residual.result _ _ c.from_residual.ensures.1 c.in_err-only_known.ensures (λ s told. told.keys)
 
 pub returns-in_err-asn-clause-told : goal.returns-in_err-asn-clause-told
 returns-in_err-asn-clause-told c =
     let needs = IsToldBy (table_view c.args.table.now) in
-    in_memory needs _ (passes_on _ needs c.from_residual.result _ c.from_residual.ensures.1 c.in_err-asn.ensures (λ none s told. none s.asn told.asn))
+    in_memory needs _ (passes_on _ needs c.from_residual-in_err-asn.result _ c.from_residual-in_err-asn.ensures.1 c.in_err-asn.ensures (λ none s told. none s.asn told.asn))
 
 pub returns-in_err-identifier-clause-told : goal.returns-in_err-identifier-clause-told
 returns-in_err-identifier-clause-told c =
@@ -38,3 +43,8 @@ pub returns-in_err-peers-clause-told : goal.returns-in_err-peers-clause-told
 returns-in_err-peers-clause-told c =
     let needs = IsToldBy (table_view c.args.table.now) in
     passes_on_in_memory _ needs c.from_residual-in_err-peers.result _ c.from_residual-in_err-peers.ensures.1 c.in_err-peers.ensures.told (λ none s told. none s.peers told.peers)
+
+pub returns-in_err-multiprotocol-clause-told : goal.returns-in_err-multiprotocol-clause-told
+returns-in_err-multiprotocol-clause-told c =
+    let needs = IsToldBy (table_view c.args.table.now) in
+    in_memory needs _ (passes_on _ needs c.from_residual-in_err-multiprotocol.result _ c.from_residual-in_err-multiprotocol.ensures.1 c.in_err-multiprotocol.ensures (λ none s told. none s.multiprotocol told.multiprotocol))

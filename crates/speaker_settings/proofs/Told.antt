@@ -1,5 +1,5 @@
 -- What settings tell, they tell in one way.
-use Rattle.std.proofs.Common.{◌≡◌, ◌<◌, ◌==◌, ◌++◌, ℕ, zero, suc, true, false, List, [], ◌∷◌, Option, None, Some, nat_abs, length, take, get_or, get_or-take, length-take-le, refl, ap, sym, subst, ◌∙◌, arith, true≢false, codes}
+use Rattle.std.proofs.Common.{◌≡◌, ◌<◌, ◌==◌, ◌++◌, ℕ, zero, suc, true, false, List, [], ◌∷◌, Option, None, Some, Err, nat_abs, length, take, get_or, get_or-take, length-take-le, refl, ap, sym, subst, ◌∙◌, arith, true≢false, codes}
 use Rattle.std.proofs.lemmas.Option.{same_Some}
 use Rattle.std.proofs.lemmas.List.Folds.{list_any_none}
 use Rattle.std.proofs.NetLemmas.Theorems.{IsIpv4Text_unique}
@@ -11,9 +11,14 @@ use Rattle.toml.specs.Data.{Data, Members, as_table, get_member}
 use Rattle.toml.specs.View.{items_view, view}
 use Rattle.toml.specs.declared.value.Value.{Value}
 use Rattle.settings_keys.proofs.Faults.{TellsNothing}
-use Rattle.settings_keys.specs.Keys.{IsAddress, IsNumber, IsText, IsTold, IsToldIfThere}
-use Rattle.speaker_program.specs.Slots.{AreSlots, has_slot}
-use Rattle.speaker_program.specs.ToldSettings.{ArePeers, IsAsn, IsIdentifier, IsPeer, IsSlot}
+use Rattle.settings_keys.specs.Causes.{IsBad, placed}
+use Rattle.settings_keys.specs.declared.cause.SettingsPlace.{SettingsPlace}
+use Rattle.settings_keys.specs.KnownKeys.{HasNoKeyBut}
+use Rattle.settings_keys.specs.declared.cause.SettingsFault.{SettingsFault}
+use Rattle.settings_keys.specs.declared.cause.SettingsFault.TheVariants.{Settings, NoMemory}
+use Rattle.settings_keys.specs.Keys.{Answers, AnswersInMemory, IsAddress, IsNumber, IsText, IsTold, IsToldIfThere}
+use Rattle.speaker_settings.specs.PeerSlots.{AreSlots, has_slot}
+use Rattle.speaker_settings.specs.ToldSettings.{ArePeers, IsAsn, IsIdentifier, IsPeer, IsSlot, keys_of_a_peer}
 
 pub no_asn : (o : Option Data) → TellsNothing (IsToldIfThere IsNumber o) → TellsNothing (IsTold IsAsn o)
 no_asn None none asn told = told
@@ -46,15 +51,32 @@ slot_told (Some found) a b x y = ap nat_abs (same_Some _ _ (sym x.0.0 ∙ y.0.0)
 same_slot : (found : Data) (p q : ℕ × Address) → IsPeer found p → IsPeer found q → p.0 ≡ q.0
 same_slot found p q x y =
     let tables : x.0 ≡ y.0 = same_Some _ _ (sym x.1 ∙ y.1) in
-    slot_told (get_member (codes "slot") y.0) p.0 q.0 (subst (λ (t : Members). IsTold IsSlot (get_member (codes "slot") t) p.0) tables x.2) y.2
+    slot_told (get_member (codes "slot") y.0) p.0 q.0 (subst (λ (t : Members). IsTold IsSlot (get_member (codes "slot") t) p.0) tables x.3) y.3
 
 pub no_slot_of_peer : (found : Data) (table : Members) → Some table ≡ as_table found → TellsNothing (IsTold IsSlot (get_member (codes "slot") table)) → TellsNothing (IsPeer found)
 no_slot_of_peer found table is none peer told =
-    none peer.0 (subst (λ (t : Members). IsTold IsSlot (get_member (codes "slot") t) peer.0) (same_Some _ _ (sym told.1 ∙ sym is)) told.2)
+    none peer.0 (subst (λ (t : Members). IsTold IsSlot (get_member (codes "slot") t) peer.0) (same_Some _ _ (sym told.1 ∙ sym is)) told.3)
 
 pub no_remote_of_peer : (found : Data) (table : Members) → Some table ≡ as_table found → TellsNothing (IsTold IsAddress (get_member (codes "remote") table)) → TellsNothing (IsPeer found)
 no_remote_of_peer found table is none peer told =
-    none peer.1 (subst (λ (t : Members). IsTold IsAddress (get_member (codes "remote") t) peer.1) (same_Some _ _ (sym told.1 ∙ sym is)) told.3)
+    none peer.1 (subst (λ (t : Members). IsTold IsAddress (get_member (codes "remote") t) peer.1) (same_Some _ _ (sym told.1 ∙ sym is)) told.4)
+
+-- nor is a table of other keys one
+pub no_other_keys : (found : Data) (table : Members) (peer : ℕ × Address) → Some table ≡ as_table found → IsPeer found peer → HasNoKeyBut keys_of_a_peer table
+no_other_keys found table peer is told = subst (λ (t : Members). HasNoKeyBut keys_of_a_peer t) (same_Some _ _ (sym told.1 ∙ sym is)) told.2
+
+-- bad settings, where nothing is told
+pub bad_answers : {B : Type 0} (Needs : B → Type 0) (fault : SettingsFault) → IsBad fault → TellsNothing Needs → Answers Needs (Err fault)
+bad_answers Needs (Settings place cause) bad none = none
+bad_answers Needs NoMemory bad none = absurd bad
+
+pub bad_in_memory : {B : Type 0} (Needs : B → Type 0) (fault : SettingsFault) → IsBad fault → TellsNothing Needs → AnswersInMemory Needs (Err fault)
+bad_in_memory Needs (Settings place cause) bad none = none
+bad_in_memory Needs NoMemory bad none = absurd bad
+
+pub bad_placed : (place : SettingsPlace) (fault : SettingsFault) → IsBad fault → IsBad (placed place fault)
+bad_placed place (Settings before cause) bad = tt
+bad_placed place NoMemory bad = absurd bad
 
 pub are_peers-push : (vs : List Value) (ps : List (ℕ × Address)) (v : Value) (p : ℕ × Address) → ArePeers (items_view vs) ps → IsPeer (view v) p → ArePeers (items_view (vs ++ v ∷ [])) (ps ++ p ∷ [])
 are_peers-push [] [] v p are is = (is, tt)
@@ -107,4 +129,4 @@ slot_below None slot told = absurd told
 slot_below (Some found) slot told = told.1
 
 pub slot_within : (found : Data) (p : ℕ × Address) → IsPeer found p → p.0 < 64
-slot_within found p is = slot_below _ p.0 is.2
+slot_within found p is = slot_below _ p.0 is.3

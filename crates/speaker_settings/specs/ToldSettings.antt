@@ -8,8 +8,8 @@ use Rattle.toml.specs.Data.{Data, Items, Members, as_array, as_table, get_member
 use Rattle.net_prefix.specs.declared.asn.Asn.{Asn}
 use Rattle.settings_keys.specs.Keys.{IsAddress, IsNumber, IsSpelled, IsText, IsTold, IsToldIfThere, IsToldOrUsual, IsYesOrNo}
 use Rattle.settings_keys.specs.KnownKeys.{HasNoKeyBut}
-use Rattle.speaker_program.specs.Slots.{AreSlots}
-use Rattle.speaker_program.specs.declared.settings.SpeakerSettings.{SpeakerSettings}
+use Rattle.speaker_settings.specs.PeerSlots.{AreSlots}
+use Rattle.speaker_settings.specs.declared.settings.SpeakerSettings.{SpeakerSettings}
 
 -- a number of 32 bits that is not 0, as an AS
 abbrev pub IsAsn : Data → Asn → Type 0

@@ -5,7 +5,7 @@ use Rattle.std.proofs.lemmas.List.Folds.{list_any_at}
 use Rattle.std.proofs.lemmas.List.Quantifiers.{all_pairs_push}
 use Rattle.std.specs.List.{list_any}
 use Rattle.std.specs.declared.net.socket_addr.SocketAddr.{SocketAddr as Address}
-use Rattle.speaker_program.specs.Slots.{AreSlots, has_slot}
+use Rattle.speaker_settings.specs.PeerSlots.{AreSlots, has_slot}
 
 none_at : (p : (ℕ × Address) → Bool) (peers : List (ℕ × Address)) → list_any p peers ≡ false → (k : ℕ) (d : ℕ × Address) → k < length peers → p (get_or peers k d) ≡ false
 none_at p peers none k d within = by_test (p (get_or peers k d)) (list_any_at p peers k d within)

@@ -1,19 +1,19 @@
 //! The settings of a speaker.
-ghost use Rattle.std.specs.Prelude.{◌≡◌, ◌≤◌, ◌<◌, IfOk, codes, is_some};
+ghost use Rattle.std.specs.Prelude.{◌≡◌, ◌≤◌, ◌<◌, IfOk, codes};
 ghost use Rattle.toml.specs.Data.{Members, get_member};
 ghost use Rattle.toml.specs.View.{items_view, table_view, view};
 ghost use Rattle.settings_keys.specs.Causes.{IsBad};
 ghost use Rattle.settings_keys.specs.Keys.{Answers, AnswersInMemory, IsTableOf, IsTold};
-ghost use Rattle.speaker_program.specs.Slots.{AreSlots, has_slot};
-ghost use Rattle.speaker_program.specs.ToldSettings.{ArePeers, ArePeersAt, IsAsn, IsIdentifier, IsPeer, IsSlot, IsToldBy};
+ghost use Rattle.speaker_settings.specs.PeerSlots.{AreSlots, has_slot};
+ghost use Rattle.speaker_settings.specs.ToldSettings.{ArePeers, ArePeersAt, IsAsn, IsIdentifier, IsPeer, IsSlot, IsToldBy};
 
 use bgp_conf::PEER_SLOTS;
 use net_prefix::Asn;
 use settings_keys::{
-    SettingsCause, SettingsFault, SettingsPlace, Wanted, address_if_told, address_of, bad_number,
-    bad_text, bad_value, lacks, number_of, only_known, read_table, text_as, text_of, value_at, yes_or_no_of,
+    Owner, SettingsFault, SettingsPlace, Wanted, address_if_told, address_of, again, bad_number,
+    bad_text, bad_value, lacks, number_of, only_known, read_table, text_as, text_of, value_at,
+    yes_or_no_of,
 };
-use speaker::Config;
 use std::alloc::Global;
 use std::net::{Ipv4Addr, SocketAddr};
 use toml::{Table, Value};
@@ -58,7 +58,7 @@ impl SpeakerSettings {
         ensures own { IfOk result (λ settings. (1 ≤ settings.asn.0) × (1 ≤ settings.identifier)) }
         ensures slots { IfOk result (λ settings. AreSlots settings.peers.items) }
     {
-        only_known(alloc, table, "ovbgpd", &KEYS)?;
+        only_known(alloc, table, Owner::Speaker, &KEYS)?;
         let asn = asn_of(alloc, table)?;
         let identifier = identifier_of(alloc, table)?;
         let path = text_of(alloc, table, "commands")?;
@@ -76,18 +76,6 @@ impl SpeakerSettings {
             listen,
             peers,
         })
-    }
-
-    /// What the speaker is made with.
-    pub fn config(&self) -> Config
-        ensures { result ≡ record { asn = self.now.asn; identifier = self.now.identifier; cache = is_some self.now.cache; multiprotocol = self.now.multiprotocol } }
-    {
-        Config {
-            asn: self.asn,
-            identifier: self.identifier,
-            cache: self.cache.is_some(),
-            multiprotocol: self.multiprotocol,
-        }
     }
 }
 
@@ -109,8 +97,8 @@ fn asn_of(alloc: Global, table: &Table) -> Result<Asn, SettingsFault>
 {
     let wanted = Wanted::Number(1, u32::MAX);
     match number_of(alloc, table, "as", wanted)? {
-        None => Err(lacks("as")),
-        Some(0) => Err(bad_number("as", 0, wanted)),
+        None => Err(lacks(alloc, "as")),
+        Some(0) => Err(bad_number(alloc, "as", 0, wanted)),
         Some(number) => Ok(Asn(number)),
     }
 }
@@ -154,7 +142,7 @@ fn each_peer(alloc: Global, entries: &[Value]) -> Result<Vec<(u8, SocketAddr)>, 
         let number = peers.len() + 1;
         let peer = numbered_peer(alloc, entry, number)?;
         if has_slot(peers.as_slice(), peer.0) {
-            return Err(slot_again(number, peer.0));
+            return Err(slot_again(alloc, number, peer.0));
         }
         if peers.push(peer).is_err() {
             return Err(SettingsFault::NoMemory);
@@ -164,14 +152,10 @@ fn each_peer(alloc: Global, entries: &[Value]) -> Result<Vec<(u8, SocketAddr)>, 
 }
 
 // That an earlier table than the one of this number has the slot.
-fn slot_again(number: usize, slot: u8) -> SettingsFault
+fn slot_again(alloc: Global, number: usize, slot: u8) -> SettingsFault
     ensures { IsBad result }
 {
-    let cause = SettingsCause::Again {
-        key: "slot",
-        number: slot as u32,
-    };
-    SettingsFault::Settings(SettingsPlace::Table("peer", number), cause)
+    again(alloc, "slot", slot as u32).at(SettingsPlace::Peer(number))
 }
 
 // The slot and the address of the peer of the table of this number.
@@ -184,7 +168,7 @@ fn numbered_peer(
 {
     match peer_of(alloc, entry) {
         Ok(peer) => Ok(peer),
-        Err(fault) => Err(fault.at(SettingsPlace::Table("peer", number))),
+        Err(fault) => Err(fault.at(SettingsPlace::Peer(number))),
     }
 }
 
@@ -194,7 +178,7 @@ fn peer_of(alloc: Global, entry: &Value) -> Result<(u8, SocketAddr), SettingsFau
     let Some(table) = entry.as_table() else {
         return Err(bad_value(alloc, "peer", entry, Wanted::Table));
     };
-    only_known(alloc, table, "a peer", &PEER_KEYS)?;
+    only_known(alloc, table, Owner::Peer, &PEER_KEYS)?;
     let slot = slot_of(alloc, table)?;
     let remote = address_of(alloc, table, "remote")?;
     Ok((slot, remote))
@@ -205,16 +189,16 @@ fn slot_of(alloc: Global, table: &Table) -> Result<u8, SettingsFault>
 {
     let wanted = Wanted::Number(0, PEER_SLOTS as u32 - 1);
     let Some(number) = number_of(alloc, table, "slot", wanted)? else {
-        return Err(lacks("slot"));
+        return Err(lacks(alloc, "slot"));
     };
     match u8::try_from(number) {
         Ok(slot) if slot < PEER_SLOTS => Ok(slot),
-        _ => Err(bad_number("slot", number, wanted)),
+        _ => Err(bad_number(alloc, "slot", number, wanted)),
     }
 }
 
 /// Whether one of the peers has the slot.
-pub(crate) fn has_slot(peers: &[(u8, SocketAddr)], slot: u8) -> bool
+pub fn has_slot(peers: &[(u8, SocketAddr)], slot: u8) -> bool
     ensures { result ≡ has_slot peers.now slot }
 {
     peers.iter().any(|peer| peer.0 == slot)

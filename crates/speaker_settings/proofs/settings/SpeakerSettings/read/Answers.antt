@@ -1,7 +1,7 @@
 use Rattle.settings_keys.proofs.Faults.{read_as, unread}
 use Rattle.settings_keys.specs.Keys.{IsTableOf}
-use Rattle.speaker_program.specs.ToldSettings.{IsToldBy}
-use Rattle.speaker_program.proofs.settings.SpeakerSettings.read.Goals as goal
+use Rattle.speaker_settings.specs.ToldSettings.{IsToldBy}
+use Rattle.speaker_settings.proofs.settings.SpeakerSettings.read.Goals as goal
 
 pub returns-in_err-table-clause-told : goal.returns-in_err-table-clause-told
 returns-in_err-table-clause-told c =

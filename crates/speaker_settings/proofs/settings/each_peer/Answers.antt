@@ -4,12 +4,12 @@ use Rattle.std.proofs.lemmas.List.{take_more}
 use Rattle.std.specs.declared.net.socket_addr.SocketAddr.{SocketAddr as Address}
 use Rattle.toml.specs.View.{items_view, view}
 use Rattle.toml.specs.declared.value.Value.{Value}
-use Rattle.settings_keys.proofs.Faults.{in_memory, passes_on}
-use Rattle.speaker_program.specs.Slots.{AreSlots}
-use Rattle.speaker_program.specs.ToldSettings.{ArePeers, IsPeer}
-use Rattle.speaker_program.proofs.TakenSlots.{are_slots-push}
-use Rattle.speaker_program.proofs.Told.{are_peers-push, no_peers, slot_within, twice}
-use Rattle.speaker_program.proofs.settings.each_peer.Goals as goal
+use Rattle.settings_keys.proofs.Faults.{passes_on_in_memory}
+use Rattle.speaker_settings.specs.PeerSlots.{AreSlots}
+use Rattle.speaker_settings.specs.ToldSettings.{ArePeers, IsPeer}
+use Rattle.speaker_settings.proofs.TakenSlots.{are_slots-push}
+use Rattle.speaker_settings.proofs.Told.{are_peers-push, bad_in_memory, no_peers, slot_within, twice}
+use Rattle.speaker_settings.proofs.settings.each_peer.Goals as goal
 
 pub loop-entry-preserved : goal.loop-entry-preserved
 loop-entry-preserved c =
@@ -29,8 +29,8 @@ returns-in_err-peer-clause-told c =
     let v = c.entry-item.result in
     let at : get_or vs i v ≡ v = grind (arith, common_steps) in
     let needs = λ (peers : Vec (ℕ × Address) Global). ArePeers (items_view vs) peers.items × AreSlots peers.items in
-    in_memory needs _ (passes_on _ needs c.from_residual.result _ c.from_residual.ensures.1 c.in_err-peer.ensures (λ none peers told.
-    no_peers vs i v c.loop-entry-test.true (λ peer is. none peer (subst (λ (x : Value). IsPeer (view x) peer) at is)) peers.items told.0))
+    passes_on_in_memory _ needs c.from_residual.result _ c.from_residual.ensures.1 c.in_err-peer.ensures (λ none peers told.
+    no_peers vs i v c.loop-entry-test.true (λ peer is. none peer (subst (λ (x : Value). IsPeer (view x) peer) at is)) peers.items told.0)
 
 pub returns-then-has_slot-clause-told : goal.returns-then-has_slot-clause-told
 returns-then-has_slot-clause-told c =
@@ -40,7 +40,7 @@ returns-then-has_slot-clause-told c =
     let at : v ≡ get_or vs i v = grind (arith, common_steps) in
     let is = subst (λ (x : Value). IsPeer (view x) c.in_ok-peer.peer) at c.in_ok-peer.ensures in
     let has = rw c.as_slice.ensures.value at (sym c.has_slot.ensures ∙ c.if-has_slot.true) in
-    λ peers told. twice vs i v c.loop-entry.peers.items c.in_ok-peer.peer c.loop-entry-test.true c.loop-entry.invariant.0 is has peers.items told.0 told.1
+    bad_in_memory _ _ c.slot_again.ensures (λ peers told. twice vs i v c.loop-entry.peers.items c.in_ok-peer.peer c.loop-entry-test.true c.loop-entry.invariant.0 is has peers.items told.0 told.1)
 
 pub returns-clause-told : goal.returns-clause-told
 returns-clause-told c =
