@@ -297,8 +297,20 @@ where
     ensures fault { IfErr result (λ fault. ¬ (IsOfWords fault)) }
     ensures told { IfOk result (λ settings. (octets : Vec ℕ TheGlobal) × (table : Members) × FnOnceReturnsAt S.FnOnce reads path.now (Ok octets) × IsTableOf octets.items table × IsToldBy table settings) }
 {
+    let octets = octets_of(alloc, path, reads)?;
+    settings_in(alloc, path, octets.as_slice())
+}
+
+// The octets of the file of this path.
+fn octets_of<S>(alloc: Global, path: &str, reads: S) -> Result<Vec<u8>, SpeakerFault>
+where
+    S: FnOnce(&str) -> io::Result<Vec<u8>>,
+    requires { S.IsAlwaysCallable reads }
+    ensures fault { IfErr result (λ fault. ¬ (IsOfWords fault)) }
+    ensures given { IfOk result (λ octets. FnOnceReturnsAt S.FnOnce reads path.now (Ok octets)) }
+{
     match reads(path) {
-        Ok(octets) => settings_in(alloc, path, octets.as_slice()),
+        Ok(octets) => Ok(octets),
         Err(error) => Err(SpeakerFault::unread(alloc, path, error)),
     }
 }
@@ -412,14 +424,25 @@ where
     ensures commands { OnOk result ((lines : L) × FnOnceReturnsAt M.FnOnce commands (string_bytes settings.now.commands) (Ok lines) × ObeysText (L.remaining lines) speaker.old speaker.new) }
 {
     let path = settings.commands.as_str();
-    let lines = match commands(path) {
-        Ok(lines) => lines,
-        Err(error) => return Err(SpeakerFault::unread(alloc, path, error)),
-    };
+    let lines = lines_at(alloc, path, commands)?;
     command_from(alloc, path, lines, speaker)?;
     match other_slot(speaker, settings.peers.as_slice()) {
         None => Ok(()),
         Some(slot) => Err(SpeakerFault::bad_slot(alloc, path, slot)),
+    }
+}
+
+// The reader of the file of this path.
+fn lines_at<L: BufRead + Drop, M>(alloc: Global, path: &str, commands: M) -> Result<L, SpeakerFault>
+where
+    M: FnOnce(&str) -> io::Result<L>,
+    requires { M.IsAlwaysCallable commands }
+    ensures fault { IfErr result (λ fault. ¬ (IsOfWords fault)) }
+    ensures given { IfOk result (λ lines. FnOnceReturnsAt M.FnOnce commands path.now (Ok lines)) }
+{
+    match commands(path) {
+        Ok(lines) => Ok(lines),
+        Err(error) => Err(SpeakerFault::unread(alloc, path, error)),
     }
 }
 

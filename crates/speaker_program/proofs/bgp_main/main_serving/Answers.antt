@@ -4,11 +4,11 @@ use Rattle.clocks.specs.Moments.{Clocked}
 use Rattle.speaker_program.specs.Begun.{IsServed, StateFrom}
 use Rattle.net_wires.specs.Opening.{OpenedWire, opened_at}
 use Rattle.speaker_program.proofs.EndedWell.{served_so}
-use Rattle.speaker_program.proofs.bgp_main.main_bgp.Goals as goal
+use Rattle.speaker_program.proofs.bgp_main.main_serving.Goals as goal
 
 pub returns-clause-serves : goal.returns-clause-serves
 returns-clause-serves g c = λ zero.
-    let so = served_so c.serve_words-served.result c.ending.result c.ending.ensures (sym c.end.ensures.status ∙ zero) c.serve_words-served.ensures.serves in
+    let so = served_so c.serve_words-served.result c.ending.result c.ending.ensures (sym c.conclude.ensures.status ∙ zero) c.serve_words-served.ensures.serves in
     let is = so.1 in (
       is.0,
       is.1,
