@@ -48,8 +48,3 @@ pub returns-in_err-peers-clause-told : goal.returns-in_err-peers-clause-told
 returns-in_err-peers-clause-told c =
     let needs = IsToldBy (table_view c.args.table.now) in
     passes_on_in_memory _ needs c.from_residual-in_err-peers.result _ c.from_residual-in_err-peers.ensures.1 c.in_err-peers.ensures.told (λ none s told. none s.peers told.peers)
-
-pub returns-in_err-multiprotocol-clause-told : goal.returns-in_err-multiprotocol-clause-told
-returns-in_err-multiprotocol-clause-told c =
-    let needs = IsToldBy (table_view c.args.table.now) in
-    in_memory needs _ (passes_on _ needs c.from_residual-in_err-multiprotocol.result _ c.from_residual-in_err-multiprotocol.ensures.1 c.in_err-multiprotocol.ensures (λ none s told. none s.multiprotocol told.multiprotocol))
