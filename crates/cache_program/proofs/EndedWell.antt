@@ -39,3 +39,8 @@ one_aside [] Version (Check other) x y is = absurd y
 one_aside (word ∷ []) Version (Check other) x y is = absurd y
 one_aside (word ∷ settings ∷ []) Version (Check other) x y is = absurd x
 one_aside (word ∷ settings ∷ more ∷ words) Version (Check other) x y is = absurd y
+
+-- what holds anyway, holds where all went well
+pub on_ok_of : {T E : Type 0} {P : Type 0} (r : Result T E) → P → OnOk r P
+on_ok_of (Ok done) is = is
+on_ok_of (Err why) is = tt

@@ -197,18 +197,15 @@ fn other_session_of(alloc: Global, table: &Table) -> Result<OtherSession, Settin
     match value.as_str() {
         Some("report") => Ok(OtherSession::Report),
         Some("reset") => Ok(OtherSession::Reset),
-        _ => Err(bad_value(
-            alloc,
-            "other_session",
-            value,
-            Wanted::OtherSession,
-        )),
+        _ => Err(bad_value(alloc, "other_session", value, Wanted::OtherSession)),
     }
 }
 
 // What each interval may be (RFC 8210 section 6).
 const REFRESH: Wanted = Wanted::Number(1, 86_400);
+
 const RETRY: Wanted = Wanted::Number(1, 7200);
+
 const EXPIRE: Wanted = Wanted::Number(600, 172_800);
 
 // Which interval is out of its range, or that the last one isn't the greatest (RFC 8210 section 6).
@@ -287,11 +284,7 @@ fn guards_of(alloc: Global, table: &Table) -> Result<Guards, SettingsFault>
 }
 
 // The number per cent at a key, if the key is there: 100 at most.
-fn per_cent_of(
-    alloc: Global,
-    table: &Table,
-    key: &str,
-) -> Result<Option<u8>, SettingsFault>
+fn per_cent_of(alloc: Global, table: &Table, key: &str) -> Result<Option<u8>, SettingsFault>
     ensures { Answers (IsToldIfThere IsPerCent (get_member key.now (table_view table.now))) result }
 {
     let wanted = Wanted::Number(0, 100);
@@ -319,11 +312,7 @@ fn number_or(
 }
 
 // The seconds at a key, if the key is there: one at least.
-fn seconds_of(
-    alloc: Global,
-    table: &Table,
-    key: &str,
-) -> Result<Option<u32>, SettingsFault>
+fn seconds_of(alloc: Global, table: &Table, key: &str) -> Result<Option<u32>, SettingsFault>
     ensures told { Answers (IsToldIfThere IsSeconds (get_member key.now (table_view table.now))) result }
     ensures some { IfOk result (λ seconds. IfSome seconds (λ number. 1 ≤ number)) }
 {

@@ -182,13 +182,7 @@ pub fn bad_number(alloc: Global, key: &str, number: u32, wanted: Wanted) -> Sett
 }
 
 /// The fault of a key whose number isn't greater than that of another.
-pub fn not_greater(
-    alloc: Global,
-    key: &str,
-    number: u32,
-    other: &str,
-    least: u32,
-) -> SettingsFault
+pub fn not_greater(alloc: Global, key: &str, number: u32, other: &str, least: u32) -> SettingsFault
     ensures { IsBad result }
 {
     let key = Name::of(alloc, key);

@@ -47,12 +47,7 @@ fn is_known(key: &str, known: &[&str]) -> bool
 }
 
 // The fault of a key that isn't known.
-fn unknown_key(
-    alloc: Global,
-    key: &str,
-    owner: Owner,
-    known: &[&str],
-) -> SettingsFault
+fn unknown_key(alloc: Global, key: &str, owner: Owner, known: &[&str]) -> SettingsFault
     ensures { TellsUnknown result (Some key.now) }
 {
     let Ok(nearest) = nearest(alloc, key, known) else {
@@ -73,11 +68,7 @@ fn unknown_key(
 }
 
 // The known key from which the fewest edits lead to this one.
-fn nearest<'a>(
-    alloc: Global,
-    key: &str,
-    known: &[&'a str],
-) -> Result<&'a str, AllocError> {
+fn nearest<'a>(alloc: Global, key: &str, known: &[&'a str]) -> Result<&'a str, AllocError> {
     let mut nearest = "";
     let mut fewest = usize::MAX;
     for name in known {

@@ -59,11 +59,7 @@ pub fn value_at<'a>(table: &'a Table, key: &str) -> Option<&'a Value>
 }
 
 /// The text at a key that has to be there. `Settings` where the key lacks or has another kind of value.
-pub fn text_of<'a>(
-    alloc: Global,
-    table: &'a Table,
-    key: &str,
-) -> Result<&'a str, SettingsFault>
+pub fn text_of<'a>(alloc: Global, table: &'a Table, key: &str) -> Result<&'a str, SettingsFault>
     ensures { MatchResult result (λ text. IsTold IsText (get_member key.now (table_view table.now)) text.now) (λ fault. IsBad fault × ((text : List ℕ) → ¬ (IsTold IsText (get_member key.now (table_view table.now)) text))) }
 {
     text_as(alloc, table, key, Wanted::Text)
@@ -89,11 +85,7 @@ pub fn text_as<'a>(
 
 /// The address and the port at a key that has to be there, of a text as `127.0.0.1:179` or `[::1]:179`. `Settings` where the
 /// key lacks, or its value is no such text.
-pub fn address_of(
-    alloc: Global,
-    table: &Table,
-    key: &str,
-) -> Result<SocketAddr, SettingsFault>
+pub fn address_of(alloc: Global, table: &Table, key: &str) -> Result<SocketAddr, SettingsFault>
     ensures { Answers (IsTold IsAddress (get_member key.now (table_view table.now))) result }
 {
     let text = text_as(alloc, table, key, Wanted::Address)?;

@@ -89,6 +89,7 @@ const KEYS: [&str; 7] = [
     "listen",
     "peer",
 ];
+
 const PEER_KEYS: [&str; 2] = ["slot", "remote"];
 
 // The speaker's AS, which is not 0.
