@@ -199,7 +199,7 @@ const GOOD_SETTINGS: [(&str, &str); 7] = [
 
 #[rattlefmt::skip]
 const BAD_SETTINGS: [(&str, &str); 32] = [
-    ("as = 65000\nidentifier = \"192.0.2.1\"\nno toml", "line 4: "),
+    ("as = 65000\nidentifier = \"192.0.2.1\"\nno toml", "line 4: key with no value, expected `=`"),
     ("identifier = \"192.0.2.1\"\n", "'as' isn't there"),
     ("as = 65000\n", "'identifier' isn't there"),
     ("as = 0\nidentifier = \"192.0.2.1\"\n", "as: 0 is no number from 1 to 4294967295"),
