@@ -70,6 +70,7 @@ pub enum SpeakerFault {
 }
 
 // Why commands can't be obeyed, behind the number of the line.
+#[derive(Clone, Copy)]
 struct Obeying(CommandsFault);
 
 impl Display for Obeying {
@@ -84,6 +85,7 @@ impl Display for Obeying {
 }
 
 // Where it was to listen.
+#[derive(Clone, Copy)]
 struct Listening(Option<SocketAddr>);
 
 impl Display for Listening {
