@@ -10,6 +10,7 @@ pub mod MergedPrefixes
 pub mod NamedPrefixes
 pub mod NeededMemory
 pub mod OneBest
+pub mod Owing
 pub mod Places
 pub mod RemadeOffers
 pub mod Results

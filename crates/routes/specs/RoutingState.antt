@@ -18,6 +18,6 @@ abbrev pub started : RoutingState
 started = record { adj_in = []; book = []; chosen = 0; waiting = [] }
 
 -- the routes and the candidates of all other slots stay
-pub record KeepsOthers (slot : ℕ) (old new : RoutingState) : Type 0 where
-  pub routes : (s : ℕ) (prefix : Prefix) → s ≢ slot → route_at new.adj_in s prefix ≡ route_at old.adj_in s prefix
-  pub offers : (s : ℕ) (prefix : Prefix) → s ≢ slot → offer_at new.book s prefix ≡ offer_at old.book s prefix
+pub record KeepsOthers (slot : ℕ) (had has : RouteTable) (before after : BookState) : Type 0 where
+  pub routes : (s : ℕ) (prefix : Prefix) → s ≢ slot → route_at has s prefix ≡ route_at had s prefix
+  pub offers : (s : ℕ) (prefix : Prefix) → s ≢ slot → offer_at after s prefix ≡ offer_at before s prefix

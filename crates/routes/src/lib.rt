@@ -15,17 +15,20 @@
 #![tactic(auto)]
 
 mod candidates;
+mod commands;
 mod exports;
 mod link;
+mod message;
+mod queue;
+mod routes;
 mod routing;
+mod sessions;
 mod told;
 mod updates;
 mod waiting;
 
-pub use candidates::{choose_again, choose_slot, choose_touched, judge_network};
-pub use exports::{Octets, export, export_peer, place};
+pub use exports::{Octets, place};
 pub use link::Link;
-pub use routing::{Links, Routing, slots_end};
-pub use told::{announce, withdraw};
-pub use updates::{Sender, take_update};
+pub use message::Standard;
+pub use routes::Routes;
 pub use waiting::WaitingPrefixes;

@@ -58,7 +58,8 @@ use Rattle.speaker.specs.Chosen.{Chooses}
 use Rattle.speaker.specs.FirstRefusal.{refused_at, awaits_up, is_open}
 use Rattle.routes.specs.Linked.{Linked, moved}
 use Rattle.routes.specs.Offers.{AreKept, AreMadeAgain, AreMadeWhere, IsSound, Offers}
-use Rattle.speaker.specs.Moves.{Announces, Moves, IsPut, resolves}
+use Rattle.routes.specs.Commands.{resolves}
+use Rattle.speaker.specs.Moves.{Announces, Moves, IsPut}
 use Rattle.speaker.specs.Runs.{Call, Run, turn, Up_call, Fail_call, Bytes_call, Starved_call, Tick_call, Command_call, Take_call, Cache_up_call, Cache_fail_call, Cache_bytes_call, Cache_starved_call, Cache_take_call, cache_history, commanded, conf_called, configuration_of, history, moment_after, opened_commanded, terms_in}
 use Rattle.speaker.specs.SpeakerState.{IsAsBefore, SpeakerState, tables_of}
 use Rattle.routes.specs.Tables.{link_at, network_route, peer_route_at, session_at, tables}

@@ -12,8 +12,8 @@ use Rattle.speaker.specs.Agreement.{QueuesOn}
 use Rattle.routes.specs.Export.{IsAccepted, export_in, export_peer_of}
 use Rattle.speaker.specs.Export.{export_to}
 use Rattle.routes.specs.Linked.{Linked}
-use Rattle.speaker.specs.Serving.{AreServedBelow, IsServedBy, IsServedAt, IsShortAt, IsUpAt, HasRoomAt, IsOfSlot, IsStill, IsToldAt, Serves, Stand, IsDoneAt, IsGone, IsHad, IsNext, is_standing}
-use Rattle.routes.specs.Marks.{announced_of, withdrawn_of}
+use Rattle.speaker.specs.Serving.{AreServedBelow, IsServedBy, IsServedAt, IsShortAt, IsUpAt, HasRoomAt, IsOfSlot, IsStill, IsToldAt, Serves, Stand, IsDoneAt, IsGone, IsHad, is_standing}
+use Rattle.routes.specs.Owing.{IsNext, announced_of, withdrawn_of}
 use Rattle.speaker.specs.Queueing.{ComesFirst}
 use Rattle.routes.specs.Places.{rank_of}
 use Rattle.routes.specs.Told.{update_saying, HasRoom}

@@ -109,9 +109,3 @@ IsGone export q held = export q ≡ None → held ≡ None
 -- what is exported is held just so
 abbrev pub IsHad : (Prefix → Option (List ℕ)) → Prefix → Option (List ℕ) → Type 0
 IsHad export q held = (octets : List ℕ) → export q ≡ Some octets → held ≡ Some octets
-
--- the least prefix above the given one to which there is something, if there is one
-abbrev pub IsNext : {X : Type 0} → (Prefix → Option X) → Option Prefix → Option Prefix → Type 0
-IsNext there after found =
-    MatchOption found ((q : Prefix) → IsAbove after q → there q ≡ None)
-    (λ p. IsSome (there p) × IsAbove after p × ((q : Prefix) → IsAbove after q → IsSome (there q) → is_gt (prefix_cmp p q) ≡ false))

@@ -32,7 +32,6 @@ mod config;
 mod configuration;
 mod event;
 mod laws;
-mod message;
 mod queue;
 mod runs;
 mod sessions;

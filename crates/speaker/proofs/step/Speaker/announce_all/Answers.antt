@@ -3,7 +3,7 @@ use Rattle.decision.specs.BookContents.{rows_of}
 use Rattle.rib_out.specs.Held.{held_at}
 use Rattle.routes.specs.Export.{IsAccepted, export_in}
 use Rattle.speaker.specs.Export.{export_to}
-use Rattle.routes.specs.Marks.{announced_of}
+use Rattle.routes.specs.Owing.{announced_of}
 use Rattle.loc_rib.specs.RibTables.{RibTables}
 use Rattle.speaker.specs.Serving.{HasRoomAt, IsHad}
 use Rattle.routes.specs.Tables.{best_at}

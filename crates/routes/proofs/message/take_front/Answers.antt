@@ -1,5 +1,5 @@
 use Rattle.std.proofs.Common.{◌≡◌, ◌∙◌, sym}
-use Rattle.speaker.proofs.message.take_front.Goals as goal
+use Rattle.routes.proofs.message.take_front.Goals as goal
 
 pub returns-in_ok-input-in-Message-clause-kept : goal.returns-in_ok-input-in-Message-clause-kept
 returns-in_ok-input-in-Message-clause-kept g c = λ session state identifier.

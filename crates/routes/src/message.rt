@@ -11,20 +11,22 @@ ghost use Rattle.bgp_msg.specs.declared.frame.MessageType.TheVariants.{Update as
 ghost use Rattle.bgp_peer.specs.SessionInputs.{Terms, expected_of, input_of, open_input, update_input};
 ghost use Rattle.decision.specs.BookContents.{offer_at};
 ghost use Rattle.routes.specs.Updates.{NeedsMemory, sound_update};
-ghost use Rattle.speaker.specs.AdjRibIn.{update_heard};
+ghost use Rattle.routes.specs.Heard.{AreOf, IsHeard, TakesMemoryAt, update_heard};
 ghost use Rattle.routes.specs.Chosen.{named_if, IsPart};
 ghost use Rattle.routes.specs.Marks.{AreMarked};
-ghost use Rattle.speaker.specs.Moves.{AreOf, IsHeard, TakesMemoryAt};
 ghost use Rattle.routes.specs.RoutingState.{KeepsOthers};
 ghost use Rattle.routes.specs.Offers.{IsSound, KeepsHeard};
 
+use crate::exports::Octets;
+use crate::link::Link;
+use crate::routing::{Links, Routing};
+use crate::updates::{Sender, take_update};
 use bgp_attr::{PeerKind, UpdateFault};
 use bgp_conf::Conf;
 use bgp_fsm::{Input, State};
 use bgp_msg::{Expected, Fault, Frame, MessageType, Notification, Step, read_open, read_update};
 use decision::Book;
 use origin_valid::PayloadTrie;
-use routes::{Link, Links, Octets, Routing, Sender, take_update};
 use std::alloc::{AllocError, Allocator};
 
 /// What a peer's messages are judged by: what kind of peer it is to us, and what its OPEN is to say.
@@ -56,12 +58,12 @@ pub fn take_front<'r, A: Allocator + Clone, B: Book<A>>(
     ensures routes { OnOk result ((terms : Terms) → AreOf terms standard
         → IsHeard sender.slot (option_and_then (update_heard link.now.peer.session.state terms) (meaning link.now.peer.rest)) routing.old.adj_in routing.new.adj_in) }
     ensures kept { OnOk result (KeepsHeard conf.now payloads.now sender link.now.peer.session.state routing.old routing.new) }
-    ensures others { OnErr result (KeepsOthers sender.slot routing.old routing.new) }
+    ensures others { OnErr result (KeepsOthers sender.slot routing.old.adj_in routing.new.adj_in routing.old.book routing.new.book) }
     ensures memory { OnErr result (TakesMemoryAt standard.kind link.now) }
     ensures chosen { OnOk result ((terms : Terms) → AreOf terms standard
         → routing.new.chosen ≤ routing.old.chosen + named_if (option_and_then (update_heard link.now.peer.session.state terms) (meaning link.now.peer.rest))) }
     ensures rises { routing.old.chosen ≤ routing.new.chosen }
-    ensures part { OnErr result ((body : List ℕ) → meaning link.now.peer.rest ≡ Some (WholeMessage UpdateMessage body) → IsPart sender.slot (sound_update standard.kind body (update_fault standard.kind body)) routing.old routing.new) }
+    ensures part { OnErr result ((body : List ℕ) → meaning link.now.peer.rest ≡ Some (WholeMessage UpdateMessage body) → IsPart sender.slot (sound_update standard.kind body (update_fault standard.kind body)) routing.old.adj_in routing.new.adj_in routing.old.chosen routing.new.chosen) }
 {
     match link.peer.front() {
         Step::Need => Ok(None),
@@ -98,12 +100,12 @@ fn judge<'r, A: Allocator + Clone, B: Book<A>>(
     ensures routes { OnOk result ((terms : Terms) → AreOf terms standard
         → IsHeard sender.slot (update_heard state terms (WholeMessage frame.entry.kind frame.entry.body.now)) routing.old.adj_in routing.new.adj_in) }
     ensures kept { OnOk result (KeepsHeard conf.now payloads.now sender state routing.old routing.new) }
-    ensures others { OnErr result (KeepsOthers sender.slot routing.old routing.new) }
+    ensures others { OnErr result (KeepsOthers sender.slot routing.old.adj_in routing.new.adj_in routing.old.book routing.new.book) }
     ensures memory { OnErr result ((state ≡ Established) × (frame.entry.kind ≡ UpdateMessage) × NeedsMemory standard.kind frame.entry.body.now) }
     ensures chosen { OnOk result ((terms : Terms) → AreOf terms standard
         → routing.new.chosen ≤ routing.old.chosen + named_if (update_heard state terms (WholeMessage frame.entry.kind frame.entry.body.now))) }
     ensures rises { routing.old.chosen ≤ routing.new.chosen }
-    ensures part { OnErr result (IsPart sender.slot (sound_update standard.kind frame.entry.body.now (update_fault standard.kind frame.entry.body.now)) routing.old routing.new) }
+    ensures part { OnErr result (IsPart sender.slot (sound_update standard.kind frame.entry.body.now (update_fault standard.kind frame.entry.body.now)) routing.old.adj_in routing.new.adj_in routing.old.chosen routing.new.chosen) }
 {
     match (frame.kind, state) {
         (MessageType::Open, State::OpenSent) => Ok(judge_open(frame.body, standard.expected, room)),
@@ -135,7 +137,7 @@ fn tell<'r>(fault: &Fault<'_>, room: &'r mut Octets) -> Input<'r>
     Input::Fault(Notification::of_fault(fault, room))
 }
 
-#[tactic(auto, using(routes::proofs::NeededMemory::needs))]
+#[tactic(auto, using(crate::proofs::NeededMemory::needs))]
 fn judge_update<'r, A: Allocator + Clone, B: Book<A>>(
     alloc: &A,
     conf: &Conf<A>,
@@ -154,11 +156,11 @@ fn judge_update<'r, A: Allocator + Clone, B: Book<A>>(
     ensures input { IfOk result (λ found. found ≡ update_input (update_fault standard.kind body.now)) }
     ensures routes { OnOk result (IsHeard sender.slot (sound_update standard.kind body.now (update_fault standard.kind body.now)) routing.old.adj_in routing.new.adj_in) }
     ensures kept { OnOk result (KeepsHeard conf.now payloads.now sender Established routing.old routing.new) }
-    ensures others { OnErr result (KeepsOthers sender.slot routing.old routing.new) }
+    ensures others { OnErr result (KeepsOthers sender.slot routing.old.adj_in routing.new.adj_in routing.old.book routing.new.book) }
     ensures memory { OnErr result (NeedsMemory standard.kind body.now) }
     ensures chosen { OnOk result (routing.new.chosen ≤ routing.old.chosen + named_if (sound_update standard.kind body.now (update_fault standard.kind body.now))) }
     ensures rises { routing.old.chosen ≤ routing.new.chosen }
-    ensures part { OnErr result (IsPart sender.slot (sound_update standard.kind body.now (update_fault standard.kind body.now)) routing.old routing.new) }
+    ensures part { OnErr result (IsPart sender.slot (sound_update standard.kind body.now (update_fault standard.kind body.now)) routing.old.adj_in routing.new.adj_in routing.old.chosen routing.new.chosen) }
 {
     match read_update(alloc, body, standard.kind) {
         Ok(update) => {
