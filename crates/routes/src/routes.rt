@@ -72,25 +72,25 @@ impl<A: Allocator + Clone, B: Book<A>> Model for Routes<A, B> {
     ghost invariant = { λ r. IsSound r.conf (offer_at r.routing.book) × AreMarked r.conf r.links.entries r.routing };
 }
 
-impl<A: Allocator + Clone, B: Book<A>> Routes<A, B> {
+impl<A: Allocator + Clone + Copy, B: Book<A>> Routes<A, B> {
     /// No peers, no payloads and no routes, for a speaker of this AS.
     pub fn new(alloc: A, own: Asn) -> Result<Self, AllocError>
         ensures { IfOk result (λ r. r ≡ begun own) }
     {
-        let recent = RecentOctets::new(alloc.clone()?)?;
-        let conf = Conf::new(alloc.clone()?, own)?;
-        let payloads = PayloadTrie::new(alloc.clone()?);
-        let links = BTreeMap::new(alloc.clone()?);
+        let recent = RecentOctets::new(alloc)?;
+        let conf = Conf::new(alloc, own)?;
         let routing = Routing::new(alloc)?;
         Ok(Routes {
             conf,
-            payloads,
-            links,
+            payloads: PayloadTrie::new(alloc),
+            links: BTreeMap::new(alloc),
             routing,
             recent,
         })
     }
+}
 
+impl<A: Allocator + Clone, B: Book<A>> Routes<A, B> {
     /// The configuration.
     pub fn conf(&self) -> &Conf<A>
         ensures { result.now ≡ self.now.conf }
