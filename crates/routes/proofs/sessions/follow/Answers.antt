@@ -7,7 +7,7 @@ use Rattle.routes.specs.Linked.{Linked}
 use Rattle.routes.specs.Marks.{AreMarked, IsFollowed, mark_at}
 use Rattle.routes.specs.RoutingState.{RoutingState}
 use Rattle.routes.proofs.Counting.{ends_all}
-use Rattle.speaker.proofs.sessions.follow.Goals as goal
+use Rattle.routes.proofs.sessions.follow.Goals as goal
 
 -- where the session neither leaves Established nor enters it, the marks stay
 same_marks : (conf : Configuration) (links : List (ℕ × Linked)) (slot : ℕ) (effects : Effects) (t : RoutingState) → IsFollowed conf links slot effects t → effects.left ≡ false → effects.entered ≡ false → AreMarked conf links t
