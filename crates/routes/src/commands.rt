@@ -24,7 +24,7 @@ use crate::link::Link;
 use crate::routes::Routes;
 use bgp_attr::Attrs;
 use bgp_conf::{Command, PeerConf};
-use bgp_msg::Open;
+use bgp_msg::OwnOpen;
 use decision::{Book, LOCAL_SLOT};
 use net_prefix::Prefix;
 use std::alloc::{AllocError, Allocator};
@@ -39,7 +39,7 @@ impl<A: Allocator + Clone, B: Book<A>> Routes<A, B> {
         command: &Command<'_>,
         slot: u8,
         conf: &PeerConf<'_>,
-        own: Open,
+        own: OwnOpen,
     ) -> Result<(), AllocError>
         requires accepted { IsAccepted self.old.conf command.now }
         requires adds { command.now ≡ AddsPeer slot conf.now }

@@ -24,7 +24,7 @@ use crate::event::only;
 use crate::step::Speaker;
 use bgp_conf::{Command, PeerConf};
 use bgp_fsm::Input;
-use bgp_msg::Open;
+use bgp_msg::OwnOpen;
 use decision::Book;
 use net_prefix::Prefix;
 use std::alloc::{AllocError, Allocator};
@@ -241,10 +241,11 @@ impl<A: Allocator + Clone, B: Book<A>> Speaker<A, B> {
         ensures counted { OnOk result (self.new.chosen_before ≡ self.old.chosen) }
         ensures rises { OnOk result (self.old.chosen ≤ self.new.chosen) }
     {
-        let own = Open {
+        let own = OwnOpen {
             asn: self.config.asn,
             hold_time: conf.hold,
             identifier: self.config.identifier,
+            multiprotocol: self.config.multiprotocol,
         };
         self.routes.add_peer(&self.alloc, command, slot, conf, own)?;
         self.begin_count();
