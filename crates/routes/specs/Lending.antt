@@ -11,4 +11,4 @@ use Rattle.routes.specs.contracts.routes.Routes.{the_row}
 
 -- once the borrow ends, the routes have the payloads that were left behind it, and all else stays
 abbrev pub lends_payloads : (A B : RattleType) (alloc : allocator.Ghosts A.Denot) (clone : cloned.Ghosts A.Denot) (book : books.Ghosts B.Denot A.Denot) → MutBor RoutesState → MutBor (List Vrp) → Fml
-lends_payloads A B alloc clone book s r = Lends (the_row A B alloc clone book) (trie.the_row A alloc clone) s r (with_payloads s.now)
+lends_payloads A B alloc clone book s r = Lends (the_row A B alloc clone book) (trie.the_row A alloc) s r (with_payloads s.now)

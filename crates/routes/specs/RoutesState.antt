@@ -80,8 +80,6 @@ pub record TakesInput (slot : ℕ) (l : Linked) (now : ℕ) (input : Input) (old
   pub offers : (s : ℕ) (prefix : Prefix) → offer_at new.book s prefix ≡ (if (effects_of input l.peer.session).left && s == slot then None else offer_at old.book s prefix)
   pub ends : (effects_of input l.peer.session).left ≡ true → Ends slot old.adj_in old.chosen new.chosen
   pub stays : (effects_of input l.peer.session).left ≡ false → new.chosen ≡ old.chosen
-  pub conf : new.conf ≡ old.conf
-  pub payloads : new.payloads ≡ old.payloads
 
 -- a local network comes: its route, with the candidate that it makes, and a best route is chosen once at most
 pub record BringsNetwork (network : Prefix) (old new : RoutesState) : Type 0 where

@@ -48,6 +48,7 @@ impl<A: Allocator + Clone, B: Book<A>> Routes<A, B> {
         ensures puts { OnOk result (IsSet slot (Some (record { peer = configured own conf.now.mode; adj_out = [] })) self.old self.new) }
         ensures rest { OnOk result (self.new ≡ record self.old { conf = self.new.conf; links = self.new.links }) }
         ensures err { OnErr result (StaysAsIs self.old self.new) }
+        ensures payloads { self.new.payloads ≡ self.old.payloads }
     {
         let link = Link::new(alloc.clone()?, own, conf.mode)?;
         let before = self.links.insert(slot, link)?;
@@ -91,6 +92,7 @@ impl<A: Allocator + Clone, B: Book<A>> Routes<A, B> {
         ensures rest { OnOk result (self.new ≡ record self.old { conf = self.new.conf; book = self.new.book; chosen = self.new.chosen }) }
         ensures rises { OnOk result (self.old.chosen ≤ self.new.chosen) }
         ensures err { OnErr result (self.new ≡ self.old) }
+        ensures payloads { self.new.payloads ≡ self.old.payloads }
     {
         self.conf.apply(command)?;
         self.routing.mark_exporters(&self.conf, &self.links, name);
@@ -111,6 +113,7 @@ impl<A: Allocator + Clone, B: Book<A>> Routes<A, B> {
         ensures rises { OnOk result (self.old.chosen ≤ self.new.chosen) }
         ensures err { OnErr result (self.new ≡ self.old) }
         ensures memory { OnErr result (TakesMemory self.old.conf command.now) }
+        ensures payloads { self.new.payloads ≡ self.old.payloads }
     {
         self.conf.apply(command)?;
         choose_again(&self.conf, &self.payloads, &self.links, &mut self.routing);
@@ -121,7 +124,8 @@ impl<A: Allocator + Clone, B: Book<A>> Routes<A, B> {
     pub fn drop_policy(&mut self, command: &Command<'_>)
         requires accepted { IsAccepted self.old.conf command.now }
         requires drops { DropsPolicy command.now }
-        ensures { self.new ≡ record self.old { conf = conf_after self.old.conf command.now } }
+        ensures conf { self.new ≡ record self.old { conf = conf_after self.old.conf command.now } }
+        ensures payloads { self.new.payloads ≡ self.old.payloads }
     {
         let _takes_no_memory = self.conf.apply(command);
     }
@@ -134,6 +138,7 @@ impl<A: Allocator + Clone, B: Book<A>> Routes<A, B> {
         ensures made { AreMadeWhere (tables_in self.new) (λ q. is_some (route_at self.old.adj_in slot q)) (offer_at self.old.book) (offer_at self.new.book) }
         ensures chosen { OncePerPrefix (λ p. IsSome (route_at self.old.adj_in slot p)) self.old.chosen self.new.chosen }
         ensures rest { self.new ≡ record self.old { conf = self.new.conf; book = self.new.book; chosen = self.new.chosen } }
+        ensures payloads { self.new.payloads ≡ self.old.payloads }
         ensures rises { self.old.chosen ≤ self.new.chosen }
     {
         let _takes_no_memory = self.conf.apply(command);
@@ -150,7 +155,8 @@ impl<A: Allocator + Clone, B: Book<A>> Routes<A, B> {
     pub fn use_out(&mut self, command: &Command<'_>, slot: u8)
         requires accepted { IsAccepted self.old.conf command.now }
         requires uses { UsesOut slot command.now }
-        ensures { self.new ≡ record self.old { conf = conf_after self.old.conf command.now } }
+        ensures conf { self.new ≡ record self.old { conf = conf_after self.old.conf command.now } }
+        ensures payloads { self.new.payloads ≡ self.old.payloads }
     {
         let _takes_no_memory = self.conf.apply(command);
         self.routing.mark_slot(&self.conf, &self.links, slot);
@@ -173,6 +179,7 @@ impl<A: Allocator + Clone, B: Book<A>> Routes<A, B> {
         ensures rises { OnOk result (self.old.chosen ≤ self.new.chosen) }
         ensures err { OnErr result (StaysAsIs self.old self.new) }
         ensures memory { OnErr result (TakesMemory self.old.conf command.now) }
+        ensures payloads { self.new.payloads ≡ self.old.payloads }
     {
         let is_there = self.conf.is_network(prefix);
         self.conf.apply(command)?;
@@ -191,6 +198,7 @@ impl<A: Allocator + Clone, B: Book<A>> Routes<A, B> {
         ensures ok { OnOk result (BringsNetwork prefix self.old self.new) }
         ensures conf { self.new.conf ≡ self.old.conf }
         ensures err { OnErr result (StaysAsIs self.old self.new) }
+        ensures payloads { self.new.payloads ≡ self.old.payloads }
     {
         let attrs = Rc::new(alloc.clone()?, Attrs::originated(alloc.clone()?))?;
         let network = judge_network(self.conf.own(), &self.payloads, prefix, &attrs);

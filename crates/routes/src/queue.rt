@@ -49,7 +49,8 @@ impl<A: Allocator + Clone, B: Book<A>> Routes<A, B> {
         requires gone { export_of self.old slot prefix ≡ None }
         requires held { (l : Linked) → link_at self.old.links slot ≡ Some l → IsSome (held_at l.adj_out prefix) }
         requires peer { IsSome (peer_at self.old.conf slot) }
-        ensures { TellsSlot slot prefix None self.old self.new }
+        ensures told { TellsSlot slot prefix None self.old self.new }
+        ensures payloads { self.new.payloads ≡ self.old.payloads }
     {
         let Some(link) = self.links.get_mut(&slot) else {
             return;
@@ -75,6 +76,7 @@ impl<A: Allocator + Clone, B: Book<A>> Routes<A, B> {
         ensures told { OnOk result (TellsSlot slot prefix (Some octets.now.items) self.old self.new) }
         ensures err { OnErr result ((s : ℕ) → link_at self.new.links s ≡ link_at self.old.links s) }
         ensures rest { self.new ≡ record self.old { links = self.new.links } }
+        ensures payloads { self.new.payloads ≡ self.old.payloads }
     {
         let Some(link) = self.links.get_mut(&slot) else {
             return Ok(());

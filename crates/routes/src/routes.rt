@@ -1,5 +1,5 @@
 //! The routes with all that they go through, as one value.
-ghost use Rattle.std.specs.Prelude.{◌≡◌, ◌≤◌, ◌<◌, ◌-◌, None, Some, IfOk, length};
+ghost use Rattle.std.specs.Prelude.{◌≡◌, ◌≤◌, ◌<◌, ◌-◌, ℕ, None, true, IfOk, length};
 ghost use Rattle.std.specs.Bool.{OnTrue};
 ghost use Rattle.std.specs.Borrow.{sem};
 ghost use Rattle.std.specs.List.Sorted.{IsStrictlySortedBy};
@@ -192,6 +192,7 @@ impl<A: Allocator + Clone, B: Book<A>> Routes<A, B> {
         ensures made { AreMadeWhere (tables_in self.new) (is_within (stretches (changed_prefixes change.now))) (offer_at self.old.book) (offer_at self.new.book) }
         ensures chosen { OncePerPrefix (λ p. (is_within (stretches (changed_prefixes change.now)) p ≡ true) × HasRoute self.old.adj_in p) self.old.chosen self.new.chosen }
         ensures rest { self.new ≡ record self.old { book = self.new.book; chosen = self.new.chosen } }
+        ensures payloads { self.new.payloads ≡ self.old.payloads }
         ensures rises { self.old.chosen ≤ self.new.chosen }
     {
         choose_touched(

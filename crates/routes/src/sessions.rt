@@ -37,6 +37,8 @@ impl<A: Allocator + Clone, B: Book<A>> Routes<A, B> {
         ensures moves { (l : Linked) → link_at self.old.links slot ≡ Some l → TakesInput slot l now input.entry self.old self.new }
         ensures opened { (l : Linked) → link_at self.old.links slot ≡ Some l → result ≡ (effects_of input.entry l.peer.session).opened }
         ensures none { link_at self.old.links slot ≡ None → self.new ≡ self.old }
+        ensures conf { self.new.conf ≡ self.old.conf }
+        ensures payloads { self.new.payloads ≡ self.old.payloads }
         ensures rises { self.old.chosen ≤ self.new.chosen }
     {
         let Some(link) = self.links.get_mut(&slot) else {
@@ -53,6 +55,7 @@ impl<A: Allocator + Clone, B: Book<A>> Routes<A, B> {
         ensures count { (l : Linked) → link_at self.old.links slot ≡ Some l → result ≡ taken_of l.peer octets.now }
         ensures puts { (l : Linked) → link_at self.old.links slot ≡ Some l → IsSet slot (Some (record { peer = pushed l.peer (take result octets.now); adj_out = l.adj_out })) self.old self.new }
         ensures rest { self.new ≡ record self.old { links = self.new.links } }
+        ensures payloads { self.new.payloads ≡ self.old.payloads }
     {
         let Some(link) = self.links.get_mut(&slot) else {
             return 0;
@@ -68,6 +71,7 @@ impl<A: Allocator + Clone, B: Book<A>> Routes<A, B> {
             → MatchOption result ⊥ (λ taken. (taken ≡ min (length buf.old) (length l.peer.ring)) × (buf.new ≡ take taken l.peer.ring ++ drop taken buf.old)
             × IsSet slot (Some (record { peer = handed l.peer taken; adj_out = l.adj_out })) self.old self.new) }
         ensures rest { self.new ≡ record self.old { links = self.new.links } }
+        ensures payloads { self.new.payloads ≡ self.old.payloads }
     {
         let link = self.links.get_mut(&slot)?;
         Some(link.take(buf))
@@ -78,6 +82,7 @@ impl<A: Allocator + Clone, B: Book<A>> Routes<A, B> {
         requires { peer_at self.old.conf slot ≡ None }
         ensures gone { IsSet slot None self.old self.new }
         ensures rest { self.new ≡ record self.old { links = self.new.links } }
+        ensures payloads { self.new.payloads ≡ self.old.payloads }
     {
         self.links.remove(&slot);
     }
@@ -105,6 +110,7 @@ impl<A: Allocator + Clone, B: Book<A>> Routes<A, B> {
             → IsPart slot (sound_update standard.kind body (update_fault standard.kind body)) self.old.adj_in self.new.adj_in self.old.chosen self.new.chosen) }
         ensures within { OnErr result (slot < 64) }
         ensures rest { self.new ≡ record self.old { adj_in = self.new.adj_in; book = self.new.book; chosen = self.new.chosen } }
+        ensures payloads { self.new.payloads ≡ self.old.payloads }
         ensures rises { self.old.chosen ≤ self.new.chosen }
     {
         let Some(link) = self.links.get(&slot) else {

@@ -20,8 +20,8 @@ invariant_of-self g c =
       marked_dropped may.0 c.self.inside.conf c.apply-takes_no_memory.new.self c.self.inside.links.entries c.self.inside.routing name may.1 conf c.self.invariant.1,
     )
 
-pub returns : goal.returns
-returns g c =
+pub returns-clause-conf : goal.returns-clause-conf
+returns-clause-conf g c =
     let name = c.requires.drops.0 in
     let is = c.requires.drops.1 in
     let conf = OnOk-sure c.apply-takes_no_memory.result _ _ (rw is at c.apply-takes_no_memory.ensures.ok) (rw is at c.apply-takes_no_memory.ensures.memory) (λ x. x) in

@@ -28,8 +28,8 @@ invariant_of-self g c =
       all_marked _ _ _ _ (λ s few. inl (this_or_other c.args.slot s)) (c.mark_slot.ensures.marked (is_other c.args.slot) marked),
     )
 
-pub returns : goal.returns
-returns g c =
+pub returns-clause-conf : goal.returns-clause-conf
+returns-clause-conf g c =
     let name = c.requires.uses.0 in
     let is = c.requires.uses.1 in
     let conf = OnOk-sure c.apply-takes_no_memory.result _ _ (rw is at c.apply-takes_no_memory.ensures.ok) (rw is at c.apply-takes_no_memory.ensures.memory) (λ x. x) in
