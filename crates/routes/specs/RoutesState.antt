@@ -1,8 +1,7 @@
 -- The routes with all that they go through, as others see them, and what each call makes of them (RFC 4271 sections 3.2, 8.2.2 and 9).
-use Rattle.std.specs.Prelude.{◌≡◌, ◌≤◌, ◌+◌, ◌&&◌, ◌==◌, ℕ, Bool, List, [], Option, Some, None, true, false, if◌then◌else◌}
+use Rattle.std.specs.Prelude.{◌≡◌, ◌≤◌, ◌+◌, ◌&&◌, ◌==◌, ℕ, List, [], Option, Some, None, true, false, if◌then◌else◌}
 use Rattle.std.specs.Option.{option_and_then}
 use Rattle.bgp_attr.specs.PathAttributes.{originated}
-use Rattle.bgp_conf.specs.ConfAfter.{conf_after}
 use Rattle.bgp_conf.specs.Configuration.{Configuration, peer_at}
 use Rattle.bgp_fsm.specs.SessionTable.{effects_of}
 use Rattle.bgp_fsm.specs.declared.input.Input.{Input}

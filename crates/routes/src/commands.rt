@@ -52,13 +52,11 @@ impl<A: Allocator + Clone, B: Book<A>> Routes<A, B> {
     {
         let link = Link::new(alloc.clone()?, own, conf.mode)?;
         let before = self.links.insert(slot, link)?;
-        match self.conf.apply(command) {
-            Ok(()) => Ok(()),
-            Err(refused) => {
-                put_back(&mut self.links, slot, before);
-                Err(refused)
-            }
+        if self.conf.apply(command).is_err() {
+            put_back(&mut self.links, slot, before);
+            return Err(AllocError);
         }
+        Ok(())
     }
 
     /// The peer of a slot whose session isn't Established is taken from the configuration, which takes no memory, and

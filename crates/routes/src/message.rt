@@ -1,5 +1,5 @@
 //! A whole message of a slot's connection: what it is to the session, and the routes that an UPDATE brings.
-ghost use Rattle.std.specs.Prelude.{◌≡◌, ◌≢◌, ◌≤◌, ◌+◌, ◌==◌, ◌&&◌, ◌⊎◌, ℕ, List, [], Some, None, OnOk, OnErr, IfOk, if◌then◌else◌};
+ghost use Rattle.std.specs.Prelude.{◌≡◌, ◌≤◌, ◌+◌, ℕ, List, Some, None, OnOk, OnErr, IfOk, if◌then◌else◌};
 ghost use Rattle.std.specs.Option.{option_map, option_and_then};
 ghost use Rattle.bgp_fsm.specs.declared.state.State.TheVariants.{Established};
 ghost use Rattle.bgp_fsm.specs.declared.input.Input.TheVariants.{Fault as FaultInput};

@@ -1,6 +1,6 @@
 //! What happens to a slot's session, and what its routes make of it.
-ghost use Rattle.std.specs.Prelude.{◌≡◌, ◌≤◌, ◌<◌, ◌+◌, ◌++◌, ◌⊎◌, ◌≢◌, ◌==◌, ◌&&◌, ℕ, List, None, Some, true, false, MatchOption, OnOk, OnErr, IfOk, length, min, take, drop, if◌then◌else◌};
-ghost use Rattle.std.specs.Option.{IsSome, option_and_then, option_map};
+ghost use Rattle.std.specs.Prelude.{◌≡◌, ◌≤◌, ◌<◌, ◌+◌, ◌++◌, ◌==◌, ◌&&◌, ℕ, List, None, Some, true, false, MatchOption, OnOk, OnErr, IfOk, length, min, take, drop, if◌then◌else◌};
+ghost use Rattle.std.specs.Option.{option_and_then, option_map};
 ghost use Rattle.bgp_conf.specs.Configuration.{peer_at};
 ghost use Rattle.bgp_fsm.specs.SessionTable.{effects_of};
 ghost use Rattle.bgp_msg.specs.MessageStream.{WholeMessage, meaning};

@@ -2,21 +2,12 @@ use Rattle.std.proofs.Common.{◌≡◌, ◌≢◌, ◌≤◌, ◌<◌, ◌+◌,
 use Rattle.std.proofs.lemmas.Bool.{cases_eq, eq-eqb, ne_eqb, eqb-true}
 use Rattle.std.proofs.lemmas.Bool.Decides.{nat_tests}
 use Rattle.std.proofs.lemmas.Grind.{common_steps}
-use Rattle.std.specs.BTreeMap.{is_at}
 use Rattle.std.specs.Borrow.{Bor}
-use Rattle.std.specs.BTreeSet.{insert_key}
-use Rattle.std.specs.Set.{remove_key}
-use Rattle.std.specs.List.{list_any}
 use Rattle.std.specs.Option.{IsSome, option_map}
-use Rattle.std.specs.Ordering.{is_eq, match_ordering, nat_cmp}
-use Rattle.std.specs.declared.cmp.Ordering.{Ordering}
-use Rattle.std.specs.declared.cmp.Ordering.TheVariants.{Less, Equal, Greater}
-use Rattle.net_prefix.specs.PrefixOrder.{prefix_cmp}
-use Rattle.rib_out.proofs.Prefixes.{is_prefix-refl}
-use Rattle.bgp_conf.proofs.PrefixOrder.{is_at-prefix_cmp, is_eq-nat_cmp}
+use Rattle.bgp_conf.proofs.PrefixOrder.{is_at-prefix_cmp}
 use Rattle.decision.specs.BookContents.{is_prefix, offer_at}
 use Rattle.bgp_attr.specs.PathAttributes.{PathAttributes, originated}
-use Rattle.bgp_conf.specs.Configuration.{AddressesDiffer, Configuration, is_network, peer_at}
+use Rattle.bgp_conf.specs.Configuration.{Configuration, is_network, peer_at}
 use Rattle.bgp_conf.specs.ConfAfter.{TakesMemory, conf_after, exporting, importing, is_network_after, is_prefix as is_prefix_of, peer_after, configured_of}
 use Rattle.bgp_conf.specs.FirstRefusal.{first_refusal}
 use Rattle.bgp_conf.specs.declared.command.Command.{Command}
@@ -31,7 +22,7 @@ use Rattle.bgp_conf.specs.PeerPolicies.{import_action}
 use Rattle.policy.specs.PolicyNames.{name_of}
 use Rattle.policy.specs.declared.rule.Rule.{Rule}
 use Rattle.origin_valid.specs.Validity.{validity}
-use Rattle.bgp_conf.proofs.Accepted.{addressed-from_accepted, apart-from_accepted, is_host-from_accepted, peer_at-from_accepted, slot-from_accepted}
+use Rattle.bgp_conf.proofs.Accepted.{apart-from_accepted, is_host-from_accepted, peer_at-from_accepted, slot-from_accepted}
 use Rattle.bgp_fsm.specs.SessionTable.{effects_of}
 use Rattle.bgp_fsm.specs.StateTests.{is_established, is_message}
 use Rattle.bgp_fsm.specs.Transports.{is_closing, transport_of}
@@ -57,11 +48,11 @@ use Rattle.routes.specs.Chosen.{how_many, AreDifferent, OncePerPrefix}
 use Rattle.speaker.specs.Chosen.{Chooses}
 use Rattle.speaker.specs.FirstRefusal.{refused_at, awaits_up, is_open}
 use Rattle.routes.specs.Linked.{Linked, moved}
-use Rattle.routes.specs.Offers.{AreKept, AreMadeAgain, AreMadeWhere, IsSound, Offers}
+use Rattle.routes.specs.Offers.{AreKept, AreMadeAgain, AreMadeWhere}
 use Rattle.routes.specs.Commands.{resolves}
 use Rattle.speaker.specs.Moves.{Announces, Moves, IsPut}
 use Rattle.speaker.specs.Runs.{Call, Run, turn, Up_call, Fail_call, Bytes_call, Starved_call, Tick_call, Command_call, Take_call, Cache_up_call, Cache_fail_call, Cache_bytes_call, Cache_starved_call, Cache_take_call, cache_history, commanded, conf_called, configuration_of, history, moment_after, opened_commanded, terms_in}
-use Rattle.speaker.specs.SpeakerState.{IsAsBefore, SpeakerState, tables_of}
+use Rattle.speaker.specs.SpeakerState.{SpeakerState, tables_of}
 use Rattle.routes.specs.Tables.{link_at, network_route, peer_route_at, session_at, tables}
 use Rattle.speaker.specs.declared.config.Config.{Config}
 use Rattle.speaker.proofs.AllowedChoices.{most_known, most_routes, signal_few}
@@ -76,7 +67,6 @@ use Rattle.speaker.proofs.PeerRoutes.{agrees_peers, peer_as}
 use Rattle.routes.proofs.Places.{same_from_is_prefix}
 use Rattle.routes.proofs.RouteChanges.{is_route-parts, second_true}
 use Rattle.speaker.proofs.SlotOctets.{slot_signalled}
-use Rattle.routes.proofs.SoundOffers.{sound_conf}
 
 -- Connections that stand or fail, and commands, as the run with them has them.
 

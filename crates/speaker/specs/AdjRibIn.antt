@@ -1,10 +1,10 @@
 -- The latest route of a peer to each prefix: Adj-RIB-In (RFC 4271 section 3.2).
-use Rattle.std.specs.Prelude.{◌≡◌, ◌&&◌, ℕ, List, [], ◌∷◌, Option, None, if◌then◌else◌}
+use Rattle.std.specs.Prelude.{List, [], ◌∷◌, Option, None, if◌then◌else◌}
 use Rattle.std.specs.Option.{option_and_then}
 use Rattle.bgp_attr.specs.PathAttributes.{PathAttributes}
 use Rattle.bgp_fsm.specs.StateTests.{is_established}
 use Rattle.bgp_msg.specs.UpdateMeaning.{UpdateBody}
-use Rattle.bgp_peer.specs.SessionInputs.{Event, Terms, Configured, Signalled, Octet, Queued, Handed, Ticked, terms_of, item_at, session}
+use Rattle.bgp_peer.specs.SessionInputs.{Event, Configured, Signalled, Octet, Queued, Handed, Ticked, terms_of, item_at, session}
 use Rattle.net_prefix.specs.declared.prefix.Prefix.{Prefix}
 use Rattle.routes.specs.Heard.{update_heard}
 use Rattle.routes.specs.Updates.{word_if}

@@ -1,6 +1,5 @@
 -- What waits of each prefix for each peer: what it is owed, so that it holds its export (our own, for RFC 4271 section 9.2).
-use Rattle.std.specs.Prelude.{◌≡◌, ◌≢◌, ◌<◌, ◌⊎◌, ℕ, Bool, List, [], Option, Some, None, false, if◌then◌else◌, ◌≤◌, ◌+◌, length, MatchOption}
-use Rattle.std.specs.Option.{IsSome}
+use Rattle.std.specs.Prelude.{◌≡◌, ◌≢◌, ◌<◌, ℕ, Bool, List, Option, Some, None, false, ◌≤◌, length}
 use Rattle.bgp_conf.specs.Configuration.{peer_at}
 use Rattle.bgp_conf.specs.declared.conf.ConfiguredPeer.{ConfiguredPeer}
 use Rattle.bgp_fsm.specs.StateTests.{is_established}
@@ -10,8 +9,6 @@ use Rattle.rib_out.specs.Held.{held_at}
 use Rattle.routes.specs.Linked.{Linked}
 use Rattle.speaker.specs.SpeakerState.{SpeakerState}
 use Rattle.routes.specs.Tables.{link_at}
-use Rattle.std.specs.Ordering.{is_gt}
-use Rattle.net_prefix.specs.PrefixOrder.{prefix_cmp, IsAbove}
 use Rattle.speaker.specs.Agreement.{QueuesOn}
 use Rattle.speaker.specs.Export.{export_to}
 use Rattle.speaker.specs.Moves.{IsPut}

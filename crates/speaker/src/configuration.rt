@@ -1,7 +1,5 @@
 //! What commands do to the tables.
-ghost use Rattle.std.specs.Prelude.{◌≡◌, ◌≤◌, ℕ, true, false, [], ◌∷◌, IfOk, OnOk, OnErr, IsSome, ◌<◌, ◌^◌, None, Some, if◌then◌else◌};
-ghost use Rattle.std.specs.Ordering.{nat_cmp};
-ghost use Rattle.std.specs.BTreeMap.{is_at};
+ghost use Rattle.std.specs.Prelude.{◌≡◌, ◌≤◌, true, false, [], ◌∷◌, IfOk, OnOk, OnErr, IsSome, ◌<◌, ◌^◌, None, Some, if◌then◌else◌};
 ghost use Rattle.bgp_conf.specs.ConfAfter.{TakesMemory};
 ghost use Rattle.bgp_conf.specs.FirstRefusal.{IsAccepted, first_refusal};
 ghost use Rattle.bgp_conf.specs.Configuration.{peer_at};

@@ -1,5 +1,5 @@
 //! What the peers are owed: the UPDATEs that make what each was sent its export of Loc-RIB.
-ghost use Rattle.std.specs.Prelude.{◌≡◌, ◌≢◌, ◌≤◌, ◌<◌, ◌+◌, ◌^◌, ◌==◌, ◌↔◌, ℕ, false, Some, None, OnOk, OnErr, IfSome, IfNone, IsTrue, length, if◌then◌else◌};
+ghost use Rattle.std.specs.Prelude.{◌≡◌, ◌≢◌, ◌≤◌, ◌<◌, ◌+◌, ◌==◌, ◌↔◌, ℕ, false, Some, None, OnOk, OnErr, IfSome, IfNone, IsTrue, length, if◌then◌else◌};
 ghost use Rattle.std.specs.Bool.{OnTrue};
 ghost use Rattle.std.specs.Option.{IsSome, option_map};
 ghost use Rattle.bgp_conf.specs.Configuration.{peer_at};

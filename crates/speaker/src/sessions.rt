@@ -1,19 +1,14 @@
 //! What happens to one slot: its operator enables it, its connection stands or fails, octets come.
 ghost use Rattle.std.specs.Option.{IsSome};
-ghost use Rattle.std.specs.Prelude.{◌≡◌, ◌≢◌, ◌≤◌, ◌<◌, ℕ, [], ◌∷◌, length, take, OnOk, OnErr, IfOk, ◌&&◌, ◌==◌, None, Some, if◌then◌else◌, true, false};
+ghost use Rattle.std.specs.Prelude.{◌≡◌, ◌≢◌, ◌≤◌, ◌<◌, [], ◌∷◌, length, take, OnOk, OnErr, IfOk, ◌&&◌, ◌==◌, None, Some, true, false};
 ghost use Rattle.bgp_conf.specs.Configuration.{peer_at};
 ghost use Rattle.bgp_conf.specs.declared.conf.ConfiguredPeer.{ConfiguredPeer as ThePeer};
 ghost use Rattle.bgp_fsm.specs.SessionTable.{effects_of};
 ghost use Rattle.bgp_fsm.specs.declared.input.Input.TheVariants.{NoMemory};
-ghost use Rattle.net_prefix.specs.declared.prefix.Prefix.{Prefix as ThePrefix};
-ghost use Rattle.decision.specs.BookContents.{offer_at};
-ghost use Rattle.rib_in.specs.LatestRoutes.{route_at};
 ghost use Rattle.bgp_msg.specs.MessageStream.{meaning};
 ghost use Rattle.bgp_msg.specs.UpdateMeaning.{update_fault};
 ghost use Rattle.routes.specs.Updates.{sound_update};
 ghost use Rattle.speaker.specs.Chosen.{Chooses, ChoosesRefused};
-ghost use Rattle.routes.specs.Chosen.{Ends};
-ghost use Rattle.routes.specs.Marks.{AreMarked, IsFollowed};
 ghost use Rattle.routes.specs.Heard.{TakesMemoryAt};
 ghost use Rattle.speaker.specs.Moves.{Moves, Pushes, TakesItem, IsWithout};
 ghost use Rattle.routes.specs.Linked.{taken_of, Linked};

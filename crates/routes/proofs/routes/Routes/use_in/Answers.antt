@@ -27,3 +27,6 @@ returns-clause-conf g c =
 
 pub returns-clause-made : goal.returns-clause-made
 returns-clause-made g c = rw (← c.self.view_is, c.choose_slot.ensures.routes) c.choose_slot.ensures.made
+
+pub returns-clause-chosen : goal.returns-clause-chosen
+returns-clause-chosen g c = rw (← c.self.view_is) c.choose_slot.ensures.chosen

@@ -1,4 +1,4 @@
-use Rattle.std.proofs.Common.{◌≡◌, ◌∙◌, refl, ap, arith}
+use Rattle.std.proofs.Common.{refl, ap, arith}
 use Rattle.std.proofs.lemmas.Result.{err_from_is_err_and}
 use Rattle.routes.specs.RoutesState.{RoutesState}
 use Rattle.speaker.proofs.Commands.{holds_added, added_same}
@@ -16,4 +16,4 @@ returns-clause-ok g c = λ config r holds.
 pub returns-in_err-add_peer-clause-err : goal.returns-in_err-add_peer-clause-err
 returns-in_err-add_peer-clause-err g c =
     let failed = err_from_is_err_and c.from_residual-in_err-add_peer.result c.from_residual-in_err-add_peer.ensures.1 in
-    rw (failed.1, ← c.self.view_is) (as_before _ _ _ c.in_err-add_peer.ensures.err)
+    rw (failed.1, ← c.self.view_is) (as_before c.self.inside.config c.self.inside.moment c.self.inside.cache c.self.inside.chosen_before c.self.inside.routes c.add_peer.new.self c.in_err-add_peer.ensures.err)

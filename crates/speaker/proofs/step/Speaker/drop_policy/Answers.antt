@@ -1,6 +1,5 @@
-use Rattle.std.proofs.Common.{refl, ap}
+use Rattle.std.proofs.Common.{refl}
 use Rattle.speaker.proofs.Commands.{holds_dropped}
-use Rattle.speaker.proofs.RoutesSeen.{with_routes}
 use Rattle.speaker.proofs.step.Speaker.drop_policy.Goals as goal
 
 pub returns-clause-ok : goal.returns-clause-ok

@@ -1,11 +1,5 @@
-use Rattle.std.proofs.Common.{◌≡◌, ◌++◌, ℕ, List, Option, Some, None, MatchOption, length, min, take, drop, refl, ap}
-use Rattle.bgp_peer.specs.Slot.{handed}
-use Rattle.decision.specs.BookContents.{rows_of}
-use Rattle.routes.specs.Linked.{Linked}
-use Rattle.routes.specs.RoutesState.{IsSet, RoutesState}
-use Rattle.speaker.specs.Moves.{Hands}
-use Rattle.speaker.specs.SpeakerState.{SpeakerState}
-use Rattle.speaker.proofs.RoutesSeen.{hands_out, with_routes}
+use Rattle.std.proofs.Common.{refl}
+use Rattle.speaker.proofs.RoutesSeen.{hands_out}
 use Rattle.speaker.proofs.step.Speaker.hand_out.Goals as goal
 
 pub returns-clause-none : goal.returns-clause-none
@@ -16,4 +10,4 @@ returns-clause-none g c = λ none.
 pub returns-clause-some : goal.returns-clause-some
 returns-clause-some g c = λ l linked.
     let here = rw (← c.self.view_is) at linked in
-    rw (← c.self.view_is) (hands_out c.args.slot l _ _ c.take.result _ c.take.new.self refl (c.take.ensures.some l here) c.take.ensures.rest)
+    rw (← c.self.view_is) (hands_out c.self.inside.config c.self.inside.moment c.self.inside.cache c.self.inside.chosen_before c.args.slot l _ _ c.take.result c.self.inside.routes c.take.new.self (c.take.ensures.some l here) c.take.ensures.rest)

@@ -17,6 +17,6 @@ returns-clause-ok g c = λ config r holds.
     let chosen = c.in_ok-set_policy.ensures.chosen in
     rw is (
       holds_resolved config r (SetPolicy name rules) _ _ (resolved_set config r _ name rules) here conf peers refl refl refl c.set_policy.ensures.payloads (ap (λ (s : RoutesState). s.links) rest) (ap (λ (s : RoutesState). s.adj_in) rest)
-          (made_of _ _ _ _ _ rest c.in_ok-set_policy.ensures.made) chosen.0 chosen.1 chosen.2 c.chosen-before.ensures,
+          (made_of _ _ _ c.self.inside.routes c.set_policy.new.self rest c.in_ok-set_policy.ensures.made) chosen.0 chosen.1 chosen.2 c.chosen-before.ensures,
       refl,
     )

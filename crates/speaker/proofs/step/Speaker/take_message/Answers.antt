@@ -5,7 +5,7 @@ use Rattle.bgp_fsm.specs.declared.input.Input.TheVariants.{NoMemory}
 use Rattle.bgp_msg.specs.UpdateMeaning.{update_fault}
 use Rattle.bgp_peer.specs.SessionInputs.{kind_of}
 use Rattle.routes.specs.Chosen.{IsPart}
-use Rattle.routes.specs.Heard.{AreOf, TakesMemoryAt}
+use Rattle.routes.specs.Heard.{TakesMemoryAt}
 use Rattle.routes.specs.RoutesState.{RoutesState}
 use Rattle.routes.specs.Tables.{link_at}
 use Rattle.routes.specs.Updates.{sound_update}

@@ -1,5 +1,5 @@
 use Rattle.std.proofs.Common.{ap}
-use Rattle.speaker.proofs.RoutesSeen.{served_up, with_routes}
+use Rattle.speaker.proofs.RoutesSeen.{seen, served_up}
 use Rattle.speaker.proofs.step.Speaker.withdraw_at.Goals as goal
 
 pub tell_withdrawal-requires-clause-held : goal.tell_withdrawal-requires-clause-held
@@ -12,4 +12,4 @@ tell_withdrawal-requires-clause-held g c = λ l linked.
 pub returns : goal.returns
 returns g c =
     let did = c.tell_withdrawal.ensures.told in
-    rw (← c.self.view_is) (record { before = did.before; after = did.after; was = did.was; told = did.told; puts = did.puts; rest = ap (with_routes _) did.rest })
+    rw (← c.self.view_is) (record { before = did.before; after = did.after; was = did.was; told = did.told; puts = did.puts; rest = ap (seen c.self.inside.config c.self.inside.moment c.self.inside.cache c.self.inside.chosen_before) did.rest })
