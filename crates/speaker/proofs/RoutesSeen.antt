@@ -60,14 +60,18 @@ pub hands_out : {F : ℕ → Type 0} (config : Config) (moment : ℕ) (cache : O
     → new ≡ record old { links = new.links }
     → MatchOption result ⊥ (λ taken. F taken × (after ≡ take taken l.peer.ring ++ drop taken before) × Hands slot l taken (seen config moment cache counted old) (seen config moment cache counted new))
 hands_out config moment cache counted slot l before after None old new some rest = some
-hands_out config moment cache counted slot l before after (Some taken) old new some rest = (some.0, some.1, record {
-  links = some.2;
-  routes = ap (λ (r : RoutesState). r.adj_in) rest;
-  book = ap (λ (r : RoutesState). r.book) rest;
-  loc_rib = ap (λ (r : RoutesState). rows_of r.book) rest;
-  chosen = ap (λ (r : RoutesState). r.chosen) rest;
-  rest = record { config = refl; moment = refl; conf = ap (λ (r : RoutesState). r.conf) rest; cache = refl; payloads = ap (λ (r : RoutesState). r.payloads) rest; chosen_before = refl };
-})
+hands_out config moment cache counted slot l before after (Some taken) old new some rest = (
+  some.0,
+  some.1,
+  record {
+    links = some.2;
+    routes = ap (λ (r : RoutesState). r.adj_in) rest;
+    book = ap (λ (r : RoutesState). r.book) rest;
+    loc_rib = ap (λ (r : RoutesState). rows_of r.book) rest;
+    chosen = ap (λ (r : RoutesState). r.chosen) rest;
+    rest = record { config = refl; moment = refl; conf = ap (λ (r : RoutesState). r.conf) rest; cache = refl; payloads = ap (λ (r : RoutesState). r.payloads) rest; chosen_before = refl };
+  },
+)
 
 -- candidates that were made again, read by what stands before
 pub made_of : (holds : Prefix → Bool) (had has : Offers) (old new : RoutesState) → new ≡ record old { conf = new.conf; book = new.book; chosen = new.chosen } → AreMadeWhere (tables_in new) holds had has

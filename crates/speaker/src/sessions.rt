@@ -61,9 +61,13 @@ impl<A: Allocator + Clone, B: Book<A>> Speaker<A, B> {
         ensures counted { self.new.chosen_before ≡ self.old.chosen_before }
         ensures chosen { self.new.chosen ≡ self.old.chosen }
     {
-        if self.routes.conf().peer(slot).is_none() && !self.is_closing(slot) {
-            self.routes.let_go(slot);
+        if self.routes.conf().peer(slot).is_some() {
+            return;
         }
+        if self.is_closing(slot) {
+            return;
+        }
+        self.routes.let_go(slot);
     }
 
     // Takes octets that come, message by message. What comes after the session has closed is dropped. Where memory is

@@ -8,8 +8,8 @@ use Rattle.routes.proofs.PutSlots.{put_back, put_inserted, sound_added}
 use Rattle.routes.proofs.Results.{OnErr-got, OnOk-got}
 use Rattle.routes.proofs.routes.Routes.add_peer.Goals as goal
 
-pub invariant_of-self-2 : goal.invariant_of-self-2
-invariant_of-self-2 g c =
+pub invariant_of-self-else-is_err : goal.invariant_of-self-else-is_err
+invariant_of-self-else-is_err g c =
     let accepted = rw (← c.self.view_is) at c.requires.accepted in
     let may = rw c.requires.adds at accepted in
     let put : IsNow c.args.slot c.in_ok-link.link c.self.inside.links.entries c.insert.new.self.entries = put_inserted c.args.slot c.in_ok-link.link c.in_ok-link.link _ _ c.in_ok-before.ensures.updates.0 refl in
@@ -21,8 +21,8 @@ invariant_of-self-2 g c =
     let added = marked_added _ c.self.inside.conf c.apply.new.self c.self.inside.links.entries _ c.self.inside.routing c.args.slot c.args.conf.now c.in_ok-link.link c.self.invariant.1 may.1 own policies (rw c.requires.adds at peers) put down in
     (sound_added _ _ _ _ c.args.slot c.args.conf.now c.self.invariant.0 (c.apply.ensures.addresses _ accepted.1 c.self.invariant.0.addresses) may.1 (rw c.requires.adds at peers), added)
 
-pub invariant_of-self : goal.invariant_of-self
-invariant_of-self g c =
+pub invariant_of-self-then-is_err : goal.invariant_of-self-then-is_err
+invariant_of-self-then-is_err g c =
     let same = OnErr-got c.apply.result _ c.apply.ensures.err c.if-is_err.ensures.value in
     rw same (
       c.self.invariant.0,
@@ -47,7 +47,11 @@ returns-then-is_err-clause-err g c =
     })
 
 pub returns-clause-conf : goal.returns-clause-conf
-returns-clause-conf g c = rw (← c.self.view_is, ← c.requires.adds) (OnOk-got c.apply.result _ c.apply.ensures.ok c.if-is_err.ensures.value)
+returns-clause-conf g c =
+    let conf = OnOk-got c.apply.result _ c.apply.ensures.ok c.if-is_err.ensures.value in
+    rw (← c.self.view_is) (rw c.requires.adds at conf)
 
 pub returns-clause-peers : goal.returns-clause-peers
-returns-clause-peers g c = rw (← c.self.view_is, ← c.requires.adds) (OnOk-got c.apply.result _ c.apply.ensures.peers c.if-is_err.ensures.value)
+returns-clause-peers g c =
+    let peers = OnOk-got c.apply.result _ c.apply.ensures.peers c.if-is_err.ensures.value in
+    rw (← c.self.view_is) (rw c.requires.adds at peers)

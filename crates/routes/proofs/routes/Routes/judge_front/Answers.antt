@@ -51,3 +51,12 @@ returns-clause-part g c =
 
 pub returns-clause-within : goal.returns-clause-within
 returns-clause-within g c = OnErr-is _ _ (c.self.invariant.1.there.within c.args.slot c.in-Some.link.now (sym c.in-Some.ensures.value))
+
+pub returns-clause-others : goal.returns-clause-others
+returns-clause-others g c = rw (← c.self.view_is) c.take_front.ensures.others
+
+pub returns-clause-rest : goal.returns-clause-rest
+returns-clause-rest g c = rw (← c.self.view_is) refl
+
+pub returns-clause-rises : goal.returns-clause-rises
+returns-clause-rises g c = rw (← c.self.view_is) c.take_front.ensures.rises
