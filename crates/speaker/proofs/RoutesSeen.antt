@@ -55,12 +55,12 @@ as_before config moment cache before old new same = record {
 }
 
 -- octets of a slot are handed out
-pub hands_out : {F : ℕ → Type 0} (config : Config) (moment : ℕ) (cache : Option CacheSession) (counted : ℕ) (slot : ℕ) (l : Linked) (before after : List ℕ) (result : Option ℕ) (old new : RoutesState)
+pub hands_out : (F : ℕ → Type 0) (config : Config) (moment : ℕ) (cache : Option CacheSession) (counted : ℕ) (slot : ℕ) (l : Linked) (before after : List ℕ) (result : Option ℕ) (old new : RoutesState)
     → MatchOption result ⊥ (λ taken. F taken × (after ≡ take taken l.peer.ring ++ drop taken before) × IsSet slot (Some (record { peer = handed l.peer taken; adj_out = l.adj_out })) old new)
     → new ≡ record old { links = new.links }
     → MatchOption result ⊥ (λ taken. F taken × (after ≡ take taken l.peer.ring ++ drop taken before) × Hands slot l taken (seen config moment cache counted old) (seen config moment cache counted new))
-hands_out config moment cache counted slot l before after None old new some rest = some
-hands_out config moment cache counted slot l before after (Some taken) old new some rest = (
+hands_out F config moment cache counted slot l before after None old new some rest = some
+hands_out F config moment cache counted slot l before after (Some taken) old new some rest = (
   some.0,
   some.1,
   record {

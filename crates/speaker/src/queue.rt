@@ -159,7 +159,7 @@ impl<A: Allocator + Clone, B: Book<A>> Speaker<A, B> {
         ensures down { result ≡ false → (l : Linked) → link_at self.now.links slot ≡ Some l → l.peer.session.state ≢ Established }
     {
         match self.routes.link(slot) {
-            Some(link) => link.is_established(),
+            Some(found) => found.is_established(),
             None => false,
         }
     }
@@ -168,7 +168,7 @@ impl<A: Allocator + Clone, B: Book<A>> Speaker<A, B> {
         ensures { (l : Linked) → link_at self.now.links slot ≡ Some l → IsTrue result ↔ HasRoom l }
     {
         match self.routes.link(slot) {
-            Some(link) => link.peer.free() >= ROOM_FOR_UPDATE,
+            Some(found) => found.peer.free() >= ROOM_FOR_UPDATE,
             None => false,
         }
     }

@@ -315,7 +315,7 @@ impl<A: Allocator + Clone, B: Book<A>> Speaker<A, B> {
         ensures { result ≡ option_map transport_of (session_at self.now.links slot) }
     {
         match self.routes.link(slot) {
-            Some(link) => Some(link.peer.transport()),
+            Some(found) => Some(found.peer.transport()),
             None => None,
         }
     }

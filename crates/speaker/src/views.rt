@@ -202,7 +202,7 @@ impl<A: Allocator + Clone, B: Book<A>> Speaker<A, B> {
         ensures { result ≡ option_map (λ s. s.state) (session_at self.now.links slot) }
     {
         match self.routes.link(slot) {
-            Some(link) => Some(link.peer.state()),
+            Some(found) => Some(found.peer.state()),
             None => None,
         }
     }
@@ -219,7 +219,7 @@ impl<A: Allocator + Clone, B: Book<A>> Speaker<A, B> {
         ensures { result ≡ transport_at (session_at self.now.links slot) }
     {
         match self.routes.link(slot) {
-            Some(link) => link.peer.transport(),
+            Some(found) => found.peer.transport(),
             None => Transport::None,
         }
     }
@@ -337,8 +337,8 @@ impl<A: Allocator + Clone, B: Book<A>> Speaker<A, B> {
         ensures rising { IsStrictlySortedBy prefix_cmp (keys_of result) }
     {
         match self.routes.link(slot) {
-            Some(link) => HeldRoutes {
-                held: Some(link.adj_out.held()),
+            Some(found) => HeldRoutes {
+                held: Some(found.adj_out.held()),
             },
             None => HeldRoutes { held: None },
         }

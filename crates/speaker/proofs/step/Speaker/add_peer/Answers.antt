@@ -15,5 +15,5 @@ returns-clause-ok g c = λ config r holds.
 
 pub returns-in_err-add_peer-clause-err : goal.returns-in_err-add_peer-clause-err
 returns-in_err-add_peer-clause-err g c =
-    let failed = err_from_is_err_and c.from_residual-in_err-add_peer.result c.from_residual-in_err-add_peer.ensures.1 in
+    let failed = err_from_is_err_and c.from_residual.result c.from_residual.ensures.1 in
     rw (failed.1, ← c.self.view_is) (as_before c.self.inside.config c.self.inside.moment c.self.inside.cache c.self.inside.chosen_before c.self.inside.routes c.add_peer.new.self c.in_err-add_peer.ensures.err)

@@ -10,4 +10,4 @@ returns-clause-ok g c = λ config r holds so_far.
     let counted = rw (← c.self.view_is) at so_far in
     let may = rw (← c.self.view_is, is) at c.requires.accepted in
     let did = rw is at c.drop_policy.ensures.conf in
-    rw is (holds_dropped _ config r name _ _ may here (rw did refl) counted)
+    rw is (holds_dropped 0 config r name _ _ may here (rw did refl) counted)

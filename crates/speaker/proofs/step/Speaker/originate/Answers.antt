@@ -7,7 +7,7 @@ use Rattle.speaker.proofs.step.Speaker.originate.Goals as goal
 
 pub returns-in_err-originate-clause-err : goal.returns-in_err-originate-clause-err
 returns-in_err-originate-clause-err g c =
-    let failed = err_from_is_err_and c.from_residual-in_err-originate.result c.from_residual-in_err-originate.ensures.1 in
+    let failed = err_from_is_err_and c.from_residual.result c.from_residual.ensures.1 in
     rw (failed.1, ← c.self.view_is) (as_before c.self.inside.config c.self.inside.moment c.self.inside.cache c.self.inside.chosen_before c.self.inside.routes c.originate.new.self c.in_err-originate.ensures.err)
 
 pub returns-clause-ok : goal.returns-clause-ok

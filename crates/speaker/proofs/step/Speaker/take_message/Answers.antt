@@ -19,15 +19,14 @@ returns-in-Some-heard-clause-taken g c = λ l peer linked configured.
     let linked_here = rw (← c.self.view_is) at linked in
     let configured_here = rw (← c.self.view_is) at configured in
     let peer_same : c.in-Some.peer ≡ peer = some_same _ _ _ (c.in-Some.ensures ∙ ap (λ x. peer_at x c.args.slot) c.conf.ensures) configured_here in
-    let of = record { expected_is = refl; kind_is = c.between.ensures } in
     let rest = c.judge_front.ensures.rest in
     let links : (s : ℕ) → link_at c.judge_front.new.self.links s ≡ link_at c.self.inside.routes.links s = λ s. ap (λ (r : RoutesState). link_at r.links s) rest in
     let linked_now = links c.args.slot ∙ linked_here in
     rw (← peer_same, ← c.self.view_is)
     (takes c.args.slot (terms_in c.self.inside.config c.in-Some.peer) l _ c.in-Some-heard.input _ _ _
-    (sym c.in-Some-heard.is ∙ c.in-Ok.ensures.input (terms_in c.self.inside.config c.in-Some.peer) l of linked_here)
-    (c.in-Ok.ensures.routes (terms_in c.self.inside.config c.in-Some.peer) l of linked_here)
-    (c.in-Ok.ensures.chosen (terms_in c.self.inside.config c.in-Some.peer) l of linked_here)
+    (sym c.in-Some-heard.is ∙ c.in-Ok.ensures.input (terms_in c.self.inside.config c.in-Some.peer) l (record { expected_is = refl; kind_is = c.between.ensures }) linked_here)
+    (c.in-Ok.ensures.routes (terms_in c.self.inside.config c.in-Some.peer) l (record { expected_is = refl; kind_is = c.between.ensures }) linked_here)
+    (c.in-Ok.ensures.chosen (terms_in c.self.inside.config c.in-Some.peer) l (record { expected_is = refl; kind_is = c.between.ensures }) linked_here)
     c.in-Ok.ensures.kept
     (record { config = refl; moment = refl; conf = ap (λ (r : RoutesState). r.conf) rest; cache = refl; payloads = c.judge_front.ensures.payloads; chosen_before = refl })
     links
@@ -40,14 +39,13 @@ returns-in_default-heard-clause-taken g c = λ l peer linked configured.
     let linked_here = rw (← c.self.view_is) at linked in
     let configured_here = rw (← c.self.view_is) at configured in
     let peer_same : c.in-Some.peer ≡ peer = some_same _ _ _ (c.in-Some.ensures ∙ ap (λ x. peer_at x c.args.slot) c.conf.ensures) configured_here in
-    let of = record { expected_is = refl; kind_is = c.between.ensures } in
     let rest = c.judge_front.ensures.rest in
     let links : (s : ℕ) → link_at c.judge_front.new.self.links s ≡ link_at c.self.inside.routes.links s = λ s. ap (λ (r : RoutesState). link_at r.links s) rest in
     rw (← peer_same, ← c.self.view_is)
     (takes_none c.args.slot (terms_in c.self.inside.config c.in-Some.peer) l _ _ _
-    (sym c.in_default-heard.is ∙ c.in-Ok.ensures.input (terms_in c.self.inside.config c.in-Some.peer) l of linked_here)
-    (c.in-Ok.ensures.routes (terms_in c.self.inside.config c.in-Some.peer) l of linked_here)
-    (c.in-Ok.ensures.chosen (terms_in c.self.inside.config c.in-Some.peer) l of linked_here)
+    (sym c.in_default-heard.is ∙ c.in-Ok.ensures.input (terms_in c.self.inside.config c.in-Some.peer) l (record { expected_is = refl; kind_is = c.between.ensures }) linked_here)
+    (c.in-Ok.ensures.routes (terms_in c.self.inside.config c.in-Some.peer) l (record { expected_is = refl; kind_is = c.between.ensures }) linked_here)
+    (c.in-Ok.ensures.chosen (terms_in c.self.inside.config c.in-Some.peer) l (record { expected_is = refl; kind_is = c.between.ensures }) linked_here)
     c.judge_front.ensures.rises
     c.in-Ok.ensures.kept
     (record { config = refl; moment = refl; conf = ap (λ (r : RoutesState). r.conf) rest; cache = refl; payloads = c.judge_front.ensures.payloads; chosen_before = refl })

@@ -14,5 +14,5 @@ returns-clause-ok g c = λ config r holds so_far.
     let may = rw (← c.self.view_is, is) at c.requires.accepted in
     let conf = rw is at c.use_in.ensures.conf in
     let rest = c.use_in.ensures.rest in
-    rw is (holds_used _ config r c.args.slot name _ _ (slot_used _ c.args.slot name _ may) may here conf refl refl refl c.use_in.ensures.payloads (ap (λ (s : RoutesState). s.links) rest) (ap (λ (s : RoutesState). s.adj_in) rest)
+    rw is (holds_used 0 config r c.args.slot name _ _ (slot_used c.self.inside.routes.conf c.args.slot name 0 may) may here conf refl refl refl c.use_in.ensures.payloads (ap (λ (s : RoutesState). s.links) rest) (ap (λ (s : RoutesState). s.adj_in) rest)
     (made_of _ _ _ c.self.inside.routes c.use_in.new.self rest c.use_in.ensures.made) c.use_in.ensures.chosen refl counted)
