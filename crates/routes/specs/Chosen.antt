@@ -1,7 +1,6 @@
 -- How often a best route may be chosen, by what comes and goes (own, for RFC 4271 section 9.1).
-use Rattle.std.specs.Prelude.{◌+◌, ◌&&◌, ◌||◌, ℕ, suc, Bool, true, not, List, [], ◌∷◌, ◌++◌, Option, Some, None, false, if◌then◌else◌, ◌≡◌, ◌≤◌, ◌⊎◌, length}
+use Rattle.std.specs.Prelude.{◌+◌, ◌&&◌, ℕ, suc, Bool, true, not, List, [], ◌∷◌, ◌++◌, Option, Some, None, false, if◌then◌else◌, ◌≡◌, ◌≤◌, ◌⊎◌, length}
 use Rattle.bgp_msg.specs.UpdateMeaning.{UpdateBody}
-use Rattle.bgp_peer.specs.SessionInputs as slot
 use Rattle.net_prefix.specs.declared.prefix.Prefix.{Prefix}
 use Rattle.routes.specs.Updates.{is_among}
 use Rattle.std.specs.Option.{IsSome}

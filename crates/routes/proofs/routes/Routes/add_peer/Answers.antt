@@ -1,4 +1,4 @@
-use Rattle.std.proofs.Common.{◌≡◌, ◌∙◌, false, refl, ap}
+use Rattle.std.proofs.Common.{◌≡◌, false, refl, ap}
 use Rattle.bgp_conf.specs.Configuration.{Configuration}
 use Rattle.bgp_fsm.specs.StateTests.{is_established}
 use Rattle.routes.specs.Linked.{Linked}

@@ -1,7 +1,7 @@
-use Rattle.std.proofs.Common.{◌≡◌, true, false, refl}
+use Rattle.std.proofs.Common.{◌≡◌, false, refl}
 use Rattle.bgp_conf.specs.Configuration.{is_network}
 use Rattle.routes.proofs.LocalNetworks.{network_refused}
-use Rattle.routes.proofs.Results.{OnErr-got, OnOk-got, OnOk-sure, told_false, told_true}
+use Rattle.routes.proofs.Results.{OnErr-got, OnOk-sure, told_false}
 use Rattle.routes.proofs.routes.Routes.originate.Goals as goal
 
 pub returns-then-is_err-clause-err : goal.returns-then-is_err-clause-err

@@ -1,4 +1,4 @@
-use Rattle.std.proofs.Common.{◌∙◌, ap}
+use Rattle.std.proofs.Common.{ap}
 use Rattle.bgp_conf.proofs.PolicyActions.{is_policy_name-from_accepted}
 use Rattle.routes.specs.RoutingState.{RoutingState}
 use Rattle.routes.proofs.AddedMarks.{marked_set}
