@@ -1,4 +1,4 @@
-use Rattle.std.proofs.Common.{◌≡◌, ◌≢◌, ◌≤◌, inl, inr, ℕ, Bool, true, false, nat_le, List, ◌∷◌, Option, Some, None, length, cond, refl, ◌∙◌}
+use Rattle.std.proofs.Common.{◌≡◌, ◌≤◌, inl, inr, ℕ, Bool, true, false, nat_le, List, Option, Some, None, length, cond, refl}
 use Rattle.std.specs.Bool.{OnTrue}
 use Rattle.std.specs.Option.{option_and_then, MatchOption}
 use Rattle.std.proofs.lemmas.Bool.{leb-true}

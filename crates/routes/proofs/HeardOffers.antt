@@ -119,5 +119,5 @@ on_withdrawn slot update old mid none gone s p =
 
 -- withdrawals are of one slot
 pub others_withdrawn : (slot : ℕ) (withdrawn : Prefix → Bool) (old mid : RoutingState) → IsSet slot withdrawn (λ p. None) (route_at old.adj_in) (route_at mid.adj_in)
-    → IsSet slot withdrawn (λ p. None) (offer_at old.book) (offer_at mid.book) → KeepsOthers slot old mid
+    → IsSet slot withdrawn (λ p. None) (offer_at old.book) (offer_at mid.book) → KeepsOthers slot old.adj_in mid.adj_in old.book mid.book
 others_withdrawn slot withdrawn old mid routes offers = record { routes = set_others slot withdrawn (λ p. None) _ _ routes; offers = set_others slot withdrawn (λ p. None) _ _ offers }

@@ -5,12 +5,15 @@ pub mod Counting
 pub mod Exported
 pub mod HeardOffers
 pub mod KeptOffers
+pub mod LocalNetworks
 pub mod Marking
 pub mod MergedPrefixes
 pub mod NamedPrefixes
 pub mod NeededMemory
 pub mod OneBest
+pub mod Owing
 pub mod Places
+pub mod PutSlots
 pub mod RemadeOffers
 pub mod Results
 pub mod RouteChanges

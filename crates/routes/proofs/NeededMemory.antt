@@ -1,4 +1,4 @@
-use Rattle.std.proofs.Common.{◌≡◌, ◌≢◌, ℕ, Bool, true, false, List, [], ◌∷◌, Option, Some, None, is_none, cond, refl, inl, ◌≤◌, ◌<◌, ◌+◌, ◌^◌, ◌||◌, ◌++◌, ◌∙◌, arith}
+use Rattle.std.proofs.Common.{◌≡◌, ◌≢◌, ℕ, Bool, true, false, List, [], ◌∷◌, Option, Some, None, is_none, cond, refl, inl, arith}
 use Rattle.std.specs.Option.{IsSome}
 use Rattle.bgp_attr.specs.AsPath.{PathSegment}
 use Rattle.bgp_attr.specs.AttributeFaults.{Fault, attributes_fault, or_else}

@@ -1,4 +1,4 @@
-use Rattle.std.proofs.Common.{◌≡◌, ◌≤◌, ◌+◌, ◌↔◌, ℕ, nat_le, Bool, Result, Ok, Err, OnErr, OnOk, IsTrue, false, refl, true, sym, ◌∙◌, arith}
+use Rattle.std.proofs.Common.{◌≡◌, ◌≤◌, ◌+◌, ◌↔◌, ℕ, nat_le, Bool, Result, Ok, Err, OnErr, OnOk, IfOk, IsTrue, false, refl, true, sym, ◌∙◌, arith}
 use Rattle.std.proofs.lemmas.Bool.{leb-true, le-leb}
 use Rattle.bgp_peer.specs.PeerLimits.{ring_octets, room_for_update}
 use Rattle.std.specs.Bool.{OnTrue}
@@ -27,6 +27,19 @@ OnTrue-if false P p = tt
 pub OnOk-sure : {T F : Type 0} (r : Result T F) (P X : Type 0) → OnOk r P → OnErr r X → (X → ⊥) → P
 OnOk-sure (Ok v) P X p x never = p
 OnOk-sure (Err e) P X p x never = absurd (never x)
+
+-- what follows from what holds of an answer
+pub OnOk-as : {T F : Type 0} (r : Result T F) (P Q : Type 0) → (P → Q) → OnOk r P → OnOk r Q
+OnOk-as (Ok v) P Q so p = so p
+OnOk-as (Err e) P Q so p = tt
+
+pub OnErr-as : {T F : Type 0} (r : Result T F) (P Q : Type 0) → (P → Q) → OnErr r P → OnErr r Q
+OnErr-as (Ok v) P Q so p = tt
+OnErr-as (Err e) P Q so p = so p
+
+pub IfOk-as : {T F : Type 0} (r : Result T F) (P Q : T → Type 0) → ((v : T) → P v → Q v) → IfOk r P → IfOk r Q
+IfOk-as (Ok v) P Q so p = so v p
+IfOk-as (Err e) P Q so p = tt
 
 -- a ring has room where so many octets of it are free
 pub room_test : (free ring : ℕ) → free + ring ≡ ring_octets → IsTrue (nat_le room_for_update free) ↔ (ring + room_for_update ≤ ring_octets)

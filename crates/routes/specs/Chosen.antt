@@ -1,12 +1,10 @@
 -- How often a best route may be chosen, by what comes and goes (own, for RFC 4271 section 9.1).
-use Rattle.std.specs.Prelude.{◌+◌, ◌&&◌, ◌||◌, ℕ, suc, Bool, true, not, List, [], ◌∷◌, ◌++◌, Option, Some, None, false, if◌then◌else◌, ◌≡◌, ◌≤◌, ◌⊎◌, length}
+use Rattle.std.specs.Prelude.{◌+◌, ◌&&◌, ℕ, suc, Bool, true, not, List, [], ◌∷◌, ◌++◌, Option, Some, None, false, if◌then◌else◌, ◌≡◌, ◌≤◌, ◌⊎◌, length}
 use Rattle.bgp_msg.specs.UpdateMeaning.{UpdateBody}
-use Rattle.bgp_peer.specs.SessionInputs as slot
 use Rattle.net_prefix.specs.declared.prefix.Prefix.{Prefix}
 use Rattle.routes.specs.Updates.{is_among}
 use Rattle.std.specs.Option.{IsSome}
 use Rattle.rib_in.specs.LatestRoutes.{RouteTable, route_at}
-use Rattle.routes.specs.RoutingState.{RoutingState}
 
 -- of how many of these prefixes this is so, each counted once
 abbrev pub how_many : (Prefix → Bool) → List Prefix → ℕ
@@ -34,9 +32,9 @@ AreDifferent holds (p ∷ prefixes) = (is_among p prefixes ≡ false) × holds p
 
 -- where an UPDATE was taken in part, the slot has no route but one that it had or that the UPDATE announces; a best route
 -- was chosen at most once for each prefix that it names. One with a fault wasn't taken
-pub record IsPart (slot : ℕ) (update : Option UpdateBody) (old new : RoutingState) : Type 0 where
-  pub routes : (p : Prefix) → IsSome (route_at new.adj_in slot p) → IsSome (route_at old.adj_in slot p) ⊎ (is_among p (announced_if update) ≡ true)
-  pub chosen : new.chosen ≤ old.chosen + named_if update
+pub record IsPart (slot : ℕ) (update : Option UpdateBody) (had has : RouteTable) (before after : ℕ) : Type 0 where
+  pub routes : (p : Prefix) → IsSome (route_at has slot p) → IsSome (route_at had slot p) ⊎ (is_among p (announced_if update) ≡ true)
+  pub chosen : after ≤ before + named_if update
 
 -- a best route was chosen once at most for each of some prefixes, none of them twice, of each of which this holds
 abbrev pub OncePerPrefix : (Prefix → Type 0) → ℕ → ℕ → Type 0

@@ -1,11 +1,16 @@
 pub mod Candidates
 pub mod Chosen
+pub mod Commands
 pub mod Export
+pub mod Heard
+pub mod Lending
 pub mod Linked
 pub mod LocRib
 pub mod Marks
 pub mod Offers
+pub mod Owing
 pub mod Places
+pub mod RoutesState
 pub mod RoutingState
 pub mod Tables
 pub mod Told

@@ -1,5 +1,5 @@
 -- One slot of a speaker, as others see it.
-use Rattle.std.specs.Prelude.{ℕ, List, ◌≡◌, ◌≢◌, ◌≤◌, ◌+◌, ◌||◌, ◌&&◌, ◌==◌, [], min, length, if◌then◌else◌}
+use Rattle.std.specs.Prelude.{ℕ, List, ◌||◌, [], min, length, if◌then◌else◌}
 use Rattle.bgp_peer.specs.Slot.{Slot, taken_input}
 use Rattle.net_prefix.specs.declared.prefix.Prefix.{Prefix}
 use Rattle.bgp_fsm.specs.SessionTable.{effects_of}

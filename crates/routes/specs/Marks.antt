@@ -25,17 +25,6 @@ owed_for None (Some held) = Some Withdrawal
 owed_for (Some octets) None = Some Announcement
 owed_for (Some octets) (Some held) = if bytes_eq held octets then None else Some Announcement
 
--- what is held and isn't exported, and so is withdrawn
-abbrev pub withdrawn_of : Option (List ℕ) → Option (List ℕ) → Option (List ℕ)
-withdrawn_of None held = held
-withdrawn_of (Some octets) held = None
-
--- what is exported and isn't held just so, and so is announced
-abbrev pub announced_of : Option (List ℕ) → Option (List ℕ) → Option (List ℕ)
-announced_of None held = None
-announced_of (Some octets) None = Some octets
-announced_of (Some octets) (Some held) = if bytes_eq held octets then None else Some octets
-
 -- what the peer of a slot is owed of a prefix; nothing, where its session isn't Established
 abbrev pub mark_of : Configuration → RouteTable → BookState → ℕ → Prefix → Option ConfiguredPeer → Option Linked → Option Owed
 mark_of conf adj_in book slot prefix None linked = None

@@ -1,5 +1,5 @@
 -- What is queued to a peer so that it holds its export (RFC 4271 sections 4.3 and 9.2).
-use Rattle.std.specs.Prelude.{◌≡◌, ◌≤◌, ◌<◌, ◌+◌, ◌*◌, ◌^◌, ℕ, List, [], ◌∷◌, length, Option, Some, None, if◌then◌else◌, ◌≢◌}
+use Rattle.std.specs.Prelude.{◌≡◌, ◌≤◌, ◌<◌, ◌+◌, ◌^◌, ℕ, List, [], ◌∷◌, length, Option, Some, None, if◌then◌else◌}
 use Rattle.bgp_msg.specs.MessageSpelling.{update_of, wire_form}
 use Rattle.bgp_peer.specs.Slot.{queued}
 use Rattle.net_prefix.specs.declared.prefix.Prefix.{Prefix}

@@ -1,31 +1,43 @@
 //! Routes: what came from the peers, what the selection makes of it, and what each peer is owed of it.
 //!
-//! `Routing` has Adj-RIB-In, the candidates with the best route of each prefix (RFC 4271 section 9.1), and of each prefix
-//! what waits for each Established peer: a withdrawal, an announcement or nothing. Its invariant, which each public call
-//! is given and gives back, is that of each prefix there waits for each slot just what its peer is owed, by what it holds
-//! and what is exported to it. A change goes one way: a route comes or goes (`take_update`, `Routing::announce`,
-//! `Routing::withdraw`, `Routing::drop_slot`), or what judges the routes changes (`choose_again`, `choose_slot`,
-//! `choose_touched`); the candidates of the touched prefixes are made again, the best route of each is chosen once at
-//! most, and for each Established peer the prefix is marked. `export` says what goes on to a peer, `withdraw` and
-//! `announce` tell it, `WaitingPrefixes` are those that a peer doesn't hold just so.
+//! **Parts.** `Routes` is the one type that others call. It has the configuration, the payloads by which routes are judged, a
+//! `Link` for each slot (its session beside what its peer was sent), `Routing` (Adj-RIB-In with Loc-RIB, and of each prefix
+//! what waits for each Established peer: a withdrawal, an announcement or nothing) and what was announced lately, for peers
+//! to share. Its value (`RoutesState`) has all of these but what waits: that is where what a peer holds and its export differ.
 //!
-//! Nothing here speaks of a run or of a session's history: the speaker above does. To read: `routing` (the tables and their
-//! marks), `candidates` (what makes a route a candidate), `updates`, `export`, `told`, `waiting`; `link` is one slot's session
-//! beside what its peer was sent.
+//! **The way of an event.** A session's input moves its slot, and where it enters or leaves Established the routes follow
+//! (`input`). A message at the front of a slot's rest is an input to the session, and an UPDATE among them brings and
+//! withdraws routes (`judge_front`). A command changes the configuration and what depends on it (`originate`, `set_policy`
+//! and the like); payloads that came or went judge again the routes that they concern (`payloads_changed`). Whatever
+//! changes, it goes one way: the candidates of the touched prefixes are made again, the best route of each is chosen once at
+//! most, and for each Established peer the prefix is marked. What is marked is asked for in order (`withdrawal_after`,
+//! `announcement_after`) and told (`tell_withdrawal`, `tell_announcement`).
+//!
+//! **What holds when.** Between calls: no two peers have one address, each candidate has its own peer's, and of each prefix
+//! there waits for each slot just what its peer is owed (the invariant of `Routes`). No clause outside speaks of marks.
+//! Within a call the functions of `Routing`, `candidates` and `updates` are given this (`AreMarked`, `IsSound`) and give it
+//! back.
+//!
+//! Nothing here speaks of a run or of a session's history: the speaker above does. To read first: the definitions
+//! `RoutesState` and `Marks`, then `routes`, `sessions`, `commands`, `queue` (the calls), `routing` (the tables and their
+//! marks), `candidates` (what makes a route a candidate), `message`, `updates`, `exports`, `told`, `waiting`.
 #![tactic(auto)]
 
 mod candidates;
+mod commands;
 mod exports;
 mod link;
+mod message;
+mod queue;
+mod routes;
 mod routing;
+mod sessions;
 mod told;
 mod updates;
 mod waiting;
 
-pub use candidates::{choose_again, choose_slot, choose_touched, judge_network};
-pub use exports::{Octets, export, export_peer, place};
+pub use exports::{Octets, place};
 pub use link::Link;
-pub use routing::{Links, Routing, slots_end};
-pub use told::{announce, withdraw};
-pub use updates::{Sender, take_update};
+pub use message::Standard;
+pub use routes::Routes;
 pub use waiting::WaitingPrefixes;

@@ -50,11 +50,11 @@ pub fn take_update<A: Allocator + Clone, B: Book<A>>(
     ensures marked { AreMarked conf.now links.now.entries routing.new }
     ensures routes { OnOk result ((s : ℕ) (prefix : ThePrefix) → route_at routing.new.adj_in s prefix ≡ (if s == sender.slot then word_of update.entry prefix (route_at routing.old.adj_in s prefix) else route_at routing.old.adj_in s prefix)) }
     ensures kept { OnOk result (KeepsHeard conf.now payloads.now sender Established routing.old routing.new) }
-    ensures others { OnErr result (KeepsOthers sender.slot routing.old routing.new) }
+    ensures others { OnErr result (KeepsOthers sender.slot routing.old.adj_in routing.new.adj_in routing.old.book routing.new.book) }
     ensures memory { OnErr result (update.entry.announced ≢ []) }
     ensures chosen { routing.new.chosen ≤ routing.old.chosen + named_in update.entry }
     ensures rises { routing.old.chosen ≤ routing.new.chosen }
-    ensures part { OnErr result (IsPart sender.slot (Some update.entry) routing.old routing.new) }
+    ensures part { OnErr result (IsPart sender.slot (Some update.entry) routing.old.adj_in routing.new.adj_in routing.old.chosen routing.new.chosen) }
 {
     let announced = update.announced();
     withdraw_each(
@@ -136,7 +136,7 @@ fn announce_each<A: Allocator + Clone, B: Book<A>>(
     ensures marked { AreMarked conf.now links.now.entries routing.new }
     ensures routes { OnOk result ((s : ℕ) (prefix : ThePrefix) → route_at routing.new.adj_in s prefix ≡ (if s == slot && is_among prefix (front_prefixes prefixes.entry.octets.now).0 then Some attrs.now.value else route_at routing.old.adj_in s prefix)) }
     ensures offers { OnOk result ((s : ℕ) (prefix : ThePrefix) → offer_at routing.new.book s prefix ≡ (if s == slot && is_among prefix (front_prefixes prefixes.entry.octets.now).0 then judged_at conf.now payloads.now attrs.now.value candidate prefix else offer_at routing.old.book s prefix)) }
-    ensures others { OnErr result (KeepsOthers slot routing.old routing.new) }
+    ensures others { OnErr result (KeepsOthers slot routing.old.adj_in routing.new.adj_in routing.old.book routing.new.book) }
     ensures chosen { OncePerPrefix (λ p. is_among p (front_prefixes prefixes.entry.octets.now).0 ≡ true) routing.old.chosen routing.new.chosen }
     ensures rises { routing.old.chosen ≤ routing.new.chosen }
     ensures announced { OnErr result ((p : ThePrefix) → IsSome (route_at routing.new.adj_in slot p) → IsSome (route_at routing.old.adj_in slot p) ⊎ (is_among p (front_prefixes prefixes.entry.octets.now).0 ≡ true)) }

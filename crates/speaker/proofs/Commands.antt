@@ -2,21 +2,12 @@ use Rattle.std.proofs.Common.{◌≡◌, ◌≢◌, ◌≤◌, ◌<◌, ◌+◌,
 use Rattle.std.proofs.lemmas.Bool.{cases_eq, eq-eqb, ne_eqb, eqb-true}
 use Rattle.std.proofs.lemmas.Bool.Decides.{nat_tests}
 use Rattle.std.proofs.lemmas.Grind.{common_steps}
-use Rattle.std.specs.BTreeMap.{is_at}
 use Rattle.std.specs.Borrow.{Bor}
-use Rattle.std.specs.BTreeSet.{insert_key}
-use Rattle.std.specs.Set.{remove_key}
-use Rattle.std.specs.List.{list_any}
 use Rattle.std.specs.Option.{IsSome, option_map}
-use Rattle.std.specs.Ordering.{is_eq, match_ordering, nat_cmp}
-use Rattle.std.specs.declared.cmp.Ordering.{Ordering}
-use Rattle.std.specs.declared.cmp.Ordering.TheVariants.{Less, Equal, Greater}
-use Rattle.net_prefix.specs.PrefixOrder.{prefix_cmp}
-use Rattle.rib_out.proofs.Prefixes.{is_prefix-refl}
-use Rattle.bgp_conf.proofs.PrefixOrder.{is_at-prefix_cmp, is_eq-nat_cmp}
+use Rattle.bgp_conf.proofs.PrefixOrder.{is_at-prefix_cmp}
 use Rattle.decision.specs.BookContents.{is_prefix, offer_at}
 use Rattle.bgp_attr.specs.PathAttributes.{PathAttributes, originated}
-use Rattle.bgp_conf.specs.Configuration.{AddressesDiffer, Configuration, is_network, peer_at}
+use Rattle.bgp_conf.specs.Configuration.{Configuration, is_network, peer_at}
 use Rattle.bgp_conf.specs.ConfAfter.{TakesMemory, conf_after, exporting, importing, is_network_after, is_prefix as is_prefix_of, peer_after, configured_of}
 use Rattle.bgp_conf.specs.FirstRefusal.{first_refusal}
 use Rattle.bgp_conf.specs.declared.command.Command.{Command}
@@ -31,7 +22,7 @@ use Rattle.bgp_conf.specs.PeerPolicies.{import_action}
 use Rattle.policy.specs.PolicyNames.{name_of}
 use Rattle.policy.specs.declared.rule.Rule.{Rule}
 use Rattle.origin_valid.specs.Validity.{validity}
-use Rattle.bgp_conf.proofs.Accepted.{addressed-from_accepted, apart-from_accepted, is_host-from_accepted, peer_at-from_accepted, slot-from_accepted}
+use Rattle.bgp_conf.proofs.Accepted.{apart-from_accepted, is_host-from_accepted, peer_at-from_accepted, slot-from_accepted}
 use Rattle.bgp_fsm.specs.SessionTable.{effects_of}
 use Rattle.bgp_fsm.specs.StateTests.{is_established, is_message}
 use Rattle.bgp_fsm.specs.Transports.{is_closing, transport_of}
@@ -57,10 +48,11 @@ use Rattle.routes.specs.Chosen.{how_many, AreDifferent, OncePerPrefix}
 use Rattle.speaker.specs.Chosen.{Chooses}
 use Rattle.speaker.specs.FirstRefusal.{refused_at, awaits_up, is_open}
 use Rattle.routes.specs.Linked.{Linked, moved}
-use Rattle.routes.specs.Offers.{AreKept, AreMadeAgain, AreMadeWhere, IsSound, Offers}
-use Rattle.speaker.specs.Moves.{Announces, Moves, IsPut, resolves}
+use Rattle.routes.specs.Offers.{AreKept, AreMadeAgain, AreMadeWhere}
+use Rattle.routes.specs.Commands.{resolves}
+use Rattle.speaker.specs.Moves.{Announces, Moves, IsPut}
 use Rattle.speaker.specs.Runs.{Call, Run, turn, Up_call, Fail_call, Bytes_call, Starved_call, Tick_call, Command_call, Take_call, Cache_up_call, Cache_fail_call, Cache_bytes_call, Cache_starved_call, Cache_take_call, cache_history, commanded, conf_called, configuration_of, history, moment_after, opened_commanded, terms_in}
-use Rattle.speaker.specs.SpeakerState.{IsAsBefore, SpeakerState, tables_of}
+use Rattle.speaker.specs.SpeakerState.{SpeakerState, tables_of}
 use Rattle.routes.specs.Tables.{link_at, network_route, peer_route_at, session_at, tables}
 use Rattle.speaker.specs.declared.config.Config.{Config}
 use Rattle.speaker.proofs.AllowedChoices.{most_known, most_routes, signal_few}
@@ -75,7 +67,6 @@ use Rattle.speaker.proofs.PeerRoutes.{agrees_peers, peer_as}
 use Rattle.routes.proofs.Places.{same_from_is_prefix}
 use Rattle.routes.proofs.RouteChanges.{is_route-parts, second_true}
 use Rattle.speaker.proofs.SlotOctets.{slot_signalled}
-use Rattle.routes.proofs.SoundOffers.{sound_conf}
 
 -- Connections that stand or fail, and commands, as the run with them has them.
 
@@ -278,41 +269,6 @@ local_at network p = is_route-parts 64 network 64 p
 network_put : (conf : Configuration) (network p : Prefix) (b : Bool) → is_network_after conf (Network network) p ≡ b → is_network (conf_after conf (Network network)) p ≡ is_network_after conf (Network network) p
     → network_route (conf_after conf (Network network)) p ≡ cond b (Some originated) None
 network_put conf network p b is same = ap (λ x. cond x (Some originated) None) (same ∙ is)
-
--- a network that comes and goes leaves the others
-key_back : (network : Prefix) (networks : List Prefix) → list_any (is_at (prefix_cmp network)) networks ≡ false → remove_key (is_at (prefix_cmp network)) (insert_key prefix_cmp networks network) ≡ networks
-key_back network [] none = rw (is_prefix-refl network) refl
-key_back network (q ∷ networks) none = by_order (key_back network networks) (prefix_cmp network q) refl
-  where
-    by_order : (list_any (is_at (prefix_cmp network)) networks ≡ false → remove_key (is_at (prefix_cmp network)) (insert_key prefix_cmp networks network) ≡ networks) → (o : Ordering) → prefix_cmp network q ≡ o → remove_key (is_at (prefix_cmp network)) (match_ordering o (network ∷ q ∷ networks) (q ∷ networks) (q ∷ insert_key prefix_cmp networks network)) ≡ q ∷ networks
-    by_order behind Less at = rw (is_prefix-refl network) refl
-    by_order behind Equal at = absurd (let here = ap is_eq at in cc)
-    by_order behind Greater at =
-        let off : is_at (prefix_cmp network) q ≡ false = ap is_eq at in
-        let rest : list_any (is_at (prefix_cmp network)) networks ≡ false = rw off at none in
-        rw off (ap (λ rest. q ∷ rest) (behind rest))
-
-pub network_restored : (conf : Configuration) (network : Prefix) → is_network conf network ≡ false → conf_after (conf_after conf (Network network)) (NoNetwork network) ≡ conf
-network_restored conf network none = ap (λ (networks : List Prefix). record conf { networks = networks }) (key_back network conf.networks none)
-
--- memory was refused to a local network: all is as before
-pub before_restored : (network : Prefix) (old mid back new : SpeakerState) → is_network old.conf network ≡ false → mid ≡ record old { conf = conf_after old.conf (Network network) } → IsAsBefore mid back
-    → new ≡ record back { conf = conf_after back.conf (NoNetwork network) } → IsAsBefore old new
-before_restored network old mid back new none is before restored = record {
-  config = ap (λ (s : SpeakerState). s.config) restored ∙ before.config ∙ ap (λ (s : SpeakerState). s.config) is;
-  moment = ap (λ (s : SpeakerState). s.moment) restored ∙ before.moment ∙ ap (λ (s : SpeakerState). s.moment) is;
-  conf =
-      ap (λ (s : SpeakerState). s.conf) restored ∙ ap (λ c. conf_after c (NoNetwork network)) (before.conf ∙ ap (λ (s : SpeakerState). s.conf) is)
-      ∙ network_restored old.conf network none;
-  cache = ap (λ (s : SpeakerState). s.cache) restored ∙ before.cache ∙ ap (λ (s : SpeakerState). s.cache) is;
-  payloads = ap (λ (s : SpeakerState). s.payloads) restored ∙ before.payloads ∙ ap (λ (s : SpeakerState). s.payloads) is;
-  links = λ slot. ap (λ (s : SpeakerState). link_at s.links slot) restored ∙ before.links slot ∙ ap (λ (s : SpeakerState). link_at s.links slot) is;
-  routes = λ slot p. ap (λ (s : SpeakerState). route_at s.adj_in slot p) restored ∙ before.routes slot p ∙ ap (λ (s : SpeakerState). route_at s.adj_in slot p) is;
-  offers = λ slot p. ap (λ (s : SpeakerState). offer_at s.book slot p) restored ∙ before.offers slot p ∙ ap (λ (s : SpeakerState). offer_at s.book slot p) is;
-  loc_rib = ap (λ (s : SpeakerState). s.loc_rib) restored ∙ before.loc_rib ∙ ap (λ (s : SpeakerState). s.loc_rib) is;
-  chosen = ap (λ (s : SpeakerState). s.chosen) restored ∙ before.chosen ∙ ap (λ (s : SpeakerState). s.chosen) is;
-  chosen_before = ap (λ (s : SpeakerState). s.chosen_before) restored ∙ before.chosen_before ∙ ap (λ (s : SpeakerState). s.chosen_before) is;
-}
 
 -- one that was there is there
 pub holds_there : (config : Config) (r : Run) (network : Prefix) (old new : SpeakerState) → Holds config r old → new ≡ record old { conf = conf_after old.conf (Network network); chosen_before = old.chosen }
@@ -583,14 +539,6 @@ holds_exporting config r slot name old new h is so_far = subst (λ s. Holds conf
         → option_map f (peer_at (conf_after old.conf (UseOut slot name)) t) ≡ option_map f (peer_at old.conf t)
     settings f same t = option_map-changed old.conf slot (exporting (name_of name.now)) f same t
 
--- a slot that has a peer is one of 64
-pub slot_used : (conf : Configuration) (slot : ℕ) (name : Bor (List ℕ)) (closing : ℕ) → first_refusal conf closing (UseIn slot name) ≡ None → slot < 64
-slot_used conf slot name closing may = within _ (nat_le 64 slot) refl may
-  where
-    within : (rest : Option Refusal) (b : Bool) → nat_le 64 slot ≡ b → cond (b || is_none (peer_at conf slot)) (Some Refusal.BadSlot) rest ≡ None → slot < 64
-    within rest true over h = absurd (cc)
-    within rest false under h = grind (arith, nat_tests, under)
-
 -- with a new peer each is one that was accepted
 added_taken : (slot t : ℕ) (before : Option ConfiguredPeer) (peer found : ConfiguredPeer) → IsTaken slot peer → (before ≡ Some found → IsTaken t found)
     → cond (t == slot) (Some peer) before ≡ Some found → IsTaken t found
@@ -687,46 +635,9 @@ holds_added closing config r slot peer old new h may conf peers put config_same 
       chosen = omega (arith, few);
     }
 
--- its slot had no candidates, since no peer was there
-pub sound_added : (closing : ℕ) (conf conf2 : Configuration) (offers : Offers) (slot : ℕ) (peer : PeerConf) → IsSound conf offers → AddressesDiffer conf2.peers → first_refusal conf closing (AddPeer slot peer) ≡ None
-    → ((s : ℕ) → peer_at conf2 s ≡ peer_after conf (AddPeer slot peer) s) → IsSound conf2 offers
-sound_added closing conf conf2 offers slot peer sound addresses may peers = sound_conf conf conf2 offers sound addresses (λ s found at. has_one s found (s == slot) refl (sym (peers s) ∙ at)) (λ s found at. still s found (s == slot) refl at)
-  where
-    some_is : {X : Type 0} {x y : X} → Some x ≡ Some y → x ≡ y
-    some_is is = cc
-
-    has_one : (s : ℕ) (found : ConfiguredPeer) (b : Bool) → (s == slot) ≡ b → cond (s == slot) (Some (configured_of peer)) (peer_at conf s) ≡ Some found → found.address ≢ 0
-    has_one s found true same at none =
-        let this : configured_of peer ≡ found = some_is (ap (λ b. cond b (Some (configured_of peer)) (peer_at conf s)) (sym same) ∙ at) in
-        let here : peer.address ≡ 0 = ap (λ (x : ConfiguredPeer). x.address) this ∙ none in
-        let never = sym (addressed-from_accepted conf closing slot peer may) ∙ eq-eqb peer.address 0 here in cc
-    has_one s found false other at none = sound.addressed s found (ap (λ b. cond b (Some (configured_of peer)) (peer_at conf s)) (sym other) ∙ at) none
-
-    still : (s : ℕ) (found : ConfiguredPeer) (b : Bool) → (s == slot) ≡ b → peer_at conf s ≡ Some found → peer_at conf2 s ≡ Some found
-    still s found true same at = let free = peer_at-from_accepted conf closing slot peer may in let here = ap (λ x. peer_at conf x) (sym (eqb-true s slot same)) ∙ at in absurd (let never = sym free ∙ here in cc)
-    still s found false other at = peers s ∙ ap (λ b. cond b (Some (configured_of peer)) (peer_at conf s)) other ∙ at
-
--- an insertion puts the slot
-pub put_inserted : (slot : ℕ) (link l : Linked) (f g : ℕ → Option Linked) → ((s : ℕ) → g s ≡ cond (is_at (nat_cmp slot) s) (Some link) (f s)) → link ≡ l
-    → (s : ℕ) → g s ≡ cond (s == slot) (Some l) (f s)
-put_inserted slot link l f g updates is s = updates s ∙ rw (is_eq-nat_cmp slot s, is) refl
-
 -- a new slot, with the OPEN of the peer's terms
 abbrev pub added : Config → PeerConf → Linked
 added config peer = record { peer = configured (record { asn = config.asn; hold_time = peer.hold; identifier = config.identifier; multiprotocol = config.multiprotocol }) peer.mode; adj_out = [] }
 
 pub added_same : (have config : Config) (peer : PeerConf) → have ≡ config → added have peer ≡ added config peer
 added_same have config peer is = rw is refl
-
-same_slot : (slot s : ℕ) → is_at (nat_cmp slot) s ≡ true → s ≡ slot
-same_slot slot s h = let is = sym (is_eq-nat_cmp slot s) ∙ h in eqb-true s slot is
-
-back_at : (slot s : ℕ) (link : Linked) (before : Option Linked) (f : ℕ → Option Linked) (b : Bool) → is_at (nat_cmp slot) s ≡ b → before ≡ f slot → cond b before (cond b (Some link) (f s)) ≡ f s
-back_at slot s link before f true at is = is ∙ ap f (sym (same_slot slot s at))
-back_at slot s link before f false at is = refl
-
--- what was written is put back
-pub put_back : (slot : ℕ) (link : Linked) (before : Option Linked) (f g h : ℕ → Option Linked) → ((s : ℕ) → g s ≡ cond (is_at (nat_cmp slot) s) (Some link) (f s))
-    → ((s : ℕ) → h s ≡ cond (is_at (nat_cmp slot) s) before (g s)) → before ≡ f slot → (s : ℕ) → h s ≡ f s
-put_back slot link before f g h updates back was s =
-    back s ∙ ap (λ x. cond (is_at (nat_cmp slot) s) before x) (updates s) ∙ back_at slot s link before f _ refl was

@@ -24,14 +24,15 @@ use Rattle.net_prefix.specs.declared.transport.Transport.{Transport}
 use Rattle.net_prefix.specs.declared.transport.Transport.TheVariants.{None as NoConnection, Opening, Listening, Open as Connected, Closing}
 use Rattle.rib_in.specs.LatestRoutes.{route_at}
 use Rattle.routes.specs.Updates.{NeedsMemory, is_among, sound_update, word_if}
-use Rattle.speaker.specs.AdjRibIn.{brought, route, update_heard}
+use Rattle.routes.specs.Heard.{TakesMemoryAt, update_heard}
+use Rattle.speaker.specs.AdjRibIn.{brought, route}
 use Rattle.speaker.specs.Agreement.{Agrees, Hears, HearsUntil, CacheAgrees, HoldsBy, IsFair, IsThrifty, MayStarve, SlotAgrees, Holds}
 use Rattle.speaker.proofs.SlotStates.{SlotIs, slot_agrees, slot_from, linked_from}
 use Rattle.routes.specs.Chosen.{announced_if, named_if, AreDifferent}
 use Rattle.speaker.specs.Choices.{choices_by, choices_in, choices_on, choices_refused}
 use Rattle.speaker.specs.Chosen.{ChoosesRefused}
 use Rattle.routes.specs.Linked.{Linked, moved, taken_on, taken_of}
-use Rattle.speaker.specs.Moves.{KeepsKept, KeepsRest, IsPut, Moves, Pushes, TakesItem, TakesMemoryAt}
+use Rattle.speaker.specs.Moves.{KeepsKept, KeepsRest, IsPut, Moves, Pushes, TakesItem}
 use Rattle.speaker.specs.Queueing.{Queue, starved_in}
 use Rattle.speaker.specs.declared.event.Report.{Report}
 use Rattle.std.specs.Int.Bits.{bit_or}

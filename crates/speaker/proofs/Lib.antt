@@ -29,3 +29,4 @@ pub mod Owing
 pub mod Revalidating
 pub mod CacheSteps
 pub mod Touches
+pub mod RoutesSeen

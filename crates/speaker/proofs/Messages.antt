@@ -13,11 +13,11 @@ use Rattle.decision.specs.BookContents.{offer_at}
 use Rattle.net_prefix.specs.declared.prefix.Prefix.{Prefix}
 use Rattle.rib_in.specs.LatestRoutes.{route_at}
 use Rattle.routes.specs.Updates.{is_among, word_if}
-use Rattle.speaker.specs.AdjRibIn.{update_heard}
+use Rattle.routes.specs.Heard.{IsHeard, update_heard}
 use Rattle.routes.specs.Chosen.{announced_if, named_if}
 use Rattle.speaker.specs.Chosen.{Chooses, ChoosesHeard, ChoosesRefused}
 use Rattle.routes.specs.Linked.{Linked, moved}
-use Rattle.speaker.specs.Moves.{KeepsKept, KeepsRest, Moves, IsHeard, TakesItem}
+use Rattle.speaker.specs.Moves.{KeepsKept, KeepsRest, Moves, TakesItem}
 use Rattle.speaker.specs.SpeakerState.{SpeakerState}
 use Rattle.routes.specs.Tables.{link_at}
 use Rattle.routes.proofs.Counting.{different_as}

@@ -1,4 +1,4 @@
-use Rattle.std.proofs.Common.{◌≡◌, ◌≢◌, ◌<◌, ◌+◌, ◌-◌, ◌^◌, ◌==◌, ℕ, Bool, true, false, List, Option, Some, None, Result, Ok, Err, OnOk, cond, refl, sym, ap, ◌∙◌, subst, inl, inr, arith, length-append}
+use Rattle.std.proofs.Common.{◌≡◌, ◌≢◌, ◌<◌, ◌+◌, ◌^◌, ◌==◌, ℕ, Bool, true, false, List, Option, Some, None, Result, Ok, Err, OnOk, cond, refl, sym, ap, ◌∙◌, subst, inl, inr, arith, length-append}
 use Rattle.std.specs.Option.{IsSome, option_and_then, option_map}
 use Rattle.std.proofs.lemmas.Bool.{cases_eq, cases_lt, eq-eqb, ne_eqb}
 use Rattle.bgp_conf.specs.Configuration.{peer_at}
@@ -12,8 +12,8 @@ use Rattle.speaker.specs.Agreement.{QueuesOn}
 use Rattle.routes.specs.Export.{IsAccepted, export_in, export_peer_of}
 use Rattle.speaker.specs.Export.{export_to}
 use Rattle.routes.specs.Linked.{Linked}
-use Rattle.speaker.specs.Serving.{AreServedBelow, IsServedBy, IsServedAt, IsShortAt, IsUpAt, HasRoomAt, IsOfSlot, IsStill, IsToldAt, Serves, Stand, IsDoneAt, IsGone, IsHad, IsNext, is_standing}
-use Rattle.routes.specs.Marks.{announced_of, withdrawn_of}
+use Rattle.speaker.specs.Serving.{AreServedBelow, IsServedBy, IsServedAt, IsShortAt, IsUpAt, HasRoomAt, IsOfSlot, IsStill, IsToldAt, Serves, Stand, IsDoneAt, IsGone, IsHad, is_standing}
+use Rattle.routes.specs.Owing.{IsNext, announced_of, withdrawn_of}
 use Rattle.speaker.specs.Queueing.{ComesFirst}
 use Rattle.routes.specs.Places.{rank_of}
 use Rattle.routes.specs.Told.{update_saying, HasRoom}

@@ -19,7 +19,8 @@ use Rattle.bgp_peer.proofs.Agreeing.{stands, agrees-signal, agrees-octet, agrees
 use Rattle.bgp_peer.proofs.Rows.{kept_whole}
 use Rattle.net_prefix.specs.declared.prefix.Prefix.{Prefix}
 use Rattle.routes.specs.Updates.{word_if}
-use Rattle.speaker.specs.AdjRibIn.{update_heard, route}
+use Rattle.routes.specs.Heard.{update_heard}
+use Rattle.speaker.specs.AdjRibIn.{route}
 use Rattle.speaker.specs.Agreement.{LinkAgrees}
 use Rattle.speaker.specs.Held.{told_in}
 use Rattle.routes.specs.Linked.{Linked, moved}

@@ -19,7 +19,8 @@ use Rattle.bgp_peer.proofs.Rows.{ignored}
 use Rattle.net_prefix.specs.declared.prefix.Prefix.{Prefix}
 use Rattle.net_prefix.specs.declared.transport.Transport.TheVariants.{Open as Connected}
 use Rattle.routes.specs.Updates.{word_if}
-use Rattle.speaker.specs.AdjRibIn.{update_heard, route}
+use Rattle.routes.specs.Heard.{update_heard}
+use Rattle.speaker.specs.AdjRibIn.{route}
 use Rattle.speaker.specs.Agreement.{LinkAgrees, SlotAgrees}
 use Rattle.routes.specs.Linked.{Linked, moved}
 use Rattle.speaker.specs.Runs.{terms_in}

@@ -1,5 +1,5 @@
 -- How often a best route was chosen from one state to the next, in the midst of a call (own, for RFC 4271 section 9.1).
-use Rattle.std.specs.Prelude.{◌≡◌, ◌≤◌, ◌+◌, ◌⊎◌, ℕ, Bool, List, [], ◌∷◌, length, Option, true, false}
+use Rattle.std.specs.Prelude.{◌≡◌, ◌≤◌, ◌+◌, ◌⊎◌, ℕ, Bool, List, [], length, Option, true, false}
 use Rattle.std.specs.Option.{IsSome}
 use Rattle.bgp_msg.specs.UpdateMeaning.{UpdateBody}
 use Rattle.net_prefix.specs.declared.prefix.Prefix.{Prefix}

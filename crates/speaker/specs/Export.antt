@@ -1,5 +1,5 @@
 -- What each peer is sent of Loc-RIB (RFC 4271 sections 3.2 and 9.1.3).
-use Rattle.std.specs.Prelude.{◌≡◌, ◌==◌, ◌<◌, ◌^◌, ◌⊎◌, ℕ, List, Option, ⊤, if◌then◌else◌}
+use Rattle.std.specs.Prelude.{ℕ, List, Option}
 use Rattle.std.specs.Option.{option_and_then}
 use Rattle.bgp_conf.specs.Configuration.{peer_at}
 use Rattle.net_prefix.specs.declared.prefix.Prefix.{Prefix}

@@ -1,25 +1,18 @@
 -- What an input of a session makes of its slot and its routes (RFC 4271 sections 3.2 and 8.2.2).
-use Rattle.std.specs.Borrow.{Bor}
-use Rattle.std.specs.Prelude.{◌≡◌, ◌≢◌, ◌≤◌, ◌+◌, ◌||◌, ◌&&◌, ◌==◌, ℕ, Bool, true, false, List, [], Option, Some, None, if◌then◌else◌}
-use Rattle.bgp_attr.specs.declared.peer.PeerKind.{PeerKind}
+use Rattle.std.specs.Prelude.{◌≡◌, ◌≤◌, ◌+◌, ◌&&◌, ◌==◌, ℕ, Bool, List, Option, Some, None, if◌then◌else◌}
 use Rattle.bgp_conf.specs.ConfAfter.{conf_after}
 use Rattle.bgp_conf.specs.Configuration.{peer_at}
-use Rattle.bgp_conf.specs.declared.command.Command.{Command}
-use Rattle.bgp_conf.specs.declared.command.Command.TheVariants.{AddPeer, RemovePeer, Enable, Disable, SetPolicy, DropPolicy, UseIn, UseOut, Network, NoNetwork, Reach, NoReach}
+use Rattle.bgp_conf.specs.declared.command.Command.TheVariants.{RemovePeer}
 use Rattle.bgp_fsm.specs.SessionTable.{effects_of}
 use Rattle.bgp_fsm.specs.declared.input.Input.{Input}
-use Rattle.bgp_fsm.specs.declared.state.State.TheVariants.{Established}
 use Rattle.bgp_peer.specs.Slot.{pushed, handed}
 use Rattle.decision.specs.BookContents.{offer_at}
-use Rattle.bgp_msg.specs.UpdateMeaning.{UpdateBody}
-use Rattle.bgp_msg.specs.MessageStream.{Item, WholeMessage, meaning}
-use Rattle.bgp_msg.specs.declared.frame.MessageType.TheVariants.{Update}
-use Rattle.bgp_peer.specs.SessionInputs.{Terms, expected_of, kind_of, input_of}
+use Rattle.bgp_msg.specs.MessageStream.{Item}
+use Rattle.bgp_peer.specs.SessionInputs.{Terms, input_of}
 use Rattle.net_prefix.specs.declared.prefix.Prefix.{Prefix}
-use Rattle.routes.specs.Updates.{NeedsMemory, word_if}
-use Rattle.speaker.specs.AdjRibIn.{update_heard}
-use Rattle.policy.specs.declared.rule.Rule.{Rule}
-use Rattle.rib_in.specs.LatestRoutes.{RouteTable, is_route, route_at}
+use Rattle.routes.specs.Updates.{word_if}
+use Rattle.routes.specs.Heard.{update_heard}
+use Rattle.rib_in.specs.LatestRoutes.{is_route, route_at}
 use Rattle.bgp_attr.specs.PathAttributes.{originated}
 use Rattle.decision.specs.declared.candidate.TheConstants.{LOCAL_SLOT}
 use Rattle.routes.specs.Candidates.{network_at}
@@ -29,38 +22,6 @@ use Rattle.routes.specs.Linked.{Linked, moved}
 use Rattle.routes.specs.Offers.{AreKept}
 use Rattle.speaker.specs.SpeakerState.{SpeakerState, tables_of}
 use Rattle.routes.specs.Tables.{link_at}
-use Rattle.speaker.specs.declared.message.Standard.{Standard}
-
--- whether the command changes how next hops resolve
-abbrev pub resolves : Command → Bool
-resolves (AddPeer slot peer) = false
-resolves (RemovePeer slot) = false
-resolves (Enable slot) = false
-resolves (Disable slot) = false
-resolves (SetPolicy name rules) = false
-resolves (DropPolicy name) = false
-resolves (UseIn slot name) = false
-resolves (UseOut slot name) = false
-resolves (Network prefix) = false
-resolves (NoNetwork prefix) = false
-resolves (Reach prefix cost) = true
-resolves (NoReach prefix) = true
-
--- the command sets the rules of the policy of this name
-abbrev pub SetsPolicy : List ℕ → Command → Type 0
-SetsPolicy text command = (name : Bor (List ℕ)) × (rules : Bor (List Rule)) × (name.now ≡ text) × (command ≡ SetPolicy name rules)
-
--- the command drops a policy
-abbrev pub DropsPolicy : Command → Type 0
-DropsPolicy command = (name : Bor (List ℕ)) × (command ≡ DropPolicy name)
-
--- the command gives the slot's peer another import policy
-abbrev pub UsesIn : ℕ → Command → Type 0
-UsesIn slot command = (name : Bor (List ℕ)) × (command ≡ UseIn slot name)
-
--- the command gives the slot's peer another export policy
-abbrev pub UsesOut : ℕ → Command → Type 0
-UsesOut slot command = (name : Bor (List ℕ)) × (command ≡ UseOut slot name)
 
 -- the slot becomes another, and no other slot changes
 abbrev pub IsPut : ℕ → Linked → SpeakerState → SpeakerState → Type 0
@@ -130,24 +91,6 @@ pub record Moves (slot : ℕ) (l : Linked) (input : Input) (old new : SpeakerSta
   pub routes : IsDropped (effects_of input l.peer.session).left slot old new
   pub offers : AreDropped (effects_of input l.peer.session).left slot old new
   pub rest : KeepsRest old new
-
--- these terms are what the messages are judged by
-pub record AreOf (terms : Terms) (standard : Standard) : Type 0 where
-  pub expected_is : standard.expected ≡ expected_of terms
-  pub kind_is : standard.kind ≡ kind_of terms
-
--- the UPDATE, where there is one, makes this of the slot's routes, and of no other ones
-abbrev pub IsHeard : ℕ → Option UpdateBody → RouteTable → RouteTable → Type 0
-IsHeard slot update old new =
-    (s : ℕ) (prefix : Prefix) → route_at new s prefix ≡ (if s == slot then word_if update prefix (route_at old s prefix) else route_at old s prefix)
-
--- the message at the front of the slot's rest is one that memory is taken for: an UPDATE of such a peer to an Established
--- session
-pub record TakesMemoryAt (kind : PeerKind) (l : Linked) : Type 0 where
-  pub body : List ℕ
-  pub established : l.peer.session.state ≡ Established
-  pub is : meaning l.peer.rest ≡ Some (WholeMessage Update body)
-  pub needs : NeedsMemory kind body
 
 -- octets are put behind the rest of the slot, as many as this
 pub record Pushes (slot : ℕ) (l : Linked) (octets : List ℕ) (old new : SpeakerState) : Type 0 where

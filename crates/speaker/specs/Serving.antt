@@ -1,6 +1,5 @@
 -- What waits of each prefix for each peer: what it is owed, so that it holds its export (our own, for RFC 4271 section 9.2).
-use Rattle.std.specs.Prelude.{◌≡◌, ◌≢◌, ◌<◌, ◌⊎◌, ℕ, Bool, List, [], Option, Some, None, false, if◌then◌else◌, ◌≤◌, ◌+◌, length, MatchOption}
-use Rattle.std.specs.Option.{IsSome}
+use Rattle.std.specs.Prelude.{◌≡◌, ◌≢◌, ◌<◌, ℕ, Bool, List, Option, Some, None, false, ◌≤◌, length}
 use Rattle.bgp_conf.specs.Configuration.{peer_at}
 use Rattle.bgp_conf.specs.declared.conf.ConfiguredPeer.{ConfiguredPeer}
 use Rattle.bgp_fsm.specs.StateTests.{is_established}
@@ -10,8 +9,6 @@ use Rattle.rib_out.specs.Held.{held_at}
 use Rattle.routes.specs.Linked.{Linked}
 use Rattle.speaker.specs.SpeakerState.{SpeakerState}
 use Rattle.routes.specs.Tables.{link_at}
-use Rattle.std.specs.Ordering.{is_gt}
-use Rattle.net_prefix.specs.PrefixOrder.{prefix_cmp, IsAbove}
 use Rattle.speaker.specs.Agreement.{QueuesOn}
 use Rattle.speaker.specs.Export.{export_to}
 use Rattle.speaker.specs.Moves.{IsPut}
@@ -109,9 +106,3 @@ IsGone export q held = export q ≡ None → held ≡ None
 -- what is exported is held just so
 abbrev pub IsHad : (Prefix → Option (List ℕ)) → Prefix → Option (List ℕ) → Type 0
 IsHad export q held = (octets : List ℕ) → export q ≡ Some octets → held ≡ Some octets
-
--- the least prefix above the given one to which there is something, if there is one
-abbrev pub IsNext : {X : Type 0} → (Prefix → Option X) → Option Prefix → Option Prefix → Type 0
-IsNext there after found =
-    MatchOption found ((q : Prefix) → IsAbove after q → there q ≡ None)
-    (λ p. IsSome (there p) × IsAbove after p × ((q : Prefix) → IsAbove after q → IsSome (there q) → is_gt (prefix_cmp p q) ≡ false))

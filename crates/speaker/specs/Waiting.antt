@@ -1,5 +1,5 @@
 -- The prefixes that wait: a peer doesn't hold of them just what is exported to it (RFC 4271 sections 3.2 and 9.2).
-use Rattle.std.specs.Prelude.{◌≡◌, ◌≢◌, ℕ, List, [], ◌∷◌, Option, Some, if◌then◌else◌}
+use Rattle.std.specs.Prelude.{◌≡◌, ◌≢◌, ℕ, List, Option, Some}
 use Rattle.std.specs.Option.{option_map}
 use Rattle.bgp_conf.specs.Configuration.{peer_at}
 use Rattle.bgp_conf.specs.declared.conf.ConfiguredPeer.{ConfiguredPeer}

@@ -17,7 +17,6 @@ ghost use Rattle.vrp_delta.specs.Delta.{change_between};
 use crate::step::Speaker;
 use decision::Book;
 use net_prefix::Transport;
-use routes::choose_touched;
 use rtr_session::CacheSession;
 use std::alloc::{AllocError, Allocator};
 
@@ -32,7 +31,7 @@ impl<A: Allocator + Clone, B: Book<A>> Speaker<A, B> {
         let Some(session) = &mut self.cache else {
             return;
         };
-        session.up(self.moment, &mut self.payloads);
+        session.up(self.moment, self.routes.payloads_mut());
         self.choose_touched();
     }
 
@@ -46,7 +45,7 @@ impl<A: Allocator + Clone, B: Book<A>> Speaker<A, B> {
         let Some(session) = &mut self.cache else {
             return;
         };
-        session.fail(self.moment, &mut self.payloads);
+        session.fail(self.moment, self.routes.payloads_mut());
         self.choose_touched();
     }
 
@@ -62,7 +61,7 @@ impl<A: Allocator + Clone, B: Book<A>> Speaker<A, B> {
         let Some(session) = &mut self.cache else {
             return false;
         };
-        let opened = session.tick(now, &mut self.payloads);
+        let opened = session.tick(now, self.routes.payloads_mut());
         self.choose_touched();
         opened
     }
@@ -106,7 +105,7 @@ impl<A: Allocator + Clone, B: Book<A>> Speaker<A, B> {
         let Transport::Open = session.transport() else {
             return (octets.len(), false);
         };
-        let heard = session.hear_next(octets, self.moment, &mut self.payloads);
+        let heard = session.hear_next(octets, self.moment, self.routes.payloads_mut());
         self.choose_touched();
         (heard.count, heard.starved)
     }
@@ -118,13 +117,7 @@ impl<A: Allocator + Clone, B: Book<A>> Speaker<A, B> {
         ensures rises { self.old.chosen ≤ self.new.chosen }
     {
         if let Some(session) = &self.cache {
-            choose_touched(
-                &self.conf,
-                &self.payloads,
-                &self.links,
-                &mut self.routing,
-                session.changed(),
-            );
+            self.routes.payloads_changed(session.changed());
         }
     }
 

@@ -1,7 +1,5 @@
 //! What commands do to the tables.
-ghost use Rattle.std.specs.Prelude.{◌≡◌, ◌≤◌, ℕ, true, false, [], ◌∷◌, IfOk, OnOk, OnErr, IsSome, ◌<◌, ◌^◌, None, Some, if◌then◌else◌};
-ghost use Rattle.std.specs.Ordering.{nat_cmp};
-ghost use Rattle.std.specs.BTreeMap.{is_at};
+ghost use Rattle.std.specs.Prelude.{◌≡◌, ◌≤◌, true, false, [], ◌∷◌, IfOk, OnOk, OnErr, IsSome, ◌<◌, ◌^◌, None, Some, if◌then◌else◌};
 ghost use Rattle.bgp_conf.specs.ConfAfter.{TakesMemory};
 ghost use Rattle.bgp_conf.specs.FirstRefusal.{IsAccepted, first_refusal};
 ghost use Rattle.bgp_conf.specs.Configuration.{peer_at};
@@ -13,7 +11,8 @@ ghost use Rattle.bgp_fsm.specs.SessionTable.{effects_of};
 ghost use Rattle.bgp_fsm.specs.declared.input.Input.TheVariants.{Start};
 ghost use Rattle.speaker.specs.Chosen.{Chooses};
 ghost use Rattle.routes.specs.Linked.{Linked};
-ghost use Rattle.speaker.specs.Moves.{Announces, DropsPolicy, Forgets, Moves, SetsPolicy, UsesIn, UsesOut, resolves};
+ghost use Rattle.routes.specs.Commands.{DropsPolicy, SetsPolicy, UsesIn, UsesOut, resolves};
+ghost use Rattle.speaker.specs.Moves.{Forgets, Moves};
 ghost use Rattle.speaker.specs.Runs.{Run, turn, Command_call, opened_commanded};
 ghost use Rattle.speaker.specs.Agreement.{Holds};
 ghost use Rattle.speaker.specs.declared.config.Config.{Config as TheConfig};
@@ -21,16 +20,12 @@ ghost use Rattle.routes.specs.Tables.{link_at};
 
 use crate::event::only;
 use crate::step::Speaker;
-use bgp_attr::Attrs;
 use bgp_conf::{Command, PeerConf};
 use bgp_fsm::Input;
 use bgp_msg::OwnOpen;
-use decision::{Book, LOCAL_SLOT};
+use decision::Book;
 use net_prefix::Prefix;
-use routes::{Link, choose_again, choose_slot, judge_network};
 use std::alloc::{AllocError, Allocator};
-use std::collections::BTreeMap;
-use std::rc::Rc;
 
 impl<A: Allocator + Clone, B: Book<A>> Speaker<A, B> {
     ghost use Rattle.speaker.specs.SpeakerState.{IsAsBefore};
@@ -99,37 +94,10 @@ impl<A: Allocator + Clone, B: Book<A>> Speaker<A, B> {
         ensures counted { OnOk result (self.new.chosen_before ≡ self.old.chosen) }
         ensures rises { OnOk result (self.old.chosen ≤ self.new.chosen) }
     {
-        let is_there = self.conf.is_network(prefix);
-        self.conf.apply(command)?;
-        if is_there {
-            self.begin_count();
-            return Ok(0);
-        }
-        if self.announce_network(prefix).is_err() {
-            let _takes_no_memory = self.conf.apply(&Command::NoNetwork(prefix));
-            return Err(AllocError);
-        }
-        Ok(0)
-    }
-
-    // The route of a local network comes, with the candidate that it makes.
-    fn announce_network(&mut self, prefix: Prefix) -> Result<(), AllocError>
-        ensures ok { OnOk result (Announces prefix self.old self.new) }
-        ensures err { OnErr result (IsAsBefore self.old self.new) }
-    {
-        let attrs = Rc::new(self.alloc.clone()?, Attrs::originated(self.alloc.clone()?))?;
-        let network = judge_network(self.conf.own(), &self.payloads, prefix, &attrs);
-        let before = self.routing.chosen();
-        self.routing.announce(
-            &self.conf,
-            &self.links,
-            LOCAL_SLOT,
-            prefix,
-            attrs,
-            Some(network),
-        )?;
+        let before = self.routes.chosen();
+        self.routes.originate(&self.alloc, command, prefix)?;
         self.chosen_before = before;
-        Ok(())
+        Ok(0)
     }
 
     // A prefix is no local network any more.
@@ -141,9 +109,7 @@ impl<A: Allocator + Clone, B: Book<A>> Speaker<A, B> {
         ensures counted { self.new.chosen_before ≡ self.old.chosen_before }
         ensures rises { self.old.chosen ≤ self.new.chosen }
     {
-        let _takes_no_memory = self.conf.apply(command);
-        self.routing
-            .withdraw(&self.conf, &self.links, LOCAL_SLOT, prefix);
+        self.routes.retract(command, prefix);
     }
 
     // A policy that no peer uses is dropped.
@@ -155,7 +121,7 @@ impl<A: Allocator + Clone, B: Book<A>> Speaker<A, B> {
         ensures counted { self.new.chosen_before ≡ self.old.chosen_before }
         ensures rises { self.old.chosen ≤ self.new.chosen }
     {
-        let _takes_no_memory = self.conf.apply(command);
+        self.routes.drop_policy(command);
     }
 
     // A peer has another import policy: the candidates of its routes are made again.
@@ -167,17 +133,10 @@ impl<A: Allocator + Clone, B: Book<A>> Speaker<A, B> {
         ensures counted { self.new.chosen_before ≡ self.old.chosen_before }
         ensures rises { self.old.chosen ≤ self.new.chosen }
     {
-        let _takes_no_memory = self.conf.apply(command);
-        choose_slot(
-            &self.conf,
-            &self.payloads,
-            &self.links,
-            &mut self.routing,
-            slot,
-        );
+        self.routes.use_in(command, slot);
     }
 
-    // A peer has another export policy: what it is owed is marked again.
+    // A peer has another export policy: what it is owed is another.
     fn use_out(&mut self, command: &Command<'_>, slot: u8)
         requires accepted { first_refusal self.old.conf (closing_for (tables_of self.old) command.now) command.now ≡ None }
         requires uses { UsesOut slot command.now }
@@ -186,12 +145,11 @@ impl<A: Allocator + Clone, B: Book<A>> Speaker<A, B> {
         ensures counted { self.new.chosen_before ≡ self.old.chosen_before }
         ensures rises { self.old.chosen ≤ self.new.chosen }
     {
-        let _takes_no_memory = self.conf.apply(command);
-        self.routing.mark_slot(&self.conf, &self.links, slot);
+        self.routes.use_out(command, slot);
     }
 
-    // A policy has other rules: what those peers are owed that are told routes by it is marked again, and the candidates of
-    // all routes are made again.
+    // A policy has other rules: those peers that are told routes by it are owed others, and the candidates of all routes are
+    // made again.
     fn set_policy(&mut self, command: &Command<'_>, name: &str) -> Result<u64, AllocError>
         requires accepted { first_refusal self.old.conf (closing_for (tables_of self.old) command.now) command.now ≡ None }
         requires sets { SetsPolicy name.now command.now }
@@ -202,10 +160,9 @@ impl<A: Allocator + Clone, B: Book<A>> Speaker<A, B> {
         ensures counted { OnOk result (self.new.chosen_before ≡ self.old.chosen) }
         ensures rises { OnOk result (self.old.chosen ≤ self.new.chosen) }
     {
-        self.conf.apply(command)?;
-        self.chosen_before = self.routing.chosen();
-        self.routing.mark_exporters(&self.conf, &self.links, name);
-        choose_again(&self.conf, &self.payloads, &self.links, &mut self.routing);
+        let before = self.routes.chosen();
+        self.routes.set_policy(command, name)?;
+        self.chosen_before = before;
         Ok(0)
     }
 
@@ -220,9 +177,9 @@ impl<A: Allocator + Clone, B: Book<A>> Speaker<A, B> {
         ensures counted { OnOk result (self.new.chosen_before ≡ self.old.chosen) }
         ensures rises { OnOk result (self.old.chosen ≤ self.new.chosen) }
     {
-        self.conf.apply(command)?;
-        self.chosen_before = self.routing.chosen();
-        choose_again(&self.conf, &self.payloads, &self.links, &mut self.routing);
+        let before = self.routes.chosen();
+        self.routes.resolve(command)?;
+        self.chosen_before = before;
         Ok(0)
     }
 
@@ -265,8 +222,7 @@ impl<A: Allocator + Clone, B: Book<A>> Speaker<A, B> {
         ensures forgets { Forgets slot self.old self.new }
         ensures rises { self.old.chosen ≤ self.new.chosen }
     {
-        self.routing.drop_slot(&self.conf, &self.links, slot);
-        let _takes_no_memory = self.conf.apply(command);
+        self.routes.remove_peer(command, slot);
     }
 
     fn add_peer(
@@ -289,36 +245,8 @@ impl<A: Allocator + Clone, B: Book<A>> Speaker<A, B> {
             identifier: self.config.identifier,
             multiprotocol: self.config.multiprotocol,
         };
-        let link = Link::new(self.alloc.clone()?, own, conf.mode)?;
-        let before = self.links.insert(slot, link)?;
-        match self.conf.apply(command) {
-            Ok(()) => {
-                self.begin_count();
-                Ok(0)
-            }
-            Err(refused) => {
-                put_back(&mut self.links, slot, before);
-                Err(refused)
-            }
-        }
-    }
-}
-
-// Makes a slot what it was before it was written.
-fn put_back<A: Allocator + Clone>(
-    links: &mut BTreeMap<u8, Link<A>, A>,
-    slot: u8,
-    before: Option<Link<A>>,
-)
-    requires { IsSome (link_at links.old.entries slot) }
-    ensures { (s : ℕ) → link_at links.new.entries s ≡ (if is_at (nat_cmp slot) s then before else link_at links.old.entries s) }
-{
-    match before {
-        Some(link) => {
-            let _there = links.insert(slot, link);
-        }
-        None => {
-            links.remove(&slot);
-        }
+        self.routes.add_peer(&self.alloc, command, slot, conf, own)?;
+        self.begin_count();
+        Ok(0)
     }
 }

@@ -5,23 +5,21 @@
 //! hands a peer's octets out. There is no clock and no socket in here: a list of calls is all that happens, and a timer
 //! ends when a moment is handed in.
 //!
-//! **Parts.** A `Link` for each slot (its session with unread rest and ring, a bgp_peer `Peer`, and what its peer was
-//! sent), the session with a cache (rtr_session) with the payloads in force by prefix, the configuration (bgp_conf), and
-//! the routes (`Routing` of routes: Adj-RIB-In, candidates, best routes, what waits for whom).
+//! **Parts.** `Routes` of routes (configuration, payloads by prefix, each slot's session with what its peer was sent, the
+//! routes with Loc-RIB, and what each peer is owed), the session with a cache (rtr_session), and a moment.
 //!
 //! **The way of an event.** `step` asks for its first refusal (`check`); one that is refused changes nothing. Then, by
-//! what it is: octets are cut into messages and each is taken whole (`hear`, `take_message`; what a message is to the session
-//! is said by `take_front`, which also has the routes of an UPDATE taken); a session takes an input (`input`), and where it
-//! enters or leaves Established the routes follow (`follow`); what comes to the cache session changes payloads, and the
-//! routes that they concern are judged again (`choose_touched`); a command changes the configuration and what depends on it
-//! (`obey`). At the end of each call the peers are queued what they are owed, slot by slot in rising order
-//! (`queue_updates`); where memory is refused to that, the slot's session is closed and the pass begins again.
+//! what it is: octets are cut into messages and each is taken whole (`hear`, `take_message`: what it is to the session, and
+//! what its UPDATE makes of the routes, is said by `Routes::judge_front`); a session takes an input, and its routes follow
+//! (`input`); what comes to the cache session changes payloads, and the routes that they concern are judged again
+//! (`choose_touched`); a command changes the tables (`obey`). At the end of each call the peers are queued what they are
+//! owed, slot by slot in rising order (`queue_updates`); where memory is refused to that, the slot's session is closed and
+//! the pass begins again.
 //!
-//! **What holds when.** Between calls and in their midst: no two peers have one address, each candidate has its own peer's,
-//! of each prefix there waits for each slot just what its peer is owed, and routes are judged by the payloads that the
-//! cache session has in force (the type's invariant). After each thing that happens in a call: all is as the run with what
-//! the call has done so far leaves it (`Holds`). After the call: Loc-RIB is the selection, and where a ring has room its
-//! peer holds its export (`Agrees`).
+//! **What holds when.** Between calls and in their midst: routes are judged by the payloads that the cache session has in
+//! force (the type's invariant; that of `Routes` has the rest). After each thing that happens in a call: all is as the run
+//! with what the call has done so far leaves it (`Holds`). After the call: Loc-RIB is the selection, and where a ring has
+//! room its peer holds its export (`Agrees`).
 //!
 //! To read first: the definitions `Runs` (calls and histories), `Agreement` (what is promised of them), then `step` and
 //! `queue`.
@@ -32,7 +30,6 @@ mod config;
 mod configuration;
 mod event;
 mod laws;
-mod message;
 mod queue;
 mod runs;
 mod sessions;

@@ -1,5 +1,5 @@
 //! What the peers are owed: the UPDATEs that make what each was sent its export of Loc-RIB.
-ghost use Rattle.std.specs.Prelude.{◌≡◌, ◌≢◌, ◌≤◌, ◌<◌, ◌+◌, ◌^◌, ◌==◌, ◌↔◌, ℕ, false, Some, None, OnOk, OnErr, IfSome, IfNone, IsTrue, length, if◌then◌else◌};
+ghost use Rattle.std.specs.Prelude.{◌≡◌, ◌≢◌, ◌≤◌, ◌<◌, ◌+◌, ◌==◌, ◌↔◌, ℕ, false, Some, None, OnOk, OnErr, IfSome, IfNone, IsTrue, length, if◌then◌else◌};
 ghost use Rattle.std.specs.Bool.{OnTrue};
 ghost use Rattle.std.specs.Option.{IsSome, option_map};
 ghost use Rattle.bgp_conf.specs.Configuration.{peer_at};
@@ -10,8 +10,8 @@ ghost use Rattle.speaker.specs.Agreement.{QueuesAll, QueuesOn, QueuesStarved};
 ghost use Rattle.routes.specs.Export.{export_peer_of};
 ghost use Rattle.speaker.specs.Export.{export_to};
 ghost use Rattle.routes.specs.Linked.{Linked};
-ghost use Rattle.speaker.specs.Serving.{AreServedBelow, IsServedBy, IsServedAt, IsShortAt, IsUpAt, HasRoomAt, IsOfSlot, IsStill, IsToldAt, Serves, Stand, IsDoneAt, IsGone, IsHad, IsNext, is_standing};
-ghost use Rattle.routes.specs.Marks.{announced_of, withdrawn_of};
+ghost use Rattle.speaker.specs.Serving.{AreServedBelow, IsServedBy, IsServedAt, IsShortAt, IsUpAt, HasRoomAt, IsOfSlot, IsStill, IsToldAt, Serves, Stand, IsDoneAt, IsGone, IsHad, is_standing};
+ghost use Rattle.routes.specs.Owing.{IsNext, announced_of, withdrawn_of};
 ghost use Rattle.routes.specs.Told.{HasRoom};
 ghost use Rattle.routes.specs.Tables.{link_at};
 
@@ -22,8 +22,7 @@ use bgp_peer::ROOM_FOR_UPDATE;
 use decision::Book;
 use export_rules::ExportPeer;
 use net_prefix::Prefix;
-use rib_out::Owed;
-use routes::{Octets, announce, export, export_peer, place, slots_end, withdraw};
+use routes::{Octets, place};
 use std::alloc::{AllocError, Allocator};
 
 impl<A: Allocator + Clone, B: Book<A>> Speaker<A, B> {
@@ -56,7 +55,7 @@ impl<A: Allocator + Clone, B: Book<A>> Speaker<A, B> {
         ensures counted { self.new.chosen_before ≡ self.old.chosen_before }
         ensures rises { self.old.chosen ≤ self.new.chosen }
     {
-        for slot in 0..slots_end(&self.links) {
+        for slot in 0..self.routes.slots_end() {
             if self.serve_slot(slot, octets, message).is_err() {
                 return Some(slot);
             }
@@ -73,7 +72,7 @@ impl<A: Allocator + Clone, B: Book<A>> Speaker<A, B> {
         ensures rises { self.old.chosen ≤ self.new.chosen }
     {
         self.input(slot, Input::NoMemory);
-        self.routing.ribs().is_chosen();
+        self.routes.is_chosen();
     }
 
     // Queues what a slot's peer is owed, withdrawals before announcements and each in rising order, while its
@@ -92,7 +91,7 @@ impl<A: Allocator + Clone, B: Book<A>> Speaker<A, B> {
         ensures served { OnOk result (IsServedAt self.new slot) }
         ensures short { OnErr result (IsShortAt self.new slot) }
     {
-        let Some(peer) = export_peer(&self.conf, slot) else {
+        let Some(peer) = self.routes.export_peer(slot) else {
             return Ok(());
         };
         if !self.is_up(slot) {
@@ -145,7 +144,7 @@ impl<A: Allocator + Clone, B: Book<A>> Speaker<A, B> {
             if !self.has_room(slot) {
                 return Ok(());
             }
-            if export(&self.conf, self.routing.ribs(), peer, prefix, octets) {
+            if self.routes.export(peer, prefix, octets) {
                 self.announce_at(slot, prefix, octets, message)?;
             }
             // Places rise, so the walk ends.
@@ -159,8 +158,8 @@ impl<A: Allocator + Clone, B: Book<A>> Speaker<A, B> {
         ensures up { OnTrue result (IsUpAt self.now slot) }
         ensures down { result ≡ false → (l : Linked) → link_at self.now.links slot ≡ Some l → l.peer.session.state ≢ Established }
     {
-        match self.links.get(&slot) {
-            Some(link) => link.is_established(),
+        match self.routes.link(slot) {
+            Some(found) => found.is_established(),
             None => false,
         }
     }
@@ -168,8 +167,8 @@ impl<A: Allocator + Clone, B: Book<A>> Speaker<A, B> {
     fn has_room(&self, slot: u8) -> bool
         ensures { (l : Linked) → link_at self.now.links slot ≡ Some l → IsTrue result ↔ HasRoom l }
     {
-        match self.links.get(&slot) {
-            Some(link) => link.peer.free() >= ROOM_FOR_UPDATE,
+        match self.routes.link(slot) {
+            Some(found) => found.peer.free() >= ROOM_FOR_UPDATE,
             None => false,
         }
     }
@@ -179,7 +178,7 @@ impl<A: Allocator + Clone, B: Book<A>> Speaker<A, B> {
         requires { slot < 64 }
         ensures { (l : Linked) → IsServedBy self.now slot l → IsNext (λ q. withdrawn_of (export_to self.now slot q) (held_at l.adj_out q)) after result }
     {
-        self.routing.next(slot, Owed::Withdrawal, after)
+        self.routes.withdrawal_after(slot, after)
     }
 
     // The least prefix above the given one, or of all, that is exported to an Established peer and that it doesn't
@@ -188,7 +187,7 @@ impl<A: Allocator + Clone, B: Book<A>> Speaker<A, B> {
         requires { slot < 64 }
         ensures { (l : Linked) → IsServedBy self.now slot l → IsNext (λ q. announced_of (export_to self.now slot q) (held_at l.adj_out q)) after result }
     {
-        self.routing.next(slot, Owed::Announcement, after)
+        self.routes.announcement_after(slot, after)
     }
 
     fn withdraw_at(&mut self, slot: u8, prefix: Prefix, message: &mut Octets)
@@ -200,11 +199,7 @@ impl<A: Allocator + Clone, B: Book<A>> Speaker<A, B> {
         requires peer { IsSome (peer_at self.old.conf slot) }
         ensures { IsToldAt slot prefix None self.old self.new }
     {
-        let Some(link) = self.links.get_mut(&slot) else {
-            return;
-        };
-        withdraw(link, prefix, message);
-        self.routing.told(slot, prefix);
+        self.routes.tell_withdrawal(slot, prefix, message);
     }
 
     fn announce_at(
@@ -222,11 +217,6 @@ impl<A: Allocator + Clone, B: Book<A>> Speaker<A, B> {
         ensures told { OnOk result (IsToldAt slot prefix (Some octets.now.items) self.old self.new) }
         ensures err { OnErr result (IsStill self.old self.new) }
     {
-        let Some(link) = self.links.get_mut(&slot) else {
-            return Ok(());
-        };
-        announce(link, &mut self.recent, prefix, octets, message)?;
-        self.routing.told(slot, prefix);
-        Ok(())
+        self.routes.tell_announcement(slot, prefix, octets, message)
     }
 }

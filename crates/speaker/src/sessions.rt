@@ -1,20 +1,16 @@
 //! What happens to one slot: its operator enables it, its connection stands or fails, octets come.
 ghost use Rattle.std.specs.Option.{IsSome};
-ghost use Rattle.std.specs.Prelude.{◌≡◌, ◌≢◌, ◌≤◌, ◌<◌, ℕ, [], ◌∷◌, length, take, OnOk, OnErr, IfOk, ◌&&◌, ◌==◌, None, Some, if◌then◌else◌, true, false};
+ghost use Rattle.std.specs.Prelude.{◌≡◌, ◌≢◌, ◌≤◌, ◌<◌, [], ◌∷◌, length, take, OnOk, OnErr, IfOk, ◌&&◌, ◌==◌, None, Some, true, false};
 ghost use Rattle.bgp_conf.specs.Configuration.{peer_at};
 ghost use Rattle.bgp_conf.specs.declared.conf.ConfiguredPeer.{ConfiguredPeer as ThePeer};
 ghost use Rattle.bgp_fsm.specs.SessionTable.{effects_of};
 ghost use Rattle.bgp_fsm.specs.declared.input.Input.TheVariants.{NoMemory};
-ghost use Rattle.net_prefix.specs.declared.prefix.Prefix.{Prefix as ThePrefix};
-ghost use Rattle.decision.specs.BookContents.{offer_at};
-ghost use Rattle.rib_in.specs.LatestRoutes.{route_at};
 ghost use Rattle.bgp_msg.specs.MessageStream.{meaning};
 ghost use Rattle.bgp_msg.specs.UpdateMeaning.{update_fault};
 ghost use Rattle.routes.specs.Updates.{sound_update};
 ghost use Rattle.speaker.specs.Chosen.{Chooses, ChoosesRefused};
-ghost use Rattle.routes.specs.Chosen.{Ends};
-ghost use Rattle.routes.specs.Marks.{AreMarked, IsFollowed};
-ghost use Rattle.speaker.specs.Moves.{Moves, Pushes, TakesMemoryAt, TakesItem, IsWithout};
+ghost use Rattle.routes.specs.Heard.{TakesMemoryAt};
+ghost use Rattle.speaker.specs.Moves.{Moves, Pushes, TakesItem, IsWithout};
 ghost use Rattle.routes.specs.Linked.{taken_of, Linked};
 ghost use Rattle.bgp_peer.specs.SessionInputs.{kind_of};
 ghost use Rattle.speaker.specs.Runs.{terms_in, Run, Fail_call, turn};
@@ -23,15 +19,13 @@ ghost use Rattle.routes.specs.Tables.{link_at, session_at};
 ghost use Rattle.speaker.specs.FirstRefusal.{closes};
 ghost use Rattle.speaker.specs.declared.config.Config.{Config as TheConfig};
 
-use crate::message::{Standard, take_front};
 use crate::step::Speaker;
 use arrayvec::ArrayVec;
 use bgp_attr::PeerKind;
-use bgp_conf::Conf;
-use bgp_fsm::{Effects, Input};
+use bgp_fsm::Input;
 use bgp_msg::Expected;
 use decision::Book;
-use routes::{Links, Octets, Routing, Sender};
+use routes::{Octets, Standard};
 use std::alloc::{AllocError, Allocator};
 
 impl<A: Allocator + Clone, B: Book<A>> Speaker<A, B> {
@@ -45,12 +39,7 @@ impl<A: Allocator + Clone, B: Book<A>> Speaker<A, B> {
         ensures counted { self.new.chosen_before ≡ self.old.chosen_before }
         ensures rises { self.old.chosen ≤ self.new.chosen }
     {
-        let Some(link) = self.links.get_mut(&slot) else {
-            return false;
-        };
-        let effects = link.input(input, self.moment);
-        follow(&self.conf, &self.links, &mut self.routing, slot, &effects);
-        effects.opened
+        self.routes.input(slot, input, self.moment)
     }
 
     /// The slot's connection, or its attempt at one, has failed. A slot without a peer is let go.
@@ -72,9 +61,13 @@ impl<A: Allocator + Clone, B: Book<A>> Speaker<A, B> {
         ensures counted { self.new.chosen_before ≡ self.old.chosen_before }
         ensures chosen { self.new.chosen ≡ self.old.chosen }
     {
-        if self.conf.peer(slot).is_none() && !self.is_closing(slot) {
-            self.links.remove(&slot);
+        if self.routes.conf().peer(slot).is_some() {
+            return;
         }
+        if self.is_closing(slot) {
+            return;
+        }
+        self.routes.let_go(slot);
     }
 
     // Takes octets that come, message by message. What comes after the session has closed is dropped. Where memory is
@@ -130,10 +123,7 @@ impl<A: Allocator + Clone, B: Book<A>> Speaker<A, B> {
         ensures counted { self.new.chosen_before ≡ self.old.chosen_before }
         ensures rises { self.old.chosen ≤ self.new.chosen }
     {
-        let Some(link) = self.links.get_mut(&slot) else {
-            return 0;
-        };
-        link.push(octets)
+        self.routes.push(slot, octets)
     }
 
     // Takes the message at the front of the slot's rest, if it is whole or its header is faulty. Where memory is refused
@@ -147,36 +137,18 @@ impl<A: Allocator + Clone, B: Book<A>> Speaker<A, B> {
         ensures rises { self.old.chosen ≤ self.new.chosen }
         ensures within { OnErr result (slot < 64) }
     {
-        let Some(peer) = self.conf.peer(slot) else {
+        let Some(peer) = self.routes.conf().peer(slot) else {
             return Ok(());
-        };
-        let expected = Expected {
-            peer_asn: peer.asn,
-            own_asn: self.config.asn,
-            own_identifier: self.config.identifier,
-        };
-        let Some(link) = self.links.get(&slot) else {
-            return Ok(());
-        };
-        let sender = Sender {
-            slot,
-            identifier: link.peer.identifier(),
         };
         let standard = Standard {
             kind: PeerKind::between(self.config.asn, peer.asn),
-            expected,
+            expected: Expected {
+                peer_asn: peer.asn,
+                own_asn: self.config.asn,
+                own_identifier: self.config.identifier,
+            },
         };
-        let heard = match take_front(
-            &self.alloc,
-            &self.conf,
-            &self.payloads,
-            &self.links,
-            &mut self.routing,
-            sender,
-            standard,
-            link,
-            room,
-        ) {
+        let heard = match self.routes.judge_front(&self.alloc, slot, standard, room) {
             Ok(heard) => heard,
             Err(refused) => {
                 self.input(slot, Input::NoMemory);
@@ -187,31 +159,5 @@ impl<A: Allocator + Clone, B: Book<A>> Speaker<A, B> {
             self.input(slot, input);
         }
         Ok(())
-    }
-}
-
-// Leaving Established removes all routes of the session, with the candidates that they make, and nothing waits for its
-// peer any more. Entering it, the peer waits for all that is exported to it.
-fn follow<A: Allocator + Clone, B: Book<A>>(
-    conf: &Conf<A>,
-    links: &Links<A>,
-    routing: &mut Routing<A, B>,
-    slot: u8,
-    effects: &Effects<'_>,
-)
-    requires { IsFollowed conf.now links.now.entries slot effects.now routing.old }
-    ensures marked { AreMarked conf.now links.now.entries routing.new }
-    ensures routes { (s : ℕ) (prefix : ThePrefix) → route_at routing.new.adj_in s prefix ≡ (if effects.now.left && s == slot then None else route_at routing.old.adj_in s prefix) }
-    ensures offers { (s : ℕ) (prefix : ThePrefix) → offer_at routing.new.book s prefix ≡ (if effects.now.left && s == slot then None else offer_at routing.old.book s prefix) }
-    ensures chosen { effects.now.left ≡ true → Ends slot routing.old.adj_in routing.old.chosen routing.new.chosen }
-    ensures stays { effects.now.left ≡ false → routing.new.chosen ≡ routing.old.chosen }
-    ensures rises { routing.old.chosen ≤ routing.new.chosen }
-{
-    if effects.left {
-        routing.clear(slot);
-        routing.drop_slot(conf, links, slot);
-    } else if effects.entered {
-        routing.clear(slot);
-        routing.enter(conf, links, slot);
     }
 }

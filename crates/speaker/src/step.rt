@@ -14,17 +14,14 @@ ghost use Rattle.speaker.specs.Queueing.{Queue, starved_in};
 use crate::cache_session::session_for;
 use crate::config::Config;
 use crate::event::{Event, Report, only};
-use bgp_conf::{Command, Conf, PEER_SLOTS, Refusal};
+use bgp_conf::{Command, PEER_SLOTS, Refusal};
 use bgp_fsm::Input;
 use decision::Book;
 use live_book::LiveBook;
 use net_prefix::{Asn, Transport};
-use origin_valid::PayloadTrie;
-use rib_out::RecentOctets;
-use routes::{Link, Routing};
+use routes::Routes;
 use rtr_session::CacheSession;
 use std::alloc::{AllocError, Allocator, Global};
-use std::collections::BTreeMap;
 use std::marker::Model;
 
 /// A BGP speaker (RFC 4271): its peers' sessions, Adj-RIB-In, Loc-RIB and what each peer was sent.
@@ -32,14 +29,8 @@ use std::marker::Model;
 pub struct Speaker<A: Allocator + Clone = Global, B: Book<A> = LiveBook<A>> {
     pub(crate) alloc: A,
     pub(crate) config: Config,
-    pub(crate) conf: Conf<A>,
     pub(crate) cache: Option<CacheSession<A>>,
-    // The payloads in force.
-    pub(crate) payloads: PayloadTrie<A>,
-    pub(crate) links: BTreeMap<u8, Link<A>, A>,
-    pub(crate) routing: Routing<A, B>,
-    // What was announced lately, for peers to share.
-    pub(crate) recent: RecentOctets<A>,
+    pub(crate) routes: Routes<A, B>,
     // The moment of the last tick.
     pub(crate) moment: u64,
     // How often a best route was chosen before the last `step` or `take` that wasn't refused.
@@ -47,9 +38,7 @@ pub struct Speaker<A: Allocator + Clone = Global, B: Book<A> = LiveBook<A>> {
 }
 
 impl<A: Allocator + Clone, B: Book<A>> Model for Speaker<A, B> {
-    ghost use Rattle.decision.specs.BookContents.{offer_at, rows_of};
-    ghost use Rattle.routes.specs.Marks.{AreMarked};
-    ghost use Rattle.routes.specs.Offers.{IsSound};
+    ghost use Rattle.decision.specs.BookContents.{rows_of};
     ghost use Rattle.std.specs.Prelude.{◌≡◌};
     ghost use Rattle.speaker.specs.SpeakerState.{SpeakerState, payloads_in};
 
@@ -58,19 +47,19 @@ impl<A: Allocator + Clone, B: Book<A>> Model for Speaker<A, B> {
     ghost view = { λ s. record {
       config = s.config;
       moment = s.moment;
-      conf = s.conf;
+      conf = s.routes.conf;
       cache = s.cache;
-      payloads = s.payloads;
-      links = s.links.entries;
-      adj_in = s.routing.adj_in;
-      book = s.routing.book;
-      loc_rib = rows_of s.routing.book;
-      chosen = s.routing.chosen;
+      payloads = s.routes.payloads;
+      links = s.routes.links;
+      adj_in = s.routes.adj_in;
+      book = s.routes.book;
+      loc_rib = rows_of s.routes.book;
+      chosen = s.routes.chosen;
       chosen_before = s.chosen_before;
     } };
 
-    // The payloads by prefix are those in force.
-    ghost invariant = { λ s. IsSound s.conf (offer_at s.routing.book) × AreMarked s.conf s.links.entries s.routing × (s.payloads ≡ payloads_in s.cache) };
+    // Routes are judged by the payloads in force.
+    ghost invariant = { λ s. s.routes.payloads ≡ payloads_in s.cache };
 }
 
 impl<A: Allocator + Clone + Copy, B: Book<A>> Speaker<A, B> {
@@ -97,19 +86,13 @@ impl<A: Allocator + Clone + Copy, B: Book<A>> Speaker<A, B> {
     fn empty(alloc: A, config: Config) -> Result<Self, AllocError>
         ensures { IfOk result (λ s. s ≡ started config) }
     {
-        let recent = RecentOctets::new(alloc)?;
         let cache = session_for(alloc, config.cache)?;
-        let conf = Conf::new(alloc, config.asn)?;
-        let routing = Routing::new(alloc)?;
+        let routes = Routes::new(alloc, config.asn)?;
         Ok(Speaker {
             alloc,
             config,
-            conf,
             cache,
-            payloads: PayloadTrie::new(alloc),
-            links: BTreeMap::new(alloc),
-            routing,
-            recent,
+            routes,
             moment: 0,
             chosen_before: 0,
         })
@@ -205,7 +188,7 @@ impl<A: Allocator + Clone, B: Book<A>> Speaker<A, B> {
     pub(crate) fn begin_count(&mut self)
         ensures { self.new ≡ record self.old { chosen_before = self.old.chosen } }
     {
-        self.chosen_before = self.routing.chosen();
+        self.chosen_before = self.routes.chosen();
     }
 
     /// Hands out the first octets of a slot's ring, as many as there are and fit, and queues again. Refused by 40
@@ -242,8 +225,7 @@ impl<A: Allocator + Clone, B: Book<A>> Speaker<A, B> {
             → MatchOption result ⊥ (λ taken. (taken ≡ min (length buf.old) (length l.peer.ring)) × (buf.new ≡ take taken l.peer.ring ++ drop taken buf.old)
             × Hands slot l taken self.old self.new) }
     {
-        let link = self.links.get_mut(&slot)?;
-        Some(link.take(buf))
+        self.routes.take(slot, buf)
     }
 
     // The first refusal of an event, if there is one.
@@ -280,7 +262,11 @@ impl<A: Allocator + Clone, B: Book<A>> Speaker<A, B> {
             },
             Event::Tick(now) if now < self.moment => Err(Refusal::ClockBack),
             Event::Tick(_) => Ok(()),
-            Event::Command(command) => self.conf.check(&command, self.closing_for(&command)),
+            Event::Command(command) => {
+                self.routes
+                    .conf()
+                    .check(&command, self.closing_for(&command))
+            },
         }
     }
 
@@ -318,7 +304,7 @@ impl<A: Allocator + Clone, B: Book<A>> Speaker<A, B> {
     fn configured_transport(&self, slot: u8) -> Option<Transport>
         ensures { result ≡ option_map transport_of (configured_session (tables_of self.now) slot) }
     {
-        match self.conf.peer(slot) {
+        match self.routes.conf().peer(slot) {
             Some(_) => self.transport_at(slot),
             None => None,
         }
@@ -328,8 +314,8 @@ impl<A: Allocator + Clone, B: Book<A>> Speaker<A, B> {
     fn transport_at(&self, slot: u8) -> Option<Transport>
         ensures { result ≡ option_map transport_of (session_at self.now.links slot) }
     {
-        match self.links.get(&slot) {
-            Some(link) => Some(link.peer.transport()),
+        match self.routes.link(slot) {
+            Some(found) => Some(found.peer.transport()),
             None => None,
         }
     }
@@ -341,7 +327,7 @@ impl<A: Allocator + Clone, B: Book<A>> Speaker<A, B> {
         ensures counted { self.new.chosen_before ≡ self.old.chosen_before }
         ensures rises { self.old.chosen ≤ self.new.chosen }
     {
-        self.routing.ribs().is_chosen();
+        self.routes.is_chosen();
         self.queue_updates()
     }
 }

@@ -60,10 +60,10 @@ impl<A: Allocator + Clone, B: Book<A>> Speaker<A, B> {
         ensures counted { self.new.chosen_before ≡ self.old.chosen_before }
         ensures rises { self.old.chosen ≤ self.new.chosen }
     {
-        let Some(link) = self.links.get(&slot) else {
+        let Some(found) = self.routes.link(slot) else {
             return false;
         };
-        if !link.peer.has_ended(timer, self.moment) {
+        if !found.peer.has_ended(timer, self.moment) {
             return false;
         }
         self.input(slot, Input::Expires(timer))

@@ -33,7 +33,7 @@ use loc_rib::Rows;
 use net_prefix::{Prefix, Transport, Vrp};
 use origin_valid::Validity;
 use rib_in::SlotRoutes;
-use routes::{WaitingPrefixes, export_peer};
+use routes::WaitingPrefixes;
 use rtr_client::ClientState;
 use std::alloc::{Allocator, Global};
 use std::collections::btree_set;
@@ -191,7 +191,7 @@ impl<A: Allocator + Clone, B: Book<A>> Speaker<A, B> {
     fn state_of(&self, slot: u8) -> Option<State>
         ensures { result ≡ option_map (λ s. s.state) (configured_session (tables_of self.now) slot) }
     {
-        match self.conf.peer(slot) {
+        match self.routes.conf().peer(slot) {
             Some(_) => self.state_at(slot),
             None => None,
         }
@@ -201,8 +201,8 @@ impl<A: Allocator + Clone, B: Book<A>> Speaker<A, B> {
     fn state_at(&self, slot: u8) -> Option<State>
         ensures { result ≡ option_map (λ s. s.state) (session_at self.now.links slot) }
     {
-        match self.links.get(&slot) {
-            Some(link) => Some(link.peer.state()),
+        match self.routes.link(slot) {
+            Some(found) => Some(found.peer.state()),
             None => None,
         }
     }
@@ -218,8 +218,8 @@ impl<A: Allocator + Clone, B: Book<A>> Speaker<A, B> {
     fn transport_to(&self, slot: u8) -> Transport
         ensures { result ≡ transport_at (session_at self.now.links slot) }
     {
-        match self.links.get(&slot) {
-            Some(link) => link.peer.transport(),
+        match self.routes.link(slot) {
+            Some(found) => found.peer.transport(),
             None => Transport::None,
         }
     }
@@ -233,7 +233,7 @@ impl<A: Allocator + Clone, B: Book<A>> Speaker<A, B> {
             → Contains result (prefix, c) ↔ IsBest (tables_after config r) prefix c }
     {
         LocRib {
-            rows: self.routing.ribs().rows(),
+            rows: self.routes.rows(),
         }
     }
 
@@ -244,7 +244,7 @@ impl<A: Allocator + Clone, B: Book<A>> Speaker<A, B> {
         // As often at most as what that call did allows.
         ensures agrees { (config : Config) (r : Run) → Agrees config r self.now → result ≤ choices_in config r }
     {
-        self.routing.chosen().saturating_sub(self.chosen_before)
+        self.routes.chosen().saturating_sub(self.chosen_before)
     }
 
     /// The payloads in force in rising order.
@@ -318,7 +318,7 @@ impl<A: Allocator + Clone, B: Book<A>> Speaker<A, B> {
             return AdjRibIn { routes: None };
         }
         AdjRibIn {
-            routes: Some(self.routing.ribs().routes().routes_of(slot)),
+            routes: Some(self.routes.routes_of(slot)),
         }
     }
 
@@ -336,9 +336,9 @@ impl<A: Allocator + Clone, B: Book<A>> Speaker<A, B> {
         ensures all { result ≡ held_by (link_at self.now.links slot) }
         ensures rising { IsStrictlySortedBy prefix_cmp (keys_of result) }
     {
-        match self.links.get(&slot) {
-            Some(link) => HeldRoutes {
-                held: Some(link.adj_out.held()),
+        match self.routes.link(slot) {
+            Some(found) => HeldRoutes {
+                held: Some(found.adj_out.held()),
             },
             None => HeldRoutes { held: None },
         }
@@ -361,11 +361,6 @@ impl<A: Allocator + Clone, B: Book<A>> Speaker<A, B> {
         ensures all { result ≡ waiting_of self.now slot }
         ensures rising { IsStrictlySortedBy prefix_cmp result }
     {
-        WaitingPrefixes::new(
-            &self.conf,
-            &self.routing,
-            export_peer(&self.conf, slot),
-            self.links.get(&slot),
-        )
+        self.routes.waiting(slot)
     }
 }

@@ -34,7 +34,8 @@ use Rattle.export_rules.specs.declared.export.ExportPeer.{ExportPeer}
 use Rattle.export_rules.proofs.Travelling.{export_travels}
 use Rattle.net_prefix.specs.declared.prefix.Prefix.{Prefix}
 use Rattle.bgp_conf.specs.PeerPolicies.{export_action}
-use Rattle.speaker.specs.AdjRibIn.{brought, route, update_heard}
+use Rattle.routes.specs.Heard.{update_heard}
+use Rattle.speaker.specs.AdjRibIn.{brought, route}
 use Rattle.routes.specs.Updates.{is_among, sound_update, word_if}
 use Rattle.speaker.specs.Agreement.{Agrees, AreOwed, IsOwed, IsOwedIn, IsThrifty, Names, route_under, tables_after}
 use Rattle.routes.specs.Export.{IsExport, export_peer_of, selected_of}

@@ -1,10 +1,8 @@
-use Rattle.std.proofs.Common.{◌≡◌, Some, None, ap, subst}
-use Rattle.decision.specs.BookContents.{rows_of}
+use Rattle.std.proofs.Common.{◌≡◌, Some, None, ap}
 use Rattle.rib_out.specs.Held.{held_at}
-use Rattle.routes.specs.Export.{IsAccepted, export_in}
+use Rattle.routes.specs.Export.{export_in}
 use Rattle.speaker.specs.Export.{export_to}
-use Rattle.routes.specs.Marks.{announced_of}
-use Rattle.loc_rib.specs.RibTables.{RibTables}
+use Rattle.routes.specs.Owing.{announced_of}
 use Rattle.speaker.specs.Serving.{HasRoomAt, IsHad}
 use Rattle.routes.specs.Tables.{best_at}
 use Rattle.routes.proofs.Results.{OnErr-is}
@@ -20,7 +18,7 @@ pub returns-in_err-announce_at-clause-short : goal.returns-in_err-announce_at-cl
 returns-in_err-announce_at-clause-short g c =
     let h = c.loop-prefix.invariant in
     let next = c.in-Some.ensures h.serves.after (served_by _ _ _ _ h.serves c.requires.peer) in
-    let tells = subst (λ (t : RibTables). export_in c.self.inside.conf (best_at (rows_of t.book)) t.adj_in c.args.peer.now c.in-Some.prefix ≡ Some c.export.new.octets.items) c.ribs.ensures c.if-export.ensures.tells in
+    let tells = c.if-export.ensures.tells in
     let some : export_in c.loop-prefix.self.conf (best_at c.loop-prefix.self.loc_rib) c.loop-prefix.self.adj_in c.args.peer.now c.in-Some.prefix ≡ Some c.export.new.octets.items = rw (← c.self.view_is) tells in
     let room : HasRoomAt c.loop-prefix.self c.args.slot = λ l is. (c.has_room.ensures l is).0 (let has = c.if-not-has_room.false in (cc)) in
     OnErr-is _ _ (short_still c.args.slot c.args.self.now c.loop-prefix.self _ c.in-Some.prefix c.args.peer.now c.export.new.octets.items h.serves c.requires.slot room c.requires.peer next.0 some c.in_err-announce_at.ensures.err c.requires.below)
@@ -39,14 +37,12 @@ loop-prefix-preserved g c =
     let room : HasRoomAt c.loop-prefix.self c.args.slot = λ l is. (c.has_room.ensures l is).0 (let has = c.if-not-has_room.false in (cc)) in
     elim c.if-export.branch [
       | then-export+in_ok-announce_at w ↦
-          let tells =
-          subst (λ (t : RibTables). export_in c.self.inside.conf (best_at (rows_of t.book)) t.adj_in c.args.peer.now c.in-Some.prefix ≡ Some c.export.new.octets.items) c.ribs.ensures w.if-export.ensures.tells in
-          let accepted =
-          subst (λ (t : RibTables). IsAccepted (rows_of t.book) t.adj_in c.args.peer.now c.in-Some.prefix c.export.new.octets.items) c.ribs.ensures w.if-export.ensures.accepted in
+          let tells = w.if-export.ensures.tells in
+          let accepted = w.if-export.ensures.accepted in
           let some : export_in c.loop-prefix.self.conf (best_at c.loop-prefix.self.loc_rib) c.loop-prefix.self.adj_in c.args.peer.now c.in-Some.prefix ≡ Some c.export.new.octets.items = rw (← c.self.view_is) tells in
           rw w.self-is (Walks-announced _ _ _ _ _ _ _ _ h c.requires.peer next below room some (rw (← c.self.view_is) accepted) w.in_ok-announce_at.ensures.told c.requires.gone c.requires.below)
       | else-export w ↦
-          let tells = subst (λ (t : RibTables). export_in c.self.inside.conf (best_at (rows_of t.book)) t.adj_in c.args.peer.now c.in-Some.prefix ≡ None) c.ribs.ensures w.if-export.ensures.tells.0 in
+          let tells = w.if-export.ensures.tells.0 in
           let none : export_in c.loop-prefix.self.conf (best_at c.loop-prefix.self.loc_rib) c.loop-prefix.self.adj_in c.args.peer.now c.in-Some.prefix ≡ None = rw (← c.self.view_is) tells in
           rw w.self-is (Walks-had _ _ _ _ _ _ h c.requires.peer next below none)
     ]

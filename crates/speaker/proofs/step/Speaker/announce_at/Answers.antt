@@ -1,31 +1,8 @@
-use Rattle.std.proofs.Common.{Some, rules, refl, sym, ap, subst}
-use Rattle.decision.specs.BookContents.{offer_at, rows_of}
-use Rattle.routes.specs.Offers.{IsSound}
-use Rattle.routes.specs.RoutingState.{RoutingState}
-use Rattle.speaker.specs.SpeakerState.{SpeakerState}
-use Rattle.routes.proofs.Marking.{IsNow, marked_told}
-use Rattle.speaker.proofs.Owing.{exported_to}
+use Rattle.speaker.proofs.RoutesSeen.{still_at, told_at}
 use Rattle.speaker.proofs.step.Speaker.announce_at.Goals as goal
 
-pub invariant_of-self-2 : goal.invariant_of-self-2
-invariant_of-self-2 g c =
-    let exported = rw (← c.self.view_is) at c.requires.exported in
-    let state : SpeakerState = record {
-      config = c.self.inside.config;
-      moment = c.self.inside.moment;
-      conf = c.self.inside.conf;
-      cache = c.self.inside.cache;
-      payloads = c.self.inside.payloads;
-      links = c.self.inside.links.entries;
-      adj_in = c.self.inside.routing.adj_in;
-      book = c.self.inside.routing.book;
-      loc_rib = rows_of c.self.inside.routing.book;
-      chosen = c.self.inside.routing.chosen;
-      chosen_before = c.self.inside.chosen_before;
-    } in
-    let put : IsNow c.args.slot c.announce.new.link c.self.inside.links.entries (c.get_mut.follows.lender c.announce.new.link).entries = search rules in (
-      subst (λ b. IsSound c.self.inside.conf (offer_at b)) (sym (ap (λ (t : RoutingState). t.book) c.told.ensures.rest)) c.self.invariant.0,
-      marked_told c.self.inside.conf c.self.inside.routing c.told.new.self c.args.slot c.args.prefix (Some c.args.octets.now.items) c.in-Some.link.now c.announce.new.link c.self.inside.links.entries _ c.self.invariant.1
-          (sym c.in-Some.ensures.value) c.in_ok-announce.ensures.told put (exported_to state c.args.slot c.args.prefix (Some c.args.octets.now.items) refl exported) c.told.ensures.rest c.told.ensures.owed c.told.ensures.known c.told.ensures.released,
-      c.self.invariant.2,
-    )
+pub returns-clause-told : goal.returns-clause-told
+returns-clause-told g c = rw (← c.self.view_is) (told_at c.tell_announcement.result c.self.inside.config c.self.inside.moment c.self.inside.cache c.self.inside.chosen_before c.args.slot c.args.prefix _ c.self.inside.routes c.tell_announcement.new.self c.tell_announcement.ensures.told)
+
+pub returns-clause-err : goal.returns-clause-err
+returns-clause-err g c = rw (← c.self.view_is) (still_at c.tell_announcement.result c.self.inside.config c.self.inside.moment c.self.inside.cache c.self.inside.chosen_before c.self.inside.routes c.tell_announcement.new.self c.tell_announcement.ensures.err c.tell_announcement.ensures.rest)

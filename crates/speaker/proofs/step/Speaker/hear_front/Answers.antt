@@ -8,7 +8,8 @@ use Rattle.bgp_peer.specs.Slot.{pushed}
 use Rattle.speaker.specs.Agreement.{HearsUntil}
 use Rattle.bgp_peer.specs.SessionInputs.{kind_of}
 use Rattle.speaker.specs.Chosen.{ChoosesRefused}
-use Rattle.speaker.specs.Moves.{TakesItem, TakesMemoryAt}
+use Rattle.routes.specs.Heard.{TakesMemoryAt}
+use Rattle.speaker.specs.Moves.{TakesItem}
 use Rattle.speaker.proofs.SlotEvents.{with_peer}
 use Rattle.speaker.specs.Runs.{terms_in, turn, Bytes_call}
 use Rattle.speaker.specs.declared.config.Config.{Config}

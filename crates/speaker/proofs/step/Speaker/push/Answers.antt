@@ -1,12 +1,18 @@
-use Rattle.std.proofs.Common.{rules, sym, ap}
-use Rattle.routes.specs.Linked.{Linked}
-use Rattle.routes.proofs.Marking.{marked_put}
+use Rattle.std.proofs.Common.{refl, ap}
+use Rattle.routes.specs.RoutesState.{RoutesState}
 use Rattle.speaker.proofs.step.Speaker.push.Goals as goal
 
-pub invariant_of-self-2 : goal.invariant_of-self-2
-invariant_of-self-2 g c = (
-  c.self.invariant.0,
-  marked_put c.self.inside.conf c.self.inside.routing c.args.slot c.in-Some.link.now c.push.new.self c.self.inside.links.entries _ c.self.invariant.1 (sym c.in-Some.ensures.value)
-      (ap (λ (l : Linked). l.peer.session) c.push.ensures.link) (ap (λ (l : Linked). l.adj_out) c.push.ensures.link) (search rules),
-  c.self.invariant.2,
-)
+pub returns-clause-count : goal.returns-clause-count
+returns-clause-count g c = λ l linked. c.push.ensures.count l (rw (← c.self.view_is) at linked)
+
+pub returns-clause-pushes : goal.returns-clause-pushes
+returns-clause-pushes g c = λ l linked.
+    let here = rw (← c.self.view_is) at linked in
+    let rest = c.push.ensures.rest in
+    rw (← c.self.view_is) (record {
+      links = c.push.ensures.puts l here;
+      routes = ap (λ (r : RoutesState). r.adj_in) rest;
+      book = ap (λ (r : RoutesState). r.book) rest;
+      chosen = ap (λ (r : RoutesState). r.chosen) rest;
+      rest = record { config = refl; moment = refl; conf = ap (λ (r : RoutesState). r.conf) rest; cache = refl; payloads = c.push.ensures.payloads; chosen_before = refl };
+    })

@@ -6,7 +6,7 @@ use Rattle.speaker.proofs.step.Speaker.state_at.Goals as goal
 
 pub returns-in-Some : goal.returns-in-Some
 returns-in-Some g c =
-    let told : c.state.result ≡ c.in-Some.link.now.peer.session.state = rw (← c.link.view_is) c.state.ensures in
+    let told : c.state.result ≡ c.in-Some.found.now.peer.session.state = rw (← c.found.view_is) c.state.ensures in
     rw (← c.self.view_is) (ap Some told ∙ ap (λ x. option_map (λ (s : Session). s.state) (option_map (λ (l : Linked). l.peer.session) x)) c.in-Some.ensures.value)
 
 pub returns-in-None : goal.returns-in-None

@@ -6,7 +6,7 @@ use Rattle.speaker.proofs.step.Speaker.transport_at.Goals as goal
 
 pub returns-in-Some : goal.returns-in-Some
 returns-in-Some g c =
-    let told : c.transport.result ≡ transport_of c.in-Some.link.now.peer.session = rw (← c.link.view_is) c.transport.ensures in
+    let told : c.transport.result ≡ transport_of c.in-Some.found.now.peer.session = rw (← c.found.view_is) c.transport.ensures in
     rw (← c.self.view_is) (ap Some told ∙ ap (λ x. option_map transport_of (option_map (λ (l : Linked). l.peer.session) x)) c.in-Some.ensures.value)
 
 pub returns-in-None : goal.returns-in-None

@@ -1,32 +1,18 @@
-use Rattle.std.proofs.Common.{refl}
-use Rattle.decision.specs.BookContents.{offer_at}
-use Rattle.routes.proofs.AddedMarks.{marked_importing}
-use Rattle.speaker.proofs.Commands.{holds_used, slot_used}
-use Rattle.routes.proofs.Results.{OnOk-sure}
-use Rattle.routes.proofs.SoundOffers.{sound_importing}
+use Rattle.std.proofs.Common.{refl, ap}
+use Rattle.routes.specs.RoutesState.{RoutesState}
+use Rattle.routes.proofs.PutSlots.{slot_used}
+use Rattle.speaker.proofs.Commands.{holds_used}
+use Rattle.speaker.proofs.RoutesSeen.{made_of}
 use Rattle.speaker.proofs.step.Speaker.use_in.Goals as goal
-
-pub choose_slot-requires-clause-sound : goal.choose_slot-requires-clause-sound
-choose_slot-requires-clause-sound g c =
-    let name = c.requires.uses.0 in
-    let is = c.requires.uses.1 in
-    let conf = OnOk-sure c.apply-takes_no_memory.result _ _ (rw is at c.apply-takes_no_memory.ensures.ok) (rw is at c.apply-takes_no_memory.ensures.memory) (λ x. x) in
-    sound_importing c.self.inside.conf c.apply-takes_no_memory.new.self c.args.slot name (offer_at c.self.inside.routing.book) conf c.self.invariant.0
-
-pub choose_slot-requires-clause-marked : goal.choose_slot-requires-clause-marked
-choose_slot-requires-clause-marked g c =
-    let name = c.requires.uses.0 in
-    let is = c.requires.uses.1 in
-    let conf = OnOk-sure c.apply-takes_no_memory.result _ _ (rw is at c.apply-takes_no_memory.ensures.ok) (rw is at c.apply-takes_no_memory.ensures.memory) (λ x. x) in
-    marked_importing c.self.inside.conf c.apply-takes_no_memory.new.self c.self.inside.links.entries c.self.inside.routing c.args.slot name conf c.self.invariant.1
 
 pub returns-clause-ok : goal.returns-clause-ok
 returns-clause-ok g c = λ config r holds so_far.
     let name = c.requires.uses.0 in
     let is = c.requires.uses.1 in
-    let conf = OnOk-sure c.apply-takes_no_memory.result _ _ (rw is at c.apply-takes_no_memory.ensures.ok) (rw is at c.apply-takes_no_memory.ensures.memory) (λ x. x) in
     let here = rw (← c.self.view_is) at holds in
     let counted = rw (← c.self.view_is) at so_far in
     let may = rw (← c.self.view_is, is) at c.requires.accepted in
-    let within = slot_used c.self.inside.conf c.args.slot name 0 may in
-    rw is (holds_used 0 config r c.args.slot name _ _ within may here conf refl refl refl refl refl c.choose_slot.ensures.routes c.choose_slot.ensures.made c.choose_slot.ensures.chosen refl counted)
+    let conf = rw is at c.use_in.ensures.conf in
+    let rest = c.use_in.ensures.rest in
+    rw is (holds_used 0 config r c.args.slot name _ _ (slot_used c.self.inside.routes.conf c.args.slot name 0 may) may here conf refl refl refl c.use_in.ensures.payloads (ap (λ (s : RoutesState). s.links) rest) (ap (λ (s : RoutesState). s.adj_in) rest)
+    (made_of _ _ _ c.self.inside.routes c.use_in.new.self rest c.use_in.ensures.made) c.use_in.ensures.chosen refl counted)

@@ -1,38 +1,12 @@
-use Rattle.std.proofs.Common.{◌≡◌, ap, refl, sym, subst, inl}
-use Rattle.decision.specs.BookContents.{offer_at}
-use Rattle.routes.specs.Offers.{IsSound}
-use Rattle.routes.specs.RoutingState.{RoutingState}
-use Rattle.routes.proofs.AddedMarks.{marked_exporting}
-use Rattle.speaker.proofs.Commands.{holds_exporting, slot_used}
-use Rattle.routes.proofs.Marking.{all_marked, is_other, this_or_other}
-use Rattle.routes.proofs.Results.{OnOk-sure}
-use Rattle.routes.proofs.SoundOffers.{sound_exporting}
+use Rattle.std.proofs.Common.{refl}
+use Rattle.speaker.proofs.Commands.{holds_exporting}
 use Rattle.speaker.proofs.step.Speaker.use_out.Goals as goal
-
-pub mark_slot-requires-clause-slot : goal.mark_slot-requires-clause-slot
-mark_slot-requires-clause-slot g c =
-    let name = c.requires.uses.0 in
-    let is = c.requires.uses.1 in
-    slot_used c.self.inside.conf c.args.slot name 0 (rw (← c.self.view_is, is) at c.requires.accepted)
-
-pub invariant_of-self : goal.invariant_of-self
-invariant_of-self g c =
-    let name = c.requires.uses.0 in
-    let is = c.requires.uses.1 in
-    let conf = OnOk-sure c.apply-takes_no_memory.result _ _ (rw is at c.apply-takes_no_memory.ensures.ok) (rw is at c.apply-takes_no_memory.ensures.memory) (λ x. x) in
-    let marked = marked_exporting c.self.inside.conf c.apply-takes_no_memory.new.self c.self.inside.links.entries c.self.inside.routing c.args.slot name conf c.self.invariant.1 in
-    let sound = sound_exporting c.self.inside.conf c.apply-takes_no_memory.new.self c.args.slot name (offer_at c.self.inside.routing.book) conf c.self.invariant.0 in
-    let offers : offer_at c.mark_slot.new.self.book ≡ offer_at c.self.inside.routing.book = ap (λ (t : RoutingState). offer_at t.book) c.mark_slot.ensures.rest in (
-      subst (λ f. IsSound c.apply-takes_no_memory.new.self f) (sym offers) sound,
-      all_marked _ _ _ _ (λ s few. inl (this_or_other c.args.slot s)) (c.mark_slot.ensures.marked (is_other c.args.slot) marked),
-      c.self.invariant.2,
-    )
 
 pub returns-clause-ok : goal.returns-clause-ok
 returns-clause-ok g c = λ config r holds so_far.
     let name = c.requires.uses.0 in
     let is = c.requires.uses.1 in
-    let conf = OnOk-sure c.apply-takes_no_memory.result _ _ (rw is at c.apply-takes_no_memory.ensures.ok) (rw is at c.apply-takes_no_memory.ensures.memory) (λ x. x) in
     let here = rw (← c.self.view_is) at holds in
     let counted = rw (← c.self.view_is) at so_far in
-    rw is (holds_exporting config r c.args.slot name _ _ here (rw (c.mark_slot.ensures.rest, conf) refl) counted)
+    let did = rw is at c.use_out.ensures.conf in
+    rw is (holds_exporting config r c.args.slot name _ _ here (rw did refl) counted)

@@ -1,40 +1,15 @@
-use Rattle.std.proofs.Common.{None, rules, refl, sym, ap, subst}
-use Rattle.decision.specs.BookContents.{offer_at, rows_of}
-use Rattle.routes.specs.Offers.{IsSound}
-use Rattle.routes.specs.RoutingState.{RoutingState}
-use Rattle.speaker.specs.SpeakerState.{SpeakerState}
-use Rattle.routes.proofs.Marking.{IsNow, marked_told}
-use Rattle.speaker.proofs.Owing.{exported_to, served_up, withdrawn_known}
+use Rattle.std.proofs.Common.{ap}
+use Rattle.speaker.proofs.RoutesSeen.{seen, served_up}
 use Rattle.speaker.proofs.step.Speaker.withdraw_at.Goals as goal
 
-pub told-requires-clause-known : goal.told-requires-clause-known
-told-requires-clause-known g c =
+pub tell_withdrawal-requires-clause-held : goal.tell_withdrawal-requires-clause-held
+tell_withdrawal-requires-clause-held g c = λ l linked.
     let up = rw (← c.self.view_is) at c.requires.up in
     let peer = rw (← c.self.view_is) at c.requires.peer in
-    let gone = rw (← c.self.view_is) at c.requires.gone in
     let held = rw (← c.self.view_is) at c.requires.held in
-    let served = served_up _ c.args.slot c.in-Some.link.now up peer (sym c.in-Some.ensures.value) in
-    withdrawn_known _ c.self.inside.routing.waiting c.args.slot c.in-Some.link.now c.args.prefix c.self.invariant.1 refl c.requires.slot served gone (held c.in-Some.link.now served)
+    held l (served_up _ c.args.slot l up peer linked)
 
-pub invariant_of-self-2 : goal.invariant_of-self-2
-invariant_of-self-2 g c =
-    let gone = rw (← c.self.view_is) at c.requires.gone in
-    let state : SpeakerState = record {
-      config = c.self.inside.config;
-      moment = c.self.inside.moment;
-      conf = c.self.inside.conf;
-      cache = c.self.inside.cache;
-      payloads = c.self.inside.payloads;
-      links = c.self.inside.links.entries;
-      adj_in = c.self.inside.routing.adj_in;
-      book = c.self.inside.routing.book;
-      loc_rib = rows_of c.self.inside.routing.book;
-      chosen = c.self.inside.routing.chosen;
-      chosen_before = c.self.inside.chosen_before;
-    } in
-    let put : IsNow c.args.slot c.withdraw.new.link c.self.inside.links.entries (c.get_mut.follows.lender c.withdraw.new.link).entries = search rules in (
-      subst (λ b. IsSound c.self.inside.conf (offer_at b)) (sym (ap (λ (t : RoutingState). t.book) c.told.ensures.rest)) c.self.invariant.0,
-      marked_told c.self.inside.conf c.self.inside.routing c.told.new.self c.args.slot c.args.prefix None c.in-Some.link.now c.withdraw.new.link c.self.inside.links.entries _ c.self.invariant.1
-          (sym c.in-Some.ensures.value) c.withdraw.ensures put (exported_to state c.args.slot c.args.prefix None refl gone) c.told.ensures.rest c.told.ensures.owed c.told.ensures.known c.told.ensures.released,
-      c.self.invariant.2,
-    )
+pub returns : goal.returns
+returns g c =
+    let did = c.tell_withdrawal.ensures.told in
+    rw (← c.self.view_is) (record { before = did.before; after = did.after; was = did.was; told = did.told; puts = did.puts; rest = ap (seen c.self.inside.config c.self.inside.moment c.self.inside.cache c.self.inside.chosen_before) did.rest })

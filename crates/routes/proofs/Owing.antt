@@ -1,0 +1,151 @@
+use Rattle.std.proofs.Common.{◌≡◌, ◌<◌, ℕ, Bool, true, false, List, Option, Some, None, IfSome, IfNone, cond, refl, sym, ap, ◌∙◌, subst}
+use Rattle.std.specs.Option.{IsSome, is_some, option_and_then}
+use Rattle.std.specs.Ordering.{is_gt}
+use Rattle.std.specs.Str.{bytes_eq}
+use Rattle.bgp_conf.specs.Configuration.{peer_at}
+use Rattle.bgp_conf.specs.declared.conf.ConfiguredPeer.{ConfiguredPeer}
+use Rattle.bgp_fsm.specs.StateTests.{is_established}
+use Rattle.bgp_fsm.specs.declared.state.State.TheVariants.{Established}
+use Rattle.decision.specs.BookContents.{rows_of}
+use Rattle.net_prefix.specs.PrefixOrder.{prefix_cmp, IsAbove}
+use Rattle.net_prefix.specs.declared.prefix.Prefix.{Prefix}
+use Rattle.prefix_trie.specs.TrieMap.{found}
+use Rattle.rib_out.specs.Held.{held_at}
+use Rattle.rib_out.specs.Waiting.{is_known, owed_at, owed_by}
+use Rattle.rib_out.specs.declared.marks.Owed.{Owed}
+use Rattle.rib_out.specs.declared.marks.Owed.TheVariants.{Announcement, Withdrawal}
+use Rattle.rib_out.specs.declared.waits.Waits.{Waits}
+use Rattle.routes.specs.Export.{export_in, export_peer_of}
+use Rattle.routes.specs.Linked.{Linked}
+use Rattle.routes.specs.Marks.{AreMarked, mark_of, owed_for}
+use Rattle.routes.specs.Owing.{IsNext, announced_of, withdrawn_of}
+use Rattle.routes.specs.RoutesState.{RoutesState, export_of}
+use Rattle.routes.specs.RoutingState.{RoutingState}
+use Rattle.routes.specs.Tables.{best_at, link_at}
+
+-- What a served peer is owed is what waits for its slot.
+
+-- the tables, with what waits
+abbrev pub routing_of : RoutesState → List (Prefix × Waits) → RoutingState
+routing_of s waiting = record { adj_in = s.adj_in; book = s.book; chosen = s.chosen; waiting = waiting }
+
+-- the export to a peer that is configured
+pub export_found : (s : RoutesState) (slot : ℕ) (peer : ConfiguredPeer) (q : Prefix) → peer_at s.conf slot ≡ Some peer → export_of s slot q ≡ export_in s.conf (best_at (rows_of s.book)) s.adj_in (export_peer_of s.conf slot peer) q
+export_found s slot peer q configured = ap (λ found. option_and_then (λ p. export_in s.conf (best_at (rows_of s.book)) s.adj_in (export_peer_of s.conf slot p) q) found) configured
+
+-- what waits for a served peer
+pub owed_is : (s : RoutesState) (waiting : List (Prefix × Waits)) (slot : ℕ) (peer : ConfiguredPeer) (l : Linked) (q : Prefix) → AreMarked s.conf s.links (routing_of s waiting) → slot < 64
+    → peer_at s.conf slot ≡ Some peer → link_at s.links slot ≡ Some l → l.peer.session.state ≡ Established
+    → owed_at waiting slot q ≡ owed_for (export_of s slot q) (held_at l.adj_out q)
+owed_is s waiting slot peer l q marked within configured linked established =
+    marked.marks slot q within
+    ∙ ap (λ found. mark_of s.conf s.adj_in s.book slot q found (link_at s.links slot)) configured
+    ∙ ap (λ found. mark_of s.conf s.adj_in s.book slot q (Some peer) found) linked
+    ∙ ap (λ state. cond (is_established state) (owed_for (export_in s.conf (best_at (rows_of s.book)) s.adj_in (export_peer_of s.conf slot peer) q) (held_at l.adj_out q)) None) established
+    ∙ ap (λ e. owed_for e (held_at l.adj_out q)) (sym (export_found s slot peer q configured))
+
+-- a withdrawal waits just where something is held and nothing is exported
+withdrawal_some : (export held : Option (List ℕ)) → IsSome (withdrawn_of export held) → owed_for export held ≡ Some Withdrawal
+withdrawal_some None None some = absurd (cc)
+withdrawal_some None (Some held) some = refl
+withdrawal_some (Some octets) held some = absurd (cc)
+
+some_withdrawal : (export held : Option (List ℕ)) → owed_for export held ≡ Some Withdrawal → IsSome (withdrawn_of export held)
+some_withdrawal None None is = absurd (cc)
+some_withdrawal None (Some held) is = refl
+some_withdrawal (Some octets) None is = absurd (cc)
+some_withdrawal (Some octets) (Some held) is = never (bytes_eq held octets) is
+  where
+    never : (b : Bool) → cond b None (Some Announcement) ≡ Some Withdrawal → IsSome (withdrawn_of (Some octets) (Some held))
+    never true is = absurd (cc)
+    never false is = absurd (cc)
+
+announcement_some : (export held : Option (List ℕ)) → IsSome (announced_of export held) → owed_for export held ≡ Some Announcement
+announcement_some None held some = absurd (cc)
+announcement_some (Some octets) None some = refl
+announcement_some (Some octets) (Some held) some = by_test (bytes_eq held octets) some
+  where
+    by_test : (b : Bool) → IsSome (cond b None (Some octets)) → cond b None (Some Announcement) ≡ Some Announcement
+    by_test true some = absurd (cc)
+    by_test false some = refl
+
+some_announcement : (export held : Option (List ℕ)) → owed_for export held ≡ Some Announcement → IsSome (announced_of export held)
+some_announcement None None is = absurd (cc)
+some_announcement None (Some held) is = absurd (cc)
+some_announcement (Some octets) None is = refl
+some_announcement (Some octets) (Some held) is = by_test (bytes_eq held octets) is
+  where
+    by_test : (b : Bool) → cond b None (Some Announcement) ≡ Some Announcement → IsSome (cond b None (Some octets))
+    by_test true is = absurd (cc)
+    by_test false is = refl
+
+not_some : {X : Type 0} (o : Option X) → (IsSome o → ⊥) → o ≡ None
+not_some None not = refl
+not_some (Some x) not = absurd (not refl)
+
+-- the next prefix of which this waits
+next_by : {X : Type 0} (there : Prefix → Option X) (waiting : List (Prefix × Waits)) (slot : ℕ) (owed : Owed) (after : Option Prefix) (result : Option Prefix)
+    → ((q : Prefix) → IsSome (there q) → owed_at waiting slot q ≡ Some owed) → ((q : Prefix) → owed_at waiting slot q ≡ Some owed → IsSome (there q))
+    → IfSome result (λ p. owed_at waiting slot p ≡ Some owed) → IfSome result (λ p. IsAbove after p)
+    → IfSome result (λ p. (q : Prefix) → IsAbove after q → owed_at waiting slot q ≡ Some owed → is_gt (prefix_cmp p q) ≡ false)
+    → IfNone result ((q : Prefix) → IsAbove after q → owed_at waiting slot q ≡ Some owed → ⊥) → IsNext there after result
+next_by there waiting slot owed after None from to has above least none = λ q over. not_some (there q) (λ some. none q over (from q some))
+next_by there waiting slot owed after (Some p) from to has above least none = (to p has, above, λ q over some. least q over (from q some))
+
+pub next_withdrawn : (s : RoutesState) (waiting : List (Prefix × Waits)) (slot : ℕ) (peer : ConfiguredPeer) (l : Linked) (after result : Option Prefix) → AreMarked s.conf s.links (routing_of s waiting) → slot < 64
+    → peer_at s.conf slot ≡ Some peer → link_at s.links slot ≡ Some l → l.peer.session.state ≡ Established
+    → IfSome result (λ p. owed_at waiting slot p ≡ Some Withdrawal) → IfSome result (λ p. IsAbove after p)
+    → IfSome result (λ p. (q : Prefix) → IsAbove after q → owed_at waiting slot q ≡ Some Withdrawal → is_gt (prefix_cmp p q) ≡ false)
+    → IfNone result ((q : Prefix) → IsAbove after q → owed_at waiting slot q ≡ Some Withdrawal → ⊥) → IsNext (λ q. withdrawn_of (export_of s slot q) (held_at l.adj_out q)) after result
+next_withdrawn s waiting slot peer l after result marked within configured linked established has above least none =
+    next_by (λ q. withdrawn_of (export_of s slot q) (held_at l.adj_out q)) waiting slot Withdrawal after result
+    (λ q some. owed_is s waiting slot peer l q marked within configured linked established ∙ withdrawal_some (export_of s slot q) (held_at l.adj_out q) some)
+    (λ q is. some_withdrawal (export_of s slot q) (held_at l.adj_out q) (sym (owed_is s waiting slot peer l q marked within configured linked established) ∙ is))
+    has above least none
+
+pub next_announced : (s : RoutesState) (waiting : List (Prefix × Waits)) (slot : ℕ) (peer : ConfiguredPeer) (l : Linked) (after result : Option Prefix) → AreMarked s.conf s.links (routing_of s waiting) → slot < 64
+    → peer_at s.conf slot ≡ Some peer → link_at s.links slot ≡ Some l → l.peer.session.state ≡ Established
+    → IfSome result (λ p. owed_at waiting slot p ≡ Some Announcement) → IfSome result (λ p. IsAbove after p)
+    → IfSome result (λ p. (q : Prefix) → IsAbove after q → owed_at waiting slot q ≡ Some Announcement → is_gt (prefix_cmp p q) ≡ false)
+    → IfNone result ((q : Prefix) → IsAbove after q → owed_at waiting slot q ≡ Some Announcement → ⊥) → IsNext (λ q. announced_of (export_of s slot q) (held_at l.adj_out q)) after result
+next_announced s waiting slot peer l after result marked within configured linked established has above least none =
+    next_by (λ q. announced_of (export_of s slot q) (held_at l.adj_out q)) waiting slot Announcement after result
+    (λ q some. owed_is s waiting slot peer l q marked within configured linked established ∙ announcement_some (export_of s slot q) (held_at l.adj_out q) some)
+    (λ q is. some_announcement (export_of s slot q) (held_at l.adj_out q) (sym (owed_is s waiting slot peer l q marked within configured linked established) ∙ is))
+    has above least none
+
+-- what waits is of a known prefix
+known_owed_of : (slot : ℕ) (owed : Owed) (o : Option Waits) → option_and_then (λ w. owed_by w slot) o ≡ Some owed → is_some o ≡ true
+known_owed_of slot owed None is = absurd (cc)
+known_owed_of slot owed (Some w) is = refl
+
+pub known_owed : (waiting : List (Prefix × Waits)) (slot : ℕ) (p : Prefix) (owed : Owed) → owed_at waiting slot p ≡ Some owed → is_known waiting p ≡ true
+known_owed waiting slot p owed is = known_owed_of slot owed (found waiting p) is
+
+-- so is a prefix that is to be withdrawn
+pub withdrawn_known : (s : RoutesState) (waiting : List (Prefix × Waits)) (slot : ℕ) (peer : ConfiguredPeer) (l : Linked) (p : Prefix) → AreMarked s.conf s.links (routing_of s waiting) → slot < 64
+    → peer_at s.conf slot ≡ Some peer → link_at s.links slot ≡ Some l → l.peer.session.state ≡ Established
+    → export_of s slot p ≡ None → IsSome (held_at l.adj_out p) → is_known waiting p ≡ true
+withdrawn_known s waiting slot peer l p marked within configured linked established gone held =
+    known_owed waiting slot p Withdrawal
+    (owed_is s waiting slot peer l p marked within configured linked established ∙ withdrawal_some (export_of s slot p) (held_at l.adj_out p) (subst (λ e. IsSome (withdrawn_of e (held_at l.adj_out p))) (sym gone) held))
+
+-- what is exported to whoever the peer is
+pub exported_to : (s : RoutesState) (slot : ℕ) (p : Prefix) (export : Option (List ℕ)) → export_of s slot p ≡ export
+    → (peer : ConfiguredPeer) → peer_at s.conf slot ≡ Some peer → export_in s.conf (best_at (rows_of s.book)) s.adj_in (export_peer_of s.conf slot peer) p ≡ export
+exported_to s slot p export is peer configured = sym (export_found s slot peer p configured) ∙ is
+
+some_of : {X : Type 0} (o : Option X) → IsSome o → (x : X) × (o ≡ Some x)
+some_of None some = absurd (cc)
+some_of (Some x) some = (x, refl)
+
+-- a slot that has a peer, whose session is Established
+pub withdrawn_there : (s : RoutesState) (waiting : List (Prefix × Waits)) (slot : ℕ) (l : Linked) (p : Prefix) → AreMarked s.conf s.links (routing_of s waiting) → slot < 64
+    → IsSome (peer_at s.conf slot) → link_at s.links slot ≡ Some l → ((m : Linked) × (link_at s.links slot ≡ Some m) × (m.peer.session.state ≡ Established))
+    → export_of s slot p ≡ None → IsSome (held_at l.adj_out p) → is_known waiting p ≡ true
+withdrawn_there s waiting slot l p marked within there linked up gone held =
+    let peer = some_of (peer_at s.conf slot) there in
+    withdrawn_known s waiting slot peer.0 l p marked within peer.1 linked (subst (λ (x : Linked). x.peer.session.state ≡ Established) (some_once (sym up.1 ∙ linked)) up.2) gone held
+  where
+    some_once : {X : Type 0} {x y : X} → Some x ≡ Some y → x ≡ y
+    some_once is = cc

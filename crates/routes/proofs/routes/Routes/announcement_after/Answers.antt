@@ -1,0 +1,18 @@
+use Rattle.routes.specs.RoutesState.{RoutesState}
+use Rattle.routes.proofs.Owing.{next_announced}
+use Rattle.routes.proofs.routes.Routes.announcement_after.Goals as goal
+
+pub returns : goal.returns
+returns g c = λ peer l configured linked established.
+    let configured_here = rw (← c.self.view_is) at configured in
+    let linked_here = rw (← c.self.view_is) at linked in
+    let state : RoutesState = record {
+      conf = c.self.inside.conf;
+      payloads = c.self.inside.payloads;
+      links = c.self.inside.links.entries;
+      adj_in = c.self.inside.routing.adj_in;
+      book = c.self.inside.routing.book;
+      chosen = c.self.inside.routing.chosen;
+    } in
+    rw (← c.self.view_is)
+    (next_announced state c.self.inside.routing.waiting c.args.slot peer l c.args.after c.next.result c.self.invariant.1 c.requires configured_here linked_here established c.next.ensures.has c.next.ensures.above c.next.ensures.least c.next.ensures.none)

@@ -1,0 +1,62 @@
+use Rattle.std.proofs.Common.{◌≡◌, ◌∙◌, ◌≤◌, ◌+◌, Option, Some, refl, sym, ap, subst}
+use Rattle.std.specs.Option.{option_and_then, option_map}
+use Rattle.bgp_msg.specs.MessageStream.{meaning}
+use Rattle.bgp_peer.specs.SessionInputs.{input_of}
+use Rattle.routes.specs.Chosen.{named_if}
+use Rattle.routes.specs.Heard.{IsHeard, TakesMemoryAt, update_heard}
+use Rattle.routes.specs.Linked.{Linked}
+use Rattle.routes.specs.Tables.{session_at}
+use Rattle.routes.proofs.Results.{IfOk-as, OnErr-as, OnErr-is, OnOk-as}
+use Rattle.routes.proofs.routes.Routes.judge_front.Goals as goal
+
+some_same : {X : Type 0} (o : Option X) (x y : X) → Some x ≡ o → o ≡ Some y → x ≡ y
+some_same o x y a b = cc
+
+pub returns-clause-input : goal.returns-clause-input
+returns-clause-input g c =
+    rw (← c.self.view_is) (IfOk-as c.take_front.result _ _
+    (λ found is terms l of linked. subst (λ (x : Linked). found ≡ option_map (input_of x.peer.session.state terms) (meaning x.peer.rest)) (some_same _ _ _ c.in-Some.ensures.value linked) (is terms of))
+    c.take_front.ensures.input)
+
+pub returns-clause-routes : goal.returns-clause-routes
+returns-clause-routes g c =
+    rw (← c.self.view_is) (OnOk-as c.take_front.result _ _
+    (λ heard terms l of linked. subst (λ (x : Linked). IsHeard c.args.slot (option_and_then (update_heard x.peer.session.state terms) (meaning x.peer.rest)) c.self.inside.routing.adj_in c.take_front.new.routing.adj_in) (some_same _ _ _ c.in-Some.ensures.value linked) (heard terms of))
+    c.take_front.ensures.routes)
+
+pub returns-clause-chosen : goal.returns-clause-chosen
+returns-clause-chosen g c =
+    rw (← c.self.view_is) (OnOk-as c.take_front.result _ _
+    (λ few terms l of linked. subst (λ (x : Linked). c.take_front.new.routing.chosen ≤ c.self.inside.routing.chosen + named_if (option_and_then (update_heard x.peer.session.state terms) (meaning x.peer.rest))) (some_same _ _ _ c.in-Some.ensures.value linked) (few terms of))
+    c.take_front.ensures.chosen)
+
+pub returns-clause-kept : goal.returns-clause-kept
+returns-clause-kept g c =
+    let told : c.in-Some.link.now.peer.session.identifier ≡ c.identifier.result = rw (← c.link.view_is) (sym c.identifier.ensures) in
+    rw (← c.self.view_is) (OnOk-as c.take_front.result _ _
+    (λ kept. kept c.in-Some.link.now.peer.session refl told (session_at c.self.inside.links.entries) (ap (option_map (λ (l : Linked). l.peer.session)) (sym c.in-Some.ensures.value)))
+    c.take_front.ensures.kept)
+
+pub returns-clause-memory : goal.returns-clause-memory
+returns-clause-memory g c =
+    rw (← c.self.view_is) (OnErr-as c.take_front.result _ _
+    (λ takes l linked. subst (λ x. TakesMemoryAt c.args.standard.kind x) (some_same _ _ _ c.in-Some.ensures.value linked) takes)
+    c.take_front.ensures.memory)
+
+pub returns-clause-part : goal.returns-clause-part
+returns-clause-part g c =
+    rw (← c.self.view_is) (OnErr-as c.take_front.result _ _
+    (λ part l body linked is. part body (ap (λ (x : Linked). meaning x.peer.rest) (some_same _ _ _ c.in-Some.ensures.value linked) ∙ is))
+    c.take_front.ensures.part)
+
+pub returns-clause-within : goal.returns-clause-within
+returns-clause-within g c = OnErr-is _ _ (c.self.invariant.1.there.within c.args.slot c.in-Some.link.now (sym c.in-Some.ensures.value))
+
+pub returns-clause-others : goal.returns-clause-others
+returns-clause-others g c = rw (← c.self.view_is) c.take_front.ensures.others
+
+pub returns-clause-rest : goal.returns-clause-rest
+returns-clause-rest g c = rw (← c.self.view_is) refl
+
+pub returns-clause-rises : goal.returns-clause-rises
+returns-clause-rises g c = rw (← c.self.view_is) c.take_front.ensures.rises

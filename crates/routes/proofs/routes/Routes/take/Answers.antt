@@ -1,0 +1,11 @@
+use Rattle.std.proofs.Common.{rules, sym, ap}
+use Rattle.routes.specs.Linked.{Linked}
+use Rattle.routes.proofs.Marking.{marked_put}
+use Rattle.routes.proofs.routes.Routes.take.Goals as goal
+
+pub invariant_of-self-2 : goal.invariant_of-self-2
+invariant_of-self-2 g c = (
+  c.self.invariant.0,
+  marked_put c.self.inside.conf c.self.inside.routing c.args.slot c.in_ok-link.link.now c.take.new.self c.self.inside.links.entries _ c.self.invariant.1 (sym c.in_ok-link.ensures.value)
+      (ap (λ (l : Linked). l.peer.session) c.take.ensures.link) (ap (λ (l : Linked). l.adj_out) c.take.ensures.link) (search rules),
+)

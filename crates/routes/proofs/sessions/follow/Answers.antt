@@ -1,0 +1,28 @@
+use Rattle.std.proofs.Common.{◌≡◌, ℕ, List, false, sym, subst, inl, inr}
+use Rattle.std.proofs.lemmas.Bool.{cases_eq}
+use Rattle.bgp_conf.specs.Configuration.{Configuration}
+use Rattle.bgp_fsm.specs.declared.session.Effects.{Effects}
+use Rattle.rib_out.specs.Waiting.{owed_at}
+use Rattle.routes.specs.Linked.{Linked}
+use Rattle.routes.specs.Marks.{AreMarked, IsFollowed, mark_at}
+use Rattle.routes.specs.RoutingState.{RoutingState}
+use Rattle.routes.proofs.Counting.{ends_all}
+use Rattle.routes.proofs.sessions.follow.Goals as goal
+
+-- where the session neither leaves Established nor enters it, the marks stay
+same_marks : (conf : Configuration) (links : List (ℕ × Linked)) (slot : ℕ) (effects : Effects) (t : RoutingState) → IsFollowed conf links slot effects t → effects.left ≡ false → effects.entered ≡ false → AreMarked conf links t
+same_marks conf links slot effects t h left entered = record {
+  there = h.there;
+  released = h.released;
+  marks = λ s p low. elim (cases_eq s slot) [
+    | inl is ↦ subst (λ n. owed_at t.waiting n p ≡ mark_at conf links t n p) (sym is) (h.same left entered p)
+    | inr other ↦ h.others s p low other
+  ];
+}
+
+pub returns-then-effects-clause-chosen : goal.returns-then-effects-clause-chosen
+returns-then-effects-clause-chosen g c = λ left. ends_all c.args.slot c.args.routing.now c.clear.new.self _ c.clear.ensures.rest c.drop_slot.ensures.chosen
+
+pub returns-else-effects-2-clause-marked : goal.returns-else-effects-2-clause-marked
+returns-else-effects-2-clause-marked g c =
+    same_marks c.args.conf.now c.args.links.now.entries c.args.slot c.args.effects.now c.args.routing.now c.requires c.if-effects.false c.if-effects-2.false

@@ -1,0 +1,206 @@
+//! The routes with all that they go through, as one value.
+ghost use Rattle.std.specs.Prelude.{◌≡◌, ◌≤◌, ◌<◌, ◌-◌, ℕ, None, true, IfOk, length};
+ghost use Rattle.std.specs.Bool.{OnTrue};
+ghost use Rattle.std.specs.Borrow.{sem};
+ghost use Rattle.std.specs.List.Sorted.{IsStrictlySortedBy};
+ghost use Rattle.std.specs.Map.{keys_of, lookup};
+ghost use Rattle.std.specs.Option.{IsSome, option_copied, option_map};
+ghost use Rattle.bgp_conf.specs.Configuration.{peer_at};
+ghost use Rattle.decision.specs.BookContents.{IsBestOf, offer_at, rows_of};
+ghost use Rattle.export_rules.specs.Export.{Tells, most_attributes};
+ghost use Rattle.net_prefix.specs.PrefixOrder.{prefix_cmp};
+ghost use Rattle.net_prefix.specs.declared.prefix.Prefix.{Prefix as ThePrefix};
+ghost use Rattle.rib_in.specs.LatestRoutes.{HasRoute, route_at, routes_of};
+ghost use Rattle.rib_out.specs.Held.{is_prefix};
+ghost use Rattle.origin_valid.specs.Stretches.{changed_prefixes, stretches};
+ghost use Rattle.routes.specs.Chosen.{OncePerPrefix};
+ghost use Rattle.routes.specs.Export.{IsAccepted, export_in, export_peer_of};
+ghost use Rattle.routes.specs.Lending.{lends_payloads};
+ghost use Rattle.routes.specs.Offers.{AreMadeWhere, is_within};
+ghost use Rattle.routes.specs.RoutesState.{begun, tables_in};
+ghost use Rattle.routes.specs.Tables.{best_at, link_at};
+ghost use Rattle.routes.specs.Waiting.{waiting_at};
+
+use crate::candidates::choose_touched;
+use crate::exports::{Octets, export, export_peer};
+use crate::link::Link;
+use crate::routing::{Links, Routing, slots_end};
+use crate::waiting::WaitingPrefixes;
+use bgp_conf::Conf;
+use decision::Book;
+use export_rules::ExportPeer;
+use loc_rib::Rows;
+use net_prefix::{Asn, Prefix};
+use origin_valid::PayloadTrie;
+use rib_in::SlotRoutes;
+use rib_out::RecentOctets;
+use std::alloc::{AllocError, Allocator};
+use std::collections::BTreeMap;
+use std::marker::Model;
+use vrp_delta::Delta;
+
+/// What judges the routes, the slots with what their peers hold, and the routes with Loc-RIB and what each peer is owed.
+#[derive(Drop)]
+pub struct Routes<A: Allocator + Clone, B: Book<A>> {
+    pub(crate) conf: Conf<A>,
+    // The payloads by which the routes are judged.
+    pub(crate) payloads: PayloadTrie<A>,
+    pub(crate) links: Links<A>,
+    pub(crate) routing: Routing<A, B>,
+    // What was announced lately, for peers to share.
+    pub(crate) recent: RecentOctets<A>,
+}
+
+impl<A: Allocator + Clone, B: Book<A>> Model for Routes<A, B> {
+    ghost use Rattle.decision.specs.BookContents.{offer_at};
+    ghost use Rattle.routes.specs.Marks.{AreMarked};
+    ghost use Rattle.routes.specs.Offers.{IsSound};
+    ghost use Rattle.routes.specs.RoutesState.{RoutesState};
+
+    ghost Value = { RoutesState };
+
+    ghost view = { λ r. record {
+      conf = r.conf;
+      payloads = r.payloads;
+      links = r.links.entries;
+      adj_in = r.routing.adj_in;
+      book = r.routing.book;
+      chosen = r.routing.chosen;
+    } };
+
+    // Of each prefix there waits for each slot just what its peer is owed.
+    ghost invariant = { λ r. IsSound r.conf (offer_at r.routing.book) × AreMarked r.conf r.links.entries r.routing };
+}
+
+impl<A: Allocator + Clone + Copy, B: Book<A>> Routes<A, B> {
+    /// No peers, no payloads and no routes, for a speaker of this AS.
+    pub fn new(alloc: A, own: Asn) -> Result<Self, AllocError>
+        ensures { IfOk result (λ r. r ≡ begun own) }
+    {
+        let recent = RecentOctets::new(alloc)?;
+        let conf = Conf::new(alloc, own)?;
+        let routing = Routing::new(alloc)?;
+        Ok(Routes {
+            conf,
+            payloads: PayloadTrie::new(alloc),
+            links: BTreeMap::new(alloc),
+            routing,
+            recent,
+        })
+    }
+}
+
+impl<A: Allocator + Clone, B: Book<A>> Routes<A, B> {
+    /// The configuration.
+    pub fn conf(&self) -> &Conf<A>
+        ensures { result.now ≡ self.now.conf }
+    {
+        &self.conf
+    }
+
+    /// The slot of this number, if it is there.
+    pub fn link(&self, slot: u8) -> Option<&Link<A>>
+        ensures value { option_copied result ≡ link_at self.now.links slot }
+    {
+        self.links.get(&slot)
+    }
+
+    /// The number behind that of the last slot; 0 where there is none.
+    pub fn slots_end(&self) -> u8
+        ensures none { (s : ℕ) → result ≤ s → s < 64 → link_at self.now.links s ≡ None }
+        ensures last { 0 < result → result < 64 → IsSome (link_at self.now.links (result - 1)) }
+        ensures within { result ≤ 64 }
+    {
+        slots_end(&self.links)
+    }
+
+    /// Loc-RIB in rising order.
+    pub fn rows(&self) -> Rows<'_, A, B>
+        ensures all { result ≡ rows_of self.now.book }
+        ensures rising { IsStrictlySortedBy prefix_cmp (keys_of result) }
+    {
+        self.routing.ribs().rows()
+    }
+
+    /// The routes of a slot in rising order.
+    pub fn routes_of(&self, slot: u8) -> SlotRoutes<'_, A>
+        ensures all { result ≡ routes_of slot self.now.adj_in }
+        ensures rising { IsStrictlySortedBy prefix_cmp (keys_of result) }
+        ensures found { (p : ThePrefix) → lookup (is_prefix p) result ≡ route_at self.now.adj_in slot p }
+    {
+        self.routing.ribs().routes().routes_of(slot)
+    }
+
+    /// How often a best route was chosen so far, up to 2^64 - 1.
+    pub fn chosen(&self) -> u64
+        ensures { result ≡ self.now.chosen }
+    {
+        self.routing.chosen()
+    }
+
+    /// Loc-RIB has the best of each prefix's candidates.
+    pub fn is_chosen(&self)
+        ensures best { (p : ThePrefix) → IsBestOf (λ s. offer_at self.now.book s p) (best_at (rows_of self.now.book) p) }
+        ensures rising { IsStrictlySortedBy prefix_cmp (keys_of (rows_of self.now.book)) }
+    {
+        self.routing.ribs().is_chosen();
+    }
+
+    /// The prefixes of which a slot's peer doesn't hold just what is exported to it, in rising order; none where its
+    /// session isn't Established.
+    pub fn waiting(&self, slot: u8) -> WaitingPrefixes<'_, A, B>
+        ensures all { result ≡ waiting_at self.now.conf (rows_of self.now.book) self.now.adj_in (option_map (export_peer_of self.now.conf slot) (peer_at self.now.conf slot)) (link_at self.now.links slot) }
+        ensures rising { IsStrictlySortedBy prefix_cmp result }
+    {
+        WaitingPrefixes::new(
+            &self.conf,
+            &self.routing,
+            export_peer(&self.conf, slot),
+            self.links.get(&slot),
+        )
+    }
+
+    /// What the export to a slot's peer asks of it.
+    pub fn export_peer(&self, slot: u8) -> Option<ExportPeer>
+        ensures { result ≡ option_map (export_peer_of self.now.conf slot) (peer_at self.now.conf slot) }
+    {
+        export_peer(&self.conf, slot)
+    }
+
+    /// What is exported of a prefix: the best route, where there is one and it is exported to this peer, by its export
+    /// policy. Answers false where nothing is; `octets` are then empty.
+    pub fn export(&self, peer: &ExportPeer, prefix: Prefix, octets: &mut Octets) -> bool
+        ensures tells { Tells result octets.new.items (export_in self.now.conf (best_at (rows_of self.now.book)) self.now.adj_in peer.now prefix) }
+        ensures small { OnTrue result (length octets.new.items ≤ most_attributes) }
+        // The peer finds no fault with it.
+        ensures accepted { OnTrue result (IsAccepted (rows_of self.now.book) self.now.adj_in peer.now prefix octets.new.items) }
+    {
+        export(&self.conf, self.routing.ribs(), peer, prefix, octets)
+    }
+
+    /// The payloads by which routes are judged, for what follows a cache. `payloads_changed` then has the change.
+    pub fn payloads_mut(&mut self) -> &mut PayloadTrie<A>
+        ensures* writes_back { sem 𝓛 (lends_payloads A.row B.row A.Allocator A.Clone B.Book self.entry result) }
+        ensures payloads { result.now ≡ self.old.payloads }
+    {
+        &mut self.payloads
+    }
+
+    /// Makes the candidates again of the routes that a change of the payloads concerns, and chooses the best route of each
+    /// of their prefixes again, once.
+    pub fn payloads_changed(&mut self, change: &Delta<A>)
+        ensures made { AreMadeWhere (tables_in self.new) (is_within (stretches (changed_prefixes change.now))) (offer_at self.old.book) (offer_at self.new.book) }
+        ensures chosen { OncePerPrefix (λ p. (is_within (stretches (changed_prefixes change.now)) p ≡ true) × HasRoute self.old.adj_in p) self.old.chosen self.new.chosen }
+        ensures rest { self.new ≡ record self.old { book = self.new.book; chosen = self.new.chosen } }
+        ensures payloads { self.new.payloads ≡ self.old.payloads }
+        ensures rises { self.old.chosen ≤ self.new.chosen }
+    {
+        choose_touched(
+            &self.conf,
+            &self.payloads,
+            &self.links,
+            &mut self.routing,
+            change,
+        );
+    }
+}

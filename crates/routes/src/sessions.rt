@@ -1,0 +1,161 @@
+//! What happens to a slot's session, and what its routes make of it.
+ghost use Rattle.std.specs.Prelude.{◌≡◌, ◌≤◌, ◌<◌, ◌+◌, ◌++◌, ◌==◌, ◌&&◌, ℕ, List, None, Some, true, false, MatchOption, OnOk, OnErr, IfOk, length, min, take, drop, if◌then◌else◌};
+ghost use Rattle.std.specs.Option.{option_and_then, option_map};
+ghost use Rattle.bgp_conf.specs.Configuration.{peer_at};
+ghost use Rattle.bgp_fsm.specs.SessionTable.{effects_of};
+ghost use Rattle.bgp_msg.specs.MessageStream.{WholeMessage, meaning};
+ghost use Rattle.bgp_msg.specs.UpdateMeaning.{update_fault};
+ghost use Rattle.bgp_msg.specs.declared.frame.MessageType.TheVariants.{Update as UpdateMessage};
+ghost use Rattle.bgp_peer.specs.SessionInputs.{Terms, input_of};
+ghost use Rattle.bgp_peer.specs.Slot.{handed, pushed};
+ghost use Rattle.decision.specs.BookContents.{offer_at};
+ghost use Rattle.net_prefix.specs.declared.prefix.Prefix.{Prefix as ThePrefix};
+ghost use Rattle.rib_in.specs.LatestRoutes.{route_at};
+ghost use Rattle.routes.specs.Chosen.{Ends, IsPart, named_if};
+ghost use Rattle.routes.specs.Heard.{AreOf, IsHeard, TakesMemoryAt, update_heard};
+ghost use Rattle.routes.specs.Linked.{Linked, taken_of};
+ghost use Rattle.routes.specs.Marks.{AreMarked, IsFollowed};
+ghost use Rattle.routes.specs.RoutesState.{IsSet, StaysKept, TakesInput};
+ghost use Rattle.routes.specs.RoutingState.{KeepsOthers};
+ghost use Rattle.routes.specs.Tables.{link_at};
+ghost use Rattle.routes.specs.Updates.{sound_update};
+
+use crate::exports::Octets;
+use crate::message::{Standard, take_front};
+use crate::routes::Routes;
+use crate::routing::{Links, Routing};
+use crate::updates::Sender;
+use bgp_conf::Conf;
+use bgp_fsm::{Effects, Input};
+use decision::Book;
+use std::alloc::{AllocError, Allocator};
+
+impl<A: Allocator + Clone, B: Book<A>> Routes<A, B> {
+    /// A slot's session takes an input. Where it leaves Established, its routes go, and nothing is owed to its peer any
+    /// more; where it enters it, its peer is owed all that is exported to it. Answers whether its connection attempt begins.
+    pub fn input(&mut self, slot: u8, input: Input<'_>, now: u64) -> bool
+        ensures moves { (l : Linked) → link_at self.old.links slot ≡ Some l → TakesInput slot l now input.entry self.old self.new }
+        ensures opened { (l : Linked) → link_at self.old.links slot ≡ Some l → result ≡ (effects_of input.entry l.peer.session).opened }
+        ensures none { link_at self.old.links slot ≡ None → self.new ≡ self.old }
+        ensures conf { self.new.conf ≡ self.old.conf }
+        ensures payloads { self.new.payloads ≡ self.old.payloads }
+        ensures rises { self.old.chosen ≤ self.new.chosen }
+    {
+        let Some(link) = self.links.get_mut(&slot) else {
+            return false;
+        };
+        let effects = link.input(input, now);
+        follow(&self.conf, &self.links, &mut self.routing, slot, &effects);
+        effects.opened
+    }
+
+    /// Takes octets up to the end of the message at the front of an open connection, and answers how many.
+    pub fn push(&mut self, slot: u8, octets: &[u8]) -> usize
+        ensures within { result ≤ length octets.now }
+        ensures count { (l : Linked) → link_at self.old.links slot ≡ Some l → result ≡ taken_of l.peer octets.now }
+        ensures puts { (l : Linked) → link_at self.old.links slot ≡ Some l → IsSet slot (Some (record { peer = pushed l.peer (take result octets.now); adj_out = l.adj_out })) self.old self.new }
+        ensures rest { self.new ≡ record self.old { links = self.new.links } }
+        ensures payloads { self.new.payloads ≡ self.old.payloads }
+    {
+        let Some(link) = self.links.get_mut(&slot) else {
+            return 0;
+        };
+        link.push(octets)
+    }
+
+    /// Hands out the first octets of a slot's ring, as many as there are and fit, and answers how many; none where the slot
+    /// isn't there.
+    pub fn take(&mut self, slot: u8, buf: &mut [u8]) -> Option<usize>
+        ensures none { link_at self.old.links slot ≡ None → (result ≡ None) × (self.new ≡ self.old) × (buf.new ≡ buf.old) }
+        ensures some { (l : Linked) → link_at self.old.links slot ≡ Some l
+            → MatchOption result ⊥ (λ taken. (taken ≡ min (length buf.old) (length l.peer.ring)) × (buf.new ≡ take taken l.peer.ring ++ drop taken buf.old)
+            × IsSet slot (Some (record { peer = handed l.peer taken; adj_out = l.adj_out })) self.old self.new) }
+        ensures rest { self.new ≡ record self.old { links = self.new.links } }
+        ensures payloads { self.new.payloads ≡ self.old.payloads }
+    {
+        let link = self.links.get_mut(&slot)?;
+        Some(link.take(buf))
+    }
+
+    /// A slot without a peer isn't there any more.
+    pub fn let_go(&mut self, slot: u8)
+        requires { peer_at self.old.conf slot ≡ None }
+        ensures gone { IsSet slot None self.old self.new }
+        ensures rest { self.new ≡ record self.old { links = self.new.links } }
+        ensures payloads { self.new.payloads ≡ self.old.payloads }
+    {
+        self.links.remove(&slot);
+    }
+
+    /// What stands at the front of a slot's rest is to the session: nothing yet, or an input. The routes of an UPDATE of an
+    /// Established session are taken. Where memory is refused, part of them may have been. What a NOTIFICATION shows of a
+    /// faulty message is written to `room`.
+    pub fn judge_front<'r>(
+        &mut self,
+        alloc: &A,
+        slot: u8,
+        standard: Standard,
+        room: &'r mut Octets,
+    ) -> Result<Option<Input<'r>>, AllocError>
+        ensures input { IfOk result (λ found. (terms : Terms) (l : Linked) → AreOf terms standard → link_at self.old.links slot ≡ Some l
+            → found ≡ option_map (input_of l.peer.session.state terms) (meaning l.peer.rest)) }
+        ensures routes { OnOk result ((terms : Terms) (l : Linked) → AreOf terms standard → link_at self.old.links slot ≡ Some l
+            → IsHeard slot (option_and_then (update_heard l.peer.session.state terms) (meaning l.peer.rest)) self.old.adj_in self.new.adj_in) }
+        ensures kept { OnOk result (StaysKept self.old self.new) }
+        ensures chosen { OnOk result ((terms : Terms) (l : Linked) → AreOf terms standard → link_at self.old.links slot ≡ Some l
+            → self.new.chosen ≤ self.old.chosen + named_if (option_and_then (update_heard l.peer.session.state terms) (meaning l.peer.rest))) }
+        ensures others { OnErr result (KeepsOthers slot self.old.adj_in self.new.adj_in self.old.book self.new.book) }
+        ensures memory { OnErr result ((l : Linked) → link_at self.old.links slot ≡ Some l → TakesMemoryAt standard.kind l) }
+        ensures part { OnErr result ((l : Linked) (body : List ℕ) → link_at self.old.links slot ≡ Some l → meaning l.peer.rest ≡ Some (WholeMessage UpdateMessage body)
+            → IsPart slot (sound_update standard.kind body (update_fault standard.kind body)) self.old.adj_in self.new.adj_in self.old.chosen self.new.chosen) }
+        ensures within { OnErr result (slot < 64) }
+        ensures rest { self.new ≡ record self.old { adj_in = self.new.adj_in; book = self.new.book; chosen = self.new.chosen } }
+        ensures payloads { self.new.payloads ≡ self.old.payloads }
+        ensures rises { self.old.chosen ≤ self.new.chosen }
+    {
+        let Some(link) = self.links.get(&slot) else {
+            return Ok(None);
+        };
+        let sender = Sender {
+            slot,
+            identifier: link.peer.identifier(),
+        };
+        take_front(
+            alloc,
+            &self.conf,
+            &self.payloads,
+            &self.links,
+            &mut self.routing,
+            sender,
+            standard,
+            link,
+            room,
+        )
+    }
+}
+
+// Leaving Established removes all routes of the session, with the candidates that they make, and nothing waits for its
+// peer any more. Entering it, the peer waits for all that is exported to it.
+fn follow<A: Allocator + Clone, B: Book<A>>(
+    conf: &Conf<A>,
+    links: &Links<A>,
+    routing: &mut Routing<A, B>,
+    slot: u8,
+    effects: &Effects<'_>,
+)
+    requires { IsFollowed conf.now links.now.entries slot effects.now routing.old }
+    ensures marked { AreMarked conf.now links.now.entries routing.new }
+    ensures routes { (s : ℕ) (prefix : ThePrefix) → route_at routing.new.adj_in s prefix ≡ (if effects.now.left && s == slot then None else route_at routing.old.adj_in s prefix) }
+    ensures offers { (s : ℕ) (prefix : ThePrefix) → offer_at routing.new.book s prefix ≡ (if effects.now.left && s == slot then None else offer_at routing.old.book s prefix) }
+    ensures chosen { effects.now.left ≡ true → Ends slot routing.old.adj_in routing.old.chosen routing.new.chosen }
+    ensures stays { effects.now.left ≡ false → routing.new.chosen ≡ routing.old.chosen }
+    ensures rises { routing.old.chosen ≤ routing.new.chosen }
+{
+    if effects.left {
+        routing.clear(slot);
+        routing.drop_slot(conf, links, slot);
+    } else if effects.entered {
+        routing.clear(slot);
+        routing.enter(conf, links, slot);
+    }
+}
