@@ -316,11 +316,7 @@ where
 }
 
 // The settings that the octets of a file tell.
-fn settings_in(
-    alloc: Global,
-    path: &str,
-    octets: &[u8],
-) -> Result<SpeakerSettings, SpeakerFault>
+fn settings_in(alloc: Global, path: &str, octets: &[u8]) -> Result<SpeakerSettings, SpeakerFault>
     ensures fault { IfErr result (λ fault. ¬ (IsOfWords fault)) }
     ensures told { IfOk result (λ settings. (table : Members) × IsTableOf octets.now table × IsToldBy table settings) }
 {

@@ -12,7 +12,7 @@ returns-in_err-command-clause-fault g c =
 pub returns-clause-commands : goal.returns-clause-commands
 returns-clause-commands g c =
     let obeys = c.in_ok-command.ensures.commands in
-    (obeys.0, obeys.1, commanded_by _ _ _ _ (subst (λ (config : Config). Agrees config [] c.in_ok-speaker.speaker) c.config.ensures c.in_ok-speaker.ensures.agrees) obeys.2)
+    (obeys.0, obeys.1, commanded_by _ _ _ _ (subst (λ (config : Config). Agrees config [] c.in_ok-speaker.speaker) c.config_of.ensures c.in_ok-speaker.ensures.agrees) obeys.2)
 
 pub returns-in_err-speaker-clause-fault : goal.returns-in_err-speaker-clause-fault
 returns-in_err-speaker-clause-fault g c =
