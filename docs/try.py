@@ -64,7 +64,7 @@ def block(page, begin):
 
 def tried(crate, *words):
     run = subprocess.run(["rt", "try", "--seconds", "300", *words], cwd=f"crates/{crate}", capture_output=True, text=True)
-    return run.stdout + run.stderr
+    return run.stdout, run.stderr
 
 
 def commands():
@@ -82,10 +82,11 @@ def commands():
     with tempfile.TemporaryDirectory() as folder:
         for name, script in cases.items():
             pathlib.Path(folder, name).write_text(script)
-        answers = tried("ovplay", "--cases", folder)
+        answers, _ = tried("ovplay", "--cases", folder)
+    told = dict(part.split("\n", 1) for part in re.split(r"(?m)^== ", answers)[1:])
     for name, wanted in want.items():
-        found = re.search(rf"^== {name}\n(.*?)^case={name}", answers, re.M | re.S)
-        have = found.group(1).splitlines() if found else ["nothing"]
+        have = told.get(name, "nothing").splitlines()
+        have = [line for line in have if not line.startswith(("case=", "cases="))]
         if [h[: len(w)] for h, w in zip(have, wanted)] != wanted or len(have) != len(wanted):
             fail("ovplay answers", name, have)
 
@@ -97,8 +98,8 @@ def samples():
             pathlib.Path(folder, name).write_text(re.sub(r"(?m)^listen = .*", 'listen = "127.0.0.1:0"', told))
         shutil.copy("packaging/ovbgpd.commands", folder)
         shutil.copy("crates/ovcache/data/payloads.csv", folder)
-        cache = tried("ovcache", "--data", f"ovcache.toml={folder}/ovcache.toml", "--data", f"payloads.csv={folder}/payloads.csv", "--", "ovcache.toml", "3")
-        bgp = tried("ovbgpd", "--data", f"ovbgpd.toml={folder}/ovbgpd.toml", "--data", f"ovbgpd.commands={folder}/ovbgpd.commands", "--", "ovbgpd.toml", "3")
+        cache, _ = tried("ovcache", "--data", f"ovcache.toml={folder}/ovcache.toml", "--data", f"payloads.csv={folder}/payloads.csv", "--", "ovcache.toml", "3")
+        bgp, _ = tried("ovbgpd", "--data", f"ovbgpd.toml={folder}/ovbgpd.toml", "--data", f"ovbgpd.commands={folder}/ovbgpd.commands", "--", "ovbgpd.toml", "3")
     if "list loaded: serial 1, payloads 2" not in cache:
         fail("ovcache says", cache[-300:])
     if "198.51.100.0/24 local NotFound 4294967296" not in bgp:
