@@ -3,6 +3,7 @@ use Rattle.std.specs.Prelude.{◌≡◌, ◌≢◌, ◌↔◌, ◌⊎◌, ◌&&�
 use Rattle.bgp_attr.specs.declared.peer.Mode.TheVariants.{Active as Opener}
 use Rattle.net_prefix.specs.declared.transport.Transport.TheVariants.{Open as Connected, Closing, Listening, Opening}
 use Rattle.bgp_msg.specs.declared.open_message.Open.{Open as OpenMessage}
+use Rattle.bgp_msg.specs.declared.open_message.OwnOpen.{OwnOpen as OwnOpenMessage}
 use Rattle.bgp_msg.specs.Notifications.{NotificationBody}
 use Rattle.bgp_fsm.specs.declared.state.State.{State}
 use Rattle.bgp_fsm.specs.declared.state.State.TheVariants.{Idle, Connect, Active, OpenSent, OpenConfirm, Established}
@@ -38,7 +39,7 @@ LeftTells =
 -- an OPEN is queued only when the connection stands that was opened or awaited, and it is our own
 abbrev pub OpenAnswersUp : Type 0
 OpenAnswersUp =
-    (now : ℕ) (input : Input) (s : Session) (message : OpenMessage) → (effects_of input s).message ≡ Some (OwnOpen message)
+    (now : ℕ) (input : Input) (s : Session) (message : OwnOpenMessage) → (effects_of input s).message ≡ Some (OwnOpen message)
     → ((transport_of s ≡ Opening) ⊎ (transport_of s ≡ Listening)) × (input ≡ Up) × ((session_after now input s).state ≡ OpenSent) × (message ≡ s.own)
 
 -- `opened` tells exactly that a connection attempt begins: the session enters Connect, or tries again there when the

@@ -4,6 +4,7 @@ use Rattle.bgp_attr.specs.declared.peer.Mode.{Mode}
 use Rattle.bgp_attr.specs.declared.peer.Mode.TheVariants.{Passive}
 use Rattle.bgp_attr.specs.declared.peer.Mode.TheVariants.{Active as Opener}
 use Rattle.bgp_msg.specs.declared.open_message.Open.{Open as OpenMessage}
+use Rattle.bgp_msg.specs.declared.open_message.OwnOpen.{OwnOpen as OwnOpenMessage}
 use Rattle.bgp_msg.specs.declared.notification.SessionError.{SessionError}
 use Rattle.bgp_msg.specs.declared.notification.SessionError.TheVariants.{HoldTimerExpired, UnexpectedMessage, AdministrativeShutdown, PeerDeconfigured, OutOfResources}
 use Rattle.bgp_msg.specs.Notifications.{error_notification}
@@ -48,7 +49,7 @@ abbrev pub error : SessionError → Outgoing
 error why = Notify (error_notification why)
 
 -- a session with no connection, of a peer that isn't enabled yet
-abbrev pub fresh : OpenMessage → Mode → Session
+abbrev pub fresh : OwnOpenMessage → Mode → Session
 fresh own mode = record { state = Idle; enabled = false; closing = false; identifier = 0; hold_time = 0; timers = stopped; own = own; mode = mode }
 
 -- What a row leaves of the session. Where it starts a timer, this is by the moment at which its input comes.

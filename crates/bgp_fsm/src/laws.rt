@@ -2,7 +2,7 @@
 ghost use Rattle.bgp_fsm.specs.Laws.{EstablishedBegins, EnteredTells, LeftTells, OpenAnswersUp, ClosesWhatIsOpen, ClosingIsTold, NotificationsClose, NotificationIsUnanswered, OpenedTells, TimersFit, fit, OpenIsAwaited, AttemptsAreRetried, FallsAndRises, HoldTimeIsAgreed, MessagesHold};
 ghost use Rattle.std.specs.Prelude.{◌≡◌, true};
 ghost use Rattle.bgp_fsm.specs.SessionTable.{fresh};
-ghost use Rattle.bgp_msg.specs.declared.open_message.Open.{Open};
+ghost use Rattle.bgp_msg.specs.declared.open_message.OwnOpen.{OwnOpen};
 ghost use Rattle.bgp_attr.specs.declared.peer.Mode.{Mode};
 
 /// Established is entered only from OpenConfirm, by a KEEPALIVE.
@@ -27,7 +27,7 @@ pub fn opened_tells()
 
 /// Each timer runs only in the states in which its end means something.
 pub fn timers_fit()
-    ensures first { (own : Open) (mode : Mode) → fit (fresh own mode).state (fresh own mode).enabled (fresh own mode).timers ≡ true }
+    ensures first { (own : OwnOpen) (mode : Mode) → fit (fresh own mode).state (fresh own mode).enabled (fresh own mode).timers ≡ true }
     ensures stays { TimersFit }
 {}
 

@@ -12,13 +12,13 @@ use bgp_attr::Mode;
 use bgp_msg::SessionError::{
     AdministrativeShutdown, HoldTimerExpired, OutOfResources, PeerDeconfigured, UnexpectedMessage,
 };
-use bgp_msg::{Notification, Open};
+use bgp_msg::{Notification, OwnOpen};
 use net_prefix::Transport;
 
 /// A message that a row of the table queues.
 #[derive(Debug, Drop)]
 pub enum Outgoing<'a> {
-    Open(Open),
+    Open(OwnOpen),
     Keepalive,
     Notification(Notification<'a>),
 }
@@ -52,7 +52,7 @@ pub struct Session {
     /// When the timers end.
     pub timers: Timers,
     /// The OPEN that this side sends.
-    pub own: Open,
+    pub own: OwnOpen,
     /// Which side opens the connection.
     pub mode: Mode,
 }
@@ -69,7 +69,7 @@ impl Effects<'_> {
 
 impl Session {
     /// A session in Idle, with no connection, of a peer that isn't enabled yet.
-    pub fn new(own: Open, mode: Mode) -> Session
+    pub fn new(own: OwnOpen, mode: Mode) -> Session
         ensures { result ≡ fresh own mode }
     {
         Session {

@@ -1,4 +1,4 @@
-use Rattle.std.proofs.Common.{◌≡◌, ◌≢◌, ◌≤◌, ◌<◌, ◌+◌, ◌*◌, ◌/◌, ◌%◌, ◌^◌, nat_lt, ◌==◌, ◌||◌, not, get_or, ◌∷◌, ℕ, true, false, List, [], ◌++◌, length, take, drop, Some, None, refl, ap, sym, subst, ◌∙◌, arith, append_assoc, append-nil, length-append}
+use Rattle.std.proofs.Common.{◌≡◌, ◌≢◌, ◌≤◌, ◌<◌, ◌+◌, ◌*◌, ◌/◌, ◌%◌, ◌^◌, nat_lt, ◌==◌, ◌||◌, not, get_or, ◌∷◌, ℕ, Bool, true, false, List, [], ◌++◌, length, take, drop, Some, None, refl, ap, sym, subst, ◌∙◌, arith, append_assoc, append-nil, length-append}
 use Rattle.std.specs.Option.{option_map, option_and_then}
 use Rattle.std.proofs.lemmas.Bool.{le-ltb, le-leb, eq-eqb, ne_eqb, or_from}
 use Rattle.std.proofs.lemmas.List.{take_at, drop_at, length-take}
@@ -7,7 +7,7 @@ use Rattle.std.specs.Int.{w16, w32, to_be_bytes, from_be_bytes}
 use Rattle.bgp_msg.specs.declared.frame.MessageType.{MessageType}
 use Rattle.bgp_msg.specs.declared.frame.MessageType.TheVariants.{Open, Update, Notification, Keepalive}
 use Rattle.bgp_msg.specs.declared.open_message.Expected.{Expected}
-use Rattle.bgp_msg.specs.MessageSpelling.{Part, is_lawful_length, header_of, message_of, marker, open_of, open_body, update_of, update_body, update_parts, update_parts_behind, counted_at, parts_within, parameters_at, capabilities_at, asn_at, first_asn}
+use Rattle.bgp_msg.specs.MessageSpelling.{Part, is_lawful_length, header_of, message_of, marker, own_capability_octets, open_of, open_body, update_of, update_body, update_parts, update_parts_behind, counted_at, parts_within, parameters_at, capabilities_at, asn_at, first_asn}
 use Rattle.bgp_msg.specs.MessageFaults.{has_other_parameter, hold_time_at, identifier_at, open_fault}
 use Rattle.bgp_msg.specs.MessageStream.{IsMessage, IsReadFirst}
 use Rattle.bgp_msg.specs.Notifications.{NotificationBody, notification_body, notification_of}
@@ -43,50 +43,71 @@ notification_first told =
     subst (λ (x : List ℕ). IsReadFirst x Notification (notification_body told)) (notification_is told)
     (written_first Notification (notification_body told) (le-leb 21 (19 + length (notification_body told)) fits.0) fits.1)
 
-open_is : (asn hold_time identifier : ℕ) → message_of Open (open_body asn hold_time identifier) ≡ open_of asn hold_time identifier
+open_is : (multiprotocol : Bool) (asn hold_time identifier : ℕ) → message_of Open (open_body multiprotocol asn hold_time identifier) ≡ open_of multiprotocol asn hold_time identifier
 unfolding message_of open_of open_body header_of marker
-open_is asn hold_time identifier = refl
+open_is true asn hold_time identifier = refl
+open_is false asn hold_time identifier = refl
 
-open_length : (asn hold_time identifier : ℕ) → length (open_body asn hold_time identifier) ≡ 18
+open_length : (multiprotocol : Bool) (asn hold_time identifier : ℕ) → length (open_body multiprotocol asn hold_time identifier) ≡ 12 + own_capability_octets multiprotocol
 unfolding open_body
-open_length asn hold_time identifier = refl
+open_length true asn hold_time identifier = refl
+open_length false asn hold_time identifier = refl
 
-pub open_first : (asn hold_time identifier : ℕ) → IsReadFirst (open_of asn hold_time identifier) Open (open_body asn hold_time identifier)
-open_first asn hold_time identifier =
-    let body = open_body asn hold_time identifier in
-    let may : is_lawful_length Open (19 + length (open_body asn hold_time identifier)) ≡ true = ap (λ (n : ℕ). is_lawful_length Open (19 + n)) (open_length asn hold_time identifier) in
-    subst (λ (x : List ℕ). IsReadFirst x Open body) (open_is asn hold_time identifier) (written_first Open body may (omega (arith, open_length asn hold_time identifier)))
-
-pub open_hold_time : (asn hold_time identifier : ℕ) → hold_time < 2 ^ 16 → hold_time_at (open_body asn hold_time identifier) ≡ hold_time
+open_lawful : (multiprotocol : Bool) (asn hold_time identifier : ℕ) → is_lawful_length Open (19 + length (open_body multiprotocol asn hold_time identifier)) ≡ true
 unfolding open_body
-open_hold_time asn hold_time identifier small = omega arith
+open_lawful true asn hold_time identifier = refl
+open_lawful false asn hold_time identifier = refl
 
-pub open_identifier : (asn hold_time identifier : ℕ) → identifier < 2 ^ 32 → identifier_at (open_body asn hold_time identifier) ≡ identifier
+open_fits : (multiprotocol : Bool) → 19 + (12 + own_capability_octets multiprotocol) ≤ 4096
+open_fits true = omega arith
+open_fits false = omega arith
+
+pub open_first : (multiprotocol : Bool) (asn hold_time identifier : ℕ) → IsReadFirst (open_of multiprotocol asn hold_time identifier) Open (open_body multiprotocol asn hold_time identifier)
+open_first multiprotocol asn hold_time identifier =
+    let body = open_body multiprotocol asn hold_time identifier in
+    let may = open_lawful multiprotocol asn hold_time identifier in
+    subst (λ (x : List ℕ). IsReadFirst x Open body) (open_is multiprotocol asn hold_time identifier) (written_first Open body may (omega (arith, open_length multiprotocol asn hold_time identifier, open_fits multiprotocol)))
+
+pub open_hold_time : (multiprotocol : Bool) (asn hold_time identifier : ℕ) → hold_time < 2 ^ 16 → hold_time_at (open_body multiprotocol asn hold_time identifier) ≡ hold_time
 unfolding open_body
-open_identifier asn hold_time identifier small = omega arith
+open_hold_time true asn hold_time identifier small = omega arith
+open_hold_time false asn hold_time identifier small = omega arith
+
+pub open_identifier : (multiprotocol : Bool) (asn hold_time identifier : ℕ) → identifier < 2 ^ 32 → identifier_at (open_body multiprotocol asn hold_time identifier) ≡ identifier
+unfolding open_body
+open_identifier true asn hold_time identifier small = omega arith
+open_identifier false asn hold_time identifier small = omega arith
 
 four_octets : (asn : ℕ) → asn < 2 ^ 32 → from_be_bytes w32 (to_be_bytes w32 asn) ≡ asn
 four_octets asn small = omega arith
 
--- the one optional parameter of an OPEN, and the one capability in it
-abbrev capability : ℕ → Part
-capability asn = record { kind = 65; value = to_be_bytes w32 asn }
+-- the capabilities in the one optional parameter of an OPEN
+abbrev told : Bool → ℕ → List Part
+told true asn = record { kind = 1; value = 0 ∷ 1 ∷ 0 ∷ 1 ∷ [] } ∷ record { kind = 65; value = to_be_bytes w32 asn } ∷ []
+told false asn = record { kind = 65; value = to_be_bytes w32 asn } ∷ []
 
-open_capabilities : (asn hold_time identifier : ℕ) → capabilities_at (open_body asn hold_time identifier) ≡ Some (capability asn ∷ [])
+told_asn : (multiprotocol : Bool) (asn : ℕ) → asn < 2 ^ 32 → first_asn (told multiprotocol asn) ≡ Some asn
+told_asn true asn small = ap (λ (n : ℕ). Some n) (four_octets asn small)
+told_asn false asn small = ap (λ (n : ℕ). Some n) (four_octets asn small)
+
+open_capabilities : (multiprotocol : Bool) (asn hold_time identifier : ℕ) → capabilities_at (open_body multiprotocol asn hold_time identifier) ≡ Some (told multiprotocol asn)
 unfolding open_body parts_within
-open_capabilities asn hold_time identifier = refl
+open_capabilities true asn hold_time identifier = refl
+open_capabilities false asn hold_time identifier = refl
 
-open_parameters : (asn hold_time identifier : ℕ) → has_other_parameter (parameters_at (open_body asn hold_time identifier)) ≡ false
+open_parameters : (multiprotocol : Bool) (asn hold_time identifier : ℕ) → has_other_parameter (parameters_at (open_body multiprotocol asn hold_time identifier)) ≡ false
 unfolding open_body parts_within
-open_parameters asn hold_time identifier = refl
+open_parameters true asn hold_time identifier = refl
+open_parameters false asn hold_time identifier = refl
 
-pub open_asn : (asn hold_time identifier : ℕ) → asn < 2 ^ 32 → asn_at (open_body asn hold_time identifier) ≡ Some asn
-open_asn asn hold_time identifier small =
-    ap (option_and_then first_asn) (open_capabilities asn hold_time identifier) ∙ ap (λ (n : ℕ). Some n) (four_octets asn small)
+pub open_asn : (multiprotocol : Bool) (asn hold_time identifier : ℕ) → asn < 2 ^ 32 → asn_at (open_body multiprotocol asn hold_time identifier) ≡ Some asn
+open_asn multiprotocol asn hold_time identifier small =
+    ap (option_and_then first_asn) (open_capabilities multiprotocol asn hold_time identifier) ∙ told_asn multiprotocol asn small
 
-open_front : (asn hold_time identifier : ℕ) → (nat_lt (length (open_body asn hold_time identifier)) 10 ≡ false) × (not (get_or (open_body asn hold_time identifier) 0 0 == 4) ≡ false)
+open_front : (multiprotocol : Bool) (asn hold_time identifier : ℕ) → (nat_lt (length (open_body multiprotocol asn hold_time identifier)) 10 ≡ false) × (not (get_or (open_body multiprotocol asn hold_time identifier) 0 0 == 4) ≡ false)
 unfolding open_body
-open_front asn hold_time identifier = (refl, refl)
+open_front true asn hold_time identifier = (refl, refl)
+open_front false asn hold_time identifier = (refl, refl)
 
 faultless_by_tests :
     (body : List ℕ) (asn hold_time identifier : ℕ) (capabilities : List Part) (expected : Expected)
@@ -99,17 +120,17 @@ faultless_by_tests body asn hold_time identifier capabilities expected front cap
     rw (front.0, front.1, capabilities_are, types, asn_is, identifier_is, hold_time_is, same, lawful, acceptable) refl
 
 pub open_faultless :
-    (asn hold_time identifier : ℕ) (expected : Expected) → asn < 2 ^ 32 → hold_time < 2 ^ 16 → identifier < 2 ^ 32
+    (multiprotocol : Bool) (asn hold_time identifier : ℕ) (expected : Expected) → asn < 2 ^ 32 → hold_time < 2 ^ 16 → identifier < 2 ^ 32
     → expected.peer_asn.0 ≡ asn → identifier ≢ 0 → identifier ≢ expected.own_identifier → hold_time ≢ 1 → hold_time ≢ 2
-    → open_fault (open_body asn hold_time identifier) expected ≡ None
-open_faultless asn hold_time identifier expected small small_time small_identifier same some other not_one not_two =
-    faultless_by_tests (open_body asn hold_time identifier) asn hold_time identifier (capability asn ∷ []) expected
-    (open_front asn hold_time identifier)
-    (open_capabilities asn hold_time identifier)
-    (open_parameters asn hold_time identifier)
-    (ap (λ (n : ℕ). Some n) (four_octets asn small))
-    (open_hold_time asn hold_time identifier small_time)
-    (open_identifier asn hold_time identifier small_identifier)
+    → open_fault (open_body multiprotocol asn hold_time identifier) expected ≡ None
+open_faultless multiprotocol asn hold_time identifier expected small small_time small_identifier same some other not_one not_two =
+    faultless_by_tests (open_body multiprotocol asn hold_time identifier) asn hold_time identifier (told multiprotocol asn) expected
+    (open_front multiprotocol asn hold_time identifier)
+    (open_capabilities multiprotocol asn hold_time identifier)
+    (open_parameters multiprotocol asn hold_time identifier)
+    (told_asn multiprotocol asn small)
+    (open_hold_time multiprotocol asn hold_time identifier small_time)
+    (open_identifier multiprotocol asn hold_time identifier small_identifier)
     (eq-eqb asn expected.peer_asn.0 (sym same))
     (or_from (identifier == 0) (identifier == expected.own_identifier) (ne_eqb identifier 0 some) (ne_eqb identifier expected.own_identifier other))
     (or_from (hold_time == 1) (hold_time == 2) (ne_eqb hold_time 1 not_one) (ne_eqb hold_time 2 not_two))

@@ -58,21 +58,39 @@ message_of kind body = header_of kind (19 + length body) ++ body
 abbrev pub four_octet_as_capability : ℕ → List ℕ
 four_octet_as_capability asn = 65 ∷ 4 ∷ to_be_bytes w32 asn
 
+-- the capability of IPv4 unicast (RFC 4760 section 8): of its value, the AFI 1, an octet of 0, the SAFI 1
+abbrev pub unicast_capability : List ℕ
+unicast_capability = 1 ∷ 4 ∷ 0 ∷ 1 ∷ 0 ∷ 1 ∷ []
+
+-- the same where it is asked for
+abbrev pub unicast_if : Bool → List ℕ
+unicast_if true = unicast_capability
+unicast_if false = []
+
+-- the capabilities that this side tells: IPv4 unicast where it is asked for, and AS numbers of four octets
+abbrev pub own_capabilities : Bool → ℕ → List ℕ
+own_capabilities multiprotocol asn = unicast_if multiprotocol ++ four_octet_as_capability asn
+
 -- what a field of two octets shows of an AS: AS_TRANS where it doesn't fit (RFC 6793 section 9)
 abbrev pub two_octet_as_of : ℕ → ℕ
 two_octet_as_of asn = if nat_lt asn 65536 then asn else 23456
 
--- an OPEN with one optional parameter, the capability of AS numbers of four octets
-unfoldable pub open_of : ℕ → ℕ → ℕ → List ℕ
-open_of asn hold_time identifier =
-    header_of Open 37 ++ 4 ∷ [] ++ to_be_bytes w16 (two_octet_as_of asn) ++ to_be_bytes w16 hold_time
-    ++ to_be_bytes w32 identifier ++ 8 ∷ 2 ∷ 6 ∷ [] ++ four_octet_as_capability asn
+-- how many octets these are
+abbrev pub own_capability_octets : Bool → ℕ
+own_capability_octets multiprotocol = length (unicast_if multiprotocol) + 6
+
+-- this side's OPEN: its one optional parameter holds its capabilities (RFC 4271 section 4.2, RFC 5492 section 4)
+unfoldable pub open_of : Bool → ℕ → ℕ → ℕ → List ℕ
+open_of multiprotocol asn hold_time identifier =
+    header_of Open (31 + own_capability_octets multiprotocol) ++ 4 ∷ [] ++ to_be_bytes w16 (two_octet_as_of asn)
+    ++ to_be_bytes w16 hold_time ++ to_be_bytes w32 identifier
+    ++ (2 + own_capability_octets multiprotocol) ∷ 2 ∷ own_capability_octets multiprotocol ∷ [] ++ own_capabilities multiprotocol asn
 
 -- its body
-unfoldable pub open_body : ℕ → ℕ → ℕ → List ℕ
-open_body asn hold_time identifier =
-    4 ∷ to_be_bytes w16 (two_octet_as_of asn) ++ to_be_bytes w16 hold_time
-    ++ to_be_bytes w32 identifier ++ 8 ∷ 2 ∷ 6 ∷ four_octet_as_capability asn
+unfoldable pub open_body : Bool → ℕ → ℕ → ℕ → List ℕ
+open_body multiprotocol asn hold_time identifier =
+    4 ∷ to_be_bytes w16 (two_octet_as_of asn) ++ to_be_bytes w16 hold_time ++ to_be_bytes w32 identifier
+    ++ (2 + own_capability_octets multiprotocol) ∷ 2 ∷ own_capability_octets multiprotocol ∷ own_capabilities multiprotocol asn
 
 -- prefixes one after another (RFC 4271 section 4.3)
 abbrev pub wire_form : List Prefix → List ℕ

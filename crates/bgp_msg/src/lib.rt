@@ -18,7 +18,7 @@ mod writing;
 pub use fault::{Fault, HeaderFault, OpenFault};
 pub use frame::{Frame, HEADER_OCTETS, MAX_MESSAGE, MessageType, Step, needed, read};
 pub use notification::{Notification, SessionError};
-pub use open_message::{Expected, Open, only_parts, read_open};
+pub use open_message::{Expected, Open, OwnOpen, only_parts, read_open};
 pub use stream::{
     keepalive_is_read, no_message_begins_another, notification_is_read, one_more_octet,
     one_spelling, only_messages, open_is_read, pieces_are_the_stream, stream_goes_on,

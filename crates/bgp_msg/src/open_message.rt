@@ -1,7 +1,7 @@
 //! The OPEN message (RFC 4271 section 4.2) with the capability of AS numbers of four octets (RFC 6793).
 ghost use Rattle.std.specs.Prelude.{◌≡◌, ◌<◌, ◌≤◌, ◌↔◌, ℕ, List, IfOk, IfSome, MatchResult, Some, None, length};
 ghost use Rattle.std.specs.Option.{option_map};
-ghost use Rattle.bgp_msg.specs.MessageSpelling.{Part, four_octet_as_capability, part_at, parts_of, parts_form, asn_in, asn_told, or_else};
+ghost use Rattle.bgp_msg.specs.MessageSpelling.{Part, four_octet_as_capability, unicast_if, part_at, parts_of, parts_form, asn_in, asn_told, or_else};
 ghost use Rattle.bgp_msg.specs.OpenParts.{number, seen, asn_behind, parameter_behind, parameters_of, proposal_fault, fault_found};
 ghost use Rattle.bgp_msg.specs.MessageFaults.{open_fault, hold_time_at, identifier_at};
 
@@ -21,6 +21,9 @@ const FIXED_OCTETS: usize = 10;
 /// The code of the capability of AS numbers of four octets (RFC 6793 section 3).
 pub(crate) const FOUR_OCTET_AS: u8 = 65;
 
+// The capability of IPv4 unicast (RFC 4760 section 8): its code, the length of its value, AFI 1, an octet of 0, SAFI 1.
+const UNICAST: [u8; 6] = [1, 4, 0, 1, 0, 1];
+
 /// What an OPEN says.
 #[derive(Clone, Copy, Debug, PartialEq, Eq)]
 pub struct Open {
@@ -30,6 +33,19 @@ pub struct Open {
     pub hold_time: u16,
     /// The sender's BGP Identifier.
     pub identifier: u32,
+}
+
+/// What this side's OPEN says.
+#[derive(Clone, Copy, Debug, PartialEq, Eq)]
+pub struct OwnOpen {
+    /// This side's AS, which a capability tells.
+    pub asn: Asn,
+    /// The hold time that this side proposes, in seconds.
+    pub hold_time: u16,
+    /// This side's BGP Identifier.
+    pub identifier: u32,
+    /// Whether a capability tells that routes of IPv4 unicast are exchanged (RFC 4760 section 8).
+    pub multiprotocol: bool,
 }
 
 /// What an OPEN is judged against.
@@ -102,6 +118,15 @@ fn identifier_in(body: &[u8]) -> u32
     ensures { result ≡ identifier_at body.now }
 {
     BigEndian::read_u32(&body[5..])
+}
+
+/// The octets of the capability that tells an AFI and a SAFI (RFC 4760 section 8), 1 and 1 for IPv4 unicast, where it is
+/// asked for.
+pub(crate) fn unicast(multiprotocol: bool) -> &'static [u8]
+    ensures octets { result.now ≡ unicast_if multiprotocol }
+    ensures most { length result.now ≤ 6 }
+{
+    if multiprotocol { &UNICAST } else { &[] }
 }
 
 /// The octets of the capability that tells an AS number of four octets (RFC 6793 section 3).

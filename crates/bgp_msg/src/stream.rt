@@ -1,5 +1,5 @@
 //! Laws of the messages of a stream (RFC 4271 section 4.1).
-ghost use Rattle.std.specs.Prelude.{◌≡◌, ◌≢◌, ◌<◌, ◌≤◌, ◌+◌, ◌^◌, ◌++◌, ℕ, List, [], ◌∷◌, Some, None, length, All, true};
+ghost use Rattle.std.specs.Prelude.{◌≡◌, ◌≢◌, ◌<◌, ◌≤◌, ◌+◌, ◌^◌, ◌++◌, ℕ, Bool, List, [], ◌∷◌, Some, None, length, All, true};
 ghost use Rattle.std.specs.List.{concat};
 ghost use Rattle.bgp_msg.specs.declared.frame.MessageType.{MessageType};
 ghost use Rattle.bgp_msg.specs.declared.frame.MessageType.TheVariants.{Open, Update, Notification, Keepalive};
@@ -60,11 +60,11 @@ pub fn notification_is_read()
 
 /// So is an OPEN. Its body says what was written, and who expects this AS finds no fault in a lawful one.
 pub fn open_is_read()
-    ensures message { (asn hold_time identifier : ℕ) → IsReadFirst (open_of asn hold_time identifier) Open (open_body asn hold_time identifier) }
-    ensures hold_time { (asn hold_time identifier : ℕ) → hold_time < 2 ^ 16 → hold_time_at (open_body asn hold_time identifier) ≡ hold_time }
-    ensures identifier { (asn hold_time identifier : ℕ) → identifier < 2 ^ 32 → identifier_at (open_body asn hold_time identifier) ≡ identifier }
-    ensures asn { (asn hold_time identifier : ℕ) → asn < 2 ^ 32 → asn_at (open_body asn hold_time identifier) ≡ Some asn }
-    ensures faultless { (asn hold_time identifier : ℕ) (expected : Expected) → asn < 2 ^ 32 → hold_time < 2 ^ 16 → identifier < 2 ^ 32 → expected.peer_asn.0 ≡ asn → identifier ≢ 0 → identifier ≢ expected.own_identifier → hold_time ≢ 1 → hold_time ≢ 2 → open_fault (open_body asn hold_time identifier) expected ≡ None }
+    ensures message { (multiprotocol : Bool) (asn hold_time identifier : ℕ) → IsReadFirst (open_of multiprotocol asn hold_time identifier) Open (open_body multiprotocol asn hold_time identifier) }
+    ensures hold_time { (multiprotocol : Bool) (asn hold_time identifier : ℕ) → hold_time < 2 ^ 16 → hold_time_at (open_body multiprotocol asn hold_time identifier) ≡ hold_time }
+    ensures identifier { (multiprotocol : Bool) (asn hold_time identifier : ℕ) → identifier < 2 ^ 32 → identifier_at (open_body multiprotocol asn hold_time identifier) ≡ identifier }
+    ensures asn { (multiprotocol : Bool) (asn hold_time identifier : ℕ) → asn < 2 ^ 32 → asn_at (open_body multiprotocol asn hold_time identifier) ≡ Some asn }
+    ensures faultless { (multiprotocol : Bool) (asn hold_time identifier : ℕ) (expected : Expected) → asn < 2 ^ 32 → hold_time < 2 ^ 16 → identifier < 2 ^ 32 → expected.peer_asn.0 ≡ asn → identifier ≢ 0 → identifier ≢ expected.own_identifier → hold_time ≢ 1 → hold_time ≢ 2 → open_fault (open_body multiprotocol asn hold_time identifier) expected ≡ None }
 {}
 
 /// So is an UPDATE. Its body has the parts that were written.

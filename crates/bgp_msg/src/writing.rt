@@ -7,7 +7,7 @@ ghost use Rattle.bgp_msg.specs.MessageLimits.{max_message};
 
 use crate::frame::{MAX_MESSAGE, MessageType};
 use crate::notification::{MAX_DATA, Notification, front};
-use crate::open_message::{BGP_VERSION, CAPABILITIES, Open, four_octet_as};
+use crate::open_message::{BGP_VERSION, CAPABILITIES, OwnOpen, four_octet_as, unicast};
 use arrayvec::ArrayVec;
 use byteorder::{BigEndian, ByteOrder};
 use net_prefix::{Asn, Prefix};
@@ -17,18 +17,22 @@ const AS_TRANS: u16 = 23456;
 
 const MARKER: [u8; 16] = [255; 16];
 
-/// Writes an OPEN with one optional parameter, the capability of AS numbers of four octets.
+/// Writes this side's OPEN with one optional parameter: the capability of IPv4 unicast where it is asked for, and behind
+/// it that of AS numbers of four octets.
 #[tactic(auto, unfolding(crate::specs::MessageSpelling::open_of))]
-pub fn write_open(message: &Open, out: &mut ArrayVec<u8, MAX_MESSAGE>)
-    ensures octets { out.new.items ≡ open_of message.now.asn.0 message.now.hold_time message.now.identifier }
-    ensures len { length out.new.items ≡ 37 }
+pub fn write_open(message: &OwnOpen, out: &mut ArrayVec<u8, MAX_MESSAGE>)
+    ensures octets { out.new.items ≡ open_of message.now.multiprotocol message.now.asn.0 message.now.hold_time message.now.identifier }
+    ensures most { length out.new.items ≤ max_message }
 {
-    begin(MessageType::Open, 37, out);
+    let unicast = unicast(message.multiprotocol);
+    let capabilities = unicast.len() as u8 + 6;
+    begin(MessageType::Open, 31 + u16::from(capabilities), out);
     append(&[BGP_VERSION], out);
     append_u16(two_octet_as(message.asn), out);
     append_u16(message.hold_time, out);
     append_u32(message.identifier, out);
-    append(&[8, CAPABILITIES, 6], out);
+    append(&[2 + capabilities, CAPABILITIES, capabilities], out);
+    append(unicast, out);
     append(&four_octet_as(message.asn), out);
 }
 

@@ -6,7 +6,7 @@ use Rattle.net_prefix.specs.declared.asn.Asn.{Asn}
 use Rattle.net_prefix.specs.declared.transport.Transport.TheVariants.{Open as Connected}
 use Rattle.bgp_attr.specs.declared.peer.Mode.{Mode}
 use Rattle.bgp_msg.specs.declared.frame.MessageType.TheVariants.{Update}
-use Rattle.bgp_msg.specs.declared.open_message.Open.{Open as OpenMessage}
+use Rattle.bgp_msg.specs.declared.open_message.OwnOpen.{OwnOpen as OwnOpenMessage}
 use Rattle.bgp_msg.specs.MessageStream.{Item, WholeMessage, FaultyHeader, completed, left_over, unread}
 use Rattle.bgp_msg.proofs.Streams.{message-then}
 use Rattle.bgp_msg.proofs.StreamPieces.{unread-push, unread-anew, unread-nil, read_alone}
@@ -26,7 +26,7 @@ use Rattle.bgp_peer.specs.Agreement.{IsUpdateMessage, PeerAgrees, holding}
 use Rattle.bgp_peer.proofs.Rows.{ignored, input_is_message, taken_message, kept_joins, kept_whole, said_joins, says_nothing, said_whole}
 
 -- a peer is configured
-pub agrees-new : (h : List Event) (own : OpenMessage) (mode : Mode) (peer_asn : Asn) → PeerAgrees (Configured record { own = own; mode = mode; peer_asn = peer_asn } ∷ h) (configured own mode)
+pub agrees-new : (h : List Event) (own : OwnOpenMessage) (mode : Mode) (peer_asn : Asn) → PeerAgrees (Configured record { own = own; mode = mode; peer_asn = peer_asn } ∷ h) (configured own mode)
 agrees-new h own mode peer_asn = record {
   session = refl;
   rest = λ e. sym unread-nil;

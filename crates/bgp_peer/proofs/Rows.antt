@@ -83,7 +83,7 @@ said_joins message given ring sent joins =
 -- what a row says is whole
 octets_whole : (message : Option Outgoing) → unread (octets_of message) ≡ []
 octets_whole None = unread-nil
-octets_whole (Some (Open own)) = (read_alone _ _ _ (open_first own.asn.0 own.hold_time own.identifier)).1
+octets_whole (Some (Open own)) = (read_alone _ _ _ (open_first own.multiprotocol own.asn.0 own.hold_time own.identifier)).1
 octets_whole (Some Keepalive) = (read_alone _ _ _ keepalive_first).1
 octets_whole (Some (Notify told)) = (read_alone _ _ _ (notification_first told)).1
 

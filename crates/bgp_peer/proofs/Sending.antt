@@ -50,7 +50,7 @@ says_none = inl messages-nil
 octets_say_none : (message : Option Outgoing) → SaysNoUpdate (octets_of message)
 octets_say_none None = says_none
 octets_say_none (Some (Open own)) =
-    inr (OpenType, open_body own.asn.0 own.hold_time own.identifier, (read_alone _ _ _ (open_first own.asn.0 own.hold_time own.identifier)).0, λ e. cc)
+    inr (OpenType, open_body own.multiprotocol own.asn.0 own.hold_time own.identifier, (read_alone _ _ _ (open_first own.multiprotocol own.asn.0 own.hold_time own.identifier)).0, λ e. cc)
 octets_say_none (Some Keepalive) = inr (KeepaliveType, [], (read_alone _ _ _ keepalive_first).0, λ e. cc)
 octets_say_none (Some (Notify told)) = inr (NotificationType, notification_body told, (read_alone _ _ _ (notification_first told)).0, λ e. cc)
 

@@ -1,5 +1,5 @@
 -- What happens to a slot, and what that is to its session (RFC 4271 sections 4.1 and 8.1).
-use Rattle.std.specs.Prelude.{ℕ, ◌||◌, Bool, List, [], ◌∷◌, ◌++◌, Option, Some, None, is_some, if◌then◌else◌}
+use Rattle.std.specs.Prelude.{ℕ, ◌||◌, Bool, false, List, [], ◌∷◌, ◌++◌, Option, Some, None, is_some, if◌then◌else◌}
 use Rattle.std.specs.Option.{option_map}
 use Rattle.net_prefix.specs.declared.asn.Asn.{Asn}
 use Rattle.bgp_attr.specs.declared.peer.Mode.{Mode}
@@ -10,6 +10,7 @@ use Rattle.bgp_attr.specs.AttributeFaults.{Fault as UpdateFault}
 use Rattle.bgp_msg.specs.declared.frame.MessageType.TheVariants.{Open as OpenType, Update as UpdateType, Notification as NotificationType, Keepalive as KeepaliveType}
 use Rattle.bgp_msg.specs.declared.fault.OpenFault.{OpenFault}
 use Rattle.bgp_msg.specs.declared.open_message.Open.{Open as OpenMessage}
+use Rattle.bgp_msg.specs.declared.open_message.OwnOpen.{OwnOpen as OwnOpenMessage}
 use Rattle.bgp_msg.specs.declared.open_message.Expected.{Expected}
 use Rattle.bgp_msg.specs.MessageFaults.{open_fault, hold_time_at, identifier_at}
 use Rattle.bgp_msg.specs.Notifications.{header_notification, open_notification, update_notification}
@@ -29,7 +30,7 @@ use Rattle.bgp_peer.specs.Slot.{kept}
 
 -- what a slot's peer is configured with: the OPEN that this side sends, which side opens the connection, the peer's AS
 pub record Terms : Type 0 where
-  pub own : OpenMessage
+  pub own : OwnOpenMessage
   pub mode : Mode
   pub peer_asn : Asn
 
@@ -59,7 +60,7 @@ occupant (Ticked now ∷ h) = occupant h
 
 -- the terms of a slot without a peer
 abbrev pub nobody : Terms
-nobody = record { own = record { asn = record { 0 = 0 }; hold_time = 0; identifier = 0 }; mode = Passive; peer_asn = record { 0 = 0 } }
+nobody = record { own = record { asn = record { 0 = 0 }; hold_time = 0; identifier = 0; multiprotocol = false }; mode = Passive; peer_asn = record { 0 = 0 } }
 
 -- those of a peer, if there is one
 abbrev pub terms_from : Option Terms → Terms

@@ -2,7 +2,7 @@
 use Rattle.std.specs.Prelude.{◌≡◌, ℕ, ◌+◌, ◌≤◌, ◌||◌, nat_le, if◌then◌else◌, Bool, List, [], ◌++◌, length, drop, Option, Some, None}
 use Rattle.net_prefix.specs.declared.transport.Transport.TheVariants.{Open as Connected}
 use Rattle.bgp_attr.specs.declared.peer.Mode.{Mode}
-use Rattle.bgp_msg.specs.declared.open_message.Open.{Open as OpenMessage}
+use Rattle.bgp_msg.specs.declared.open_message.OwnOpen.{OwnOpen as OwnOpenMessage}
 use Rattle.bgp_msg.specs.declared.frame.Step.{Step}
 use Rattle.bgp_msg.specs.declared.frame.Step.TheVariants.{Need, Message, Faulty}
 use Rattle.bgp_msg.specs.MessageSpelling.{told_length, open_of, header_of}
@@ -59,7 +59,7 @@ HoldsOnly rest step = (messages rest ≡ with_front (item_of_step step) []) × (
 -- the octets of what a row queues (RFC 4271 section 4)
 abbrev pub octets_of : Option Outgoing → List ℕ
 octets_of None = []
-octets_of (Some (Open own)) = open_of own.asn.0 own.hold_time own.identifier
+octets_of (Some (Open own)) = open_of own.multiprotocol own.asn.0 own.hold_time own.identifier
 octets_of (Some Keepalive) = header_of KeepaliveMessage 19
 octets_of (Some (Notify told)) = notification_of told
 
@@ -72,7 +72,7 @@ abbrev pub said : Option Outgoing → List ℕ → List ℕ
 said message ring = if is_queued message ring then octets_of message else []
 
 -- a slot whose peer is configured and not enabled
-abbrev pub configured : OpenMessage → Mode → Slot
+abbrev pub configured : OwnOpenMessage → Mode → Slot
 configured own mode = record { session = fresh own mode; rest = []; ring = [] }
 
 -- these octets have come

@@ -18,7 +18,7 @@ use arrayvec::ArrayVec;
 use bgp_attr::Mode;
 use bgp_fsm::{Effects, Input, Outgoing, Session, State, Timer};
 use bgp_msg::{
-    MAX_MESSAGE, Open, Step, needed, read, write_keepalive, write_notification, write_open,
+    MAX_MESSAGE, OwnOpen, Step, needed, read, write_keepalive, write_notification, write_open,
 };
 use circular_buffer::HeapCircularBuffer;
 use net_prefix::Transport;
@@ -54,7 +54,7 @@ impl<A: Allocator> Model for Peer<A> {
 
 impl<A: Allocator> Peer<A> {
     /// A slot whose peer is configured and not enabled. `own` is the OPEN that this side sends.
-    pub fn new(alloc: A, own: Open, mode: Mode) -> Result<Self, AllocError>
+    pub fn new(alloc: A, own: OwnOpen, mode: Mode) -> Result<Self, AllocError>
         ensures exact { IfOk result (λ p. p ≡ configured own mode) }
         ensures agrees { IfOk result (λ p. (h : List Event) (peer_asn : Asn) → PeerAgrees (Configured (record { own = own; mode = mode; peer_asn = peer_asn }) ∷ h) p) }
     {

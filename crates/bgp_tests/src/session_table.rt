@@ -3,13 +3,14 @@
 
 use bgp_attr::Mode;
 use bgp_fsm::{Input, Outgoing, Session, State, Timer, Timers};
-use bgp_msg::{Notification, Open, SessionError};
+use bgp_msg::{Notification, Open, OwnOpen, SessionError};
 use net_prefix::{Asn, Transport};
 
-const OWN: Open = Open {
+const OWN: OwnOpen = OwnOpen {
     asn: Asn(65000),
     hold_time: 180,
     identifier: 0xC000_0201,
+    multiprotocol: false,
 };
 
 const PEER: Open = Open {
@@ -183,7 +184,7 @@ const RUNS: [Run; 6] = [
 
 // The session behind what comes, and whether the last of it made the session enter and leave Established.
 fn ran(hold_time: u16, inputs: &[(Came, u64)]) -> (Session, (bool, bool)) {
-    let mut session = Session::new(Open { hold_time, ..OWN }, Mode::Passive);
+    let mut session = Session::new(OwnOpen { hold_time, ..OWN }, Mode::Passive);
     let mut told = (false, false);
     for (came, now) in inputs {
         let effects = session.input(input_of(*came), *now);

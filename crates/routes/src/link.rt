@@ -7,7 +7,7 @@ ghost use Rattle.routes.specs.Linked.{adj_out_after, moved, taken_of};
 
 use bgp_attr::Mode;
 use bgp_fsm::{Effects, Input, State};
-use bgp_msg::Open;
+use bgp_msg::OwnOpen;
 use bgp_peer::Peer;
 use net_prefix::Transport;
 use rib_out::AdjOut;
@@ -31,7 +31,7 @@ impl<A: Allocator> Model for Link<A> {
 
 impl<A: Allocator + Clone> Link<A> {
     /// A slot in Idle, disabled. Takes the memory of its ring.
-    pub fn new(alloc: A, own: Open, mode: Mode) -> Result<Self, AllocError>
+    pub fn new(alloc: A, own: OwnOpen, mode: Mode) -> Result<Self, AllocError>
         ensures { IfOk result (λ l. l ≡ record { peer = configured own mode; adj_out = [] }) }
     {
         let adj_out = AdjOut::new(alloc.clone()?);

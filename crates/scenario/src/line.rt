@@ -14,7 +14,7 @@ use std::alloc::Global;
 /// A line of a script. Its words are separated by single spaces.
 #[derive(Drop)]
 pub enum Line<'a> {
-    /// `speaker AS IDENTIFIER cache|nocache`
+    /// `speaker AS IDENTIFIER cache|nocache`, and `multiprotocol` behind it or not
     Speaker(Config),
     /// A line for the speaker.
     Drive(SpeakerLine<'a>),
@@ -143,11 +143,12 @@ fn stage_line<'a>(words: &[&'a str]) -> Option<Line<'a>>
     ensures { IfSome result IsNoCommand }
 {
     let line = match words {
-        ["speaker", asn, identifier, cache] => Line::Speaker(Config {
-            asn: Asn(number(asn)?),
-            identifier: address(identifier)?,
-            cache: cache_word(cache)?,
-        }),
+        ["speaker", asn, identifier, cache] => {
+            Line::Speaker(config_of(asn, identifier, cache, false)?)
+        }
+        ["speaker", asn, identifier, cache, "multiprotocol"] => {
+            Line::Speaker(config_of(asn, identifier, cache, true)?)
+        }
         ["cache", session, refresh, retry, expire] => Line::Cache(
             number(session)?,
             Intervals {
@@ -181,6 +182,15 @@ fn speaker_line<'a>(words: &[&'a str]) -> Option<SpeakerLine<'a>>
         _ => return None,
     };
     Some(line)
+}
+
+fn config_of(asn: &str, identifier: &str, cache: &str, multiprotocol: bool) -> Option<Config> {
+    Some(Config {
+        asn: Asn(number(asn)?),
+        identifier: address(identifier)?,
+        cache: cache_word(cache)?,
+        multiprotocol,
+    })
 }
 
 // Whether a speaker has a cache session.

@@ -1,9 +1,9 @@
 -- What stands at a key of settings (own): the members of a table are those that its text spells, as TOML has it, and a key
 -- tells a value where what stands there is of its kind.
-use Rattle.std.specs.Prelude.{◌≡◌, ◌<◌, ◌^◌, ℕ, List, pos, Option, Some, None, Result, Ok, Err, IsUtf8}
+use Rattle.std.specs.Prelude.{◌≡◌, ◌<◌, ◌^◌, ℕ, Bool, List, pos, Option, Some, None, Result, Ok, Err, IsUtf8}
 use Rattle.std.specs.Net.Grammar.{IsSocketText}
 use Rattle.std.specs.declared.net.socket_addr.SocketAddr.{SocketAddr as Address}
-use Rattle.toml.specs.Data.{Data, Members, as_str, as_integer}
+use Rattle.toml.specs.Data.{Data, Members, as_str, as_integer, as_bool}
 use Rattle.toml.specs.Parse.{parse_document}
 use Rattle.settings_keys.specs.declared.SettingsFault.{SettingsFault}
 use Rattle.settings_keys.specs.declared.SettingsFault.TheVariants.{Settings, NoMemory}
@@ -19,6 +19,10 @@ IsText found text = as_str found ≡ Some text
 -- a number of 32 bits
 abbrev pub IsNumber : Data → ℕ → Type 0
 IsNumber found number = (as_integer found ≡ Some (pos number)) × (number < 2 ^ 32)
+
+-- yes or no
+abbrev pub IsYesOrNo : Data → Bool → Type 0
+IsYesOrNo found is_on = as_bool found ≡ Some is_on
 
 -- a text that spells this
 abbrev pub IsSpelled : {A : Type 0} → (List ℕ → A → Type 0) → Data → A → Type 0

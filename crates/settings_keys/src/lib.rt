@@ -1,14 +1,14 @@
 //! The keys of settings, in TOML.
 //!
 //! A settings file is a table of keys: `read_table` reads it, and the others what stands at a key, as a text, an address with
-//! its port, or a number (`specs/Keys.antt`). What isn't TOML, lacks a key or has a value of another kind is told from a want
+//! its port, a number, or yes or no (`specs/Keys.antt`). What isn't TOML, lacks a key or has a value of another kind is told from a want
 //! of memory, also to a program (`specs/SettingsExits.antt`). What is TOML, and what an address, the crate `toml` and std say.
 #![tactic(auto)]
 
-ghost use Rattle.std.specs.Prelude.{◌≡◌, ℕ, List, MatchResult, option_map};
+ghost use Rattle.std.specs.Prelude.{◌≡◌, ℕ, List, MatchResult, false, option_map};
 ghost use Rattle.toml.specs.Data.{Members, get_member};
 ghost use Rattle.toml.specs.View.{table_view, view};
-ghost use Rattle.settings_keys.specs.Keys.{Answers, IsAddress, IsNumber, IsTableOf, IsText, IsTold, IsToldIfThere};
+ghost use Rattle.settings_keys.specs.Keys.{Answers, IsAddress, IsNumber, IsTableOf, IsText, IsTold, IsToldIfThere, IsToldOrUsual, IsYesOrNo};
 ghost use Rattle.settings_keys.specs.SettingsExits.{exit_of_settings};
 ghost use Rattle.settings_keys.specs.declared.SettingsFault.TheVariants.{NoMemory};
 
@@ -117,5 +117,18 @@ pub fn number_of(table: &Table, key: &str) -> Result<Option<u32>, SettingsFault>
     match u32::try_from(number) {
         Ok(number) => Ok(Some(number)),
         Err(_) => Err(SettingsFault::Settings),
+    }
+}
+
+/// Whether a key is told `true`; false where the key isn't there. `Settings` where its value is neither `true` nor `false`.
+pub fn yes_or_no_of(table: &Table, key: &str) -> Result<bool, SettingsFault>
+    ensures { Answers (IsToldOrUsual IsYesOrNo false (get_member key.now (table_view table.now))) result }
+{
+    let Some(value) = value_at(table, key) else {
+        return Ok(false);
+    };
+    match value.as_bool() {
+        Some(is_on) => Ok(is_on),
+        None => Err(SettingsFault::Settings),
     }
 }

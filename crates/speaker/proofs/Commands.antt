@@ -713,7 +713,7 @@ put_inserted slot link l f g updates is s = updates s ∙ rw (is_eq-nat_cmp slot
 
 -- a new slot, with the OPEN of the peer's terms
 abbrev pub added : Config → PeerConf → Linked
-added config peer = record { peer = configured (record { asn = config.asn; hold_time = peer.hold; identifier = config.identifier }) peer.mode; adj_out = [] }
+added config peer = record { peer = configured (record { asn = config.asn; hold_time = peer.hold; identifier = config.identifier; multiprotocol = config.multiprotocol }) peer.mode; adj_out = [] }
 
 pub added_same : (have config : Config) (peer : PeerConf) → have ≡ config → added have peer ≡ added config peer
 added_same have config peer is = rw is refl

@@ -28,8 +28,8 @@ told_in-nil p = ap (λ items. told_from None items p) messages-nil
 octets_tell_nothing : (message : Option Outgoing) (before : Option (List ℕ)) (p : Prefix) → told_from before (messages (octets_of message)) p ≡ before
 octets_tell_nothing None before p = ap (λ items. told_from before items p) messages-nil
 octets_tell_nothing (Some (Open own)) before p =
-    ap (λ octets. told_from before (messages octets) p) (sym (append-nil (open_of own.asn.0 own.hold_time own.identifier)))
-    ∙ ap (λ items. told_from before items p) (open_first own.asn.0 own.hold_time own.identifier []).0
+    ap (λ octets. told_from before (messages octets) p) (sym (append-nil (open_of own.multiprotocol own.asn.0 own.hold_time own.identifier)))
+    ∙ ap (λ items. told_from before items p) (open_first own.multiprotocol own.asn.0 own.hold_time own.identifier []).0
     ∙ ap (λ items. told_from before items p) messages-nil
 octets_tell_nothing (Some Keepalive) before p =
     ap (λ octets. told_from before (messages octets) p) (sym (append-nil (header_of KeepaliveType 19)))

@@ -171,7 +171,7 @@ payloads_after r = in_force (cache.client (cache_history r))
 -- the terms of a peer's session
 abbrev pub terms_in : Config → ConfiguredPeer → Terms
 terms_in config peer = record {
-  own = record { asn = config.asn; hold_time = peer.hold; identifier = config.identifier };
+  own = record { asn = config.asn; hold_time = peer.hold; identifier = config.identifier; multiprotocol = config.multiprotocol };
   mode = peer.mode;
   peer_asn = peer.asn;
 }

@@ -24,7 +24,7 @@ use crate::step::Speaker;
 use bgp_attr::Attrs;
 use bgp_conf::{Command, PeerConf};
 use bgp_fsm::Input;
-use bgp_msg::Open;
+use bgp_msg::OwnOpen;
 use decision::{Book, LOCAL_SLOT};
 use net_prefix::Prefix;
 use routes::{Link, choose_again, choose_slot, judge_network};
@@ -283,10 +283,11 @@ impl<A: Allocator + Clone, B: Book<A>> Speaker<A, B> {
         ensures counted { OnOk result (self.new.chosen_before ≡ self.old.chosen) }
         ensures rises { OnOk result (self.old.chosen ≤ self.new.chosen) }
     {
-        let own = Open {
+        let own = OwnOpen {
             asn: self.config.asn,
             hold_time: conf.hold,
             identifier: self.config.identifier,
+            multiprotocol: self.config.multiprotocol,
         };
         let link = Link::new(self.alloc.clone()?, own, conf.mode)?;
         let before = self.links.insert(slot, link)?;

@@ -30,8 +30,8 @@ TextFrom {L} gives remaining text = (lines : L) × gives lines × (text ≡ rema
 abbrev pub StateFrom : {W : Type 0} → (W → Type 0) → (W → WireState) → WireState → Type 0
 StateFrom {W} gives state_of state = (wire : W) × gives wire × (state ≡ state_of wire)
 
--- a loop before its first turn: its speaker is as the commands of the settings, of such a text, leave one of their AS, Identifier
--- and cache, its slots are just those of the settings, and over such a wire it knows where each peer of the settings is, and their
+-- a loop before its first turn: its speaker is as the commands of the settings, of such a text, leave one of their AS, Identifier,
+-- cache and capabilities, its slots are just those of the settings, and over such a wire it knows where each peer of the settings is, and their
 -- cache
 pub record IsBegun (Told : Option (List ℕ) → Type 0) (Opened : WireState → Type 0) (settings : SpeakerSettings) (turns : Turns) : Type 0 where
   pub speaker : SpeakerState
@@ -39,7 +39,7 @@ pub record IsBegun (Told : Option (List ℕ) → Type 0) (Opened : WireState →
   pub wire : WireState
   pub told : Told text
   pub opened : Opened wire
-  pub commanded : IsCommanded text (record { asn = settings.asn; identifier = settings.identifier; cache = is_some settings.cache }) speaker
+  pub commanded : IsCommanded text (record { asn = settings.asn; identifier = settings.identifier; cache = is_some settings.cache; multiprotocol = settings.multiprotocol }) speaker
   pub slots : HasJust settings.peers.items speaker
   pub remotes : turns ≡ with_remotes settings.peers.items settings.cache (idle speaker wire)
 

@@ -1,12 +1,12 @@
 -- What a speaker's settings are, key by key (own).
-use Rattle.std.specs.Prelude.{◌≡◌, ◌<◌, ◌≤◌, ℕ, List, [], ◌∷◌, Option, None, Some, codes, string_bytes, ⊤}
+use Rattle.std.specs.Prelude.{◌≡◌, ◌<◌, ◌≤◌, ℕ, List, [], ◌∷◌, Option, None, Some, false, codes, string_bytes, ⊤}
 use Rattle.std.specs.Net.Addr.{ipv4_bits}
 use Rattle.std.specs.Net.Grammar.{IsIpv4Text}
 use Rattle.std.specs.declared.net.ipv4_addr.Ipv4Addr.{Ipv4Addr}
 use Rattle.std.specs.declared.net.socket_addr.SocketAddr.{SocketAddr as Address}
 use Rattle.toml.specs.Data.{Data, Items, Members, as_array, as_table, get_member, no_items, item}
 use Rattle.net_prefix.specs.declared.asn.Asn.{Asn}
-use Rattle.settings_keys.specs.Keys.{IsAddress, IsNumber, IsSpelled, IsText, IsTold, IsToldIfThere}
+use Rattle.settings_keys.specs.Keys.{IsAddress, IsNumber, IsSpelled, IsText, IsTold, IsToldIfThere, IsToldOrUsual, IsYesOrNo}
 use Rattle.speaker_program.specs.Slots.{AreSlots}
 use Rattle.speaker_program.specs.declared.settings.SpeakerSettings.{SpeakerSettings}
 
@@ -47,5 +47,6 @@ pub record IsToldBy (table : Members) (settings : SpeakerSettings) : Type 0 wher
   pub identifier : IsTold IsIdentifier (get_member (codes "identifier") table) settings.identifier
   pub commands : IsTold IsText (get_member (codes "commands") table) (string_bytes settings.commands)
   pub cache : IsToldIfThere IsAddress (get_member (codes "cache") table) settings.cache
+  pub multiprotocol : IsToldOrUsual IsYesOrNo false (get_member (codes "multiprotocol") table) settings.multiprotocol
   pub listen : IsToldIfThere IsAddress (get_member (codes "listen") table) settings.listen
   pub peers : ArePeersAt (get_member (codes "peer") table) settings.peers.items

@@ -228,7 +228,7 @@ where
     ensures fault { IfErr result (λ fault. fault ≢ ExitFault.Arguments) }
     ensures slots { IfOk result (HasJust settings.now.peers.items) }
     ensures commands { IfOk result (λ speaker. (lines : L) × FnOnceReturnsAt M.FnOnce commands (string_bytes settings.now.commands) (Ok lines)
-        × IsCommanded (L.remaining lines) (record { asn = settings.now.asn; identifier = settings.now.identifier; cache = is_some settings.now.cache }) speaker) }
+        × IsCommanded (L.remaining lines) (record { asn = settings.now.asn; identifier = settings.now.identifier; cache = is_some settings.now.cache; multiprotocol = settings.now.multiprotocol }) speaker) }
 {
     let mut speaker = made(alloc, settings.config())?;
     command(alloc, settings, &mut speaker, commands)?;

@@ -10,6 +10,7 @@ use bgp_conf::PEER_SLOTS;
 use net_prefix::Asn;
 use settings_keys::{
     SettingsFault, address_if_told, address_of, number_of, read_table, text_of, value_at,
+    yes_or_no_of,
 };
 use speaker::Config;
 use std::alloc::Global;
@@ -27,6 +28,8 @@ pub struct SpeakerSettings {
     pub commands: String,
     /// Where its RPKI cache is, if it has one.
     pub cache: Option<SocketAddr>,
+    /// Whether its OPEN tells IPv4 unicast by the capability of RFC 4760 section 8.
+    pub multiprotocol: bool,
     /// Where it listens, if it does.
     pub listen: Option<SocketAddr>,
     /// The slot of each peer, and where the peer is.
@@ -35,9 +38,10 @@ pub struct SpeakerSettings {
 
 impl SpeakerSettings {
     /// The settings that the octets of a file tell in TOML: `as`, a number from 1 to 4294967295, `identifier`, the text of
-    /// an IPv4 address other than 0.0.0.0, and `commands`, a text; and, where they are there, `cache` and `listen`, each the
-    /// text of an address and a port, and the tables `peer`, each with `slot`, from 0 to 63 and none twice, and `remote`, the
-    /// text of an address and a port. Keys of other names are passed over. Anything else is `Settings`.
+    /// an IPv4 address other than 0.0.0.0, and `commands`, a text; and, where they are there, `multiprotocol`, `true` or
+    /// `false`, `cache` and `listen`, each the text of an address and a port, and the tables `peer`, each with `slot`, from 0 to
+    /// 63 and none twice, and `remote`, the text of an address and a port. Keys of other names are passed over. Anything else is
+    /// `Settings`.
     pub fn read(alloc: Global, octets: &[u8]) -> Result<SpeakerSettings, SettingsFault>
         ensures told { AnswersInMemory (λ settings. (table : Members) × IsTableOf octets.now table × IsToldBy table settings) result }
         ensures own { IfOk result (λ settings. (1 ≤ settings.asn.0) × (1 ≤ settings.identifier)) }
@@ -58,6 +62,7 @@ impl SpeakerSettings {
         let path = text_of(table, "commands")?;
         let commands = String::from_str(alloc, path)?;
         let cache = address_if_told(table, "cache")?;
+        let multiprotocol = yes_or_no_of(table, "multiprotocol")?;
         let listen = address_if_told(table, "listen")?;
         let peers = peers_of(alloc, table)?;
         Ok(SpeakerSettings {
@@ -65,6 +70,7 @@ impl SpeakerSettings {
             identifier,
             commands,
             cache,
+            multiprotocol,
             listen,
             peers,
         })
@@ -72,12 +78,13 @@ impl SpeakerSettings {
 
     /// What the speaker is made with.
     pub fn config(&self) -> Config
-        ensures { result ≡ record { asn = self.now.asn; identifier = self.now.identifier; cache = is_some self.now.cache } }
+        ensures { result ≡ record { asn = self.now.asn; identifier = self.now.identifier; cache = is_some self.now.cache; multiprotocol = self.now.multiprotocol } }
     {
         Config {
             asn: self.asn,
             identifier: self.identifier,
             cache: self.cache.is_some(),
+            multiprotocol: self.multiprotocol,
         }
     }
 }

@@ -135,7 +135,7 @@ fn wrong_words_are_arguments(rt: HostRuntime) {
 const GOOD_SETTINGS: [(&str, &str); 7] = [
     (SETTINGS, ""),
     ("as = 1\nidentifier = \"255.255.255.255\"\nother = [1]\n[table]\nas = \"no\"\n", "# nothing\n\n"),
-    ("as = 4294967295\nidentifier = \"0.0.0.1\"\nlisten = \"127.0.0.1:0\"\n", "reach 192.0.2.0/24 10"),
+    ("as = 4294967295\nidentifier = \"0.0.0.1\"\nlisten = \"127.0.0.1:0\"\nmultiprotocol = true\n", "reach 192.0.2.0/24 10"),
     ("as = 65000\nidentifier = \"192.0.2.1\"\ncache = \"127.0.0.1:1\"\n", "policy v state invalid reject ; accept\r\n"),
     ("as = 65000\nidentifier = \"192.0.2.1\"\npeer = []\n", ""),
     (ONE_PEER, PEER),
@@ -145,7 +145,7 @@ const GOOD_SETTINGS: [(&str, &str); 7] = [
     ),
 ];
 
-const BAD_SETTINGS: [&str; 26] = [
+const BAD_SETTINGS: [&str; 27] = [
     "as = 65000\nidentifier = \"192.0.2.1\"\nno toml",
     "identifier = \"192.0.2.1\"\n",
     "as = 65000\n",
@@ -162,6 +162,7 @@ const BAD_SETTINGS: [&str; 26] = [
     "as = 65000\nidentifier = \"192.0.2.1\"\ncache = 323\n",
     "as = 65000\nidentifier = \"192.0.2.1\"\nlisten = \"127.0.0.1\"\n",
     "as = 65000\nidentifier = \"192.0.2.1\"\nlisten = true\n",
+    "as = 65000\nidentifier = \"192.0.2.1\"\nmultiprotocol = 1\n",
     "as = 65000\nidentifier = \"192.0.2.1\"\npeer = 0\n",
     "as = 65000\nidentifier = \"192.0.2.1\"\npeer = [0]\n",
     "as = 65000\nidentifier = \"192.0.2.1\"\n[[peer]]\nslot = 0\n",

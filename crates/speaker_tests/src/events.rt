@@ -7,6 +7,7 @@ pub const CONFIG: Config = Config {
     asn: Asn(65000),
     identifier: 0xC000_0201,
     cache: false,
+    multiprotocol: false,
 };
 
 const FIRST_PEER: PeerConf<'static> = PeerConf {

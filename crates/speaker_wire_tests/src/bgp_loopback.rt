@@ -145,6 +145,7 @@ where
         asn: Asn(65_000),
         identifier: 0xC000_0201,
         cache: true,
+        multiprotocol: false,
     };
     let mut speaker = speaking(rt, None, config, "");
     speaker.set_remote(End::Cache, address);
@@ -244,6 +245,7 @@ where
         asn: Asn(65_002),
         identifier: 0xC000_0202,
         cache: false,
+        multiprotocol: false,
     };
     let mut active = speaking(rt, None, config, ACTIVE);
     active.set_remote(End::Peer(0), address);
@@ -270,6 +272,7 @@ fn two_speakers_tell_each_other_their_networks(rt: HostRuntime) {
         asn: Asn(65_001),
         identifier: 0xC000_0201,
         cache: false,
+        multiprotocol: false,
     };
     let mut passive = speaking(&rt, Some(some_port()), config, PASSIVE);
     assert!(rt; tells_its_peer(&rt, &mut passive));

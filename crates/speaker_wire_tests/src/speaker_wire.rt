@@ -391,6 +391,7 @@ fn prepared(rt: &(impl AllocGlobal + Abort)) -> Speaker {
         asn: Asn(65_000),
         identifier: 0xC000_0201,
         cache: true,
+        multiprotocol: false,
     };
     let mut speaker = made(rt, Speaker::new(rt.alloc(), config));
     assert!(rt; has_peers(&mut speaker));

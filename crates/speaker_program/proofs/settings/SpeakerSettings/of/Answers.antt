@@ -29,6 +29,11 @@ returns-in_err-cache-clause-told c =
     let needs = IsToldBy (table_view c.args.table.now) in
     in_memory needs _ (passes_on _ needs c.from_residual-in_err-cache.result _ c.from_residual-in_err-cache.ensures.1 c.in_err-cache.ensures (λ none s told. none s.cache told.cache))
 
+pub returns-in_err-multiprotocol-clause-told : goal.returns-in_err-multiprotocol-clause-told
+returns-in_err-multiprotocol-clause-told c =
+    let needs = IsToldBy (table_view c.args.table.now) in
+    in_memory needs _ (passes_on _ needs c.from_residual-in_err-multiprotocol.result _ c.from_residual-in_err-multiprotocol.ensures.1 c.in_err-multiprotocol.ensures (λ none s told. none s.multiprotocol told.multiprotocol))
+
 pub returns-in_err-listen-clause-told : goal.returns-in_err-listen-clause-told
 returns-in_err-listen-clause-told c =
     let needs = IsToldBy (table_view c.args.table.now) in
