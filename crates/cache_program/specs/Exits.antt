@@ -9,8 +9,11 @@ use Rattle.vrp_json.specs.declared.fault.JsonFault.{JsonFault}
 use Rattle.vrp_json.specs.declared.fault.JsonFault.TheVariants.{Text, NotObject, NoRoas, NotArray, Entry, SecondRoas, NoMemory as NoMemoryOfJson}
 use Rattle.cache_program.specs.declared.reread.ListFault.{ListFault}
 use Rattle.cache_program.specs.declared.reread.ListFault.TheVariants.{NoFile, List, Guard, NoMemory}
+use Rattle.settings_keys.specs.SettingsExits.{exit_of_settings}
+use Rattle.cache_program.specs.declared.fault.CacheFault.{CacheFault}
+use Rattle.cache_program.specs.declared.fault.CacheFault.TheVariants.{Words, File, Settings as BadSettings, List as BadList, Refused, Listen, Clock, Turn, Output, NoMemory as NoMemoryToBegin}
 use Rattle.program_endings.specs.declared.fault.ExitFault.{ExitFault}
-use Rattle.program_endings.specs.declared.fault.ExitFault.TheVariants.{Settings, Device}
+use Rattle.program_endings.specs.declared.fault.ExitFault.TheVariants.{Arguments, Settings, Device}
 
 -- what the fault of a row is to the program
 abbrev pub exit_of_row : RowFault → ExitFault
@@ -53,3 +56,16 @@ exit_of_refusal Full = Settings
 exit_of_refusal ClockBack = Settings
 exit_of_refusal NoMemoryOfCache = Device
 exit_of_refusal Range = Settings
+
+-- what ends the program, to whoever started it
+abbrev pub exit_of_fault : CacheFault → ExitFault
+exit_of_fault (Words why) = Arguments
+exit_of_fault (File path error) = Device
+exit_of_fault (BadSettings path why) = exit_of_settings why
+exit_of_fault (BadList path why) = exit_of_first_list why
+exit_of_fault (Refused refusal) = exit_of_refusal refusal
+exit_of_fault (Listen address error) = Device
+exit_of_fault (Clock error) = Device
+exit_of_fault (Turn why) = Device
+exit_of_fault (Output error) = Device
+exit_of_fault NoMemoryToBegin = Device

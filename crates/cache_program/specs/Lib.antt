@@ -1,4 +1,6 @@
 pub mod CacheOfSettings
+pub mod Checked
+pub mod Endings
 pub mod Exits
 pub mod FirstList
 pub mod Opened

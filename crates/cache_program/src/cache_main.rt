@@ -1,7 +1,15 @@
 //! What the main of `ovcache` does.
-ghost use Rattle.std.specs.Prelude.{◌≡◌, ◌≢◌, ◌≤◌, [], ℕ, List, Ok, Err, IfErr, IfOk, OnOk, false, if◌then◌else◌, string_bytes};
+ghost use Rattle.std.specs.Prelude.{◌≡◌, ◌≤◌, [], ◌∷◌, ℕ, List, Option, Ok, IfErr, IfOk, MatchResult, OnErr, OnOk, false, if◌then◌else◌, length, string_bytes};
+ghost use Rattle.clocks.specs.Moments.{IsNotBefore};
 ghost use Rattle.std.specs.Fn.{FnReturnsAt};
 ghost use Rattle.toml.specs.Data.{Members};
+ghost use Rattle.std.specs.Result.{IsErrAnd};
+ghost use Rattle.program_endings.specs.Asides.{Asks};
+ghost use Rattle.program_endings.specs.declared.aside.Aside.{Aside};
+ghost use Rattle.net_prefix.specs.declared.payload.Vrp.{Vrp};
+ghost use Rattle.cache_program.specs.Endings.{IsOfWords, status_at_end};
+ghost use Rattle.cache_program.specs.Checked.{IsChecked, IsCheckedBy};
+ghost use Rattle.cache_program.specs.FirstList.{Passes};
 ghost use Rattle.cache_program.specs.Opened.{AnyList, AnySecond, AnyWire, Gives, Listens, Tells};
 ghost use Rattle.cache_program.specs.Passing.{have_passed};
 ghost use Rattle.cache_program.specs.Rereads.{Served};
@@ -14,8 +22,10 @@ ghost use Rattle.program_endings.specs.Words.{IsCall};
 ghost use Rattle.wires.specs.Wires.{WireState};
 
 use crate::every::Every;
+use crate::fault::CacheFault;
+use crate::help::{HELP, VERSION};
 use crate::journal::{LogLine, log};
-use crate::loading::load_cache;
+use crate::loading::{first_set, load_cache};
 use crate::reread::Reread;
 use crate::served_list::ServedList;
 use crate::watched::Watched;
@@ -23,7 +33,7 @@ use cache_settings::CacheSettings;
 use cache_turns::CacheLoop;
 use clocks::{MonotonicClock, SecondsClock};
 use net_wires::{NetWire, REST_MILLISECONDS};
-use program_endings::{ExitFault, end, read_words};
+use program_endings::{Aside, aside_of, end, print, read_words};
 use rtr_cache::Cache;
 use std::alloc::{AllocGlobal, Global};
 use std::fs;
@@ -33,9 +43,35 @@ use std::rt::{Clock, Files};
 use std::time::{Duration, SystemTime};
 use wires::Wire;
 
-/// `ovcache SETTINGS TURNS`: a cache that serves the list of its settings for so many turns. Its output is the log, and
-/// stays as it is where the settings ask for none; a fault has its line on `errors`. The answer is the exit status.
+/// `ovcache SETTINGS [TURNS]`: a cache that serves the list of its settings for so many turns. Its output is the log, and
+/// stays as it is where the settings ask for none; a fault has its line on `errors`. `--help`, `--version` and `--check SETTINGS`
+/// are answered on the output, and nothing is served then. The answer is the exit status.
 pub fn main_cache<R, O: Write, E: Write>(
+    rt: &R,
+    words: &[String],
+    output: &mut O,
+    errors: &mut E,
+) -> u8
+where
+    R: Net<Listener = TcpListener, Stream = TcpStream> + Files + Clock + AllocGlobal,
+    ensures words { ((path : List ℕ) (turns : ℕ) → ¬ (IsCall words.now path turns)) → ((aside : Aside) → ¬ (Asks words.now aside)) → result ≡ 1 }
+    ensures range { result ≤ 2 }
+    ensures output { ((path : List ℕ) (turns : ℕ) → ¬ (IsCall words.now path turns)) → ((aside : Aside) → ¬ (Asks words.now aside)) → output.new ≡ output.old }
+    ensures silent { result ≡ 0 → errors.new ≡ errors.old }
+    // The status is 0 only where the settings of some file were served for just the turns of the words.
+    ensures serves { ((aside : Aside) → ¬ (Asks words.now aside)) → result ≡ 0 → (path : List ℕ) × (turns : ℕ) × (octets : List ℕ) × (table : Members) × (settings : CacheSettings) × (behind : List ℕ) × (served : Served)
+        × IsCall words.now path turns × IsTableOf octets table × IsToldBy table settings × IsServed AnyList AnyWire AnySecond settings turns [] behind served }
+    // Where they are to be checked, it is 0 only where some file tells settings whose guards let a list of some file be served.
+    ensures checks { (aside : Aside) → Asks words.now aside → result ≡ 0 → IsCheckedBy aside }
+{
+    match aside_of(words) {
+        None => main_serving(rt, words, output, errors),
+        Some(aside) => ending(answer(rt, aside, output), errors),
+    }
+}
+
+// The same of words that ask for nothing else.
+fn main_serving<R, O: Write, E: Write>(
     rt: &R,
     words: &[String],
     output: &mut O,
@@ -61,7 +97,66 @@ where
         |listen| NetWire::listening(rt, listen),
         || Ok(SystemTime::UNIX_EPOCH.elapsed(rt)?.as_secs()),
     );
-    end("ovcache", served, errors)
+    ending(served, errors)
+}
+
+// The exit status of the program that has ended so; a fault has its line on `errors`.
+fn ending<E: Write>(ended: Result<(), CacheFault>, errors: &mut E) -> u8
+    ensures status { result ≡ status_at_end ended }
+    ensures range { result ≤ 2 }
+    ensures silent { result ≡ 0 → errors.new ≡ errors.old }
+{
+    match ended {
+        Ok(()) => 0,
+        Err(fault) => end("ovcache", fault.exit(), &fault, errors),
+    }
+}
+
+// Answers what is asked besides serving.
+fn answer<R, O: Write>(rt: &R, aside: Aside<'_>, output: &mut O) -> Result<(), CacheFault>
+where
+    R: Files + AllocGlobal,
+    ensures { OnOk result (IsCheckedBy aside.entry) }
+{
+    match aside {
+        Aside::Help => print(HELP, output).map_err(CacheFault::Output),
+        Aside::Version => print(VERSION, output).map_err(CacheFault::Output),
+        Aside::Check(path) => check(rt, path, output),
+    }
+}
+
+// Reads the settings of this path and their list, and tells what they are.
+fn check<R, O: Write>(rt: &R, path: &str, output: &mut O) -> Result<(), CacheFault>
+where
+    R: Files + AllocGlobal,
+    ensures { OnOk result IsChecked }
+{
+    let settings = read_settings(rt, path)?;
+    let payloads = checked_list(rt, &settings)?;
+    let address = settings.listen;
+    let csv = settings.csv.as_str();
+    let written = write!(
+        output,
+        "{path}: settings that listen at {address}\n{csv}: a list of {payloads} payloads\n"
+    );
+    written.map_err(CacheFault::Output)
+}
+
+// How many payloads the list of the settings has, which may be served first.
+fn checked_list<R>(rt: &R, settings: &CacheSettings) -> Result<usize, CacheFault>
+where
+    R: Files + AllocGlobal,
+    ensures { IfOk result (λ payloads. (file : Option (List ℕ)) × (set : List Vrp) × Passes settings.now.guards file set × (payloads ≡ length set)) }
+{
+    let path = settings.csv.as_str();
+    let list = match fs::open(rt, path) {
+        Ok(list) => list,
+        Err(error) => return Err(CacheFault::unread(rt.alloc(), path, error)),
+    };
+    match first_set(rt.alloc(), &settings.guards, list) {
+        Ok(set) => Ok(set.len()),
+        Err(why) => Err(CacheFault::bad_list(rt.alloc(), path, why)),
+    }
 }
 
 // What the words ask for, by this clock: a list is what opening its path answers, the wire what listening at an address does,
@@ -74,7 +169,7 @@ fn run_cache<R, O: Write, C: SecondsClock, L: Read + Drop, W: Wire + Watched + D
     opens: F,
     listens: G,
     tells: S,
-) -> Result<(), ExitFault>
+) -> Result<(), CacheFault>
 where
     R: Files + Clock + AllocGlobal,
     F: Fn(&str) -> io::Result<L>,
@@ -83,36 +178,61 @@ where
     requires opens { F.IsAlwaysCallable opens }
     requires listens { G.IsAlwaysCallable listens }
     requires tells { S.IsAlwaysCallable tells }
-    ensures wrong { ((path : List ℕ) (turns : ℕ) → ¬ (IsCall words.now path turns)) → result ≡ Err ExitFault.Arguments }
-    ensures right { (path : List ℕ) (turns : ℕ) → IsCall words.now path turns → result ≢ Err ExitFault.Arguments }
-    ensures output { result ≡ Err ExitFault.Arguments → output.new ≡ output.old }
+    ensures wrong { ((path : List ℕ) (turns : ℕ) → ¬ (IsCall words.now path turns)) → IsErrAnd result IsOfWords }
+    ensures right { (path : List ℕ) (turns : ℕ) → IsCall words.now path turns → ¬ (IsErrAnd result IsOfWords) }
+    ensures output { IsErrAnd result IsOfWords → output.new ≡ output.old }
     // Where all went well, the settings of some file were served for just the turns of the words.
     ensures serves { OnOk result ((path : List ℕ) × (turns : ℕ) × (octets : List ℕ) × (table : Members) × (settings : CacheSettings) × (served : Served)
         × IsCall words.now path turns × IsTableOf octets table × IsToldBy table settings
         × IsServed (Gives (FnReturnsAt F.Fn opens (string_bytes settings.csv)) L.remaining) (Listens (G.post listens settings.listen) W.state) (Tells (S.post tells)) settings turns (C.readings clock.old) (C.readings clock.new) served) }
 {
-    let (path, turns) = read_words(words)?;
+    let (path, turns) = call_of(words)?;
     let settings = read_settings(rt, path)?;
     serve_cache(rt, &settings, turns, output, clock, opens, listens, tells)
 }
 
+// The path of the settings and the number of turns.
+fn call_of(words: &[String]) -> Result<(&str, u64), CacheFault>
+    ensures { MatchResult result (λ read. IsCall words.now read.0.now read.1) (λ fault. IsOfWords fault × ((path : List ℕ) (turns : ℕ) → ¬ (IsCall words.now path turns))) }
+{
+    match read_words(words) {
+        Ok(call) => Ok(call),
+        Err(why) => Err(CacheFault::Words(why)),
+    }
+}
+
+// The moment.
+fn read_clock<C: SecondsClock>(clock: &mut C) -> Result<u64, CacheFault>
+    ensures fault { IfErr result (λ fault. ¬ (IsOfWords fault)) }
+    ensures told { IfOk result (λ now. C.readings clock.new ≡ now ∷ C.readings clock.old) }
+    ensures forward { IfOk result (λ now. IsNotBefore now (C.readings clock.old)) }
+    ensures failed { OnErr result (C.readings clock.new ≡ C.readings clock.old) }
+{
+    match clock.read() {
+        Ok(now) => Ok(now),
+        Err(error) => Err(CacheFault::Clock(error)),
+    }
+}
+
 // The settings in the file of this path.
-fn read_settings<R: Files + AllocGlobal>(rt: &R, path: &str) -> Result<CacheSettings, ExitFault>
-    ensures fault { IfErr result (λ fault. fault ≢ ExitFault.Arguments) }
+fn read_settings<R: Files + AllocGlobal>(rt: &R, path: &str) -> Result<CacheSettings, CacheFault>
+    ensures fault { IfErr result (λ fault. ¬ (IsOfWords fault)) }
     ensures told { IfOk result (λ settings. (octets : List ℕ) × (table : Members) × IsTableOf octets table × IsToldBy table settings) }
 {
-    let octets = fs::read(rt, path)?;
-    settings_in(rt.alloc(), octets.as_slice())
+    match fs::read(rt, path) {
+        Ok(octets) => settings_in(rt.alloc(), path, octets.as_slice()),
+        Err(error) => Err(CacheFault::unread(rt.alloc(), path, error)),
+    }
 }
 
 // The settings that the octets of a file tell.
-fn settings_in(alloc: Global, octets: &[u8]) -> Result<CacheSettings, ExitFault>
-    ensures fault { IfErr result (λ fault. fault ≢ ExitFault.Arguments) }
+fn settings_in(alloc: Global, path: &str, octets: &[u8]) -> Result<CacheSettings, CacheFault>
+    ensures fault { IfErr result (λ fault. ¬ (IsOfWords fault)) }
     ensures told { IfOk result (λ settings. (table : Members) × IsTableOf octets.now table × IsToldBy table settings) }
 {
     match CacheSettings::read(alloc, octets) {
         Ok(settings) => Ok(settings),
-        Err(fault) => Err(fault.into()),
+        Err(why) => Err(CacheFault::bad_settings(alloc, path, why)),
     }
 }
 
@@ -129,7 +249,7 @@ pub fn serve_cache<R, O: Write, C: SecondsClock, L: Read + Drop, W: Wire + Watch
     opens: F,
     listens: G,
     tells: S,
-) -> Result<(), ExitFault>
+) -> Result<(), CacheFault>
 where
     R: Files + Clock + AllocGlobal,
     F: Fn(&str) -> io::Result<L>,
@@ -138,13 +258,13 @@ where
     requires opens { F.IsAlwaysCallable opens }
     requires listens { G.IsAlwaysCallable listens }
     requires tells { S.IsAlwaysCallable tells }
-    ensures fault { IfErr result (λ fault. fault ≢ ExitFault.Arguments) }
+    ensures fault { IfErr result (λ fault. ¬ (IsOfWords fault)) }
     ensures quiet { settings.now.log ≡ false → output.new ≡ output.old }
     ensures serves { OnOk result ((served : Served) × IsServed (Gives (FnReturnsAt F.Fn opens (string_bytes settings.now.csv)) L.remaining) (Listens (G.post listens settings.now.listen) W.state) (Tells (S.post tells)) settings.now turns (C.readings clock.old) (C.readings clock.new) served) }
 {
     let mut served = begin(rt, settings, output, &opens, listens, tells)?;
     // The moment 0, from which the list is read again.
-    let _start = clock.read()?;
+    let _start = read_clock(clock)?;
     take_turns(rt, settings, &mut served, turns, output, clock, &opens)
 }
 
@@ -156,7 +276,7 @@ fn begin<R, O: Write, L: Read + Drop, W: Wire + Watched + Drop, F, G, S>(
     opens: &F,
     listens: G,
     tells: S,
-) -> Result<ServedList<W>, ExitFault>
+) -> Result<ServedList<W>, CacheFault>
 where
     R: Clock + AllocGlobal,
     F: Fn(&str) -> io::Result<L>,
@@ -165,11 +285,11 @@ where
     requires opens { F.IsAlwaysCallable opens.now }
     requires listens { G.IsAlwaysCallable listens }
     requires tells { S.IsAlwaysCallable tells }
-    ensures fault { IfErr result (λ fault. fault ≢ ExitFault.Arguments) }
+    ensures fault { IfErr result (λ fault. ¬ (IsOfWords fault)) }
     ensures begins { IfOk result (IsBegun (Gives (FnReturnsAt F.Fn opens.now (string_bytes settings.now.csv)) L.remaining) (Listens (G.post listens settings.now.listen) W.state) (Tells (S.post tells)) settings.now) }
     ensures quiet { settings.now.log ≡ false → output.new ≡ output.old }
 {
-    let second = tells()?;
+    let second = tells().map_err(CacheFault::Clock)?;
     let (cache, serial, set) = load_cache(rt, settings, second, output, opens)?;
     let turns = over_wire(rt.alloc(), settings, cache, listens)?;
     Ok(ServedList::new(turns, settings.guards, serial, set))
@@ -181,14 +301,18 @@ fn over_wire<W: Wire + Drop, G>(
     settings: &CacheSettings,
     cache: Cache,
     listens: G,
-) -> Result<CacheLoop<W>, ExitFault>
+) -> Result<CacheLoop<W>, CacheFault>
 where
     G: FnOnce(SocketAddr) -> io::Result<W>,
     requires { G.IsAlwaysCallable listens }
-    ensures fault { IfErr result (λ fault. fault ≢ ExitFault.Arguments) }
+    ensures fault { IfErr result (λ fault. ¬ (IsOfWords fault)) }
     ensures idle { IfOk result (λ turns. (wire : WireState) × Listens (G.post listens settings.now.listen) W.state wire × (turns ≡ idle settings.now.patience cache wire)) }
 {
-    let wire = listens(settings.listen)?;
+    let address = settings.listen;
+    let wire = match listens(address) {
+        Ok(wire) => wire,
+        Err(error) => return Err(CacheFault::Listen { address, error }),
+    };
     Ok(CacheLoop::with_patience(alloc, wire, cache, settings.patience)?)
 }
 
@@ -201,19 +325,19 @@ fn take_turns<R, O: Write, C: SecondsClock, L: Read + Drop, W: Wire + Watched + 
     output: &mut O,
     clock: &mut C,
     opens: &F,
-) -> Result<(), ExitFault>
+) -> Result<(), CacheFault>
 where
     R: Files + Clock + AllocGlobal,
     F: Fn(&str) -> io::Result<L>,
     requires { F.IsAlwaysCallable opens.now }
-    ensures fault { IfErr result (λ fault. fault ≢ ExitFault.Arguments) }
+    ensures fault { IfErr result (λ fault. ¬ (IsOfWords fault)) }
     ensures quiet { settings.now.log ≡ false → output.new ≡ output.old }
     ensures turns { OnOk result (ServesSoMany (Gives (FnReturnsAt F.Fn opens.now (string_bytes settings.now.csv)) L.remaining) settings.now.reread turns (C.readings clock.old) (C.readings clock.new) served.old served.new) }
 {
     let mut reread = Every::new(settings.reread);
     let mut status = Every::new(settings.status);
     for _ in 0..turns {
-        let now = clock.read()?;
+        let now = read_clock(clock)?;
         serve_once(rt, settings, served, now, &mut reread, output, opens)?;
         rest(rt, settings, served, now, status.is_due(now), output);
     }
@@ -248,12 +372,12 @@ fn serve_once<R, O: Write, L: Read + Drop, W: Wire + Watched + Drop, F>(
     reread: &mut Every,
     output: &mut O,
     opens: &F,
-) -> Result<(), ExitFault>
+) -> Result<(), CacheFault>
 where
     R: Clock + AllocGlobal,
     F: Fn(&str) -> io::Result<L>,
     requires { F.IsAlwaysCallable opens.now }
-    ensures fault { IfErr result (λ fault. fault ≢ ExitFault.Arguments) }
+    ensures fault { IfErr result (λ fault. ¬ (IsOfWords fault)) }
     ensures quiet { settings.now.log ≡ false → output.new ≡ output.old }
     ensures due { reread.new ≡ record reread.old { last = if have_passed reread.old.seconds reread.old.last now then now else reread.old.last } }
     ensures serves { OnOk result (ServesOnce (Gives (FnReturnsAt F.Fn opens.now (string_bytes settings.now.csv)) L.remaining) (have_passed reread.old.seconds reread.old.last now) now served.old served.new) }

@@ -6,13 +6,16 @@
 //! `specs/Passing.antt`). `serve_cache` makes the cache of settings (`specs/CacheOfSettings.antt`), has it publish the list
 //! that is opened at their path (`specs/FirstList.antt`, `specs/Opened.antt`), and serves it by the wire that listens at
 //! their address for so many turns, each at the moment of the clock (`specs/ServedTurns.antt`). It writes nothing where they
-//! ask for no log; the status of `main_cache` is 0 only where that was done. What files do, and what the log says, is shown
+//! ask for no log; the status of `main_cache` is 0 only where that was done, or was to be checked and could begin
+//! (`specs/Checked.antt`), or where help was asked for. What ends it has its cause as data (`CacheFault`). What files do, and what the log says, is shown
 //! by tests.
 #![tactic(auto)]
 
 mod cache_main;
 mod every;
 mod exits;
+mod fault;
+mod help;
 mod journal;
 mod laws;
 mod loading;
@@ -23,6 +26,7 @@ mod watched;
 pub use cache_main::{main_cache, serve_cache};
 pub use every::Every;
 pub use exits::{of_first_list, of_list, of_refusal};
+pub use fault::CacheFault;
 pub use journal::LogLine;
 pub use laws::{no_fewer_are_served_than_are_wanted, served_turns_are_steps};
 pub use reread::{ListFault, Reread};

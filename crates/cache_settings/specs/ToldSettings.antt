@@ -1,13 +1,14 @@
 -- What a cache's settings are, key by key (own).
-use Rattle.std.specs.Prelude.{◌≡◌, ◌<◌, ◌≤◌, ◌^◌, ℕ, pos, Bool, true, false, Some, codes, string_bytes}
-use Rattle.toml.specs.Data.{Data, Members, as_bool, as_integer, get_member}
+use Rattle.std.specs.Prelude.{◌≡◌, ◌<◌, ◌≤◌, ◌^◌, ℕ, pos, true, false, List, [], ◌∷◌, Some, codes, string_bytes}
+use Rattle.toml.specs.Data.{Data, Members, as_integer, get_member}
 use Rattle.cache_turns.specs.declared.patience.Patience.{Patience}
 use Rattle.list_guards.specs.declared.Guards.{Guards}
 use Rattle.rtr_cache.specs.declared.other_session.OtherSession.{OtherSession}
 use Rattle.rtr_cache.specs.declared.other_session.OtherSession.TheVariants.{Report, Reset}
 use Rattle.rtr_codec.specs.Intervals.{are_lawful}
 use Rattle.rtr_codec.specs.declared.intervals.Intervals.{Intervals}
-use Rattle.settings_keys.specs.Keys.{IsAddress, IsNumber, IsText, IsTold, IsToldIfThere, IsToldOrUsual}
+use Rattle.settings_keys.specs.Keys.{IsAddress, IsNumber, IsText, IsTold, IsToldIfThere, IsToldOrUsual, IsYesOrNo}
+use Rattle.settings_keys.specs.KnownKeys.{HasNoKeyBut}
 use Rattle.cache_settings.specs.declared.settings.CacheSettings.{CacheSettings}
 use Rattle.cache_settings.specs.declared.settings.SessionSource.{SessionSource}
 use Rattle.cache_settings.specs.declared.settings.SessionSource.TheVariants.{Id, Clock}
@@ -26,10 +27,6 @@ IsSession found Clock = IsText found (codes "clock")
 abbrev pub IsOtherSession : Data → OtherSession → Type 0
 IsOtherSession found Report = IsText found (codes "report")
 IsOtherSession found Reset = IsText found (codes "reset")
-
--- yes or no
-abbrev pub IsYesOrNo : Data → Bool → Type 0
-IsYesOrNo found is_on = as_bool found ≡ Some is_on
 
 -- the intervals are those at their keys, or the usual ones, and lawful
 pub record AreIntervals (table : Members) (intervals : Intervals) : Type 0 where
@@ -80,8 +77,15 @@ terms_of settings = record {
   status = settings.status;
 }
 
--- the settings are what stands at their keys
+-- the keys of the settings
+abbrev pub keys_of_a_cache : List (List ℕ)
+keys_of_a_cache =
+    codes "listen" ∷ codes "csv" ∷ codes "session" ∷ codes "other_session" ∷ codes "refresh" ∷ codes "retry" ∷ codes "expire" ∷ codes "first" ∷ codes "idle" ∷ codes "min_payloads"
+    ∷ codes "max_shrink" ∷ codes "reread" ∷ codes "max_age" ∷ codes "log" ∷ codes "status" ∷ []
+
+-- the settings are what stands at their keys, and there are no others
 pub record IsToldBy (table : Members) (settings : CacheSettings) : Type 0 where
+  pub keys : HasNoKeyBut keys_of_a_cache table
   pub listen : IsTold IsAddress (get_member (codes "listen") table) settings.listen
   pub csv : IsTold IsText (get_member (codes "csv") table) (string_bytes settings.csv)
   pub terms : AreTerms table (terms_of settings)

@@ -1,17 +1,21 @@
 //! The settings of a cache.
-ghost use Rattle.std.specs.Prelude.{◌≡◌, ◌≤◌, ◌<◌, IfOk, IfSome, codes, false, true};
+ghost use Rattle.std.specs.Prelude.{◌≡◌, ◌≤◌, ◌<◌, IfOk, IfSome, codes, true};
 ghost use Rattle.toml.specs.Data.{Members, get_member};
 ghost use Rattle.toml.specs.View.{table_view};
 ghost use Rattle.rtr_cache.specs.declared.other_session.OtherSession.TheVariants.{Report};
 ghost use Rattle.rtr_codec.specs.Intervals.{are_lawful};
+ghost use Rattle.settings_keys.specs.Causes.{IsBad};
 ghost use Rattle.settings_keys.specs.Keys.{Answers, AnswersInMemory, IsNumber, IsTableOf, IsTold, IsToldIfThere, IsToldOrUsual};
-ghost use Rattle.cache_settings.specs.ToldSettings.{AreGuards, AreIntervals, AreTerms, IsOtherSession, IsPatience, IsPerCent, IsSeconds, IsSession, IsToldBy, IsYesOrNo};
+ghost use Rattle.cache_settings.specs.ToldSettings.{AreGuards, AreIntervals, AreTerms, IsOtherSession, IsPatience, IsPerCent, IsSeconds, IsSession, IsToldBy};
 
 use cache_turns::Patience;
 use list_guards::Guards;
 use rtr_cache::OtherSession;
 use rtr_codec::Intervals;
-use settings_keys::{SettingsFault, address_of, number_of, read_table, text_of, value_at};
+use settings_keys::{
+    Owner, SettingsFault, Wanted, address_of, bad_number, bad_value, lacks, not_greater, number_of,
+    only_known, read_table, text_of, value_at, yes_or_no_of,
+};
 use std::alloc::Global;
 use std::net::SocketAddr;
 use toml::Table;
@@ -57,7 +61,7 @@ impl CacheSettings {
     /// `session`, a number of 16 bits or `"clock"`; and, where they are there, `other_session`, `"report"` or `"reset"`,
     /// `refresh`, `retry` and `expire`, in place of the usual intervals and lawful together, `first`, 1 at least, `idle`,
     /// above `refresh`, `reread`, `max_age` and `status`, 1 at least, and `min_payloads`, each a number of 32 bits, `max_shrink`,
-    /// up to 100, and `log`, a boolean. Keys of other names are passed over. Anything else is `Settings`.
+    /// up to 100, and `log`, a boolean. There are no keys of other names. Anything else is `Settings`.
     pub fn read(alloc: Global, octets: &[u8]) -> Result<CacheSettings, SettingsFault>
         ensures told { AnswersInMemory (λ settings. (table : Members) × IsTableOf octets.now table × IsToldBy table settings) result }
         ensures intervals { IfOk result (λ settings. are_lawful settings.intervals ≡ true) }
@@ -77,10 +81,11 @@ impl CacheSettings {
         ensures reread { IfOk result (λ settings. IfSome settings.reread (λ seconds. 1 ≤ seconds)) }
         ensures status { IfOk result (λ settings. IfSome settings.status (λ seconds. 1 ≤ seconds)) }
     {
-        let listen = address_of(table, "listen")?;
-        let path = text_of(table, "csv")?;
+        only_known(alloc, table, Owner::Cache, &KEYS)?;
+        let listen = address_of(alloc, table, "listen")?;
+        let path = text_of(alloc, table, "csv")?;
         let csv = String::from_str(alloc, path)?;
-        let terms = terms_of(table)?;
+        let terms = terms_of(alloc, table)?;
         Ok(CacheSettings {
             listen,
             csv,
@@ -97,6 +102,28 @@ impl CacheSettings {
     }
 }
 
+// The keys of the settings.
+const KEYS: [&str; 15] = [
+    "listen",
+    "csv",
+    "session",
+    "other_session",
+    "refresh",
+    "retry",
+    "expire",
+    "first",
+    "idle",
+    "min_payloads",
+    "max_shrink",
+    "reread",
+    "max_age",
+    "log",
+    "status",
+];
+
+// The seconds that a key may have.
+const SECONDS: Wanted = Wanted::Number(1, u32::MAX);
+
 // What the settings tell besides where the cache listens and its list.
 #[derive(Clone, Copy)]
 struct Terms {
@@ -111,22 +138,22 @@ struct Terms {
     status: Option<u32>,
 }
 
-fn terms_of(table: &Table) -> Result<Terms, SettingsFault>
+fn terms_of(alloc: Global, table: &Table) -> Result<Terms, SettingsFault>
     ensures told { Answers (AreTerms (table_view table.now)) result }
     ensures intervals { IfOk result (λ terms. are_lawful terms.intervals ≡ true) }
     ensures patience { IfOk result (λ terms. (1 ≤ terms.patience.first) × (terms.intervals.refresh < terms.patience.idle)) }
     ensures reread { IfOk result (λ terms. IfSome terms.reread (λ seconds. 1 ≤ seconds)) }
     ensures status { IfOk result (λ terms. IfSome terms.status (λ seconds. 1 ≤ seconds)) }
 {
-    let session = session_of(table)?;
-    let other_session = other_session_of(table)?;
-    let intervals = intervals_of(table)?;
-    let patience = patience_of(table, intervals)?;
-    let guards = guards_of(table)?;
-    let reread = seconds_of(table, "reread")?;
-    let max_age = seconds_of(table, "max_age")?;
-    let log = has_log(table)?;
-    let status = seconds_of(table, "status")?;
+    let session = session_of(alloc, table)?;
+    let other_session = other_session_of(alloc, table)?;
+    let intervals = intervals_of(alloc, table)?;
+    let patience = patience_of(alloc, table, intervals)?;
+    let guards = guards_of(alloc, table)?;
+    let reread = seconds_of(alloc, table, "reread")?;
+    let max_age = seconds_of(alloc, table, "max_age")?;
+    let log = yes_or_no_of(alloc, table, "log")?;
+    let status = seconds_of(alloc, table, "status")?;
     Ok(Terms {
         session,
         other_session,
@@ -141,26 +168,27 @@ fn terms_of(table: &Table) -> Result<Terms, SettingsFault>
 }
 
 // Where the session id comes from, which has to be told.
-fn session_of(table: &Table) -> Result<SessionSource, SettingsFault>
+fn session_of(alloc: Global, table: &Table) -> Result<SessionSource, SettingsFault>
     ensures { Answers (IsTold IsSession (get_member (codes "session") (table_view table.now))) result }
 {
     let Some(value) = value_at(table, "session") else {
-        return Err(SettingsFault::Settings);
+        return Err(lacks(alloc, "session"));
     };
     if let Some("clock") = value.as_str() {
         return Ok(SessionSource::Clock);
     }
+    let wanted = Wanted::Session;
     let Some(number) = value.as_integer() else {
-        return Err(SettingsFault::Settings);
+        return Err(bad_value(alloc, "session", value, wanted));
     };
     match u16::try_from(number) {
         Ok(id) => Ok(SessionSource::Id(id)),
-        Err(_) => Err(SettingsFault::Settings),
+        Err(_) => Err(bad_value(alloc, "session", value, wanted)),
     }
 }
 
 // What a Serial Query of another session is answered with: an Error Report where the key isn't there.
-fn other_session_of(table: &Table) -> Result<OtherSession, SettingsFault>
+fn other_session_of(alloc: Global, table: &Table) -> Result<OtherSession, SettingsFault>
     ensures { Answers (IsToldOrUsual IsOtherSession Report (get_member (codes "other_session") (table_view table.now))) result }
 {
     let Some(value) = value_at(table, "other_session") else {
@@ -169,50 +197,86 @@ fn other_session_of(table: &Table) -> Result<OtherSession, SettingsFault>
     match value.as_str() {
         Some("report") => Ok(OtherSession::Report),
         Some("reset") => Ok(OtherSession::Reset),
-        _ => Err(SettingsFault::Settings),
+        _ => Err(bad_value(alloc, "other_session", value, Wanted::OtherSession)),
     }
 }
 
+// What each interval may be (RFC 8210 section 6).
+const REFRESH: Wanted = Wanted::Number(1, 86_400);
+
+const RETRY: Wanted = Wanted::Number(1, 7200);
+
+const EXPIRE: Wanted = Wanted::Number(600, 172_800);
+
+// Which interval is out of its range, or that the last one isn't the greatest (RFC 8210 section 6).
+fn unlawful(alloc: Global, intervals: Intervals) -> SettingsFault
+    ensures { IsBad result }
+{
+    let Intervals {
+        refresh,
+        retry,
+        expire,
+    } = intervals;
+    if refresh == 0 || refresh > 86_400 {
+        return bad_number(alloc, "refresh", refresh, REFRESH);
+    }
+    if retry == 0 || retry > 7200 {
+        return bad_number(alloc, "retry", retry, RETRY);
+    }
+    if expire < 600 || expire > 172_800 {
+        return bad_number(alloc, "expire", expire, EXPIRE);
+    }
+    if expire <= refresh {
+        return not_greater(alloc, "expire", expire, "refresh", refresh);
+    }
+    not_greater(alloc, "expire", expire, "retry", retry)
+}
+
 // The intervals; one whose key isn't there is the usual one.
-fn intervals_of(table: &Table) -> Result<Intervals, SettingsFault>
+fn intervals_of(alloc: Global, table: &Table) -> Result<Intervals, SettingsFault>
     ensures told { Answers (AreIntervals (table_view table.now)) result }
     ensures lawful { IfOk result (λ intervals. are_lawful intervals ≡ true) }
 {
-    let refresh = number_or(table, "refresh", Intervals::USUAL.refresh)?;
-    let retry = number_or(table, "retry", Intervals::USUAL.retry)?;
-    let expire = number_or(table, "expire", Intervals::USUAL.expire)?;
+    let usual = Intervals::USUAL;
+    let refresh = number_or(alloc, table, "refresh", usual.refresh, REFRESH)?;
+    let retry = number_or(alloc, table, "retry", usual.retry, RETRY)?;
+    let expire = number_or(alloc, table, "expire", usual.expire, EXPIRE)?;
     let intervals = Intervals {
         refresh,
         retry,
         expire,
     };
     if !intervals.are_lawful() {
-        return Err(SettingsFault::Settings);
+        return Err(unlawful(alloc, intervals));
     }
     Ok(intervals)
 }
 
 // For how long a router may be silent: at first a minute, later up to the expire interval, where the keys aren't there.
 // One that asks again when it is to, after the refresh interval, keeps its place.
-fn patience_of(table: &Table, intervals: Intervals) -> Result<Patience, SettingsFault>
+fn patience_of(
+    alloc: Global,
+    table: &Table,
+    intervals: Intervals,
+) -> Result<Patience, SettingsFault>
     ensures told { Answers (IsPatience (table_view table.now) intervals) result }
     ensures first { IfOk result (λ patience. 1 ≤ patience.first) }
     ensures idle { IfOk result (λ patience. intervals.refresh < patience.idle) }
 {
-    let first = seconds_of(table, "first")?.unwrap_or(Patience::USUAL.first);
-    let idle = seconds_of(table, "idle")?.unwrap_or(intervals.expire);
+    let first = seconds_of(alloc, table, "first")?.unwrap_or(Patience::USUAL.first);
+    let idle = seconds_of(alloc, table, "idle")?.unwrap_or(intervals.expire);
     if idle <= intervals.refresh {
-        return Err(SettingsFault::Settings);
+        return Err(not_greater(alloc, "idle", idle, "refresh", intervals.refresh));
     }
     Ok(Patience { first, idle })
 }
 
 // What a list has to keep to, as far as the keys are there.
-fn guards_of(table: &Table) -> Result<Guards, SettingsFault>
+fn guards_of(alloc: Global, table: &Table) -> Result<Guards, SettingsFault>
     ensures { Answers (AreGuards (table_view table.now)) result }
 {
-    let min_payloads = number_of(table, "min_payloads")?;
-    let max_shrink = per_cent_of(table, "max_shrink")?;
+    let min_payloads = number_of(alloc, table, "min_payloads", Wanted::Number(0, u32::MAX))?;
+    let max_shrink = per_cent_of(alloc, table, "max_shrink")?;
     Ok(Guards {
         min_payloads,
         max_shrink,
@@ -220,47 +284,41 @@ fn guards_of(table: &Table) -> Result<Guards, SettingsFault>
 }
 
 // The number per cent at a key, if the key is there: 100 at most.
-fn per_cent_of(table: &Table, key: &str) -> Result<Option<u8>, SettingsFault>
+fn per_cent_of(alloc: Global, table: &Table, key: &str) -> Result<Option<u8>, SettingsFault>
     ensures { Answers (IsToldIfThere IsPerCent (get_member key.now (table_view table.now))) result }
 {
-    match number_of(table, key)? {
+    let wanted = Wanted::Number(0, 100);
+    match number_of(alloc, table, key, wanted)? {
         None => Ok(None),
         Some(share) if share <= 100 => Ok(Some(share as u8)),
-        Some(_) => Err(SettingsFault::Settings),
+        Some(share) => Err(bad_number(alloc, key, share, wanted)),
     }
 }
 
 // The number at a key, or the usual one where the key isn't there.
-fn number_or(table: &Table, key: &str, usual: u32) -> Result<u32, SettingsFault>
+fn number_or(
+    alloc: Global,
+    table: &Table,
+    key: &str,
+    usual: u32,
+    wanted: Wanted,
+) -> Result<u32, SettingsFault>
     ensures { Answers (IsToldOrUsual IsNumber usual (get_member key.now (table_view table.now))) result }
 {
-    match number_of(table, key)? {
+    match number_of(alloc, table, key, wanted)? {
         Some(number) => Ok(number),
         None => Ok(usual),
     }
 }
 
 // The seconds at a key, if the key is there: one at least.
-fn seconds_of(table: &Table, key: &str) -> Result<Option<u32>, SettingsFault>
+fn seconds_of(alloc: Global, table: &Table, key: &str) -> Result<Option<u32>, SettingsFault>
     ensures told { Answers (IsToldIfThere IsSeconds (get_member key.now (table_view table.now))) result }
     ensures some { IfOk result (λ seconds. IfSome seconds (λ number. 1 ≤ number)) }
 {
-    match number_of(table, key)? {
+    match number_of(alloc, table, key, SECONDS)? {
         None => Ok(None),
-        Some(0) => Err(SettingsFault::Settings),
+        Some(0) => Err(bad_number(alloc, key, 0, SECONDS)),
         Some(seconds) => Ok(Some(seconds)),
-    }
-}
-
-// Whether there is to be a log: none where the key isn't there.
-fn has_log(table: &Table) -> Result<bool, SettingsFault>
-    ensures { Answers (IsToldOrUsual IsYesOrNo false (get_member (codes "log") (table_view table.now))) result }
-{
-    let Some(value) = value_at(table, "log") else {
-        return Ok(false);
-    };
-    match value.as_bool() {
-        Some(log) => Ok(log),
-        None => Err(SettingsFault::Settings),
     }
 }

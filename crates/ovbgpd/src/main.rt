@@ -1,8 +1,8 @@
-//! Speaks BGP with the peers of its settings: `ovbgpd SETTINGS TURNS`.
+//! Speaks BGP with the peers of its settings: `ovbgpd SETTINGS [TURNS]`.
 //!
 //! Exit status 0 after the turns, when Loc-RIB stands on standard output; 1 where the words, the settings or the commands are
-//! refused; 2 where a file, the network, the clock or standard output fails, or where memory is wanting. What was wrong stands
-//! on standard error.
+//! refused; 2 where a file, the network, the clock or standard output fails, or where memory is wanting. What was wrong, and
+//! why, stands on standard error.
 #![tactic(auto)]
 
 use live_book::LiveBook;
@@ -26,7 +26,7 @@ fn run(rt: &HostRuntime) -> io::Result<u8> {
 
 fn main(rt: HostRuntime) -> io::Result<ExitCode> {
     let Ok(status) = run(&rt) else {
-        eprintln!(rt; "ovbgpd: device")?;
+        eprintln!(rt; "ovbgpd: device: there is no memory")?;
         return Ok(ExitCode::from(2));
     };
     Ok(ExitCode::from(status))

@@ -1,7 +1,7 @@
-//! Serves a payload list to routers: `ovcache SETTINGS TURNS`.
+//! Serves a payload list to routers: `ovcache SETTINGS [TURNS]`.
 //!
 //! Exit status 0 after the turns; 1 where the words, the settings or the list are refused; 2 where a file, the network
-//! or the clock fails, or where memory is wanting. What was wrong stands on standard error. Where the settings ask for a
+//! or the clock fails, or where memory is wanting. What was wrong, and why, stands on standard error. Where the settings ask for a
 //! log, it stands on standard output.
 #![tactic(auto)]
 
@@ -16,7 +16,7 @@ fn words(rt: &HostRuntime) -> io::Result<Vec<String>> {
 
 fn main(rt: HostRuntime) -> io::Result<ExitCode> {
     let Ok(words) = words(&rt) else {
-        eprintln!(rt; "ovcache: device")?;
+        eprintln!(rt; "ovcache: device: there is no memory")?;
         return Ok(ExitCode::from(2));
     };
     let mut output = io::writer(&rt);

@@ -1,6 +1,6 @@
 //! Plays a script of scenario lines from standard input, and answers on standard output.
 //!
-//! Exit status 0 at the end of the script; 1 where there are words behind the program's name, or at a bad line, with its
+//! Exit status 0 at the end of the script; 1 where the words are others than `--help` or `--version`, or at a bad line, with its
 //! number on standard error; 2 where input or output fails, or where memory is wanting outside the speaker.
 #![tactic(auto)]
 
@@ -29,7 +29,7 @@ fn run(rt: &HostRuntime) -> io::Result<u8> {
 
 fn main(rt: HostRuntime) -> io::Result<ExitCode> {
     let Ok(status) = run(&rt) else {
-        eprintln!(rt; "ovplay: device")?;
+        eprintln!(rt; "ovplay: device: there is no memory")?;
         return Ok(ExitCode::from(2));
     };
     Ok(ExitCode::from(status))

@@ -12,9 +12,9 @@ use std::test::Fail;
 const SCRIPTS: [(&str, u8, &str); 5] = [
     ("", 0, ""),
     ("# nothing\n\nspeaker 65000 192.0.2.1 nocache\nshow rib", 0, "ok\nend\n"),
-    ("speaker 65000 192.0.2.1 nocache\n\nenable 0\nno line\n", 1, "ok\nrefused 40\novplay: line 4: bad line\n"),
-    ("show rib\n", 1, "ovplay: line 1: bad line\n"),
-    ("cache 7 3600 600 7200\nload\n", 1, "ok\novplay: line 2: bad line\n"),
+    ("speaker 65000 192.0.2.1 nocache\n\nenable 0\nno line\n", 1, "ok\nrefused 40\novplay: line 4: bad line: the line is none of a script\n"),
+    ("show rib\n", 1, "ovplay: line 1: bad line: the line is none of a script\n"),
+    ("cache 7 3600 600 7200\nload\n", 1, "ok\novplay: line 2: bad line: the line is none of a script\n"),
 ];
 
 // Whether what is printed is the output, and the errors behind it.
@@ -51,7 +51,7 @@ fn scripts_are_told(rt: HostRuntime) -> Result<(), Fail> {
 fn words_are_arguments(rt: HostRuntime) -> Result<(), Fail> {
     let words = [String::from_str(rt.alloc(), "script")?];
     let script = "show rib\n".as_bytes();
-    assert!(rt; ends(&rt, &words, script, 1, "ovplay: arguments\n"));
+    assert!(rt; ends(&rt, &words, script, 1, "ovplay: arguments: it takes none but --help or --version, and its script on the input\n"));
     Ok(())
 }
 
@@ -74,7 +74,7 @@ impl Read for Failing<'_> {
 fn a_failing_input_is_told(rt: HostRuntime) -> Result<(), Fail> {
     let octets = "speaker 65000 192.0.2.1 nocache\nshow r".as_bytes();
     let input = BufReader::new(rt.alloc(), Failing { octets })?;
-    assert!(rt; ends(&rt, &[], input, 2, "ok\novplay: device\n"));
+    assert!(rt; ends(&rt, &[], input, 2, "ok\novplay: device: the input or the output fails\n"));
     Ok(())
 }
 
@@ -96,7 +96,7 @@ fn ends_with_room<R: AllocGlobal>(
 fn a_failing_output_is_told(rt: HostRuntime) -> Result<(), Fail> {
     let script = "speaker 65000 192.0.2.1 nocache\nshow rib\n";
     // Three octets fit, and the first answer takes all of them.
-    assert!(rt; ends_with_room(&rt, script, &mut [0; 3], 2, "ovplay: device\n"));
+    assert!(rt; ends_with_room(&rt, script, &mut [0; 3], 2, "ovplay: device: the input or the output fails\n"));
     Ok(())
 }
 

@@ -1,14 +1,10 @@
 //! What ends a program.
 ghost use Rattle.std.specs.Prelude.{◌≡◌};
 ghost use Rattle.program_endings.specs.Exits.{status_of};
-ghost use Rattle.program_endings.specs.declared.fault.ExitFault.TheVariants.{Device};
 
-use std::alloc::AllocError;
-use std::io;
 use thiserror::Error;
-use wires::LoopFault;
 
-/// What a program prints behind its name before it ends, and its exit status.
+/// What a program prints behind its name before it ends, and its exit status. Why it has ended stands behind that.
 #[derive(Clone, Copy, Debug, PartialEq, Eq, Error)]
 pub enum ExitFault {
     /// The words are wrong.
@@ -38,29 +34,5 @@ impl ExitFault {
             ExitFault::BadLine(_) | ExitFault::RefusedLine(..) => 1,
             ExitFault::Device => 2,
         }
-    }
-}
-
-impl From<io::Error> for ExitFault {
-    ghost from_gives = { λ _ exit. exit ≡ Device };
-
-    fn from(_error: io::Error) -> ExitFault {
-        ExitFault::Device
-    }
-}
-
-impl From<AllocError> for ExitFault {
-    ghost from_gives = { λ _ exit. exit ≡ Device };
-
-    fn from(_error: AllocError) -> ExitFault {
-        ExitFault::Device
-    }
-}
-
-impl From<LoopFault> for ExitFault {
-    ghost from_gives = { λ _ exit. exit ≡ Device };
-
-    fn from(_fault: LoopFault) -> ExitFault {
-        ExitFault::Device
     }
 }

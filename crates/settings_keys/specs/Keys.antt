@@ -5,8 +5,8 @@ use Rattle.std.specs.Net.Grammar.{IsSocketText}
 use Rattle.std.specs.declared.net.socket_addr.SocketAddr.{SocketAddr as Address}
 use Rattle.toml.specs.Data.{Data, Members, as_str, as_integer, as_bool}
 use Rattle.toml.specs.Parse.{parse_document}
-use Rattle.settings_keys.specs.declared.SettingsFault.{SettingsFault}
-use Rattle.settings_keys.specs.declared.SettingsFault.TheVariants.{Settings, NoMemory}
+use Rattle.settings_keys.specs.declared.cause.SettingsFault.{SettingsFault}
+use Rattle.settings_keys.specs.declared.cause.SettingsFault.TheVariants.{Settings, NoMemory}
 
 -- the octets spell this table
 abbrev pub IsTableOf : List ℕ → Members → Type 0
@@ -51,11 +51,11 @@ IsToldOrUsual Is usual (Some found) value = Is found value
 -- the answer is what is told, and the settings are at fault just where nothing is
 abbrev pub Answers : {A : Type 0} → (A → Type 0) → Result A SettingsFault → Type 0
 Answers Tells (Ok value) = Tells value
-Answers {A} Tells (Err Settings) = (value : A) → ¬ (Tells value)
+Answers {A} Tells (Err (Settings place cause)) = (value : A) → ¬ (Tells value)
 Answers Tells (Err NoMemory) = ⊥
 
 -- the same of a call that takes memory: for want of it nothing is said
 abbrev pub AnswersInMemory : {A : Type 0} → (A → Type 0) → Result A SettingsFault → Type 0
 AnswersInMemory Tells (Ok value) = Tells value
-AnswersInMemory {A} Tells (Err Settings) = (value : A) → ¬ (Tells value)
+AnswersInMemory {A} Tells (Err (Settings place cause)) = (value : A) → ¬ (Tells value)
 AnswersInMemory Tells (Err NoMemory) = Unit {0}

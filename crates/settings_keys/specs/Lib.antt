@@ -1,2 +1,4 @@
+pub mod Causes
 pub mod Keys
+pub mod KnownKeys
 pub mod SettingsExits

@@ -1,11 +1,17 @@
 -- What is known where serving ended well.
-use Rattle.std.proofs.Common.{◌≡◌, ℕ, List, Option, Result, Ok, Err, IfOk, ap, ◌∙◌, sym}
-use Rattle.program_endings.specs.Exits.{status_at_end, status_of}
+use Rattle.std.proofs.Common.{◌≡◌, ℕ, List, [], ◌∷◌, String, Global, OnOk, Option, Result, Ok, Err, IfOk, ap, ◌∙◌, sym}
+use Rattle.program_endings.specs.Asides.{Asks}
+use Rattle.program_endings.specs.Exits.{status_of}
+use Rattle.program_endings.specs.declared.aside.Aside.{Aside}
+use Rattle.program_endings.specs.declared.aside.Aside.TheVariants.{Help, Version, Check}
 use Rattle.program_endings.specs.declared.fault.ExitFault.{ExitFault}
 use Rattle.program_endings.specs.declared.fault.ExitFault.TheVariants.{Arguments, Settings, BadLine, RefusedLine, Device}
 use Rattle.speaker_program.specs.Begun.{IsServed}
-use Rattle.speaker_program.specs.Endings.{EndsSo}
-use Rattle.speaker_program.specs.declared.settings.SpeakerSettings.{SpeakerSettings}
+use Rattle.speaker_program.specs.Checked.{IsCheckedBy}
+use Rattle.speaker_program.specs.Endings.{EndsSo, status_at_end}
+use Rattle.speaker_program.specs.Exits.{exit_of_fault}
+use Rattle.speaker_program.specs.declared.fault.SpeakerFault.{SpeakerFault}
+use Rattle.speaker_settings.specs.declared.settings.SpeakerSettings.{SpeakerSettings}
 use Rattle.speaker_turns.specs.Turns.{Turns}
 use Rattle.wires.specs.Wires.{WireState}
 
@@ -17,9 +23,9 @@ never_zero (RefusedLine line number) zero = absurd cc
 never_zero Device zero = absurd cc
 
 -- where the status is 0 something was served, so
-pub served_so : {T : Type 0} {P : T → Type 0} (r : Result T ExitFault) (ended : Result (Unit {0}) ExitFault) → EndsSo r ended → status_at_end ended ≡ 0 → IfOk r P → (x : T) × P x
+pub served_so : {T : Type 0} {P : T → Type 0} (r : Result T SpeakerFault) (ended : Result (Unit {0}) SpeakerFault) → EndsSo r ended → status_at_end ended ≡ 0 → IfOk r P → (x : T) × P x
 served_so (Ok x) ended ends zero is = (x, is)
-served_so (Err fault) ended ends zero is = absurd (never_zero fault (sym (ap status_at_end ends) ∙ zero))
+served_so (Err fault) ended ends zero is = absurd (never_zero (exit_of_fault fault) (sym (ap status_at_end ends) ∙ zero))
 
 -- what is known of texts and of wires may be said more weakly
 pub served_as : (Told Tells : Option (List ℕ) → Type 0) (Opened Opens : WireState → Type 0) (settings : SpeakerSettings) (count : ℕ) (before behind : List ℕ) (turns : Turns) → IsServed Told Opened settings count before behind turns → ((text : Option (List ℕ)) → Told text → Tells text) → ((wire : WireState) → Opened wire → Opens wire) → IsServed Tells Opens settings count before behind turns
@@ -39,3 +45,26 @@ served_as Told Tells Opened Opens settings count before behind turns is tells op
           };
       takes = is.takes;
     }
+
+pub zero_is_well : {P : Type 0} (r : Result (Unit {0}) SpeakerFault) → status_at_end r ≡ 0 → OnOk r P → P
+zero_is_well (Ok done) zero is = is
+zero_is_well (Err fault) zero is = absurd (never_zero (exit_of_fault fault) zero)
+
+-- words ask for one thing
+pub one_aside : (words : List (String Global)) (a b : Aside) → Asks words a → Asks words b → IsCheckedBy a → IsCheckedBy b
+one_aside words a Help x y is = tt
+one_aside words a Version x y is = tt
+one_aside words (Check path) (Check other) x y is = is
+one_aside [] Help (Check other) x y is = absurd y
+one_aside (word ∷ []) Help (Check other) x y is = absurd y
+one_aside (word ∷ settings ∷ []) Help (Check other) x y is = absurd x
+one_aside (word ∷ settings ∷ more ∷ words) Help (Check other) x y is = absurd y
+one_aside [] Version (Check other) x y is = absurd y
+one_aside (word ∷ []) Version (Check other) x y is = absurd y
+one_aside (word ∷ settings ∷ []) Version (Check other) x y is = absurd x
+one_aside (word ∷ settings ∷ more ∷ words) Version (Check other) x y is = absurd y
+
+-- what holds anyway, holds where all went well
+pub on_ok_of : {T E : Type 0} {P : Type 0} (r : Result T E) → P → OnOk r P
+on_ok_of (Ok done) is = is
+on_ok_of (Err why) is = tt

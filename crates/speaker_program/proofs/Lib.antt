@@ -2,6 +2,4 @@ pub mod Commanding
 pub mod EndedWell
 pub mod OtherFaults
 pub mod ServedWords
-pub mod TakenSlots
 pub mod TakenTurns
-pub mod Told

@@ -7,7 +7,6 @@ use Rattle.wires.specs.declared.fault.LoopFault.{LoopFault}
 use Rattle.wires.specs.declared.fault.LoopFault.TheVariants.{Accept}
 use Rattle.std.specs.Result.{IsErrAnd}
 use Rattle.speaker_program.specs.Commanded.{StopsBehind, TakeWell, TakesAll, TakesSoMany}
-use Rattle.program_endings.specs.declared.fault.ExitFault.{ExitFault}
 
 well_more : (moments : List ℕ) (now : ℕ) (old mid new : Turns) → TakeWell moments old mid → TakesTurn now mid (Ok tt) new → TakeWell (moments ++ now ∷ []) old new
 well_more [] now old mid new same takes = (new, subst (λ s. TakesTurn now s (Ok tt) new) same takes, refl)
@@ -42,7 +41,7 @@ one_more count now before mid behind old between new so_far reads later takes =
     }
 
 -- the clock fails behind so many turns
-pub clock_fails : (P : ExitFault → Type 0) (count turns : ℕ) (result : Result (Unit {0}) ExitFault) (before mid behind : List ℕ) (old new : Turns) → IsErrAnd result P → count < turns → behind ≡ mid → TakesAll count before mid old new → TakesSoMany turns result before behind old new
+pub clock_fails : {E : Type 0} (P : E → Type 0) (count turns : ℕ) (result : Result (Unit {0}) E) (before mid behind : List ℕ) (old new : Turns) → IsErrAnd result P → count < turns → behind ≡ mid → TakesAll count before mid old new → TakesSoMany turns result before behind old new
 clock_fails P count turns (Ok done) before mid behind old new is fewer same taken = absurd is
 clock_fails P count turns (Err fault) before mid behind old new is fewer same taken =
     let counted = taken.counted in
@@ -54,7 +53,7 @@ clock_fails P count turns (Err fault) before mid behind old new is fewer same ta
     }
 
 -- one more can't accept
-pub turn_fails : (P : ExitFault → Type 0) (count turns now : ℕ) (why : LoopFault) (result : Result (Unit {0}) ExitFault) (before mid behind : List ℕ) (old between new : Turns) → IsErrAnd result P → count < turns → behind ≡ now ∷ mid → IsNotBefore now mid → TakesAll count before mid old between → TakesTurn now between (Err why) new → TakesSoMany turns result before behind old new
+pub turn_fails : {E : Type 0} (P : E → Type 0) (count turns now : ℕ) (why : LoopFault) (result : Result (Unit {0}) E) (before mid behind : List ℕ) (old between new : Turns) → IsErrAnd result P → count < turns → behind ≡ now ∷ mid → IsNotBefore now mid → TakesAll count before mid old between → TakesTurn now between (Err why) new → TakesSoMany turns result before behind old new
 turn_fails P count turns now Accept (Ok done) before mid behind old between new is fewer reads later taken takes = absurd is
 turn_fails P count turns now Accept (Err fault) before mid behind old between new is fewer reads later taken takes =
     let counted = taken.counted in
@@ -66,7 +65,7 @@ turn_fails P count turns now Accept (Err fault) before mid behind old between ne
     }
 
 -- however they end, they are turns of the loop
-pub taken_are_turns : (count : ℕ) (result : Result (Unit {0}) ExitFault) (before behind : List ℕ) (old new : Turns) → TakesSoMany count result before behind old new → (moments : List ℕ) × TakesTurns moments old new
+pub taken_are_turns : {E : Type 0} (count : ℕ) (result : Result (Unit {0}) E) (before behind : List ℕ) (old new : Turns) → TakesSoMany count result before behind old new → (moments : List ℕ) × TakesTurns moments old new
 taken_are_turns count (Ok done) before behind old new taken = (taken.moments, well_are_turns taken.moments old new taken.taken)
 taken_are_turns count (Err fault) before behind old new taken = by_end taken.ends
   where

@@ -7,7 +7,7 @@ use Rattle.speaker_turns.specs.declared.end.End.TheVariants.{Peer, Cache}
 use Rattle.wires.specs.Wires.{WireState}
 use Rattle.speaker_program.specs.Commanded.{IsCommanded, TakesSoMany}
 use Rattle.speaker_program.specs.Slots.{HasJust}
-use Rattle.speaker_program.specs.declared.settings.SpeakerSettings.{SpeakerSettings}
+use Rattle.speaker_settings.specs.declared.settings.SpeakerSettings.{SpeakerSettings}
 
 -- it is told where each of these peers is
 abbrev pub with_peers : List (ℕ × Address) → Turns → Turns

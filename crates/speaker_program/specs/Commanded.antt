@@ -4,13 +4,13 @@ use Rattle.clocks.specs.Moments.{NeverGoBack, told_behind}
 use Rattle.scenario.specs.FileLines.{lines}
 use Rattle.scenario.specs.ObeyedCommands.{AreCommandsOf, Obeys, ObeysBefore}
 use Rattle.scenario.specs.declared.commands.CommandsFault.{CommandsFault}
-use Rattle.speaker_program.specs.Exits.{exit_of_commands}
+use Rattle.speaker_program.specs.Endings.{IsOfCommands}
+use Rattle.speaker_program.specs.declared.fault.SpeakerFault.{SpeakerFault}
 use Rattle.speaker.specs.Agreement.{Agrees}
 use Rattle.speaker.specs.Runs.{Run}
 use Rattle.speaker.specs.SpeakerState.{SpeakerState}
 use Rattle.speaker.specs.declared.config.Config.{Config}
 use Rattle.speaker_turns.specs.Turns.{TakesTurn, Turns}
-use Rattle.program_endings.specs.declared.fault.ExitFault.{ExitFault}
 use Rattle.wires.specs.declared.fault.LoopFault.TheVariants.{Accept}
 
 -- the lines are those of the text, where it is known
@@ -26,9 +26,9 @@ abbrev pub ObeysText : Option (List ℕ) → SpeakerState → SpeakerState → T
 ObeysText text old new = (on : List (List ℕ)) × AreLinesOf text on × Obeys on old new
 
 -- the commands on these lines were accepted, in order, or those before the line of a fault, which is what ends the program
-abbrev pub IsCommandedBy : List (List ℕ) → Result (Unit {0}) ExitFault → SpeakerState → SpeakerState → Type 0
+abbrev pub IsCommandedBy : List (List ℕ) → Result (Unit {0}) SpeakerFault → SpeakerState → SpeakerState → Type 0
 IsCommandedBy on (Ok done) old new = Obeys on old new
-IsCommandedBy on (Err exit) old new = (fault : CommandsFault) × (exit ≡ exit_of_commands fault) × ObeysBefore on fault old new
+IsCommandedBy on (Err ends) old new = (fault : CommandsFault) × IsOfCommands fault ends × ObeysBefore on fault old new
 
 -- turns at these moments, one after another, each of which went well
 abbrev pub TakeWell : List ℕ → Turns → Turns → Type 0
@@ -57,6 +57,6 @@ pub record TakesFewer (count : ℕ) (before behind : List ℕ) (old new : Turns)
   pub forward : NeverGoBack before → NeverGoBack behind
 
 -- turns were taken: just so many where nothing failed
-abbrev pub TakesSoMany : ℕ → Result (Unit {0}) ExitFault → List ℕ → List ℕ → Turns → Turns → Type 0
+abbrev pub TakesSoMany : {E : Type 0} → ℕ → Result (Unit {0}) E → List ℕ → List ℕ → Turns → Turns → Type 0
 TakesSoMany count (Ok done) before behind old new = TakesAll count before behind old new
 TakesSoMany count (Err fault) before behind old new = TakesFewer count before behind old new

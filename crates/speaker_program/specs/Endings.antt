@@ -1,8 +1,45 @@
 -- How serving ended.
-use Rattle.std.specs.Prelude.{◌≡◌, Result, Ok, Err}
-use Rattle.program_endings.specs.declared.fault.ExitFault.{ExitFault}
+use Rattle.std.specs.Prelude.{◌≡◌, ℕ, Result, Ok, Err, ⊤}
+use Rattle.program_endings.specs.Exits.{status_of}
+use Rattle.scenario.specs.declared.commands.CommandsFault.{CommandsFault}
+use Rattle.speaker_program.specs.Exits.{exit_of_fault}
+use Rattle.speaker_program.specs.declared.fault.SpeakerFault.{SpeakerFault}
+use Rattle.speaker_program.specs.declared.fault.SpeakerFault.TheVariants.{Words, File, Settings, Commands, Slot, Refused, Listen, Clock, Turn, Output, NoMemory}
+
+-- the words are wrong
+abbrev pub IsOfWords : SpeakerFault → Type 0
+IsOfWords (Words why) = ⊤
+IsOfWords (File path error) = ⊥
+IsOfWords (Settings path why) = ⊥
+IsOfWords (Commands path why) = ⊥
+IsOfWords (Slot path slot) = ⊥
+IsOfWords (Refused refusal) = ⊥
+IsOfWords (Listen address error) = ⊥
+IsOfWords (Clock error) = ⊥
+IsOfWords (Turn why) = ⊥
+IsOfWords (Output error) = ⊥
+IsOfWords NoMemory = ⊥
+
+-- the commands can't be obeyed, for this
+abbrev pub IsOfCommands : CommandsFault → SpeakerFault → Type 0
+IsOfCommands fault (Words why) = ⊥
+IsOfCommands fault (File path error) = ⊥
+IsOfCommands fault (Settings path why) = ⊥
+IsOfCommands fault (Commands path why) = why ≡ fault
+IsOfCommands fault (Slot path slot) = ⊥
+IsOfCommands fault (Refused refusal) = ⊥
+IsOfCommands fault (Listen address error) = ⊥
+IsOfCommands fault (Clock error) = ⊥
+IsOfCommands fault (Turn why) = ⊥
+IsOfCommands fault (Output error) = ⊥
+IsOfCommands fault NoMemory = ⊥
 
 -- well, or by this fault
-abbrev pub EndsSo : {T : Type 0} → Result T ExitFault → Result (Unit {0}) ExitFault → Type 0
+abbrev pub EndsSo : {T : Type 0} → Result T SpeakerFault → Result (Unit {0}) SpeakerFault → Type 0
 EndsSo (Ok served) result = result ≡ Ok tt
 EndsSo (Err fault) result = result ≡ Err fault
+
+-- the exit status of a program that has ended so
+abbrev pub status_at_end : Result (Unit {0}) SpeakerFault → ℕ
+status_at_end (Ok done) = 0
+status_at_end (Err fault) = status_of (exit_of_fault fault)

@@ -1,6 +1,6 @@
 pub mod Begun
+pub mod Checked
 pub mod Commanded
 pub mod Endings
 pub mod Exits
 pub mod Slots
-pub mod ToldSettings

@@ -1,18 +1,9 @@
 -- The slots of a speaker that settings name.
-use Rattle.std.specs.Prelude.{◌≡◌, ◌<◌, ◌==◌, ℕ, Bool, false, List, All, AllPairs, is_some}
-use Rattle.std.specs.List.{list_any}
+use Rattle.std.specs.Prelude.{◌≡◌, ◌<◌, ℕ, Bool, List, is_some}
 use Rattle.std.specs.declared.net.socket_addr.SocketAddr.{SocketAddr as Address}
 use Rattle.speaker.specs.SpeakerState.{SpeakerState, tables_of}
 use Rattle.routes.specs.Tables.{configured_session}
-
--- one of the peers has the slot
-abbrev pub has_slot : List (ℕ × Address) → ℕ → Bool
-has_slot peers slot = list_any (λ peer. peer.0 == slot) peers
-
--- the slots are some of the 64, each once
-pub record AreSlots (peers : List (ℕ × Address)) : Type 0 where
-  pub within : All (λ peer. peer.0 < 64) peers
-  pub once : AllPairs (λ peer other. (peer.0 == other.0) ≡ false) peers
+use Rattle.speaker_settings.specs.PeerSlots.{has_slot}
 
 -- the speaker has a peer in the slot
 abbrev pub is_configured : SpeakerState → ℕ → Bool

@@ -1,14 +1,19 @@
 //! What the main of `ovbgpd` does.
-ghost use Rattle.std.specs.Prelude.{◌≡◌, [], ◌≢◌, ◌≤◌, ◌↔◌, ℕ, List, Vec, Ok, Some, Err, IfErr, IfOk, OnOk, IsTrue, ⊤, is_some, string_bytes};
+ghost use Rattle.std.specs.Prelude.{◌≡◌, [], ◌∷◌, ◌≤◌, ℕ, List, Vec, Ok, Some, IfErr, IfOk, MatchOption, MatchResult, OnErr, OnOk, ⊤, is_some, string_bytes};
+ghost use Rattle.clocks.specs.Moments.{IsNotBefore};
 ghost use Rattle.std.specs.Fn.{FnOnceReturnsAt};
 ghost use Rattle.std.specs.Global.{Global as TheGlobal};
 ghost use Rattle.toml.specs.Data.{Members};
 ghost use Rattle.speaker_program.specs.Commanded.{IsCommanded, IsCommandedBy, ObeysText, TakesSoMany};
-ghost use Rattle.speaker_program.specs.Endings.{EndsSo};
+ghost use Rattle.speaker_program.specs.Checked.{IsChecked, IsCheckedBy};
+ghost use Rattle.speaker_program.specs.Endings.{EndsSo, IsOfWords, status_at_end};
+ghost use Rattle.program_endings.specs.Asides.{Asks};
+ghost use Rattle.program_endings.specs.declared.aside.Aside.{Aside};
+ghost use Rattle.std.specs.Result.{IsErrAnd};
 ghost use Rattle.speaker_program.specs.Begun.{IsBegun, IsServed, StateFrom, TextFrom, with_remotes};
-ghost use Rattle.speaker_program.specs.declared.settings.SpeakerSettings.{SpeakerSettings};
+ghost use Rattle.speaker_settings.specs.declared.settings.SpeakerSettings.{SpeakerSettings};
 ghost use Rattle.speaker_program.specs.Slots.{HasJust, is_configured};
-ghost use Rattle.speaker_program.specs.ToldSettings.{IsToldBy};
+ghost use Rattle.speaker_settings.specs.ToldSettings.{IsToldBy};
 ghost use Rattle.settings_keys.specs.Keys.{IsTableOf};
 ghost use Rattle.speaker_turns.specs.Turns.{Turns};
 ghost use Rattle.program_endings.specs.Words.{IsCall};
@@ -16,15 +21,16 @@ ghost use Rattle.scenario.specs.FileLines.{lines};
 ghost use Rattle.speaker.specs.Agreement.{Agrees};
 ghost use Rattle.net_wires.specs.Opening.{opened_at};
 
-use crate::exits::{of_commands, of_speaker};
-use crate::settings::{SpeakerSettings, has_slot};
+use crate::fault::SpeakerFault;
+use crate::help::{HELP, VERSION};
 use bgp_conf::PEER_SLOTS;
 use clocks::{MonotonicClock, SecondsClock};
 use decision::Book;
 use net_wires::{NetWire, REST_MILLISECONDS};
-use program_endings::{ExitFault, end, read_words};
+use program_endings::{Aside, aside_of, end, print, read_words};
 use scenario::{Table, obey_lines, show};
 use speaker::{Config, Speaker};
+use speaker_settings::{SpeakerSettings, has_slot};
 use speaker_turns::{End, SpeakerLoop};
 use std::alloc::{AllocGlobal, Global};
 use std::fs;
@@ -34,9 +40,38 @@ use std::rt::{Clock, Files};
 use std::time::Duration;
 use wires::Wire;
 
-/// `ovbgpd SETTINGS TURNS`: a speaker that obeys the commands of its settings and then serves its sessions for so many turns.
-/// Behind them its Loc-RIB stands on `output`; a fault has its line on `errors`. The answer is the exit status.
+/// `ovbgpd SETTINGS [TURNS]`: a speaker that obeys the commands of its settings and then serves its sessions for so many turns.
+/// Behind them its Loc-RIB stands on `output`; a fault has its line on `errors`. `--help`, `--version` and `--check SETTINGS` are
+/// answered on the output, and nothing is served then. The answer is the exit status.
 pub fn main_bgp<B: Book<Global>, R, O: Write, E: Write>(
+    rt: &R,
+    words: &[String],
+    output: &mut O,
+    errors: &mut E,
+) -> u8
+where
+    R: Net<Listener = TcpListener, Stream = TcpStream> + Files + Clock + AllocGlobal,
+    ensures words { ((path : List ℕ) (turns : ℕ) → ¬ (IsCall words.now path turns)) → ((aside : Aside) → ¬ (Asks words.now aside)) → result ≡ 1 }
+    ensures range { result ≤ 2 }
+    ensures output { ((path : List ℕ) (turns : ℕ) → ¬ (IsCall words.now path turns)) → ((aside : Aside) → ¬ (Asks words.now aside)) → output.new ≡ output.old }
+    ensures silent { result ≡ 0 → errors.new ≡ errors.old }
+    // The status is 0 only where the settings that a file tells were served for just the turns of the words, over a wire that was
+    // opened where they listen.
+    ensures serves { ((aside : Aside) → ¬ (Asks words.now aside)) → result ≡ 0 → (path : List ℕ) × (turns : ℕ) × (octets : List ℕ) × (table : Members) × (settings : SpeakerSettings) × (behind : List ℕ) × (served : Turns)
+        × IsCall words.now path turns × IsTableOf octets table × IsToldBy table settings
+        × IsServed (λ text. ⊤) (StateFrom (λ wire. wire ≡ opened_at settings.listen) (λ wire. wire.state)) settings turns [] behind served }
+    // Where they are to be checked, it is 0 only where a file tells settings, and the commands of some file leave a speaker of them
+    // with just their slots.
+    ensures checks { (aside : Aside) → Asks words.now aside → result ≡ 0 → IsCheckedBy aside }
+{
+    match aside_of(words) {
+        None => main_serving::<B, _, _, _>(rt, words, output, errors),
+        Some(aside) => conclude(answer::<B, _, _>(rt, aside, output), errors),
+    }
+}
+
+// The same of words that ask for nothing else.
+fn main_serving<B: Book<Global>, R, O: Write, E: Write>(
     rt: &R,
     words: &[String],
     output: &mut O,
@@ -56,7 +91,69 @@ where
 {
     let mut clock = MonotonicClock::new(rt);
     let served = serve_words::<B, _, _, _>(rt, words, output, &mut clock);
-    end("ovbgpd", ending(served), errors)
+    conclude(ending(served), errors)
+}
+
+// The exit status of the program that has ended so; a fault has its line on `errors`.
+fn conclude<E: Write>(ended: Result<(), SpeakerFault>, errors: &mut E) -> u8
+    ensures status { result ≡ status_at_end ended }
+    ensures range { result ≤ 2 }
+    ensures silent { result ≡ 0 → errors.new ≡ errors.old }
+{
+    match ended {
+        Ok(()) => 0,
+        Err(fault) => end("ovbgpd", fault.exit(), &fault, errors),
+    }
+}
+
+// Answers what is asked besides serving.
+fn answer<B: Book<Global>, R, O: Write>(
+    rt: &R,
+    aside: Aside<'_>,
+    output: &mut O,
+) -> Result<(), SpeakerFault>
+where
+    R: Files + AllocGlobal,
+    ensures { OnOk result (IsCheckedBy aside.entry) }
+{
+    match aside {
+        Aside::Help => print(HELP, output).map_err(SpeakerFault::Output),
+        Aside::Version => print(VERSION, output).map_err(SpeakerFault::Output),
+        Aside::Check(path) => check::<B, _, _>(rt, path, output),
+    }
+}
+
+// Reads the settings of this path, obeys their commands, and tells what they are.
+fn check<B: Book<Global>, R, O: Write>(
+    rt: &R,
+    path: &str,
+    output: &mut O,
+) -> Result<(), SpeakerFault>
+where
+    R: Files + AllocGlobal,
+    ensures { OnOk result IsChecked }
+{
+    let alloc = rt.alloc();
+    let settings = read_settings(alloc, path, |path: &str| fs::read(rt, path))?;
+    let _speaker = commanded::<B, _, _>(alloc, &settings, |path: &str| lines_of(rt, path))?;
+    tell_checked(path, &settings, output)
+}
+
+// Tells what settings are.
+fn tell_checked<O: Write>(
+    path: &str,
+    settings: &SpeakerSettings,
+    output: &mut O,
+) -> Result<(), SpeakerFault> {
+    let asn = settings.asn.0;
+    let peers = settings.peers.len();
+    let commands = settings.commands.as_str();
+    let written = write!(
+        output,
+        "{path}: settings of AS {asn} with {peers} peers\n{commands}: commands that are obeyed\n"
+    );
+    written.map_err(SpeakerFault::Output)?;
+    output.flush().map_err(SpeakerFault::Output)
 }
 
 // What the words ask for, by the system's files and sockets.
@@ -65,11 +162,11 @@ fn serve_words<'a, B: Book<Global>, R, O: Write, C: SecondsClock>(
     words: &[String],
     output: &mut O,
     clock: &mut C,
-) -> Result<SpeakerLoop<NetWire<'a, R>, Global, B>, ExitFault>
+) -> Result<SpeakerLoop<NetWire<'a, R>, Global, B>, SpeakerFault>
 where
     R: Net<Listener = TcpListener, Stream = TcpStream> + Files + AllocGlobal,
-    ensures wrong { ((path : List ℕ) (turns : ℕ) → ¬ (IsCall words.now path turns)) → result ≡ Err ExitFault.Arguments }
-    ensures output { result ≡ Err ExitFault.Arguments → output.new ≡ output.old }
+    ensures wrong { ((path : List ℕ) (turns : ℕ) → ¬ (IsCall words.now path turns)) → IsErrAnd result IsOfWords }
+    ensures output { IsErrAnd result IsOfWords → output.new ≡ output.old }
     ensures serves { IfOk result (λ served. (path : List ℕ) × (turns : ℕ) × (octets : List ℕ) × (table : Members) × (settings : SpeakerSettings)
         × IsCall words.now path turns × IsTableOf octets table × IsToldBy table settings
         × IsServed (λ text. ⊤) (StateFrom (λ wire. wire ≡ opened_at settings.listen) (λ wire. wire.state)) settings turns (C.readings clock.old) (C.readings clock.new) served) }
@@ -92,7 +189,7 @@ fn lines_of<R: Files + AllocGlobal>(rt: &R, path: &str) -> io::Result<BufReader<
 }
 
 // How serving ended.
-fn ending<T: Drop>(served: Result<T, ExitFault>) -> Result<(), ExitFault>
+fn ending<T: Drop>(served: Result<T, SpeakerFault>) -> Result<(), SpeakerFault>
     ensures { EndsSo served result }
 {
     match served {
@@ -110,7 +207,7 @@ fn run_bgp<B: Book<Global>, O: Write, C: SecondsClock, L: BufRead + Drop, W: Wir
     reads: S,
     commands: M,
     opens: F,
-) -> Result<SpeakerLoop<W, Global, B>, ExitFault>
+) -> Result<SpeakerLoop<W, Global, B>, SpeakerFault>
 where
     S: FnOnce(&str) -> io::Result<Vec<u8>>,
     M: FnOnce(&str) -> io::Result<L>,
@@ -118,9 +215,9 @@ where
     requires reads { S.IsAlwaysCallable reads }
     requires commands { M.IsAlwaysCallable commands }
     requires opens { F.IsAlwaysCallable opens }
-    ensures wrong { ((path : List ℕ) (turns : ℕ) → ¬ (IsCall words.now path turns)) → result ≡ Err ExitFault.Arguments }
-    ensures right { (path : List ℕ) (turns : ℕ) → IsCall words.now path turns → result ≢ Err ExitFault.Arguments }
-    ensures output { result ≡ Err ExitFault.Arguments → output.new ≡ output.old }
+    ensures wrong { ((path : List ℕ) (turns : ℕ) → ¬ (IsCall words.now path turns)) → IsErrAnd result IsOfWords }
+    ensures right { (path : List ℕ) (turns : ℕ) → IsCall words.now path turns → ¬ (IsErrAnd result IsOfWords) }
+    ensures output { IsErrAnd result IsOfWords → output.new ≡ output.old }
     // The speaker of the settings that the file of the words tells has obeyed just the commands of the file of the settings, it was
     // told their remotes, and has taken just the turns of the words over the wire that was opened where they listen.
     ensures serves { IfOk result (λ served. (path : List ℕ) × (turns : ℕ) × (octets : Vec ℕ TheGlobal) × (table : Members) × (settings : SpeakerSettings)
@@ -128,7 +225,7 @@ where
         × IsServed (TextFrom (λ lines. FnOnceReturnsAt M.FnOnce commands (string_bytes settings.commands) (Ok lines)) L.remaining)
         (StateFrom (λ wire. F.post opens settings.listen (Ok wire)) W.state) settings turns (C.readings clock.old) (C.readings clock.new) served) }
 {
-    let (path, turns) = read_words(words)?;
+    let (path, turns) = call_of(words)?;
     let settings = read_settings(alloc, path, reads)?;
     serve(alloc, &settings, turns, output, clock, commands, opens)
 }
@@ -142,13 +239,13 @@ fn serve<B: Book<Global>, O: Write, C: SecondsClock, L: BufRead + Drop, W: Wire 
     clock: &mut C,
     commands: M,
     opens: F,
-) -> Result<SpeakerLoop<W, Global, B>, ExitFault>
+) -> Result<SpeakerLoop<W, Global, B>, SpeakerFault>
 where
     M: FnOnce(&str) -> io::Result<L>,
     F: FnOnce(Option<SocketAddr>) -> io::Result<W>,
     requires commands { M.IsAlwaysCallable commands }
     requires opens { F.IsAlwaysCallable opens }
-    ensures fault { IfErr result (λ fault. fault ≢ ExitFault.Arguments) }
+    ensures fault { IfErr result (λ fault. ¬ (IsOfWords fault)) }
     ensures serves { IfOk result (λ served. IsServed (TextFrom (λ lines. FnOnceReturnsAt M.FnOnce commands (string_bytes settings.now.commands) (Ok lines)) L.remaining)
         (StateFrom (λ wire. F.post opens settings.now.listen (Ok wire)) W.state) settings.now turns (C.readings clock.old) (C.readings clock.new) served) }
 {
@@ -162,34 +259,74 @@ where
 fn show_routes<B: Book<Global>, W: Wire + Drop, O: Write>(
     served: &SpeakerLoop<W, Global, B>,
     output: &mut O,
-) -> Result<(), ExitFault>
-    ensures { IfErr result (λ fault. fault ≢ ExitFault.Arguments) }
+) -> Result<(), SpeakerFault>
+    ensures { IfErr result (λ fault. ¬ (IsOfWords fault)) }
 {
-    show(served.speaker(), Table::Rib, output)?;
-    output.flush()?;
-    Ok(())
+    show(served.speaker(), Table::Rib, output).map_err(SpeakerFault::Output)?;
+    output.flush().map_err(SpeakerFault::Output)
+}
+
+// The path of the settings and the number of turns.
+fn call_of(words: &[String]) -> Result<(&str, u64), SpeakerFault>
+    ensures { MatchResult result (λ read. IsCall words.now read.0.now read.1) (λ fault. IsOfWords fault × ((path : List ℕ) (turns : ℕ) → ¬ (IsCall words.now path turns))) }
+{
+    match read_words(words) {
+        Ok(call) => Ok(call),
+        Err(why) => Err(SpeakerFault::Words(why)),
+    }
+}
+
+// The moment.
+fn read_clock<C: SecondsClock>(clock: &mut C) -> Result<u64, SpeakerFault>
+    ensures fault { IfErr result (λ fault. ¬ (IsOfWords fault)) }
+    ensures told { IfOk result (λ now. C.readings clock.new ≡ now ∷ C.readings clock.old) }
+    ensures forward { IfOk result (λ now. IsNotBefore now (C.readings clock.old)) }
+    ensures failed { OnErr result (C.readings clock.new ≡ C.readings clock.old) }
+{
+    match clock.read() {
+        Ok(now) => Ok(now),
+        Err(error) => Err(SpeakerFault::Clock(error)),
+    }
 }
 
 // The settings in the file of this path.
-fn read_settings<S>(alloc: Global, path: &str, reads: S) -> Result<SpeakerSettings, ExitFault>
+fn read_settings<S>(alloc: Global, path: &str, reads: S) -> Result<SpeakerSettings, SpeakerFault>
 where
     S: FnOnce(&str) -> io::Result<Vec<u8>>,
     requires { S.IsAlwaysCallable reads }
-    ensures fault { IfErr result (λ fault. fault ≢ ExitFault.Arguments) }
+    ensures fault { IfErr result (λ fault. ¬ (IsOfWords fault)) }
     ensures told { IfOk result (λ settings. (octets : Vec ℕ TheGlobal) × (table : Members) × FnOnceReturnsAt S.FnOnce reads path.now (Ok octets) × IsTableOf octets.items table × IsToldBy table settings) }
 {
-    let octets = reads(path)?;
-    settings_in(alloc, octets.as_slice())
+    let octets = octets_of(alloc, path, reads)?;
+    settings_in(alloc, path, octets.as_slice())
+}
+
+// The octets of the file of this path.
+fn octets_of<S>(alloc: Global, path: &str, reads: S) -> Result<Vec<u8>, SpeakerFault>
+where
+    S: FnOnce(&str) -> io::Result<Vec<u8>>,
+    requires { S.IsAlwaysCallable reads }
+    ensures fault { IfErr result (λ fault. ¬ (IsOfWords fault)) }
+    ensures given { IfOk result (λ octets. FnOnceReturnsAt S.FnOnce reads path.now (Ok octets)) }
+{
+    match reads(path) {
+        Ok(octets) => Ok(octets),
+        Err(error) => Err(SpeakerFault::unread(alloc, path, error)),
+    }
 }
 
 // The settings that the octets of a file tell.
-fn settings_in(alloc: Global, octets: &[u8]) -> Result<SpeakerSettings, ExitFault>
-    ensures fault { IfErr result (λ fault. fault ≢ ExitFault.Arguments) }
+fn settings_in(
+    alloc: Global,
+    path: &str,
+    octets: &[u8],
+) -> Result<SpeakerSettings, SpeakerFault>
+    ensures fault { IfErr result (λ fault. ¬ (IsOfWords fault)) }
     ensures told { IfOk result (λ settings. (table : Members) × IsTableOf octets.now table × IsToldBy table settings) }
 {
     match SpeakerSettings::read(alloc, octets) {
         Ok(settings) => Ok(settings),
-        Err(fault) => Err(fault.into()),
+        Err(why) => Err(SpeakerFault::bad_settings(alloc, path, why)),
     }
 }
 
@@ -199,21 +336,35 @@ fn begin<B: Book<Global>, L: BufRead + Drop, W: Wire + Drop, M, F>(
     settings: &SpeakerSettings,
     commands: M,
     opens: F,
-) -> Result<SpeakerLoop<W, Global, B>, ExitFault>
+) -> Result<SpeakerLoop<W, Global, B>, SpeakerFault>
 where
     M: FnOnce(&str) -> io::Result<L>,
     F: FnOnce(Option<SocketAddr>) -> io::Result<W>,
     requires commands { M.IsAlwaysCallable commands }
     requires opens { F.IsAlwaysCallable opens }
-    ensures fault { IfErr result (λ fault. fault ≢ ExitFault.Arguments) }
+    ensures fault { IfErr result (λ fault. ¬ (IsOfWords fault)) }
     ensures begins { IfOk result (λ served. IsBegun (TextFrom (λ lines. FnOnceReturnsAt M.FnOnce commands (string_bytes settings.now.commands) (Ok lines)) L.remaining)
         (StateFrom (λ wire. F.post opens settings.now.listen (Ok wire)) W.state) settings.now served) }
 {
     let speaker = commanded(alloc, settings, commands)?;
-    let wire = opens(settings.listen)?;
+    let wire = opened(settings.listen, opens)?;
     let mut served = SpeakerLoop::new(alloc, wire, speaker)?;
     tell_remotes(settings, &mut served);
     Ok(served)
+}
+
+// The wire that is opened there.
+fn opened<W: Wire + Drop, F>(listen: Option<SocketAddr>, opens: F) -> Result<W, SpeakerFault>
+where
+    F: FnOnce(Option<SocketAddr>) -> io::Result<W>,
+    requires { F.IsAlwaysCallable opens }
+    ensures fault { IfErr result (λ fault. ¬ (IsOfWords fault)) }
+    ensures wire { IfOk result (λ wire. F.post opens listen (Ok wire)) }
+{
+    match opens(listen) {
+        Ok(wire) => Ok(wire),
+        Err(error) => Err(SpeakerFault::Listen { listen, error }),
+    }
 }
 
 // The speaker of the settings, which has obeyed their commands.
@@ -221,28 +372,40 @@ fn commanded<B: Book<Global>, L: BufRead + Drop, M>(
     alloc: Global,
     settings: &SpeakerSettings,
     commands: M,
-) -> Result<Speaker<Global, B>, ExitFault>
+) -> Result<Speaker<Global, B>, SpeakerFault>
 where
     M: FnOnce(&str) -> io::Result<L>,
     requires { M.IsAlwaysCallable commands }
-    ensures fault { IfErr result (λ fault. fault ≢ ExitFault.Arguments) }
+    ensures fault { IfErr result (λ fault. ¬ (IsOfWords fault)) }
     ensures slots { IfOk result (HasJust settings.now.peers.items) }
     ensures commands { IfOk result (λ speaker. (lines : L) × FnOnceReturnsAt M.FnOnce commands (string_bytes settings.now.commands) (Ok lines)
         × IsCommanded (L.remaining lines) (record { asn = settings.now.asn; identifier = settings.now.identifier; cache = is_some settings.now.cache; multiprotocol = settings.now.multiprotocol }) speaker) }
 {
-    let mut speaker = made(alloc, settings.config())?;
+    let mut speaker = made(alloc, config_of(settings))?;
     command(alloc, settings, &mut speaker, commands)?;
     Ok(speaker)
 }
 
+// What the speaker of the settings is made with.
+fn config_of(settings: &SpeakerSettings) -> Config
+    ensures { result ≡ record { asn = settings.now.asn; identifier = settings.now.identifier; cache = is_some settings.now.cache; multiprotocol = settings.now.multiprotocol } }
+{
+    Config {
+        asn: settings.asn,
+        identifier: settings.identifier,
+        cache: settings.cache.is_some(),
+        multiprotocol: settings.multiprotocol,
+    }
+}
+
 // A speaker that has obeyed no command.
-fn made<B: Book<Global>>(alloc: Global, config: Config) -> Result<Speaker<Global, B>, ExitFault>
-    ensures fault { IfErr result (λ fault. fault ≢ ExitFault.Arguments) }
+fn made<B: Book<Global>>(alloc: Global, config: Config) -> Result<Speaker<Global, B>, SpeakerFault>
+    ensures fault { IfErr result (λ fault. ¬ (IsOfWords fault)) }
     ensures agrees { IfOk result (λ speaker. Agrees config [] speaker) }
 {
     match Speaker::new(alloc, config) {
         Ok(speaker) => Ok(speaker),
-        Err(refusal) => Err(of_speaker(refusal)),
+        Err(refusal) => Err(SpeakerFault::Refused(refusal)),
     }
 }
 
@@ -252,48 +415,67 @@ fn command<B: Book<Global>, L: BufRead + Drop, M>(
     settings: &SpeakerSettings,
     speaker: &mut Speaker<Global, B>,
     commands: M,
-) -> Result<(), ExitFault>
+) -> Result<(), SpeakerFault>
 where
     M: FnOnce(&str) -> io::Result<L>,
     requires { M.IsAlwaysCallable commands }
-    ensures fault { IfErr result (λ fault. fault ≢ ExitFault.Arguments) }
+    ensures fault { IfErr result (λ fault. ¬ (IsOfWords fault)) }
     ensures slots { OnOk result (HasJust settings.now.peers.items speaker.new) }
     ensures commands { OnOk result ((lines : L) × FnOnceReturnsAt M.FnOnce commands (string_bytes settings.now.commands) (Ok lines) × ObeysText (L.remaining lines) speaker.old speaker.new) }
 {
-    let lines = commands(settings.commands.as_str())?;
-    command_from(alloc, lines, speaker)?;
-    if !are_configured(speaker, settings.peers.as_slice()) {
-        return Err(ExitFault::Settings);
+    let path = settings.commands.as_str();
+    let lines = lines_at(alloc, path, commands)?;
+    command_from(alloc, path, lines, speaker)?;
+    match other_slot(speaker, settings.peers.as_slice()) {
+        None => Ok(()),
+        Some(slot) => Err(SpeakerFault::bad_slot(alloc, path, slot)),
     }
-    Ok(())
 }
 
-// Hands the commands that a reader has to the speaker, line by line.
+// The reader of the file of this path.
+fn lines_at<L: BufRead + Drop, M>(alloc: Global, path: &str, commands: M) -> Result<L, SpeakerFault>
+where
+    M: FnOnce(&str) -> io::Result<L>,
+    requires { M.IsAlwaysCallable commands }
+    ensures fault { IfErr result (λ fault. ¬ (IsOfWords fault)) }
+    ensures given { IfOk result (λ lines. FnOnceReturnsAt M.FnOnce commands path.now (Ok lines)) }
+{
+    match commands(path) {
+        Ok(lines) => Ok(lines),
+        Err(error) => Err(SpeakerFault::unread(alloc, path, error)),
+    }
+}
+
+// Hands the commands that a reader of this path has to the speaker, line by line.
 fn command_from<B: Book<Global>, R: BufRead + Drop>(
     alloc: Global,
+    path: &str,
     reader: R,
     speaker: &mut Speaker<Global, B>,
-) -> Result<(), ExitFault>
-    ensures fault { IfErr result (λ fault. fault ≢ ExitFault.Arguments) }
+) -> Result<(), SpeakerFault>
+    ensures fault { IfErr result (λ fault. ¬ (IsOfWords fault)) }
     ensures each { (text : List ℕ) → R.remaining reader ≡ Some text → IsCommandedBy (lines text) result speaker.old speaker.new }
     ensures obeys { OnOk result (ObeysText (R.remaining reader) speaker.old speaker.new) }
 {
     match obey_lines(alloc, reader, speaker) {
         Ok(()) => Ok(()),
-        Err(fault) => Err(of_commands(fault)),
+        Err(why) => Err(SpeakerFault::bad_commands(alloc, path, why)),
     }
 }
 
-// Whether the slots that are configured are just those of the peers.
-fn are_configured<B: Book<Global>>(speaker: &Speaker<Global, B>, peers: &[(u8, SocketAddr)]) -> bool
-    ensures { IsTrue result ↔ HasJust peers.now speaker.now }
+// A slot that is configured and none of the peers', or one of them that isn't.
+fn other_slot<B: Book<Global>>(
+    speaker: &Speaker<Global, B>,
+    peers: &[(u8, SocketAddr)],
+) -> Option<u8>
+    ensures { MatchOption result (HasJust peers.now speaker.now) (λ slot. ¬ (HasJust peers.now speaker.now)) }
 {
     for slot in 0..PEER_SLOTS {
         if is_configured(speaker, slot) != has_slot(peers, slot) {
-            return false;
+            return Some(slot);
         }
     }
-    true
+    None
 }
 
 fn is_configured<B: Book<Global>>(speaker: &Speaker<Global, B>, slot: u8) -> bool
@@ -322,12 +504,12 @@ fn take_turns<B: Book<Global>, C: SecondsClock, W: Wire + Drop>(
     clock: &mut C,
     served: &mut SpeakerLoop<W, Global, B>,
     turns: u64,
-) -> Result<(), ExitFault>
-    ensures fault { IfErr result (λ fault. fault ≡ ExitFault.Device) }
+) -> Result<(), SpeakerFault>
+    ensures fault { IfErr result (λ fault. ¬ (IsOfWords fault)) }
     ensures turns { TakesSoMany turns result (C.readings clock.old) (C.readings clock.new) served.old served.new }
 {
     for _ in 0..turns {
-        let now = clock.read()?;
+        let now = read_clock(clock)?;
         served.turn(now)?;
         served.wait(Duration::from_millis(REST_MILLISECONDS));
     }

@@ -1,19 +1,21 @@
-//! The program of a speaker: its settings, and what the main of `ovbgpd` does.
+//! The program of a speaker: what the main of `ovbgpd` does.
 //!
 //! `main_bgp` reads the words exactly, and tells what the operator has to mend from what the system didn't give
-//! (`specs/Exits.antt`). Settings are what stands at the keys of their text (`specs/ToldSettings.antt`). `run_bgp` is handed what
+//! (`specs/Exits.antt`). `run_bgp` is handed what
 //! reads files, what opens a wire, and a clock: its speaker is as the commands of the settings' file leave it, its slots are just
 //! those of the settings (`specs/Slots.antt`), its wire is the one that was opened where they listen (`specs/Begun.antt`), and it
-//! takes so many turns (`specs/Commanded.antt`), behind which its Loc-RIB is printed. That `main_bgp` hands it the system's files
+//! takes so many turns (`specs/Commanded.antt`), behind which its Loc-RIB is printed. Settings
+//! that are only checked bind nothing (`specs/Checked.antt`). What ends it has its cause as data (`SpeakerFault`). That `main_bgp` hands it the system's files
 //! and sockets is read in its lines; what is printed is shown by tests.
 #![tactic(auto)]
 
 mod bgp_main;
 mod exits;
+mod fault;
+mod help;
 mod laws;
-mod settings;
 
 pub use bgp_main::main_bgp;
 pub use exits::{of_commands, of_speaker};
+pub use fault::SpeakerFault;
 pub use laws::served_turns_are_turns;
-pub use settings::SpeakerSettings;

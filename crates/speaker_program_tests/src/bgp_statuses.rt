@@ -1,7 +1,7 @@
 //! Each text of `ovbgpd` with its exit status.
 
 use live_book::LiveBook;
-use program_stages::{Ending, Stage, deaf_listener, ends, path_of, remove, write, write_settings};
+use program_stages::{Ending, Stage, deaf_listener, ends, remove, write, write_settings};
 use speaker_program::main_bgp;
 use std::alloc::{AllocError, AllocGlobal, Global};
 use std::net::{Net, SocketAddr, TcpListener, TcpStream};
@@ -17,9 +17,6 @@ const ONE_PEER: &str =
 
 const PEER: &str = "peer 0 65001 192.0.2.11 192.0.2.1 passive 180 all all\n";
 
-const WITHOUT_COMMANDS: &str =
-    "commands = \"no_such_file\"\nas = 65000\nidentifier = \"192.0.2.1\"\n";
-
 // It prints a Loc-RIB without routes.
 const WELL: Ending<'static> = Ending {
     status: 0,
@@ -27,29 +24,14 @@ const WELL: Ending<'static> = Ending {
     errors: "",
 };
 
-const WRONG: Ending<'static> = Ending {
-    status: 1,
-    output: "",
-    errors: "ovbgpd: arguments\n",
-};
-
-const REFUSED: Ending<'static> = Ending {
-    status: 1,
-    output: "",
-    errors: "ovbgpd: settings\n",
-};
-
-const BAD_LINE_4: Ending<'static> = Ending {
-    status: 1,
-    output: "",
-    errors: "ovbgpd: line 4: bad line\n",
-};
-
-const FAILED: Ending<'static> = Ending {
-    status: 2,
-    output: "",
-    errors: "ovbgpd: device\n",
-};
+// How a program ends that writes nothing but these errors.
+fn fails(status: u8, errors: &str) -> Ending<'_> {
+    Ending {
+        status,
+        output: "",
+        errors,
+    }
+}
 
 // Whether the program ends so with these words.
 fn ends_with<R>(rt: &R, words: &[&str], ending: Ending<'_>) -> bool
@@ -105,74 +87,150 @@ fn ends_on(rt: &HostRuntime, settings: &str, commands: &str, ending: Ending<'_>)
     ends_behind(rt, settings, commands, "2", ending)
 }
 
-// The same of settings that are this text.
-fn ends_on_text(rt: &HostRuntime, text: &str, ending: Ending<'_>) -> bool {
-    match write(rt, "alone.toml", text) {
-        Ok(path) => ends_there(rt, path.as_str(), "2", ending),
+// What ends a program: its status, the words behind its name, and the cause behind a path.
+type Told<'a> = (u8, &'a str, &'a str);
+
+// Whether it ends so behind two turns on settings of this path, and tells this of a file.
+fn tells(rt: &HostRuntime, path: &str, file: &str, told: Told<'_>) -> bool {
+    let (status, words, cause) = told;
+    match format!(in rt.alloc(); "ovbgpd: {words}: {file}: {cause}\n") {
+        Ok(errors) => ends_there(rt, path, "2", fails(status, errors.as_str())),
         Err(_) => false,
     }
 }
 
-const WRONG_WORDS: [&[&str]; 7] = [
-    &[],
-    &["no_such_file"],
-    &["no_such_file", "1", "2"],
-    &["no_such_file", ""],
-    &["no_such_file", "+1"],
-    &["no_such_file", "1a"],
-    &["no_such_file", "18446744073709551616"],
+// Which file is at fault.
+#[derive(Clone, Copy)]
+enum Fault {
+    Settings,
+    Commands,
+}
+
+// The same on settings that name the commands of this path.
+fn tells_at(
+    rt: &HostRuntime,
+    commands: &str,
+    settings: &str,
+    fault: Fault,
+    told: Told<'_>,
+) -> bool {
+    let has_told = match write_settings(rt, "commands", commands, settings) {
+        Ok(path) => match fault {
+            Fault::Settings => tells(rt, path.as_str(), path.as_str(), told),
+            Fault::Commands => tells(rt, path.as_str(), commands, told),
+        },
+        Err(_) => false,
+    };
+    is_removed(rt, commands) && has_told
+}
+
+// The same of these commands.
+fn tells_on(
+    rt: &HostRuntime,
+    settings: &str,
+    commands: &str,
+    fault: Fault,
+    told: Told<'_>,
+) -> bool {
+    match write(rt, "told", commands) {
+        Ok(path) => tells_at(rt, path.as_str(), settings, fault, told),
+        Err(_) => false,
+    }
+}
+
+const NO_SETTINGS: &str =
+    "ovbgpd: arguments: SETTINGS is wanted; ovbgpd --help tells what the words are\n";
+const NO_OPTION: &str =
+    "ovbgpd: arguments: the word is no option; ovbgpd --help tells what the words are\n";
+const NO_TURNS: &str = "ovbgpd: arguments: TURNS is no number from 0 to 18446744073709551615; ovbgpd --help tells what the words are\n";
+const TOO_MANY: &str = "ovbgpd: arguments: there are more words than SETTINGS and TURNS; ovbgpd --help tells what the words are\n";
+
+#[rattlefmt::skip]
+const WRONG_WORDS: [(&[&str], &str); 8] = [
+    (&[], NO_SETTINGS),
+    (&["--check"], NO_OPTION),
+    (&["--halp"], NO_OPTION),
+    (&["no_such_file", "1", "2"], TOO_MANY),
+    (&["no_such_file", ""], NO_TURNS),
+    (&["no_such_file", "+1"], NO_TURNS),
+    (&["no_such_file", "1a"], NO_TURNS),
+    (&["no_such_file", "18446744073709551616"], NO_TURNS),
 ];
 
 #[test]
 fn wrong_words_are_arguments(rt: HostRuntime) {
-    for words in &WRONG_WORDS {
-        assert!(rt; ends_with(&rt, words, WRONG), "{words:?}");
+    for (words, told) in &WRONG_WORDS {
+        assert!(rt; ends_with(&rt, words, fails(1, told)), "{words:?}");
     }
+}
+
+// Without the number of turns, and to be checked.
+#[test]
+fn a_file_that_isnt_there_is_a_device(rt: HostRuntime) {
+    let told = "ovbgpd: device: no_such_file: No such file or directory (os error 2)\n";
+    assert!(rt; ends_with(&rt, &["no_such_file"], fails(2, told)));
+    assert!(rt; ends_with(&rt, &["--check", "no_such_file"], fails(2, told)));
+}
+
+#[test]
+fn the_version_is_told(rt: HostRuntime) {
+    let told = Ending {
+        status: 0,
+        output: "ovbgpd (Kenyodla) 1.0\n",
+        errors: "",
+    };
+    assert!(rt; ends_with(&rt, &["--version"], told));
 }
 
 // Settings but for the path of the commands, with commands that fill their slots.
 #[rattlefmt::skip]
 const GOOD_SETTINGS: [(&str, &str); 7] = [
     (SETTINGS, ""),
-    ("as = 1\nidentifier = \"255.255.255.255\"\nother = [1]\n[table]\nas = \"no\"\n", "# nothing\n\n"),
+    ("as = 1\nidentifier = \"255.255.255.255\"\nmultiprotocol = false\n", "# nothing\n\n"),
     ("as = 4294967295\nidentifier = \"0.0.0.1\"\nlisten = \"127.0.0.1:0\"\nmultiprotocol = true\n", "reach 192.0.2.0/24 10"),
     ("as = 65000\nidentifier = \"192.0.2.1\"\ncache = \"127.0.0.1:1\"\n", "policy v state invalid reject ; accept\r\n"),
     ("as = 65000\nidentifier = \"192.0.2.1\"\npeer = []\n", ""),
     (ONE_PEER, PEER),
     (
-        "as = 65000\nidentifier = \"192.0.2.1\"\n[[peer]]\nslot = 63\nremote = \"127.0.0.1:1\"\nother = 1\n[[peer]]\nslot = 0\nremote = \"127.0.0.1:1\"\n",
+        "as = 65000\nidentifier = \"192.0.2.1\"\n[[peer]]\nslot = 63\nremote = \"127.0.0.1:1\"\n[[peer]]\nslot = 0\nremote = \"127.0.0.1:1\"\n",
         "peer 0 1 192.0.2.11 192.0.2.1 active 0 all all\nenable 0\npeer 63 2 192.0.2.12 192.0.2.1 active 3 none none\n",
     ),
 ];
 
-const BAD_SETTINGS: [&str; 27] = [
-    "as = 65000\nidentifier = \"192.0.2.1\"\nno toml",
-    "identifier = \"192.0.2.1\"\n",
-    "as = 65000\n",
-    "as = 0\nidentifier = \"192.0.2.1\"\n",
-    "as = -1\nidentifier = \"192.0.2.1\"\n",
-    "as = 4294967296\nidentifier = \"192.0.2.1\"\n",
-    "as = \"65000\"\nidentifier = \"192.0.2.1\"\n",
-    "as = 65000\nidentifier = \"0.0.0.0\"\n",
-    "as = 65000\nidentifier = \"192.0.2\"\n",
-    "as = 65000\nidentifier = \"192.0.2.256\"\n",
-    "as = 65000\nidentifier = \"router\"\n",
-    "as = 65000\nidentifier = 3221225985\n",
-    "as = 65000\nidentifier = \"192.0.2.1\"\ncache = \"localhost:323\"\n",
-    "as = 65000\nidentifier = \"192.0.2.1\"\ncache = 323\n",
-    "as = 65000\nidentifier = \"192.0.2.1\"\nlisten = \"127.0.0.1\"\n",
-    "as = 65000\nidentifier = \"192.0.2.1\"\nlisten = true\n",
-    "as = 65000\nidentifier = \"192.0.2.1\"\nmultiprotocol = 1\n",
-    "as = 65000\nidentifier = \"192.0.2.1\"\npeer = 0\n",
-    "as = 65000\nidentifier = \"192.0.2.1\"\npeer = [0]\n",
-    "as = 65000\nidentifier = \"192.0.2.1\"\n[[peer]]\nslot = 0\n",
-    "as = 65000\nidentifier = \"192.0.2.1\"\n[[peer]]\nremote = \"127.0.0.1:1\"\n",
-    "as = 65000\nidentifier = \"192.0.2.1\"\n[[peer]]\nslot = 64\nremote = \"127.0.0.1:1\"\n",
-    "as = 65000\nidentifier = \"192.0.2.1\"\n[[peer]]\nslot = -1\nremote = \"127.0.0.1:1\"\n",
-    "as = 65000\nidentifier = \"192.0.2.1\"\n[[peer]]\nslot = \"0\"\nremote = \"127.0.0.1:1\"\n",
-    "as = 65000\nidentifier = \"192.0.2.1\"\n[[peer]]\nslot = 0\nremote = \"127.0.0.1\"\n",
-    "as = 65000\nidentifier = \"192.0.2.1\"\n[[peer]]\nslot = 0\nremote = 1\n",
-    "as = 65000\nidentifier = \"192.0.2.1\"\n[[peer]]\nslot = 0\nremote = \"127.0.0.1:1\"\n[[peer]]\nslot = 0\nremote = \"127.0.0.1:2\"\n",
+#[rattlefmt::skip]
+const BAD_SETTINGS: [(&str, &str); 32] = [
+    ("as = 65000\nidentifier = \"192.0.2.1\"\nno toml", "line 4: key with no value, expected `=`"),
+    ("identifier = \"192.0.2.1\"\n", "'as' isn't there"),
+    ("as = 65000\n", "'identifier' isn't there"),
+    ("as = 0\nidentifier = \"192.0.2.1\"\n", "as: 0 is no number from 1 to 4294967295"),
+    ("as = -1\nidentifier = \"192.0.2.1\"\n", "as: -1 is no number from 1 to 4294967295"),
+    ("as = 4294967296\nidentifier = \"192.0.2.1\"\n", "as: 4294967296 is no number from 1 to 4294967295"),
+    ("as = \"65000\"\nidentifier = \"192.0.2.1\"\n", "as: '65000' is no number from 1 to 4294967295"),
+    ("as = 65000\nidentifier = \"0.0.0.0\"\n", "identifier: '0.0.0.0' is no IPv4 address other than 0.0.0.0"),
+    ("as = 65000\nidentifier = \"192.0.2\"\n", "identifier: '192.0.2' is no IPv4 address other than 0.0.0.0"),
+    ("as = 65000\nidentifier = \"192.0.2.256\"\n", "identifier: '192.0.2.256' is no IPv4 address other than 0.0.0.0"),
+    ("as = 65000\nidentifier = \"router\"\n", "identifier: 'router' is no IPv4 address other than 0.0.0.0"),
+    ("as = 65000\nidentifier = 3221225985\n", "identifier: 3221225985 is no IPv4 address other than 0.0.0.0"),
+    ("as = 65000\nidentifier = \"192.0.2.1\"\ncache = \"localhost:323\"\n", "cache: 'localhost:323' is no IP address and port"),
+    ("as = 65000\nidentifier = \"192.0.2.1\"\ncache = 323\n", "cache: 323 is no IP address and port"),
+    ("as = 65000\nidentifier = \"192.0.2.1\"\nmultiprotocol = 1\n", "multiprotocol: 1 is neither true nor false"),
+    ("as = 65000\nidentifier = \"192.0.2.1\"\nlisten = \"127.0.0.1\"\n", "listen: '127.0.0.1' is no IP address and port"),
+    ("as = 65000\nidentifier = \"192.0.2.1\"\nlisten = true\n", "listen: true is no IP address and port"),
+    ("as = 65000\nidentifier = \"192.0.2.1\"\npeer = 0\n", "peer: 0 is no array of tables"),
+    ("as = 65000\nidentifier = \"192.0.2.1\"\npeer = [0]\n", "peer 1: peer: 0 is no table"),
+    ("as = 65000\nidentifier = \"192.0.2.1\"\n[[peer]]\nslot = 0\n", "peer 1: 'remote' isn't there"),
+    ("as = 65000\nidentifier = \"192.0.2.1\"\n[[peer]]\nremote = \"127.0.0.1:1\"\n", "peer 1: 'slot' isn't there"),
+    ("as = 65000\nidentifier = \"192.0.2.1\"\n[[peer]]\nslot = 64\nremote = \"127.0.0.1:1\"\n", "peer 1: slot: 64 is no number from 0 to 63"),
+    ("as = 65000\nidentifier = \"192.0.2.1\"\n[[peer]]\nslot = -1\nremote = \"127.0.0.1:1\"\n", "peer 1: slot: -1 is no number from 0 to 63"),
+    ("as = 65000\nidentifier = \"192.0.2.1\"\n[[peer]]\nslot = \"0\"\nremote = \"127.0.0.1:1\"\n", "peer 1: slot: '0' is no number from 0 to 63"),
+    ("as = 65000\nidentifier = \"192.0.2.1\"\n[[peer]]\nslot = 0\nremote = \"127.0.0.1\"\n", "peer 1: remote: '127.0.0.1' is no IP address and port"),
+    ("as = 65000\nidentifier = \"192.0.2.1\"\n[[peer]]\nslot = 0\nremote = \"127.0.0.1:1\"\n[[peer]]\nslot = 1\nremote = \"localhost:179\"\n", "peer 2: remote: 'localhost:179' is no IP address and port"),
+    ("as = 65000\nidentifier = \"192.0.2.1\"\n[[peer]]\nslot = 0\nremote = 1\n", "peer 1: remote: 1 is no IP address and port"),
+    ("as = 65000\nidentifier = \"192.0.2.1\"\n[[peer]]\nslot = 0\nremote = \"127.0.0.1:1\"\n[[peer]]\nslot = 0\nremote = \"127.0.0.1:2\"\n", "peer 2: slot: 0 stands in an earlier table"),
+    ("as = 65000\nidentifier = \"192.0.2.1\"\ncomands = \"x\"\n", "'comands' is no key of ovbgpd; the nearest is 'commands'"),
+    ("as = 65000\nidentifier = \"192.0.2.1\"\n[[peers]]\nslot = 0\n", "'peers' is no key of ovbgpd; the nearest is 'peer'"),
+    ("as = 65000\nidentifier = \"192.0.2.1\"\n[[peer]]\nslot = 0\nremote = \"127.0.0.1:1\"\n[[peer]]\nslot = 1\nremot = \"127.0.0.1:1\"\n", "peer 2: 'remot' is no key of a peer; the nearest is 'remote'"),
+    ("as = 65000\nidentifier = \"192.0.2.1\"\n[[peer]]\nslot = 0\nremote = \"127.0.0.1:1\"\nslott = 1\n", "peer 1: 'slott' is no key of a peer; the nearest is 'slot'"),
 ];
 
 #[test]
@@ -185,8 +243,11 @@ fn good_settings_end_well(rt: HostRuntime) {
 // Settings are judged before the commands are.
 #[test]
 fn bad_settings_are_told(rt: HostRuntime) {
-    for settings in &BAD_SETTINGS {
-        assert!(rt; ends_on(&rt, settings, "no command", REFUSED), "{settings}");
+    for (settings, cause) in &BAD_SETTINGS {
+        assert!(rt;
+            tells_on(&rt, settings, "no command", Fault::Settings, (1, "settings", cause)),
+            "{settings}"
+        );
     }
 }
 
@@ -216,50 +277,41 @@ const BAD_LINES: [&str; 22] = [
     "reach 192.0.2.0/24 \u{661}",
 ];
 
-// Commands that are refused, with the number.
+// Commands that are refused, with the number and its words.
 #[rattlefmt::skip]
-const REFUSED_LINES: [(&str, u8); 9] = [
-    ("noreach 192.0.2.0/24", 30),
-    ("use in 0 v", 30),
-    ("nopolicy all", 32),
-    ("peer 1 0 192.0.2.12 192.0.2.1 passive 180 all all", 33),
-    ("peer 1 65002 192.0.2.12 127.0.0.1 passive 180 all all", 33),
-    ("peer 64 65002 192.0.2.12 192.0.2.1 passive 180 all all", 40),
-    ("enable 1", 40),
-    ("peer 0 65002 192.0.2.12 192.0.2.1 passive 180 all all", 43),
-    ("peer 1 65002 192.0.2.11 192.0.2.1 passive 180 all all", 45),
+const REFUSED_LINES: [(&str, &str, &str); 9] = [
+    ("noreach 192.0.2.0/24", "settings: line 3: refused 30", "the policy, network or reach entry is unknown"),
+    ("use in 0 v", "settings: line 3: refused 30", "the policy, network or reach entry is unknown"),
+    ("nopolicy all", "settings: line 3: refused 32", "the policy is built in, or in use"),
+    ("peer 1 0 192.0.2.12 192.0.2.1 passive 180 all all", "settings: line 3: refused 33", "a value is out of its range"),
+    ("peer 1 65002 192.0.2.12 127.0.0.1 passive 180 all all", "settings: line 3: refused 33", "a value is out of its range"),
+    ("peer 64 65002 192.0.2.12 192.0.2.1 passive 180 all all", "settings: line 3: refused 40", "there is no such slot"),
+    ("enable 1", "settings: line 3: refused 40", "there is no such slot"),
+    ("peer 0 65002 192.0.2.12 192.0.2.1 passive 180 all all", "settings: line 3: refused 43", "the slot is taken"),
+    ("peer 1 65002 192.0.2.11 192.0.2.1 passive 180 all all", "settings: line 3: refused 45", "another slot has the address"),
 ];
 
 // Whether the line, behind a comment, a peer and an empty line, is told by its number.
 fn is_bad_line(rt: &HostRuntime, line: &str) -> bool {
     match format!(in rt.alloc(); "# A peer\n{PEER}\n{line}\nnopolicy all\n") {
-        Ok(commands) => ends_on(rt, ONE_PEER, commands.as_str(), BAD_LINE_4),
+        Ok(commands) => {
+            let told = (1, "line 4: bad line", "the line is no command");
+            tells_on(rt, ONE_PEER, commands.as_str(), Fault::Commands, told)
+        }
         Err(_) => false,
     }
 }
 
-// Whether these commands end the program so that this is told.
-fn ends_in_errors(rt: &HostRuntime, commands: &str, errors: &str) -> bool {
-    let ending = Ending {
-        status: 1,
-        output: "",
-        errors,
-    };
-    ends_on(rt, ONE_PEER, commands, ending)
-}
-
-// Whether the third line of these commands is told by its number and that of the refusal.
-fn is_refused_by(rt: &HostRuntime, commands: &str, number: u8) -> bool {
-    match format!(in rt.alloc(); "ovbgpd: settings: line 3: refused {number}\n") {
-        Ok(errors) => ends_in_errors(rt, commands, errors.as_str()),
-        Err(_) => false,
-    }
-}
-
-// The same of the line behind an empty line and a peer.
-fn is_refused_line(rt: &HostRuntime, line: &str, number: u8) -> bool {
+// Whether the line behind an empty line and a peer is refused so.
+fn is_refused_line(rt: &HostRuntime, line: &str, words: &str, cause: &str) -> bool {
     match format!(in rt.alloc(); "\r\n{PEER}{line}\nno command") {
-        Ok(commands) => is_refused_by(rt, commands.as_str(), number),
+        Ok(commands) => tells_on(
+            rt,
+            ONE_PEER,
+            commands.as_str(),
+            Fault::Commands,
+            (1, words, cause),
+        ),
         Err(_) => false,
     }
 }
@@ -273,18 +325,23 @@ fn bad_lines_are_told_by_their_number(rt: HostRuntime) {
 
 #[test]
 fn refused_lines_are_told_by_their_number(rt: HostRuntime) {
-    for (line, number) in &REFUSED_LINES {
-        assert!(rt; is_refused_line(&rt, line, *number), "{line}");
+    for (line, words, cause) in &REFUSED_LINES {
+        assert!(rt; is_refused_line(&rt, line, words, cause), "{line}");
     }
 }
 
-// Commands behind which not just slot 0 has a peer: none has, another one, two, and none any more.
+const NOT_SLOT_0: &str =
+    "slot 0 has a peer in the commands or a table in the settings, and not both";
+const NOT_SLOT_1: &str =
+    "slot 1 has a peer in the commands or a table in the settings, and not both";
+
+// Commands behind which not just slot 0 has a peer, with what is told: none has, another one, two, and none any more.
 #[rattlefmt::skip]
-const OTHER_SLOTS: [&str; 4] = [
-    "",
-    "peer 1 65001 192.0.2.11 192.0.2.1 passive 180 all all\n",
-    "peer 0 65001 192.0.2.11 192.0.2.1 passive 180 all all\npeer 1 65002 192.0.2.12 192.0.2.1 passive 180 all all",
-    "peer 0 65001 192.0.2.11 192.0.2.1 passive 180 all all\ndrop 0",
+const OTHER_SLOTS: [(&str, &str); 4] = [
+    ("", NOT_SLOT_0),
+    ("peer 1 65001 192.0.2.11 192.0.2.1 passive 180 all all\n", NOT_SLOT_0),
+    ("peer 0 65001 192.0.2.11 192.0.2.1 passive 180 all all\npeer 1 65002 192.0.2.12 192.0.2.1 passive 180 all all", NOT_SLOT_1),
+    ("peer 0 65001 192.0.2.11 192.0.2.1 passive 180 all all\ndrop 0", NOT_SLOT_0),
 ];
 
 const DROPPED_AND_BACK: &str =
@@ -292,12 +349,13 @@ const DROPPED_AND_BACK: &str =
 
 #[test]
 fn other_slots_than_those_of_the_commands_are_settings(rt: HostRuntime) {
-    for commands in &OTHER_SLOTS {
-        assert!(rt; ends_on(&rt, ONE_PEER, commands, REFUSED), "{commands}");
+    for (commands, cause) in &OTHER_SLOTS {
+        assert!(rt;
+            tells_on(&rt, ONE_PEER, commands, Fault::Commands, (1, "settings", cause)),
+            "{commands}"
+        );
     }
-    assert!(rt;
-        ends_on(&rt, SETTINGS, PEER, REFUSED) && ends_on(&rt, ONE_PEER, DROPPED_AND_BACK, WELL)
-    );
+    assert!(rt; ends_on(&rt, ONE_PEER, DROPPED_AND_BACK, WELL));
 }
 
 // Behind the commands of two networks.
@@ -318,11 +376,22 @@ fn loc_rib_is_printed_behind_the_turns(rt: HostRuntime) {
     }
 }
 
+// Whether a port that is taken is told of these settings.
+fn is_taken(rt: &HostRuntime, settings: &str, address: SocketAddr) -> bool {
+    match format!(in rt.alloc(); "ovbgpd: device: listen {address}: Address already in use (os error 98)\n")
+    {
+        Ok(errors) => ends_on(rt, settings, "", fails(2, errors.as_str())),
+        Err(_) => false,
+    }
+}
+
 // Whether settings that listen where another listens are told, of slots without a peer before.
 fn tells_slots_first(rt: &HostRuntime, address: SocketAddr) -> bool {
+    let told = (1, "settings", NOT_SLOT_0);
     match format!(in rt.alloc(); "listen = \"{address}\"\n{SETTINGS}") {
         Ok(taken) => {
-            ends_on(rt, taken.as_str(), PEER, REFUSED) && ends_on(rt, taken.as_str(), "", FAILED)
+            tells_on(rt, taken.as_str(), PEER, Fault::Commands, told)
+                && is_taken(rt, taken.as_str(), address)
         }
         Err(_) => false,
     }
@@ -336,18 +405,61 @@ fn slots_are_told_before_the_port_is_taken(rt: HostRuntime) -> Result<(), Fail> 
     Ok(())
 }
 
-// Whether a path that leads to no file is told.
-fn is_missed(rt: &HostRuntime) -> bool {
-    match path_of(rt, "missing.toml") {
-        Ok(path) => ends_with(rt, &[path.as_str(), "2"], FAILED),
+// Whether commands that aren't there are told, and settings without any.
+fn is_missed(rt: &HostRuntime, path: &str) -> bool {
+    let told = (2, "device", "No such file or directory (os error 2)");
+    tells(rt, path, "no_such_file", told)
+}
+
+fn is_lacked(rt: &HostRuntime, path: &str) -> bool {
+    tells(rt, path, path, (1, "settings", "'commands' isn't there"))
+}
+
+#[test]
+fn commands_that_arent_there_are_told(rt: HostRuntime) -> Result<(), Fail> {
+    let text = "commands = \"no_such_file\"\nas = 65000\nidentifier = \"192.0.2.1\"\n";
+    let missed = write(&rt, "missed.toml", text)?;
+    assert!(rt; is_missed(&rt, missed.as_str()));
+    let lacked = write(&rt, "lacked.toml", SETTINGS)?;
+    assert!(rt; is_lacked(&rt, lacked.as_str()));
+    Ok(())
+}
+
+// Whether settings of this path with these commands are told to be good.
+fn is_checked(rt: &HostRuntime, path: &str, commands: &str) -> bool {
+    match format!(in rt.alloc(); "{path}: settings of AS 65000 with 1 peers\n{commands}: commands that are obeyed\n")
+    {
+        Ok(output) => {
+            let good = Ending {
+                status: 0,
+                output: output.as_str(),
+                errors: "",
+            };
+            ends_with(rt, &["--check", path], good) && is_removed(rt, path)
+        }
         Err(_) => false,
     }
 }
 
+// The same of settings that listen at this address.
+fn is_checked_at(rt: &HostRuntime, commands: &str, address: SocketAddr) -> bool {
+    let Ok(text) = format!(in rt.alloc(); "listen = \"{address}\"\n{ONE_PEER}") else {
+        return false;
+    };
+    match write_settings(rt, "commands", commands, text.as_str()) {
+        Ok(path) => is_checked(rt, path.as_str(), commands),
+        Err(_) => false,
+    }
+}
+
+// The port is taken.
 #[test]
-fn a_file_that_cant_be_read_is_a_device(rt: HostRuntime) {
-    assert!(rt; is_missed(&rt) && ends_on_text(&rt, WITHOUT_COMMANDS, FAILED));
-    assert!(rt; ends_on_text(&rt, SETTINGS, REFUSED));
+fn a_check_binds_nothing(rt: HostRuntime) -> Result<(), Fail> {
+    let holder = TcpListener::bind(&rt, "127.0.0.1:0")?;
+    let address = holder.local_addr()?;
+    let commands = write(&rt, "checked", PEER)?;
+    assert!(rt; is_checked_at(&rt, commands.as_str(), address));
+    Ok(remove(&rt, commands.as_str())?)
 }
 
 // Settings that listen, but for the path of the commands.
@@ -355,7 +467,8 @@ const LISTENING: &str = "listen = \"127.0.0.1:0\"\nas = 65000\nidentifier = \"19
 
 // Whether all is well without a turn, and the program ends in the first one.
 fn is_deaf(stage: &Stage<'_>, path: &str) -> bool {
-    ends_with(stage, &[path, "0"], WELL) && ends_with(stage, &[path, "1"], FAILED)
+    let told = "ovbgpd: device: connections can't be accepted\n";
+    ends_with(stage, &[path, "0"], WELL) && ends_with(stage, &[path, "1"], fails(2, told))
 }
 
 // The same of a host whose listener can't accept.

@@ -1,13 +1,19 @@
-use Rattle.std.proofs.Common.{sym, subst, ◌∙◌}
-use Rattle.clocks.specs.Moments.{Clocked}
-use Rattle.cache_program.proofs.Begun.{any_served}
-use Rattle.cache_program.proofs.EndedWell.{zero_is_well}
-use Rattle.cache_program.specs.Opened.{AnyList, AnySecond, AnyWire}
-use Rattle.cache_program.specs.ServedTurns.{IsServed}
+use Rattle.std.proofs.Common.{sym, ◌∙◌}
+use Rattle.cache_program.proofs.EndedWell.{one_aside, zero_is_well}
 use Rattle.cache_program.proofs.cache_main.main_cache.Goals as goal
 
-pub returns-clause-serves : goal.returns-clause-serves
-returns-clause-serves g c = λ zero.
-    let is = zero_is_well c.run_cache-served.result (sym c.end.ensures.status ∙ zero) c.run_cache-served.ensures.serves in
-    let served = any_served _ _ _ is.4 is.1 _ _ is.5 is.9 in
-    (is.0, is.1, is.2, is.3, is.4, c.run_cache-served.new.clock.moments, is.5, is.6, is.7, is.8, subst (λ (clock : Clocked). IsServed AnyList AnyWire AnySecond is.4 is.1 clock.moments c.run_cache-served.new.clock.moments is.5) c.new-clock.ensures served)
+pub returns-in-None-clause-checks : goal.returns-in-None-clause-checks
+returns-in-None-clause-checks g c = λ aside asks zero. absurd (c.in-None.ensures aside asks)
+
+pub returns-in-Some-clause-words : goal.returns-in-Some-clause-words
+returns-in-Some-clause-words g c = λ none asked. absurd (asked c.in-Some.aside c.in-Some.ensures)
+
+pub returns-in-Some-clause-output : goal.returns-in-Some-clause-output
+returns-in-Some-clause-output g c = λ none asked. absurd (asked c.in-Some.aside c.in-Some.ensures)
+
+pub returns-in-Some-clause-serves : goal.returns-in-Some-clause-serves
+returns-in-Some-clause-serves g c = λ asked zero. absurd (asked c.in-Some.aside c.in-Some.ensures)
+
+pub returns-in-Some-clause-checks : goal.returns-in-Some-clause-checks
+returns-in-Some-clause-checks g c = λ aside asks zero.
+    one_aside c.args.words.now c.in-Some.aside aside c.in-Some.ensures asks (zero_is_well c.answer.result (sym c.ending.ensures.status ∙ zero) c.answer.ensures)

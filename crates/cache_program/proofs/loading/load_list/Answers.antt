@@ -1,13 +1,12 @@
 use Rattle.std.proofs.Common.{List, ap, ◌∙◌}
 use Rattle.rtr_cache.specs.CacheTable.{Shared}
 use Rattle.vrp_delta.specs.Versions.{Version, kept_after}
-use Rattle.cache_program.proofs.Opening.{given}
 use Rattle.cache_program.proofs.loading.load_list.Goals as goal
 
 pub returns-clause-first : goal.returns-clause-first
 returns-clause-first g c = record {
   file = g.L.Read.remaining c.in_ok-list.list;
-  given = given _ g.L.Read.remaining c.opens.result c.in_ok-list.list (record { shown = c.as_str.result; shows = c.as_str.ensures.value; says = record { met = c.opens.ensures } }) c.in_ok-list.was;
+  given = rw c.as_str.ensures.value at c.in_ok-list.ensures.given;
   passes = c.in_ok-set.ensures.set;
   kept_is = ap (λ (s : Shared). s.kept) c.in_ok-serial.ensures.terms ∙ ap (λ (kept : List Version). kept_after kept c.in_ok-set.set.keys) c.requires.none;
   serial_is = c.in_ok-serial.ensures.serial;

@@ -1,11 +1,11 @@
 use Rattle.std.proofs.Common.{◌∙◌, ap, refl}
 use Rattle.speaker_turns.specs.Turns.{Turns}
 use Rattle.speaker_program.specs.Begun.{with_remotes}
-use Rattle.speaker_program.proofs.OtherFaults.{device_is_other, other_fault}
+use Rattle.speaker_program.proofs.OtherFaults.{other_fault}
 use Rattle.speaker_program.proofs.bgp_main.begin.Goals as goal
 
 pub returns-in_err-wire-clause-fault : goal.returns-in_err-wire-clause-fault
-returns-in_err-wire-clause-fault g c = other_fault _ _ c.from_residual-in_err-wire.ensures.1 device_is_other
+returns-in_err-wire-clause-fault g c = other_fault c.from_residual-in_err-wire.result c.in_err-wire.field-0.0 c.from_residual-in_err-wire.ensures.1 c.in_err-wire.ensures.fault
 
 pub returns-clause-begins : goal.returns-clause-begins
 returns-clause-begins g c =
@@ -15,7 +15,7 @@ returns-clause-begins g c =
       text = g.L.Read.remaining told.0;
       wire = g.W.Wire.state c.in_ok-wire.wire;
       told = (told.0, told.1, refl);
-      opened = (c.in_ok-wire.wire, c.in_ok-wire.ensures, refl);
+      opened = (c.in_ok-wire.wire, c.in_ok-wire.ensures.wire, refl);
       commanded = told.2;
       slots = c.in_ok-speaker.ensures.slots;
       remotes = c.tell_remotes.ensures ∙ ap (λ (turns : Turns). with_remotes c.args.settings.now.peers.items c.args.settings.now.cache turns) c.in_ok-served.ensures;

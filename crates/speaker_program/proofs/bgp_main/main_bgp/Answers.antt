@@ -1,24 +1,19 @@
-use Rattle.std.proofs.Common.{◌≡◌, ◌∙◌, subst, sym}
-use Rattle.std.specs.Prelude.{⊤}
-use Rattle.clocks.specs.Moments.{Clocked}
-use Rattle.speaker_program.specs.Begun.{IsServed, StateFrom}
-use Rattle.net_wires.specs.Opening.{OpenedWire, opened_at}
-use Rattle.speaker_program.proofs.EndedWell.{served_so}
+use Rattle.std.proofs.Common.{sym, ◌∙◌}
+use Rattle.speaker_program.proofs.EndedWell.{one_aside, zero_is_well}
 use Rattle.speaker_program.proofs.bgp_main.main_bgp.Goals as goal
 
-pub returns-clause-serves : goal.returns-clause-serves
-returns-clause-serves g c = λ zero.
-    let so = served_so c.serve_words-served.result c.ending.result c.ending.ensures (sym c.end.ensures.status ∙ zero) c.serve_words-served.ensures.serves in
-    let is = so.1 in (
-      is.0,
-      is.1,
-      is.2,
-      is.3,
-      is.4,
-      c.serve_words-served.new.clock.moments,
-      so.0,
-      is.5,
-      is.6,
-      is.7,
-      subst (λ (clock : Clocked). IsServed (λ text. ⊤) (StateFrom (λ (wire : OpenedWire). wire ≡ opened_at (is.4).listen) (λ wire. wire.state)) is.4 is.1 clock.moments c.serve_words-served.new.clock.moments so.0) c.new-clock.ensures is.8,
-    )
+pub returns-in-None-clause-checks : goal.returns-in-None-clause-checks
+returns-in-None-clause-checks g c = λ aside asks zero. absurd (c.in-None.ensures aside asks)
+
+pub returns-in-Some-clause-words : goal.returns-in-Some-clause-words
+returns-in-Some-clause-words g c = λ none asked. absurd (asked c.in-Some.aside c.in-Some.ensures)
+
+pub returns-in-Some-clause-output : goal.returns-in-Some-clause-output
+returns-in-Some-clause-output g c = λ none asked. absurd (asked c.in-Some.aside c.in-Some.ensures)
+
+pub returns-in-Some-clause-serves : goal.returns-in-Some-clause-serves
+returns-in-Some-clause-serves g c = λ asked zero. absurd (asked c.in-Some.aside c.in-Some.ensures)
+
+pub returns-in-Some-clause-checks : goal.returns-in-Some-clause-checks
+returns-in-Some-clause-checks g c = λ aside asks zero.
+    one_aside c.args.words.now c.in-Some.aside aside c.in-Some.ensures asks (zero_is_well c.answer.result (sym c.conclude.ensures.status ∙ zero) c.answer.ensures)

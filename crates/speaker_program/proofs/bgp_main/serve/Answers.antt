@@ -1,10 +1,9 @@
-use Rattle.std.proofs.Common.{◌∙◌, sym}
-use Rattle.speaker_program.proofs.OtherFaults.{device_is_other, other_fault}
+use Rattle.speaker_program.proofs.OtherFaults.{other_fault}
 use Rattle.speaker_program.proofs.bgp_main.serve.Goals as goal
 
 pub returns-in_err-take_turns-clause-fault : goal.returns-in_err-take_turns-clause-fault
 returns-in_err-take_turns-clause-fault g c =
-    other_fault c.from_residual-in_err-take_turns.result c.in_err-take_turns.field-0.0 c.from_residual-in_err-take_turns.ensures.1 (λ same. device_is_other (sym c.in_err-take_turns.ensures.fault ∙ same))
+    other_fault c.from_residual-in_err-take_turns.result c.in_err-take_turns.field-0.0 c.from_residual-in_err-take_turns.ensures.1 c.in_err-take_turns.ensures.fault
 
 pub returns-in_err-show_routes-clause-fault : goal.returns-in_err-show_routes-clause-fault
 returns-in_err-show_routes-clause-fault g c =

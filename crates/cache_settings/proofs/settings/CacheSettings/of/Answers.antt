@@ -1,13 +1,18 @@
 use Rattle.std.proofs.Common.{string_bytes}
 use Rattle.toml.specs.View.{table_view}
-use Rattle.settings_keys.proofs.Faults.{at_fault, in_memory, passes_on, starves}
+use Rattle.settings_keys.proofs.Faults.{at_fault, in_memory, passes_on, starves, unknown_key}
 use Rattle.cache_settings.specs.ToldSettings.{IsToldBy, terms_of}
 use Rattle.cache_settings.proofs.settings.CacheSettings.of.Goals as goal
+
+pub returns-in_err-only_known-clause-told : goal.returns-in_err-only_known-clause-told
+returns-in_err-only_known-clause-told c =
+    let needs = IsToldBy (table_view c.args.table.now) in
+    unknown_key needs c.from_residual.result _ _ c.from_residual.ensures.1 c.in_err-only_known.ensures (λ s told. told.keys)
 
 pub returns-in_err-listen-clause-told : goal.returns-in_err-listen-clause-told
 returns-in_err-listen-clause-told c =
     let needs = IsToldBy (table_view c.args.table.now) in
-    in_memory needs _ (passes_on _ needs c.from_residual.result _ c.from_residual.ensures.1 c.in_err-listen.ensures (λ none s told. none s.listen told.listen))
+    in_memory needs _ (passes_on _ needs c.from_residual-in_err-listen.result _ c.from_residual-in_err-listen.ensures.1 c.in_err-listen.ensures (λ none s told. none s.listen told.listen))
 
 pub returns-in_err-path-clause-told : goal.returns-in_err-path-clause-told
 returns-in_err-path-clause-told c =

@@ -1,6 +1,0 @@
-use Rattle.std.proofs.Common.{◌≡◌, ℕ, ◌<◌}
-use Rattle.speaker_program.specs.Slots.{has_slot, is_configured}
-use Rattle.speaker_program.proofs.bgp_main.are_configured.Given as goal
-
-abbrev pub invariant-loop-slot : goal.invariant-loop-slot
-invariant-loop-slot g l = (k : ℕ) → k < l.slot → is_configured l.speaker k ≡ has_slot l.peers k

@@ -1,6 +1,0 @@
-use Rattle.settings_keys.proofs.Faults.{passes_on}
-use Rattle.speaker_program.proofs.Told.{no_asn}
-use Rattle.speaker_program.proofs.settings.asn_of.Goals as goal
-
-pub returns-in_err-number_of : goal.returns-in_err-number_of
-returns-in_err-number_of c = passes_on _ _ c.from_residual.result _ c.from_residual.ensures.1 c.in_err-number_of.ensures (no_asn _)

@@ -1,6 +1,0 @@
-use Rattle.settings_keys.proofs.Faults.{passes_on}
-use Rattle.speaker_program.proofs.Told.{no_slot}
-use Rattle.speaker_program.proofs.settings.slot_of.Goals as goal
-
-pub returns-in_err-number : goal.returns-in_err-number
-returns-in_err-number c = passes_on _ _ c.from_residual.result _ c.from_residual.ensures.1 c.in_err-number.ensures (no_slot _)

@@ -1,0 +1,164 @@
+//! What ends the program of a speaker.
+ghost use Rattle.std.specs.Prelude.{◌≡◌};
+ghost use Rattle.speaker_program.specs.Endings.{IsOfCommands, IsOfWords};
+ghost use Rattle.speaker_program.specs.Exits.{exit_of_fault};
+ghost use Rattle.speaker_program.specs.declared.fault.SpeakerFault.TheVariants.{NoMemory, Turn};
+
+use crate::exits::{of_commands, of_speaker};
+use program_endings::{ExitFault, FilePath, WordsFault};
+use scenario::CommandsFault;
+use settings_keys::SettingsFault;
+use speaker::Refusal;
+use std::alloc::{AllocError, Global};
+use std::fmt::{self, Display, Formatter};
+use std::io;
+use std::net::SocketAddr;
+use thiserror::Error;
+use wires::LoopFault;
+
+/// What ends the program of a speaker, with its cause.
+#[derive(Debug, Drop, Error)]
+pub enum SpeakerFault {
+    /// The words are wrong.
+    #[error("{0}; ovbgpd --help tells what the words are")]
+    Words(WordsFault),
+    /// A file can't be read.
+    #[error("{path}: {error}")]
+    File {
+        path: FilePath,
+        error: io::Error,
+    },
+    /// The settings are refused.
+    #[error("{path}: {why}")]
+    Settings {
+        path: FilePath,
+        why: SettingsFault,
+    },
+    /// Their commands can't be obeyed.
+    #[error("{path}: {why}", why = Obeying(*.why))]
+    Commands {
+        path: FilePath,
+        why: CommandsFault,
+    },
+    /// Behind their commands this slot has a peer and no table, or a table and no peer.
+    #[error("{path}: slot {slot} has a peer in the commands or a table in the settings, and not both")]
+    Slot {
+        path: FilePath,
+        slot: u8,
+    },
+    /// The speaker refuses its beginning.
+    #[error("the speaker: {0}")]
+    Refused(Refusal),
+    /// The address can't be listened at, or the network can't be used.
+    #[error("{place}: {error}", place = Listening(*.listen))]
+    Listen {
+        listen: Option<SocketAddr>,
+        error: io::Error,
+    },
+    /// The clock fails.
+    #[error("the clock: {0}")]
+    Clock(io::Error),
+    /// A turn fails.
+    #[error("{0}")]
+    Turn(LoopFault),
+    /// The output fails.
+    #[error("the output: {0}")]
+    Output(io::Error),
+    /// There is no memory to begin.
+    #[error("there is no memory")]
+    NoMemory,
+}
+
+// Why commands can't be obeyed, behind the number of the line.
+#[derive(Clone, Copy)]
+struct Obeying(CommandsFault);
+
+impl Display for Obeying {
+    fn fmt<W: fmt::Write>(&self, f: &mut Formatter<W>) -> fmt::Result {
+        match &self.0 {
+            CommandsFault::BadLine(_) => f.write_str("the line is no command"),
+            CommandsFault::Refused(_, refusal) => Display::fmt(refusal, f),
+            CommandsFault::Device => f.write_str("the file can't be read"),
+            CommandsFault::NoMemory => f.write_str("there is no memory for a line"),
+        }
+    }
+}
+
+// Where it was to listen.
+#[derive(Clone, Copy)]
+struct Listening(Option<SocketAddr>);
+
+impl Display for Listening {
+    fn fmt<W: fmt::Write>(&self, f: &mut Formatter<W>) -> fmt::Result {
+        match &self.0 {
+            Some(address) => write!(f, "listen {address}"),
+            None => f.write_str("the network"),
+        }
+    }
+}
+
+impl SpeakerFault {
+    /// What this is to whoever started the program.
+    pub fn exit(&self) -> ExitFault
+        ensures { result ≡ exit_of_fault self.now }
+    {
+        match self {
+            SpeakerFault::Words(_) => ExitFault::Arguments,
+            SpeakerFault::Settings { why, .. } => why.exit(),
+            SpeakerFault::Commands { why, .. } => of_commands(*why),
+            SpeakerFault::Slot { .. } => ExitFault::Settings,
+            SpeakerFault::Refused(refusal) => of_speaker(*refusal),
+            SpeakerFault::File { .. } | SpeakerFault::Listen { .. } => ExitFault::Device,
+            SpeakerFault::Clock(_) | SpeakerFault::Turn(_) => ExitFault::Device,
+            SpeakerFault::Output(_) | SpeakerFault::NoMemory => ExitFault::Device,
+        }
+    }
+
+    /// A file that can't be read.
+    pub(crate) fn unread(alloc: Global, path: &str, error: io::Error) -> SpeakerFault
+        ensures { ¬ (IsOfWords result) }
+    {
+        let path = FilePath::of(alloc, path);
+        SpeakerFault::File { path, error }
+    }
+
+    /// Settings that are refused.
+    pub(crate) fn bad_settings(alloc: Global, path: &str, why: SettingsFault) -> SpeakerFault
+        ensures { ¬ (IsOfWords result) }
+    {
+        let path = FilePath::of(alloc, path);
+        SpeakerFault::Settings { path, why }
+    }
+
+    /// Commands that can't be obeyed.
+    pub(crate) fn bad_commands(alloc: Global, path: &str, why: CommandsFault) -> SpeakerFault
+        ensures { IsOfCommands why result }
+    {
+        let path = FilePath::of(alloc, path);
+        SpeakerFault::Commands { path, why }
+    }
+
+    /// A slot with a peer and no table, or a table and no peer.
+    pub(crate) fn bad_slot(alloc: Global, path: &str, slot: u8) -> SpeakerFault
+        ensures { ¬ (IsOfWords result) }
+    {
+        let path = FilePath::of(alloc, path);
+        SpeakerFault::Slot { path, slot }
+    }
+}
+
+impl From<AllocError> for SpeakerFault {
+    ghost from_gives = { λ _ fault. fault ≡ NoMemory };
+
+    fn from(_error: AllocError) -> SpeakerFault {
+        SpeakerFault::NoMemory
+    }
+}
+
+impl From<LoopFault> for SpeakerFault {
+    ghost from_gives = { λ why fault. fault ≡ Turn why };
+
+    fn from(why: LoopFault) -> SpeakerFault {
+        SpeakerFault::Turn(why)
+    }
+}

@@ -1,0 +1,25 @@
+//! What the program says of itself.
+
+/// What `--version` prints.
+pub const VERSION: &str = "ovbgpd (Kenyodla) 1.0\n";
+
+/// What `--help` prints.
+pub const HELP: &str = "\
+ovbgpd SETTINGS [TURNS]    speaks BGP with the peers of the settings, for so many turns or for good
+ovbgpd --check SETTINGS    reads the settings, obeys their commands, binds nothing, and says what it found
+ovbgpd --help, --version
+
+The keys of SETTINGS, a file in TOML:
+as             the speaker's AS, 1 to 4294967295
+identifier     its BGP Identifier, as \"192.0.2.1\"
+commands       path of its commands: peers, policies, networks, reachable next hops
+multiprotocol  true or false: whether its OPEN tells IPv4 unicast (false)
+cache          address and port of its RPKI cache, as \"192.0.2.2:323\" (no cache)
+listen         address and port where passive peers connect, as \"0.0.0.0:179\" (it doesn't listen)
+[[peer]]       a table for each slot that the commands fill:
+  slot         number of the slot, 0 to 63, none twice
+  remote       address and port of the peer
+
+Exit status: 0 after the turns, with Loc-RIB on the output, 1 where words, settings or commands are refused, 2 where the
+system fails. docs/GUIDE.md tells more.
+";

@@ -1,0 +1,2 @@
+pub mod TakenSlots
+pub mod Told

@@ -1,0 +1,2 @@
+pub mod PeerSlots
+pub mod ToldSettings

@@ -1,0 +1,61 @@
+-- What a speaker's settings are, key by key (own).
+use Rattle.std.specs.Prelude.{◌≡◌, ◌<◌, ◌≤◌, ℕ, List, [], ◌∷◌, Option, None, Some, false, codes, string_bytes, ⊤}
+use Rattle.std.specs.Net.Addr.{ipv4_bits}
+use Rattle.std.specs.Net.Grammar.{IsIpv4Text}
+use Rattle.std.specs.declared.net.ipv4_addr.Ipv4Addr.{Ipv4Addr}
+use Rattle.std.specs.declared.net.socket_addr.SocketAddr.{SocketAddr as Address}
+use Rattle.toml.specs.Data.{Data, Items, Members, as_array, as_table, get_member, no_items, item}
+use Rattle.net_prefix.specs.declared.asn.Asn.{Asn}
+use Rattle.settings_keys.specs.Keys.{IsAddress, IsNumber, IsSpelled, IsText, IsTold, IsToldIfThere, IsToldOrUsual, IsYesOrNo}
+use Rattle.settings_keys.specs.KnownKeys.{HasNoKeyBut}
+use Rattle.speaker_settings.specs.PeerSlots.{AreSlots}
+use Rattle.speaker_settings.specs.declared.settings.SpeakerSettings.{SpeakerSettings}
+
+-- a number of 32 bits that is not 0, as an AS
+abbrev pub IsAsn : Data → Asn → Type 0
+IsAsn found asn = IsNumber found asn.0 × (1 ≤ asn.0)
+
+-- four numbers with dots between them, not all 0, as a BGP Identifier
+abbrev pub IsIdentifier : Data → ℕ → Type 0
+IsIdentifier found identifier =
+    (address : Ipv4Addr) × IsSpelled IsIpv4Text found address × (identifier ≡ ipv4_bits address) × (1 ≤ identifier)
+
+-- a number of the 64 slots
+abbrev pub IsSlot : Data → ℕ → Type 0
+IsSlot found slot = IsNumber found slot × (slot < 64)
+
+-- the keys of the settings, and of each peer's table
+abbrev pub keys_of_a_speaker : List (List ℕ)
+keys_of_a_speaker = codes "as" ∷ codes "identifier" ∷ codes "commands" ∷ codes "cache" ∷ codes "multiprotocol" ∷ codes "listen" ∷ codes "peer" ∷ []
+
+abbrev pub keys_of_a_peer : List (List ℕ)
+keys_of_a_peer = codes "slot" ∷ codes "remote" ∷ []
+
+-- a table of a slot and where its peer is, and of nothing else
+abbrev pub IsPeer : Data → ℕ × Address → Type 0
+IsPeer found peer =
+    (table : Members) × (as_table found ≡ Some table) × HasNoKeyBut keys_of_a_peer table
+    × IsTold IsSlot (get_member (codes "slot") table) peer.0 × IsTold IsAddress (get_member (codes "remote") table) peer.1
+
+-- tables of these peers, in order
+abbrev pub ArePeers : Items → List (ℕ × Address) → Type 0
+ArePeers no_items [] = ⊤
+ArePeers no_items (peer ∷ peers) = ⊥
+ArePeers (item found entries) [] = ⊥
+ArePeers (item found entries) (peer ∷ peers) = IsPeer found peer × ArePeers entries peers
+
+-- an array of such tables, with no slot twice; without the key there are no peers
+abbrev pub ArePeersAt : Option Data → List (ℕ × Address) → Type 0
+ArePeersAt None peers = peers ≡ []
+ArePeersAt (Some found) peers = (entries : Items) × (as_array found ≡ Some entries) × ArePeers entries peers × AreSlots peers
+
+-- the settings are what stands at their keys, and there are no others
+pub record IsToldBy (table : Members) (settings : SpeakerSettings) : Type 0 where
+  pub keys : HasNoKeyBut keys_of_a_speaker table
+  pub asn : IsTold IsAsn (get_member (codes "as") table) settings.asn
+  pub identifier : IsTold IsIdentifier (get_member (codes "identifier") table) settings.identifier
+  pub commands : IsTold IsText (get_member (codes "commands") table) (string_bytes settings.commands)
+  pub cache : IsToldIfThere IsAddress (get_member (codes "cache") table) settings.cache
+  pub multiprotocol : IsToldOrUsual IsYesOrNo false (get_member (codes "multiprotocol") table) settings.multiprotocol
+  pub listen : IsToldIfThere IsAddress (get_member (codes "listen") table) settings.listen
+  pub peers : ArePeersAt (get_member (codes "peer") table) settings.peers.items

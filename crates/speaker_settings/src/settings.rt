@@ -1,0 +1,206 @@
+//! The settings of a speaker.
+ghost use Rattle.std.specs.Prelude.{◌≡◌, ◌≤◌, ◌<◌, IfOk, codes};
+ghost use Rattle.toml.specs.Data.{Members, get_member};
+ghost use Rattle.toml.specs.View.{items_view, table_view, view};
+ghost use Rattle.settings_keys.specs.Causes.{IsBad};
+ghost use Rattle.settings_keys.specs.Keys.{Answers, AnswersInMemory, IsTableOf, IsTold};
+ghost use Rattle.speaker_settings.specs.PeerSlots.{AreSlots, has_slot};
+ghost use Rattle.speaker_settings.specs.ToldSettings.{ArePeers, ArePeersAt, IsAsn, IsIdentifier, IsPeer, IsSlot, IsToldBy};
+
+use bgp_conf::PEER_SLOTS;
+use net_prefix::Asn;
+use settings_keys::{
+    Owner, SettingsFault, SettingsPlace, Wanted, address_if_told, address_of, again, bad_number,
+    bad_text, bad_value, lacks, number_of, only_known, read_table, text_as, text_of, value_at,
+    yes_or_no_of,
+};
+use std::alloc::Global;
+use std::net::{Ipv4Addr, SocketAddr};
+use toml::{Table, Value};
+
+/// What `ovbgpd` is told by its settings.
+#[derive(Drop)]
+pub struct SpeakerSettings {
+    /// The speaker's AS.
+    pub asn: Asn,
+    /// Its BGP Identifier.
+    pub identifier: u32,
+    /// The path of its commands.
+    pub commands: String,
+    /// Where its RPKI cache is, if it has one.
+    pub cache: Option<SocketAddr>,
+    /// Whether its OPEN tells IPv4 unicast by the capability of RFC 4760 section 8.
+    pub multiprotocol: bool,
+    /// Where it listens, if it does.
+    pub listen: Option<SocketAddr>,
+    /// The slot of each peer, and where the peer is.
+    pub peers: Vec<(u8, SocketAddr)>,
+}
+
+impl SpeakerSettings {
+    /// The settings that the octets of a file tell in TOML: `as`, a number from 1 to 4294967295, `identifier`, the text of
+    /// an IPv4 address other than 0.0.0.0, and `commands`, a text; and, where they are there, `multiprotocol`, `true` or
+    /// `false`, `cache` and `listen`, each the text of an address and a port, and the tables `peer`, each with `slot`, from 0 to
+    /// 63 and none twice, and `remote`, the text of an address and a port. There are no keys of other names. Anything else is
+    /// `Settings`.
+    pub fn read(alloc: Global, octets: &[u8]) -> Result<SpeakerSettings, SettingsFault>
+        ensures told { AnswersInMemory (λ settings. (table : Members) × IsTableOf octets.now table × IsToldBy table settings) result }
+        ensures own { IfOk result (λ settings. (1 ≤ settings.asn.0) × (1 ≤ settings.identifier)) }
+        ensures slots { IfOk result (λ settings. AreSlots settings.peers.items) }
+    {
+        let table = read_table(alloc, octets)?;
+        SpeakerSettings::of(alloc, &table)
+    }
+
+    // The settings that the keys of a table tell.
+    fn of(alloc: Global, table: &Table) -> Result<SpeakerSettings, SettingsFault>
+        ensures told { AnswersInMemory (IsToldBy (table_view table.now)) result }
+        ensures own { IfOk result (λ settings. (1 ≤ settings.asn.0) × (1 ≤ settings.identifier)) }
+        ensures slots { IfOk result (λ settings. AreSlots settings.peers.items) }
+    {
+        only_known(alloc, table, Owner::Speaker, &KEYS)?;
+        let asn = asn_of(alloc, table)?;
+        let identifier = identifier_of(alloc, table)?;
+        let path = text_of(alloc, table, "commands")?;
+        let commands = String::from_str(alloc, path)?;
+        let cache = address_if_told(alloc, table, "cache")?;
+        let multiprotocol = yes_or_no_of(alloc, table, "multiprotocol")?;
+        let listen = address_if_told(alloc, table, "listen")?;
+        let peers = peers_of(alloc, table)?;
+        Ok(SpeakerSettings {
+            asn,
+            identifier,
+            commands,
+            cache,
+            multiprotocol,
+            listen,
+            peers,
+        })
+    }
+}
+
+// The keys of the settings, and of each peer's table.
+const KEYS: [&str; 7] = [
+    "as",
+    "identifier",
+    "commands",
+    "cache",
+    "multiprotocol",
+    "listen",
+    "peer",
+];
+
+const PEER_KEYS: [&str; 2] = ["slot", "remote"];
+
+// The speaker's AS, which is not 0.
+fn asn_of(alloc: Global, table: &Table) -> Result<Asn, SettingsFault>
+    ensures { Answers (IsTold IsAsn (get_member (codes "as") (table_view table.now))) result }
+{
+    let wanted = Wanted::Number(1, u32::MAX);
+    match number_of(alloc, table, "as", wanted)? {
+        None => Err(lacks(alloc, "as")),
+        Some(0) => Err(bad_number(alloc, "as", 0, wanted)),
+        Some(number) => Ok(Asn(number)),
+    }
+}
+
+// The speaker's BGP Identifier: four numbers with dots between them, not all 0.
+fn identifier_of(alloc: Global, table: &Table) -> Result<u32, SettingsFault>
+    ensures { Answers (IsTold IsIdentifier (get_member (codes "identifier") (table_view table.now))) result }
+{
+    let wanted = Wanted::Identifier;
+    let text = text_as(alloc, table, "identifier", wanted)?;
+    let Ok(address) = text.parse::<Ipv4Addr>() else {
+        return Err(bad_text(alloc, "identifier", text, wanted));
+    };
+    match address.to_bits() {
+        0 => Err(bad_text(alloc, "identifier", text, wanted)),
+        identifier => Ok(identifier),
+    }
+}
+
+// The slot and the address of each peer; none where there are no such tables.
+fn peers_of(alloc: Global, table: &Table) -> Result<Vec<(u8, SocketAddr)>, SettingsFault>
+    ensures told { AnswersInMemory (λ peers. ArePeersAt (get_member (codes "peer") (table_view table.now)) peers.items) result }
+    ensures slots { IfOk result (λ peers. AreSlots peers.items) }
+{
+    let Some(value) = value_at(table, "peer") else {
+        return Ok(Vec::new(alloc));
+    };
+    let Some(entries) = value.as_array() else {
+        return Err(bad_value(alloc, "peer", value, Wanted::Tables));
+    };
+    each_peer(alloc, entries.as_slice())
+}
+
+// The slot and the address of the peer of each table, no slot twice.
+fn each_peer(alloc: Global, entries: &[Value]) -> Result<Vec<(u8, SocketAddr)>, SettingsFault>
+    ensures told { AnswersInMemory (λ peers. ArePeers (items_view entries.now) peers.items × AreSlots peers.items) result }
+    ensures slots { IfOk result (λ peers. AreSlots peers.items) }
+{
+    let mut peers = Vec::new(alloc);
+    for entry in entries {
+        let number = peers.len() + 1;
+        let peer = numbered_peer(alloc, entry, number)?;
+        if has_slot(peers.as_slice(), peer.0) {
+            return Err(slot_again(alloc, number, peer.0));
+        }
+        if peers.push(peer).is_err() {
+            return Err(SettingsFault::NoMemory);
+        }
+    }
+    Ok(peers)
+}
+
+// That an earlier table than the one of this number has the slot.
+fn slot_again(alloc: Global, number: usize, slot: u8) -> SettingsFault
+    ensures { IsBad result }
+{
+    again(alloc, "slot", slot as u32).at(SettingsPlace::Peer(number))
+}
+
+// The slot and the address of the peer of the table of this number.
+fn numbered_peer(
+    alloc: Global,
+    entry: &Value,
+    number: usize,
+) -> Result<(u8, SocketAddr), SettingsFault>
+    ensures { AnswersInMemory (IsPeer (view entry.now)) result }
+{
+    match peer_of(alloc, entry) {
+        Ok(peer) => Ok(peer),
+        Err(fault) => Err(fault.at(SettingsPlace::Peer(number))),
+    }
+}
+
+fn peer_of(alloc: Global, entry: &Value) -> Result<(u8, SocketAddr), SettingsFault>
+    ensures { AnswersInMemory (IsPeer (view entry.now)) result }
+{
+    let Some(table) = entry.as_table() else {
+        return Err(bad_value(alloc, "peer", entry, Wanted::Table));
+    };
+    only_known(alloc, table, Owner::Peer, &PEER_KEYS)?;
+    let slot = slot_of(alloc, table)?;
+    let remote = address_of(alloc, table, "remote")?;
+    Ok((slot, remote))
+}
+
+fn slot_of(alloc: Global, table: &Table) -> Result<u8, SettingsFault>
+    ensures { Answers (IsTold IsSlot (get_member (codes "slot") (table_view table.now))) result }
+{
+    let wanted = Wanted::Number(0, PEER_SLOTS as u32 - 1);
+    let Some(number) = number_of(alloc, table, "slot", wanted)? else {
+        return Err(lacks(alloc, "slot"));
+    };
+    match u8::try_from(number) {
+        Ok(slot) if slot < PEER_SLOTS => Ok(slot),
+        _ => Err(bad_number(alloc, "slot", number, wanted)),
+    }
+}
+
+/// Whether one of the peers has the slot.
+pub fn has_slot(peers: &[(u8, SocketAddr)], slot: u8) -> bool
+    ensures { result ≡ has_slot peers.now slot }
+{
+    peers.iter().any(|peer| peer.0 == slot)
+}
