@@ -77,13 +77,7 @@ fn tells_at(rt: &HostRuntime, list: &str, settings: &str, fault: Fault, told: To
 }
 
 // The same of a list with this text.
-fn tells_on(
-    rt: &HostRuntime,
-    settings: &str,
-    list: &str,
-    fault: Fault,
-    told: Told<'_>,
-) -> bool {
+fn tells_on(rt: &HostRuntime, settings: &str, list: &str, fault: Fault, told: Told<'_>) -> bool {
     match write(rt, "told", list) {
         Ok(path) => tells_at(rt, path.as_str(), settings, fault, told),
         Err(_) => false,
@@ -117,10 +111,15 @@ fn tells_alone(rt: &HostRuntime, text: &str, told: Told<'_>) -> bool {
 
 const NO_SETTINGS: &str =
     "ovcache: arguments: SETTINGS is wanted; ovcache --help tells what the words are\n";
+
 const NO_OPTION: &str =
     "ovcache: arguments: the word is no option; ovcache --help tells what the words are\n";
-const NO_TURNS: &str = "ovcache: arguments: TURNS is no number from 0 to 18446744073709551615; ovcache --help tells what the words are\n";
-const TOO_MANY: &str = "ovcache: arguments: there are more words than SETTINGS and TURNS; ovcache --help tells what the words are\n";
+
+const NO_TURNS: &str =
+    "ovcache: arguments: TURNS is no number from 0 to 18446744073709551615; ovcache --help tells what the words are\n";
+
+const TOO_MANY: &str =
+    "ovcache: arguments: there are more words than SETTINGS and TURNS; ovcache --help tells what the words are\n";
 
 #[rattlefmt::skip]
 const WRONG_WORDS: [(&[&str], &str); 13] = [
@@ -232,7 +231,13 @@ fn good_settings_end_well(rt: HostRuntime) {
 fn bad_settings_are_told(rt: HostRuntime) {
     for (settings, cause) in &BAD_SETTINGS {
         assert!(rt;
-            tells_on(&rt, settings, "no list", Fault::Settings, (1, "settings", cause)),
+            tells_on(
+                &rt,
+                settings,
+                "no list",
+                Fault::Settings,
+                (1, "settings", cause)
+            ),
             "{settings}"
         );
     }
@@ -276,8 +281,9 @@ fn a_refused_first_list_is_told(rt: HostRuntime) {
 
 // Whether a port that is taken is told of these settings.
 fn is_taken(rt: &HostRuntime, settings: &str, address: SocketAddr) -> bool {
-    match format!(in rt.alloc(); "ovcache: device: listen {address}: Address already in use (os error 98)\n")
-    {
+    match format!(in rt.alloc();
+        "ovcache: device: listen {address}: Address already in use (os error 98)\n"
+    ) {
         Ok(errors) => ends_on(rt, "taken", settings, LIST, fails(2, errors.as_str())),
         Err(_) => false,
     }
@@ -324,8 +330,9 @@ fn a_list_that_isnt_there_is_a_device(rt: HostRuntime) -> Result<(), Fail> {
 
 // Whether settings of this path with this list are told to be good, and nothing is bound.
 fn is_checked(rt: &HostRuntime, path: &str, list: &str, address: SocketAddr) -> bool {
-    match format!(in rt.alloc(); "{path}: settings that listen at {address}\n{list}: a list of 1 payloads\n")
-    {
+    match format!(in rt.alloc();
+        "{path}: settings that listen at {address}\n{list}: a list of 1 payloads\n"
+    ) {
         Ok(output) => {
             let good = Ending {
                 status: 0,

@@ -51,7 +51,15 @@ fn scripts_are_told(rt: HostRuntime) -> Result<(), Fail> {
 fn words_are_arguments(rt: HostRuntime) -> Result<(), Fail> {
     let words = [String::from_str(rt.alloc(), "script")?];
     let script = "show rib\n".as_bytes();
-    assert!(rt; ends(&rt, &words, script, 1, "ovplay: arguments: it takes none but --help or --version, and its script on the input\n"));
+    assert!(rt;
+        ends(
+            &rt,
+            &words,
+            script,
+            1,
+            "ovplay: arguments: it takes none but --help or --version, and its script on the input\n"
+        )
+    );
     Ok(())
 }
 
@@ -74,7 +82,15 @@ impl Read for Failing<'_> {
 fn a_failing_input_is_told(rt: HostRuntime) -> Result<(), Fail> {
     let octets = "speaker 65000 192.0.2.1 nocache\nshow r".as_bytes();
     let input = BufReader::new(rt.alloc(), Failing { octets })?;
-    assert!(rt; ends(&rt, &[], input, 2, "ok\novplay: device: the input or the output fails\n"));
+    assert!(rt;
+        ends(
+            &rt,
+            &[],
+            input,
+            2,
+            "ok\novplay: device: the input or the output fails\n"
+        )
+    );
     Ok(())
 }
 
@@ -96,7 +112,15 @@ fn ends_with_room<R: AllocGlobal>(
 fn a_failing_output_is_told(rt: HostRuntime) -> Result<(), Fail> {
     let script = "speaker 65000 192.0.2.1 nocache\nshow rib\n";
     // Three octets fit, and the first answer takes all of them.
-    assert!(rt; ends_with_room(&rt, script, &mut [0; 3], 2, "ovplay: device: the input or the output fails\n"));
+    assert!(rt;
+        ends_with_room(
+            &rt,
+            script,
+            &mut [0; 3],
+            2,
+            "ovplay: device: the input or the output fails\n"
+        )
+    );
     Ok(())
 }
 

@@ -6,6 +6,7 @@ use Rattle.speaker_turns.specs.Turns.{Turns, idle, with_remote}
 use Rattle.speaker_turns.specs.declared.end.End.TheVariants.{Peer, Cache}
 use Rattle.wires.specs.Wires.{WireState}
 use Rattle.speaker_program.specs.Commanded.{IsCommanded, TakesSoMany}
+use Rattle.speaker_program.specs.declared.fault.SpeakerFault.{SpeakerFault}
 use Rattle.speaker_program.specs.Slots.{HasJust}
 use Rattle.speaker_settings.specs.declared.settings.SpeakerSettings.{SpeakerSettings}
 
@@ -47,4 +48,4 @@ pub record IsBegun (Told : Option (List ℕ) → Type 0) (Opened : WireState →
 pub record IsServed (Told : Option (List ℕ) → Type 0) (Opened : WireState → Type 0) (settings : SpeakerSettings) (count : ℕ) (before behind : List ℕ) (turns : Turns) : Type 0 where
   pub begun : Turns
   pub begins : IsBegun Told Opened settings begun
-  pub takes : TakesSoMany count (Ok tt) before behind begun turns
+  pub takes : TakesSoMany {E = SpeakerFault} count (Ok tt) before behind begun turns

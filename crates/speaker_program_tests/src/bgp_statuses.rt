@@ -140,10 +140,15 @@ fn tells_on(
 
 const NO_SETTINGS: &str =
     "ovbgpd: arguments: SETTINGS is wanted; ovbgpd --help tells what the words are\n";
+
 const NO_OPTION: &str =
     "ovbgpd: arguments: the word is no option; ovbgpd --help tells what the words are\n";
-const NO_TURNS: &str = "ovbgpd: arguments: TURNS is no number from 0 to 18446744073709551615; ovbgpd --help tells what the words are\n";
-const TOO_MANY: &str = "ovbgpd: arguments: there are more words than SETTINGS and TURNS; ovbgpd --help tells what the words are\n";
+
+const NO_TURNS: &str =
+    "ovbgpd: arguments: TURNS is no number from 0 to 18446744073709551615; ovbgpd --help tells what the words are\n";
+
+const TOO_MANY: &str =
+    "ovbgpd: arguments: there are more words than SETTINGS and TURNS; ovbgpd --help tells what the words are\n";
 
 #[rattlefmt::skip]
 const WRONG_WORDS: [(&[&str], &str); 8] = [
@@ -245,7 +250,13 @@ fn good_settings_end_well(rt: HostRuntime) {
 fn bad_settings_are_told(rt: HostRuntime) {
     for (settings, cause) in &BAD_SETTINGS {
         assert!(rt;
-            tells_on(&rt, settings, "no command", Fault::Settings, (1, "settings", cause)),
+            tells_on(
+                &rt,
+                settings,
+                "no command",
+                Fault::Settings,
+                (1, "settings", cause)
+            ),
             "{settings}"
         );
     }
@@ -332,6 +343,7 @@ fn refused_lines_are_told_by_their_number(rt: HostRuntime) {
 
 const NOT_SLOT_0: &str =
     "slot 0 has a peer in the commands or a table in the settings, and not both";
+
 const NOT_SLOT_1: &str =
     "slot 1 has a peer in the commands or a table in the settings, and not both";
 
@@ -351,7 +363,13 @@ const DROPPED_AND_BACK: &str =
 fn other_slots_than_those_of_the_commands_are_settings(rt: HostRuntime) {
     for (commands, cause) in &OTHER_SLOTS {
         assert!(rt;
-            tells_on(&rt, ONE_PEER, commands, Fault::Commands, (1, "settings", cause)),
+            tells_on(
+                &rt,
+                ONE_PEER,
+                commands,
+                Fault::Commands,
+                (1, "settings", cause)
+            ),
             "{commands}"
         );
     }
@@ -378,8 +396,9 @@ fn loc_rib_is_printed_behind_the_turns(rt: HostRuntime) {
 
 // Whether a port that is taken is told of these settings.
 fn is_taken(rt: &HostRuntime, settings: &str, address: SocketAddr) -> bool {
-    match format!(in rt.alloc(); "ovbgpd: device: listen {address}: Address already in use (os error 98)\n")
-    {
+    match format!(in rt.alloc();
+        "ovbgpd: device: listen {address}: Address already in use (os error 98)\n"
+    ) {
         Ok(errors) => ends_on(rt, settings, "", fails(2, errors.as_str())),
         Err(_) => false,
     }
@@ -427,8 +446,9 @@ fn commands_that_arent_there_are_told(rt: HostRuntime) -> Result<(), Fail> {
 
 // Whether settings of this path with these commands are told to be good.
 fn is_checked(rt: &HostRuntime, path: &str, commands: &str) -> bool {
-    match format!(in rt.alloc(); "{path}: settings of AS 65000 with 1 peers\n{commands}: commands that are obeyed\n")
-    {
+    match format!(in rt.alloc();
+        "{path}: settings of AS 65000 with 1 peers\n{commands}: commands that are obeyed\n"
+    ) {
         Ok(output) => {
             let good = Ending {
                 status: 0,
