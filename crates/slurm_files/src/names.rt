@@ -1,13 +1,15 @@
 //! Which members an object has.
-ghost use Rattle.std.specs.Prelude.{◌≡◌, List, Ok, Err, MatchOption, None, Some, map};
+ghost use Rattle.std.specs.List.{list_any};
+ghost use Rattle.std.specs.Prelude.{◌≡◌, map};
+ghost use Rattle.std.specs.Str.{bytes_eq};
 ghost use Rattle.json.specs.Value.{value_view};
-ghost use Rattle.slurm_files.specs.MemberNames.{is_known, is_named, names_fault, object_fault};
+ghost use Rattle.slurm_files.specs.MemberNames.{is_known, names_fault, object_fault};
 
 use crate::fault::Cause;
 use crate::member::Member;
 use json::Value;
 
-/// Whether the value is an object whose members are known, each at most once: else the first fault of it.
+/// The first fault of a value that is to be an object with these members, each at most once.
 pub(crate) fn object_fault(value: &Value<'_>, known: &[Member]) -> Option<Cause>
     ensures { result ≡ object_fault known.now (value_view value.now) }
 {
@@ -39,7 +41,7 @@ fn is_known(known: &[Member], name: &str) -> bool
 }
 
 fn is_named(members: &[(&str, Value<'_>)], name: &str) -> bool
-    ensures { result ≡ is_named (map (λ m. m.0.now) members.now) name.now }
+    ensures { result ≡ list_any (λ m. bytes_eq m.0.now name.now) members.now }
 {
     members.iter().any(|member| member.0 == name)
 }
