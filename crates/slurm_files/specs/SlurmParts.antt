@@ -20,10 +20,10 @@ pub record SlurmParts : Type 0 where
   pub prefix_assertions : List Json
   pub bgpsec_assertions : List Json
 
--- what is then, where there is no fault before it
+-- the answer, where there is no fault before it
 abbrev pub unless : {A : Type 0} → Option Cause → Result A Cause → Result A Cause
-unless (Some fault) then = Err fault
-unless None then = then
+unless (Some fault) answer = Err fault
+unless None answer = answer
 
 -- both, or the first fault of them
 abbrev pub both : {A B : Type 0} → Result A Cause → Result B Cause → Result (A × B) Cause
@@ -100,7 +100,7 @@ abbrev pub parts_of : Json → Result SlurmParts SlurmFault
 parts_of value = with_halves (halves_of value)
 
 -- what the code keeps of them
-abbrev pub parts_view : {A : Type 0} → Parts A → SlurmParts
+abbrev pub parts_view : Parts → SlurmParts
 parts_view parts = record {
   prefix_filters = map value_view parts.prefix_filters.now;
   bgpsec_filters = map value_view parts.bgpsec_filters.now;

@@ -1,7 +1,7 @@
 //! What the members of an entry give.
 ghost use Rattle.std.specs.Prelude.{◌≡◌};
 ghost use Rattle.json.specs.Value.{value_view};
-ghost use Rattle.slurm_files.specs.GivenMembers.{IsAsn, IsMax, IsPrefix, is_text};
+ghost use Rattle.slurm_files.specs.GivenMembers.{IsAsn, IsMax, IsPrefix, given_text};
 
 use crate::fault::Cause;
 use crate::member::Member;
