@@ -1,2 +1,3 @@
+pub mod GivenValues
 pub mod NameLists
 pub mod Reading

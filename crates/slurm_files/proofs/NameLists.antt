@@ -3,8 +3,8 @@ use Rattle.std.proofs.Common.{◌≡◌, ◌<◌, ◌+◌, ◌||◌, ℕ, Bool, 
 use Rattle.std.specs.List.{list_any}
 use Rattle.std.specs.Str.{bytes_eq}
 use Rattle.std.specs.Borrow.{Bor}
-use Rattle.json.specs.Json.{Json, Members, no_members, member}
-use Rattle.json.specs.Value.{members_of}
+use Rattle.json.specs.Value.{members_view}
+use Rattle.json.specs.declared.value.Value.{Value}
 use Rattle.slurm_files.specs.MemberNames.{is_known, is_named, names_fault, names_of}
 use Rattle.slurm_files.specs.declared.fault.Cause.{Cause}
 use Rattle.slurm_files.specs.declared.fault.Cause.TheVariants.{UnknownMember, SecondMember}
@@ -22,7 +22,7 @@ module _ {X : Type 0} (f : X → List ℕ) where
 
   pub unknown : (known : List Member) (xs : List X) (i : ℕ) (x : X) → i < length xs → x ≡ get_or xs i x → is_known known (f x) ≡ false
       → names_fault known i (map f (drop i xs)) ≡ Some (UnknownMember i)
-  unknown known xs i x less is no = rw (from_place xs i x less is, no) refl
+  unknown known xs i x less is not_known = rw (from_place xs i x less is, not_known) refl
 
   pub second : (known : List Member) (xs : List X) (i : ℕ) (x : X) → i < length xs → x ≡ get_or xs i x → is_known known (f x) ≡ true
       → is_named (map f (drop (i + 1) xs)) (f x) ≡ true → names_fault known i (map f (drop i xs)) ≡ Some (SecondMember i)
@@ -33,6 +33,6 @@ module _ {X : Type 0} (f : X → List ℕ) where
   passed known xs i x less is known_is other = rw (from_place xs i x less is, known_is, other) refl
 
 -- the names of an object's members
-pub names_of-view : {A : Type 0} (ms : List (Bor (List ℕ) × Json)) → names_of (members_of ms) ≡ map (λ m. m.0.now) ms
-names_of-view [] = refl
-names_of-view (m ∷ ms) = ap (λ names. m.0.now ∷ names) (names_of-view ms)
+pub names_of-members : (A : Type 0) (ms : List (Bor (List ℕ) × Value A)) → names_of (members_view ms) ≡ map (λ m. m.0.now) ms
+names_of-members A [] = refl
+names_of-members A (m ∷ ms) = ap (λ names. m.0.now ∷ names) (names_of-members A ms)
