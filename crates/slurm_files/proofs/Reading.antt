@@ -1,9 +1,9 @@
 -- Entries that are read one after another.
-use Rattle.std.proofs.Common.{◌≡◌, ◌⊎◌, ◌<◌, ◌+◌, ℕ, List, [], ◌∷◌, map, drop, get_or, length, Option, None, Some, Result, Ok, Err, inl, inr, refl, sym, ap, subst, ◌∙◌, add-one, drop-cons}
+use Rattle.std.proofs.Common.{◌≡◌, ◌⊎◌, ◌<◌, ◌+◌, ℕ, List, [], ◌∷◌, map, drop, get_or, length, Option, None, Some, Result, Ok, Err, inl, inr, refl, sym, ap, subst, add-one, drop-cons}
 use Rattle.json.specs.Json.{Json, array}
 use Rattle.json.specs.Value.{items_of}
 use Rattle.local_exceptions.specs.declared.fault.ExceptionFault.{ExceptionFault}
-use Rattle.slurm_files.specs.SlurmDocument.{Goes, Reads, ReadsParts, Said, nothing_said, outcome, Takes, entry_fault, with_entry}
+use Rattle.slurm_files.specs.SlurmDocument.{Reads, ReadsParts, Said, nothing_said, outcome, Takes, entry_fault, with_entry}
 use Rattle.slurm_files.specs.SlurmEntries.{IsEntry}
 use Rattle.slurm_files.specs.SlurmParts.{SlurmParts, entries_in, entries_of}
 use Rattle.slurm_files.specs.declared.entry.Entry.{Entry}
@@ -68,8 +68,17 @@ Added p entries said after result = (result ≡ Err fault.NoMemory) ⊎ Reads p 
 abbrev ReadAll : SlurmParts → Result Said SlurmFault → Type 0
 ReadAll parts result = (result ≡ Err fault.NoMemory) ⊎ ReadsParts parts result
 
-refused : (why : SlurmFault) → Err {Unit {0}} why ≡ Err fault.NoMemory → Err {Said} why ≡ Err fault.NoMemory
-refused why h = let same : why ≡ fault.NoMemory = cc in ap (λ (x : SlurmFault). Err {Said} x) same
+abbrev Fails : Result (Unit {0}) SlurmFault → Type 0
+Fails result = result ≡ Err fault.NoMemory
+
+abbrev Lacks : Result Said SlurmFault → Type 0
+Lacks result = result ≡ Err fault.NoMemory
+
+fault_of : (why : SlurmFault) → Fails (Err why) → why ≡ fault.NoMemory
+fault_of why h = cc
+
+refused : (why : SlurmFault) → Fails (Err why) → Lacks (Err why)
+refused why h = ap (λ (x : SlurmFault). Err x) (fault_of why h)
 
 reads : (p : Part) (entries : List Json) (said after : Said) → Added p entries said after (Ok tt) → Reads p 0 entries said (Ok after)
 reads p entries said after (inl h) = absurd (cc h)
@@ -80,14 +89,14 @@ pub second_refused : (parts : SlurmParts) (start one after : Said) (why : SlurmF
 second_refused parts start one after why begun first (inl h) = inl (refused why h)
 second_refused parts start one after why begun first (inr h) =
     let read = subst (λ (s : Said). Reads part.PrefixFilters 0 parts.prefix_filters s (Ok one)) begun (reads part.PrefixFilters parts.prefix_filters start one first) in
-    inr (Ok one, read, Err why, h, refl)
+    inr (Ok one, read, (Err why, h, refl))
 
 pub third_refused : (parts : SlurmParts) (start one two after : Said) (why : SlurmFault) → start ≡ nothing_said → Added part.PrefixFilters parts.prefix_filters start one (Ok tt)
     → Added part.BgpsecFilters parts.bgpsec_filters one two (Ok tt) → Added part.PrefixAssertions parts.prefix_assertions two after (Err why) → ReadAll parts (Err why)
 third_refused parts start one two after why begun first second (inl h) = inl (refused why h)
 third_refused parts start one two after why begun first second (inr h) =
     let read = subst (λ (s : Said). Reads part.PrefixFilters 0 parts.prefix_filters s (Ok one)) begun (reads part.PrefixFilters parts.prefix_filters start one first) in
-    inr (Ok one, read, Ok two, reads part.BgpsecFilters parts.bgpsec_filters one two second, Err why, h, refl)
+    inr (Ok one, read, (Ok two, reads part.BgpsecFilters parts.bgpsec_filters one two second, (Err why, h, refl)))
 
 pub fourth_added : (parts : SlurmParts) (start one two three after : Said) (result : Result (Unit {0}) SlurmFault) → start ≡ nothing_said → Added part.PrefixFilters parts.prefix_filters start one (Ok tt)
     → Added part.BgpsecFilters parts.bgpsec_filters one two (Ok tt) → Added part.PrefixAssertions parts.prefix_assertions two three (Ok tt)
@@ -96,4 +105,4 @@ fourth_added parts start one two three after (Ok done) begun first second third 
 fourth_added parts start one two three after (Err why) begun first second third (inl h) = inl (refused why h)
 fourth_added parts start one two three after result begun first second third (inr h) =
     let read = subst (λ (s : Said). Reads part.PrefixFilters 0 parts.prefix_filters s (Ok one)) begun (reads part.PrefixFilters parts.prefix_filters start one first) in
-    inr (Ok one, read, Ok two, reads part.BgpsecFilters parts.bgpsec_filters one two second, Ok three, reads part.PrefixAssertions parts.prefix_assertions two three third, h)
+    inr (Ok one, read, (Ok two, reads part.BgpsecFilters parts.bgpsec_filters one two second, (Ok three, reads part.PrefixAssertions parts.prefix_assertions two three third, h)))

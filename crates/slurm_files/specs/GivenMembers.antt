@@ -1,5 +1,5 @@
 -- What the members of an entry give (RFC 8416 sections 3.3 and 3.4). A member is the only one of its name.
-use Rattle.std.specs.Prelude.{◌≡◌, ◌<◌, ◌^◌, ℕ, Bool, true, false, List, Option, None, Some, option_and_then, Result, Ok, Err}
+use Rattle.std.specs.Prelude.{◌≡◌, ◌<◌, ◌^◌, ℕ, Bool, true, false, List, Option, None, Some, Result, Ok, Err}
 use Rattle.json.specs.Find.{as_number, as_str, get}
 use Rattle.json.specs.Json.{Json, null, boolean, number, string, array, object}
 use Rattle.net_prefix.specs.PrefixText.{NamesNone, Writes}

@@ -41,14 +41,20 @@ is_known known name = list_any (λ m. bytes_eq (name_of m) name) known
 abbrev pub is_named : List (List ℕ) → List ℕ → Bool
 is_named names name = list_any (λ other. bytes_eq other name) names
 
--- the first fault of members with these names, the first of which stands at this place: it is unknown, or one behind it
--- has its name too
+-- the fault of the member at a place, before members with these names: its name is unknown, or one behind it has it too
+abbrev pub name_fault : List Member → ℕ → List ℕ → List (List ℕ) → Option Cause
+name_fault known place name behind =
+    if not (is_known known name) then Some (UnknownMember place) else if is_named behind name then Some (SecondMember place) else None
+
+-- the first of two faults
+abbrev pub or_else : Option Cause → Option Cause → Option Cause
+or_else (Some fault) later = Some fault
+or_else None later = later
+
+-- the first fault of members with these names, the first of which stands at this place
 abbrev pub names_fault : List Member → ℕ → List (List ℕ) → Option Cause
 names_fault known place [] = None
-names_fault known place (name ∷ rest) =
-    if not (is_known known name) then Some (UnknownMember place)
-    else if is_named rest name then Some (SecondMember place)
-    else names_fault known (place + 1) rest
+names_fault known place (name ∷ behind) = or_else (name_fault known place name behind) (names_fault known (place + 1) behind)
 
 -- the names of members
 abbrev pub names_of : Members → List (List ℕ)

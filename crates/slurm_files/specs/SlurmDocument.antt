@@ -1,5 +1,5 @@
 -- What a SLURM file says: the exceptions and what is skipped, or its first fault (RFC 8416 section 3).
-use Rattle.std.specs.Prelude.{◌≡◌, ◌+◌, ◌⊎◌, ℕ, List, [], ◌∷◌, Option, None, Some, Result, Ok, Err, if◌then◌else◌, length, nat_le}
+use Rattle.std.specs.Prelude.{◌≡◌, ◌+◌, ◌⊎◌, ℕ, List, [], ◌∷◌, Option, None, Some, Result, Ok, Err, length}
 use Rattle.std.specs.Str.{IsUtf8}
 use Rattle.std.specs.Str.Lossy.{utf8_valid_len}
 use Rattle.json.specs.Json.{Json, document}

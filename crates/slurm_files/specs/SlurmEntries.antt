@@ -1,9 +1,8 @@
 -- The entries of a SLURM file (RFC 8416 sections 3.3 and 3.4).
 use Rattle.std.specs.Prelude.{◌≡◌, ℕ, Bool, true, false, List, [], ◌∷◌, Option, None, Some, Result, Ok, Err, unwrap_or}
 use Rattle.json.specs.Json.{Json}
-use Rattle.net_prefix.specs.MaxLengths.{IsMaxLength, IsNoMaxLength}
+use Rattle.net_prefix.specs.MaxLengths.{IsNoMaxLength}
 use Rattle.net_prefix.specs.declared.asn.Asn as declared_asn
-use Rattle.net_prefix.specs.declared.payload.Vrp.{Vrp}
 use Rattle.net_prefix.specs.declared.prefix.Prefix as declared
 use Rattle.local_exceptions.specs.declared.filter.Filter.TheVariants as filter
 use Rattle.slurm_files.specs.GivenMembers.{IsAsn, IsMax, IsPrefix, given_text}

@@ -3,7 +3,7 @@ ghost use Rattle.std.specs.List.{list_any};
 ghost use Rattle.std.specs.Prelude.{◌≡◌, map};
 ghost use Rattle.std.specs.Str.{bytes_eq};
 ghost use Rattle.json.specs.Value.{value_view};
-ghost use Rattle.slurm_files.specs.MemberNames.{is_known, names_fault, object_fault};
+ghost use Rattle.slurm_files.specs.MemberNames.{is_known, name_fault, names_fault, object_fault};
 
 use crate::fault::Cause;
 use crate::member::Member;
@@ -19,17 +19,32 @@ pub(crate) fn object_fault(value: &Value<'_>, known: &[Member]) -> Option<Cause>
     }
 }
 
-// The first fault of the members: its name is unknown, or one behind it has it too.
+// The first fault of the members.
 fn names_fault(members: &[(&str, Value<'_>)], known: &[Member]) -> Option<Cause>
     ensures { result ≡ names_fault known.now 0 (map (λ m. m.0.now) members.now) }
 {
-    for (place, (name, _)) in members.iter().enumerate() {
-        if !is_known(known, name) {
-            return Some(Cause::UnknownMember(place as u64));
+    for (place, member) in members.iter().enumerate() {
+        if let Some(fault) = name_fault(known, place as u64, member.0, &members[place + 1..]) {
+            return Some(fault);
         }
-        if is_named(&members[place + 1..], name) {
-            return Some(Cause::SecondMember(place as u64));
-        }
+    }
+    None
+}
+
+// The fault of the member of this name at this place, behind which come these.
+fn name_fault(
+    known: &[Member],
+    place: u64,
+    name: &str,
+    behind: &[(&str, Value<'_>)],
+) -> Option<Cause>
+    ensures { result ≡ name_fault known.now place name.now (map (λ m. m.0.now) behind.now) }
+{
+    if !is_known(known, name) {
+        return Some(Cause::UnknownMember(place));
+    }
+    if is_named(behind, name) {
+        return Some(Cause::SecondMember(place));
     }
     None
 }

@@ -1,6 +1,5 @@
-use Rattle.std.proofs.Common.{inr}
 use Rattle.json.specs.Value.{value_view}
-use Rattle.slurm_files.proofs.Reading.{goes_on, stops}
+use Rattle.slurm_files.proofs.Reading.{goes_on}
 use Rattle.slurm_files.proofs.file.SlurmFile.add_entries.Goals as goal
 
 pub loop-place-preserved : goal.loop-place-preserved
