@@ -61,20 +61,21 @@ IsPayload asn prefix max_len (Ok Ipv6) = ⊥
 IsPayload asn prefix max_len (Ok Bgpsec) = ⊥
 IsPayload asn prefix max_len (Err fault) = (fault ≡ cause.MaxPrefixLength) × IsNoMaxLength prefix.len (unwrap_or max_len prefix.len)
 
-abbrev pub AssertsPrefix : declared_asn.Asn → GivenPrefix → Option ℕ → Result Entry Cause → Type 0
+-- of an IPv6 prefix the maximum length isn't looked at
+abbrev pub AssertsPrefix : declared_asn.Asn → GivenPrefix → Result (Option ℕ) Cause → Result Entry Cause → Type 0
 AssertsPrefix asn given.None max_len answer = answer ≡ Err (cause.Missing named.Prefix)
 AssertsPrefix asn given.Ipv6 max_len answer = answer ≡ Ok Ipv6
-AssertsPrefix asn (given.Ipv4 prefix) max_len answer = IsPayload asn prefix max_len answer
+AssertsPrefix asn (given.Ipv4 prefix) (Err fault) answer = answer ≡ Err fault
+AssertsPrefix asn (given.Ipv4 prefix) (Ok max_len) answer = IsPayload asn prefix max_len answer
 
--- what an assertion of a prefix says, by its AS, its prefix, its maximum length and its comment: their faults come in
+-- what an assertion of a prefix says, by its AS, its prefix, its comment and its maximum length: their faults come in
 -- this order
 abbrev pub Asserts : Result (Option declared_asn.Asn) Cause → Result GivenPrefix Cause → Result (Option ℕ) Cause → Result Bool Cause → Result Entry Cause → Type 0
 Asserts (Err fault) prefix max_len comment answer = answer ≡ Err fault
 Asserts (Ok None) prefix max_len comment answer = answer ≡ Err (cause.Missing named.Asn)
 Asserts (Ok (Some asn)) (Err fault) max_len comment answer = answer ≡ Err fault
-Asserts (Ok (Some asn)) (Ok prefix) (Err fault) comment answer = answer ≡ Err fault
-Asserts (Ok (Some asn)) (Ok prefix) (Ok max_len) (Err fault) answer = answer ≡ Err fault
-Asserts (Ok (Some asn)) (Ok prefix) (Ok max_len) (Ok comment) answer = AssertsPrefix asn prefix max_len answer
+Asserts (Ok (Some asn)) (Ok prefix) max_len (Err fault) answer = answer ≡ Err fault
+Asserts (Ok (Some asn)) (Ok prefix) max_len (Ok comment) answer = AssertsPrefix asn prefix max_len answer
 
 -- what an assertion of a key says: its AS, its key identifier and its key are there
 abbrev pub key_assertion : Result (Option declared_asn.Asn) Cause → Result Bool Cause → Result Bool Cause → Result Bool Cause → Result Entry Cause

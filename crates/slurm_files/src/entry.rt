@@ -144,12 +144,11 @@ fn assertion_of(
         return Err(Cause::Missing(Member::Asn));
     };
     let prefix = prefix?;
-    let max_len = max_len?;
     let _ = comment?;
     match prefix {
         GivenPrefix::None => Err(Cause::Missing(Member::Prefix)),
         GivenPrefix::Ipv6 => Ok(Entry::Ipv6),
-        GivenPrefix::Ipv4(prefix) => payload_of(asn, prefix, max_len),
+        GivenPrefix::Ipv4(prefix) => payload_of(asn, prefix, max_len?),
     }
 }
 
