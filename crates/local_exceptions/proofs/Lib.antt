@@ -1,0 +1,4 @@
+pub mod Filters
+pub mod Kept
+pub mod Matching
+pub mod Passing

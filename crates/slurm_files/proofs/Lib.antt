@@ -1,0 +1,3 @@
+pub mod GivenValues
+pub mod NameLists
+pub mod Reading
