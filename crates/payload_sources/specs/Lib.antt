@@ -1,0 +1,2 @@
+pub mod OpenedSources
+pub mod PayloadSources
