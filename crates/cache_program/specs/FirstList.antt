@@ -14,13 +14,6 @@ use Rattle.cache_program.specs.declared.reread.ListFault.TheVariants.{NoFile, So
 abbrev pub Passes : Guards → SourceTexts → List Vrp → Type 0
 Passes guards sources set = IsSetOf sources set × (guard_fault guards [] set ≡ None)
 
--- the guards don't let the set be served first
-abbrev pub IsRefusedFirst : Guards → List Vrp → ListFault → Type 0
-IsRefusedFirst guards set (NoFile file) = ⊥
-IsRefusedFirst guards set (Source refused) = ⊥
-IsRefusedFirst guards set (Guard why) = guard_fault guards [] set ≡ Some why
-IsRefusedFirst guards set NoMemory = ⊥
-
 -- why what files say can't be served first
 abbrev pub IsNoFirst : Guards → SourceTexts → ListFault → Type 0
 IsNoFirst guards sources (NoFile file) = ⊥

@@ -15,6 +15,7 @@ mod cache_main;
 mod every;
 mod exits;
 mod fault;
+mod files;
 mod help;
 mod journal;
 mod laws;

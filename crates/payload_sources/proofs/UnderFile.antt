@@ -27,7 +27,7 @@ refused_behind remaining list slurm file listed (Slurm fault) is of_list h =
 refused_behind remaining list slurm file listed SlurmDevice is of_list h =
     record { listed = listed; of_list = of_list; file = remaining file; there = ap (option_map remaining) is; refused = h }
 
-fault_or : Result Said SlurmFault → SlurmFault → SlurmFault
+abbrev fault_or : Result Said SlurmFault → SlurmFault → SlurmFault
 fault_or (Ok said) other = other
 fault_or (Err why) other = why
 
