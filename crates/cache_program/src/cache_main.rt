@@ -135,38 +135,13 @@ where
 {
     let settings = read_settings(rt, path)?;
     let read = checked_files(rt, &settings)?;
-    tell_checked(path, &settings, &read, output).map_err(CacheFault::Output)
-}
-
-// Writes what settings and their files are.
-fn tell_checked<O: Write>(
-    path: &str,
-    settings: &CacheSettings,
-    read: &SourceSet,
-    output: &mut O,
-) -> io::Result<()> {
-    writeln!(
-        output,
-        "{path}: settings that listen at {}",
-        settings.listen
-    )?;
-    let payloads = read.set.len();
-    if let (Some(slurm), Some(said)) = (slurm_path(settings), &read.slurm) {
-        let filters = said.exceptions.filters().len();
-        let assertions = said.exceptions.assertions().len();
-        let skipped = said.ipv6.saturating_add(said.bgpsec);
-        writeln!(
-            output,
-            "{slurm}: a SLURM file of {filters} filters and {assertions} assertions, with {skipped} entries skipped"
-        )?;
-        writeln!(
-            output,
-            "{}: a list of {payloads} payloads under it",
-            settings.csv
-        )?;
-        return Ok(());
+    let address = settings.listen;
+    if let Err(error) = writeln!(output, "{path}: settings that listen at {address}") {
+        return Err(CacheFault::Output(error));
     }
-    writeln!(output, "{}: a list of {payloads} payloads", settings.csv)
+    let csv = settings.csv.as_str();
+    let told = read.tell(csv, slurm_path(&settings), output);
+    told.map_err(CacheFault::Output)
 }
 
 // The set of the settings' files, which may be served first.
