@@ -1,14 +1,17 @@
--- A list that is due, by what its path leads to.
-use Rattle.std.proofs.Common.{◌≡◌, ℕ, Bool, true, List, Option, Some, Result, Ok, refl, sym, ap, subst}
-use Rattle.cache_program.specs.Opened.{Gives, opened}
+-- A list that is due, by what opening its files has led to.
+use Rattle.std.proofs.Common.{◌≡◌, ℕ, Bool, true, Some, Result, Ok, Err, MatchResult, refl, sym, subst}
+use Rattle.payload_sources.specs.PayloadSources.{SourceTexts}
+use Rattle.payload_sources.specs.declared.fault.SourceFile.{SourceFile}
 use Rattle.cache_program.specs.Rereads.{Rereads, RereadsWhenDue, Served}
 use Rattle.cache_program.specs.declared.reread.Reread.{Reread}
 
-pub reread_when_due : {L E : Type 0} → (Answers : Result L E → Type 0) (remaining : L → Option (List ℕ)) (is_due : Bool) (now : ℕ) (file : Result L E) (old : Served) (led : Reread) (new : Served)
-    → is_due ≡ true → Answers file → Rereads now (opened remaining file) old led new → RereadsWhenDue (Gives Answers remaining) is_due now old (Some led) new
-reread_when_due Answers remaining is_due now file old led new is answers rereads =
-    subst (λ (due : Bool). RereadsWhenDue (Gives Answers remaining) due now old (Some led) new) (sym is) (led, refl, opened remaining file, (file, answers, refl), rereads)
+given_then : (Lists : Result SourceTexts SourceFile → Type 0) (is_due : Bool) (now : ℕ) (sources : Result SourceTexts SourceFile) (old : Served) (led : Reread) (new : Served)
+    → is_due ≡ true → Lists sources → Rereads now sources old led new → RereadsWhenDue Lists is_due now old (Some led) new
+given_then Lists is_due now sources old led new is given rereads =
+    subst (λ (due : Bool). RereadsWhenDue Lists due now old (Some led) new) (sym is) (led, refl, sources, given, rereads)
 
--- a file that was opened is what is given
-pub given : {L E : Type 0} (Answers : Result L E → Type 0) (remaining : L → Option (List ℕ)) (answer : Result L E) (file : L) → Answers answer → answer ≡ Ok file → Gives Answers remaining (Some (remaining file))
-given Answers remaining answer file answers was = (answer, answers, ap (opened remaining) (sym was))
+pub reread_when_due : {S U : Type 0} (r : Result S U) (texts : S → SourceTexts) (which : U → SourceFile) (Lists : Result SourceTexts SourceFile → Type 0) (is_due : Bool) (now : ℕ) (old : Served) (led : Reread) (new : Served)
+    → is_due ≡ true → MatchResult r (λ s. Lists (Ok (texts s))) (λ u. Lists (Err (which u)))
+    → MatchResult r (λ s. Rereads now (Ok (texts s)) old led new) (λ u. Rereads now (Err (which u)) old led new) → RereadsWhenDue Lists is_due now old (Some led) new
+reread_when_due (Ok s) texts which Lists is_due now old led new is given rereads = given_then Lists is_due now (Ok (texts s)) old led new is given rereads
+reread_when_due (Err u) texts which Lists is_due now old led new is given rereads = given_then Lists is_due now (Err (which u)) old led new is given rereads

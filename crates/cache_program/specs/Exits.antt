@@ -1,51 +1,19 @@
 -- What faults of the list and of the cache are to the program.
 use Rattle.rtr_cache.specs.declared.refusal.CacheRefusal.{CacheRefusal}
 use Rattle.rtr_cache.specs.declared.refusal.CacheRefusal.TheVariants.{NoClient, Full, ClockBack, NoMemory as NoMemoryOfCache, Range}
-use Rattle.payload_lists.specs.declared.fault.PayloadListFault.{PayloadListFault}
-use Rattle.payload_lists.specs.declared.fault.PayloadListFault.TheVariants.{Row, Json, Io as IoOfList}
-use Rattle.vrp_csv.specs.declared.fault.RowFault.{RowFault}
-use Rattle.vrp_csv.specs.declared.fault.RowFault.TheVariants.{Header, Fields, Asn, Prefix, Max, Io, NoMemory as NoMemoryOfRows, Csv}
-use Rattle.vrp_json.specs.declared.fault.JsonFault.{JsonFault}
-use Rattle.vrp_json.specs.declared.fault.JsonFault.TheVariants.{Text, NotObject, NoRoas, NotArray, Entry, SecondRoas, NoMemory as NoMemoryOfJson}
+use Rattle.payload_sources.specs.SourceExits.{exit_of_source}
 use Rattle.cache_program.specs.declared.reread.ListFault.{ListFault}
-use Rattle.cache_program.specs.declared.reread.ListFault.TheVariants.{NoFile, List, Guard, NoMemory}
+use Rattle.cache_program.specs.declared.reread.ListFault.TheVariants.{NoFile, Source, Guard, NoMemory}
 use Rattle.settings_keys.specs.SettingsExits.{exit_of_settings}
 use Rattle.cache_program.specs.declared.fault.CacheFault.{CacheFault}
 use Rattle.cache_program.specs.declared.fault.CacheFault.TheVariants.{Words, File, Settings as BadSettings, List as BadList, Refused, Listen, Clock, Turn, Output, NoMemory as NoMemoryToBegin}
 use Rattle.program_endings.specs.declared.fault.ExitFault.{ExitFault}
 use Rattle.program_endings.specs.declared.fault.ExitFault.TheVariants.{Arguments, Settings, Device}
 
--- what the fault of a row is to the program
-abbrev pub exit_of_row : RowFault → ExitFault
-exit_of_row Header = Settings
-exit_of_row Fields = Settings
-exit_of_row Asn = Settings
-exit_of_row Prefix = Settings
-exit_of_row Max = Settings
-exit_of_row Io = Device
-exit_of_row NoMemoryOfRows = Device
-exit_of_row Csv = Settings
-
--- what the fault of a list in JSON is to the program
-abbrev pub exit_of_json : JsonFault → ExitFault
-exit_of_json (Text octet) = Settings
-exit_of_json NotObject = Settings
-exit_of_json NoRoas = Settings
-exit_of_json NotArray = Settings
-exit_of_json (Entry place fault) = Settings
-exit_of_json SecondRoas = Settings
-exit_of_json NoMemoryOfJson = Device
-
--- what a refused list is to the program
-abbrev pub exit_of_list : PayloadListFault → ExitFault
-exit_of_list (Row refused) = exit_of_row refused.fault
-exit_of_list (Json fault) = exit_of_json fault
-exit_of_list IoOfList = Device
-
 -- what a first list that can't be had is to the program
 abbrev pub exit_of_first_list : ListFault → ExitFault
-exit_of_first_list NoFile = Device
-exit_of_first_list (List refused) = exit_of_list refused
+exit_of_first_list (NoFile file) = Device
+exit_of_first_list (Source why) = exit_of_source why
 exit_of_first_list (Guard why) = Settings
 exit_of_first_list NoMemory = Device
 

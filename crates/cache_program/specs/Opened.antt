@@ -1,16 +1,16 @@
--- What the system answers: what a path leads to, what listens, and which second it is. What it has to do with the system's
+-- What the system answers: what paths lead to, what listens, and which second it is. What it has to do with the system's
 -- files, sockets and clock is trusted.
-use Rattle.std.specs.Prelude.{◌≡◌, ℕ, List, Option, Some, None, Result, Ok, Err}
+use Rattle.std.specs.Prelude.{◌≡◌, ℕ, List, Option, Result, Ok, option_map, string_bytes}
 use Rattle.wires.specs.Wires.{WireState}
+use Rattle.payload_sources.specs.OpenedSources.{Opens}
+use Rattle.payload_sources.specs.PayloadSources.{SourceTexts}
+use Rattle.payload_sources.specs.declared.fault.SourceFile.{SourceFile}
+use Rattle.cache_settings.specs.declared.settings.CacheSettings.{CacheSettings}
 
--- what opening has led to: no file, or one with this text, where that is known
-abbrev pub opened : {L E : Type 0} → (L → Option (List ℕ)) → Result L E → Option (Option (List ℕ))
-opened remaining (Ok file) = Some (remaining file)
-opened remaining (Err why) = None
-
--- so it is of some answer
-abbrev pub Gives : {L E : Type 0} → (Result L E → Type 0) → (L → Option (List ℕ)) → Option (Option (List ℕ)) → Type 0
-Gives {L} {E} Answers remaining list = (file : Result L E) × Answers file × (list ≡ opened remaining file)
+-- the texts of the settings' files, the list and the SLURM file where there is one, or which of them couldn't be opened, as
+-- answers to their paths have it
+abbrev pub Gives : {L E : Type 0} → (List ℕ → Result L E → Type 0) → (L → Option (List ℕ)) → CacheSettings → Result SourceTexts SourceFile → Type 0
+Gives Answers remaining settings sources = Opens Answers remaining (string_bytes settings.csv) (option_map string_bytes settings.slurm) sources
 
 -- the wire is one that is answered
 abbrev pub Listens : {W E : Type 0} → (Result W E → Type 0) → (W → WireState) → WireState → Type 0
@@ -21,8 +21,8 @@ abbrev pub Tells : {E : Type 0} → (Result ℕ E → Type 0) → ℕ → Type 0
 Tells Answers second = Answers (Ok second)
 
 -- whatever the system answers
-abbrev pub AnyList : Option (Option (List ℕ)) → Type 0
-AnyList list = Unit {0}
+abbrev pub AnyList : Result SourceTexts SourceFile → Type 0
+AnyList sources = Unit {0}
 
 abbrev pub AnyWire : WireState → Type 0
 AnyWire wire = Unit {0}

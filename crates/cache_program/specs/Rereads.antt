@@ -1,20 +1,19 @@
 -- Reading the list again (own): a list that can't be had, or that a guard refuses, leaves everything as it is, and any other
 -- is published, unless it is the one that is served.
-use Rattle.std.specs.Prelude.{◌≡◌, ℕ, Bool, true, false, List, [], ◌∷◌, Option, Some, None, Result, Ok, is_some, length}
+use Rattle.std.specs.Prelude.{◌≡◌, ℕ, Bool, true, false, List, [], ◌∷◌, Option, Some, None, Result, Ok, Err, is_some, length}
 use Rattle.list_guards.specs.Guarding.{guard_fault}
 use Rattle.list_guards.specs.declared.GuardFault.{GuardFault}
 use Rattle.list_guards.specs.declared.Guards.{Guards}
 use Rattle.net_prefix.specs.declared.payload.Vrp.{Vrp}
-use Rattle.payload_lists.specs.PayloadLists.{IsListOf, IsRefusedAs}
-use Rattle.payload_lists.specs.declared.fault.PayloadListFault.{PayloadListFault}
+use Rattle.payload_sources.specs.PayloadSources.{IsRefused, IsSetOf, SourceTexts}
+use Rattle.payload_sources.specs.declared.fault.SourceFile.{SourceFile}
 use Rattle.rtr_cache.specs.CacheState.{tells_serial}
 use Rattle.rtr_cache.specs.ClientHistory.{Loaded as Loads, Makes}
-use Rattle.vrp_csv.specs.declared.list.Loaded.{Loaded}
 use Rattle.vrp_delta.specs.Versions.{Version, is_newest_set, newest_serial, serial_after}
 use Rattle.cache_turns.specs.Turns.{TakesTurn, Turns}
 use Rattle.wires.specs.declared.fault.LoopFault.{LoopFault}
 use Rattle.cache_program.specs.declared.reread.ListFault.{ListFault}
-use Rattle.cache_program.specs.declared.reread.ListFault.TheVariants.{NoFile, List as OfList, Guard, NoMemory}
+use Rattle.cache_program.specs.declared.reread.ListFault.TheVariants.{NoFile, Source, Guard, NoMemory}
 use Rattle.cache_program.specs.declared.reread.Reread.{Reread}
 use Rattle.cache_program.specs.declared.reread.Reread.TheVariants.{Refused, Same, Published}
 
@@ -54,28 +53,18 @@ served_set served = newest_set (versions served)
 abbrev pub fault_of_guards : Served → List Vrp → Option GuardFault
 fault_of_guards served set = guard_fault served.guards (served_set served) set
 
--- the set is that of the list that the text spells; of a file whose text isn't known nothing is said
-abbrev pub IsSetOfText : Option (List ℕ) → List Vrp → Type 0
-IsSetOfText file set =
-    (text : List ℕ) → file ≡ Some text
-    → (loaded : Loaded) × IsListOf text loaded × (set ≡ loaded.set.keys)
-
--- the list of the text is refused so
-abbrev pub IsRefusedText : Option (List ℕ) → PayloadListFault → Type 0
-IsRefusedText file refused = (text : List ℕ) → file ≡ Some text → IsRefusedAs text refused
-
--- so the guards judge the set of the list that the text spells
-pub record IsGuarded (file : Option (List ℕ)) (served : Served) (fault : Option GuardFault) : Type 0 where
+-- so the guards judge the set of the list that the text spells, under the exceptions of the SLURM file where there is one
+pub record IsGuarded (sources : SourceTexts) (served : Served) (fault : Option GuardFault) : Type 0 where
   pub set : List Vrp
-  pub of_text : IsSetOfText file set
+  pub of_text : IsSetOf sources set
   pub judged : fault_of_guards served set ≡ fault
 
--- why the list of a file that was opened can't be had: a fault of it, a guard, or that memory was refused to a list that passed
-abbrev pub IsNoList : Option (List ℕ) → Served → ListFault → Type 0
-IsNoList file served NoFile = ⊥
-IsNoList file served (OfList refused) = IsRefusedText file refused
-IsNoList file served (Guard why) = IsGuarded file served (Some why)
-IsNoList file served NoMemory = IsGuarded file served None
+-- why the set of files that were opened can't be had: a fault of one, a guard, or that memory was refused to a set that passed
+abbrev pub IsNoList : SourceTexts → Served → ListFault → Type 0
+IsNoList sources served (NoFile file) = ⊥
+IsNoList sources served (Source refused) = IsRefused sources refused
+IsNoList sources served (Guard why) = IsGuarded sources served (Some why)
+IsNoList sources served NoMemory = IsGuarded sources served None
 
 -- the set is handed to the cache, which changes nothing else: what it serves behind that has this serial, and was read at
 -- this moment
@@ -90,8 +79,8 @@ pub record HandsIn (now : ℕ) (set : List Vrp) (old : Served) (under : ℕ) (ne
 
 -- why a set isn't handed in: a guard, or that there is no memory for one that passed
 abbrev pub IsKeptOut : List Vrp → Served → ListFault → Type 0
-IsKeptOut set served NoFile = ⊥
-IsKeptOut set served (OfList refused) = ⊥
+IsKeptOut set served (NoFile file) = ⊥
+IsKeptOut set served (Source refused) = ⊥
 IsKeptOut set served (Guard why) = fault_of_guards served set ≡ Some why
 IsKeptOut set served NoMemory = fault_of_guards served set ≡ None
 
@@ -104,26 +93,26 @@ Publishes now set old Same new =
 Publishes now set old (Published serial) new =
     (is_newest_set (versions old) set ≡ false) × (serial ≡ serial_after (newest_serial (versions old))) × HandsIn now set old serial new
 
--- what reading a file that was opened has led to: nothing, since its list can't be had, or the set that it spells was
--- handed in
-abbrev pub RereadsFile : ℕ → Option (List ℕ) → Served → Reread → Served → Type 0
-RereadsFile now file old (Refused why) new = IsNoList file old why × (new ≡ old)
-RereadsFile now file old Same new = (set : List Vrp) × IsSetOfText file set × Publishes now set old Same new
-RereadsFile now file old (Published serial) new = (set : List Vrp) × IsSetOfText file set × Publishes now set old (Published serial) new
+-- what reading files that were opened has led to: nothing, since their set can't be had, or it was handed in
+abbrev pub RereadsFile : ℕ → SourceTexts → Served → Reread → Served → Type 0
+RereadsFile now sources old (Refused why) new = IsNoList sources old why × (new ≡ old)
+RereadsFile now sources old Same new = (set : List Vrp) × IsSetOf sources set × Publishes now set old Same new
+RereadsFile now sources old (Published serial) new = (set : List Vrp) × IsSetOf sources set × Publishes now set old (Published serial) new
 
--- what reading the list again has led to: nothing, where its file couldn't be opened, or what reading the file has
-abbrev pub Rereads : ℕ → Option (Option (List ℕ)) → Served → Reread → Served → Type 0
-Rereads now None old answer new = (answer ≡ Refused NoFile) × (new ≡ old)
-Rereads now (Some file) old answer new = RereadsFile now file old answer new
+-- what reading the list again has led to: nothing, where a file couldn't be opened, or what reading the files has
+abbrev pub Rereads : ℕ → Result SourceTexts SourceFile → Served → Reread → Served → Type 0
+Rereads now (Err file) old answer new = (answer ≡ Refused (NoFile file)) × (new ≡ old)
+Rereads now (Ok sources) old answer new = RereadsFile now sources old answer new
 
--- the list is read again just where it is due: it is what the system gives at its path then
-abbrev pub RereadsWhenDue : (Option (Option (List ℕ)) → Type 0) → Bool → ℕ → Served → Option Reread → Served → Type 0
+-- the list is read again just where it is due, and the SLURM file where there is one: they are what the system gives at their
+-- paths then
+abbrev pub RereadsWhenDue : (Result SourceTexts SourceFile → Type 0) → Bool → ℕ → Served → Option Reread → Served → Type 0
 RereadsWhenDue Lists false now old answer new = (answer ≡ None) × (new ≡ old)
 RereadsWhenDue Lists true now old answer new =
-    (led : Reread) × (answer ≡ Some led) × (list : Option (Option (List ℕ))) × Lists list × Rereads now list old led new
+    (led : Reread) × (answer ≡ Some led) × (sources : Result SourceTexts SourceFile) × Lists sources × Rereads now sources old led new
 
 -- what is done at a moment: the list is read again where it is due, and then a turn is taken
-pub record ServesAt (Lists : Option (Option (List ℕ)) → Type 0) (is_due : Bool) (now : ℕ) (old : Served) (answer : Option Reread) (result : Result (Unit {0}) LoopFault) (new : Served) : Type 0 where
+pub record ServesAt (Lists : Result SourceTexts SourceFile → Type 0) (is_due : Bool) (now : ℕ) (old : Served) (answer : Option Reread) (result : Result (Unit {0}) LoopFault) (new : Served) : Type 0 where
   pub between : Served
   pub rereads : RereadsWhenDue Lists is_due now old answer between
   pub takes : TakesTurn now between.turns result new.turns

@@ -1,12 +1,12 @@
 //! What the main of `ovcache` does.
-ghost use Rattle.std.specs.Prelude.{◌≡◌, ◌≤◌, [], ◌∷◌, ℕ, List, Option, Ok, IfErr, IfOk, MatchResult, OnErr, OnOk, false, if◌then◌else◌, length, string_bytes};
+ghost use Rattle.std.specs.Prelude.{◌≡◌, ◌≤◌, [], ◌∷◌, ℕ, List, Option, Ok, IfErr, IfOk, MatchResult, OnErr, OnOk, false, if◌then◌else◌, length};
 ghost use Rattle.clocks.specs.Moments.{IsNotBefore};
 ghost use Rattle.std.specs.Fn.{FnReturnsAt};
 ghost use Rattle.toml.specs.Data.{Members};
 ghost use Rattle.std.specs.Result.{IsErrAnd};
 ghost use Rattle.program_endings.specs.Asides.{Asks};
 ghost use Rattle.program_endings.specs.declared.aside.Aside.{Aside};
-ghost use Rattle.net_prefix.specs.declared.payload.Vrp.{Vrp};
+ghost use Rattle.payload_sources.specs.PayloadSources.{SourceTexts};
 ghost use Rattle.cache_program.specs.Endings.{IsOfWords, status_at_end};
 ghost use Rattle.cache_program.specs.Checked.{IsChecked, IsCheckedBy};
 ghost use Rattle.cache_program.specs.FirstList.{Passes};
@@ -23,9 +23,10 @@ ghost use Rattle.wires.specs.Wires.{WireState};
 
 use crate::every::Every;
 use crate::fault::CacheFault;
+use crate::files::{path_of, slurm_path};
 use crate::help::{HELP, VERSION};
 use crate::journal::{LogLine, log};
-use crate::loading::{first_set, load_cache};
+use crate::loading::{first_set, load_cache, opened_files};
 use crate::reread::Reread;
 use crate::served_list::ServedList;
 use crate::watched::Watched;
@@ -33,6 +34,7 @@ use cache_settings::CacheSettings;
 use cache_turns::CacheLoop;
 use clocks::{MonotonicClock, SecondsClock};
 use net_wires::{NetWire, REST_MILLISECONDS};
+use payload_sources::SourceSet;
 use program_endings::{Aside, aside_of, end, print, read_words};
 use rtr_cache::Cache;
 use std::alloc::{AllocGlobal, Global};
@@ -125,37 +127,36 @@ where
     }
 }
 
-// Reads the settings of this path and their list, and tells what they are.
+// Reads the settings of this path and their files, and tells what they are.
 fn check<R, O: Write>(rt: &R, path: &str, output: &mut O) -> Result<(), CacheFault>
 where
     R: Files + AllocGlobal,
     ensures { OnOk result IsChecked }
 {
     let settings = read_settings(rt, path)?;
-    let payloads = checked_list(rt, &settings)?;
+    let read = checked_files(rt, &settings)?;
     let address = settings.listen;
+    if let Err(error) = writeln!(output, "{path}: settings that listen at {address}") {
+        return Err(CacheFault::Output(error));
+    }
     let csv = settings.csv.as_str();
-    let written = write!(
-        output,
-        "{path}: settings that listen at {address}\n{csv}: a list of {payloads} payloads\n"
-    );
-    written.map_err(CacheFault::Output)
+    let told = read.tell(csv, slurm_path(&settings), output);
+    told.map_err(CacheFault::Output)
 }
 
-// How many payloads the list of the settings has, which may be served first.
-fn checked_list<R>(rt: &R, settings: &CacheSettings) -> Result<usize, CacheFault>
+// The set of the settings' files, which may be served first.
+fn checked_files<R>(rt: &R, settings: &CacheSettings) -> Result<SourceSet, CacheFault>
 where
     R: Files + AllocGlobal,
-    ensures { IfOk result (λ payloads. (file : Option (List ℕ)) × (set : List Vrp) × Passes settings.now.guards file set × (payloads ≡ length set)) }
+    ensures { IfOk result (λ read. (sources : SourceTexts) × Passes settings.now.guards sources read.set.keys) }
 {
-    let path = settings.csv.as_str();
-    let list = match fs::open(rt, path) {
-        Ok(list) => list,
-        Err(error) => return Err(CacheFault::unread(rt.alloc(), path, error)),
-    };
-    match first_set(rt.alloc(), &settings.guards, list) {
-        Ok(set) => Ok(set.len()),
-        Err(why) => Err(CacheFault::bad_list(rt.alloc(), path, why)),
+    let files = opened_files(rt.alloc(), settings, &|path: &str| fs::open(rt, path))?;
+    match first_set(rt.alloc(), &settings.guards, files) {
+        Ok(read) => Ok(read),
+        Err(why) => {
+            let path = path_of(settings, why.file());
+            Err(CacheFault::bad_list(rt.alloc(), path, why))
+        }
     }
 }
 
@@ -184,7 +185,7 @@ where
     // Where all went well, the settings of some file were served for just the turns of the words.
     ensures serves { OnOk result ((path : List ℕ) × (turns : ℕ) × (octets : List ℕ) × (table : Members) × (settings : CacheSettings) × (served : Served)
         × IsCall words.now path turns × IsTableOf octets table × IsToldBy table settings
-        × IsServed (Gives (FnReturnsAt F.Fn opens (string_bytes settings.csv)) L.remaining) (Listens (G.post listens settings.listen) W.state) (Tells (S.post tells)) settings turns (C.readings clock.old) (C.readings clock.new) served) }
+        × IsServed (Gives (FnReturnsAt F.Fn opens) L.remaining settings) (Listens (G.post listens settings.listen) W.state) (Tells (S.post tells)) settings turns (C.readings clock.old) (C.readings clock.new) served) }
 {
     let (path, turns) = call_of(words)?;
     let settings = read_settings(rt, path)?;
@@ -237,8 +238,8 @@ fn settings_in(alloc: Global, path: &str, octets: &[u8]) -> Result<CacheSettings
 }
 
 /// Serves the list of these settings for so many turns, each at the moment that the clock tells for it: the list is read
-/// before the first, and again between two of them, as `ServedList::serve` says of each. It is what `opens` answers at its
-/// path; the wire is what `listens` answers at the address where the settings listen, and `tells` is the second of the start,
+/// before the first, and again between two of them, as `ServedList::serve` says of each, under the exceptions of the SLURM
+/// file where there is one. The files are what `opens` answers at their paths; the wire is what `listens` answers at the address where the settings listen, and `tells` is the second of the start,
 /// since 1970. Nothing is written to the output where they ask for no log.
 pub fn serve_cache<R, O: Write, C: SecondsClock, L: Read + Drop, W: Wire + Watched + Drop, F, G, S>(
     rt: &R,
@@ -260,7 +261,7 @@ where
     requires tells { S.IsAlwaysCallable tells }
     ensures fault { IfErr result (λ fault. ¬ (IsOfWords fault)) }
     ensures quiet { settings.now.log ≡ false → output.new ≡ output.old }
-    ensures serves { OnOk result ((served : Served) × IsServed (Gives (FnReturnsAt F.Fn opens (string_bytes settings.now.csv)) L.remaining) (Listens (G.post listens settings.now.listen) W.state) (Tells (S.post tells)) settings.now turns (C.readings clock.old) (C.readings clock.new) served) }
+    ensures serves { OnOk result ((served : Served) × IsServed (Gives (FnReturnsAt F.Fn opens) L.remaining settings.now) (Listens (G.post listens settings.now.listen) W.state) (Tells (S.post tells)) settings.now turns (C.readings clock.old) (C.readings clock.new) served) }
 {
     let mut served = begin(rt, settings, output, &opens, listens, tells)?;
     // The moment 0, from which the list is read again.
@@ -286,7 +287,7 @@ where
     requires listens { G.IsAlwaysCallable listens }
     requires tells { S.IsAlwaysCallable tells }
     ensures fault { IfErr result (λ fault. ¬ (IsOfWords fault)) }
-    ensures begins { IfOk result (IsBegun (Gives (FnReturnsAt F.Fn opens.now (string_bytes settings.now.csv)) L.remaining) (Listens (G.post listens settings.now.listen) W.state) (Tells (S.post tells)) settings.now) }
+    ensures begins { IfOk result (IsBegun (Gives (FnReturnsAt F.Fn opens.now) L.remaining settings.now) (Listens (G.post listens settings.now.listen) W.state) (Tells (S.post tells)) settings.now) }
     ensures quiet { settings.now.log ≡ false → output.new ≡ output.old }
 {
     let second = tells().map_err(CacheFault::Clock)?;
@@ -332,7 +333,7 @@ where
     requires { F.IsAlwaysCallable opens.now }
     ensures fault { IfErr result (λ fault. ¬ (IsOfWords fault)) }
     ensures quiet { settings.now.log ≡ false → output.new ≡ output.old }
-    ensures turns { OnOk result (ServesSoMany (Gives (FnReturnsAt F.Fn opens.now (string_bytes settings.now.csv)) L.remaining) settings.now.reread turns (C.readings clock.old) (C.readings clock.new) served.old served.new) }
+    ensures turns { OnOk result (ServesSoMany (Gives (FnReturnsAt F.Fn opens.now) L.remaining settings.now) settings.now.reread turns (C.readings clock.old) (C.readings clock.new) served.old served.new) }
 {
     let mut reread = Every::new(settings.reread);
     let mut status = Every::new(settings.status);
@@ -380,9 +381,9 @@ where
     ensures fault { IfErr result (λ fault. ¬ (IsOfWords fault)) }
     ensures quiet { settings.now.log ≡ false → output.new ≡ output.old }
     ensures due { reread.new ≡ record reread.old { last = if have_passed reread.old.seconds reread.old.last now then now else reread.old.last } }
-    ensures serves { OnOk result (ServesOnce (Gives (FnReturnsAt F.Fn opens.now (string_bytes settings.now.csv)) L.remaining) (have_passed reread.old.seconds reread.old.last now) now served.old served.new) }
+    ensures serves { OnOk result (ServesOnce (Gives (FnReturnsAt F.Fn opens.now) L.remaining settings.now) (have_passed reread.old.seconds reread.old.last now) now served.old served.new) }
 {
-    let (led, turned) = served.serve(rt.alloc(), now, reread, settings.csv.as_str(), opens);
+    let (led, turned) = served.serve(rt.alloc(), now, reread, settings, opens);
     if let Some(led) = led {
         tell_list(rt, settings.log, led, served.payloads(), output);
     }
@@ -396,7 +397,10 @@ fn tell_list<R: Clock, O: Write>(rt: &R, is_on: bool, led: Reread, payloads: usi
     ensures { is_on ≡ false → output.new ≡ output.old }
 {
     let line = match led {
-        Reread::Refused(why) => LogLine::Refused(why),
+        Reread::Refused(why) => LogLine::Refused {
+            file: why.file(),
+            why,
+        },
         Reread::Same => return,
         Reread::Published(serial) => LogLine::Loaded { serial, payloads },
     };

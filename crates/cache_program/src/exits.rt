@@ -1,45 +1,10 @@
 //! What faults of the list and of the cache are to the program.
 ghost use Rattle.std.specs.Prelude.{◌≡◌, ◌≢◌};
-ghost use Rattle.cache_program.specs.Exits.{exit_of_first_list, exit_of_json, exit_of_list, exit_of_refusal, exit_of_row};
+ghost use Rattle.cache_program.specs.Exits.{exit_of_first_list, exit_of_refusal};
 
 use crate::reread::ListFault;
-use payload_lists::PayloadListFault;
 use program_endings::ExitFault;
 use rtr_cache::CacheRefusal;
-use vrp_csv::RowFault;
-use vrp_json::JsonFault;
-
-/// What ends the program where its list is refused.
-pub fn of_list(refused: PayloadListFault) -> ExitFault
-    ensures exit { result ≡ exit_of_list refused }
-    ensures other { result ≢ ExitFault.Arguments }
-{
-    match refused {
-        PayloadListFault::Row(refused) => of_row(refused.fault),
-        PayloadListFault::Json(fault) => of_json(fault),
-        PayloadListFault::Io => ExitFault::Device,
-    }
-}
-
-fn of_row(fault: RowFault) -> ExitFault
-    ensures exit { result ≡ exit_of_row fault }
-    ensures other { result ≢ ExitFault.Arguments }
-{
-    match fault {
-        RowFault::Io | RowFault::NoMemory => ExitFault::Device,
-        _ => ExitFault::Settings,
-    }
-}
-
-fn of_json(fault: JsonFault) -> ExitFault
-    ensures exit { result ≡ exit_of_json fault }
-    ensures other { result ≢ ExitFault.Arguments }
-{
-    match fault {
-        JsonFault::NoMemory => ExitFault::Device,
-        _ => ExitFault::Settings,
-    }
-}
 
 /// What ends the program where its first list can't be had.
 pub fn of_first_list(why: ListFault) -> ExitFault
@@ -47,9 +12,9 @@ pub fn of_first_list(why: ListFault) -> ExitFault
     ensures other { result ≢ ExitFault.Arguments }
 {
     match why {
-        ListFault::List(refused) => of_list(refused),
+        ListFault::Source(why) => why.exit(),
         ListFault::Guard(_) => ExitFault::Settings,
-        ListFault::NoFile | ListFault::NoMemory => ExitFault::Device,
+        ListFault::NoFile(_) | ListFault::NoMemory => ExitFault::Device,
     }
 }
 

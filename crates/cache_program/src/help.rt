@@ -12,6 +12,7 @@ ovcache --help, --version
 The keys of SETTINGS, a file in TOML:
 listen         address and port where routers connect, as \"[::]:323\"
 csv            path of the payload list, in CSV or JSON
+slurm          path of a SLURM file (RFC 8416), under whose exceptions the list is served (none)
 session        session id, 0 to 65535, or \"clock\"
 other_session  what a query of another session is answered with, \"report\" or \"reset\" (\"report\")
 refresh        seconds, 1 to 86400 (3600)

@@ -4,6 +4,7 @@ ghost use Rattle.std.specs.Prelude.{◌≡◌, false};
 use crate::reread::ListFault;
 use jiff::Timestamp;
 use net_wires::RouterEvent;
+use payload_sources::SourceFile;
 use std::io::{self, Write};
 use std::rt::Clock;
 use std::time::SystemTime;
@@ -18,9 +19,12 @@ pub enum LogLine {
         serial: u32,
         payloads: usize,
     },
-    /// A list can't be had.
-    #[error("list refused: {0}")]
-    Refused(ListFault),
+    /// A list can't be had, by the fault of this file.
+    #[error("{file} refused: {why}")]
+    Refused {
+        file: SourceFile,
+        why: ListFault,
+    },
     /// The list's file was written longer ago than it may be.
     #[error("list old: written {seconds} seconds ago, and {most} may be")]
     Old {

@@ -15,6 +15,7 @@ mod cache_main;
 mod every;
 mod exits;
 mod fault;
+mod files;
 mod help;
 mod journal;
 mod laws;
@@ -25,7 +26,7 @@ mod watched;
 
 pub use cache_main::{main_cache, serve_cache};
 pub use every::Every;
-pub use exits::{of_first_list, of_list, of_refusal};
+pub use exits::{of_first_list, of_refusal};
 pub use fault::CacheFault;
 pub use journal::LogLine;
 pub use laws::{no_fewer_are_served_than_are_wanted, served_turns_are_steps};

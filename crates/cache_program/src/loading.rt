@@ -1,28 +1,29 @@
 //! The cache of settings, and the list with which it begins.
-ghost use Rattle.std.specs.Prelude.{◌≡◌, [], IfErr, IfOk, MatchResult, None, Some, false, string_bytes};
+ghost use Rattle.std.specs.Prelude.{◌≡◌, [], IfErr, IfOk, MatchResult, None, Ok, Some, false};
 ghost use Rattle.std.specs.Fn.{FnReturnsAt};
-ghost use Rattle.list_guards.specs.Guarding.{guard_fault};
 ghost use Rattle.cache_program.specs.CacheOfSettings.{IsCacheOf, IsSessionOf};
-ghost use Rattle.cache_program.specs.FirstList.{IsFirst, IsNoFirst, IsRefusedFirst, Passes};
+ghost use Rattle.cache_program.specs.FirstList.{IsFirst, IsNoFirst, Passes};
 ghost use Rattle.cache_program.specs.Endings.{IsOfWords};
+ghost use Rattle.payload_sources.specs.PayloadSources.{texts_of};
 ghost use Rattle.cache_program.specs.Opened.{Gives};
 ghost use Rattle.vrp_delta.specs.Versions.{kept_after, newest_serial};
 
 use crate::fault::CacheFault;
+use crate::files::{open_files, path_of};
 use crate::journal::{LogLine, log};
 use crate::reread::ListFault;
 use cache_settings::{CacheSettings, SessionSource};
 use list_guards::Guards;
 use net_prefix::Vrp;
-use payload_lists::read_payloads;
+use payload_sources::{SourceSet, Sources, read_sources};
 use rtr_cache::{Cache, CacheEvent};
 use std::alloc::{AllocGlobal, Global};
 use std::collections::BTreeSet;
 use std::io::{self, Read, Write};
 use std::rt::Clock;
 
-/// The cache of the settings, begun in this second since 1970, with the list that is opened at their path: its serial, and
-/// its payloads.
+/// The cache of the settings, begun in this second since 1970, with the set of the files that are opened at their paths: its
+/// serial, and its payloads.
 pub(crate) fn load_cache<R: Clock + AllocGlobal, O: Write, L: Read + Drop, F>(
     rt: &R,
     settings: &CacheSettings,
@@ -35,7 +36,7 @@ where
     requires { F.IsAlwaysCallable opens.now }
     ensures fault { IfErr result (λ fault. ¬ (IsOfWords fault)) }
     ensures cache { IfOk result (λ loaded. IsCacheOf settings.now second loaded.0) }
-    ensures first { IfOk result (λ loaded. IsFirst (Gives (FnReturnsAt F.Fn opens.now (string_bytes settings.now.csv)) L.remaining) settings.now.guards loaded.0.shared.kept loaded.1 loaded.2.keys) }
+    ensures first { IfOk result (λ loaded. IsFirst (Gives (FnReturnsAt F.Fn opens.now) L.remaining settings.now) settings.now.guards loaded.0.shared.kept loaded.1 loaded.2.keys) }
     ensures quiet { settings.now.log ≡ false → output.new ≡ output.old }
 {
     let mut cache = made_cache(rt.alloc(), settings, second)?;
@@ -85,11 +86,11 @@ where
     requires none { cache.old.shared.kept ≡ [] }
     ensures fault { IfErr result (λ fault. ¬ (IsOfWords fault)) }
     ensures terms { IfOk result (λ loaded. cache.new.shared ≡ record cache.old.shared { kept = cache.new.shared.kept }) }
-    ensures first { IfOk result (λ loaded. IsFirst (Gives (FnReturnsAt F.Fn opens.now (string_bytes settings.now.csv)) L.remaining) settings.now.guards cache.new.shared.kept loaded.0 loaded.1.keys) }
+    ensures first { IfOk result (λ loaded. IsFirst (Gives (FnReturnsAt F.Fn opens.now) L.remaining settings.now) settings.now.guards cache.new.shared.kept loaded.0 loaded.1.keys) }
     ensures quiet { settings.now.log ≡ false → output.new ≡ output.old }
 {
-    let list = opened_list(rt.alloc(), settings.csv.as_str(), opens)?;
-    let set = read_told(rt, settings, list, output)?;
+    let files = opened_files(rt.alloc(), settings, opens)?;
+    let set = read_told(rt, settings, files, output)?;
     let serial = publish(cache, &set)?;
     let payloads = set.len();
     log(
@@ -101,60 +102,62 @@ where
     Ok((serial, set))
 }
 
-// The list that is opened at a path.
-fn opened_list<L: Read + Drop, F>(alloc: Global, path: &str, opens: &F) -> Result<L, CacheFault>
+/// The files that are opened at the paths of the settings.
+pub(crate) fn opened_files<L: Read + Drop, F>(
+    alloc: Global,
+    settings: &CacheSettings,
+    opens: &F,
+) -> Result<Sources<L>, CacheFault>
 where
     F: Fn(&str) -> io::Result<L>,
     requires { F.IsAlwaysCallable opens.now }
     ensures fault { IfErr result (λ fault. ¬ (IsOfWords fault)) }
-    ensures given { IfOk result (λ list. Gives (FnReturnsAt F.Fn opens.now path.now) L.remaining (Some (L.remaining list))) }
+    ensures given { IfOk result (λ files. Gives (FnReturnsAt F.Fn opens.now) L.remaining settings.now (Ok (texts_of L.remaining files.list files.slurm))) }
 {
-    match opens(path) {
-        Ok(list) => Ok(list),
-        Err(error) => Err(CacheFault::unread(alloc, path, error)),
-    }
-}
-
-// The set of a file's list; where it can't be had, the log tells why.
-fn read_told<R: Clock + AllocGlobal, L: Read + Drop, O: Write>(
-    rt: &R,
-    settings: &CacheSettings,
-    list: L,
-    output: &mut O,
-) -> Result<BTreeSet<Vrp>, CacheFault>
-    ensures fault { IfErr result (λ fault. ¬ (IsOfWords fault)) }
-    ensures set { IfOk result (λ set. Passes settings.now.guards (L.remaining list) set.keys) }
-    ensures quiet { settings.now.log ≡ false → output.new ≡ output.old }
-{
-    match first_set(rt.alloc(), &settings.guards, list) {
-        Ok(set) => Ok(set),
-        Err(why) => {
-            log(rt, settings.log, output, LogLine::Refused(why));
-            Err(CacheFault::bad_list(rt.alloc(), settings.csv.as_str(), why))
+    match open_files(settings, opens) {
+        Ok(files) => Ok(files),
+        Err(unopened) => {
+            let path = path_of(settings, unopened.file);
+            Err(CacheFault::unread(alloc, path, unopened.error))
         }
     }
 }
 
-/// The set of a file's list, where it is a list and the guards let it be served first.
-pub(crate) fn first_set<L: Read + Drop>(
-    alloc: Global,
-    guards: &Guards,
-    list: L,
-) -> Result<BTreeSet<Vrp>, ListFault>
-    ensures { MatchResult result (λ set. Passes guards.now (L.remaining list) set.keys) (λ why. IsNoFirst guards.now (L.remaining list) why) }
+// The set of files; where it can't be had, the log tells why.
+fn read_told<R: Clock + AllocGlobal, L: Read + Drop, O: Write>(
+    rt: &R,
+    settings: &CacheSettings,
+    files: Sources<L>,
+    output: &mut O,
+) -> Result<BTreeSet<Vrp>, CacheFault>
+    ensures fault { IfErr result (λ fault. ¬ (IsOfWords fault)) }
+    ensures set { IfOk result (λ set. Passes settings.now.guards (texts_of L.remaining files.list files.slurm) set.keys) }
+    ensures quiet { settings.now.log ≡ false → output.new ≡ output.old }
 {
-    match read_payloads(alloc, list) {
-        Ok(loaded) => guarded(alloc, guards, loaded.set),
-        Err(refused) => Err(ListFault::List(refused)),
+    match first_set(rt.alloc(), &settings.guards, files) {
+        Ok(read) => Ok(read.set),
+        Err(why) => {
+            let file = why.file();
+            log(rt, settings.log, output, LogLine::Refused { file, why });
+            Err(CacheFault::bad_list(rt.alloc(), path_of(settings, file), why))
+        }
     }
 }
 
-// The set, where the guards let it be served first.
-fn guarded(alloc: Global, guards: &Guards, set: BTreeSet<Vrp>) -> Result<BTreeSet<Vrp>, ListFault>
-    ensures { MatchResult result (λ passed. (passed ≡ set) × (guard_fault guards.now [] set.keys ≡ None)) (λ why. IsRefusedFirst guards.now set.keys why) }
+/// The set of files, where it can be had and the guards let it be served first.
+pub(crate) fn first_set<L: Read + Drop>(
+    alloc: Global,
+    guards: &Guards,
+    files: Sources<L>,
+) -> Result<SourceSet, ListFault>
+    ensures { MatchResult result (λ read. Passes guards.now (texts_of L.remaining files.list files.slurm) read.set.keys) (λ why. IsNoFirst guards.now (texts_of L.remaining files.list files.slurm) why) }
 {
-    match guards.judge(&BTreeSet::new(alloc), &set) {
-        Ok(()) => Ok(set),
+    let read = match read_sources(alloc, files) {
+        Ok(read) => read,
+        Err(refused) => return Err(ListFault::Source(refused)),
+    };
+    match guards.judge(&BTreeSet::new(alloc), &read.set) {
+        Ok(()) => Ok(read),
         Err(why) => Err(ListFault::Guard(why)),
     }
 }

@@ -1,23 +1,34 @@
 //! What reading the list again has led to.
 use list_guards::GuardFault;
-use payload_lists::PayloadListFault;
+use payload_sources::{SourceFault, SourceFile};
 use thiserror::Error;
 
 /// Why a list can't be had.
 #[derive(Clone, Copy, Debug, PartialEq, Eq, Error)]
 pub enum ListFault {
-    /// The file can't be opened.
+    /// A file can't be opened.
     #[error("the file can't be opened")]
-    NoFile,
-    /// The list is refused, or reading failed.
+    NoFile(SourceFile),
+    /// A file is refused, or reading failed.
     #[error("{0}")]
-    List(PayloadListFault),
+    Source(SourceFault),
     /// A guard of the settings refuses it.
     #[error("{0}")]
     Guard(GuardFault),
     /// The cache has no memory for it.
     #[error("there is no memory to publish it")]
     NoMemory,
+}
+
+impl ListFault {
+    /// Whose fault it is.
+    pub fn file(self) -> SourceFile {
+        match self {
+            ListFault::NoFile(file) => file,
+            ListFault::Source(why) => why.file(),
+            ListFault::Guard(_) | ListFault::NoMemory => SourceFile::List,
+        }
+    }
 }
 
 /// What reading the list again has led to.

@@ -1,18 +1,21 @@
 //! A payload list that is served while its file changes.
-ghost use Rattle.std.specs.Prelude.{◌≡◌, None, Some, MatchResult, if◌then◌else◌, is_some, length, true};
+ghost use Rattle.std.specs.Prelude.{◌≡◌, Ok, Err, None, Some, MatchResult, if◌then◌else◌, is_some, length, true};
 ghost use Rattle.std.specs.Fn.{FnReturnsAt};
 ghost use Rattle.cache_turns.specs.Turns.{TakesTurn};
 ghost use Rattle.list_guards.specs.Guarding.{guard_fault};
-ghost use Rattle.cache_program.specs.Opened.{Gives, opened};
+ghost use Rattle.payload_sources.specs.PayloadSources.{texts_of};
+ghost use Rattle.cache_program.specs.Opened.{Gives};
 ghost use Rattle.cache_program.specs.Passing.{have_passed};
-ghost use Rattle.cache_program.specs.Rereads.{IsNewest, Publishes, Rereads, RereadsWhenDue, ServesAt, newest_set, served_set};
+ghost use Rattle.cache_program.specs.Rereads.{IsNewest, Publishes, Rereads, RereadsFile, RereadsWhenDue, ServesAt, newest_set, served_set};
 
 use crate::every::Every;
+use crate::files::open_files;
 use crate::reread::{ListFault, Reread};
+use cache_settings::CacheSettings;
 use cache_turns::CacheLoop;
 use list_guards::{GuardFault, Guards};
 use net_prefix::Vrp;
-use payload_lists::read_payloads;
+use payload_sources::{Sources, Unopened, read_sources};
 use std::alloc::Global;
 use std::collections::BTreeSet;
 use std::io::{self, Read};
@@ -72,21 +75,21 @@ impl<W: Wire + Drop> ServedList<W> {
         self.turns.turn(now)
     }
 
-    /// What is done at a moment: where the list is due, its path is opened and it is read again; then a turn is taken.
-    /// Answers what reading the list again has led to, where it was due, and what the turn has.
+    /// What is done at a moment: where the list is due, the files of the settings are opened and it is read again; then a turn
+    /// is taken. Answers what reading the list again has led to, where it was due, and what the turn has.
     pub fn serve<L: Read + Drop, F: Fn(&str) -> io::Result<L>>(
         &mut self,
         alloc: Global,
         now: u64,
         due: &mut Every,
-        path: &str,
+        settings: &CacheSettings,
         opens: &F,
     ) -> (Option<Reread>, Result<(), LoopFault>)
         requires { F.IsAlwaysCallable opens.now }
-        ensures serves { ServesAt (Gives (FnReturnsAt F.Fn opens.now path.now) L.remaining) (have_passed due.old.seconds due.old.last now) now self.old result.0 result.1 self.new }
+        ensures serves { ServesAt (Gives (FnReturnsAt F.Fn opens.now) L.remaining settings.now) (have_passed due.old.seconds due.old.last now) now self.old result.0 result.1 self.new }
         ensures due { due.new ≡ record due.old { last = if have_passed due.old.seconds due.old.last now then now else due.old.last } }
     {
-        let reread = self.reread_when_due(alloc, now, due, path, opens);
+        let reread = self.reread_when_due(alloc, now, due, settings, opens);
         (reread, self.turn(now))
     }
 
@@ -95,15 +98,15 @@ impl<W: Wire + Drop> ServedList<W> {
         alloc: Global,
         now: u64,
         due: &mut Every,
-        path: &str,
+        settings: &CacheSettings,
         opens: &F,
     ) -> Option<Reread>
         requires { F.IsAlwaysCallable opens.now }
-        ensures rereads { RereadsWhenDue (Gives (FnReturnsAt F.Fn opens.now path.now) L.remaining) (have_passed due.old.seconds due.old.last now) now self.old result self.new }
+        ensures rereads { RereadsWhenDue (Gives (FnReturnsAt F.Fn opens.now) L.remaining settings.now) (have_passed due.old.seconds due.old.last now) now self.old result self.new }
         ensures due { due.new ≡ record due.old { last = if have_passed due.old.seconds due.old.last now then now else due.old.last } }
     {
         if due.is_due(now) {
-            Some(self.reread(alloc, now, opens(path)))
+            Some(self.reread(alloc, now, open_files(settings, opens)))
         } else {
             None
         }
@@ -116,17 +119,28 @@ impl<W: Wire + Drop> ServedList<W> {
         self.turns.wait(most);
     }
 
-    /// Takes the list of a file that was opened again at this moment. A list that can't be had, or that a guard refuses,
-    /// changes nothing, and one that is served already publishes nothing.
-    pub fn reread<L: Read + Drop>(&mut self, alloc: Global, now: u64, file: io::Result<L>) -> Reread
-        ensures { Rereads now (opened L.remaining file) self.old result self.new }
+    /// Takes the set of files that were opened again at this moment. One that can't be had, or that a guard refuses, changes
+    /// nothing, and one that is served already publishes nothing.
+    pub fn reread<L: Read + Drop>(
+        &mut self,
+        alloc: Global,
+        now: u64,
+        sources: Result<Sources<L>, Unopened>,
+    ) -> Reread
+        ensures { MatchResult sources (λ files. Rereads now (Ok (texts_of L.remaining files.list files.slurm)) self.old result self.new) (λ unopened. Rereads now (Err unopened.file) self.old result self.new) }
     {
-        let Ok(file) = file else {
-            return Reread::Refused(ListFault::NoFile);
-        };
-        match read_payloads(alloc, file) {
-            Ok(loaded) => self.publish(now, loaded.set),
-            Err(refused) => Reread::Refused(ListFault::List(refused)),
+        match sources {
+            Ok(files) => self.reread_files(alloc, now, files),
+            Err(unopened) => Reread::Refused(ListFault::NoFile(unopened.file)),
+        }
+    }
+
+    fn reread_files<L: Read + Drop>(&mut self, alloc: Global, now: u64, files: Sources<L>) -> Reread
+        ensures { RereadsFile now (texts_of L.remaining files.list files.slurm) self.old result self.new }
+    {
+        match read_sources(alloc, files) {
+            Ok(read) => self.publish(now, read.set),
+            Err(refused) => Reread::Refused(ListFault::Source(refused)),
         }
     }
 

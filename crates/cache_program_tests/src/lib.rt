@@ -1,5 +1,5 @@
-//! Tests alone: a list that is read again while routers are served, and guarded, lists in either format, a day of
-//! `ovcache`, and its texts and statuses.
+//! Tests alone: a list that is read again while routers are served, and guarded, lists in either format and under the
+//! exceptions of SLURM files, a day of `ovcache`, and its texts and statuses.
 #![tactic(auto)]
 
 #[cfg(test)]
@@ -10,5 +10,7 @@ mod formats;
 mod guards;
 #[cfg(test)]
 mod rereads;
+#[cfg(test)]
+mod slurm;
 #[cfg(test)]
 mod statuses;

@@ -4,6 +4,7 @@ use cache_program::{ListFault, Reread, ServedList};
 use cache_turns::CacheLoop;
 use list_guards::Guards;
 use net_wires::NetWire;
+use payload_sources::{SourceFault, SourceFile, Sources, Unopened};
 use program_stages::lend;
 use rtr_cache::Cache;
 use rtr_codec::Intervals;
@@ -84,7 +85,8 @@ pub(crate) fn reread<W: Wire + Drop>(
     served: &mut ServedList<W>,
     text: &str,
 ) -> Reread {
-    served.reread(alloc, 0, Ok(text.as_bytes()))
+    let list = text.as_bytes();
+    served.reread(alloc, 0, Ok(Sources { list, slurm: None }))
 }
 
 // Whether the list is published under the serial when it is read again.
@@ -114,16 +116,19 @@ pub(crate) fn is_refused<W: Wire + Drop>(
 ) -> bool {
     matches!(
         reread(alloc, served, text),
-        Reread::Refused(ListFault::List(_))
+        Reread::Refused(ListFault::Source(SourceFault::List(_)))
     )
 }
 
 // Whether a list that isn't there is refused.
 fn is_missing<W: Wire + Drop>(alloc: Global, served: &mut ServedList<W>) -> bool {
-    let missing: io::Result<&[u8]> = Err(io::Error::from(ErrorKind::NotFound));
+    let missing: Result<Sources<&[u8]>, Unopened> = Err(Unopened {
+        file: SourceFile::List,
+        error: io::Error::from(ErrorKind::NotFound),
+    });
     matches!(
         served.reread(alloc, 0, missing),
-        Reread::Refused(ListFault::NoFile)
+        Reread::Refused(ListFault::NoFile(SourceFile::List))
     )
 }
 

@@ -1,5 +1,5 @@
 -- What a cache's settings are, key by key (own).
-use Rattle.std.specs.Prelude.{◌≡◌, ◌<◌, ◌≤◌, ◌^◌, ℕ, pos, true, false, List, [], ◌∷◌, Some, codes, string_bytes}
+use Rattle.std.specs.Prelude.{◌≡◌, ◌<◌, ◌≤◌, ◌^◌, ℕ, pos, true, false, List, [], ◌∷◌, Some, codes, option_map, string_bytes}
 use Rattle.toml.specs.Data.{Data, Members, as_integer, get_member}
 use Rattle.cache_turns.specs.declared.patience.Patience.{Patience}
 use Rattle.list_guards.specs.declared.Guards.{Guards}
@@ -80,7 +80,7 @@ terms_of settings = record {
 -- the keys of the settings
 abbrev pub keys_of_a_cache : List (List ℕ)
 keys_of_a_cache =
-    codes "listen" ∷ codes "csv" ∷ codes "session" ∷ codes "other_session" ∷ codes "refresh" ∷ codes "retry" ∷ codes "expire" ∷ codes "first" ∷ codes "idle" ∷ codes "min_payloads"
+    codes "listen" ∷ codes "csv" ∷ codes "slurm" ∷ codes "session" ∷ codes "other_session" ∷ codes "refresh" ∷ codes "retry" ∷ codes "expire" ∷ codes "first" ∷ codes "idle" ∷ codes "min_payloads"
     ∷ codes "max_shrink" ∷ codes "reread" ∷ codes "max_age" ∷ codes "log" ∷ codes "status" ∷ []
 
 -- the settings are what stands at their keys, and there are no others
@@ -88,4 +88,5 @@ pub record IsToldBy (table : Members) (settings : CacheSettings) : Type 0 where
   pub keys : HasNoKeyBut keys_of_a_cache table
   pub listen : IsTold IsAddress (get_member (codes "listen") table) settings.listen
   pub csv : IsTold IsText (get_member (codes "csv") table) (string_bytes settings.csv)
+  pub slurm : IsToldIfThere IsText (get_member (codes "slurm") table) (option_map string_bytes settings.slurm)
   pub terms : AreTerms table (terms_of settings)

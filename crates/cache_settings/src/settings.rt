@@ -1,11 +1,11 @@
 //! The settings of a cache.
-ghost use Rattle.std.specs.Prelude.{◌≡◌, ◌≤◌, ◌<◌, IfOk, IfSome, codes, true};
+ghost use Rattle.std.specs.Prelude.{◌≡◌, ◌≤◌, ◌<◌, IfOk, IfSome, codes, option_map, string_bytes, true};
 ghost use Rattle.toml.specs.Data.{Members, get_member};
 ghost use Rattle.toml.specs.View.{table_view};
 ghost use Rattle.rtr_cache.specs.declared.other_session.OtherSession.TheVariants.{Report};
 ghost use Rattle.rtr_codec.specs.Intervals.{are_lawful};
 ghost use Rattle.settings_keys.specs.Causes.{IsBad};
-ghost use Rattle.settings_keys.specs.Keys.{Answers, AnswersInMemory, IsNumber, IsTableOf, IsTold, IsToldIfThere, IsToldOrUsual};
+ghost use Rattle.settings_keys.specs.Keys.{Answers, AnswersInMemory, IsNumber, IsTableOf, IsText, IsTold, IsToldIfThere, IsToldOrUsual};
 ghost use Rattle.cache_settings.specs.ToldSettings.{AreGuards, AreIntervals, AreTerms, IsOtherSession, IsPatience, IsPerCent, IsSeconds, IsSession, IsToldBy};
 
 use cache_turns::Patience;
@@ -36,6 +36,8 @@ pub struct CacheSettings {
     pub listen: SocketAddr,
     /// The path of its payload list.
     pub csv: String,
+    /// The path of the SLURM file under whose exceptions it serves the list, if there is one.
+    pub slurm: Option<String>,
     /// Where its session id comes from.
     pub session: SessionSource,
     /// What it answers a Serial Query of another session with.
@@ -61,7 +63,7 @@ impl CacheSettings {
     /// `session`, a number of 16 bits or `"clock"`; and, where they are there, `other_session`, `"report"` or `"reset"`,
     /// `refresh`, `retry` and `expire`, in place of the usual intervals and lawful together, `first`, 1 at least, `idle`,
     /// above `refresh`, `reread`, `max_age` and `status`, 1 at least, and `min_payloads`, each a number of 32 bits, `max_shrink`,
-    /// up to 100, and `log`, a boolean. There are no keys of other names. Anything else is `Settings`.
+    /// up to 100, `log`, a boolean, and `slurm`, a text. There are no keys of other names. Anything else is `Settings`.
     pub fn read(alloc: Global, octets: &[u8]) -> Result<CacheSettings, SettingsFault>
         ensures told { AnswersInMemory (λ settings. (table : Members) × IsTableOf octets.now table × IsToldBy table settings) result }
         ensures intervals { IfOk result (λ settings. are_lawful settings.intervals ≡ true) }
@@ -85,10 +87,12 @@ impl CacheSettings {
         let listen = address_of(alloc, table, "listen")?;
         let path = text_of(alloc, table, "csv")?;
         let csv = String::from_str(alloc, path)?;
+        let slurm = path_if_told(alloc, table, "slurm")?;
         let terms = terms_of(alloc, table)?;
         Ok(CacheSettings {
             listen,
             csv,
+            slurm,
             session: terms.session,
             other_session: terms.other_session,
             intervals: terms.intervals,
@@ -103,9 +107,10 @@ impl CacheSettings {
 }
 
 // The keys of the settings.
-const KEYS: [&str; 15] = [
+const KEYS: [&str; 16] = [
     "listen",
     "csv",
+    "slurm",
     "session",
     "other_session",
     "refresh",
@@ -120,6 +125,17 @@ const KEYS: [&str; 15] = [
     "log",
     "status",
 ];
+
+// The path at a key, if the key is there.
+fn path_if_told(alloc: Global, table: &Table, key: &str) -> Result<Option<String>, SettingsFault>
+    ensures { AnswersInMemory (λ told. IsToldIfThere IsText (get_member key.now (table_view table.now)) (option_map string_bytes told)) result }
+{
+    if value_at(table, key).is_none() {
+        return Ok(None);
+    }
+    let path = text_of(alloc, table, key)?;
+    Ok(Some(String::from_str(alloc, path)?))
+}
 
 // The seconds that a key may have.
 const SECONDS: Wanted = Wanted::Number(1, u32::MAX);

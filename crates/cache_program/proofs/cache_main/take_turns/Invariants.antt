@@ -1,4 +1,4 @@
-use Rattle.std.proofs.Common.{◌≡◌, false, string_bytes}
+use Rattle.std.proofs.Common.{◌≡◌, false}
 use Rattle.std.specs.Fn.{FnReturnsAt}
 use Rattle.cache_program.proofs.ServedTurns.{AreServed}
 use Rattle.cache_program.specs.Opened.{Gives}
@@ -9,4 +9,4 @@ abbrev pub invariant-loop : goal.invariant-loop
 invariant-loop g l =
     (l.fn.settings.log ≡ false → l.output ≡ l.fn.output)
     × (l.reread.seconds ≡ l.fn.settings.reread)
-    × AreServed (Gives (FnReturnsAt g.F.Fn l.fn.opens (string_bytes l.fn.settings.csv)) g.L.Read.remaining) l.fn.settings.reread l.reread.last l.counter (g.C.SecondsClock.readings l.fn.clock) (g.C.SecondsClock.readings l.clock) l.fn.served l.served
+    × AreServed (Gives (FnReturnsAt g.F.Fn l.fn.opens) g.L.Read.remaining l.fn.settings) l.fn.settings.reread l.reread.last l.counter (g.C.SecondsClock.readings l.fn.clock) (g.C.SecondsClock.readings l.clock) l.fn.served l.served

@@ -1,6 +1,6 @@
 use Rattle.std.proofs.Common.{string_bytes}
 use Rattle.toml.specs.View.{table_view}
-use Rattle.settings_keys.proofs.Faults.{at_fault, in_memory, passes_on, starves, unknown_key}
+use Rattle.settings_keys.proofs.Faults.{at_fault, in_memory, passes_on, passes_on_in_memory, starves, unknown_key}
 use Rattle.cache_settings.specs.ToldSettings.{IsToldBy, terms_of}
 use Rattle.cache_settings.proofs.settings.CacheSettings.of.Goals as goal
 
@@ -28,3 +28,8 @@ pub returns-in_err-terms-clause-told : goal.returns-in_err-terms-clause-told
 returns-in_err-terms-clause-told c =
     let needs = IsToldBy (table_view c.args.table.now) in
     in_memory needs _ (passes_on _ needs c.from_residual-in_err-terms.result _ c.from_residual-in_err-terms.ensures.1 c.in_err-terms.ensures.told (λ none s told. none (terms_of s) told.terms))
+
+pub returns-in_err-slurm-clause-told : goal.returns-in_err-slurm-clause-told
+returns-in_err-slurm-clause-told c =
+    let needs = IsToldBy (table_view c.args.table.now) in
+    passes_on_in_memory _ needs c.from_residual-in_err-slurm.result _ c.from_residual-in_err-slurm.ensures.1 c.in_err-slurm.ensures (λ none s told. none s.slurm told.slurm)

@@ -1,0 +1,3 @@
+pub mod OpenedSources
+pub mod PayloadSources
+pub mod SourceExits

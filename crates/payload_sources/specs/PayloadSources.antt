@@ -1,0 +1,70 @@
+-- What files say of a cache's payloads: a payload list, under the exceptions of a SLURM file where there is one.
+use Rattle.std.specs.Prelude.{◌≡◌, ◌⊎◌, ℕ, List, Option, None, Some, Ok, Err, option_map, ⊤}
+use Rattle.net_prefix.specs.PayloadSets.{IsPayloadSet}
+use Rattle.net_prefix.specs.declared.payload.Vrp.{Vrp}
+use Rattle.payload_lists.specs.PayloadLists.{IsListOf, IsRefusedAs}
+use Rattle.payload_lists.specs.declared.fault.PayloadListFault.{PayloadListFault}
+use Rattle.vrp_csv.specs.declared.list.Loaded.{Loaded}
+use Rattle.local_exceptions.specs.ExceptionSets.{IsUnder}
+use Rattle.slurm_files.specs.SlurmDocument.{IsSlurm, Said}
+use Rattle.slurm_files.specs.declared.fault.SlurmFault.TheVariants.{NoMemory}
+use Rattle.payload_sources.specs.declared.fault.SourceFault.{SourceFault}
+use Rattle.payload_sources.specs.declared.fault.SourceFault.TheVariants.{List as OfList, Slurm, SlurmDevice}
+
+-- the texts of files that were opened, as far as they are known: of the list, and of the SLURM file where there is one
+pub record SourceTexts : Type 0 where
+  pub list : Option (List ℕ)
+  pub slurm : Option (Option (List ℕ))
+
+abbrev pub texts_of : {L : Type 0} → (L → Option (List ℕ)) → L → Option L → SourceTexts
+texts_of remaining list slurm = record { list = remaining list; slurm = option_map remaining slurm }
+
+-- the set is that of the list that the text spells; of a file whose text isn't known nothing is said
+abbrev pub IsSetOfText : Option (List ℕ) → List Vrp → Type 0
+IsSetOfText file set =
+    (text : List ℕ) → file ≡ Some text
+    → (loaded : Loaded) × IsListOf text loaded × (set ≡ loaded.set.keys)
+
+-- the list of the text is refused so
+abbrev pub IsRefusedText : Option (List ℕ) → PayloadListFault → Type 0
+IsRefusedText file refused = (text : List ℕ) → file ≡ Some text → IsRefusedAs text refused
+
+-- the SLURM file of the text says this
+abbrev pub IsSaidBy : Option (List ℕ) → Said → Type 0
+IsSaidBy file said = (text : List ℕ) → file ≡ Some text → IsSlurm text (Ok said)
+
+-- what a set is under the exceptions that the SLURM file says, where there is one
+abbrev pub IsUnderFile : Option (Option (List ℕ)) → Option Said → List Vrp → List Vrp → Type 0
+IsUnderFile None None set after = after ≡ set
+IsUnderFile None (Some said) set after = ⊥
+IsUnderFile (Some file) None set after = ⊥
+IsUnderFile (Some file) (Some said) set after = IsSaidBy file said × IsPayloadSet after × IsUnder said.exceptions set after
+
+-- the set is that of the list, under the exceptions that the SLURM file says
+pub record IsRead (sources : SourceTexts) (said : Option Said) (set : List Vrp) : Type 0 where
+  pub listed : List Vrp
+  pub of_list : IsSetOfText sources.list listed
+  pub under : IsUnderFile sources.slurm said listed set
+
+abbrev pub IsSetOf : SourceTexts → List Vrp → Type 0
+IsSetOf sources set = (said : Option Said) × IsRead sources said set
+
+-- why a SLURM file can't be had: a fault of it, no memory for what it says, or that reading stopped
+abbrev pub IsRefusedSlurm : Option (List ℕ) → SourceFault → Type 0
+IsRefusedSlurm file (OfList refused) = ⊥
+IsRefusedSlurm file (Slurm fault) = (text : List ℕ) → file ≡ Some text → (fault ≡ NoMemory) ⊎ IsSlurm text (Err fault)
+IsRefusedSlurm file SlurmDevice = ⊤
+
+-- so it is where the list has no fault
+pub record IsRefusedBehind (sources : SourceTexts) (fault : SourceFault) : Type 0 where
+  pub listed : List Vrp
+  pub of_list : IsSetOfText sources.list listed
+  pub file : Option (List ℕ)
+  pub there : sources.slurm ≡ Some file
+  pub refused : IsRefusedSlurm file fault
+
+-- why no set can be had: the first fault
+abbrev pub IsRefused : SourceTexts → SourceFault → Type 0
+IsRefused sources (OfList refused) = IsRefusedText sources.list refused
+IsRefused sources (Slurm fault) = IsRefusedBehind sources (Slurm fault)
+IsRefused sources SlurmDevice = IsRefusedBehind sources SlurmDevice

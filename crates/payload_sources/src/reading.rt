@@ -1,0 +1,91 @@
+//! The set of a list, under the exceptions of a SLURM file where there is one.
+ghost use Rattle.std.specs.Prelude.{◌≡◌, ℕ, List, MatchResult, Option, Some};
+ghost use Rattle.payload_sources.specs.PayloadSources.{IsRead, IsRefused, IsRefusedSlurm, IsSaidBy, IsUnderFile, texts_of};
+
+use crate::fault::SourceFault;
+use crate::opening::Sources;
+use net_prefix::Vrp;
+use payload_lists::read_payloads;
+use slurm_files::{SlurmFault, SlurmFile, read_slurm};
+use std::alloc::Global;
+use std::collections::BTreeSet;
+use std::io::{ErrorKind, Read};
+
+/// What was read.
+#[derive(Drop)]
+pub struct SourceSet {
+    /// The set of the list under the exceptions.
+    pub set: BTreeSet<Vrp>,
+    /// What the SLURM file says, where there is one.
+    pub slurm: Option<SlurmFile>,
+}
+
+/// The set of the list, under the exceptions of the SLURM file where there is one, or the first fault: that of the list, if
+/// it has one.
+pub fn read_sources<L: Read + Drop>(
+    alloc: Global,
+    sources: Sources<L>,
+) -> Result<SourceSet, SourceFault>
+    ensures { MatchResult result (λ read. IsRead (texts_of L.remaining sources.list sources.slurm) read.slurm read.set.keys) (λ fault. IsRefused (texts_of L.remaining sources.list sources.slurm) fault) }
+{
+    let loaded = match read_payloads(alloc, sources.list) {
+        Ok(loaded) => loaded,
+        Err(refused) => return Err(SourceFault::List(refused)),
+    };
+    match sources.slurm {
+        None => Ok(SourceSet {
+            set: loaded.set,
+            slurm: None,
+        }),
+        Some(file) => match read_under(alloc, loaded.set, file) {
+            Ok((set, said)) => Ok(SourceSet {
+                set,
+                slurm: Some(said),
+            }),
+            Err(fault) => Err(fault),
+        },
+    }
+}
+
+// The set under the exceptions of the SLURM file, and what that says.
+fn read_under<L: Read + Drop>(
+    alloc: Global,
+    set: BTreeSet<Vrp>,
+    file: L,
+) -> Result<(BTreeSet<Vrp>, SlurmFile), SourceFault>
+    ensures { MatchResult result (λ read. IsUnderFile (Some (L.remaining file)) (Some read.1) set.keys read.0.keys) (λ fault. IsRefusedSlurm (L.remaining file) fault) }
+{
+    let said = read_file(alloc, file)?;
+    match said.exceptions.under(alloc, &set) {
+        Ok(after) => {
+            let _ = after.len();
+            Ok((after, said))
+        }
+        Err(_) => Err(SourceFault::Slurm(SlurmFault::NoMemory)),
+    }
+}
+
+// What the SLURM file says.
+fn read_file<L: Read + Drop>(alloc: Global, file: L) -> Result<SlurmFile, SourceFault>
+    ensures { MatchResult result (λ said. IsSaidBy (L.remaining file) said) (λ fault. IsRefusedSlurm (L.remaining file) fault) }
+{
+    let mut file = file;
+    let mut octets = Vec::new(alloc);
+    if let Err(error) = file.read_to_end(&mut octets) {
+        return Err(fault_of(error.kind()));
+    }
+    match read_slurm(alloc, octets.as_slice()) {
+        Ok(said) => Ok(said),
+        Err(fault) => Err(SourceFault::Slurm(fault)),
+    }
+}
+
+// What the fault of a read means for a SLURM file.
+fn fault_of(kind: ErrorKind) -> SourceFault
+    ensures { (file : Option (List ℕ)) → IsRefusedSlurm file result }
+{
+    match kind {
+        ErrorKind::OutOfMemory => SourceFault::Slurm(SlurmFault::NoMemory),
+        _ => SourceFault::SlurmDevice,
+    }
+}
