@@ -6,7 +6,7 @@ use Rattle.bgp_fsm.specs.declared.state.State.{State}
 use Rattle.bgp_fsm.specs.declared.state.State.TheVariants.{Established}
 use Rattle.bgp_msg.specs.MessageStream.{Item, WholeMessage, FaultyHeader, meaning}
 use Rattle.bgp_msg.specs.UpdateMeaning.{UpdateBody, update_fault}
-use Rattle.bgp_msg.specs.declared.frame.MessageType.TheVariants.{Open, Update, Notification, Keepalive}
+use Rattle.bgp_msg.specs.declared.frame.MessageType.TheVariants.{Open, Update, Notification, Keepalive, RouteRefresh}
 use Rattle.bgp_peer.specs.SessionInputs.{Terms, expected_of, kind_of}
 use Rattle.net_prefix.specs.declared.prefix.Prefix.{Prefix}
 use Rattle.rib_in.specs.LatestRoutes.{RouteTable, route_at}
@@ -21,6 +21,7 @@ update_heard state terms (WholeMessage Open body) = None
 update_heard state terms (WholeMessage Update body) = if is_established state then sound_update (kind_of terms) body (update_fault (kind_of terms) body) else None
 update_heard state terms (WholeMessage Notification body) = None
 update_heard state terms (WholeMessage Keepalive body) = None
+update_heard state terms (WholeMessage RouteRefresh body) = None
 
 -- these terms are what the messages are judged by
 pub record AreOf (terms : Terms) (standard : Standard) : Type 0 where

@@ -24,7 +24,9 @@ use crate::updates::{Sender, take_update};
 use bgp_attr::{PeerKind, UpdateFault};
 use bgp_conf::Conf;
 use bgp_fsm::{Input, State};
-use bgp_msg::{Expected, Fault, Frame, MessageType, Notification, Step, read_open, read_update};
+use bgp_msg::{
+    Expected, Fault, Frame, MessageType, Notification, Step, is_ipv4_unicast, read_open, read_update,
+};
 use decision::Book;
 use origin_valid::PayloadTrie;
 use std::alloc::{AllocError, Allocator};
@@ -118,6 +120,7 @@ fn judge<'r, A: Allocator + Clone, B: Book<A>>(
         (MessageType::Update, _) => Ok(Input::Update),
         (MessageType::Keepalive, _) => Ok(Input::Keepalive),
         (MessageType::Notification, _) => Ok(Input::Notification),
+        (MessageType::RouteRefresh, _) => Ok(Input::RouteRefresh(is_ipv4_unicast(frame.body))),
     }
 }
 

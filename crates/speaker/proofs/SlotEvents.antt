@@ -10,7 +10,7 @@ use Rattle.bgp_fsm.specs.declared.session.Session.{Session}
 use Rattle.bgp_fsm.specs.declared.state.State.{State}
 use Rattle.bgp_fsm.proofs.TableLaws.{enters_by_message, stays_established, fail_ends, no_memory_closes, stood_before}
 use Rattle.bgp_msg.specs.MessageStream.{Item, WholeMessage, FaultyHeader, completed}
-use Rattle.bgp_msg.specs.declared.frame.MessageType.TheVariants.{Open as OpenType, Update as UpdateType, Notification as NotificationType, Keepalive as KeepaliveType}
+use Rattle.bgp_msg.specs.declared.frame.MessageType.TheVariants.{Open as OpenType, Update as UpdateType, Notification as NotificationType, Keepalive as KeepaliveType, RouteRefresh as RouteRefreshType}
 use Rattle.bgp_peer.specs.Agreement.{holding}
 use Rattle.bgp_peer.specs.SentMessages.{given, sent, ring_of}
 use Rattle.bgp_peer.specs.SessionInputs.{Event, Terms, Signalled, Octet, terms_of, item_at, input_of, moment_of, session}
@@ -35,6 +35,7 @@ unheard state terms (WholeMessage OpenType body) other = refl
 unheard state terms (WholeMessage UpdateType body) other = rw other refl
 unheard state terms (WholeMessage NotificationType body) other = refl
 unheard state terms (WholeMessage KeepaliveType body) other = refl
+unheard state terms (WholeMessage RouteRefreshType body) other = refl
 
 -- the routes of a slot
 
