@@ -40,6 +40,10 @@ IsUpAt s slot = (l : Linked) × (link_at s.links slot ≡ Some l) × (l.peer.ses
 abbrev pub HasRoomAt : SpeakerState → ℕ → Type 0
 HasRoomAt s slot = (l : Linked) → link_at s.links slot ≡ Some l → HasRoom l
 
+-- the slot's peer doesn't hold of the prefix just what is exported to it, or has asked for it again
+abbrev pub IsNewTo : Linked → Prefix → Option (List ℕ) → Type 0
+IsNewTo l prefix export = (held_at l.adj_out prefix ≢ export) ⊎ (asked_at l.adj_out prefix ≡ true)
+
 -- the slot's session is Established, its ring has room, and of some prefix its peer doesn't hold what is exported to it, or has asked
 -- for it again; all lower slots are served
 pub record IsShortAt (s : SpeakerState) (slot : ℕ) : Type 0 where
@@ -53,7 +57,7 @@ pub record IsShortAt (s : SpeakerState) (slot : ℕ) : Type 0 where
   pub up : linked.peer.session.state ≡ Established
   pub room : HasRoom linked
   pub exported : export_to s slot prefix ≡ Some octets
-  pub owed : (held_at linked.adj_out prefix ≢ Some octets) ⊎ (asked_at linked.adj_out prefix ≡ true)
+  pub news : IsNewTo linked prefix (Some octets)
   pub below : AreServedBelow s slot
 
 -- whether a slot is there with an Established session
@@ -97,9 +101,13 @@ pub record Serves (slot : ℕ) (old new : SpeakerState) : Type 0 where
   pub only : IsOfSlot slot old new
   pub queues : QueuesOn old new
 
--- where there is room left, this holds of each prefix, of what the slot's peer holds of it, and of whether it has asked for it again
+-- this holds of a prefix, of what the slot's peer holds of it, and of whether it has asked for it again
+abbrev pub IsDoneOf : (Prefix → Option (List ℕ) → Bool → Type 0) → Linked → Prefix → Type 0
+IsDoneOf done l q = done q (held_at l.adj_out q) (asked_at l.adj_out q)
+
+-- where there is room left, it does of each prefix
 abbrev pub IsDoneAt : (Prefix → Option (List ℕ) → Bool → Type 0) → SpeakerState → ℕ → Type 0
-IsDoneAt done s slot = (l : Linked) → link_at s.links slot ≡ Some l → HasRoom l → (q : Prefix) → done q (held_at l.adj_out q) (asked_at l.adj_out q)
+IsDoneAt done s slot = (l : Linked) → link_at s.links slot ≡ Some l → HasRoom l → (q : Prefix) → IsDoneOf done l q
 
 -- what isn't exported isn't held
 abbrev pub IsGone : (Prefix → Option (List ℕ)) → Prefix → Option (List ℕ) → Bool → Type 0
