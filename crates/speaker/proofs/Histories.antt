@@ -9,7 +9,7 @@ use Rattle.bgp_msg.specs.UpdateMeaning.{UpdateBody}
 use Rattle.bgp_peer.specs.SessionInputs.{Event, session}
 use Rattle.net_prefix.specs.declared.prefix.Prefix.{Prefix}
 use Rattle.rib_out.specs.Held.{HeldRoute, all_asked, held_at}
-use Rattle.rib_out.proofs.HeldRoutes.{held_at-all_asked}
+use Rattle.rib_out.proofs.HeldTables.{held_at-all_asked}
 use Rattle.routes.specs.Updates.{word_if}
 use Rattle.speaker.specs.AdjRibIn.{brought, route}
 use Rattle.speaker.specs.Held.{held_in, told_in}

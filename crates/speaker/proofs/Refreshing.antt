@@ -18,7 +18,7 @@ use Rattle.bgp_peer.specs.SentMessages.{sent}
 use Rattle.bgp_peer.specs.SessionInputs.{Event, Octet, Terms, expected_of, input_of, item_at, kind_of, open_input, session, update_input}
 use Rattle.net_prefix.specs.declared.prefix.Prefix.{Prefix}
 use Rattle.rib_out.specs.Held.{HeldRoute, all_asked, asked_at, held_at}
-use Rattle.rib_out.proofs.HeldRoutes.{asked_at-all_asked}
+use Rattle.rib_out.proofs.HeldTables.{asked_at-all_asked}
 use Rattle.routes.specs.Linked.{adj_out_after}
 use Rattle.speaker.specs.Held.{held, told_in}
 use Rattle.speaker.specs.Refreshes.{answers, asked}

@@ -7,7 +7,7 @@ use Rattle.bgp_fsm.specs.declared.state.State.TheVariants.{Established}
 use Rattle.export_rules.specs.declared.export.ExportPeer.{ExportPeer}
 use Rattle.net_prefix.specs.declared.prefix.Prefix.{Prefix}
 use Rattle.rib_out.specs.Held.{HeldRoute, asked_at, held_at, is_prefix}
-use Rattle.rib_out.proofs.HeldRoutes.{held_if_asked}
+use Rattle.rib_out.proofs.HeldTables.{held_if_asked}
 use Rattle.rib_out.proofs.Prefixes.{is_prefix-refl}
 use Rattle.speaker.specs.Agreement.{QueuesOn}
 use Rattle.routes.specs.Export.{IsAccepted, export_in, export_peer_of}

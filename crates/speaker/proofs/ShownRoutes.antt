@@ -12,7 +12,7 @@ use Rattle.net_prefix.specs.PayloadSets.{IsPayloadSet}
 use Rattle.net_prefix.specs.PrefixOrder.{prefix_cmp}
 use Rattle.net_prefix.specs.declared.prefix.Prefix.{Prefix}
 use Rattle.net_prefix.proofs.PayloadSets.{prefix_cmp_total}
-use Rattle.rib_out.proofs.HeldRoutes.{lookup-octets_of}
+use Rattle.rib_out.proofs.HeldTables.{lookup-octets_of}
 use Rattle.rib_out.specs.Held.{is_prefix}
 use Rattle.rtr_client.specs.Following.{state_of}
 use Rattle.rtr_session.specs.SessionHistory as cached
