@@ -25,7 +25,8 @@ use bgp_attr::{PeerKind, UpdateFault};
 use bgp_conf::Conf;
 use bgp_fsm::{Input, State};
 use bgp_msg::{
-    Expected, Fault, Frame, MessageType, Notification, Step, is_ipv4_unicast, read_open, read_update,
+    Expected, Fault, Frame, MessageType, Notification, Step, is_ipv4_unicast, read_open,
+    read_update,
 };
 use decision::Book;
 use origin_valid::PayloadTrie;
