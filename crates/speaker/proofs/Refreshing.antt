@@ -26,7 +26,7 @@ use Rattle.speaker.specs.Refreshes.{answers, asked}
 -- What a slot's peer has asked for again, as one thing after another happens to it.
 
 -- an input by which all routes are asked for again
-is_refresh : Input → Bool
+abbrev is_refresh : Input → Bool
 is_refresh (RouteRefresh asks) = asks
 is_refresh input = false
 
@@ -49,12 +49,12 @@ no_signal input other = refl
 pub signal_asks_nothing : (input : Input) (s : Session) → is_message input ≡ false → (effects_of input s).refreshed ≡ false
 signal_asks_nothing input s other = refreshed_is input s ∙ ap (λ b. is_established s.state && b) (no_signal input other) ∙ and_false (is_established s.state)
 
-no_open : (awaits : Bool) (terms : Terms) (body : List ℕ) (fault : Option OpenFault) → is_refresh (if awaits then open_input terms body fault else UnexpectedOpen) ≡ false
+no_open : (awaits : Bool) (terms : Terms) (body : List ℕ) (fault : Option OpenFault) → is_refresh (cond awaits (open_input terms body fault) UnexpectedOpen) ≡ false
 no_open true terms body None = refl
 no_open true terms body (Some fault) = refl
 no_open false terms body fault = refl
 
-no_update : (up : Bool) (fault : Option UpdateFault) → is_refresh (if up then update_input fault else Update) ≡ false
+no_update : (up : Bool) (fault : Option UpdateFault) → is_refresh (cond up (update_input fault) Update) ≡ false
 no_update true None = refl
 no_update true (Some fault) = refl
 no_update false fault = refl
