@@ -85,7 +85,7 @@ impl<A: Allocator + Clone, B: Book<A>> Routing<A, B> {
     {
         self.waiting.add(prefix)?;
         let announced = self.ribs.announce(slot, prefix, attrs, candidate);
-        self.refresh(conf, links, prefix);
+        self.mark_peers(conf, links, prefix);
         announced
     }
 
@@ -103,7 +103,7 @@ impl<A: Allocator + Clone, B: Book<A>> Routing<A, B> {
             return;
         }
         self.ribs.withdraw(slot, prefix);
-        self.refresh(conf, links, prefix);
+        self.mark_peers(conf, links, prefix);
     }
 
     /// The slot's session has ended: none of its routes is kept.
@@ -139,7 +139,7 @@ impl<A: Allocator + Clone, B: Book<A>> Routing<A, B> {
         ensures marked { AreMarked conf.now links.now.entries self.new }
     {
         self.ribs.change(prefix, changes);
-        self.refresh(conf, links, prefix);
+        self.mark_peers(conf, links, prefix);
     }
 
     /// Nothing waits for the slot.
@@ -270,7 +270,7 @@ impl<A: Allocator + Clone, B: Book<A>> Routing<A, B> {
 
     // What the prefix's new routes and best one make wait for each peer. Without routes, and where nothing waits, it
     // isn't known any more.
-    fn refresh(&mut self, conf: &Conf<A>, links: &Links<A>, prefix: Prefix)
+    fn mark_peers(&mut self, conf: &Conf<A>, links: &Links<A>, prefix: Prefix)
         requires known { is_known self.old.waiting prefix ≡ true }
         requires marked { AreMarkedBut prefix conf.now links.now.entries self.old }
         ensures marked { AreMarked conf.now links.now.entries self.new }
