@@ -7,7 +7,9 @@ ghost use Rattle.bgp_msg.specs.MessageLimits.{max_message};
 
 use crate::frame::{MAX_MESSAGE, MessageType};
 use crate::notification::{MAX_DATA, Notification, front};
-use crate::open_message::{BGP_VERSION, CAPABILITIES, OwnOpen, ROUTE_REFRESH, four_octet_as, unicast};
+use crate::open_message::{
+    BGP_VERSION, CAPABILITIES, OwnOpen, ROUTE_REFRESH, four_octet_as, unicast,
+};
 use arrayvec::ArrayVec;
 use byteorder::{BigEndian, ByteOrder};
 use net_prefix::{Asn, Prefix};
