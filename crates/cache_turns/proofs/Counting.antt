@@ -33,10 +33,7 @@ Tells Overdue old new = Counted old.faults old.ends new
 tells_found : (visit found : Visit) (old new : WireState) → visit ≡ found → Tells found old new → Tells visit old new
 tells_found visit found old new is tells = subst (λ (v : Visit). Tells v old new) (sym is) tells
 
--- none is taken back
-same_told : (wire : WireState) → Counted wire.faults wire.ends wire
-same_told wire = record { faults_are = omega arith; ends_are = omega arith }
-
+-- no count falls behind it
 more_told : (few many : ℕ) → few ≤ many → one_more few ≤ one_more many
 more_told few many below = grind arith
 
@@ -79,7 +76,7 @@ serves_tells key link old visit left new serves = by_read serves.received serves
         let told = behind _ reads.asks (record { faults_are = omega arith; ends_are = omega arith }) in
         answers_tell Stays key link old.wire serves.behind visit left new answers told told
     by_read NoneCame reads answers =
-        let told = behind _ reads.asks (same_told old.wire) in
+        let told = behind _ reads.asks (record { faults_are = omega arith; ends_are = omega arith }) in
         answers_tell Stays key link old.wire serves.behind visit left new answers told told
     by_read End reads answers =
         let ended : Counted old.wire.faults (one_more old.wire.ends) serves.behind.wire =

@@ -15,10 +15,10 @@ returns-in-Octets-clause-stands g c =
 pub returns-in-End-clause-stands : goal.returns-in-End-clause-stands
 returns-in-End-clause-stands g c =
     let between : Sides = record { wire = g.W.Wire.state c.receive.new.wire; cache = c.receive.new.cache } in
-    let behind : Sides = record { wire = g.W.Wire.state c.answer-2.new.wire; cache = c.answer-2.new.cache } in
-    served c.args.now c.args.client c.args.self.now c.receive.new.self c.answer-2.new.self _ between behind c.receive.result c.answer-2.result c.receive.ensures.reads c.receive.ensures.same
-    (subst (λ (r : Received). GoesOn r c.args.client c.receive.new.self between c.answer-2.result c.answer-2.new.self.waiting behind) (sym c.in-End.is) c.answer-2.ensures.answers)
-    c.answer-2.ensures.same
+    let behind : Sides = record { wire = g.W.Wire.state c.answer-in-End.new.wire; cache = c.answer-in-End.new.cache } in
+    served c.args.now c.args.client c.args.self.now c.receive.new.self c.answer-in-End.new.self _ between behind c.receive.result c.answer-in-End.result c.receive.ensures.reads c.receive.ensures.same
+    (subst (λ (r : Received). GoesOn r c.args.client c.receive.new.self between c.answer-in-End.result c.answer-in-End.new.self.waiting behind) (sym c.in-End.is) c.answer-in-End.ensures.answers)
+    c.answer-in-End.ensures.same
 
 pub returns-in-Fault-clause-stands : goal.returns-in-Fault-clause-stands
 returns-in-Fault-clause-stands g c =
