@@ -26,7 +26,7 @@ mod speaker_loop;
 pub use end::End;
 pub use laws::{
     as_many_are_lost_as_are_counted, sessions_carry_their_own_octets,
-    those_that_end_have_their_turn, turns_are_calls_of_the_speaker,
+    those_that_end_have_their_turn, turns_are_calls_of_the_speaker, wires_listen_where_they_did,
 };
 pub use line::CLOSING_SECONDS;
 pub use place::Visit;
