@@ -13,7 +13,6 @@ ghost use Rattle.list_guards.specs.declared.Guards.{Guards};
 mod list_age;
 
 pub use list_age::ListAge;
-
 use net_prefix::Vrp;
 use std::collections::BTreeSet;
 use thiserror::Error;
