@@ -31,7 +31,9 @@ use crate::watched::Watched;
 use cache_settings::CacheSettings;
 use cache_turns::CacheLoop;
 use clocks::{MonotonicClock, SecondsClock, SecondsSince1970, SystemSeconds};
-use net_wires::{NetWire, REST_MILLISECONDS};
+use list_guards::ListAge;
+use log_limits::LineLimit;
+use net_wires::{NetWire, REST_MILLISECONDS, RouterEvent};
 use payload_sources::SourceSet;
 use program_endings::{Aside, aside_of, end, print, read_words};
 use rtr_cache::Cache;
@@ -324,6 +326,7 @@ where
     let second = second_of(seconds)?;
     let (cache, serial, set) = load_cache(rt, settings, second, output, opens)?;
     let turns = over_wire(rt.alloc(), settings, cache, listens)?;
+    tell_listening(rt, settings.log, turns.wire(), output);
     Ok(ServedList::new(turns, settings.guards, serial, set))
 }
 
@@ -379,9 +382,11 @@ where
 {
     let mut reread = Every::new(settings.reread);
     let mut status = Every::new(settings.status);
+    let mut limit = LineLimit::new(ROUTER_LINES);
     for _ in 0..turns {
         let now = read_clock(clock)?;
         serve_once(rt, settings, served, now, &mut reread, output, opens)?;
+        tell_routers(rt, settings.log, served, now, &mut limit, output);
         rest(rt, settings, served, now, status.is_due(now), output);
     }
     Ok(())
@@ -400,8 +405,9 @@ fn rest<R: Files + Clock, W: Wire + Drop, O: Write>(
     ensures quiet { settings.now.log ≡ false → output.new ≡ output.old }
 {
     if is_due {
-        tell_status(rt, settings.log, served, now, output);
-        tell_age(rt, settings, output);
+        let age = age_of(rt, settings.csv.as_str()).ok();
+        tell_status(rt, settings.log, served, now, ListAge(age), output);
+        tell_age(rt, settings, age, output);
     }
     served.wait(Duration::from_millis(REST_MILLISECONDS));
 }
@@ -430,8 +436,16 @@ where
         tell_list(rt, settings.log, led, served.payloads(), output);
     }
     turned?;
-    tell_routers(rt, settings.log, served, output);
     Ok(())
+}
+
+// Writes to the log where the cache listens: of port 0 the one that it was given.
+fn tell_listening<R: Clock, W: Watched, O: Write>(rt: &R, is_on: bool, wire: &W, output: &mut O)
+    ensures { is_on ≡ false → output.new ≡ output.old }
+{
+    if let Some(address) = wire.listens() {
+        log(rt, is_on, output, LogLine::Listens(address));
+    }
 }
 
 // Writes to the log what reading the list again has led to.
@@ -449,11 +463,17 @@ fn tell_list<R: Clock, O: Write>(rt: &R, is_on: bool, led: Reread, payloads: usi
     log(rt, is_on, output, line);
 }
 
-// Writes what the last turn saw of routers to the log.
+// How many lines a minute tell that routers came and went (own choice).
+const ROUTER_LINES: u32 = 300;
+
+// Writes what the last turn saw of routers to the log. Where more come and go in a minute than are told, the log gets their
+// number when it is over.
 fn tell_routers<R: Clock, W: Wire + Watched + Drop, O: Write>(
     rt: &R,
     is_on: bool,
     served: &ServedList<W>,
+    now: u64,
+    limit: &mut LineLimit,
     output: &mut O,
 )
     ensures { is_on ≡ false → output.new ≡ output.old }
@@ -461,8 +481,14 @@ fn tell_routers<R: Clock, W: Wire + Watched + Drop, O: Write>(
     if !is_on {
         return;
     }
+    if let Some(lines) = limit.tick(now) {
+        let most = ROUTER_LINES;
+        log(rt, is_on, output, LogLine::LeftOut { lines, most });
+    }
     for event in served.turns().wire().seen() {
-        log(rt, is_on, output, LogLine::Router(*event));
+        if matches!(event, RouterEvent::NoDescriptors) || limit.admits() {
+            log(rt, is_on, output, LogLine::Router(*event));
+        }
     }
 }
 
@@ -472,6 +498,7 @@ fn tell_status<R: Clock, W: Wire + Drop, O: Write>(
     is_on: bool,
     served: &ServedList<W>,
     now: u64,
+    age: ListAge,
     output: &mut O,
 )
     ensures { is_on ≡ false → output.new ≡ output.old }
@@ -489,22 +516,23 @@ fn tell_status<R: Clock, W: Wire + Drop, O: Write>(
         without: holding.without,
         octets_in: wire.octets_in(),
         octets_out: wire.octets_out(),
+        age,
         seconds: now.saturating_sub(served.read()),
     };
     log(rt, is_on, output, line);
 }
 
 // Warns in the log where the list's file was written too long ago, or its time can't be told.
-fn tell_age<R: Files + Clock, O: Write>(rt: &R, settings: &CacheSettings, output: &mut O)
+fn tell_age<R: Clock, O: Write>(rt: &R, settings: &CacheSettings, age: Option<u64>, output: &mut O)
     ensures { settings.now.log ≡ false → output.new ≡ output.old }
 {
     let Some(most) = settings.max_age else {
         return;
     };
-    let line = match age_of(rt, settings.csv.as_str()) {
-        Ok(seconds) if seconds <= most as u64 => return,
-        Ok(seconds) => LogLine::Old { seconds, most },
-        Err(_) => LogLine::NoAge,
+    let line = match age {
+        Some(seconds) if seconds <= most as u64 => return,
+        Some(seconds) => LogLine::Old { seconds, most },
+        None => LogLine::NoAge,
     };
     log(rt, settings.log, output, line);
 }

@@ -24,8 +24,8 @@ listens_at_write (Went count) number octets wire = refl
 listens_at_write NoneWent number octets wire = refl
 listens_at_write WriteFault number octets wire = refl
 
-listens_at_answer : (key : ℕ) (link : Connection) (old : Sides) (visit : Visit) (left : List ℕ) (new : Sides) → Answers key link old visit left new → new.wire.listens ≡ old.wire.listens
-listens_at_answer key link old visit left new answers = by_octets answers.octets refl
+listens_at_answer : (resting : Visit) (key : ℕ) (link : Connection) (old : Sides) (visit : Visit) (left : List ℕ) (new : Sides) → Answers resting key link old visit left new → new.wire.listens ≡ old.wire.listens
+listens_at_answer resting key link old visit left new answers = by_octets answers.octets refl
   where
     by_octets : (octets : List ℕ) → answers.octets ≡ octets → new.wire.listens ≡ old.wire.listens
     by_octets [] is = ap (λ (w : WireState). w.listens) (answers.none is).same
@@ -34,9 +34,9 @@ listens_at_answer key link old visit left new answers = by_octets answers.octets
         ap (λ (w : WireState). w.listens) writes.asks ∙ listens_at_write writes.sent link.number answers.octets old.wire
 
 listens_behind : (received : Received) (key : ℕ) (link : Connection) (old : Sides) (visit : Visit) (left : List ℕ) (new : Sides) → GoesOn received key link old visit left new → new.wire.listens ≡ old.wire.listens
-listens_behind (Came count) key link old visit left new answers = listens_at_answer key link old visit left new answers
-listens_behind NoneCame key link old visit left new answers = listens_at_answer key link old visit left new answers
-listens_behind End key link old visit left new found = ap (λ (s : Sides). s.wire.listens) found.1
+listens_behind (Came count) key link old visit left new answers = listens_at_answer Stays key link old visit left new answers
+listens_behind NoneCame key link old visit left new answers = listens_at_answer Stays key link old visit left new answers
+listens_behind End key link old visit left new answers = listens_at_answer Ended key link old visit left new answers
 listens_behind ReadFault key link old visit left new found = ap (λ (s : Sides). s.wire.listens) found.1
 
 listens_served : (key : ℕ) (link : Connection) (old : Sides) (visit : Visit) (left : List ℕ) (new : Sides) → Serves key link old visit left new → new.wire.listens ≡ old.wire.listens
