@@ -1,4 +1,4 @@
-use Rattle.std.proofs.Common.{◌≡◌, ◌≢◌, ◌⊎◌, ◌<◌, ◌+◌, ◌^◌, ◌==◌, ℕ, Bool, true, false, List, Option, Some, None, Result, Ok, Err, OnOk, cond, refl, sym, ap, ◌∙◌, subst, inl, inr, arith, length-append}
+use Rattle.std.proofs.Common.{◌≡◌, ◌≢◌, ◌⊎◌, ◌≤◌, ◌<◌, ◌+◌, ◌^◌, ◌==◌, ℕ, Bool, true, false, List, Option, Some, None, Result, Ok, Err, OnOk, cond, refl, sym, ap, ◌∙◌, subst, inl, inr, arith, length-append}
 use Rattle.std.specs.Option.{IsSome, option_and_then, option_map}
 use Rattle.std.proofs.lemmas.Bool.{cases_eq, cases_lt, eq-eqb, ne_eqb}
 use Rattle.bgp_conf.specs.Configuration.{peer_at}
@@ -404,3 +404,14 @@ AreServed-more first now new n h only stand queues served = record {
         | inr behind ↦ subst (λ x. IsServedAt new x) (omega (arith, below, behind)) served
       ];
 }
+
+-- the walk over the slots is over: none stands behind the last one
+pub served_all : (first now : SpeakerState) (n : ℕ) → AreServed first now n → ((s : ℕ) → n ≤ s → s < 64 → link_at first.links s ≡ None) → (slot : ℕ) → slot < 64 → IsServedAt now slot
+served_all first now n h none slot within =
+    elim (cases_lt slot n) [
+      | inl before ↦ h.served slot before
+      | inr behind ↦
+          unserved now slot (λ l is up.
+          let on : is_standing (link_at now.links slot) ≡ true = rw (is, up) refl in
+          let off : is_standing (link_at now.links slot) ≡ false = h.stand slot ∙ ap is_standing (none slot (omega (arith, behind)) within) in cc)
+    ]

@@ -24,4 +24,4 @@ returns-clause-opened g c = λ l linked. c.input.ensures.opened l (rw (← c.sel
 pub returns-clause-none : goal.returns-clause-none
 returns-clause-none g c = λ none.
     let here = rw (← c.self.view_is) at none in
-    rw (← c.self.view_is, c.input.ensures.none here) refl
+    rw (← c.self.view_is, (c.input.ensures.none here).1) refl

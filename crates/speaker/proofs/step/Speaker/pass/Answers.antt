@@ -1,7 +1,7 @@
-use Rattle.std.proofs.Common.{◌∙◌}
+use Rattle.std.proofs.Common.{◌∙◌, arith}
 use Rattle.speaker.proofs.Passing.{QueuesOn-more}
 use Rattle.routes.proofs.Results.{OnErr-got, OnOk-got}
-use Rattle.speaker.proofs.Serving.{AreServed-more}
+use Rattle.speaker.proofs.Serving.{AreServed-more, served_all}
 use Rattle.speaker.proofs.step.Speaker.pass.Goals as goal
 
 pub returns-then-is_err-clause-stand : goal.returns-then-is_err-clause-stand
@@ -15,3 +15,7 @@ returns-then-is_err-clause-short g c = OnErr-got _ _ c.serve_slot.ensures.short 
 
 pub loop-slot-preserved : goal.loop-slot-preserved
 loop-slot-preserved g c = AreServed-more _ _ _ _ c.loop-slot.invariant c.serve_slot.ensures.only c.serve_slot.ensures.stand c.serve_slot.ensures.queues (OnOk-got _ _ c.serve_slot.ensures.served c.if-is_err.ensures.value)
+
+pub returns-clause-served : goal.returns-clause-served
+returns-clause-served g c =
+    served_all c.args.self.now c.loop-slot.self c.loop-slot.slot c.loop-slot.invariant (λ s high low. rw (← c.self.view_is) (c.slots_end-slot-end.ensures.none s (omega (arith, c.loop-slot-test.false, high)) low))
