@@ -57,9 +57,10 @@ all_as Lists Others so seconds last (now ∷ moments) old new all =
     (all.0, once_as Lists Others so (have_passed seconds last now) now old all.0 all.1, all_as Lists Others so seconds (if have_passed seconds last now then now else last) moments all.0 new all.2)
 
 pub served_as : (Lists Others : Result SourceTexts SourceFile → Type 0) (Wires Opened : WireState → Type 0) (Seconds Told : ℕ → Type 0) (settings : CacheSettings) (count : ℕ) (before behind : List ℕ) (served : Served)
+    → IsServed Lists Wires Seconds settings count before behind served
     → ((sources : Result SourceTexts SourceFile) → Lists sources → Others sources) → ((wire : WireState) → Wires wire → Opened wire) → ((second : ℕ) → Seconds second → Told second)
-    → IsServed Lists Wires Seconds settings count before behind served → IsServed Others Opened Told settings count before behind served
-served_as Lists Others Wires Opened Seconds Told settings count before behind served lists wires seconds is =
+    → IsServed Others Opened Told settings count before behind served
+served_as Lists Others Wires Opened Seconds Told settings count before behind served is lists wires seconds =
     let begun = is.begins in
     record {
       begun = is.begun;

@@ -12,6 +12,10 @@ use Rattle.cache_program.specs.Exits.{exit_of_fault}
 use Rattle.cache_program.specs.declared.fault.CacheFault.{CacheFault}
 
 -- what holds of a value holds of a result
+pub if_ok_as : {T E : Type 0} {P Q : T → Type 0} (r : Result T E) → IfOk r P → ((x : T) → P x → Q x) → IfOk r Q
+if_ok_as (Ok x) is so = so x is
+if_ok_as (Err why) is so = tt
+
 pub if_ok_so : {T E : Type 0} {P Q : T → Type 0} (r : Result T E) → ((x : T) → P x → Q x) → IfOk r P → IfOk r Q
 if_ok_so (Ok x) so is = so x is
 if_ok_so (Err why) so is = tt

@@ -25,5 +25,10 @@ module _ {E : Type 0} (Answers : List ℕ → Result OpenedFile E → Type 0) (t
   then_so slurm None sources is = is
   then_so slurm (Some list) sources opens = behind_so slurm list sources opens
 
-  pub opens_so : (csv : List ℕ) (slurm : Option (List ℕ)) (sources : Result SourceTexts SourceFile) → Opens Answers text_of csv slurm sources → Opens IsOpenedAt text_of csv slurm sources
+  opens_so : (csv : List ℕ) (slurm : Option (List ℕ)) (sources : Result SourceTexts SourceFile) → Opens Answers text_of csv slurm sources → Opens IsOpenedAt text_of csv slurm sources
   opens_so csv slurm sources opens = (opens.0, given_so csv opens.0 opens.1, then_so slurm opens.0 sources opens.2)
+
+-- so are files that a call of a closure opens, if it opens each where it is asked to
+pub opens_as : {E : Type 0} (Answers : List ℕ → Result OpenedFile E → Type 0) (csv : List ℕ) (slurm : Option (List ℕ)) (sources : Result SourceTexts SourceFile) → Opens Answers text_of csv slurm sources
+    → ((path : List ℕ) (file : OpenedFile) → Answers path (Ok file) → file.path ≡ path) → Opens IsOpenedAt text_of csv slurm sources
+opens_as Answers csv slurm sources opens there = opens_so Answers there csv slurm sources opens
