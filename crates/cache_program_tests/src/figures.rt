@@ -88,10 +88,19 @@ fn figures_are_told_as_prometheus_has_them(rt: HostRuntime) -> Result<(), Fail> 
 }
 
 const ASKED: [(&str, Asked); 7] = [
-    ("GET /metrics HTTP/1.1\r\nHost: localhost\r\n\r\n", Asked::Metrics),
+    (
+        "GET /metrics HTTP/1.1\r\nHost: localhost\r\n\r\n",
+        Asked::Metrics,
+    ),
     ("GET /metrics HTTP/1.0\r\n\r\n", Asked::Metrics),
-    ("GET / HTTP/1.1\r\nHost: localhost\r\n\r\n", Asked::OtherTarget),
-    ("POST /metrics HTTP/1.1\r\nHost: localhost\r\n\r\n", Asked::OtherMethod),
+    (
+        "GET / HTTP/1.1\r\nHost: localhost\r\n\r\n",
+        Asked::OtherTarget,
+    ),
+    (
+        "POST /metrics HTTP/1.1\r\nHost: localhost\r\n\r\n",
+        Asked::OtherMethod,
+    ),
     ("GET /metrics HTTP/1.1\r\nHost: loc", Asked::More),
     ("GET /metrics HTTP/2.7\r\n\r\n", Asked::NoRequest),
     ("\u{1}\u{2}", Asked::NoRequest),
@@ -124,7 +133,8 @@ fn requests_are_judged(rt: HostRuntime) -> Result<(), Fail> {
     Ok(())
 }
 
-const ANSWER: &str = "HTTP/1.1 200 OK\r\nContent-Type: text/plain; version=0.0.4; charset=utf-8\r\nContent-Length: 6\r\nConnection: close\r\n\r\nup 1\n\n";
+const ANSWER: &str =
+    "HTTP/1.1 200 OK\r\nContent-Type: text/plain; version=0.0.4; charset=utf-8\r\nContent-Length: 6\r\nConnection: close\r\n\r\nup 1\n\n";
 
 #[test]
 fn figures_are_answered(rt: HostRuntime) -> Result<(), Fail> {

@@ -93,11 +93,7 @@ fn asks(router: &mut TcpStream) -> bool {
 }
 
 // Whether the router, which has asked for the list, gets all, and so many connections are lost.
-fn takes_all<W: Wire + Drop>(
-    alloc: Global,
-    served: &mut Served<W, TcpStream>,
-    lost: u64,
-) -> bool {
+fn takes_all<W: Wire + Drop>(alloc: Global, served: &mut Served<W, TcpStream>, lost: u64) -> bool {
     let mut taken = Vec::new(alloc);
     let mut expected = Vec::new(alloc);
     takes_in_turns(served, &mut taken)
@@ -123,9 +119,11 @@ fn serving(rt: &impl Abort, alloc: Global) -> Cache {
 #[test]
 fn a_router_takes_each_payload_over_a_socket(rt: HostRuntime) {
     let served = over_loopback(&rt, serving(&rt, rt.alloc()));
-    assert!(rt; lend(served, |served| {
-        asks(&mut served.router) && takes_all(rt.alloc(), served, 0)
-    }));
+    assert!(rt;
+        lend(served, |served| {
+            asks(&mut served.router) && takes_all(rt.alloc(), served, 0)
+        })
+    );
 }
 
 // Whether the router asks for the list, and then sends no more.
@@ -137,7 +135,9 @@ fn asks_last(router: &mut TcpStream) -> bool {
 #[test]
 fn a_router_that_sends_no_more_takes_each_payload(rt: HostRuntime) {
     let served = over_loopback(&rt, serving(&rt, rt.alloc()));
-    assert!(rt; lend(served, |served| {
-        asks_last(&mut served.router) && takes_all(rt.alloc(), served, 1)
-    }));
+    assert!(rt;
+        lend(served, |served| {
+            asks_last(&mut served.router) && takes_all(rt.alloc(), served, 1)
+        })
+    );
 }
