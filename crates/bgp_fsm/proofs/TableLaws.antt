@@ -7,7 +7,7 @@ use Rattle.bgp_msg.specs.Notifications.{NotificationBody, error_notification}
 use Rattle.bgp_fsm.specs.declared.state.State.{State}
 use Rattle.bgp_fsm.specs.declared.state.State.TheVariants.{Idle, Connect, Active, OpenSent, OpenConfirm, Established}
 use Rattle.bgp_fsm.specs.declared.input.Input.{Input}
-use Rattle.bgp_fsm.specs.declared.input.Input.TheVariants.{Disable, Remove, Up, Fail, Open, UnexpectedOpen, Keepalive, Update, Notification, Fault, NoMemory, Expires}
+use Rattle.bgp_fsm.specs.declared.input.Input.TheVariants.{Disable, Remove, Up, Fail, Open, UnexpectedOpen, Keepalive, Update, RouteRefresh, Notification, Fault, NoMemory, Expires}
 use Rattle.bgp_fsm.specs.declared.timers.Timer.TheVariants.{Hold}
 use Rattle.bgp_fsm.specs.declared.session.Outgoing.TheVariants.{Notification as Notify}
 use Rattle.bgp_fsm.specs.declared.session.Session.{Session}
@@ -82,6 +82,7 @@ told_at now OpenSent Remove s is stands closes = inr (error_notification PeerDec
 told_at now OpenSent UnexpectedOpen s is stands closes = inr (error_notification UnexpectedMessage, refl)
 told_at now OpenSent Keepalive s is stands closes = inr (error_notification UnexpectedMessage, refl)
 told_at now OpenSent Update s is stands closes = inr (error_notification UnexpectedMessage, refl)
+told_at now OpenSent (RouteRefresh asks) s is stands closes = inr (error_notification UnexpectedMessage, refl)
 told_at now OpenSent (Fault told) s is stands closes = inr (told, refl)
 told_at now OpenSent NoMemory s is stands closes = inr (error_notification OutOfResources, refl)
 told_at now OpenSent (Expires Hold) s is stands closes = inr (error_notification HoldTimerExpired, refl)
@@ -90,6 +91,7 @@ told_at now OpenConfirm Remove s is stands closes = inr (error_notification Peer
 told_at now OpenConfirm (Open message) s is stands closes = inr (error_notification UnexpectedMessage, refl)
 told_at now OpenConfirm UnexpectedOpen s is stands closes = inr (error_notification UnexpectedMessage, refl)
 told_at now OpenConfirm Update s is stands closes = inr (error_notification UnexpectedMessage, refl)
+told_at now OpenConfirm (RouteRefresh asks) s is stands closes = inr (error_notification UnexpectedMessage, refl)
 told_at now OpenConfirm (Fault told) s is stands closes = inr (told, refl)
 told_at now OpenConfirm NoMemory s is stands closes = inr (error_notification OutOfResources, refl)
 told_at now OpenConfirm (Expires Hold) s is stands closes = inr (error_notification HoldTimerExpired, refl)

@@ -8,7 +8,7 @@ use Rattle.bgp_msg.specs.Notifications.{NotificationBody}
 use Rattle.bgp_fsm.specs.declared.state.State.{State}
 use Rattle.bgp_fsm.specs.declared.state.State.TheVariants.{Idle, Connect, Active, OpenSent, OpenConfirm, Established}
 use Rattle.bgp_fsm.specs.declared.input.Input.{Input}
-use Rattle.bgp_fsm.specs.declared.input.Input.TheVariants.{Up, Open, Keepalive, Notification as NotificationInput, Expires}
+use Rattle.bgp_fsm.specs.declared.input.Input.TheVariants.{Up, Open, Keepalive, RouteRefresh, Notification as NotificationInput, Expires}
 use Rattle.bgp_fsm.specs.declared.timers.Timer.TheVariants.{ConnectRetry}
 use Rattle.bgp_fsm.specs.declared.timers.Timers.{Timers}
 use Rattle.bgp_fsm.specs.declared.session.Outgoing.TheVariants.{Open as OwnOpen, Notification as Notify}
@@ -35,6 +35,11 @@ abbrev pub LeftTells : Type 0
 LeftTells =
     (now : ℕ) (input : Input) (s : Session)
     → ((effects_of input s).left ≡ true) ↔ ((s.state ≡ Established) × ((session_after now input s).state ≢ Established))
+
+-- `refreshed` tells exactly that the peer of an Established session asks for all routes again (RFC 2918 section 4)
+abbrev pub RefreshedTells : Type 0
+RefreshedTells =
+    (input : Input) (s : Session) → ((effects_of input s).refreshed ≡ true) ↔ ((s.state ≡ Established) × (input ≡ RouteRefresh true))
 
 -- an OPEN is queued only when the connection stands that was opened or awaited, and it is our own
 abbrev pub OpenAnswersUp : Type 0

@@ -1,5 +1,5 @@
 -- The session table (RFC 4271 section 8.2.2, in this profile): what a row leaves of the session, and what it does.
-use Rattle.std.specs.Prelude.{ℕ, min, true, false, Option, Some, None, if◌then◌else◌}
+use Rattle.std.specs.Prelude.{ℕ, min, Bool, true, false, Option, Some, None, if◌then◌else◌}
 use Rattle.bgp_attr.specs.declared.peer.Mode.{Mode}
 use Rattle.bgp_attr.specs.declared.peer.Mode.TheVariants.{Passive}
 use Rattle.bgp_attr.specs.declared.peer.Mode.TheVariants.{Active as Opener}
@@ -11,7 +11,7 @@ use Rattle.bgp_msg.specs.Notifications.{error_notification}
 use Rattle.bgp_fsm.specs.declared.state.State.{State}
 use Rattle.bgp_fsm.specs.declared.state.State.TheVariants.{Idle, Connect, Active, OpenSent, OpenConfirm, Established}
 use Rattle.bgp_fsm.specs.declared.input.Input.{Input}
-use Rattle.bgp_fsm.specs.declared.input.Input.TheVariants.{Start, Disable, Remove, Up, Fail, Open, UnexpectedOpen, Keepalive, Update, Notification, Fault, NoMemory, Expires}
+use Rattle.bgp_fsm.specs.declared.input.Input.TheVariants.{Start, Disable, Remove, Up, Fail, Open, UnexpectedOpen, Keepalive, Update, RouteRefresh, Notification, Fault, NoMemory, Expires}
 use Rattle.bgp_fsm.specs.declared.session.Outgoing.{Outgoing}
 use Rattle.bgp_fsm.specs.declared.session.Outgoing.TheVariants.{Open as OwnOpen, Keepalive as OwnKeepalive, Notification as Notify}
 use Rattle.bgp_fsm.specs.declared.session.Effects.{Effects}
@@ -22,27 +22,31 @@ use Rattle.bgp_fsm.specs.StateTests.{is_established}
 
 -- a row that does nothing beside its change of the session
 abbrev pub nothing : Effects
-nothing = record { message = None; opened = false; entered = false; left = false }
+nothing = record { message = None; opened = false; entered = false; left = false; refreshed = false }
 
 -- a row that queues this message
 abbrev pub says : Outgoing → Effects
-says message = record { message = Some message; opened = false; entered = false; left = false }
+says message = record { message = Some message; opened = false; entered = false; left = false; refreshed = false }
 
 -- a row that begins a connection attempt
 abbrev pub begins : Effects
-begins = record { message = None; opened = true; entered = false; left = false }
+begins = record { message = None; opened = true; entered = false; left = false; refreshed = false }
 
 -- a row that begins Established
 abbrev pub enters : Effects
-enters = record { message = None; opened = false; entered = true; left = false }
+enters = record { message = None; opened = false; entered = true; left = false; refreshed = false }
 
 -- a row that ends Established
 abbrev pub leaves : Effects
-leaves = record { message = None; opened = false; entered = false; left = true }
+leaves = record { message = None; opened = false; entered = false; left = true; refreshed = false }
 
 -- a row that ends Established and queues this message
 abbrev pub leaves_saying : Outgoing → Effects
-leaves_saying message = record { message = Some message; opened = false; entered = false; left = true }
+leaves_saying message = record { message = Some message; opened = false; entered = false; left = true; refreshed = false }
+
+-- a row at which a ROUTE-REFRESH comes: whether the peer asks for all routes again
+abbrev pub asked_again : Bool → Effects
+asked_again asks = record { message = None; opened = false; entered = false; left = false; refreshed = asks }
 
 -- the NOTIFICATION of an error that no message holds
 abbrev pub error : SessionError → Outgoing
@@ -173,6 +177,7 @@ row_at OpenSent (Open message) s = (confirmed message s, says OwnKeepalive)
 row_at OpenSent UnexpectedOpen s = (closed s, says (error UnexpectedMessage))
 row_at OpenSent Keepalive s = (closed s, says (error UnexpectedMessage))
 row_at OpenSent Update s = (closed s, says (error UnexpectedMessage))
+row_at OpenSent (RouteRefresh asks) s = (closed s, says (error UnexpectedMessage))
 row_at OpenSent Notification s = (closed s, nothing)
 row_at OpenSent (Fault told) s = (closed s, says (Notify told))
 row_at OpenSent NoMemory s = (closed s, says (error OutOfResources))
@@ -185,6 +190,7 @@ row_at OpenConfirm (Open message) s = (closed s, says (error UnexpectedMessage))
 row_at OpenConfirm UnexpectedOpen s = (closed s, says (error UnexpectedMessage))
 row_at OpenConfirm Keepalive s = (established s, enters)
 row_at OpenConfirm Update s = (closed s, says (error UnexpectedMessage))
+row_at OpenConfirm (RouteRefresh asks) s = (closed s, says (error UnexpectedMessage))
 row_at OpenConfirm Notification s = (closed s, nothing)
 row_at OpenConfirm (Fault told) s = (closed s, says (Notify told))
 row_at OpenConfirm NoMemory s = (closed s, says (error OutOfResources))
@@ -198,6 +204,7 @@ row_at Established (Open message) s = (closed s, leaves_saying (error Unexpected
 row_at Established UnexpectedOpen s = (closed s, leaves_saying (error UnexpectedMessage))
 row_at Established Keepalive s = (heard s, nothing)
 row_at Established Update s = (heard s, nothing)
+row_at Established (RouteRefresh asks) s = (heard s, asked_again asks)
 row_at Established Notification s = (closed s, leaves)
 row_at Established (Fault told) s = (closed s, leaves_saying (Notify told))
 row_at Established NoMemory s = (closed s, leaves_saying (error OutOfResources))
@@ -216,4 +223,4 @@ effects_of input s = (row_at s.state input s).1
 
 -- what a row does that takes the session out of this state, where the peer is told this, if anything
 abbrev pub leaving : State → Option Outgoing → Effects
-leaving state message = record { message = message; opened = false; entered = false; left = is_established state }
+leaving state message = record { message = message; opened = false; entered = false; left = is_established state; refreshed = false }

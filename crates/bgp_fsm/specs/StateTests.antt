@@ -5,7 +5,7 @@ use Rattle.bgp_fsm.specs.declared.state.State.TheVariants.{Idle, Connect, Active
 use Rattle.bgp_fsm.specs.declared.input.Input.{Input}
 use Rattle.bgp_fsm.specs.declared.session.Outgoing.{Outgoing}
 use Rattle.bgp_fsm.specs.declared.session.Outgoing.TheVariants.{Open as OwnOpen, Keepalive as OwnKeepalive, Notification as Notify}
-use Rattle.bgp_fsm.specs.declared.input.Input.TheVariants.{Start, Disable, Remove, Up, Fail, Open, UnexpectedOpen, Keepalive, Update, Notification, Fault, NoMemory, Expires}
+use Rattle.bgp_fsm.specs.declared.input.Input.TheVariants.{Start, Disable, Remove, Up, Fail, Open, UnexpectedOpen, Keepalive, Update, RouteRefresh, Notification, Fault, NoMemory, Expires}
 
 -- routes are exchanged
 abbrev pub is_established : State → Bool
@@ -36,6 +36,7 @@ is_message (Open message) = true
 is_message UnexpectedOpen = true
 is_message Keepalive = true
 is_message Update = true
+is_message (RouteRefresh asks) = true
 is_message Notification = true
 is_message (Fault told) = true
 is_message NoMemory = false

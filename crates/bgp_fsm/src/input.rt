@@ -25,6 +25,8 @@ pub enum Input<'a> {
     Keepalive,
     /// An UPDATE has come: without fault, or to a session that isn't Established, and then its body isn't read.
     Update,
+    /// A ROUTE-REFRESH has come (RFC 2918 section 3), and whether it asks for IPv4 unicast.
+    RouteRefresh(bool),
     /// A NOTIFICATION has come.
     Notification,
     /// A faulty message has come, and this tells its fault.

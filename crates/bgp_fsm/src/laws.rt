@@ -1,5 +1,5 @@
 //! Laws of the session table, in the words of RFC 4271 section 8.2.2. Each is the contract of an empty function.
-ghost use Rattle.bgp_fsm.specs.Laws.{EstablishedBegins, EnteredTells, LeftTells, OpenAnswersUp, ClosesWhatIsOpen, ClosingIsTold, NotificationsClose, NotificationIsUnanswered, OpenedTells, TimersFit, fit, OpenIsAwaited, AttemptsAreRetried, FallsAndRises, HoldTimeIsAgreed, MessagesHold};
+ghost use Rattle.bgp_fsm.specs.Laws.{EstablishedBegins, EnteredTells, LeftTells, RefreshedTells, OpenAnswersUp, ClosesWhatIsOpen, ClosingIsTold, NotificationsClose, NotificationIsUnanswered, OpenedTells, TimersFit, fit, OpenIsAwaited, AttemptsAreRetried, FallsAndRises, HoldTimeIsAgreed, MessagesHold};
 ghost use Rattle.std.specs.Prelude.{◌≡◌, true};
 ghost use Rattle.bgp_fsm.specs.SessionTable.{fresh};
 ghost use Rattle.bgp_msg.specs.declared.open_message.OwnOpen.{OwnOpen};
@@ -18,6 +18,11 @@ pub fn entered_tells()
 /// `left` tells exactly that Established ends.
 pub fn left_tells()
     ensures { LeftTells }
+{}
+
+/// `refreshed` tells exactly that the peer of an Established session asks for all routes again.
+pub fn refreshed_tells()
+    ensures { RefreshedTells }
 {}
 
 /// `opened` tells exactly that a connection attempt begins.

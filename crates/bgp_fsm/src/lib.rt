@@ -17,7 +17,7 @@ mod timers;
 pub use input::Input;
 pub use laws::{
     closes_what_is_open, closing_is_told, entered_tells, established_begins, left_tells,
-    notifications_close, open_answers_up, opened_tells, timers_begin, timers_fit,
+    notifications_close, open_answers_up, opened_tells, refreshed_tells, timers_begin, timers_fit,
 };
 pub use session::{Effects, Outgoing, Session};
 pub use state::State;

@@ -4,7 +4,7 @@ ghost use Rattle.std.specs.Option.{option_map};
 ghost use Rattle.bgp_msg.specs.Notifications.{error_notification};
 ghost use Rattle.bgp_fsm.specs.StateTests.{is_established};
 ghost use Rattle.bgp_fsm.specs.declared.session.Outgoing.TheVariants.{Keepalive as OwnKeepalive, Open as OwnOpen, Notification as TheNotification};
-ghost use Rattle.bgp_fsm.specs.SessionTable.{accepted, awaiting, begins, closed, confirmed, connecting, disabled, ended, enters, established, failed, fallen, given_up, heard, kept_alive, leaving, listening, marked, nothing, reopened, resting, says, shut, started};
+ghost use Rattle.bgp_fsm.specs.SessionTable.{accepted, asked_again, awaiting, begins, closed, confirmed, connecting, disabled, ended, enters, established, failed, fallen, given_up, heard, kept_alive, leaving, listening, marked, nothing, reopened, resting, says, shut, started};
 
 use crate::session::{Effects, Outgoing, Session};
 use crate::state::State;
@@ -182,6 +182,18 @@ impl Session {
     {
         self.timers.hold = hold_end(self.hold_time, now);
         Effects::NONE
+    }
+
+    /// A ROUTE-REFRESH has come, which keeps the session alive.
+    pub(crate) fn refresh<'a>(&mut self, asks: bool, now: u64) -> Effects<'a>
+        ensures session { self.new ≡ heard self.old now }
+        ensures effects { result ≡ asked_again asks }
+    {
+        self.timers.hold = hold_end(self.hold_time, now);
+        Effects {
+            refreshed: asks,
+            ..Effects::NONE
+        }
     }
 
     /// A KEEPALIVE goes. Its timer begins again, also where it is left out.

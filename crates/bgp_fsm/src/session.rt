@@ -34,6 +34,8 @@ pub struct Effects<'a> {
     pub entered: bool,
     /// Established ends.
     pub left: bool,
+    /// The peer asks for all routes again (RFC 2918 section 4).
+    pub refreshed: bool,
 }
 
 /// One peer's session.
@@ -64,6 +66,7 @@ impl Effects<'_> {
         opened: false,
         entered: false,
         left: false,
+        refreshed: false,
     };
 }
 
@@ -146,7 +149,7 @@ impl Session {
             (OpenSent, Input::Remove) => self.end(PeerDeconfigured),
             (OpenSent, Input::Fail) => self.retry(self.mode, now),
             (OpenSent, Input::Open(message)) => self.confirm(*message, now),
-            (OpenSent, Input::UnexpectedOpen | Input::Keepalive | Input::Update) => self.refuse(UnexpectedMessage, now),
+            (OpenSent, Input::UnexpectedOpen | Input::Keepalive | Input::Update | Input::RouteRefresh(_)) => self.refuse(UnexpectedMessage, now),
             (OpenSent, Input::Notification) => self.close(None, now),
             (OpenSent, Input::Fault(fault)) => self.answer(fault, now),
             (OpenSent, Input::NoMemory) => self.refuse(OutOfResources, now),
@@ -155,7 +158,7 @@ impl Session {
             (OpenConfirm, Input::Disable) => self.end(AdministrativeShutdown),
             (OpenConfirm, Input::Remove) => self.end(PeerDeconfigured),
             (OpenConfirm, Input::Fail) => self.fall(now),
-            (OpenConfirm, Input::Open(_) | Input::UnexpectedOpen | Input::Update) => self.refuse(UnexpectedMessage, now),
+            (OpenConfirm, Input::Open(_) | Input::UnexpectedOpen | Input::Update | Input::RouteRefresh(_)) => self.refuse(UnexpectedMessage, now),
             (OpenConfirm, Input::Keepalive) => self.establish(now),
             (OpenConfirm, Input::Notification) => self.close(None, now),
             (OpenConfirm, Input::Fault(fault)) => self.answer(fault, now),
@@ -168,6 +171,7 @@ impl Session {
             (Established, Input::Fail) => self.fall(now),
             (Established, Input::Open(_) | Input::UnexpectedOpen) => self.refuse(UnexpectedMessage, now),
             (Established, Input::Keepalive | Input::Update) => self.hear(now),
+            (Established, Input::RouteRefresh(asks)) => self.refresh(*asks, now),
             (Established, Input::Notification) => self.close(None, now),
             (Established, Input::Fault(fault)) => self.answer(fault, now),
             (Established, Input::NoMemory) => self.refuse(OutOfResources, now),

@@ -5,7 +5,7 @@ use Rattle.std.proofs.lemmas.List.{take-append-drop, length-take-le, drop_more}
 use Rattle.std.specs.Int.{w16, to_be_bytes}
 use Rattle.std.specs.List.{list_all}
 use Rattle.bgp_msg.specs.declared.frame.MessageType.{MessageType}
-use Rattle.bgp_msg.specs.declared.frame.MessageType.TheVariants.{Open, Update, Notification, Keepalive}
+use Rattle.bgp_msg.specs.declared.frame.MessageType.TheVariants.{Open, Update, Notification, Keepalive, RouteRefresh}
 use Rattle.bgp_msg.specs.MessageSpelling.{kind_at, kind_octet, is_lawful_length, told_length, has_marker, marker, header_of, message_of}
 use Rattle.bgp_msg.specs.MessageFaults.{header_fault}
 use Rattle.bgp_msg.specs.MessageStream.{IsMessage}
@@ -28,6 +28,7 @@ kind_at-octet Open = refl
 kind_at-octet Update = refl
 kind_at-octet Notification = refl
 kind_at-octet Keepalive = refl
+kind_at-octet RouteRefresh = refl
 
 kind_octet-at : (octet : ℕ) (kind : MessageType) → kind_at octet ≡ Some kind → octet ≡ kind_octet kind
 kind_octet-at octet kind h = grind (arith, nat_tests)

@@ -83,8 +83,8 @@ four_octets asn small = omega arith
 
 -- the capabilities in the one optional parameter of an OPEN
 abbrev told : Bool → ℕ → List Part
-told true asn = record { kind = 1; value = 0 ∷ 1 ∷ 0 ∷ 1 ∷ [] } ∷ record { kind = 65; value = to_be_bytes w32 asn } ∷ []
-told false asn = record { kind = 65; value = to_be_bytes w32 asn } ∷ []
+told true asn = record { kind = 1; value = 0 ∷ 1 ∷ 0 ∷ 1 ∷ [] } ∷ record { kind = 65; value = to_be_bytes w32 asn } ∷ record { kind = 2; value = [] } ∷ []
+told false asn = record { kind = 65; value = to_be_bytes w32 asn } ∷ record { kind = 2; value = [] } ∷ []
 
 told_asn : (multiprotocol : Bool) (asn : ℕ) → asn < 2 ^ 32 → first_asn (told multiprotocol asn) ≡ Some asn
 told_asn true asn small = ap (λ (n : ℕ). Some n) (four_octets asn small)

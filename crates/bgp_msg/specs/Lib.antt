@@ -4,4 +4,5 @@ pub mod MessageFaults
 pub mod Notifications
 pub mod MessageStream
 pub mod OpenParts
+pub mod RouteRefresh
 pub mod UpdateMeaning

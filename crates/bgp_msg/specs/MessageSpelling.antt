@@ -9,14 +9,15 @@ use Rattle.std.proofs.Math.Nat.{mul-mod_left}
 use Rattle.net_prefix.specs.Cover.{masked_bits, block_size}
 use Rattle.net_prefix.specs.PrefixSpelling.{BeginsWith, spelling_of, octets_for, address_from}
 use Rattle.bgp_msg.specs.declared.frame.MessageType.{MessageType}
-use Rattle.bgp_msg.specs.declared.frame.MessageType.TheVariants.{Open, Update, Notification, Keepalive}
+use Rattle.bgp_msg.specs.declared.frame.MessageType.TheVariants.{Open, Update, Notification, Keepalive, RouteRefresh}
 
--- the octet of a type
+-- the octet of a type: that of ROUTE-REFRESH by RFC 2918 section 3
 abbrev pub kind_octet : MessageType → ℕ
 kind_octet Open = 1
 kind_octet Update = 2
 kind_octet Notification = 3
 kind_octet Keepalive = 4
+kind_octet RouteRefresh = 5
 
 -- the type of an octet
 abbrev pub kind_at : ℕ → Option MessageType
@@ -25,7 +26,8 @@ kind_at octet =
     else (if octet == 2 then Some Update
     else (if octet == 3 then Some Notification
     else (if octet == 4 then Some Keepalive
-    else None)))
+    else (if octet == 5 then Some RouteRefresh
+    else None))))
 
 -- the lengths that a message of a type may have, its header among them
 abbrev pub is_lawful_length : MessageType → ℕ → Bool
@@ -33,6 +35,7 @@ is_lawful_length Open told = nat_le 29 told
 is_lawful_length Update told = nat_le 23 told
 is_lawful_length Notification told = nat_le 21 told
 is_lawful_length Keepalive told = told == 19
+is_lawful_length RouteRefresh told = told == 23
 
 -- all bits of the 16 octets of the marker are set
 unfoldable pub has_marker : List ℕ → Bool
@@ -67,9 +70,14 @@ abbrev pub unicast_if : Bool → List ℕ
 unicast_if true = unicast_capability
 unicast_if false = []
 
--- the capabilities that this side tells: IPv4 unicast where it is asked for, and AS numbers of four octets
+-- the capability of asking for routes again (RFC 2918 section 2): its value is empty
+abbrev pub route_refresh_capability : List ℕ
+route_refresh_capability = 2 ∷ 0 ∷ []
+
+-- the capabilities that this side tells: IPv4 unicast where it is asked for, AS numbers of four octets, and asking for
+-- routes again
 abbrev pub own_capabilities : Bool → ℕ → List ℕ
-own_capabilities multiprotocol asn = unicast_if multiprotocol ++ four_octet_as_capability asn
+own_capabilities multiprotocol asn = unicast_if multiprotocol ++ four_octet_as_capability asn ++ route_refresh_capability
 
 -- what a field of two octets shows of an AS: AS_TRANS where it doesn't fit (RFC 6793 section 9)
 abbrev pub two_octet_as_of : ℕ → ℕ
@@ -77,7 +85,7 @@ two_octet_as_of asn = if nat_lt asn 65536 then asn else 23456
 
 -- how many octets these are
 abbrev pub own_capability_octets : Bool → ℕ
-own_capability_octets multiprotocol = length (unicast_if multiprotocol) + 6
+own_capability_octets multiprotocol = length (unicast_if multiprotocol) + 8
 
 -- this side's OPEN: its one optional parameter holds its capabilities (RFC 4271 section 4.2, RFC 5492 section 4)
 unfoldable pub open_of : Bool → ℕ → ℕ → ℕ → List ℕ

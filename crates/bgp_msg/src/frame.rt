@@ -23,6 +23,8 @@ pub enum MessageType {
     Update,
     Notification,
     Keepalive,
+    /// The peer asks for routes again (RFC 2918 section 3).
+    RouteRefresh,
 }
 
 /// A whole message: its type, and the octets behind its header.
@@ -60,6 +62,7 @@ impl MessageType {
             2 => Some(MessageType::Update),
             3 => Some(MessageType::Notification),
             4 => Some(MessageType::Keepalive),
+            5 => Some(MessageType::RouteRefresh),
             _ => None,
         }
     }
@@ -73,6 +76,7 @@ impl MessageType {
             MessageType::Update => 2,
             MessageType::Notification => 3,
             MessageType::Keepalive => 4,
+            MessageType::RouteRefresh => 5,
         }
     }
 
@@ -85,6 +89,7 @@ impl MessageType {
             MessageType::Update => length >= 23,
             MessageType::Notification => length >= 21,
             MessageType::Keepalive => length == 19,
+            MessageType::RouteRefresh => length == 23,
         }
     }
 }

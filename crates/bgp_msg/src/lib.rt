@@ -11,6 +11,7 @@ mod fault;
 mod frame;
 mod notification;
 mod open_message;
+mod refresh;
 mod stream;
 mod update;
 mod writing;
@@ -19,6 +20,7 @@ pub use fault::{Fault, HeaderFault, OpenFault};
 pub use frame::{Frame, HEADER_OCTETS, MAX_MESSAGE, MessageType, Step, needed, read};
 pub use notification::{Notification, SessionError};
 pub use open_message::{Expected, Open, OwnOpen, only_parts, read_open};
+pub use refresh::is_ipv4_unicast;
 pub use stream::{
     keepalive_is_read, no_message_begins_another, notification_is_read, one_more_octet,
     one_spelling, only_messages, open_is_read, pieces_are_the_stream, stream_goes_on,

@@ -21,6 +21,9 @@ const FIXED_OCTETS: usize = 10;
 /// The code of the capability of AS numbers of four octets (RFC 6793 section 3).
 pub(crate) const FOUR_OCTET_AS: u8 = 65;
 
+/// The capability of asking for routes again (RFC 2918 section 2): its code, and the length of its value.
+pub(crate) const ROUTE_REFRESH: [u8; 2] = [2, 0];
+
 // The capability of IPv4 unicast (RFC 4760 section 8): its code, the length of its value, AFI 1, an octet of 0, SAFI 1.
 const UNICAST: [u8; 6] = [1, 4, 0, 1, 0, 1];
 

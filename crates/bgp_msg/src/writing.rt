@@ -7,7 +7,7 @@ ghost use Rattle.bgp_msg.specs.MessageLimits.{max_message};
 
 use crate::frame::{MAX_MESSAGE, MessageType};
 use crate::notification::{MAX_DATA, Notification, front};
-use crate::open_message::{BGP_VERSION, CAPABILITIES, OwnOpen, four_octet_as, unicast};
+use crate::open_message::{BGP_VERSION, CAPABILITIES, OwnOpen, ROUTE_REFRESH, four_octet_as, unicast};
 use arrayvec::ArrayVec;
 use byteorder::{BigEndian, ByteOrder};
 use net_prefix::{Asn, Prefix};
@@ -18,14 +18,14 @@ const AS_TRANS: u16 = 23456;
 const MARKER: [u8; 16] = [255; 16];
 
 /// Writes this side's OPEN with one optional parameter: the capability of IPv4 unicast where it is asked for, and behind
-/// it that of AS numbers of four octets.
+/// it those of AS numbers of four octets and of asking for routes again.
 #[tactic(auto, unfolding(crate::specs::MessageSpelling::open_of))]
 pub fn write_open(message: &OwnOpen, out: &mut ArrayVec<u8, MAX_MESSAGE>)
     ensures octets { out.new.items ≡ open_of message.now.multiprotocol message.now.asn.0 message.now.hold_time message.now.identifier }
     ensures most { length out.new.items ≤ max_message }
 {
     let unicast = unicast(message.multiprotocol);
-    let capabilities = unicast.len() as u8 + 6;
+    let capabilities = unicast.len() as u8 + 8;
     begin(MessageType::Open, 31 + u16::from(capabilities), out);
     append(&[BGP_VERSION], out);
     append_u16(two_octet_as(message.asn), out);
@@ -34,6 +34,7 @@ pub fn write_open(message: &OwnOpen, out: &mut ArrayVec<u8, MAX_MESSAGE>)
     append(&[2 + capabilities, CAPABILITIES, capabilities], out);
     append(unicast, out);
     append(&four_octet_as(message.asn), out);
+    append(&ROUTE_REFRESH, out);
 }
 
 /// Writes a KEEPALIVE.

@@ -4,7 +4,7 @@ use Rattle.std.proofs.lemmas.List.{drop_at}
 use Rattle.bgp_attr.specs.AttributeFaults.{Fault as UpdateFault}
 use Rattle.net_prefix.specs.declared.transport.Transport.TheVariants.{Open as Connected}
 use Rattle.bgp_msg.specs.declared.fault.OpenFault.{OpenFault}
-use Rattle.bgp_msg.specs.declared.frame.MessageType.TheVariants.{Open as OpenType, Update as UpdateType, Notification as NotificationType, Keepalive as KeepaliveType}
+use Rattle.bgp_msg.specs.declared.frame.MessageType.TheVariants.{Open as OpenType, Update as UpdateType, Notification as NotificationType, Keepalive as KeepaliveType, RouteRefresh as RouteRefreshType}
 use Rattle.bgp_msg.specs.MessageFaults.{open_fault}
 use Rattle.bgp_msg.specs.MessageStream.{Item, WholeMessage, FaultyHeader, unread}
 use Rattle.bgp_msg.specs.UpdateMeaning.{update_fault}
@@ -40,6 +40,7 @@ input_is_message state terms (WholeMessage OpenType body) = open_is_message (awa
 input_is_message state terms (WholeMessage UpdateType body) = update_is_message (is_established state) (update_fault (kind_of terms) body)
 input_is_message state terms (WholeMessage NotificationType body) = refl
 input_is_message state terms (WholeMessage KeepaliveType body) = refl
+input_is_message state terms (WholeMessage RouteRefreshType body) = refl
 
 -- without a connection it is nothing
 pub ignored :

@@ -7,7 +7,7 @@ use Rattle.bgp_attr.specs.declared.peer.Mode.TheVariants.{Passive}
 use Rattle.bgp_attr.specs.declared.peer.PeerKind.{PeerKind}
 use Rattle.bgp_attr.specs.PeerKinds.{kind_between}
 use Rattle.bgp_attr.specs.AttributeFaults.{Fault as UpdateFault}
-use Rattle.bgp_msg.specs.declared.frame.MessageType.TheVariants.{Open as OpenType, Update as UpdateType, Notification as NotificationType, Keepalive as KeepaliveType}
+use Rattle.bgp_msg.specs.declared.frame.MessageType.TheVariants.{Open as OpenType, Update as UpdateType, Notification as NotificationType, Keepalive as KeepaliveType, RouteRefresh as RouteRefreshType}
 use Rattle.bgp_msg.specs.declared.fault.OpenFault.{OpenFault}
 use Rattle.bgp_msg.specs.declared.open_message.Open.{Open as OpenMessage}
 use Rattle.bgp_msg.specs.declared.open_message.OwnOpen.{OwnOpen as OwnOpenMessage}
@@ -15,10 +15,11 @@ use Rattle.bgp_msg.specs.declared.open_message.Expected.{Expected}
 use Rattle.bgp_msg.specs.MessageFaults.{open_fault, hold_time_at, identifier_at}
 use Rattle.bgp_msg.specs.Notifications.{header_notification, open_notification, update_notification}
 use Rattle.bgp_msg.specs.MessageStream.{Item, WholeMessage, FaultyHeader, completed, unread}
+use Rattle.bgp_msg.specs.RouteRefresh.{is_ipv4_unicast}
 use Rattle.bgp_msg.specs.UpdateMeaning.{update_fault}
 use Rattle.bgp_fsm.specs.declared.state.State.{State}
 use Rattle.bgp_fsm.specs.declared.input.Input.{Input}
-use Rattle.bgp_fsm.specs.declared.input.Input.TheVariants.{Remove, Open, UnexpectedOpen, Keepalive, Update, Notification, Fault, Expires}
+use Rattle.bgp_fsm.specs.declared.input.Input.TheVariants.{Remove, Open, UnexpectedOpen, Keepalive, Update, RouteRefresh, Notification, Fault, Expires}
 use Rattle.bgp_fsm.specs.declared.timers.Timer.{Timer}
 use Rattle.bgp_fsm.specs.declared.timers.Timer.TheVariants.{Hold, ConnectRetry, IdleHold, Keepalive as KeepaliveTimer}
 use Rattle.bgp_fsm.specs.TimerMoments.{has_ended}
@@ -124,6 +125,7 @@ input_of state terms (WholeMessage OpenType body) = if awaits_open state then op
 input_of state terms (WholeMessage UpdateType body) = if is_established state then update_input (update_fault (kind_of terms) body) else Update
 input_of state terms (WholeMessage KeepaliveType body) = Keepalive
 input_of state terms (WholeMessage NotificationType body) = Notification
+input_of state terms (WholeMessage RouteRefreshType body) = RouteRefresh (is_ipv4_unicast body)
 
 -- an input, if there is one
 abbrev pub listed : Option Input → List Input

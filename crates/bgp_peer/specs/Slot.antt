@@ -13,7 +13,7 @@ use Rattle.bgp_msg.specs.MessageLimits.{max_message}
 use Rattle.bgp_msg.specs.Notifications.{notification_of}
 use Rattle.bgp_msg.specs.MessageStream.{Item, WholeMessage, FaultyHeader, messages, unread, with_front, left_over}
 use Rattle.bgp_fsm.specs.declared.input.Input.{Input}
-use Rattle.bgp_fsm.specs.declared.input.Input.TheVariants.{Start, Disable, Remove, Up, Fail, Open as OpenInput, UnexpectedOpen, Keepalive as KeepaliveInput, Update, Notification, Fault, NoMemory, Expires}
+use Rattle.bgp_fsm.specs.declared.input.Input.TheVariants.{Start, Disable, Remove, Up, Fail, Open as OpenInput, UnexpectedOpen, Keepalive as KeepaliveInput, Update, RouteRefresh, Notification, Fault, NoMemory, Expires}
 use Rattle.bgp_fsm.specs.declared.session.Session.{Session}
 use Rattle.bgp_fsm.specs.declared.session.Outgoing.{Outgoing}
 use Rattle.bgp_fsm.specs.declared.session.Outgoing.TheVariants.{Open, Keepalive, Notification as Notify}
@@ -90,6 +90,7 @@ kept (OpenInput message) octets = octets
 kept UnexpectedOpen octets = octets
 kept KeepaliveInput octets = octets
 kept Update octets = octets
+kept (RouteRefresh asks) octets = octets
 kept Notification octets = octets
 kept (Fault told) octets = octets
 kept NoMemory octets = octets
@@ -106,6 +107,7 @@ rest_after (OpenInput message) rest = []
 rest_after UnexpectedOpen rest = []
 rest_after KeepaliveInput rest = []
 rest_after Update rest = []
+rest_after (RouteRefresh asks) rest = []
 rest_after Notification rest = []
 rest_after (Fault told) rest = []
 rest_after NoMemory rest = []

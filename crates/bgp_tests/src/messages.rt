@@ -4,8 +4,9 @@
 use arrayvec::ArrayVec;
 use bgp_attr::{PeerKind, UpdateFault};
 use bgp_msg::{
-    Expected, Fault, MessageType, Notification, Open, OpenFault, Prefixes, SessionError, Step,
-    needed, read, read_open, read_update, write_notification,
+    Expected, Fault, HeaderFault, MessageType, Notification, Open, OpenFault, OwnOpen, Prefixes,
+    SessionError, Step, is_ipv4_unicast, needed, read, read_open, read_update, write_notification,
+    write_open,
 };
 use net_prefix::{Asn, Prefix};
 use std::alloc::Global;
@@ -13,19 +14,30 @@ use std::alloc::Global;
 // Fronts of messages behind their markers, and how many octets more are needed.
 const FRONTS: [(&[u8], usize); 3] = [(&[0, 0x13, 4], 0), (&[0, 0x13], 1), (&[0, 0x25, 1], 18)];
 
-// Messages behind their markers: a KEEPALIVE, an OPEN, an UPDATE and the NOTIFICATIONs of some faults.
+// Messages behind their markers: a KEEPALIVE, an OPEN, an UPDATE, a ROUTE-REFRESH and the NOTIFICATIONs of some faults.
 #[rattlefmt::skip]
-const MESSAGES: [(&[u8], MessageType); 9] = [
+const MESSAGES: [(&[u8], MessageType); 10] = [
     (&[0, 0x13, 4], MessageType::Keepalive),
     (&[0, 0x25, 1, 4, 0xFD, 0xE9, 0, 0x5A, 1, 1, 1, 1, 8, 2, 6, 0x41, 4, 0, 0, 0xFD, 0xE9], MessageType::Open),
     (&[0, 0x33, 2, 0, 4, 0x18, 10, 0, 1, 0, 0x14, 0x40, 1, 1, 0, 0x40, 2, 6, 2, 1, 0, 0, 0xFD, 0xE9, 0x40, 3, 4, 0xC0,
         0, 2, 0x0B, 0x18, 10, 0, 1], MessageType::Update),
+    (&[0, 0x17, 5, 0, 1, 0, 1], MessageType::RouteRefresh),
     (&[0, 0x17, 3, 1, 2, 0, 0x12], MessageType::Notification),
     (&[0, 0x16, 3, 1, 3, 5], MessageType::Notification),
     (&[0, 0x17, 3, 2, 1, 0, 4], MessageType::Notification),
     (&[0, 0x1B, 3, 2, 7, 0x41, 4, 0, 0, 0xFD, 0xE8], MessageType::Notification),
     (&[0, 0x16, 3, 3, 3, 3], MessageType::Notification),
     (&[0, 0x19, 3, 3, 6, 0x40, 1, 1, 3], MessageType::Notification),
+];
+
+// Faulty headers behind their markers: a ROUTE-REFRESH has 23 octets, and no message has the type 0 or 6.
+#[rattlefmt::skip]
+const FAULTY: [(&[u8], HeaderFault); 5] = [
+    (&[0, 0x13, 5], HeaderFault::BadMessageLength(19)),
+    (&[0, 0x16, 5], HeaderFault::BadMessageLength(22)),
+    (&[0, 0x18, 5], HeaderFault::BadMessageLength(24)),
+    (&[0, 0x17, 0], HeaderFault::BadMessageType(0)),
+    (&[0, 0x17, 6], HeaderFault::BadMessageType(6)),
 ];
 
 // The octets behind a marker.
@@ -59,6 +71,37 @@ fn is_read_when_whole(message: &[u8], kind: MessageType) -> bool {
 fn a_message_is_read_whatever_follows(rt: HostRuntime) {
     for (octets, kind) in &MESSAGES {
         assert!(rt; is_read_when_whole(marked(octets).as_slice(), *kind));
+    }
+}
+
+fn is_faulty(header: &[u8], fault: HeaderFault) -> bool {
+    read(marked(header).as_slice()) == Step::Faulty(fault)
+}
+
+#[test]
+fn a_faulty_header_begins_no_message(rt: HostRuntime) {
+    for (header, fault) in &FAULTY {
+        assert!(rt; is_faulty(header, *fault));
+    }
+}
+
+// Bodies of ROUTE-REFRESHes, and whether they ask for IPv4 unicast: AFI 1 and SAFI 1, whatever stands between them.
+#[rattlefmt::skip]
+const REFRESHES: [(&[u8], bool); 8] = [
+    (&[0, 1, 0, 1], true),
+    (&[0, 1, 255, 1], true),
+    (&[0, 2, 0, 1], false),
+    (&[1, 1, 0, 1], false),
+    (&[1, 0, 0, 1], false),
+    (&[0, 1, 0, 2], false),
+    (&[0, 1, 1, 0], false),
+    (&[0, 1, 0], false),
+];
+
+#[test]
+fn a_refresh_asks_for_an_afi_and_a_safi(rt: HostRuntime) {
+    for (body, asks) in &REFRESHES {
+        assert!(rt; is_ipv4_unicast(body) == *asks);
     }
 }
 
@@ -100,8 +143,9 @@ const HERE: Expected = Expected {
 
 // Bodies of OPENs, and what they say, or their faults.
 #[rattlefmt::skip]
-const OPENS: [(&[u8], Expected, Result<Open, OpenFault>); 8] = [
+const OPENS: [(&[u8], Expected, Result<Open, OpenFault>); 9] = [
     (&[4, 0xFD, 0xE8, 0, 0xB4, 0xC0, 0, 2, 1, 8, 2, 6, 0x41, 4, 0, 0, 0xFD, 0xE8], AT_PEER, Ok(OWN)),
+    (&[4, 0xFD, 0xE8, 0, 0xB4, 0xC0, 0, 2, 1, 10, 2, 8, 0x41, 4, 0, 0, 0xFD, 0xE8, 2, 0], AT_PEER, Ok(OWN)),
     (&[4, 0xFD, 0xE8, 0, 0xB4, 0xC0, 0, 2, 1, 0], AT_PEER, Err(OpenFault::UnsupportedCapability(Asn(65001)))),
     (&[4, 0xFD, 0xE9, 0, 0x5A, 1, 1, 1, 1, 8, 2, 6, 0x41, 4, 0, 0, 0xFD, 0xE9], HERE, Ok(PEER)),
     (&[3, 0xFD, 0xE9, 0, 0x5A, 1, 1, 1, 1, 8, 2, 6, 0x41, 4, 0, 0, 0xFD, 0xE9], HERE, Err(OpenFault::UnsupportedVersion)),
@@ -119,6 +163,32 @@ fn says(body: &[u8], expected: Expected, said: Result<Open, OpenFault>) -> bool 
 fn an_open_is_read_or_its_fault_is_told(rt: HostRuntime) {
     for (body, expected, said) in &OPENS {
         assert!(rt; says(body, *expected, *said));
+    }
+}
+
+// Our OPEN behind its marker, without and with the capability of IPv4 unicast.
+#[rattlefmt::skip]
+const WRITTEN: [(bool, &[u8]); 2] = [
+    (false, &[0, 0x27, 1, 4, 0xFD, 0xE8, 0, 0xB4, 0xC0, 0, 2, 1, 10, 2, 8, 0x41, 4, 0, 0, 0xFD, 0xE8, 2, 0]),
+    (true, &[0, 0x2D, 1, 4, 0xFD, 0xE8, 0, 0xB4, 0xC0, 0, 2, 1, 16, 2, 14, 1, 4, 0, 1, 0, 1, 0x41, 4, 0, 0, 0xFD, 0xE8, 2, 0]),
+];
+
+fn is_written(multiprotocol: bool, octets: &[u8]) -> bool {
+    let own = OwnOpen {
+        asn: OWN.asn,
+        hold_time: OWN.hold_time,
+        identifier: OWN.identifier,
+        multiprotocol,
+    };
+    let mut message = ArrayVec::new();
+    write_open(&own, &mut message);
+    message.as_slice() == marked(octets).as_slice()
+}
+
+#[test]
+fn an_open_tells_what_this_side_can(rt: HostRuntime) {
+    for (multiprotocol, octets) in &WRITTEN {
+        assert!(rt; is_written(*multiprotocol, octets));
     }
 }
 

@@ -29,6 +29,8 @@ enum Came {
     Open,
     Keepalive,
     Update,
+    // A ROUTE-REFRESH, and whether it asks for IPv4 unicast.
+    Refresh(bool),
     Fault,
     NoMemory,
 }
@@ -38,7 +40,7 @@ enum Came {
 type Row = (Mode, State, Came, State, Transport, Option<(u8, u8)>);
 
 #[rattlefmt::skip]
-const ROWS: [Row; 8] = [
+const ROWS: [Row; 13] = [
     (Mode::Passive, State::Idle,        Came::Fail,     State::Idle,   Transport::None,      None),
     (Mode::Passive, State::Idle,        Came::Up,       State::Idle,   Transport::None,      None),
     (Mode::Passive, State::Idle,        Came::NoMemory, State::Idle,   Transport::None,      None),
@@ -47,6 +49,11 @@ const ROWS: [Row; 8] = [
     (Mode::Passive, State::OpenConfirm, Came::NoMemory, State::Idle,   Transport::Closing,   Some((6, 8))),
     (Mode::Passive, State::Established, Came::NoMemory, State::Idle,   Transport::Closing,   Some((6, 8))),
     (Mode::Active,  State::Active,      Came::Up,       State::Active, Transport::None,      None),
+    (Mode::Passive, State::Idle,        Came::Refresh(true), State::Idle,    Transport::None,      None),
+    (Mode::Passive, State::Active,      Came::Refresh(true), State::Active,  Transport::Listening, None),
+    (Mode::Passive, State::OpenSent,    Came::Refresh(true), State::Idle,    Transport::Closing,   Some((5, 0))),
+    (Mode::Passive, State::OpenConfirm, Came::Refresh(false), State::Idle,   Transport::Closing,   Some((5, 0))),
+    (Mode::Passive, State::Established, Came::Refresh(true), State::Established, Transport::Open,  None),
 ];
 
 fn input_of(came: Came) -> Input<'static> {
@@ -58,6 +65,7 @@ fn input_of(came: Came) -> Input<'static> {
         Came::Open => Input::Open(PEER),
         Came::Keepalive => Input::Keepalive,
         Came::Update => Input::Update,
+        Came::Refresh(asks) => Input::RouteRefresh(asks),
         Came::Fault => Input::Fault(Notification::of_error(SessionError::UnexpectedMessage)),
         Came::NoMemory => Input::NoMemory,
     }
@@ -91,6 +99,29 @@ fn is_row(row: &Row) -> bool {
 fn each_row_is_as_the_table_says(rt: HostRuntime) {
     for row in &ROWS {
         assert!(rt; is_row(row), "{row:?}");
+    }
+}
+
+// The state of a session, what comes, and whether the peer asks for all routes again by it.
+const ASKING: [(State, Came, bool); 6] = [
+    (State::Established, Came::Refresh(true), true),
+    (State::Established, Came::Refresh(false), false),
+    (State::Established, Came::Update, false),
+    (State::Established, Came::NoMemory, false),
+    (State::OpenConfirm, Came::Refresh(true), false),
+    (State::Idle, Came::Refresh(true), false),
+];
+
+fn asks_again(state: State, came: Came) -> bool {
+    let mut session = session_in(Mode::Passive, state);
+    let effects = session.input(input_of(came), 0);
+    effects.refreshed
+}
+
+#[test]
+fn an_established_peer_asks_for_its_routes_again(rt: HostRuntime) {
+    for (state, came, asks) in &ASKING {
+        assert!(rt; asks_again(*state, *came) == *asks);
     }
 }
 
@@ -163,11 +194,18 @@ const UPDATED: [(Came, u64); 5] = [
 ];
 
 #[rattlefmt::skip]
-const RUNS: [Run; 6] = [
-    // The hold timer is of the smaller hold time, and an UPDATE begins it again.
+const REFRESHED: [(Came, u64); 5] = [
+    (Came::Start, 100), (Came::Up, 100), (Came::Open, 100), (Came::Keepalive, 100), (Came::Refresh(false), 150),
+];
+
+#[rattlefmt::skip]
+const RUNS: [Run; 7] = [
+    // The hold timer is of the smaller hold time, and an UPDATE or a ROUTE-REFRESH begins it again.
     (180, &[(Came::Start, 100), (Came::Up, 100), (Came::Open, 100), (Came::Keepalive, 100)],
         State::Established, HOLDING, (true, false)),
     (180, &UPDATED,
+        State::Established, HOLDING_LONGER, (false, false)),
+    (180, &REFRESHED,
         State::Established, HOLDING_LONGER, (false, false)),
     // A hold time of 0 runs no timer.
     (0, &[(Came::Start, 0), (Came::Up, 0), (Came::Open, 0), (Came::Keepalive, 0)],

@@ -1,3 +1,4 @@
+pub mod HeldTables
 pub mod OwedMarks
 pub mod Prefixes
 pub mod Records

@@ -1,11 +1,11 @@
 //! One peer's Adj-RIB-Out.
-ghost use Rattle.std.specs.Prelude.{◌≡◌, [], None, Some, OnOk, OnErr, IfSome, IfNone, IsSome, IsTrue, ◌↔◌, false, if◌then◌else◌};
+ghost use Rattle.std.specs.Prelude.{◌≡◌, [], None, Some, OnOk, OnErr, IfSome, IfNone, IsSome, IsTrue, ◌↔◌, false, is_some, if◌then◌else◌};
 ghost use Rattle.std.specs.Option.{option_copied};
 ghost use Rattle.std.specs.Ordering.{is_gt};
 ghost use Rattle.std.specs.declared.cmp.Ordering.TheVariants.{Less};
 ghost use Rattle.std.specs.Iterator.{YieldsFirstBy, item_count};
 ghost use Rattle.net_prefix.specs.declared.prefix.Prefix.{Prefix};
-ghost use Rattle.rib_out.specs.Held.{held_at, is_prefix, IsRising};
+ghost use Rattle.rib_out.specs.Held.{IsRising, all_asked, asked_at, held_at, is_prefix, octets_of};
 ghost use Rattle.net_prefix.specs.PrefixOrder.{prefix_cmp, IsAbove};
 
 use crate::shared::SharedOctets;
@@ -15,17 +15,35 @@ use std::collections::{BTreeMap, btree_map};
 use std::marker::Model;
 use std::ops::Bound;
 
-/// What one peer was sent: the octets of the attributes of each prefix that it holds.
+/// What one peer was sent: the octets of the attributes of each prefix that it holds, and whether it has asked for the
+/// route again since.
 #[derive(Drop)]
 pub struct AdjOut<A: Allocator = Global> {
-    routes: BTreeMap<Prefix, SharedOctets<A>, A>,
+    routes: BTreeMap<Prefix, HeldRoute<A>, A>,
+}
+
+/// What a peer holds of a prefix.
+#[derive(Drop)]
+struct HeldRoute<A: Allocator> {
+    octets: SharedOctets<A>,
+    // Whether the peer has asked for the route again since it was sent it (RFC 2918 section 4).
+    asked: bool,
+}
+
+impl<A: Allocator> Model for HeldRoute<A> {
+    ghost use Rattle.rib_out.specs.Held.{HeldRoute};
+
+    ghost Value = { HeldRoute };
+
+    ghost view = { λ route. record { octets = route.octets; asked = route.asked } };
 }
 
 impl<A: Allocator> Model for AdjOut<A> {
-    ghost use Rattle.std.specs.Prelude.{List, ℕ};
+    ghost use Rattle.std.specs.Prelude.{List};
     ghost use Rattle.net_prefix.specs.declared.prefix.Prefix.{Prefix};
+    ghost use Rattle.rib_out.specs.Held.{HeldRoute};
 
-    ghost Value = { List (Prefix × List ℕ) };
+    ghost Value = { List (Prefix × HeldRoute) };
 
     ghost view = { λ t. t.routes.entries };
 }
@@ -45,8 +63,18 @@ impl<A: Allocator + Clone> AdjOut<A> {
         ensures { option_copied result ≡ held_at self.now prefix }
     {
         match self.routes.get(&prefix) {
-            Some(held) => Some(held.as_slice()),
+            Some(held) => Some(held.octets.as_slice()),
             None => None,
+        }
+    }
+
+    /// Whether the peer holds the prefix, and has asked for it again since it was sent it.
+    pub fn is_asked(&self, prefix: Prefix) -> bool
+        ensures { result ≡ asked_at self.now prefix }
+    {
+        match self.routes.get(&prefix) {
+            Some(held) => held.asked,
+            None => false,
         }
     }
 
@@ -60,12 +88,17 @@ impl<A: Allocator + Clone> AdjOut<A> {
         }
     }
 
-    /// The peer was sent a route with these attributes.
+    /// The peer was sent a route with these attributes, for which it has not asked again.
     pub fn announce(&mut self, prefix: Prefix, octets: SharedOctets<A>) -> Result<(), AllocError>
-        ensures ok { OnOk result ((q : Prefix) → held_at self.new q ≡ (if is_prefix prefix q then Some octets else held_at self.old q)) }
+        ensures held { OnOk result ((q : Prefix) → held_at self.new q ≡ (if is_prefix prefix q then Some octets else held_at self.old q)) }
+        ensures asked { OnOk result ((q : Prefix) → asked_at self.new q ≡ (if is_prefix prefix q then false else asked_at self.old q)) }
         ensures err { OnErr result (self.new ≡ self.old) }
     {
-        match self.routes.insert(prefix, octets) {
+        let held = HeldRoute {
+            octets,
+            asked: false,
+        };
+        match self.routes.insert(prefix, held) {
             Ok(_) => Ok(()),
             Err(_) => Err(AllocError),
         }
@@ -73,9 +106,22 @@ impl<A: Allocator + Clone> AdjOut<A> {
 
     /// The peer was sent a withdrawal of the prefix.
     pub fn withdraw(&mut self, prefix: Prefix)
-        ensures { (q : Prefix) → held_at self.new q ≡ (if is_prefix prefix q then None else held_at self.old q) }
+        ensures held { (q : Prefix) → held_at self.new q ≡ (if is_prefix prefix q then None else held_at self.old q) }
+        ensures asked { (q : Prefix) → asked_at self.new q ≡ (if is_prefix prefix q then false else asked_at self.old q) }
     {
         self.routes.remove(&prefix);
+    }
+
+    /// The peer asks again for each prefix that it holds (RFC 2918 section 4). It takes no memory.
+    pub fn ask_all(&mut self)
+        ensures all { self.new ≡ all_asked self.old }
+        ensures held { (q : Prefix) → held_at self.new q ≡ held_at self.old q }
+        ensures asked { (q : Prefix) → asked_at self.new q ≡ is_some (held_at self.old q) }
+    {
+        self.routes.retain(|_, held| {
+            held.asked = true;
+            true
+        });
     }
 
     /// The peer holds nothing any more: its session has ended.
@@ -126,8 +172,8 @@ impl<A: Allocator + Clone> AdjOut<A> {
 
     /// What the peer holds, in rising order of the prefixes.
     pub fn held(&self) -> HeldRoutes<'_, A>
-        ensures all { result ≡ self.now }
-        ensures rising { IsRising self.now }
+        ensures all { result ≡ octets_of self.now }
+        ensures rising { IsRising result }
     {
         HeldRoutes {
             rest: self.routes.iter(),
@@ -138,16 +184,17 @@ impl<A: Allocator + Clone> AdjOut<A> {
 /// The prefixes that a peer holds, with the octets of their attributes.
 #[derive(Drop)]
 pub struct HeldRoutes<'a, A: Allocator = Global> {
-    rest: btree_map::Iter<'a, Prefix, SharedOctets<A>>,
+    rest: btree_map::Iter<'a, Prefix, HeldRoute<A>>,
 }
 
 impl<'a, A: Allocator> Model for HeldRoutes<'a, A> {
     ghost use Rattle.std.specs.Prelude.{List, ℕ};
     ghost use Rattle.net_prefix.specs.declared.prefix.Prefix.{Prefix};
+    ghost use Rattle.rib_out.specs.Held.{octets_of};
 
     ghost Value = { List (Prefix × List ℕ) };
 
-    ghost view = { λ routes. routes.rest };
+    ghost view = { λ routes. octets_of routes.rest };
 }
 
 impl<'a, A: Allocator> Iterator for HeldRoutes<'a, A> {
@@ -159,7 +206,7 @@ impl<'a, A: Allocator> Iterator for HeldRoutes<'a, A> {
 
     fn next(&mut self) -> Option<(Prefix, &'a [u8])> {
         match self.rest.next() {
-            Some((prefix, octets)) => Some((*prefix, octets.as_slice())),
+            Some((prefix, held)) => Some((*prefix, held.octets.as_slice())),
             None => None,
         }
     }

@@ -23,7 +23,7 @@ use Rattle.policy.specs.declared.rule.Rule.{Rule}
 use Rattle.net_prefix.specs.declared.asn.Asn.{Asn}
 use Rattle.net_prefix.specs.declared.prefix.Prefix.{Prefix}
 use Rattle.rib_in.specs.LatestRoutes.{RouteTable, route_at}
-use Rattle.rib_out.specs.Held.{held_at}
+use Rattle.rib_out.specs.Held.{asked_at, held_at}
 use Rattle.routes.specs.Export.{export_in, export_peer_of, exported_at, selected_of}
 use Rattle.routes.specs.Linked.{Linked}
 use Rattle.routes.specs.Marks.{AreMarked, AreMarkedFor, mark_at, mark_of, owed_for}
@@ -60,7 +60,7 @@ mark_conf conf conf2 adj_in book slot p (Some a) None linked own same exports = 
 mark_conf conf conf2 adj_in book slot p (Some a) (Some b) None own same exports = refl
 mark_conf conf conf2 adj_in book slot p (Some a) (Some b) (Some l) own same exports =
     let both : exported_by b ≡ exported_by a = one same in
-    ap (λ e. cond (is_established l.peer.session.state) (owed_for e (held_at l.adj_out p)) None)
+    ap (λ e. cond (is_established l.peer.session.state) (owed_for e (held_at l.adj_out p) (asked_at l.adj_out p)) None)
     (exports (export_peer_of conf2 slot b) refl ∙ (λ i. export_in conf (best_at (rows_of book)) adj_in (record { slot = slot; own = own i; asn = (both i).0; local = (both i).1 }) p))
   where
     one : {X : Type 0} {x y : X} → Some x ≡ Some y → x ≡ y

@@ -1,5 +1,5 @@
-use Rattle.std.proofs.Common.{◌≡◌, ◌==◌, ◌&&◌, ◌⊎◌, ℕ, Bool, true, false, not, List, [], Option, Some, None, Result, Ok, Err, OnOk, cond, refl, sym, ap, ◌∙◌, subst, inl, inr}
-use Rattle.std.proofs.lemmas.Bool.{eq-eqb, eqb-true}
+use Rattle.std.proofs.Common.{◌≡◌, ◌≢◌, ◌==◌, ◌&&◌, ◌||◌, ◌⊎◌, ℕ, Bool, true, false, not, List, [], Option, Some, None, Result, Ok, Err, OnOk, cond, refl, sym, ap, ◌∙◌, subst, inl, inr}
+use Rattle.std.proofs.lemmas.Bool.{eq-eqb, eqb-true, ne_eqb}
 use Rattle.bgp_attr.specs.PathAttributes.{PathAttributes}
 use Rattle.bgp_conf.specs.Configuration.{Configuration}
 use Rattle.bgp_fsm.specs.StateTests.{is_established}
@@ -10,6 +10,7 @@ use Rattle.decision.specs.declared.candidate.Candidate.{Candidate}
 use Rattle.net_prefix.specs.declared.payload.Vrp.{Vrp}
 use Rattle.net_prefix.specs.declared.prefix.Prefix.{Prefix}
 use Rattle.rib_in.specs.LatestRoutes.{is_route, route_at}
+use Rattle.routes.specs.Heard.{KeepsUnnamed}
 use Rattle.routes.specs.Updates.{is_among, is_only_withdrawn, word_of}
 use Rattle.routes.specs.Candidates.{IsMade, judged_at}
 use Rattle.routes.specs.RoutingState.{KeepsOthers, RoutingState}
@@ -121,3 +122,30 @@ on_withdrawn slot update old mid none gone s p =
 pub others_withdrawn : (slot : ℕ) (withdrawn : Prefix → Bool) (old mid : RoutingState) → IsSet slot withdrawn (λ p. None) (route_at old.adj_in) (route_at mid.adj_in)
     → IsSet slot withdrawn (λ p. None) (offer_at old.book) (offer_at mid.book) → KeepsOthers slot old.adj_in mid.adj_in old.book mid.book
 others_withdrawn slot withdrawn old mid routes offers = record { routes = set_others slot withdrawn (λ p. None) _ _ routes; offers = set_others slot withdrawn (λ p. None) _ _ offers }
+
+-- the candidates of which an UPDATE says nothing stay
+unnamed_gone : (here withdrawn announced : Bool) → (withdrawn || announced) ≡ false → (here && (withdrawn && not announced)) ≡ false
+unnamed_gone here true announced is = absurd (cc)
+unnamed_gone true false announced is = refl
+unnamed_gone false false announced is = refl
+
+unnamed_come : (here withdrawn announced : Bool) → (withdrawn || announced) ≡ false → (here && announced) ≡ false
+unnamed_come here true announced is = absurd (cc)
+unnamed_come true false announced is = is
+unnamed_come false false announced is = refl
+
+pub unnamed_withdrawn : (slot : ℕ) (update : UpdateBody) (old mid : RoutingState) → IsSet slot (is_only_withdrawn update.withdrawn update.announced) (λ p. None) (offer_at old.book) (offer_at mid.book)
+    → KeepsUnnamed slot (Some update) old.book mid.book
+unnamed_withdrawn slot update old mid gone s p (inl other) = gone s p ∙ rw (ne_eqb s slot other) refl
+unnamed_withdrawn slot update old mid gone s p (inr is) =
+    gone s p ∙ ap (λ b. cond b None (offer_at old.book s p)) (unnamed_gone (s == slot) (is_among p update.withdrawn) (is_among p update.announced) is)
+
+pub on_unnamed : {T F : Type 0} (result : Result T F) (slot : ℕ) (update : UpdateBody) (found : Prefix → Option Candidate) (old mid new : RoutingState)
+    → IsSet slot (is_only_withdrawn update.withdrawn update.announced) (λ p. None) (offer_at old.book) (offer_at mid.book) → OnOk result (IsSet slot (λ p. is_among p update.announced) found (offer_at mid.book) (offer_at new.book))
+    → OnOk result (KeepsUnnamed slot (Some update) old.book new.book)
+on_unnamed (Err why) slot update found old mid new gone come = tt
+on_unnamed (Ok done) slot update found old mid new gone come = λ s p why. come_not s p why ∙ unnamed_withdrawn slot update old mid gone s p why
+  where
+    come_not : (s : ℕ) (p : Prefix) → (s ≢ slot) ⊎ ((is_among p update.withdrawn || is_among p update.announced) ≡ false) → offer_at new.book s p ≡ offer_at mid.book s p
+    come_not s p (inl other) = come s p ∙ rw (ne_eqb s slot other) refl
+    come_not s p (inr is) = come s p ∙ ap (λ b. cond b (found p) (offer_at mid.book s p)) (unnamed_come (s == slot) (is_among p update.withdrawn) (is_among p update.announced) is)

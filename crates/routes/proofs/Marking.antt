@@ -12,6 +12,7 @@ use Rattle.bgp_fsm.proofs.TableLaws.{entered_is, left_is}
 use Rattle.bgp_fsm.specs.SessionTable.{effects_of, session_after}
 use Rattle.bgp_fsm.specs.StateTests.{is_established}
 use Rattle.bgp_fsm.specs.declared.input.Input.{Input}
+use Rattle.bgp_fsm.specs.declared.session.Effects.{Effects}
 use Rattle.bgp_fsm.specs.declared.session.Session.{Session}
 use Rattle.bgp_peer.specs.Slot.{Slot}
 use Rattle.decision.specs.BookContents.{BookState, is_prefix, offer_at, rows_of}
@@ -20,10 +21,11 @@ use Rattle.export_rules.specs.declared.export.ExportPeer.{ExportPeer}
 use Rattle.net_prefix.specs.PrefixOrder.{prefix_cmp, IsAbove}
 use Rattle.net_prefix.specs.declared.prefix.Prefix.{Prefix}
 use Rattle.rib_in.specs.LatestRoutes.{RouteTable, is_route, route_at}
-use Rattle.rib_out.specs.Held.{held_at}
+use Rattle.rib_out.specs.Held.{HeldRoute, all_asked, asked_at, held_at}
 use Rattle.rib_out.specs.Waiting.{is_known, owed_at}
 use Rattle.rib_out.specs.declared.marks.Owed.{Owed}
 use Rattle.rib_out.specs.declared.waits.Waits.{Waits}
+use Rattle.rib_out.proofs.HeldTables.{held_at-all_asked}
 use Rattle.rib_out.proofs.Prefixes.{is_prefix-refl}
 use Rattle.routes.specs.Export.{export_in, export_peer_of, exported_at}
 use Rattle.routes.specs.Linked.{Linked, moved}
@@ -55,7 +57,7 @@ mark_alike_of : (conf : Configuration) (t u : RoutingState) (slot : ℕ) (p : Pr
 mark_alike_of conf t u slot p None linked best routes = refl
 mark_alike_of conf t u slot p (Some peer) None best routes = refl
 mark_alike_of conf t u slot p (Some peer) (Some l) best routes =
-    ap (λ e. cond (is_established l.peer.session.state) (owed_for e (held_at l.adj_out p)) None) (export_alike conf t u (export_peer_of conf slot peer) p best routes)
+    ap (λ e. cond (is_established l.peer.session.state) (owed_for e (held_at l.adj_out p) (asked_at l.adj_out p)) None) (export_alike conf t u (export_peer_of conf slot peer) p best routes)
 
 pub mark_alike : (conf : Configuration) (links : List (ℕ × Linked)) (t u : RoutingState) (slot : ℕ) (p : Prefix) → best_at (rows_of u.book) p ≡ best_at (rows_of t.book) p
     → ((s : ℕ) → route_at u.adj_in s p ≡ route_at t.adj_in s p) → mark_at conf links u slot p ≡ mark_at conf links t slot p
@@ -452,7 +454,7 @@ this_or_other slot s = either (s == slot)
 pub other_is : (slot s : ℕ) → is_other slot s ≡ true → s ≢ slot
 other_is slot s is same = absurd (let never = sym (ap not (eq-eqb s slot same)) ∙ is in cc)
 
-none_either : (b : Bool) → cond b (owed_for None None) None ≡ None
+none_either : (b : Bool) → cond b (owed_for None None false) None ≡ None
 none_either true = refl
 none_either false = refl
 
@@ -560,7 +562,7 @@ off_state true true left = absurd (cc)
 off_state true false left = refl
 off_state false is left = absurd (cc)
 
-fresh_table : (left entered : Bool) (table : List (Prefix × List ℕ)) → entered ≡ true → cond (left || entered) [] table ≡ []
+fresh_table : (left entered : Bool) (table : List (Prefix × HeldRoute)) → entered ≡ true → cond (left || entered) [] table ≡ []
 fresh_table true entered table is = refl
 fresh_table false true table is = refl
 fresh_table false false table is = absurd (cc)
@@ -568,17 +570,30 @@ fresh_table false false table is = absurd (cc)
 bytes_eq-refl : (octets : List ℕ) → bytes_eq octets octets ≡ true
 bytes_eq-refl octets = (bytes_eq-Decides octets octets).1 refl
 
--- where a peer holds just what is exported, nothing is owed
-nothing_owed : (b : Bool) (export : Option (List ℕ)) → cond b (owed_for export export) None ≡ None
+-- where a peer holds just what is exported, and hasn't asked for it again, nothing is owed
+nothing_owed : (b : Bool) (export : Option (List ℕ)) → cond b (owed_for export export false) None ≡ None
 nothing_owed false export = refl
 nothing_owed true None = refl
 nothing_owed true (Some octets) = rw (bytes_eq-refl octets) refl
 
--- a slot whose session, and what its peer holds, are the same
+-- a slot whose session, and what its peer holds and has asked for again, are the same
 pub mark_put_of : (conf : Configuration) (adj_in : RouteTable) (book : BookState) (slot : ℕ) (p : Prefix) (peer : Option ConfiguredPeer) (l m : Linked)
-    → is_established m.peer.session.state ≡ is_established l.peer.session.state → held_at m.adj_out p ≡ held_at l.adj_out p → mark_of conf adj_in book slot p peer (Some m) ≡ mark_of conf adj_in book slot p peer (Some l)
-mark_put_of conf adj_in book slot p None l m state held = refl
-mark_put_of conf adj_in book slot p (Some peer) l m state held = rw (state, held) refl
+    → is_established m.peer.session.state ≡ is_established l.peer.session.state → held_at m.adj_out p ≡ held_at l.adj_out p → asked_at m.adj_out p ≡ asked_at l.adj_out p
+    → mark_of conf adj_in book slot p peer (Some m) ≡ mark_of conf adj_in book slot p peer (Some l)
+mark_put_of conf adj_in book slot p None l m state held asked = refl
+mark_put_of conf adj_in book slot p (Some peer) l m state held asked = rw (state, held, asked) refl
+
+owed_unasked : (b : Bool) (held : Option (List ℕ)) (asked again : Bool) → cond b (owed_for None held asked) None ≡ cond b (owed_for None held again) None
+owed_unasked b None asked again = refl
+owed_unasked b (Some held) asked again = refl
+
+-- of a prefix without a best route the same is owed, whatever the peer has asked for again
+mark_put_none : (conf : Configuration) (adj_in : RouteTable) (book : BookState) (slot : ℕ) (p : Prefix) (peer : Option ConfiguredPeer) (l m : Linked)
+    → is_established m.peer.session.state ≡ is_established l.peer.session.state → held_at m.adj_out p ≡ held_at l.adj_out p → best_at (rows_of book) p ≡ None
+    → mark_of conf adj_in book slot p peer (Some m) ≡ mark_of conf adj_in book slot p peer (Some l)
+mark_put_none conf adj_in book slot p None l m state held none = refl
+mark_put_none conf adj_in book slot p (Some peer) l m state held none =
+    rw (none, state, held) (owed_unasked (is_established l.peer.session.state) (held_at l.adj_out p) (asked_at m.adj_out p) (asked_at l.adj_out p))
 
 -- the slot becomes another
 abbrev pub IsNow : ℕ → Linked → List (ℕ × Linked) → List (ℕ × Linked) → Type 0
@@ -613,7 +628,7 @@ marked_put conf t slot l m old new marked linked session adj_out put = record {
       | inl here ↦
           subst (λ x. mark_at conf new t x p ≡ mark_at conf old t x p) (sym here)
           (ap (mark_of conf t.adj_in t.book slot p (peer_at conf slot)) (now_on slot m old new put)
-          ∙ mark_put_of conf t.adj_in t.book slot p (peer_at conf slot) l m (ap (λ (x : Session). is_established x.state) session) (ap (λ a. held_at a p) adj_out)
+          ∙ mark_put_of conf t.adj_in t.book slot p (peer_at conf slot) l m (ap (λ (x : Session). is_established x.state) session) (ap (λ a. held_at a p) adj_out) (ap (λ a. asked_at a p) adj_out)
           ∙ ap (mark_of conf t.adj_in t.book slot p (peer_at conf slot)) (sym linked))
       | inr other ↦ mark_off conf t slot m old new put s p other
     ]
@@ -623,13 +638,14 @@ pub followed : (now : ℕ) (conf : Configuration) (t : RoutingState) (slot : ℕ
     → IsFollowed conf new slot (effects_of input l.peer.session) t
 followed now conf t slot l input old new marked linked put = record {
   within = marked.there.within slot l linked;
+  linked = subst (λ o. IsSome o) (sym (now_on slot (moved now l input) old new put)) refl;
   there = record { within = within_put slot l (moved now l input) old new linked put marked.there.within; known = marked.there.known };
   released = marked.released;
   others = λ s p within other. marked.marks s p within ∙ sym (mark_off conf t slot (moved now l input) old new put s p other);
-  same = λ stays still p.
+  same = λ stays still p why.
       marked.marks slot p (marked.there.within slot l linked)
       ∙ ap (mark_of conf t.adj_in t.book slot p (peer_at conf slot)) linked
-      ∙ sym (mark_put_of conf t.adj_in t.book slot p (peer_at conf slot) l (moved now l input) (lasts stays still) (ap (λ a. held_at a p) (held_still stays still)))
+      ∙ sym (put_here stays still p why)
       ∙ ap (mark_of conf t.adj_in t.book slot p (peer_at conf slot)) (sym (now_on slot (moved now l input) old new put));
   left = λ left x there. subst (λ (y : Linked). is_established y.peer.session.state ≡ false) (the_link x there) (ended left);
   entered = λ entered x there. subst (λ (y : Linked). y.adj_out ≡ []) (the_link x there) (fresh entered);
@@ -641,14 +657,48 @@ followed now conf t slot l input old new marked linked put = record {
     lasts : (effects_of input l.peer.session).left ≡ false → (effects_of input l.peer.session).entered ≡ false → is_established (session_after now input l.peer.session).state ≡ is_established l.peer.session.state
     lasts stays still = same_state (is_established l.peer.session.state) (is_established (session_after now input l.peer.session).state) (sym (left_is now input l.peer.session) ∙ stays) (sym (entered_is now input l.peer.session) ∙ still)
 
-    held_still : (effects_of input l.peer.session).left ≡ false → (effects_of input l.peer.session).entered ≡ false → (moved now l input).adj_out ≡ l.adj_out
-    held_still stays still = rw (stays, still) refl
+    table_after : (effects_of input l.peer.session).left ≡ false → (effects_of input l.peer.session).entered ≡ false → (moved now l input).adj_out ≡ cond (effects_of input l.peer.session).refreshed (all_asked l.adj_out) l.adj_out
+    table_after stays still = rw (stays, still) refl
+
+    held_still : (p : Prefix) (asks : Bool) → held_at (cond asks (all_asked l.adj_out) l.adj_out) p ≡ held_at l.adj_out p
+    held_still p true = held_at-all_asked l.adj_out p
+    held_still p false = refl
+
+    put_here : (effects_of input l.peer.session).left ≡ false → (effects_of input l.peer.session).entered ≡ false → (p : Prefix) → ((effects_of input l.peer.session).refreshed ≡ false) ⊎ (best_at (rows_of t.book) p ≡ None)
+        → mark_of conf t.adj_in t.book slot p (peer_at conf slot) (Some (moved now l input)) ≡ mark_of conf t.adj_in t.book slot p (peer_at conf slot) (Some l)
+    put_here stays still p (inl unasked) =
+        let table = table_after stays still ∙ ap (λ asks. cond asks (all_asked l.adj_out) l.adj_out) unasked in
+        mark_put_of conf t.adj_in t.book slot p (peer_at conf slot) l (moved now l input) (lasts stays still) (ap (λ a. held_at a p) table) (ap (λ a. asked_at a p) table)
+    put_here stays still p (inr none) =
+        mark_put_none conf t.adj_in t.book slot p (peer_at conf slot) l (moved now l input) (lasts stays still)
+        (ap (λ a. held_at a p) (table_after stays still) ∙ held_still p (effects_of input l.peer.session).refreshed) none
 
     ended : (effects_of input l.peer.session).left ≡ true → is_established (session_after now input l.peer.session).state ≡ false
     ended left = off_state (is_established l.peer.session.state) (is_established (session_after now input l.peer.session).state) (sym (left_is now input l.peer.session) ∙ left)
 
     fresh : (effects_of input l.peer.session).entered ≡ true → (moved now l input).adj_out ≡ []
-    fresh entered = fresh_table (effects_of input l.peer.session).left (effects_of input l.peer.session).entered l.adj_out entered
+    fresh entered =
+        fresh_table (effects_of input l.peer.session).left (effects_of input l.peer.session).entered
+        (cond (effects_of input l.peer.session).refreshed (all_asked l.adj_out) l.adj_out) entered
+
+-- the slot's peer has asked for all routes again
+pub marked_asked : (conf : Configuration) (links : List (ℕ × Linked)) (slot : ℕ) (effects : Effects) (t : RoutingState) → IsFollowed conf links slot effects t → effects.left ≡ false → effects.entered ≡ false → AreMarkedFor (is_other slot) conf links t
+marked_asked conf links slot effects t h stays still = record {
+  there = h.there;
+  released = h.released;
+  marks = λ s p within is. elim (cases_eq s slot) [
+    | inl same ↦ subst (λ x. owed_at t.waiting x p ≡ mark_at conf links t x p) (sym same) (here s p same is)
+    | inr other ↦ h.others s p within other
+  ];
+  none = λ s p within unlinked. elim (cases_eq s slot) [
+    | inl same ↦ no_none (link_at links slot) (ap (link_at links) (sym same) ∙ unlinked) h.linked
+    | inr other ↦ h.others s p within other ∙ mark_unlinked conf links t s p unlinked
+  ];
+}
+  where
+    here : (s : ℕ) (p : Prefix) → s ≡ slot → (is_other slot s ≡ true) ⊎ (best_at (rows_of t.book) p ≡ None) → owed_at t.waiting slot p ≡ mark_at conf links t slot p
+    here s p same (inl is) = absurd (other_is slot s is same)
+    here s p same (inr none) = h.same stays still p (inr none)
 
 -- the slot's peer was told what is exported to it
 pub marked_told : (conf : Configuration) (t u : RoutingState) (slot : ℕ) (prefix : Prefix) (export : Option (List ℕ)) (l m : Linked) (old new : List (ℕ × Linked)) → AreMarked conf old t → link_at old slot ≡ Some l
@@ -669,7 +719,7 @@ marked_told conf t u slot prefix export l m old new marked linked told put expor
     of_told : (peer : Option ConfiguredPeer) → ((x : ConfiguredPeer) → peer ≡ Some x → export_in conf (best_at (rows_of t.book)) t.adj_in (export_peer_of conf slot x) prefix ≡ export)
         → None ≡ mark_of conf t.adj_in t.book slot prefix peer (Some m)
     of_told None is = refl
-    of_told (Some x) is = rw (is x refl, told.held prefix, is_prefix-refl prefix) (sym (nothing_owed (is_established m.peer.session.state) export))
+    of_told (Some x) is = rw (is x refl, told.held prefix, told.asked prefix, is_prefix-refl prefix) (sym (nothing_owed (is_established m.peer.session.state) export))
 
     told_here : None ≡ mark_at conf new t slot prefix
     told_here = of_told (peer_at conf slot) exported ∙ ap (mark_of conf t.adj_in t.book slot prefix (peer_at conf slot)) (sym (now_on slot m old new put))
@@ -680,7 +730,8 @@ marked_told conf t u slot prefix export l m old new marked linked told put expor
     of_other : (p : Prefix) → is_prefix prefix p ≡ false → mark_at conf old t slot p ≡ mark_at conf new t slot p
     of_other p other =
         ap (mark_of conf t.adj_in t.book slot p (peer_at conf slot)) linked
-        ∙ sym (mark_put_of conf t.adj_in t.book slot p (peer_at conf slot) l m same_state_told (told.held p ∙ ap (λ b. cond b export (held_at l.adj_out p)) other))
+        ∙ sym (mark_put_of conf t.adj_in t.book slot p (peer_at conf slot) l m same_state_told (told.held p ∙ ap (λ b. cond b export (held_at l.adj_out p)) other)
+        (told.asked p ∙ ap (λ b. cond b false (asked_at l.adj_out p)) other))
         ∙ ap (mark_of conf t.adj_in t.book slot p (peer_at conf slot)) (sym (now_on slot m old new put))
 
     by_prefix : (p : Prefix) → slot < 64 → (b : Bool) → is_prefix prefix p ≡ b → cond b None (owed_at t.waiting slot p) ≡ mark_at conf new t slot p

@@ -1,4 +1,4 @@
-use Rattle.std.proofs.Common.{◌≡◌, ◌<◌, ℕ, Bool, true, false, List, Option, Some, None, IfSome, IfNone, cond, refl, sym, ap, ◌∙◌, subst}
+use Rattle.std.proofs.Common.{◌≡◌, ◌<◌, ℕ, ◌&&◌, not, Bool, true, false, List, Option, Some, None, IfSome, IfNone, cond, refl, sym, ap, ◌∙◌, subst}
 use Rattle.std.specs.Option.{IsSome, is_some, option_and_then}
 use Rattle.std.specs.Ordering.{is_gt}
 use Rattle.std.specs.Str.{bytes_eq}
@@ -10,7 +10,7 @@ use Rattle.decision.specs.BookContents.{rows_of}
 use Rattle.net_prefix.specs.PrefixOrder.{prefix_cmp, IsAbove}
 use Rattle.net_prefix.specs.declared.prefix.Prefix.{Prefix}
 use Rattle.prefix_trie.specs.TrieMap.{found}
-use Rattle.rib_out.specs.Held.{held_at}
+use Rattle.rib_out.specs.Held.{asked_at, held_at}
 use Rattle.rib_out.specs.Waiting.{is_known, owed_at, owed_by}
 use Rattle.rib_out.specs.declared.marks.Owed.{Owed}
 use Rattle.rib_out.specs.declared.marks.Owed.TheVariants.{Announcement, Withdrawal}
@@ -18,10 +18,11 @@ use Rattle.rib_out.specs.declared.waits.Waits.{Waits}
 use Rattle.routes.specs.Export.{export_in, export_peer_of}
 use Rattle.routes.specs.Linked.{Linked}
 use Rattle.routes.specs.Marks.{AreMarked, mark_of, owed_for}
-use Rattle.routes.specs.Owing.{IsNext, announced_of, withdrawn_of}
+use Rattle.routes.specs.Owing.{IsNext, IsServed, announced_of, withdrawn_of}
 use Rattle.routes.specs.RoutesState.{RoutesState, export_of}
 use Rattle.routes.specs.RoutingState.{RoutingState}
 use Rattle.routes.specs.Tables.{best_at, link_at}
+use Rattle.routes.proofs.WaitingLists.{not_established}
 
 -- What a served peer is owed is what waits for its slot.
 
@@ -36,44 +37,44 @@ export_found s slot peer q configured = ap (λ found. option_and_then (λ p. exp
 -- what waits for a served peer
 pub owed_is : (s : RoutesState) (waiting : List (Prefix × Waits)) (slot : ℕ) (peer : ConfiguredPeer) (l : Linked) (q : Prefix) → AreMarked s.conf s.links (routing_of s waiting) → slot < 64
     → peer_at s.conf slot ≡ Some peer → link_at s.links slot ≡ Some l → l.peer.session.state ≡ Established
-    → owed_at waiting slot q ≡ owed_for (export_of s slot q) (held_at l.adj_out q)
+    → owed_at waiting slot q ≡ owed_for (export_of s slot q) (held_at l.adj_out q) (asked_at l.adj_out q)
 owed_is s waiting slot peer l q marked within configured linked established =
     marked.marks slot q within
     ∙ ap (λ found. mark_of s.conf s.adj_in s.book slot q found (link_at s.links slot)) configured
     ∙ ap (λ found. mark_of s.conf s.adj_in s.book slot q (Some peer) found) linked
-    ∙ ap (λ state. cond (is_established state) (owed_for (export_in s.conf (best_at (rows_of s.book)) s.adj_in (export_peer_of s.conf slot peer) q) (held_at l.adj_out q)) None) established
-    ∙ ap (λ e. owed_for e (held_at l.adj_out q)) (sym (export_found s slot peer q configured))
+    ∙ ap (λ state. cond (is_established state) (owed_for (export_in s.conf (best_at (rows_of s.book)) s.adj_in (export_peer_of s.conf slot peer) q) (held_at l.adj_out q) (asked_at l.adj_out q)) None) established
+    ∙ ap (λ e. owed_for e (held_at l.adj_out q) (asked_at l.adj_out q)) (sym (export_found s slot peer q configured))
 
 -- a withdrawal waits just where something is held and nothing is exported
-withdrawal_some : (export held : Option (List ℕ)) → IsSome (withdrawn_of export held) → owed_for export held ≡ Some Withdrawal
-withdrawal_some None None some = absurd (cc)
-withdrawal_some None (Some held) some = refl
-withdrawal_some (Some octets) held some = absurd (cc)
+withdrawal_some : (export held : Option (List ℕ)) (asked : Bool) → IsSome (withdrawn_of export held) → owed_for export held asked ≡ Some Withdrawal
+withdrawal_some None None asked some = absurd (cc)
+withdrawal_some None (Some held) asked some = refl
+withdrawal_some (Some octets) held asked some = absurd (cc)
 
-some_withdrawal : (export held : Option (List ℕ)) → owed_for export held ≡ Some Withdrawal → IsSome (withdrawn_of export held)
-some_withdrawal None None is = absurd (cc)
-some_withdrawal None (Some held) is = refl
-some_withdrawal (Some octets) None is = absurd (cc)
-some_withdrawal (Some octets) (Some held) is = never (bytes_eq held octets) is
+some_withdrawal : (export held : Option (List ℕ)) (asked : Bool) → owed_for export held asked ≡ Some Withdrawal → IsSome (withdrawn_of export held)
+some_withdrawal None None asked is = absurd (cc)
+some_withdrawal None (Some held) asked is = refl
+some_withdrawal (Some octets) None asked is = absurd (cc)
+some_withdrawal (Some octets) (Some held) asked is = never (bytes_eq held octets && not asked) is
   where
     never : (b : Bool) → cond b None (Some Announcement) ≡ Some Withdrawal → IsSome (withdrawn_of (Some octets) (Some held))
     never true is = absurd (cc)
     never false is = absurd (cc)
 
-announcement_some : (export held : Option (List ℕ)) → IsSome (announced_of export held) → owed_for export held ≡ Some Announcement
-announcement_some None held some = absurd (cc)
-announcement_some (Some octets) None some = refl
-announcement_some (Some octets) (Some held) some = by_test (bytes_eq held octets) some
+announcement_some : (export held : Option (List ℕ)) (asked : Bool) → IsSome (announced_of export held asked) → owed_for export held asked ≡ Some Announcement
+announcement_some None held asked some = absurd (cc)
+announcement_some (Some octets) None asked some = refl
+announcement_some (Some octets) (Some held) asked some = by_test (bytes_eq held octets && not asked) some
   where
     by_test : (b : Bool) → IsSome (cond b None (Some octets)) → cond b None (Some Announcement) ≡ Some Announcement
     by_test true some = absurd (cc)
     by_test false some = refl
 
-some_announcement : (export held : Option (List ℕ)) → owed_for export held ≡ Some Announcement → IsSome (announced_of export held)
-some_announcement None None is = absurd (cc)
-some_announcement None (Some held) is = absurd (cc)
-some_announcement (Some octets) None is = refl
-some_announcement (Some octets) (Some held) is = by_test (bytes_eq held octets) is
+some_announcement : (export held : Option (List ℕ)) (asked : Bool) → owed_for export held asked ≡ Some Announcement → IsSome (announced_of export held asked)
+some_announcement None None asked is = absurd (cc)
+some_announcement None (Some held) asked is = absurd (cc)
+some_announcement (Some octets) None asked is = refl
+some_announcement (Some octets) (Some held) asked is = by_test (bytes_eq held octets && not asked) is
   where
     by_test : (b : Bool) → cond b None (Some Announcement) ≡ Some Announcement → IsSome (cond b None (Some octets))
     by_test true is = absurd (cc)
@@ -99,19 +100,19 @@ pub next_withdrawn : (s : RoutesState) (waiting : List (Prefix × Waits)) (slot 
     → IfNone result ((q : Prefix) → IsAbove after q → owed_at waiting slot q ≡ Some Withdrawal → ⊥) → IsNext (λ q. withdrawn_of (export_of s slot q) (held_at l.adj_out q)) after result
 next_withdrawn s waiting slot peer l after result marked within configured linked established has above least none =
     next_by (λ q. withdrawn_of (export_of s slot q) (held_at l.adj_out q)) waiting slot Withdrawal after result
-    (λ q some. owed_is s waiting slot peer l q marked within configured linked established ∙ withdrawal_some (export_of s slot q) (held_at l.adj_out q) some)
-    (λ q is. some_withdrawal (export_of s slot q) (held_at l.adj_out q) (sym (owed_is s waiting slot peer l q marked within configured linked established) ∙ is))
+    (λ q some. owed_is s waiting slot peer l q marked within configured linked established ∙ withdrawal_some (export_of s slot q) (held_at l.adj_out q) (asked_at l.adj_out q) some)
+    (λ q is. some_withdrawal (export_of s slot q) (held_at l.adj_out q) (asked_at l.adj_out q) (sym (owed_is s waiting slot peer l q marked within configured linked established) ∙ is))
     has above least none
 
 pub next_announced : (s : RoutesState) (waiting : List (Prefix × Waits)) (slot : ℕ) (peer : ConfiguredPeer) (l : Linked) (after result : Option Prefix) → AreMarked s.conf s.links (routing_of s waiting) → slot < 64
     → peer_at s.conf slot ≡ Some peer → link_at s.links slot ≡ Some l → l.peer.session.state ≡ Established
     → IfSome result (λ p. owed_at waiting slot p ≡ Some Announcement) → IfSome result (λ p. IsAbove after p)
     → IfSome result (λ p. (q : Prefix) → IsAbove after q → owed_at waiting slot q ≡ Some Announcement → is_gt (prefix_cmp p q) ≡ false)
-    → IfNone result ((q : Prefix) → IsAbove after q → owed_at waiting slot q ≡ Some Announcement → ⊥) → IsNext (λ q. announced_of (export_of s slot q) (held_at l.adj_out q)) after result
+    → IfNone result ((q : Prefix) → IsAbove after q → owed_at waiting slot q ≡ Some Announcement → ⊥) → IsNext (λ q. announced_of (export_of s slot q) (held_at l.adj_out q) (asked_at l.adj_out q)) after result
 next_announced s waiting slot peer l after result marked within configured linked established has above least none =
-    next_by (λ q. announced_of (export_of s slot q) (held_at l.adj_out q)) waiting slot Announcement after result
-    (λ q some. owed_is s waiting slot peer l q marked within configured linked established ∙ announcement_some (export_of s slot q) (held_at l.adj_out q) some)
-    (λ q is. some_announcement (export_of s slot q) (held_at l.adj_out q) (sym (owed_is s waiting slot peer l q marked within configured linked established) ∙ is))
+    next_by (λ q. announced_of (export_of s slot q) (held_at l.adj_out q) (asked_at l.adj_out q)) waiting slot Announcement after result
+    (λ q some. owed_is s waiting slot peer l q marked within configured linked established ∙ announcement_some (export_of s slot q) (held_at l.adj_out q) (asked_at l.adj_out q) some)
+    (λ q is. some_announcement (export_of s slot q) (held_at l.adj_out q) (asked_at l.adj_out q) (sym (owed_is s waiting slot peer l q marked within configured linked established) ∙ is))
     has above least none
 
 -- what waits is of a known prefix
@@ -128,7 +129,7 @@ pub withdrawn_known : (s : RoutesState) (waiting : List (Prefix × Waits)) (slot
     → export_of s slot p ≡ None → IsSome (held_at l.adj_out p) → is_known waiting p ≡ true
 withdrawn_known s waiting slot peer l p marked within configured linked established gone held =
     known_owed waiting slot p Withdrawal
-    (owed_is s waiting slot peer l p marked within configured linked established ∙ withdrawal_some (export_of s slot p) (held_at l.adj_out p) (subst (λ e. IsSome (withdrawn_of e (held_at l.adj_out p))) (sym gone) held))
+    (owed_is s waiting slot peer l p marked within configured linked established ∙ withdrawal_some (export_of s slot p) (held_at l.adj_out p) (asked_at l.adj_out p) (subst (λ e. IsSome (withdrawn_of e (held_at l.adj_out p))) (sym gone) held))
 
 -- what is exported to whoever the peer is
 pub exported_to : (s : RoutesState) (slot : ℕ) (p : Prefix) (export : Option (List ℕ)) → export_of s slot p ≡ export
@@ -149,3 +150,17 @@ withdrawn_there s waiting slot l p marked within there linked up gone held =
   where
     some_once : {X : Type 0} {x y : X} → Some x ≡ Some y → x ≡ y
     some_once is = cc
+
+-- nothing waits for a slot without a configured peer whose session is Established
+unserved_of : (s : RoutesState) (slot : ℕ) (q : Prefix) (peer : Option ConfiguredPeer) (linked : Option Linked) → ((x : ConfiguredPeer) (l : Linked) → peer ≡ Some x → linked ≡ Some l → l.peer.session.state ≡ Established → ⊥)
+    → mark_of s.conf s.adj_in s.book slot q peer linked ≡ None
+unserved_of s slot q None linked never = refl
+unserved_of s slot q (Some peer) None never = refl
+unserved_of s slot q (Some peer) (Some l) never = rw (not_established l.peer.session.state (λ e. absurd (never peer l refl refl e))) refl
+
+pub none_next : (s : RoutesState) (waiting : List (Prefix × Waits)) (slot : ℕ) (owed : Owed) (result : Option Prefix) → AreMarked s.conf s.links (routing_of s waiting) → slot < 64 → (IsServed s.conf s.links slot → ⊥)
+    → IfSome result (λ p. owed_at waiting slot p ≡ Some owed) → result ≡ None
+none_next s waiting slot owed None marked within unserved has = refl
+none_next s waiting slot owed (Some p) marked within unserved has =
+    let none = unserved_of s slot p (peer_at s.conf slot) (link_at s.links slot) (λ x l configured linked established. unserved (x, l, configured, linked, established)) in
+    absurd (let never = sym has ∙ marked.marks slot p within ∙ none in cc)

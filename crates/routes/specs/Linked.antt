@@ -9,15 +9,17 @@ use Rattle.bgp_fsm.specs.Transports.{transport_of}
 use Rattle.bgp_msg.specs.MessageStream.{needed_of}
 use Rattle.net_prefix.specs.declared.transport.Transport.{Transport}
 use Rattle.net_prefix.specs.declared.transport.Transport.TheVariants.{None as NoConnection, Opening, Listening, Open as Connected, Closing}
+use Rattle.rib_out.specs.Held.{HeldRoute, all_asked}
 
 -- what others see of one slot: its session with the connection's octets, and what its peer was sent
 pub record Linked : Type 0 where
   pub peer : Slot
-  pub adj_out : List (Prefix × List ℕ)
+  pub adj_out : List (Prefix × HeldRoute)
 
--- entering Established begins with nothing sent, and leaving it forgets what was sent
-abbrev pub adj_out_after : Effects → List (Prefix × List ℕ) → List (Prefix × List ℕ)
-adj_out_after effects table = if effects.left || effects.entered then [] else table
+-- entering Established begins with nothing sent, and leaving it forgets what was sent; a peer that asks for all routes again
+-- asks for each prefix that it holds (RFC 2918 section 4)
+abbrev pub adj_out_after : Effects → List (Prefix × HeldRoute) → List (Prefix × HeldRoute)
+adj_out_after effects table = if effects.left || effects.entered then [] else (if effects.refreshed then all_asked table else table)
 
 -- the slot after an input, at this moment
 abbrev pub moved : ℕ → Linked → Input → Linked

@@ -1,5 +1,5 @@
 -- What waits of each prefix for each peer: what it is owed, so that it holds its export (our own, for RFC 4271 section 9.2).
-use Rattle.std.specs.Prelude.{◌≡◌, ◌≢◌, ◌<◌, ◌⊎◌, ℕ, Bool, List, [], Option, Some, None, true, false, if◌then◌else◌}
+use Rattle.std.specs.Prelude.{◌≡◌, ◌≢◌, ◌<◌, ◌⊎◌, ◌&&◌, not, ℕ, Bool, List, [], Option, Some, None, true, false, if◌then◌else◌}
 use Rattle.std.specs.Option.{IsSome}
 use Rattle.std.specs.Str.{bytes_eq}
 use Rattle.bgp_conf.specs.Configuration.{Configuration, peer_at}
@@ -9,7 +9,7 @@ use Rattle.bgp_fsm.specs.declared.session.Effects.{Effects}
 use Rattle.decision.specs.BookContents.{BookState, is_prefix, rows_of}
 use Rattle.net_prefix.specs.declared.prefix.Prefix.{Prefix}
 use Rattle.rib_in.specs.LatestRoutes.{RouteTable, route_at}
-use Rattle.rib_out.specs.Held.{held_at}
+use Rattle.rib_out.specs.Held.{asked_at, held_at}
 use Rattle.rib_out.specs.Waiting.{is_known, owed_at}
 use Rattle.rib_out.specs.declared.marks.Owed.{Owed}
 use Rattle.rib_out.specs.declared.marks.Owed.TheVariants.{Announcement, Withdrawal}
@@ -18,19 +18,21 @@ use Rattle.routes.specs.Linked.{Linked}
 use Rattle.routes.specs.RoutingState.{RoutingState}
 use Rattle.routes.specs.Tables.{best_at, link_at}
 
--- what a peer is owed of a prefix, by what is exported to it and what it holds
-abbrev pub owed_for : Option (List ℕ) → Option (List ℕ) → Option Owed
-owed_for None None = None
-owed_for None (Some held) = Some Withdrawal
-owed_for (Some octets) None = Some Announcement
-owed_for (Some octets) (Some held) = if bytes_eq held octets then None else Some Announcement
+-- what a peer is owed of a prefix, by what is exported to it, what it holds, and whether it has asked for it again
+abbrev pub owed_for : Option (List ℕ) → Option (List ℕ) → Bool → Option Owed
+owed_for None None asked = None
+owed_for None (Some held) asked = Some Withdrawal
+owed_for (Some octets) None asked = Some Announcement
+owed_for (Some octets) (Some held) asked = if bytes_eq held octets && not asked then None else Some Announcement
 
 -- what the peer of a slot is owed of a prefix; nothing, where its session isn't Established
 abbrev pub mark_of : Configuration → RouteTable → BookState → ℕ → Prefix → Option ConfiguredPeer → Option Linked → Option Owed
 mark_of conf adj_in book slot prefix None linked = None
 mark_of conf adj_in book slot prefix (Some peer) None = None
 mark_of conf adj_in book slot prefix (Some peer) (Some l) =
-    if is_established l.peer.session.state then owed_for (export_in conf (best_at (rows_of book)) adj_in (export_peer_of conf slot peer) prefix) (held_at l.adj_out prefix) else None
+    if is_established l.peer.session.state
+    then owed_for (export_in conf (best_at (rows_of book)) adj_in (export_peer_of conf slot peer) prefix) (held_at l.adj_out prefix) (asked_at l.adj_out prefix)
+    else None
 
 -- the same of these tables
 abbrev pub mark_at : Configuration → List (ℕ × Linked) → RoutingState → ℕ → Prefix → Option Owed
@@ -74,12 +76,13 @@ pub record IsUnmarked (conf : Configuration) (links : List (ℕ × Linked)) (slo
   pub none : (p : Prefix) → owed_at t.waiting slot p ≡ None
 
 -- the slot's session has taken an input with these effects: so it is of all other slots, and of this one too, where
--- it neither left nor entered Established
+-- it neither left nor entered Established, and its peer didn't ask for all routes again or the prefix has no best route
 pub record IsFollowed (conf : Configuration) (links : List (ℕ × Linked)) (slot : ℕ) (effects : Effects) (t : RoutingState) : Type 0 where
   pub within : slot < 64
+  pub linked : IsSome (link_at links slot)
   pub there : AreKnown links t
   pub released : (prefix : Prefix) → IsReleased t prefix
   pub others : (s : ℕ) (p : Prefix) → s < 64 → s ≢ slot → owed_at t.waiting s p ≡ mark_at conf links t s p
-  pub same : effects.left ≡ false → effects.entered ≡ false → (p : Prefix) → owed_at t.waiting slot p ≡ mark_at conf links t slot p
+  pub same : effects.left ≡ false → effects.entered ≡ false → (p : Prefix) → (effects.refreshed ≡ false) ⊎ (best_at (rows_of t.book) p ≡ None) → owed_at t.waiting slot p ≡ mark_at conf links t slot p
   pub left : effects.left ≡ true → (l : Linked) → link_at links slot ≡ Some l → is_established l.peer.session.state ≡ false
   pub entered : effects.entered ≡ true → (l : Linked) → link_at links slot ≡ Some l → l.adj_out ≡ []

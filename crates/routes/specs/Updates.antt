@@ -1,5 +1,5 @@
 -- The latest route of a peer to each prefix: Adj-RIB-In (RFC 4271 section 3.2).
-use Rattle.std.specs.Prelude.{◌≡◌, ◌&&◌, ℕ, Bool, not, List, Option, Some, None, if◌then◌else◌}
+use Rattle.std.specs.Prelude.{◌≡◌, ◌&&◌, ◌||◌, ℕ, Bool, not, false, List, Option, Some, None, if◌then◌else◌}
 use Rattle.std.specs.List.{list_any}
 use Rattle.std.specs.Ordering.{is_eq}
 use Rattle.bgp_attr.specs.AttributeFaults.{Fault}
@@ -29,6 +29,11 @@ word_of update prefix before =
 abbrev pub word_if : Option UpdateBody → Prefix → Option PathAttributes → Option PathAttributes
 word_if None prefix before = before
 word_if (Some update) prefix before = word_of update prefix before
+
+-- the UPDATE, where there is one, withdraws or announces the prefix
+abbrev pub is_named_if : Option UpdateBody → Prefix → Bool
+is_named_if None prefix = false
+is_named_if (Some update) prefix = is_among prefix update.withdrawn || is_among prefix update.announced
 
 -- memory is taken for an UPDATE that has an AS_PATH or unknown attributes that are passed on, and no fault in its
 -- lengths, withdrawn prefixes and attributes

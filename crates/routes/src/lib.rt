@@ -3,15 +3,16 @@
 //! **Parts.** `Routes` is the one type that others call. It has the configuration, the payloads by which routes are judged, a
 //! `Link` for each slot (its session beside what its peer was sent), `Routing` (Adj-RIB-In with Loc-RIB, and of each prefix
 //! what waits for each Established peer: a withdrawal, an announcement or nothing) and what was announced lately, for peers
-//! to share. Its value (`RoutesState`) has all of these but what waits: that is where what a peer holds and its export differ.
+//! to share. Its value (`RoutesState`) has all of these but what waits: that is where what a peer holds and its export differ,
+//! or the peer has asked for what it holds again (RFC 2918).
 //!
-//! **The way of an event.** A session's input moves its slot, and where it enters or leaves Established the routes follow
-//! (`input`). A message at the front of a slot's rest is an input to the session, and an UPDATE among them brings and
-//! withdraws routes (`judge_front`). A command changes the configuration and what depends on it (`originate`, `set_policy`
-//! and the like); payloads that came or went judge again the routes that they concern (`payloads_changed`). Whatever
-//! changes, it goes one way: the candidates of the touched prefixes are made again, the best route of each is chosen once at
-//! most, and for each Established peer the prefix is marked. What is marked is asked for in order (`withdrawal_after`,
-//! `announcement_after`) and told (`tell_withdrawal`, `tell_announcement`).
+//! **The way of an event.** A session's input moves its slot, and where it enters or leaves Established, or its peer asks
+//! for all routes again, the routes follow (`input`). A message at the front of a slot's rest is an input to the session,
+//! and an UPDATE among them brings and withdraws routes (`judge_front`). A command changes the configuration and what
+//! depends on it (`originate`, `set_policy` and the like); payloads that came or went judge again the routes that they
+//! concern (`payloads_changed`). Whatever changes, it goes one way: the candidates of the touched prefixes are made again,
+//! the best route of each is chosen once at most, and for each Established peer the prefix is marked. What is marked is
+//! asked for in order (`withdrawal_after`, `announcement_after`) and told (`tell_withdrawal`, `tell_announcement`).
 //!
 //! **What holds when.** Between calls: no two peers have one address, each candidate has its own peer's, and of each prefix
 //! there waits for each slot just what its peer is owed (the invariant of `Routes`). No clause outside speaks of marks.

@@ -77,12 +77,15 @@ impl<A: Allocator + Clone> Link<A> {
         self.peer.take(buf)
     }
 
-    // Entering Established begins with nothing sent, and leaving it forgets what was sent.
+    // Entering Established begins with nothing sent, and leaving it forgets what was sent. A peer that asks for all routes
+    // again asks for each prefix that it holds.
     fn follow(&mut self, effects: &Effects<'_>)
         ensures { self.new ≡ record { peer = self.old.peer; adj_out = adj_out_after effects.now self.old.adj_out } }
     {
         if effects.left || effects.entered {
             self.adj_out.clear();
+        } else if effects.refreshed {
+            self.adj_out.ask_all();
         }
     }
 }

@@ -11,7 +11,7 @@ ghost use Rattle.bgp_msg.specs.declared.frame.MessageType.TheVariants.{Update as
 ghost use Rattle.bgp_peer.specs.SessionInputs.{Terms, expected_of, input_of, open_input, update_input};
 ghost use Rattle.decision.specs.BookContents.{offer_at};
 ghost use Rattle.routes.specs.Updates.{NeedsMemory, sound_update};
-ghost use Rattle.routes.specs.Heard.{AreOf, IsHeard, TakesMemoryAt, update_heard};
+ghost use Rattle.routes.specs.Heard.{AreOf, IsHeard, KeepsUnnamed, TakesMemoryAt, update_heard};
 ghost use Rattle.routes.specs.Chosen.{named_if, IsPart};
 ghost use Rattle.routes.specs.Marks.{AreMarked};
 ghost use Rattle.routes.specs.RoutingState.{KeepsOthers};
@@ -24,7 +24,10 @@ use crate::updates::{Sender, take_update};
 use bgp_attr::{PeerKind, UpdateFault};
 use bgp_conf::Conf;
 use bgp_fsm::{Input, State};
-use bgp_msg::{Expected, Fault, Frame, MessageType, Notification, Step, read_open, read_update};
+use bgp_msg::{
+    Expected, Fault, Frame, MessageType, Notification, Step, is_ipv4_unicast, read_open,
+    read_update,
+};
 use decision::Book;
 use origin_valid::PayloadTrie;
 use std::alloc::{AllocError, Allocator};
@@ -57,6 +60,8 @@ pub fn take_front<'r, A: Allocator + Clone, B: Book<A>>(
         → found ≡ option_map (input_of link.now.peer.session.state terms) (meaning link.now.peer.rest)) }
     ensures routes { OnOk result ((terms : Terms) → AreOf terms standard
         → IsHeard sender.slot (option_and_then (update_heard link.now.peer.session.state terms) (meaning link.now.peer.rest)) routing.old.adj_in routing.new.adj_in) }
+    ensures unnamed { OnOk result ((terms : Terms) → AreOf terms standard
+        → KeepsUnnamed sender.slot (option_and_then (update_heard link.now.peer.session.state terms) (meaning link.now.peer.rest)) routing.old.book routing.new.book) }
     ensures kept { OnOk result (KeepsHeard conf.now payloads.now sender link.now.peer.session.state routing.old routing.new) }
     ensures others { OnErr result (KeepsOthers sender.slot routing.old.adj_in routing.new.adj_in routing.old.book routing.new.book) }
     ensures memory { OnErr result (TakesMemoryAt standard.kind link.now) }
@@ -99,6 +104,8 @@ fn judge<'r, A: Allocator + Clone, B: Book<A>>(
         → found ≡ input_of state terms (WholeMessage frame.entry.kind frame.entry.body.now)) }
     ensures routes { OnOk result ((terms : Terms) → AreOf terms standard
         → IsHeard sender.slot (update_heard state terms (WholeMessage frame.entry.kind frame.entry.body.now)) routing.old.adj_in routing.new.adj_in) }
+    ensures unnamed { OnOk result ((terms : Terms) → AreOf terms standard
+        → KeepsUnnamed sender.slot (update_heard state terms (WholeMessage frame.entry.kind frame.entry.body.now)) routing.old.book routing.new.book) }
     ensures kept { OnOk result (KeepsHeard conf.now payloads.now sender state routing.old routing.new) }
     ensures others { OnErr result (KeepsOthers sender.slot routing.old.adj_in routing.new.adj_in routing.old.book routing.new.book) }
     ensures memory { OnErr result ((state ≡ Established) × (frame.entry.kind ≡ UpdateMessage) × NeedsMemory standard.kind frame.entry.body.now) }
@@ -118,6 +125,7 @@ fn judge<'r, A: Allocator + Clone, B: Book<A>>(
         (MessageType::Update, _) => Ok(Input::Update),
         (MessageType::Keepalive, _) => Ok(Input::Keepalive),
         (MessageType::Notification, _) => Ok(Input::Notification),
+        (MessageType::RouteRefresh, _) => Ok(Input::RouteRefresh(is_ipv4_unicast(frame.body))),
     }
 }
 
@@ -155,6 +163,7 @@ fn judge_update<'r, A: Allocator + Clone, B: Book<A>>(
     ensures marked { AreMarked conf.now links.now.entries routing.new }
     ensures input { IfOk result (λ found. found ≡ update_input (update_fault standard.kind body.now)) }
     ensures routes { OnOk result (IsHeard sender.slot (sound_update standard.kind body.now (update_fault standard.kind body.now)) routing.old.adj_in routing.new.adj_in) }
+    ensures unnamed { OnOk result (KeepsUnnamed sender.slot (sound_update standard.kind body.now (update_fault standard.kind body.now)) routing.old.book routing.new.book) }
     ensures kept { OnOk result (KeepsHeard conf.now payloads.now sender Established routing.old routing.new) }
     ensures others { OnErr result (KeepsOthers sender.slot routing.old.adj_in routing.new.adj_in routing.old.book routing.new.book) }
     ensures memory { OnErr result (NeedsMemory standard.kind body.now) }

@@ -108,7 +108,7 @@ impl<A: Allocator + Clone, B: Book<A>> Routes<A, B> {
     /// The number behind that of the last slot; 0 where there is none.
     pub fn slots_end(&self) -> u8
         ensures none { (s : ℕ) → result ≤ s → s < 64 → link_at self.now.links s ≡ None }
-        ensures last { 0 < result → result < 64 → IsSome (link_at self.now.links (result - 1)) }
+        ensures last { 0 < result → IsSome (link_at self.now.links (result - 1)) }
         ensures within { result ≤ 64 }
     {
         slots_end(&self.links)
@@ -146,8 +146,8 @@ impl<A: Allocator + Clone, B: Book<A>> Routes<A, B> {
         self.routing.ribs().is_chosen();
     }
 
-    /// The prefixes of which a slot's peer doesn't hold just what is exported to it, in rising order; none where its
-    /// session isn't Established.
+    /// The prefixes of which a slot's peer doesn't hold just what is exported to it, or for which it has asked again, in
+    /// rising order; none where its session isn't Established.
     pub fn waiting(&self, slot: u8) -> WaitingPrefixes<'_, A, B>
         ensures all { result ≡ waiting_at self.now.conf (rows_of self.now.book) self.now.adj_in (option_map (export_peer_of self.now.conf slot) (peer_at self.now.conf slot)) (link_at self.now.links slot) }
         ensures rising { IsStrictlySortedBy prefix_cmp result }

@@ -19,7 +19,7 @@ ghost use Rattle.routes.specs.Tables.{link_at};
 use crate::exports::{Octets, export, export_peer, place};
 use crate::link::Link;
 use bgp_attr::Attrs;
-use bgp_conf::{Conf, PEER_SLOTS};
+use bgp_conf::Conf;
 use bgp_fsm::State;
 use decision::{Book, Candidate, Change};
 use loc_rib::Ribs;
@@ -85,7 +85,7 @@ impl<A: Allocator + Clone, B: Book<A>> Routing<A, B> {
     {
         self.waiting.add(prefix)?;
         let announced = self.ribs.announce(slot, prefix, attrs, candidate);
-        self.refresh(conf, links, prefix);
+        self.mark_peers(conf, links, prefix);
         announced
     }
 
@@ -103,7 +103,7 @@ impl<A: Allocator + Clone, B: Book<A>> Routing<A, B> {
             return;
         }
         self.ribs.withdraw(slot, prefix);
-        self.refresh(conf, links, prefix);
+        self.mark_peers(conf, links, prefix);
     }
 
     /// The slot's session has ended: none of its routes is kept.
@@ -139,7 +139,7 @@ impl<A: Allocator + Clone, B: Book<A>> Routing<A, B> {
         ensures marked { AreMarked conf.now links.now.entries self.new }
     {
         self.ribs.change(prefix, changes);
-        self.refresh(conf, links, prefix);
+        self.mark_peers(conf, links, prefix);
     }
 
     /// Nothing waits for the slot.
@@ -270,7 +270,7 @@ impl<A: Allocator + Clone, B: Book<A>> Routing<A, B> {
 
     // What the prefix's new routes and best one make wait for each peer. Without routes, and where nothing waits, it
     // isn't known any more.
-    fn refresh(&mut self, conf: &Conf<A>, links: &Links<A>, prefix: Prefix)
+    fn mark_peers(&mut self, conf: &Conf<A>, links: &Links<A>, prefix: Prefix)
         requires known { is_known self.old.waiting prefix ≡ true }
         requires marked { AreMarkedBut prefix conf.now links.now.entries self.old }
         ensures marked { AreMarked conf.now links.now.entries self.new }
@@ -322,12 +322,13 @@ impl<A: Allocator + Clone, B: Book<A>> Routing<A, B> {
 
 /// The number behind that of the last slot; 0 where there is none.
 pub fn slots_end<A: Allocator + Clone>(links: &Links<A>) -> u8
+    requires { (s : ℕ) (l : Linked) → link_at links.now.entries s ≡ Some l → s < 64 }
     ensures none { (s : ℕ) → result ≤ s → s < 64 → link_at links.now.entries s ≡ None }
-    ensures last { 0 < result → result < 64 → IsSome (link_at links.now.entries (result - 1)) }
+    ensures last { 0 < result → IsSome (link_at links.now.entries (result - 1)) }
     ensures within { result ≤ 64 }
 {
     match links.last_key_value() {
-        Some((slot, _)) => slot.saturating_add(1).min(PEER_SLOTS),
+        Some((slot, _)) => *slot + 1,
         None => 0,
     }
 }
@@ -353,7 +354,7 @@ fn owed<A: Allocator + Clone, B: Book<A>>(
             None => None,
         };
     }
-    if link.adj_out.holds(prefix, octets.as_slice()) {
+    if link.adj_out.holds(prefix, octets.as_slice()) && !link.adj_out.is_asked(prefix) {
         return None;
     }
     Some(Owed::Announcement)

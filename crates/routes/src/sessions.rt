@@ -1,5 +1,5 @@
 //! What happens to a slot's session, and what its routes make of it.
-ghost use Rattle.std.specs.Prelude.{◌≡◌, ◌≤◌, ◌<◌, ◌+◌, ◌++◌, ◌==◌, ◌&&◌, ℕ, List, None, Some, true, false, MatchOption, OnOk, OnErr, IfOk, length, min, take, drop, if◌then◌else◌};
+ghost use Rattle.std.specs.Prelude.{◌≡◌, ◌≤◌, ◌<◌, ◌+◌, ◌++◌, ◌==◌, ◌&&◌, ℕ, List, None, Some, Ok, true, false, MatchOption, OnOk, OnErr, IfOk, length, min, take, drop, if◌then◌else◌};
 ghost use Rattle.std.specs.Option.{option_and_then, option_map};
 ghost use Rattle.bgp_conf.specs.Configuration.{peer_at};
 ghost use Rattle.bgp_fsm.specs.SessionTable.{effects_of};
@@ -12,7 +12,7 @@ ghost use Rattle.decision.specs.BookContents.{offer_at};
 ghost use Rattle.net_prefix.specs.declared.prefix.Prefix.{Prefix as ThePrefix};
 ghost use Rattle.rib_in.specs.LatestRoutes.{route_at};
 ghost use Rattle.routes.specs.Chosen.{Ends, IsPart, named_if};
-ghost use Rattle.routes.specs.Heard.{AreOf, IsHeard, TakesMemoryAt, update_heard};
+ghost use Rattle.routes.specs.Heard.{AreOf, IsHeard, KeepsUnnamed, TakesMemoryAt, update_heard};
 ghost use Rattle.routes.specs.Linked.{Linked, taken_of};
 ghost use Rattle.routes.specs.Marks.{AreMarked, IsFollowed};
 ghost use Rattle.routes.specs.RoutesState.{IsSet, StaysKept, TakesInput};
@@ -32,11 +32,12 @@ use std::alloc::{AllocError, Allocator};
 
 impl<A: Allocator + Clone, B: Book<A>> Routes<A, B> {
     /// A slot's session takes an input. Where it leaves Established, its routes go, and nothing is owed to its peer any
-    /// more; where it enters it, its peer is owed all that is exported to it. Answers whether its connection attempt begins.
+    /// more; where it enters it, its peer is owed all that is exported to it; where its peer asks for all routes again, it is
+    /// owed what it holds. Answers whether its connection attempt begins.
     pub fn input(&mut self, slot: u8, input: Input<'_>, now: u64) -> bool
         ensures moves { (l : Linked) → link_at self.old.links slot ≡ Some l → TakesInput slot l now input.entry self.old self.new }
         ensures opened { (l : Linked) → link_at self.old.links slot ≡ Some l → result ≡ (effects_of input.entry l.peer.session).opened }
-        ensures none { link_at self.old.links slot ≡ None → self.new ≡ self.old }
+        ensures none { link_at self.old.links slot ≡ None → (result ≡ false) × (self.new ≡ self.old) }
         ensures conf { self.new.conf ≡ self.old.conf }
         ensures payloads { self.new.payloads ≡ self.old.payloads }
         ensures rises { self.old.chosen ≤ self.new.chosen }
@@ -49,8 +50,10 @@ impl<A: Allocator + Clone, B: Book<A>> Routes<A, B> {
         effects.opened
     }
 
-    /// Takes octets up to the end of the message at the front of an open connection, and answers how many.
+    /// Takes octets up to the end of the message at the front of an open connection, and answers how many; none where the
+    /// slot isn't there.
     pub fn push(&mut self, slot: u8, octets: &[u8]) -> usize
+        ensures none { link_at self.old.links slot ≡ None → (result ≡ 0) × (self.new ≡ self.old) }
         ensures within { result ≤ length octets.now }
         ensures count { (l : Linked) → link_at self.old.links slot ≡ Some l → result ≡ taken_of l.peer octets.now }
         ensures puts { (l : Linked) → link_at self.old.links slot ≡ Some l → IsSet slot (Some (record { peer = pushed l.peer (take result octets.now); adj_out = l.adj_out })) self.old self.new }
@@ -97,10 +100,14 @@ impl<A: Allocator + Clone, B: Book<A>> Routes<A, B> {
         standard: Standard,
         room: &'r mut Octets,
     ) -> Result<Option<Input<'r>>, AllocError>
+        requires { (terms : Terms) × AreOf terms standard }
+        ensures none { link_at self.old.links slot ≡ None → (result ≡ Ok None) × (self.new ≡ self.old) }
         ensures input { IfOk result (λ found. (terms : Terms) (l : Linked) → AreOf terms standard → link_at self.old.links slot ≡ Some l
             → found ≡ option_map (input_of l.peer.session.state terms) (meaning l.peer.rest)) }
         ensures routes { OnOk result ((terms : Terms) (l : Linked) → AreOf terms standard → link_at self.old.links slot ≡ Some l
             → IsHeard slot (option_and_then (update_heard l.peer.session.state terms) (meaning l.peer.rest)) self.old.adj_in self.new.adj_in) }
+        ensures unnamed { OnOk result ((terms : Terms) (l : Linked) → AreOf terms standard → link_at self.old.links slot ≡ Some l
+            → KeepsUnnamed slot (option_and_then (update_heard l.peer.session.state terms) (meaning l.peer.rest)) self.old.book self.new.book) }
         ensures kept { OnOk result (StaysKept self.old self.new) }
         ensures chosen { OnOk result ((terms : Terms) (l : Linked) → AreOf terms standard → link_at self.old.links slot ≡ Some l
             → self.new.chosen ≤ self.old.chosen + named_if (option_and_then (update_heard l.peer.session.state terms) (meaning l.peer.rest))) }
@@ -135,7 +142,8 @@ impl<A: Allocator + Clone, B: Book<A>> Routes<A, B> {
 }
 
 // Leaving Established removes all routes of the session, with the candidates that they make, and nothing waits for its
-// peer any more. Entering it, the peer waits for all that is exported to it.
+// peer any more. Entering it, the peer waits for all that is exported to it. A peer that asks for all routes again waits for
+// what it holds.
 fn follow<A: Allocator + Clone, B: Book<A>>(
     conf: &Conf<A>,
     links: &Links<A>,
@@ -157,5 +165,7 @@ fn follow<A: Allocator + Clone, B: Book<A>>(
     } else if effects.entered {
         routing.clear(slot);
         routing.enter(conf, links, slot);
+    } else if effects.refreshed {
+        routing.mark_slot(conf, links, slot);
     }
 }

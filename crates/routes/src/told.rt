@@ -2,7 +2,7 @@
 ghost use Rattle.std.specs.Prelude.{◌≡◌, ◌≤◌, None, Some, OnErr, OnOk, length};
 ghost use Rattle.bgp_fsm.specs.declared.state.State.TheVariants.{Established};
 ghost use Rattle.export_rules.specs.Export.{most_attributes};
-ghost use Rattle.routes.specs.Told.{HasRoom, IsTold};
+ghost use Rattle.routes.specs.Told.{HasRoom, IsTold, update_saying};
 
 use crate::exports::{Octets, place};
 use crate::link::Link;
@@ -16,7 +16,8 @@ use std::alloc::{AllocError, Allocator};
 pub fn withdraw<A: Allocator + Clone>(link: &mut Link<A>, prefix: Prefix, message: &mut Octets)
     requires established { link.old.peer.session.state ≡ Established }
     requires room { HasRoom link.old }
-    ensures { IsTold prefix None link.old link.new }
+    ensures told { IsTold prefix None link.old link.new }
+    ensures message { message.new.items ≡ update_saying prefix None }
 {
     let _place = place(prefix);
     link.adj_out.withdraw(prefix);
@@ -37,6 +38,7 @@ pub fn announce<A: Allocator + Clone>(
     requires room { HasRoom link.old }
     requires small { length octets.now.items ≤ most_attributes }
     ensures told { OnOk result (IsTold prefix (Some octets.now.items) link.old link.new) }
+    ensures message { OnOk result (message.new.items ≡ update_saying prefix (Some octets.now.items)) }
     ensures err { OnErr result (link.new ≡ link.old) }
 {
     let _place = place(prefix);

@@ -6,6 +6,7 @@ ghost use Rattle.bgp_msg.specs.MessageSpelling.{front_prefixes};
 ghost use Rattle.decision.specs.BookContents.{AreApart, offer_at};
 ghost use Rattle.net_prefix.specs.declared.prefix.Prefix.{Prefix as ThePrefix};
 ghost use Rattle.rib_in.specs.LatestRoutes.{route_at};
+ghost use Rattle.routes.specs.Heard.{KeepsUnnamed};
 ghost use Rattle.routes.specs.Updates.{is_among, is_only_withdrawn, word_of};
 ghost use Rattle.routes.specs.Candidates.{judged_at};
 ghost use Rattle.routes.specs.Chosen.{named_in, IsPart, OncePerPrefix};
@@ -49,6 +50,7 @@ pub fn take_update<A: Allocator + Clone, B: Book<A>>(
     ensures sound { IsSound conf.now (offer_at routing.new.book) }
     ensures marked { AreMarked conf.now links.now.entries routing.new }
     ensures routes { OnOk result ((s : ℕ) (prefix : ThePrefix) → route_at routing.new.adj_in s prefix ≡ (if s == sender.slot then word_of update.entry prefix (route_at routing.old.adj_in s prefix) else route_at routing.old.adj_in s prefix)) }
+    ensures unnamed { OnOk result (KeepsUnnamed sender.slot (Some update.entry) routing.old.book routing.new.book) }
     ensures kept { OnOk result (KeepsHeard conf.now payloads.now sender Established routing.old routing.new) }
     ensures others { OnErr result (KeepsOthers sender.slot routing.old.adj_in routing.new.adj_in routing.old.book routing.new.book) }
     ensures memory { OnErr result (update.entry.announced ≢ []) }

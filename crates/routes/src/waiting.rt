@@ -1,12 +1,12 @@
-//! The prefixes that wait: a peer doesn't hold of them just what is exported to it.
-ghost use Rattle.std.specs.Prelude.{◌≡◌, not, [], unwrap_or};
+//! The prefixes that wait: a peer doesn't hold of them just what is exported to it, or has asked for them again.
+ghost use Rattle.std.specs.Prelude.{◌≡◌, ◌||◌, not, [], unwrap_or};
 ghost use Rattle.std.specs.Option.{option_map};
 ghost use Rattle.std.specs.Iterator.{YieldsFirst, item_count};
 ghost use Rattle.std.specs.List.Sorted.{IsStrictlySortedBy};
 ghost use Rattle.std.specs.Map.{keys_of};
 ghost use Rattle.decision.specs.BookContents.{rows_of};
 ghost use Rattle.net_prefix.specs.PrefixOrder.{prefix_cmp};
-ghost use Rattle.rib_out.specs.Held.{held_at};
+ghost use Rattle.rib_out.specs.Held.{asked_at, held_at};
 ghost use Rattle.routes.specs.Export.{export_in};
 ghost use Rattle.routes.specs.Tables.{best_at};
 ghost use Rattle.routes.specs.Waiting.{differing, first_of, is_same, known_prefixes, waiting_at};
@@ -24,7 +24,8 @@ use std::alloc::{Allocator, Global};
 use std::cmp::Ordering;
 use std::marker::Model;
 
-/// The prefixes of which a slot's peer doesn't hold just what is exported to it, in rising order.
+/// The prefixes of which a slot's peer doesn't hold just what is exported to it, or for which it has asked again, in rising
+/// order.
 #[derive(Drop)]
 pub struct WaitingPrefixes<'a, A: Allocator + Clone = Global, B: Book<A> = PlainBook<A>> {
     waiting: Option<Waiting<'a, A, B>>,
@@ -89,7 +90,7 @@ impl<A: Allocator + Clone, B: Book<A>> Iterator for WaitingPrefixes<'_, A, B> {
     }
 }
 
-// The known prefixes of which an Established peer doesn't hold just what is exported to it.
+// The known prefixes of which an Established peer doesn't hold just what is exported to it, or for which it has asked again.
 #[derive(Drop)]
 struct Waiting<'a, A: Allocator + Clone, B: Book<A>> {
     conf: &'a Conf<A>,
@@ -103,20 +104,19 @@ impl<'a, A: Allocator + Clone, B: Book<A>> Model for Waiting<'a, A, B> {
     ghost use Rattle.decision.specs.BookContents.{rows_of};
     ghost use Rattle.std.specs.Prelude.{List};
     ghost use Rattle.net_prefix.specs.declared.prefix.Prefix.{Prefix};
-    ghost use Rattle.rib_out.specs.Held.{held_at};
     ghost use Rattle.routes.specs.Export.{export_in};
     ghost use Rattle.routes.specs.Tables.{best_at};
     ghost use Rattle.routes.specs.Waiting.{differing};
 
     ghost Value = { List Prefix };
 
-    ghost view = { λ w. differing (held_at w.adj_out.now) (export_in w.conf.now (best_at (rows_of w.ribs.now.book)) w.ribs.now.adj_in w.peer) w.known };
+    ghost view = { λ w. differing w.adj_out.now (export_in w.conf.now (best_at (rows_of w.ribs.now.book)) w.ribs.now.adj_in w.peer) w.known };
 }
 
 impl<'a, A: Allocator + Clone, B: Book<A>> Waiting<'a, A, B> {
     // The prefixes that wait for the peer of this slot.
     fn new(conf: &'a Conf<A>, ribs: &'a Ribs<A, B>, link: &'a Link<A>, peer: ExportPeer) -> Self
-        ensures waiting { result ≡ differing (held_at link.now.adj_out) (export_in conf.now (best_at (rows_of ribs.now.book)) ribs.now.adj_in peer) (known_prefixes (rows_of ribs.now.book) link.now.adj_out) }
+        ensures waiting { result ≡ differing link.now.adj_out (export_in conf.now (best_at (rows_of ribs.now.book)) ribs.now.adj_in peer) (known_prefixes (rows_of ribs.now.book) link.now.adj_out) }
         ensures rising { IsStrictlySortedBy prefix_cmp result }
     {
         Waiting {
@@ -154,7 +154,7 @@ impl<A: Allocator + Clone, B: Book<A>> Iterator for Waiting<'_, A, B> {
     }
 }
 
-// Whether the peer doesn't hold of a prefix just what is exported to it.
+// Whether the peer doesn't hold of a prefix just what is exported to it, or has asked for it again.
 fn is_waiting<A: Allocator + Clone, B: Book<A>>(
     conf: &Conf<A>,
     ribs: &Ribs<A, B>,
@@ -163,10 +163,10 @@ fn is_waiting<A: Allocator + Clone, B: Book<A>>(
     prefix: Prefix,
     octets: &mut Octets,
 ) -> bool
-    ensures { result ≡ not (is_same (held_at adj_out.now prefix) (export_in conf.now (best_at (rows_of ribs.now.book)) ribs.now.adj_in peer.now prefix)) }
+    ensures { result ≡ (not (is_same (held_at adj_out.now prefix) (export_in conf.now (best_at (rows_of ribs.now.book)) ribs.now.adj_in peer.now prefix)) || asked_at adj_out.now prefix) }
 {
     if export(conf, ribs, peer, prefix, octets) {
-        !adj_out.holds(prefix, octets.as_slice())
+        !adj_out.holds(prefix, octets.as_slice()) || adj_out.is_asked(prefix)
     } else {
         adj_out.get(prefix).is_some()
     }

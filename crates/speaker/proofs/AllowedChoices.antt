@@ -13,7 +13,7 @@ use Rattle.bgp_fsm.specs.declared.input.Input.TheVariants.{Update as UpdateInput
 use Rattle.bgp_fsm.specs.declared.session.Session.{Session}
 use Rattle.bgp_msg.specs.MessageStream.{Item, WholeMessage, FaultyHeader}
 use Rattle.bgp_msg.specs.UpdateMeaning.{UpdateBody, update_fault}
-use Rattle.bgp_msg.specs.declared.frame.MessageType.TheVariants.{Open, Update, Notification, Keepalive}
+use Rattle.bgp_msg.specs.declared.frame.MessageType.TheVariants.{Open, Update, Notification, Keepalive, RouteRefresh}
 use Rattle.bgp_peer.proofs.Agreeing.{item_octet}
 use Rattle.bgp_peer.specs.SessionInputs.{Event, Terms, Octet, Signalled, input_of, item_at, kind_of, moment_of, onto, session, terms_of, update_input}
 use Rattle.net_prefix.specs.declared.payload.Vrp.{Vrp}
@@ -165,6 +165,7 @@ heard_stays s terms (WholeMessage Open body) update some = absurd (cc)
 heard_stays s terms (WholeMessage Update body) update some = heard_case (kind_of terms) (is_established s.state) body (update_fault (kind_of terms) body) update s refl some
 heard_stays s terms (WholeMessage Notification body) update some = absurd (cc)
 heard_stays s terms (WholeMessage Keepalive body) update some = absurd (cc)
+heard_stays s terms (WholeMessage RouteRefresh body) update some = absurd (cc)
 
 not_so : {X : Type 0} (b : Bool) → b ≡ true → b ≡ false → X
 not_so b on off = absurd (cc)

@@ -622,6 +622,7 @@ holds_added closing config r slot peer old new h may conf peers put config_same 
             link = record {
               peer = agrees-new (history config slot r) (terms_in config (configured_of peer)).own peer.mode peer.asn;
               held = λ p. refl;
+              asked = λ p. refl;
               silent = λ k new p. absurd (cc);
             };
             routes_are = λ p. was p ∙ no_route (history config slot r) p vacant;

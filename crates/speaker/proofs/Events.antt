@@ -50,6 +50,7 @@ use Rattle.speaker.proofs.Histories.{route_stays}
 use Rattle.speaker.proofs.KeptOffers.{moves_keep, pushes_keep}
 use Rattle.speaker.proofs.Messages.{rest_kept}
 use Rattle.speaker.proofs.Moments.{moment_same, onto_stays}
+use Rattle.speaker.proofs.Refreshing.{asked_stays}
 use Rattle.speaker.proofs.SlotEvents.{with_peer}
 use Rattle.speaker.proofs.SlotOctets.{agrees_dropped, slot_pushed, slot_signalled, slot_taken, slot_shut, WithRest}
 use Rattle.speaker.proofs.PeerRoutes.{agrees_peers, is_routes, not_local}
@@ -430,7 +431,7 @@ slot_ticked : (config : Config) (found : Option ConfiguredPeer) (linked : Option
 slot_ticked config found linked routes h now a = record {
   configured = a.configured;
   there = a.there;
-  link = λ l is. let k = a.link l is in record { peer = agrees-tick h l.peer now k.peer; held = k.held; silent = k.silent };
+  link = λ l is. let k = a.link l is in record { peer = agrees-tick h l.peer now k.peer; held = k.held; asked = λ p. k.asked p ∙ sym (asked_stays h (Ticked now) p refl refl refl); silent = k.silent };
   vacant = a.vacant;
   routes_are = λ p. a.routes_are p ∙ sym (route_stays h p);
 }

@@ -8,7 +8,8 @@ use Rattle.bgp_fsm.proofs.TableLaws.{left_is, entered_is}
 use Rattle.bgp_msg.specs.UpdateMeaning.{UpdateBody}
 use Rattle.bgp_peer.specs.SessionInputs.{Event, session}
 use Rattle.net_prefix.specs.declared.prefix.Prefix.{Prefix}
-use Rattle.rib_out.specs.Held.{held_at}
+use Rattle.rib_out.specs.Held.{HeldRoute, all_asked, held_at}
+use Rattle.rib_out.proofs.HeldTables.{held_at-all_asked}
 use Rattle.routes.specs.Updates.{word_if}
 use Rattle.speaker.specs.AdjRibIn.{brought, route}
 use Rattle.speaker.specs.Held.{held_in, told_in}
@@ -45,18 +46,23 @@ route_moved now h e input update p next is none =
     ∙ routed_by (is_established (session h).state) (is_established (session_after now input (session h)).state) (word_if update p (route h p)) (λ other. rw (none other, no_route h p other) refl)
     ∙ ap (λ left. cond left None (word_if update p (route h p))) (sym (left_is now input (session h)))
 
-held_by : (was is : Bool) (table : List (Prefix × List ℕ)) (before sent : List ℕ) (p : Prefix) → held_at table p ≡ cond was (told_in before p) None
+-- whoever asks for all again holds what it held
+held_again : (b : Bool) (table : List (Prefix × HeldRoute)) (p : Prefix) → held_at (cond b (all_asked table) table) p ≡ held_at table p
+held_again true table p = held_at-all_asked table p
+held_again false table p = refl
+
+held_by : (was is asks : Bool) (table : List (Prefix × HeldRoute)) (before sent : List ℕ) (p : Prefix) → held_at table p ≡ cond was (told_in before p) None
     → (was ≡ true → is ≡ true → told_in sent p ≡ told_in before p) → (was ≡ false → is ≡ true → told_in sent p ≡ None)
-    → held_at (cond ((was && not is) || (not was && is)) [] table) p ≡ cond is (told_in sent p) None
-held_by true true table before sent p held same new = held ∙ sym (same refl refl)
-held_by true false table before sent p held same new = refl
-held_by false true table before sent p held same new = sym (new refl refl)
-held_by false false table before sent p held same new = held
+    → held_at (cond ((was && not is) || (not was && is)) [] (cond asks (all_asked table) table)) p ≡ cond is (told_in sent p) None
+held_by true true asks table before sent p held same new = held_again asks table p ∙ held ∙ sym (same refl refl)
+held_by true false asks table before sent p held same new = refl
+held_by false true asks table before sent p held same new = sym (new refl refl)
+held_by false false asks table before sent p held same new = held_again asks table p ∙ held
 
 -- what the peer holds after an input: what it was told stays while Established lasts, and was nothing where it begins
-pub held_moved : (now : ℕ) (s : Session) (input : Input) (table : List (Prefix × List ℕ)) (before sent : List ℕ) (p : Prefix) → held_at table p ≡ held_in s.state before p
+pub held_moved : (now : ℕ) (s : Session) (input : Input) (table : List (Prefix × HeldRoute)) (before sent : List ℕ) (p : Prefix) → held_at table p ≡ held_in s.state before p
     → (is_established s.state ≡ true → is_established (session_after now input s).state ≡ true → told_in sent p ≡ told_in before p)
     → (is_established s.state ≡ false → is_established (session_after now input s).state ≡ true → told_in sent p ≡ None)
     → held_at (adj_out_after (effects_of input s) table) p ≡ held_in (session_after now input s).state sent p
 held_moved now s input table before sent p held same new =
-    rw (left_is now input s, entered_is now input s) (held_by (is_established s.state) (is_established (session_after now input s).state) table before sent p held same new)
+    rw (left_is now input s, entered_is now input s) (held_by (is_established s.state) (is_established (session_after now input s).state) (effects_of input s).refreshed table before sent p held same new)

@@ -9,6 +9,7 @@ pub mod KnownPrefixes
 pub mod SlotEvents
 pub mod SlotOctets
 pub mod QueuedUpdates
+pub mod Refreshing
 pub mod Calls
 pub mod Passing
 pub mod Messages

@@ -1,4 +1,4 @@
-use Rattle.std.proofs.Common.{◌≡◌, ◌≢◌, ◌≤◌, ◌<◌, ◌+◌, ◌==◌, ◌^◌, ℕ, Bool, true, false, List, [], ◌∷◌, Option, Some, None, length, cond, MatchOption, refl, sym, ap, ◌∙◌, subst, arith, inl, inr}
+use Rattle.std.proofs.Common.{◌≡◌, ◌≢◌, ◌⊎◌, ◌≤◌, ◌<◌, ◌+◌, ◌==◌, ◌^◌, ℕ, Bool, true, false, List, [], ◌∷◌, Option, Some, None, length, cond, MatchOption, refl, sym, ap, ◌∙◌, subst, arith, inl, inr}
 use Rattle.std.proofs.lemmas.Bool.{eq-eqb}
 use Rattle.std.specs.List.Sorted.{IsStrictlySortedBy}
 use Rattle.std.specs.Map.{keys_of}
@@ -23,14 +23,14 @@ use Rattle.export_rules.specs.Export.{AreAccepted, IsComplete}
 use Rattle.net_prefix.specs.PrefixOrder.{prefix_cmp}
 use Rattle.net_prefix.specs.declared.prefix.Prefix.{Prefix}
 use Rattle.rib_in.specs.LatestRoutes.{route_at}
-use Rattle.rib_out.specs.Held.{held_at}
 use Rattle.speaker.specs.AdjRibIn.{route}
-use Rattle.speaker.specs.Agreement.{IsLowest, SlotAgrees, tables_after, IsFair, IsNews, IsOwedIn, IsShortIn, IsThrifty, Holds, Passes, QueuesAll, QueuesOn, QueuesStarved, Agrees}
+use Rattle.speaker.specs.Agreement.{IsLowest, LinkAgrees, SlotAgrees, tables_after, IsFair, IsNews, IsOwedIn, IsShortIn, IsThrifty, Holds, Passes, QueuesAll, QueuesOn, QueuesStarved, Agrees}
 use Rattle.speaker.specs.Choices.{choices_in}
 use Rattle.speaker.specs.Chosen.{Chooses}
 use Rattle.routes.specs.Export.{IsAccepted, IsExport, export_peer_of}
 use Rattle.speaker.specs.Export.{export_to}
 use Rattle.speaker.specs.Held.{held, told_in}
+use Rattle.speaker.specs.Refreshes.{asked}
 use Rattle.routes.specs.Linked.{Linked}
 use Rattle.routes.specs.LocRib.{HasNoCandidate, IsBest, IsLocRib}
 use Rattle.routes.specs.Candidates.{IsCandidate, IsPeerCandidate}
@@ -40,7 +40,7 @@ use Rattle.speaker.specs.Queueing.{ComesFirst, Queue, Starves, Tells, IsServed, 
 use Rattle.routes.specs.Told.{update_saying, HasRoom}
 use Rattle.routes.specs.Places.{rank_of}
 use Rattle.speaker.specs.Runs.{payloads_after, Call, Run, turn, configuration_of, history}
-use Rattle.speaker.specs.Serving.{AreServedBelow, IsServedAt, IsShortAt, IsStill, IsToldAt}
+use Rattle.speaker.specs.Serving.{AreServedBelow, IsNewTo, IsServedAt, IsShortAt, IsStill, IsToldAt}
 use Rattle.speaker.specs.SpeakerState.{SpeakerState, tables_of}
 use Rattle.routes.specs.Tables.{Tables, best_at, link_at, network_route, peer_route_at}
 use Rattle.speaker.specs.declared.config.Config.{Config}
@@ -137,16 +137,17 @@ served_slot : (config : Config) (r : Run) (s : SpeakerState) (slot : ℕ) (peer 
     → ((l : Linked) → links slot ≡ Some l → IsServed (export_to s slot) l)
     → SlotAgrees config (Some peer) found (peer_route_at s.adj_in slot) (history config slot r)
     → (session (history config slot r)).state ≡ Established → length (ring_of (history config slot r)) + 8192 ≤ 65536 → (prefix : Prefix)
-    → IsExport (tables_after config r) (export_peer_of (configuration_of config r) slot peer) prefix (held (history config slot r) prefix)
+    → IsExport (tables_after config r) (export_peer_of (configuration_of config r) slot peer) prefix (held (history config slot r) prefix) × (asked (history config slot r) prefix ≡ false)
 served_slot config r s slot peer None links is tables conf chosen configured served a established room prefix =
     let there = linked_from config (Some peer) peer None (peer_route_at s.adj_in slot) (history config slot r) refl a in
     let never = there.1 in absurd (cc)
 served_slot config r s slot peer (Some l) links is tables conf chosen configured served a established room prefix =
     let state : l.peer.session.state ≡ Established = ap (λ (x : Session). x.state) (a.link l refl).peer.session ∙ established in
     let free : length l.peer.ring + 8192 ≤ 65536 = subst (λ ring. length ring + 8192 ≤ 65536) (ring-is (history config slot r) l.peer (a.link l refl).peer) room in
-    let holds : held (history config slot r) prefix ≡ export_to s slot prefix = sym ((a.link l refl).held prefix) ∙ served l is state free prefix in
+    let has = served l is state free prefix in
+    let holds : held (history config slot r) prefix ≡ export_to s slot prefix = sym ((a.link l refl).held prefix) ∙ has.0 in
     let E : Option (List ℕ) → Type 0 = λ e. IsExport (tables_after config r) (export_peer_of (configuration_of config r) slot peer) prefix e in
-    subst E (sym holds) (export_of_run config r s slot peer prefix tables conf chosen configured)
+    (subst E (sym holds) (export_of_run config r s slot peer prefix tables conf chosen configured), sym ((a.link l refl).asked prefix) ∙ has.1)
 
 -- so do all lower slots that are served
 settled_below : (config : Config) (r : Run) (s : SpeakerState) (slot : ℕ) → Holds config r s → IsLocRib (tables_after config r) s.loc_rib → AreServedBelow s slot → IsLowest config r slot
@@ -158,11 +159,20 @@ settled_below config r s slot holds loc_rib below t low peer configured establis
     let A : Option ConfiguredPeer → Type 0 = λ x. SlotAgrees config x (link_at s.links t) (peer_route_at s.adj_in t) (history config t r) in
     served_slot config r s t peer _ (link_at s.links) refl tables conf chosen here (λ l linked. below t low peer l here linked) (subst A here (holds.slots t)) established room prefix
 
--- an UPDATE that says of a prefix what the export has and the peer doesn't hold is owed
+-- what is new to a peer as its slot stands is so by the history, and the other way round
+pub news_by : (h : List happens.Event) (l : Linked) (q : Prefix) (e f : Option (List ℕ)) → LinkAgrees h l → e ≡ f → IsNewTo l q e → (held h q ≢ f) ⊎ (asked h q ≡ true)
+news_by h l q e f link same (inl other) = inl (λ is. other (link.held q ∙ is ∙ sym same))
+news_by h l q e f link same (inr is) = inr (sym (link.asked q) ∙ is)
+
+pub news_to : (h : List happens.Event) (l : Linked) (q : Prefix) (e f : Option (List ℕ)) → LinkAgrees h l → e ≡ f → (held h q ≢ f) ⊎ (asked h q ≡ true) → IsNewTo l q e
+news_to h l q e f link same (inl other) = inl (λ is. other (sym (link.held q) ∙ is ∙ same))
+news_to h l q e f link same (inr is) = inr (link.asked q ∙ is)
+
+-- an UPDATE that says of a prefix what the export has and what is new to the peer is owed
 is_owed : (config : Config) (r : Run) (s : SpeakerState) (slot : ℕ) (p : Prefix) (export : Option (List ℕ)) (peer : ConfiguredPeer) (l : Linked) → Holds config r s
     → IsLocRib (tables_after config r) s.loc_rib → peer_at s.conf slot ≡ Some peer → SlotIs config peer l (route_at s.adj_in slot) (history config slot r) → rank_of p < 2 ^ 38
-    → export_to s slot p ≡ export → ((a : List ℕ) → export ≡ Some a → length a ≤ 4068) → Accepts s slot p export → held_at l.adj_out p ≢ export
-    → ((q : Prefix) → held_at l.adj_out q ≢ export_to s slot q → ComesFirst p export q (export_to s slot q)) → AreServedBelow s slot → IsOwedIn config r slot (update_saying p export)
+    → export_to s slot p ≡ export → ((a : List ℕ) → export ≡ Some a → length a ≤ 4068) → Accepts s slot p export → IsNewTo l p export
+    → ((q : Prefix) → IsNewTo l q (export_to s slot q) → ComesFirst p export q (export_to s slot q)) → AreServedBelow s slot → IsOwedIn config r slot (update_saying p export)
 is_owed config r s slot p export peer l holds loc_rib configured here place exported short accepts news order below =
     let tables : tables_after config r ≡ tables_of s = tables_same config r s.conf s.payloads (link_at s.links) s.adj_in (sym holds.conf) holds.payloads holds.slots holds.networks in
     let chosen : IsLocRib (tables_of s) s.loc_rib = subst (λ t. IsLocRib t s.loc_rib) tables loc_rib in
@@ -170,7 +180,7 @@ is_owed config r s slot p export peer l holds loc_rib configured here place expo
     let P : Prefix → Type 0 = λ q. IsNews config r slot peer q (told_in (update_saying p export) q) in
     let this : P p = record {
       is_export = subst E (sym (saying_says p export place short)) (subst E exported (export_of_run config r s slot peer p tables (sym holds.conf) chosen configured));
-      news = λ same. news (here.link.held p ∙ same ∙ saying_says p export place short);
+      news = news_by (history config slot r) l p export (told_in (update_saying p export) p) here.link (sym (saying_says p export place short)) news;
     } in
     record {
       peer = peer;
@@ -185,7 +195,7 @@ is_owed config r s slot p export peer l holds loc_rib configured here place expo
       first = λ q e other.
           let same : e ≡ export_to s slot q = same_export (tables_after config r) (export_peer_of (configuration_of config r) slot peer) q e (export_to s slot q) other.is_export
           (export_of_run config r s slot peer q tables (sym holds.conf) chosen configured) in
-          subst (λ x. ComesFirst p export q x) (sym same) (order q (λ held_same. other.news (sym (here.link.held q) ∙ held_same ∙ sym same)));
+          subst (λ x. ComesFirst p export q x) (sym same) (order q (news_to (history config slot r) l q (export_to s slot q) e here.link (sym same) other.news));
       lowest = settled_below config r s slot holds loc_rib below;
     }
 
@@ -199,8 +209,8 @@ told_few config call r queue slot u now new rest few =
 
 -- a peer is told what it is owed
 pub queues_told : (slot : ℕ) (p : Prefix) (export : Option (List ℕ)) (now new : SpeakerState) → (told : IsToldAt slot p export now new) → told.before.peer.session.state ≡ Established
-    → HasRoom told.before → export_to now slot p ≡ export → Accepts now slot p export → held_at told.before.adj_out p ≢ export
-    → ((q : Prefix) → held_at told.before.adj_out q ≢ export_to now slot q → ComesFirst p export q (export_to now slot q)) → AreServedBelow now slot → QueuesOn now new
+    → HasRoom told.before → export_to now slot p ≡ export → Accepts now slot p export → IsNewTo told.before p export
+    → ((q : Prefix) → IsNewTo told.before q (export_to now slot q) → ComesFirst p export q (export_to now slot q)) → AreServedBelow now slot → QueuesOn now new
 queues_told slot p export now new told up room exported accepts news order below config call r queue passes =
     let was : Run = turn call queue ∷ r in
     let is : Run = turn call ((slot, Tells (update_saying p export)) ∷ queue) ∷ r in
@@ -284,7 +294,7 @@ agrees_served config call r queue s passes fair thrifty served =
       thrifty = (fair, passes.owed, thrifty);
     }
 
--- as the run stands, the slot's export has what its peer doesn't hold
+-- as the run stands, the slot's export has what is new to its peer
 is_short : (config : Config) (r : Run) (s : SpeakerState) (slot : ℕ) → Holds config r s → IsLocRib (tables_after config r) s.loc_rib → IsShortAt s slot → IsShortIn config r slot
 is_short config r s slot holds loc_rib short =
     let tables : tables_after config r ≡ tables_of s = tables_same config r s.conf s.payloads (link_at s.links) s.adj_in (sym holds.conf) holds.payloads holds.slots holds.networks in
@@ -300,7 +310,7 @@ is_short config r s slot holds loc_rib short =
       room = subst (λ ring. length ring + 8192 ≤ 65536) (sym (ring-is (history config slot r) short.linked.peer here.link.peer)) short.room;
       news = record {
         is_export = subst E short.exported (export_of_run config r s slot short.peer short.prefix tables (sym holds.conf) chosen short.configured);
-        news = λ same. short.lacks (here.link.held short.prefix ∙ same);
+        news = news_by (history config slot r) short.linked short.prefix (Some short.octets) (Some short.octets) here.link refl short.news;
       };
       lowest = settled_below config r s slot holds loc_rib short.below;
     }

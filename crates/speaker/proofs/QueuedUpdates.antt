@@ -1,5 +1,6 @@
-use Rattle.std.proofs.Common.{◌≡◌, ◌≤◌, ◌<◌, ◌+◌, ◌^◌, ◌||◌, ℕ, Bool, true, false, List, [], ◌∷◌, ◌++◌, Option, Some, None, length, cond, refl, sym, ap, ◌∙◌, subst, arith, append-nil, length-append, inl, inr}
+use Rattle.std.proofs.Common.{◌≡◌, ◌≤◌, ◌<◌, ◌+◌, ◌^◌, ◌&&◌, ◌||◌, ℕ, Bool, true, false, not, List, [], ◌∷◌, ◌++◌, Option, Some, None, length, cond, refl, sym, ap, ◌∙◌, subst, arith, append-nil, length-append, inl, inr}
 use Rattle.std.specs.Prelude.{All}
+use Rattle.std.specs.List.{list_any}
 use Rattle.std.proofs.lemmas.List.Elements.{All-cons}
 use Rattle.std.proofs.lemmas.Bool.{le-leb}
 use Rattle.std.proofs.lemmas.List.{length-take}
@@ -28,6 +29,7 @@ use Rattle.rib_out.proofs.Prefixes.{is_prefix-refl}
 use Rattle.rib_out.specs.Held.{is_prefix}
 use Rattle.routes.specs.Updates.{is_among}
 use Rattle.speaker.specs.Held.{told_by, told_from, told_in, held_in}
+use Rattle.speaker.specs.Refreshes.{asked, named, named_by, names_in}
 use Rattle.routes.specs.Linked.{Linked}
 use Rattle.speaker.specs.Agreement.{Names}
 use Rattle.routes.specs.Told.{update_saying, IsTold, HasRoom}
@@ -95,6 +97,25 @@ announcement_tells : (p : Prefix) (a : List ℕ) (before : Option (List ℕ)) (q
     → told_by (Some ([], a, wire_form (p ∷ []))) q before ≡ cond (is_prefix p q) (Some a) before
 announcement_tells p a before q small = rw (one_prefix p small, no_prefixes, among_one p q) refl
 
+-- it names what its parts name
+update_named : (w a n : List ℕ) (q : Prefix) → Fits w a n → names_in (update_of w a n) q ≡ named_by (Some (w, a, n)) q
+update_named w a n q fits =
+    ap (λ octets. list_any (λ item. named item q) (messages octets)) (sym (append-nil (update_of w a n)))
+    ∙ ap (λ items. list_any (λ item. named item q) items) (update_first w a n fits.all []).0
+    ∙ ap (λ items. list_any (λ item. named item q) (WholeMessage Update (update_body w a n) ∷ items)) messages-nil
+    ∙ or_false (named (WholeMessage Update (update_body w a n)) q)
+    ∙ ap (λ parts. named_by parts q) (update_has_parts w a n fits.all)
+
+withdrawal_named : (p q : Prefix) → p.bits < 2 ^ 32 → named_by (Some (wire_form (p ∷ []), [], [])) q ≡ is_prefix p q
+withdrawal_named p q small = rw (no_prefixes, one_prefix p small, among_one p q) refl
+
+announcement_named : (p : Prefix) (a : List ℕ) (q : Prefix) → p.bits < 2 ^ 32 → named_by (Some ([], a, wire_form (p ∷ []))) q ≡ is_prefix p q
+announcement_named p a q small = rw (no_prefixes, one_prefix p small, among_one p q) (or_false (is_prefix p q))
+
+saying_named : (p : Prefix) (export : Option (List ℕ)) (q : Prefix) → rank_of p < 2 ^ 38 → ((a : List ℕ) → export ≡ Some a → length a ≤ 4068) → names_in (update_saying p export) q ≡ is_prefix p q
+saying_named p None q place short = update_named (wire_form (p ∷ [])) [] [] q (withdrawal_fits p) ∙ withdrawal_named p q (small_bits p place)
+saying_named p (Some a) q place short = update_named [] a (wire_form (p ∷ [])) q (announcement_fits p a (short a refl)) ∙ announcement_named p a q (small_bits p place)
+
 -- the UPDATE that says this of a prefix is one, and says this of it and nothing of any other
 pub saying_is_update : (p : Prefix) (export : Option (List ℕ)) → ((a : List ℕ) → export ≡ Some a → length a ≤ 4068) → IsUpdateMessage (update_saying p export)
 saying_is_update p None short = update_message (wire_form (p ∷ [])) [] [] (withdrawal_fits p)
@@ -151,6 +172,13 @@ saying_faultless p None kind short place good =
 saying_faultless p (Some a) kind short place good =
     (written_says kind [] (p ∷ []) a none_named_in (one_named_in p place) (omega (arith, wire_short p, short a refl)) (good a refl).faultless (inr (good a refl).complete)).0
 
+-- what it names isn't asked for any more
+answered : (b asked : Bool) → cond b false asked ≡ (asked && not b)
+answered true true = refl
+answered true false = refl
+answered false true = refl
+answered false false = refl
+
 -- the slot after an UPDATE
 pub slot_queued : (config : Config) (peer : ConfiguredPeer) (p : Prefix) (export : Option (List ℕ)) (l new : Linked) (routes : Prefix → Option PathAttributes) (h : List Event)
     → ((a : List ℕ) → export ≡ Some a → length a ≤ 4068) → l.peer.session.state ≡ Established → HasRoom l → IsTold p export l new → SlotIs config peer l routes h
@@ -168,6 +196,12 @@ slot_queued config peer p export l new routes h short up room told s =
             ∙ sym (saying_tells p export (told_in (sent h) q) q told.place short)
             ∙ sym (told_in-append (sent h) (update_saying p export) q s.link.peer.whole)
             ∙ ap (λ state. held_in state (sent h ++ update_saying p export) q) (sym established);
+        asked = λ q.
+            told.asked q
+            ∙ ap (λ before. cond (is_prefix p q) false before) (s.link.asked q)
+            ∙ answered (is_prefix p q) (asked h q)
+            ∙ ap (λ b. asked h q && not b) (sym (saying_named p export q told.place short))
+            ∙ ap (λ b. b && (asked h q && not (names_in (update_saying p export) q))) (sym (ap is_established established));
         silent = λ k new p. let back = ap is_established established in absurd (cc);
       };
       routes_are = λ p. s.routes_are p ∙ sym (route_stays h p);

@@ -1,4 +1,4 @@
-use Rattle.std.proofs.Common.{◌≡◌, ◌≢◌, ◌<◌, ◌+◌, ◌^◌, ◌==◌, ℕ, Bool, true, false, List, Option, Some, None, Result, Ok, Err, OnOk, cond, refl, sym, ap, ◌∙◌, subst, inl, inr, arith, length-append}
+use Rattle.std.proofs.Common.{◌≡◌, ◌≢◌, ◌⊎◌, ◌<◌, ◌+◌, ◌^◌, ◌==◌, ℕ, Bool, true, false, List, Option, Some, None, Result, Ok, Err, OnOk, cond, refl, sym, ap, ◌∙◌, subst, inl, inr, arith, length-append}
 use Rattle.std.specs.Option.{IsSome, option_and_then, option_map}
 use Rattle.std.proofs.lemmas.Bool.{cases_eq, cases_lt, eq-eqb, ne_eqb}
 use Rattle.bgp_conf.specs.Configuration.{peer_at}
@@ -6,13 +6,14 @@ use Rattle.bgp_conf.specs.declared.conf.ConfiguredPeer.{ConfiguredPeer}
 use Rattle.bgp_fsm.specs.declared.state.State.TheVariants.{Established}
 use Rattle.export_rules.specs.declared.export.ExportPeer.{ExportPeer}
 use Rattle.net_prefix.specs.declared.prefix.Prefix.{Prefix}
-use Rattle.rib_out.specs.Held.{held_at, is_prefix}
+use Rattle.rib_out.specs.Held.{HeldRoute, asked_at, held_at, is_prefix}
+use Rattle.rib_out.proofs.HeldTables.{held_if_asked}
 use Rattle.rib_out.proofs.Prefixes.{is_prefix-refl}
 use Rattle.speaker.specs.Agreement.{QueuesOn}
 use Rattle.routes.specs.Export.{IsAccepted, export_in, export_peer_of}
 use Rattle.speaker.specs.Export.{export_to}
 use Rattle.routes.specs.Linked.{Linked}
-use Rattle.speaker.specs.Serving.{AreServedBelow, IsServedBy, IsServedAt, IsShortAt, IsUpAt, HasRoomAt, IsOfSlot, IsStill, IsToldAt, Serves, Stand, IsDoneAt, IsGone, IsHad, is_standing}
+use Rattle.speaker.specs.Serving.{AreServedBelow, IsServedBy, IsServedAt, IsShortAt, IsUpAt, HasRoomAt, IsOfSlot, IsStill, IsToldAt, Serves, Stand, IsDoneAt, IsDoneOf, IsGone, IsHad, IsNewTo, is_standing}
 use Rattle.routes.specs.Owing.{IsNext, announced_of, withdrawn_of}
 use Rattle.speaker.specs.Queueing.{ComesFirst}
 use Rattle.routes.specs.Places.{rank_of}
@@ -64,7 +65,9 @@ served_still : (slot n : ℕ) (now new : SpeakerState) → IsOfSlot n now new �
 served_still slot n now new only other served peer l configured is =
     let exports : export_to new slot ≡ export_to now slot = ap (λ e. e slot) (export_kept now new only.rest) in
     let conf : peer_at new.conf slot ≡ peer_at now.conf slot = ap (λ (s : SpeakerState). peer_at s.conf slot) only.rest in
-    λ established room q. served peer l (sym conf ∙ configured) (sym (only.others slot other) ∙ is) established room q ∙ sym (ap (λ e. e q) exports)
+    λ established room q.
+        let before = served peer l (sym conf ∙ configured) (sym (only.others slot other) ∙ is) established room q in
+        (before.0 ∙ sym (ap (λ e. e q) exports), before.1)
 
 pub below_still : (slot : ℕ) (now new : SpeakerState) → IsOfSlot slot now new → AreServedBelow now slot → AreServedBelow new slot
 below_still slot now new only below t low = served_still t slot now new only (λ is. absurd (omega (arith, is, low))) (below t low)
@@ -87,12 +90,12 @@ Serves-more slot a b c h k =
     }
 
 -- the walk has come up to this prefix: this holds of all below it
-pub record Walks (done : Prefix → Option (List ℕ) → Type 0) (slot : ℕ) (first : SpeakerState) (after : Option Prefix) (now : SpeakerState) : Type 0 where
+pub record Walks (done : Prefix → Option (List ℕ) → Bool → Type 0) (slot : ℕ) (first : SpeakerState) (after : Option Prefix) (now : SpeakerState) : Type 0 where
   pub serves : Serves slot first now
-  pub below : (q : Prefix) → rank_of q < reached after → done q (held_at serves.after.adj_out q)
+  pub below : (q : Prefix) → rank_of q < reached after → IsDoneOf done serves.after q
   pub place : IsPlace after
 
-pub Walks-start : (done : Prefix → Option (List ℕ) → Type 0) (slot : ℕ) (s : SpeakerState) → IsUpAt s slot → Walks done slot s None s
+pub Walks-start : (done : Prefix → Option (List ℕ) → Bool → Type 0) (slot : ℕ) (s : SpeakerState) → IsUpAt s slot → Walks done slot s None s
 Walks-start done slot s up = record {
   serves = Serves-start slot s up;
   below = λ q under. absurd (omega (arith, under));
@@ -100,27 +103,27 @@ Walks-start done slot s up = record {
 }
 
 -- all is done below the next prefix
-done_before : {X : Type 0} (done : Prefix → Option (List ℕ) → Type 0) (there : Prefix → Option X) (held : Prefix → Option (List ℕ)) (after : Option Prefix) (p : Prefix)
-    → ((q : Prefix) → there q ≡ None → done q (held q)) → ((q : Prefix) → rank_of q < reached after → done q (held q)) → IsNext there after (Some p)
-    → (q : Prefix) → rank_of q < rank_of p → done q (held q)
-done_before done there held after p idle below next q under =
+done_before : {X : Type 0} (done : Prefix → Type 0) (there : Prefix → Option X) (after : Option Prefix) (p : Prefix)
+    → ((q : Prefix) → there q ≡ None → done q) → ((q : Prefix) → rank_of q < reached after → done q) → IsNext there after (Some p)
+    → (q : Prefix) → rank_of q < rank_of p → done q
+done_before done there after p idle below next q under =
     elim (cases_lt (rank_of q) (reached after)) [
       | inl before ↦ below q before
       | inr behind ↦ idle q (none_between p q (there q) (next.2 q (above_from_rank after q behind)) under)
     ]
 
 -- the next prefix needs nothing
-pub Walks-kept : {X : Type 0} (done : Prefix → Option (List ℕ) → Type 0) (there : Prefix → Option X) (slot : ℕ) (first now : SpeakerState) (after : Option Prefix) (p : Prefix)
-    → (h : Walks done slot first after now) → ((q : Prefix) → there q ≡ None → done q (held_at h.serves.after.adj_out q)) → IsNext there after (Some p)
-    → rank_of p < 2 ^ 38 → done p (held_at h.serves.after.adj_out p) → Walks done slot first (Some p) now
+pub Walks-kept : {X : Type 0} (done : Prefix → Option (List ℕ) → Bool → Type 0) (there : Prefix → Option X) (slot : ℕ) (first now : SpeakerState) (after : Option Prefix) (p : Prefix)
+    → (h : Walks done slot first after now) → ((q : Prefix) → there q ≡ None → IsDoneOf done h.serves.after q) → IsNext there after (Some p)
+    → rank_of p < 2 ^ 38 → IsDoneOf done h.serves.after p → Walks done slot first (Some p) now
 Walks-kept done there slot first now after p h idle next place here = record {
   serves = h.serves;
   below = λ q under.
       elim (cases_lt (rank_of q) (rank_of p)) [
-        | inl before ↦ done_before done there (held_at h.serves.after.adj_out) after p idle h.below next q before
+        | inl before ↦ done_before (IsDoneOf done h.serves.after) there after p idle h.below next q before
         | inr behind ↦
             let same : q ≡ p = same_from_rank q p (omega (arith, under, behind)) in
-            subst (λ x. done x (held_at h.serves.after.adj_out x)) (sym same) here
+            subst (λ x. IsDoneOf done h.serves.after x) (sym same) here
       ];
   place = place;
 }
@@ -130,34 +133,46 @@ gone_told : (p q : Prefix) (b : Bool) (export : Option (List ℕ)) (exports : Pr
 gone_told p q true export exports held is here none was = let same = same_from_is_prefix p q is in sym here ∙ ap exports same ∙ none
 gone_told p q false export exports held is here none was = was
 
-done_told : (done : Prefix → Option (List ℕ) → Type 0) (p q : Prefix) (b : Bool) (export held : Option (List ℕ)) → is_prefix p q ≡ b → done p export
-    → (is_prefix p q ≡ false → done q held) → done q (cond b export held)
-done_told done p q true export held is here other = subst (λ x. done x export) (same_from_is_prefix p q is) here
-done_told done p q false export held is here other = other is
+done_told : (done : Prefix → Option (List ℕ) → Bool → Type 0) (p q : Prefix) (b : Bool) (export held : Option (List ℕ)) (asked : Bool) → is_prefix p q ≡ b → done p export false
+    → (is_prefix p q ≡ false → done q held asked) → done q (cond b export held) (cond b false asked)
+done_told done p q true export held asked is here other = subst (λ x. done x export false) (same_from_is_prefix p q is) here
+done_told done p q false export held asked is here other = other is
+
+-- what isn't held isn't asked for again
+unasked : (table : List (Prefix × HeldRoute)) (q : Prefix) → held_at table q ≡ None → asked_at table q ≡ false
+unasked table q none = by_test (asked_at table q) refl
+  where
+    by_test : (b : Bool) → asked_at table q ≡ b → b ≡ false
+    by_test true is = let some = subst (λ o. IsSome o) none (held_if_asked table q is) in absurd (cc)
+    by_test false is = refl
+
+not_new : (l : Linked) (q : Prefix) (e : Option (List ℕ)) → held_at l.adj_out q ≡ e → asked_at l.adj_out q ≡ false → IsNewTo l q e → ⊥
+not_new l q e held asked (inl other) = other held
+not_new l q e held asked (inr is) = cc
 
 -- where all below a prefix are done, what is told of it comes first
-first_gone : (e : Option (List ℕ)) (p q : Prefix) (held : Option (List ℕ)) → held ≢ e → (rank_of q < rank_of p → e ≡ None → held ≡ None) → ComesFirst p None q e
-first_gone None p q held news below =
+first_gone : (e : Option (List ℕ)) (p q : Prefix) (l : Linked) → IsNewTo l q e → (rank_of q < rank_of p → e ≡ None → held_at l.adj_out q ≡ None) → ComesFirst p None q e
+first_gone None p q l news below =
     elim (cases_lt (rank_of q) (rank_of p)) [
-      | inl low ↦ absurd (news (below low refl))
+      | inl low ↦ let gone = below low refl in absurd (not_new l q None gone (unasked l.adj_out q gone) news)
       | inr high ↦ high
     ]
-first_gone (Some others) p q held news below = tt
+first_gone (Some others) p q l news below = tt
 
-first_had : (e : Option (List ℕ)) (octets : List ℕ) (p q : Prefix) (held : Option (List ℕ)) → held ≢ e → (e ≡ None → held ≡ None)
-    → (rank_of q < rank_of p → (others : List ℕ) → e ≡ Some others → held ≡ Some others) → ComesFirst p (Some octets) q e
-first_had None octets p q held news gone below = news (gone refl)
-first_had (Some others) octets p q held news gone below =
+first_had : (e : Option (List ℕ)) (octets : List ℕ) (p q : Prefix) (l : Linked) → IsNewTo l q e → (e ≡ None → held_at l.adj_out q ≡ None)
+    → (rank_of q < rank_of p → (others : List ℕ) → e ≡ Some others → (held_at l.adj_out q ≡ Some others) × (asked_at l.adj_out q ≡ false)) → ComesFirst p (Some octets) q e
+first_had None octets p q l news gone below = not_new l q None (gone refl) (unasked l.adj_out q (gone refl)) news
+first_had (Some others) octets p q l news gone below =
     elim (cases_lt (rank_of q) (rank_of p)) [
-      | inl low ↦ absurd (news (below low others refl))
+      | inl low ↦ let had = below low others refl in absurd (not_new l q (Some others) had.0 had.1 news)
       | inr high ↦ high
     ]
 
 -- the peer is told what it is owed of the next prefix
-pub Walks-told : {X : Type 0} (done : Prefix → Option (List ℕ) → Type 0) (there : Prefix → Option X) (slot : ℕ) (first now new : SpeakerState) (after : Option Prefix) (p : Prefix) (export : Option (List ℕ))
-    → (h : Walks done slot first after now) → ((q : Prefix) → there q ≡ None → done q (held_at h.serves.after.adj_out q)) → IsNext there after (Some p)
-    → rank_of p < 2 ^ 38 → HasRoomAt now slot → export_to first slot p ≡ export → held_at h.serves.after.adj_out p ≢ export → done p export → Accepts now slot p export → IsToldAt slot p export now new
-    → ((q : Prefix) → held_at h.serves.after.adj_out q ≢ export_to now slot q → ComesFirst p export q (export_to now slot q)) → AreServedBelow first slot
+pub Walks-told : {X : Type 0} (done : Prefix → Option (List ℕ) → Bool → Type 0) (there : Prefix → Option X) (slot : ℕ) (first now new : SpeakerState) (after : Option Prefix) (p : Prefix) (export : Option (List ℕ))
+    → (h : Walks done slot first after now) → ((q : Prefix) → there q ≡ None → IsDoneOf done h.serves.after q) → IsNext there after (Some p)
+    → rank_of p < 2 ^ 38 → HasRoomAt now slot → export_to first slot p ≡ export → IsNewTo h.serves.after p export → done p export false → Accepts now slot p export → IsToldAt slot p export now new
+    → ((q : Prefix) → IsNewTo h.serves.after q (export_to now slot q) → ComesFirst p export q (export_to now slot q)) → AreServedBelow first slot
     → Walks done slot first (Some p) new
 unfolding Serves-more
 Walks-told done there slot first now new after p export h idle next place room exported news here accepts told order below =
@@ -178,9 +193,9 @@ Walks-told done there slot first now new after p export h idle next place room e
     } in
     record {
       serves = Serves-more slot first now new h.serves step;
-      below = λ q under. rw (told.told.held q) (done_told done p q _ export (held_at told.before.adj_out q) refl here (λ other.
+      below = λ q under. rw (told.told.held q, told.told.asked q) (done_told done p q _ export (held_at told.before.adj_out q) (asked_at told.before.adj_out q) refl here (λ other.
           elim (cases_lt (rank_of q) (rank_of p)) [
-            | inl before ↦ rw same (done_before done there (held_at h.serves.after.adj_out) after p idle h.below next q before)
+            | inl before ↦ rw same (done_before (IsDoneOf done h.serves.after) there after p idle h.below next q before)
             | inr behind ↦
                 let is_it : q ≡ p = same_from_rank q p (omega (arith, under, behind)) in
                 let there_it : is_prefix p q ≡ true = rw is_it (is_prefix-refl p) in absurd (cc)
@@ -189,8 +204,8 @@ Walks-told done there slot first now new after p export h idle next place room e
     }
 
 -- the walk is over: this holds of all prefixes
-pub Walks-end : {X : Type 0} (done : Prefix → Option (List ℕ) → Type 0) (there : Prefix → Option X) (slot : ℕ) (first now : SpeakerState) (after : Option Prefix)
-    → (h : Walks done slot first after now) → ((q : Prefix) → there q ≡ None → done q (held_at h.serves.after.adj_out q)) → IsNext there after None → IsDoneAt done now slot
+pub Walks-end : {X : Type 0} (done : Prefix → Option (List ℕ) → Bool → Type 0) (there : Prefix → Option X) (slot : ℕ) (first now : SpeakerState) (after : Option Prefix)
+    → (h : Walks done slot first after now) → ((q : Prefix) → there q ≡ None → IsDoneOf done h.serves.after q) → IsNext there after None → IsDoneAt done now slot
 Walks-end done there slot first now after h idle next l is room q =
     let same : l ≡ h.serves.after = the_slot slot now l h.serves.after is h.serves.is in
     rw same (elim (cases_lt (rank_of q) (reached after)) [
@@ -199,7 +214,7 @@ Walks-end done there slot first now after h idle next l is room q =
     ])
 
 -- there is no room left
-pub Walks-full : (done : Prefix → Option (List ℕ) → Type 0) (slot : ℕ) (now : SpeakerState) (l : Linked) → link_at now.links slot ≡ Some l → (HasRoom l → ⊥) → IsDoneAt done now slot
+pub Walks-full : (done : Prefix → Option (List ℕ) → Bool → Type 0) (slot : ℕ) (now : SpeakerState) (l : Linked) → link_at now.links slot ≡ Some l → (HasRoom l → ⊥) → IsDoneAt done now slot
 Walks-full done slot now l there full x is room q = absurd (full (subst HasRoom (the_slot slot now x l is there) room))
 
 -- the export to a slot that is configured
@@ -227,9 +242,9 @@ served_by slot first now peer h is =
     let found = mapped (export_peer_of first.conf slot) (peer_at first.conf slot) peer is in
     record { peer = found.0; configured = ap (λ (s : SpeakerState). peer_at s.conf slot) h.only.rest ∙ found.1; linked = h.is; established = h.up }
 
-pub gone_by : (slot : ℕ) (first now : SpeakerState) (held : Prefix → Option (List ℕ)) → export_to now slot ≡ export_to first slot → (q : Prefix) → withdrawn_of (export_to now slot q) (held q) ≡ None
-    → IsGone (export_to first slot) q (held q)
-gone_by slot first now held exports q idle = subst (λ e. IsGone e q (held q)) exports (gone_idle (export_to now slot) q (held q) idle)
+pub gone_by : (slot : ℕ) (first now : SpeakerState) (l : Linked) → export_to now slot ≡ export_to first slot → (q : Prefix) → withdrawn_of (export_to now slot q) (held_at l.adj_out q) ≡ None
+    → IsDoneOf (IsGone (export_to first slot)) l q
+gone_by slot first now l exports q idle = subst (λ e. IsDoneOf (IsGone e) l q) exports (gone_idle (export_to now slot) q (held_at l.adj_out q) (asked_at l.adj_out q) idle)
 
 -- what is held and isn't exported is withdrawn
 pub Walks-withdrawn : (slot : ℕ) (first now new : SpeakerState) (after : Option Prefix) (p : Prefix) → (h : Walks (IsGone (export_to first slot)) slot first after now)
@@ -239,11 +254,11 @@ Walks-withdrawn slot first now new after p h next place room told below =
     let exports : export_to now slot ≡ export_to first slot = ap (λ e. e slot) (export_kept first now h.serves.only.rest) in
     let parts = withdrawn_parts (export_to now slot p) (held_at h.serves.after.adj_out p) next.0 in
     Walks-told (IsGone (export_to first slot)) (λ q. withdrawn_of (export_to now slot q) (held_at h.serves.after.adj_out q)) slot first now new after p None h
-    (gone_by slot first now (held_at h.serves.after.adj_out) exports) next place room
-    (sym (ap (λ e. e p) exports) ∙ parts.0) (λ gone. let some = subst (λ o. IsSome o) gone parts.1 in (cc)) (λ missing. refl) (λ a some. absurd (cc)) told
-    (λ q other. first_gone (export_to now slot q) p q (held_at h.serves.after.adj_out q) other (λ low none.
-    done_before (IsGone (export_to first slot)) (λ x. withdrawn_of (export_to now slot x) (held_at h.serves.after.adj_out x)) (held_at h.serves.after.adj_out) after p
-    (gone_by slot first now (held_at h.serves.after.adj_out) exports) h.below next q low (sym (ap (λ e. e q) exports) ∙ none))) below
+    (gone_by slot first now h.serves.after exports) next place room
+    (sym (ap (λ e. e p) exports) ∙ parts.0) (inl (λ gone. let some = subst (λ o. IsSome o) gone parts.1 in (cc))) (λ missing. refl) (λ a some. absurd (cc)) told
+    (λ q other. first_gone (export_to now slot q) p q h.serves.after other (λ low none.
+    done_before (IsDoneOf (IsGone (export_to first slot)) h.serves.after) (λ x. withdrawn_of (export_to now slot x) (held_at h.serves.after.adj_out x)) after p
+    (gone_by slot first now h.serves.after exports) h.below next q low (sym (ap (λ e. e q) exports) ∙ none))) below
 
 -- what is exported is good to the slot's peer
 accepts_given : (slot : ℕ) (first now : SpeakerState) (p : Prefix) (peer : ExportPeer) (octets : List ℕ) → now ≡ record first { links = now.links }
@@ -256,13 +271,13 @@ accepts_given slot first now p peer octets rest is accepted a some q configured 
     let here : octets ≡ a = cc in
     subst (λ x. IsAccepted now.loc_rib now.adj_in x p a) same (subst (λ x. IsAccepted now.loc_rib now.adj_in peer p x) here accepted)
 
-pub had_by : (slot : ℕ) (first now : SpeakerState) (held : Prefix → Option (List ℕ)) → export_to now slot ≡ export_to first slot → (q : Prefix) → announced_of (export_to now slot q) (held q) ≡ None
-    → IsHad (export_to first slot) q (held q)
-had_by slot first now held exports q idle = subst (λ e. IsHad e q (held q)) exports (had_idle (export_to now slot) q (held q) idle)
+pub had_by : (slot : ℕ) (first now : SpeakerState) (l : Linked) → export_to now slot ≡ export_to first slot → (q : Prefix) → announced_of (export_to now slot q) (held_at l.adj_out q) (asked_at l.adj_out q) ≡ None
+    → IsDoneOf (IsHad (export_to first slot)) l q
+had_by slot first now l exports q idle = subst (λ e. IsDoneOf (IsHad e) l q) exports (had_idle (export_to now slot) q (held_at l.adj_out q) (asked_at l.adj_out q) idle)
 
 -- what is exported and isn't held just so is announced
 pub Walks-announced : (slot : ℕ) (first now new : SpeakerState) (after : Option Prefix) (p : Prefix) (peer : ExportPeer) (octets : List ℕ) → (h : Walks (IsHad (export_to first slot)) slot first after now)
-    → Some peer ≡ option_map (export_peer_of first.conf slot) (peer_at first.conf slot) → IsNext (λ q. announced_of (export_to now slot q) (held_at h.serves.after.adj_out q)) after (Some p) → rank_of p < 2 ^ 38 → HasRoomAt now slot
+    → Some peer ≡ option_map (export_peer_of first.conf slot) (peer_at first.conf slot) → IsNext (λ q. announced_of (export_to now slot q) (held_at h.serves.after.adj_out q) (asked_at h.serves.after.adj_out q)) after (Some p) → rank_of p < 2 ^ 38 → HasRoomAt now slot
     → export_in now.conf (best_at now.loc_rib) now.adj_in peer p ≡ Some octets → IsAccepted now.loc_rib now.adj_in peer p octets → IsToldAt slot p (Some octets) now new
     → IsDoneAt (IsGone (export_to first slot)) first slot → AreServedBelow first slot → Walks (IsHad (export_to first slot)) slot first (Some p) new
 Walks-announced slot first now new after p peer octets h is next place room some accepted told gone below =
@@ -270,21 +285,21 @@ Walks-announced slot first now new after p peer octets h is next place room some
     let earlier : HasRoom h.serves.before = omega (arith, h.serves.grows, later) in
     let exported = export_now first now slot peer h.serves.only.rest is p ∙ some in
     let exports : export_to now slot ≡ export_to first slot = ap (λ e. e slot) (export_kept first now h.serves.only.rest) in
-    Walks-told (IsHad (export_to first slot)) (λ q. announced_of (export_to now slot q) (held_at h.serves.after.adj_out q)) slot first now new after p (Some octets) h (had_by slot first now (held_at h.serves.after.adj_out) exports) next place room
-    exported (announced_news (export_to now slot p) (held_at h.serves.after.adj_out p) octets (ap (λ e. e p) exports ∙ exported) next.0) (λ others same. sym exported ∙ same)
+    Walks-told (IsHad (export_to first slot)) (λ q. announced_of (export_to now slot q) (held_at h.serves.after.adj_out q) (asked_at h.serves.after.adj_out q)) slot first now new after p (Some octets) h (had_by slot first now h.serves.after exports) next place room
+    exported (announced_news (export_to now slot p) (held_at h.serves.after.adj_out p) (asked_at h.serves.after.adj_out p) octets (ap (λ e. e p) exports ∙ exported) next.0) (λ others same. (sym exported ∙ same, refl))
     (accepts_given slot first now p peer octets h.serves.only.rest is accepted) told
-    (λ q other. first_had (export_to now slot q) octets p q (held_at h.serves.after.adj_out q) other
+    (λ q other. first_had (export_to now slot q) octets p q h.serves.after other
     (λ none. let never = sym (ap (λ e. e q) exports) ∙ none in h.serves.gone q never (gone h.serves.before h.serves.was earlier q never))
-    (λ low o have. done_before (IsHad (export_to first slot)) (λ x. announced_of (export_to now slot x) (held_at h.serves.after.adj_out x)) (held_at h.serves.after.adj_out) after p
-    (had_by slot first now (held_at h.serves.after.adj_out) exports) h.below next q low o (sym (ap (λ e. e q) exports) ∙ have))) below
+    (λ low o have. done_before (IsDoneOf (IsHad (export_to first slot)) h.serves.after) (λ x. announced_of (export_to now slot x) (held_at h.serves.after.adj_out x) (asked_at h.serves.after.adj_out x)) after p
+    (had_by slot first now h.serves.after exports) h.below next q low o (sym (ap (λ e. e q) exports) ∙ have))) below
 
 -- where nothing is exported there is nothing to be had
 pub Walks-had : (slot : ℕ) (first now : SpeakerState) (after : Option Prefix) (p : Prefix) (peer : ExportPeer) → (h : Walks (IsHad (export_to first slot)) slot first after now)
-    → Some peer ≡ option_map (export_peer_of first.conf slot) (peer_at first.conf slot) → IsNext (λ q. announced_of (export_to now slot q) (held_at h.serves.after.adj_out q)) after (Some p) → rank_of p < 2 ^ 38
+    → Some peer ≡ option_map (export_peer_of first.conf slot) (peer_at first.conf slot) → IsNext (λ q. announced_of (export_to now slot q) (held_at h.serves.after.adj_out q) (asked_at h.serves.after.adj_out q)) after (Some p) → rank_of p < 2 ^ 38
     → export_in now.conf (best_at now.loc_rib) now.adj_in peer p ≡ None → Walks (IsHad (export_to first slot)) slot first (Some p) now
 Walks-had slot first now after p peer h is next place none =
     let exports : export_to now slot ≡ export_to first slot = ap (λ e. e slot) (export_kept first now h.serves.only.rest) in
-    Walks-kept (IsHad (export_to first slot)) (λ q. announced_of (export_to now slot q) (held_at h.serves.after.adj_out q)) slot first now after p h (had_by slot first now (held_at h.serves.after.adj_out) exports) next place
+    Walks-kept (IsHad (export_to first slot)) (λ q. announced_of (export_to now slot q) (held_at h.serves.after.adj_out q) (asked_at h.serves.after.adj_out q)) slot first now after p h (had_by slot first now h.serves.after exports) next place
     (λ octets some. let never = sym (export_now first now slot peer h.serves.only.rest is p ∙ none) ∙ some in absurd (cc))
 
 -- a refused growth leaves the walk where it is
@@ -303,9 +318,9 @@ Serves-still slot first now new h still =
       queues = queues_still now new still;
     })
 
--- what memory is refused to is exported, and not held just so
+-- what memory is refused to is exported, and not held just so, or asked for again
 pub short_still : (slot : ℕ) (first now new : SpeakerState) (p : Prefix) (peer : ExportPeer) (octets : List ℕ) → (h : Serves slot first now) → slot < 64 → HasRoomAt now slot
-    → Some peer ≡ option_map (export_peer_of first.conf slot) (peer_at first.conf slot) → IsSome (announced_of (export_to now slot p) (held_at h.after.adj_out p))
+    → Some peer ≡ option_map (export_peer_of first.conf slot) (peer_at first.conf slot) → IsSome (announced_of (export_to now slot p) (held_at h.after.adj_out p) (asked_at h.after.adj_out p))
     → export_in now.conf (best_at now.loc_rib) now.adj_in peer p ≡ Some octets → IsStill now new → AreServedBelow first slot → IsShortAt new slot
 short_still slot first now new p peer octets h within room is next some still below =
     let by = served_by slot first now peer h is in
@@ -321,7 +336,7 @@ short_still slot first now new p peer octets h within room is next some still be
       up = h.up;
       room = room h.after h.is;
       exported = ap (λ e. e slot p) (export_kept now new still.rest) ∙ exports;
-      lacks = announced_news (export_to now slot p) (held_at h.after.adj_out p) octets exports next;
+      news = announced_news (export_to now slot p) (held_at h.after.adj_out p) (asked_at h.after.adj_out p) octets exports next;
       below = below_still slot now new (record { rest = still.rest; others = λ s other. still.links s }) (below_still slot first now h.only below);
     }
 
@@ -333,9 +348,10 @@ stand_served slot a b h s =
       | inr other ↦ ap is_standing (h.only.others s other)
     ]
 
-served_at : (export held : Option (List ℕ)) → (export ≡ None → held ≡ None) → ((octets : List ℕ) → export ≡ Some octets → held ≡ Some octets) → held ≡ export
-served_at None held gone had = gone refl
-served_at (Some octets) held gone had = had octets refl
+served_at : (export : Option (List ℕ)) (l : Linked) (q : Prefix) → (export ≡ None → held_at l.adj_out q ≡ None)
+    → ((octets : List ℕ) → export ≡ Some octets → (held_at l.adj_out q ≡ Some octets) × (asked_at l.adj_out q ≡ false)) → (held_at l.adj_out q ≡ export) × (asked_at l.adj_out q ≡ false)
+served_at None l q gone had = (gone refl, unasked l.adj_out q (gone refl))
+served_at (Some octets) l q gone had = had octets refl
 
 -- what isn't exported was gone behind the withdrawals, and what is exported is held behind the announcements
 served : (slot : ℕ) (first mid now : SpeakerState) → (h : Serves slot first mid) → (k : Serves slot mid now) → IsDoneAt (IsGone (export_to first slot)) mid slot
@@ -346,7 +362,7 @@ served slot first mid now h k gone had peer l configured is established room q =
     let before : export_to mid slot ≡ export_to first slot = ap (λ e. e slot) (export_kept first mid h.only.rest) in
     let later = rw last at room in
     let earlier : HasRoom k.before = omega (arith, k.grows, later) in
-    served_at (export_to now slot q) (held_at l.adj_out q)
+    served_at (export_to now slot q) l q
     (λ none. rw last (k.gone q (sym (ap (λ e. e q) exports) ∙ none) (gone k.before k.was earlier q (sym (ap (λ e. e q) before) ∙ sym (ap (λ e. e q) exports) ∙ none))))
     (λ octets some. had l is room q octets (sym (ap (λ e. e q) exports) ∙ some))
 

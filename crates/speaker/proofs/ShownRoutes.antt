@@ -1,7 +1,7 @@
 use Rattle.std.proofs.Common.{◌≡◌, ◌↔◌, ℕ, List, [], Option, Some, None, MatchOption, Contains, cond, refl, sym, ap, ◌∙◌, subst}
 use Rattle.std.specs.Cmp.{eq_by_cmp_equiv}
 use Rattle.std.specs.List.Sorted.{IsStrictlySortedBy}
-use Rattle.std.specs.Map.{keys_of}
+use Rattle.std.specs.Map.{keys_of, lookup}
 use Rattle.std.proofs.lemmas.Map.Keys.{IsDistinct-from_sorted}
 use Rattle.std.proofs.lemmas.Map.Views.{Contains-from_lookup, lookup-from_Contains}
 use Rattle.bgp_attr.specs.PathAttributes.{PathAttributes}
@@ -12,7 +12,8 @@ use Rattle.net_prefix.specs.PayloadSets.{IsPayloadSet}
 use Rattle.net_prefix.specs.PrefixOrder.{prefix_cmp}
 use Rattle.net_prefix.specs.declared.prefix.Prefix.{Prefix}
 use Rattle.net_prefix.proofs.PayloadSets.{prefix_cmp_total}
-use Rattle.rib_out.specs.Held.{held_at, is_prefix}
+use Rattle.rib_out.proofs.HeldTables.{lookup-octets_of}
+use Rattle.rib_out.specs.Held.{is_prefix}
 use Rattle.rtr_client.specs.Following.{state_of}
 use Rattle.rtr_session.specs.SessionHistory as cached
 use Rattle.rtr_session.specs.SessionState.{Session as CacheSession}
@@ -35,11 +36,11 @@ use Rattle.speaker.proofs.SlotStates.{vacant_from}
 -- What the views list is what the run has.
 
 held_of_slot : (config : Config) (peer : Option ConfiguredPeer) (found : Option Linked) (routes : Prefix → Option PathAttributes) (h : List happens.Event) (prefix : Prefix)
-    → SlotAgrees config peer found routes h → held_at (held_by found) prefix ≡ held h prefix
+    → SlotAgrees config peer found routes h → lookup (is_prefix prefix) (held_by found) ≡ held h prefix
 held_of_slot config peer None routes h prefix a = rw (a.vacant (vacant_from h (sym a.there))).0 refl
-held_of_slot config peer (Some l) routes h prefix a = (a.link l refl).held prefix
+held_of_slot config peer (Some l) routes h prefix a = lookup-octets_of l.adj_out prefix ∙ (a.link l refl).held prefix
 
-pub held_shown : (config : Config) (r : Run) (s : SpeakerState) (slot : ℕ) (prefix : Prefix) → Agrees config r s → held_at (held_by (link_at s.links slot)) prefix ≡ held (history config slot r) prefix
+pub held_shown : (config : Config) (r : Run) (s : SpeakerState) (slot : ℕ) (prefix : Prefix) → Agrees config r s → lookup (is_prefix prefix) (held_by (link_at s.links slot)) ≡ held (history config slot r) prefix
 held_shown config r s slot prefix a = held_of_slot config (peer_at s.conf slot) (link_at s.links slot) (peer_route_at s.adj_in slot) (history config slot r) prefix (a.holds.slots slot)
 
 -- the routes that are kept of a slot are the run's

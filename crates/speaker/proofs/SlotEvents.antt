@@ -1,4 +1,4 @@
-use Rattle.std.proofs.Common.{◌≡◌, ℕ, Bool, true, false, List, [], ◌∷◌, Some, None, length, drop, cond, refl, ap, ◌∙◌}
+use Rattle.std.proofs.Common.{◌≡◌, ℕ, Bool, true, false, List, [], ◌∷◌, Some, None, length, drop, cond, refl, sym, ap, ◌∙◌}
 use Rattle.std.specs.Option.{option_and_then}
 use Rattle.net_prefix.specs.declared.transport.Transport.TheVariants.{Open as Connected}
 use Rattle.bgp_fsm.specs.SessionTable.{session_after, effects_of}
@@ -10,10 +10,11 @@ use Rattle.bgp_fsm.specs.declared.session.Session.{Session}
 use Rattle.bgp_fsm.specs.declared.state.State.{State}
 use Rattle.bgp_fsm.proofs.TableLaws.{enters_by_message, stays_established, fail_ends, no_memory_closes, stood_before}
 use Rattle.bgp_msg.specs.MessageStream.{Item, WholeMessage, FaultyHeader, completed}
-use Rattle.bgp_msg.specs.declared.frame.MessageType.TheVariants.{Open as OpenType, Update as UpdateType, Notification as NotificationType, Keepalive as KeepaliveType}
+use Rattle.bgp_msg.specs.declared.frame.MessageType.TheVariants.{Open as OpenType, Update as UpdateType, Notification as NotificationType, Keepalive as KeepaliveType, RouteRefresh as RouteRefreshType}
 use Rattle.bgp_peer.specs.Agreement.{holding}
 use Rattle.bgp_peer.specs.SentMessages.{given, sent, ring_of}
 use Rattle.bgp_peer.specs.SessionInputs.{Event, Terms, Signalled, Octet, terms_of, item_at, input_of, moment_of, session}
+use Rattle.bgp_peer.specs.Refreshes.{asks_again_if}
 use Rattle.bgp_peer.specs.Slot.{kept, Slot, pushed}
 use Rattle.bgp_peer.proofs.Agreeing.{stands, agrees-signal, agrees-octet, agrees-input, quiet_octet, item_octet, item_of_rest}
 use Rattle.bgp_peer.proofs.Rows.{kept_whole}
@@ -25,6 +26,7 @@ use Rattle.speaker.specs.Agreement.{LinkAgrees}
 use Rattle.speaker.specs.Held.{told_in}
 use Rattle.routes.specs.Linked.{Linked, moved}
 use Rattle.speaker.proofs.Histories.{route_moved, route_stays, held_moved}
+use Rattle.speaker.proofs.Refreshing.{asked_moved, asked_stays, item_asks, signal_asks_nothing}
 use Rattle.speaker.proofs.SentPrefixes.{told_in-nil, told_in-said}
 
 -- What each thing that happens to a slot makes of its routes and of what its peer holds.
@@ -35,6 +37,7 @@ unheard state terms (WholeMessage OpenType body) other = refl
 unheard state terms (WholeMessage UpdateType body) other = rw other refl
 unheard state terms (WholeMessage NotificationType body) other = refl
 unheard state terms (WholeMessage KeepaliveType body) other = refl
+unheard state terms (WholeMessage RouteRefreshType body) other = refl
 
 -- the routes of a slot
 
@@ -93,6 +96,7 @@ link_signalled h l input is other a =
           (held_moved (moment_of h) (session h) input l.adj_out (sent h) (sent (Signalled input ∷ h)) p (a.held p)
           (λ was on. said_none p ∙ ap (λ octets. told_in octets p) (kept_on (moment_of h) input (session h) (sent h) is other was on))
           (λ was on. not_both (is_message input) (enters_by_message (moment_of h) input (session h) was on) is));
+      asked = λ p. rw a.peer.session (asked_moved (moment_of h) h (Signalled input) input l.adj_out p refl (sym (signal_asks_nothing input (session h) is)) refl (a.held p) (a.asked p));
       silent = λ connected new p. said_none p ∙ kept_silent (moment_of h) input (session h) (sent h) p is (λ k was. a.silent k was p) connected new;
     }
 
@@ -104,10 +108,12 @@ with_peer l peer = record { peer = peer; adj_out = l.adj_out }
 pub link_octet : (h : List Event) (l : Linked) (octet : ℕ) → transport_of l.peer.session ≡ Connected → completed l.peer.rest octet ≡ None
     → LinkAgrees h l → LinkAgrees (Octet octet ∷ h) (with_peer l (pushed l.peer (octet ∷ [])))
 link_octet h l octet connected none a =
-    let quiet = quiet_octet h octet (item_of_rest h l.peer octet None connected none a.peer) in
+    let no_item = item_of_rest h l.peer octet None connected none a.peer in
+    let quiet = quiet_octet h octet no_item in
     record {
       peer = agrees-octet h l.peer octet connected none a.peer;
       held = λ p. rw (quiet.0, quiet.1) (a.held p);
+      asked = λ p. a.asked p ∙ sym (asked_stays h (Octet octet) p quiet.0 (ap (asks_again_if (session h).state) no_item) refl);
       silent = λ k new p. rw quiet.1 (a.silent (rw quiet.0 at k) (rw quiet.0 at new) p);
     }
 
@@ -116,7 +122,8 @@ pub link_item : (h : List Event) (l : Linked) (part : List ℕ) (octet : ℕ) (i
     → LinkAgrees h (with_peer l (holding part l.peer))
     → LinkAgrees (Octet octet ∷ h) (moved (moment_of h) l (input_of l.peer.session.state (terms_of h) item))
 link_item h l part octet item connected some a =
-    let next = item_octet h octet item (item_of_rest h (holding part l.peer) octet (Some item) connected some a.peer) in
+    let whole = item_of_rest h (holding part l.peer) octet (Some item) connected some a.peer in
+    let next = item_octet h octet item whole in
     let here : transport_of (session h) ≡ Connected = stands h (holding part l.peer) a.peer connected in
     let told : (p : Prefix) → told_in (sent (Octet octet ∷ h)) p ≡ told_in (sent h) p =
     λ p. ap (λ octets. told_in octets p) next.1 ∙ told_in-said (sent h) (effects_of (input_of (session h).state (terms_of h) item) (session h)).message (ring_of h) p a.peer.whole in
@@ -125,6 +132,7 @@ link_item h l part octet item connected some a =
       held = λ p. rw (a.peer.session, next.0)
           (held_moved (moment_of h) (session h) (input_of (session h).state (terms_of h) item) l.adj_out (sent h) (sent (Octet octet ∷ h)) p (a.held p)
           (λ was on. told p) (λ was on. told p ∙ a.silent here was p));
+      asked = λ p. rw a.peer.session (asked_moved (moment_of h) h (Octet octet) (input_of (session h).state (terms_of h) item) l.adj_out p next.0 (item_asks h octet (terms_of h) item whole) refl (a.held p) (a.asked p));
       silent = λ k new p.
           told p
           ∙ a.silent here (was_silent (moment_of h) (input_of (session h).state (terms_of h) item) (session h) (rw next.0 at k) (rw next.0 at new) _ refl) p;

@@ -27,6 +27,7 @@ use Rattle.speaker.specs.Runs.{terms_in}
 use Rattle.speaker.specs.declared.config.Config.{Config}
 use Rattle.speaker.proofs.SlotStates.{SlotIs, link_alone}
 use Rattle.speaker.proofs.Histories.{route_moved, route_stays}
+use Rattle.speaker.proofs.Refreshing.{asked_quiet, asked_stays}
 use Rattle.speaker.proofs.SlotEvents.{route_octet, route_item, link_signalled, link_octet, link_item, with_peer, unheard}
 
 -- A slot with its routes, as one thing after another happens to it.
@@ -49,7 +50,7 @@ agrees_handed config found l routes h count a =
     record {
       configured = a.configured;
       there = a.there;
-      link = λ x is. link_alone (with_peer l (handed l.peer count)) x (Handed (take count l.peer.ring) ∷ h) (record { peer = agrees-take h l.peer count link.peer; held = link.held; silent = link.silent }) is;
+      link = λ x is. link_alone (with_peer l (handed l.peer count)) x (Handed (take count l.peer.ring) ∷ h) (record { peer = agrees-take h l.peer count link.peer; held = link.held; asked = λ p. link.asked p ∙ sym (asked_stays h (Handed (take count l.peer.ring)) p refl refl refl); silent = link.silent }) is;
       vacant = a.vacant;
       routes_are = λ p. a.routes_are p ∙ sym (route_stays h p);
     }
@@ -122,6 +123,7 @@ slot_quiet config peer l routes h octet shut s =
       link = record {
         peer = agrees-shut h l.peer (octet ∷ []) shut s.link.peer;
         held = λ p. rw (still.0, still.1) (s.link.held p);
+        asked = λ p. s.link.asked p ∙ sym (asked_quiet h (Octet octet) p still.0 (not_established (session h) _ refl shut_after));
         silent = λ k new p. rw still.1 (s.link.silent (rw still.0 at k) (rw still.0 at new) p);
       };
       routes_are = λ p. s.routes_are p ∙ sym (quiet_route h octet _ p refl shut_after);
@@ -145,6 +147,7 @@ agrees_quiet config found l routes h octet shut a =
       link = λ x is. link_alone l x (Octet octet ∷ h) (record {
         peer = agrees-shut h l.peer (octet ∷ []) shut link.peer;
         held = λ p. rw (still.0, still.1) (link.held p);
+        asked = λ p. link.asked p ∙ sym (asked_quiet h (Octet octet) p still.0 (not_established (session h) _ refl shut_after));
         silent = λ k new p. rw still.1 (link.silent (rw still.0 at k) (rw still.0 at new) p);
       }) is;
       vacant = λ none. rw still.0 (a.vacant none);

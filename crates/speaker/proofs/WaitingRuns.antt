@@ -1,4 +1,4 @@
-use Rattle.std.proofs.Common.{◌≡◌, ◌≤◌, ◌+◌, ◌↔◌, ℕ, Bool, true, false, List, [], ◌∷◌, Option, Some, None, Contains, length, cond, arith, refl, sym, ap, ◌∙◌, subst}
+use Rattle.std.proofs.Common.{◌≡◌, ◌≤◌, ◌+◌, ◌↔◌, ℕ, Bool, true, false, List, [], ◌∷◌, Option, Some, None, Contains, length, cond, arith, refl, sym, ap, ◌∙◌, subst, inl, inr}
 use Rattle.std.specs.Option.{option_map}
 use Rattle.bgp_conf.specs.Configuration.{peer_at}
 use Rattle.bgp_conf.specs.declared.conf.ConfiguredPeer.{ConfiguredPeer}
@@ -8,7 +8,6 @@ use Rattle.bgp_fsm.specs.declared.state.State.{State}
 use Rattle.bgp_fsm.specs.declared.state.State.TheVariants.{Idle, Connect, Active, OpenSent, OpenConfirm, Established}
 use Rattle.bgp_peer.specs.SentMessages.{ring_of}
 use Rattle.net_prefix.specs.declared.prefix.Prefix.{Prefix}
-use Rattle.rib_out.specs.Held.{held_at}
 use Rattle.speaker.specs.Agreement.{Agrees, tables_after}
 use Rattle.routes.specs.Export.{IsExport, export_in, export_peer_of}
 use Rattle.speaker.specs.Export.{export_to}
@@ -23,7 +22,7 @@ use Rattle.routes.specs.Waiting.{differing, known_prefixes, waiting_at}
 use Rattle.speaker.specs.declared.config.Config.{Config}
 use Rattle.speaker.proofs.Calls.{export_peer_found, tables_same}
 use Rattle.routes.proofs.OneBest.{same_export}
-use Rattle.speaker.proofs.Passing.{export_of_run}
+use Rattle.speaker.proofs.Passing.{export_of_run, news_by, news_to}
 use Rattle.speaker.proofs.SlotStates.{linked_from}
 use Rattle.routes.proofs.WaitingLists.{differing_is}
 
@@ -58,7 +57,7 @@ from_listed : (config : Config) (r : Run) (s : SpeakerState) (slot : ℕ) (q : P
 from_listed config r s slot q None found a configured linked listed = absurd (none_listed q listed)
 from_listed config r s slot q (Some peer) None a configured linked listed = absurd (none_listed q listed)
 from_listed config r s slot q (Some peer) (Some l) a configured linked listed =
-    let parts = in_established (is_established l.peer.session.state) (differing (held_at l.adj_out) (export_in s.conf (best_at s.loc_rib) s.adj_in (export_peer_of s.conf slot peer)) (known_prefixes s.loc_rib l.adj_out)) q listed in
+    let parts = in_established (is_established l.peer.session.state) (differing l.adj_out (export_in s.conf (best_at s.loc_rib) s.adj_in (export_peer_of s.conf slot peer)) (known_prefixes s.loc_rib l.adj_out)) q listed in
     let differs = (differing_is s.conf s.loc_rib s.adj_in (export_peer_of s.conf slot peer) l.adj_out q).0 parts.1 in
     let here = (a.holds.slots slot).link l linked in
     record {
@@ -67,7 +66,7 @@ from_listed config r s slot q (Some peer) (Some l) a configured linked listed =
       configured = ap (λ c. peer_at c slot) (sym a.holds.conf) ∙ configured;
       established = sym (ap (λ (x : Session). x.state) here.peer.session) ∙ up_from l.peer.session.state parts.0;
       is_export = run_export config r s slot peer q a configured;
-      differs = λ same. differs (here.held q ∙ same ∙ export_peer_found s slot peer q configured);
+      waits = news_by (history config slot r) l q (export_in s.conf (best_at s.loc_rib) s.adj_in (export_peer_of s.conf slot peer) q) (export_to s slot q) here (sym (export_peer_found s slot peer q configured)) differs;
     }
 
 -- what waits after the run is listed
@@ -78,9 +77,9 @@ to_listed config r s slot q a w =
     let here = (a.holds.slots slot).link found.0 found.1 in
     let exports = same_export (tables_after config r) (export_peer_of (configuration_of config r) slot w.peer) q (export_to s slot q) w.export (run_export config r s slot w.peer q a configured) w.is_export in
     let listed = (differing_is s.conf s.loc_rib s.adj_in (export_peer_of s.conf slot w.peer) found.0.adj_out q).1
-    (λ same. w.differs (sym (here.held q) ∙ same ∙ sym (export_peer_found s slot w.peer q configured) ∙ exports)) in
+    (news_to (history config slot r) found.0 q (export_in s.conf (best_at s.loc_rib) s.adj_in (export_peer_of s.conf slot w.peer) q) w.export here (sym (export_peer_found s slot w.peer q configured) ∙ exports) w.waits) in
     let up : is_established found.0.peer.session.state ≡ true = ap (λ (x : Session). is_established x.state) here.peer.session ∙ ap is_established w.established in
-    let B : Bool → Type 0 = λ b. Contains (cond b (differing (held_at found.0.adj_out) (export_in s.conf (best_at s.loc_rib) s.adj_in (export_peer_of s.conf slot w.peer)) (known_prefixes s.loc_rib found.0.adj_out)) []) q in
+    let B : Bool → Type 0 = λ b. Contains (cond b (differing found.0.adj_out (export_in s.conf (best_at s.loc_rib) s.adj_in (export_peer_of s.conf slot w.peer)) (known_prefixes s.loc_rib found.0.adj_out)) []) q in
     let L : Option Linked → Type 0 = λ l. Contains (waiting_at s.conf s.loc_rib s.adj_in (Some (export_peer_of s.conf slot w.peer)) l) q in
     let C : Option ConfiguredPeer → Type 0 = λ peer. Contains (waiting_at s.conf s.loc_rib s.adj_in (option_map (export_peer_of s.conf slot) peer) (link_at s.links slot)) q in
     subst C (sym configured) (subst L (sym found.1) (subst B (sym up) listed))
@@ -93,8 +92,11 @@ waiting_agrees config r s slot q a = (from_listed config r s slot q (peer_at s.c
 settled_none : (config : Config) (r : Run) (s : SpeakerState) (slot : ℕ) (q : Prefix) → Agrees config r s → length (ring_of (history config slot r)) + 8192 ≤ 65536
     → IsWaitingIn config r slot q → ⊥
 settled_none config r s slot q a room w =
-    w.differs (same_export (tables_after config r) (export_peer_of (configuration_of config r) slot w.peer) q (held (history config slot r) q) w.export
-    (a.settled slot w.peer w.configured w.established room q) w.is_export)
+    let has = a.settled slot w.peer w.configured w.established room q in
+    elim w.waits [
+      | inl other ↦ other (same_export (tables_after config r) (export_peer_of (configuration_of config r) slot w.peer) q (held (history config slot r) q) w.export has.0 w.is_export)
+      | inr again ↦ cc
+    ]
 
 empty : (prefixes : List Prefix) → ((q : Prefix) → Contains prefixes q → ⊥) → prefixes ≡ []
 empty [] none = refl

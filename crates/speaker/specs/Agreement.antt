@@ -1,5 +1,5 @@
--- When a speaker is as a run leaves it (RFC 4271 sections 3.2, 8 and 9).
-use Rattle.std.specs.Prelude.{◌≡◌, ◌≢◌, ◌==◌, ◌<◌, ◌≤◌, ◌+◌, ◌++◌, ℕ, List, [], ◌∷◌, length, Bool, Option, Some, None, is_some, false, true, if◌then◌else◌}
+-- When a speaker is as a run leaves it (RFC 4271 sections 3.2, 8 and 9; RFC 2918 section 4).
+use Rattle.std.specs.Prelude.{◌≡◌, ◌≢◌, ◌⊎◌, ◌==◌, ◌<◌, ◌≤◌, ◌+◌, ◌++◌, ℕ, List, [], ◌∷◌, length, Bool, Option, Some, None, is_some, false, true, if◌then◌else◌}
 use Rattle.std.specs.Option.{option_map}
 use Rattle.bgp_attr.specs.AttributeFaults.{is_host}
 use Rattle.bgp_attr.specs.PathAttributes.{PathAttributes}
@@ -24,7 +24,7 @@ use Rattle.net_prefix.specs.declared.asn.Asn.{Asn}
 use Rattle.net_prefix.specs.declared.prefix.Prefix.{Prefix}
 use Rattle.net_prefix.specs.declared.transport.Transport.TheVariants.{Open as Connected}
 use Rattle.rib_in.specs.LatestRoutes.{route_at}
-use Rattle.rib_out.specs.Held.{held_at}
+use Rattle.rib_out.specs.Held.{asked_at, held_at}
 use Rattle.rtr_codec.specs.ClientTable.{in_force, initial}
 use Rattle.rtr_codec.specs.PduSpelling.{Content}
 use Rattle.rtr_codec.specs.PduStream.{WholePdu}
@@ -43,6 +43,7 @@ use Rattle.routes.specs.LocRib.{IsLocRib}
 use Rattle.routes.specs.Offers.{AreKept}
 use Rattle.speaker.specs.Queueing.{ComesFirst, Queue, Service, Tells, Starves, starved_in}
 use Rattle.routes.specs.Told.{update_saying}
+use Rattle.speaker.specs.Refreshes.{asked}
 use Rattle.speaker.specs.Runs.{Call, Run, turn, Up_call, Fail_call, Bytes_call, Starved_call, Tick_call, Command_call, Take_call, Cache_up_call, Cache_fail_call, Cache_bytes_call, Cache_starved_call, Cache_take_call, cache_history, configuration_of, history, moment_after, opened_to, opens_by, payloads_after, terms_in}
 use Rattle.speaker.specs.SpeakerState.{SpeakerState, tables_of}
 use Rattle.routes.specs.Tables.{Tables, link_at, network_route, peer_route_at}
@@ -63,10 +64,11 @@ tables_after config r = record {
   routes = λ s prefix. route_under (configuration_of config r) (λ t. history config t r) s prefix;
 }
 
--- the slot and what its peer holds are as this history leaves them
+-- the slot, what its peer holds and what it has asked for again are as this history leaves them
 pub record LinkAgrees (h : List slot.Event) (l : Linked) : Type 0 where
   pub peer : PeerAgrees h l.peer
   pub held : (prefix : Prefix) → held_at l.adj_out prefix ≡ held h prefix
+  pub asked : (prefix : Prefix) → asked_at l.adj_out prefix ≡ asked h prefix
   -- before Established nothing was told of any prefix
   pub silent : transport_of (session h) ≡ Connected → is_established (session h).state ≡ false → (prefix : Prefix) → told_in (sent h) prefix ≡ None
 
@@ -81,12 +83,14 @@ pub record SlotAgrees (config : Config) (found : Option ConfiguredPeer) (linked 
   pub vacant : occupant h ≡ None → ((session h).state ≡ Idle) × ((session h).timers ≡ stopped)
   pub routes_are : (prefix : Prefix) → routes prefix ≡ route h prefix
 
--- where 8,192 octets are free, the peer of this slot holds its export, if its session is Established
+-- where 8,192 octets are free, the peer of this slot holds its export and was told of each prefix for which it asked again, if its
+-- session is Established
 abbrev pub IsSettledAt : Config → Run → ℕ → Type 0
 IsSettledAt config r s =
     (peer : ConfiguredPeer) → peer_at (configuration_of config r) s ≡ Some peer
     → (session (history config s r)).state ≡ Established → length (ring_of (history config s r)) + room_for_update ≤ ring_octets
     → (prefix : Prefix) → IsExport (tables_after config r) (export_peer_of (configuration_of config r) s peer) prefix (held (history config s r) prefix)
+    × (asked (history config s r) prefix ≡ false)
 
 -- so it is of each slot
 abbrev pub IsSettled : Config → Run → Type 0
@@ -100,14 +104,14 @@ IsLowest config r s = (t : ℕ) → t < s → IsSettledAt config r t
 abbrev pub Names : List ℕ → Prefix → Type 0
 Names update prefix = (before : Option (List ℕ)) → told_from before (messages update) prefix ≡ told_in update prefix
 
--- as the run stands, this is what the export to the slot has of the prefix, and its peer doesn't hold it
+-- as the run stands, this is what the export to the slot has of the prefix, and its peer doesn't hold it, or has asked for it again
 pub record IsNews (config : Config) (r : Run) (s : ℕ) (peer : ConfiguredPeer) (prefix : Prefix) (export : Option (List ℕ)) : Type 0 where
   pub is_export : IsExport (tables_after config r) (export_peer_of (configuration_of config r) s peer) prefix export
-  pub news : held (history config s r) prefix ≢ export
+  pub news : (held (history config s r) prefix ≢ export) ⊎ (asked (history config s r) prefix ≡ true)
 
 -- as the run stands, the octets are an UPDATE that says of each prefix which it names what the export to the slot has
--- and its peer doesn't hold; it names one at least, and as yet no other. Of all that the peer is owed it comes first, and of all
--- slots that are owed something and have room for it this is the lowest
+-- and its peer doesn't hold, or has asked for again; it names one at least, and as yet no other. Of all that the peer is owed it comes
+-- first, and of all slots that are owed something and have room for it this is the lowest
 pub record IsOwedIn (config : Config) (r : Run) (s : ℕ) (update : List ℕ) : Type 0 where
   pub peer : ConfiguredPeer
   pub configured : peer_at (configuration_of config r) s ≡ Some peer
@@ -121,7 +125,8 @@ pub record IsOwedIn (config : Config) (r : Run) (s : ℕ) (update : List ℕ) : 
   pub lowest : IsLowest config r s
 
 -- as the run stands, the slot's session is Established, 8,192 octets of its ring are free, and the export to it has of some
--- prefix what its peer doesn't hold; of all slots that are owed something and have room for it this is the lowest
+-- prefix what its peer doesn't hold, or has asked for again; of all slots that are owed something and have room for it this is the
+-- lowest
 pub record IsShortIn (config : Config) (r : Run) (s : ℕ) : Type 0 where
   pub peer : ConfiguredPeer
   pub prefix : Prefix

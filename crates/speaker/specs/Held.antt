@@ -4,7 +4,7 @@ use Rattle.bgp_fsm.specs.declared.state.State.{State}
 use Rattle.bgp_fsm.specs.StateTests.{is_established}
 use Rattle.bgp_msg.specs.MessageSpelling.{front_prefixes, update_parts}
 use Rattle.bgp_msg.specs.MessageStream.{Item, WholeMessage, FaultyHeader, messages}
-use Rattle.bgp_msg.specs.declared.frame.MessageType.TheVariants.{Open, Update, Notification, Keepalive}
+use Rattle.bgp_msg.specs.declared.frame.MessageType.TheVariants.{Open, Update, Notification, Keepalive, RouteRefresh}
 use Rattle.bgp_peer.specs.SentMessages.{sent}
 use Rattle.bgp_peer.specs.SessionInputs.{Event, session}
 use Rattle.net_prefix.specs.declared.prefix.Prefix.{Prefix}
@@ -25,6 +25,7 @@ told (WholeMessage Open body) prefix before = before
 told (WholeMessage Update body) prefix before = told_by (update_parts body) prefix before
 told (WholeMessage Notification body) prefix before = before
 told (WholeMessage Keepalive body) prefix before = before
+told (WholeMessage RouteRefresh body) prefix before = before
 
 -- messages folded, the oldest first
 abbrev pub told_from : Option (List ℕ) → List Item → Prefix → Option (List ℕ)

@@ -3,6 +3,7 @@ pub mod Queueing
 pub mod SpeakerState
 pub mod AdjRibIn
 pub mod Held
+pub mod Refreshes
 pub mod Runs
 pub mod Agreement
 pub mod Serving

@@ -1,8 +1,8 @@
 -- What is queued to a peer so that it holds its export (RFC 4271 sections 4.3 and 9.2).
-use Rattle.std.specs.Prelude.{◌≡◌, ◌≤◌, ◌+◌, ◌^◌, bit_or, ℕ, List, [], ◌∷◌, length, Option, Some, None}
+use Rattle.std.specs.Prelude.{◌≡◌, ◌≤◌, ◌+◌, ◌^◌, bit_or, ℕ, List, [], ◌∷◌, length, Option, Some, None, false}
 use Rattle.bgp_fsm.specs.declared.state.State.TheVariants.{Established}
 use Rattle.net_prefix.specs.declared.prefix.Prefix.{Prefix}
-use Rattle.rib_out.specs.Held.{held_at}
+use Rattle.rib_out.specs.Held.{asked_at, held_at}
 use Rattle.routes.specs.Linked.{Linked}
 use Rattle.bgp_peer.specs.PeerLimits.{ring_octets, room_for_update}
 use Rattle.routes.specs.Places.{rank_of}
@@ -34,6 +34,8 @@ abbrev pub starved_in : Queue → ℕ
 starved_in [] = 0
 starved_in (now ∷ queue) = with_starved now.0 now.1 (starved_in queue)
 
--- where 8,192 octets are free, an Established peer holds its export
+-- where 8,192 octets are free, an Established peer holds its export, and has asked for nothing again that it wasn't told since
 abbrev pub IsServed : (Prefix → Option (List ℕ)) → Linked → Type 0
-IsServed export l = l.peer.session.state ≡ Established → length l.peer.ring + room_for_update ≤ ring_octets → (prefix : Prefix) → held_at l.adj_out prefix ≡ export prefix
+IsServed export l =
+    l.peer.session.state ≡ Established → length l.peer.ring + room_for_update ≤ ring_octets
+    → (prefix : Prefix) → (held_at l.adj_out prefix ≡ export prefix) × (asked_at l.adj_out prefix ≡ false)

@@ -1,11 +1,12 @@
--- What waits of each prefix for each peer: what it is owed, so that it holds its export (our own, for RFC 4271 section 9.2).
-use Rattle.std.specs.Prelude.{◌≡◌, ◌≢◌, ◌<◌, ℕ, Bool, List, Option, Some, None, false, ◌≤◌, length}
+-- What waits of each prefix for each peer: what it is owed, so that it holds its export (our own, for RFC 4271 section 9.2) and was
+-- told what it asked for again (RFC 2918 section 4).
+use Rattle.std.specs.Prelude.{◌≡◌, ◌≢◌, ◌⊎◌, ◌<◌, ℕ, Bool, List, Option, Some, None, true, false, ◌≤◌, length}
 use Rattle.bgp_conf.specs.Configuration.{peer_at}
 use Rattle.bgp_conf.specs.declared.conf.ConfiguredPeer.{ConfiguredPeer}
 use Rattle.bgp_fsm.specs.StateTests.{is_established}
 use Rattle.bgp_fsm.specs.declared.state.State.TheVariants.{Established}
 use Rattle.net_prefix.specs.declared.prefix.Prefix.{Prefix}
-use Rattle.rib_out.specs.Held.{held_at}
+use Rattle.rib_out.specs.Held.{asked_at, held_at}
 use Rattle.routes.specs.Linked.{Linked}
 use Rattle.speaker.specs.SpeakerState.{SpeakerState}
 use Rattle.routes.specs.Tables.{link_at}
@@ -22,7 +23,8 @@ pub record IsServedBy (s : SpeakerState) (slot : ℕ) (l : Linked) : Type 0 wher
   pub linked : link_at s.links slot ≡ Some l
   pub established : l.peer.session.state ≡ Established
 
--- where 8,192 octets are free, the peer of this slot holds its export, if its session is Established
+-- where 8,192 octets are free, the peer of this slot holds its export and waits for nothing that it asked for again, if its session is
+-- Established
 abbrev pub IsServedAt : SpeakerState → ℕ → Type 0
 IsServedAt s slot = (peer : ConfiguredPeer) (l : Linked) → peer_at s.conf slot ≡ Some peer → link_at s.links slot ≡ Some l → IsServed (export_to s slot) l
 
@@ -38,8 +40,12 @@ IsUpAt s slot = (l : Linked) × (link_at s.links slot ≡ Some l) × (l.peer.ses
 abbrev pub HasRoomAt : SpeakerState → ℕ → Type 0
 HasRoomAt s slot = (l : Linked) → link_at s.links slot ≡ Some l → HasRoom l
 
--- the slot's session is Established, its ring has room, and of some prefix its peer doesn't hold what is exported to it; all
--- lower slots are served
+-- the slot's peer doesn't hold of the prefix just what is exported to it, or has asked for it again
+abbrev pub IsNewTo : Linked → Prefix → Option (List ℕ) → Type 0
+IsNewTo l prefix export = (held_at l.adj_out prefix ≢ export) ⊎ (asked_at l.adj_out prefix ≡ true)
+
+-- the slot's session is Established, its ring has room, and of some prefix its peer doesn't hold what is exported to it, or has asked
+-- for it again; all lower slots are served
 pub record IsShortAt (s : SpeakerState) (slot : ℕ) : Type 0 where
   pub peer : ConfiguredPeer
   pub linked : Linked
@@ -51,7 +57,7 @@ pub record IsShortAt (s : SpeakerState) (slot : ℕ) : Type 0 where
   pub up : linked.peer.session.state ≡ Established
   pub room : HasRoom linked
   pub exported : export_to s slot prefix ≡ Some octets
-  pub lacks : held_at linked.adj_out prefix ≢ Some octets
+  pub news : IsNewTo linked prefix (Some octets)
   pub below : AreServedBelow s slot
 
 -- whether a slot is there with an Established session
@@ -95,14 +101,18 @@ pub record Serves (slot : ℕ) (old new : SpeakerState) : Type 0 where
   pub only : IsOfSlot slot old new
   pub queues : QueuesOn old new
 
--- where there is room left, this holds of each prefix and of what the slot's peer holds of it
-abbrev pub IsDoneAt : (Prefix → Option (List ℕ) → Type 0) → SpeakerState → ℕ → Type 0
-IsDoneAt done s slot = (l : Linked) → link_at s.links slot ≡ Some l → HasRoom l → (q : Prefix) → done q (held_at l.adj_out q)
+-- this holds of a prefix, of what the slot's peer holds of it, and of whether it has asked for it again
+abbrev pub IsDoneOf : (Prefix → Option (List ℕ) → Bool → Type 0) → Linked → Prefix → Type 0
+IsDoneOf done l q = done q (held_at l.adj_out q) (asked_at l.adj_out q)
+
+-- where there is room left, it does of each prefix
+abbrev pub IsDoneAt : (Prefix → Option (List ℕ) → Bool → Type 0) → SpeakerState → ℕ → Type 0
+IsDoneAt done s slot = (l : Linked) → link_at s.links slot ≡ Some l → HasRoom l → (q : Prefix) → IsDoneOf done l q
 
 -- what isn't exported isn't held
-abbrev pub IsGone : (Prefix → Option (List ℕ)) → Prefix → Option (List ℕ) → Type 0
-IsGone export q held = export q ≡ None → held ≡ None
+abbrev pub IsGone : (Prefix → Option (List ℕ)) → Prefix → Option (List ℕ) → Bool → Type 0
+IsGone export q held asked = export q ≡ None → held ≡ None
 
--- what is exported is held just so
-abbrev pub IsHad : (Prefix → Option (List ℕ)) → Prefix → Option (List ℕ) → Type 0
-IsHad export q held = (octets : List ℕ) → export q ≡ Some octets → held ≡ Some octets
+-- what is exported is held just so, and isn't asked for again
+abbrev pub IsHad : (Prefix → Option (List ℕ)) → Prefix → Option (List ℕ) → Bool → Type 0
+IsHad export q held asked = (octets : List ℕ) → export q ≡ Some octets → (held ≡ Some octets) × (asked ≡ false)

@@ -10,6 +10,7 @@ use Rattle.net_prefix.specs.declared.prefix.Prefix.{Prefix}
 use Rattle.rib_in.specs.LatestRoutes.{RouteTable, routes_of}
 use Rattle.net_prefix.specs.declared.transport.Transport.{Transport}
 use Rattle.net_prefix.specs.declared.transport.Transport.TheVariants.{None as NoConnection}
+use Rattle.rib_out.specs.Held.{octets_of}
 use Rattle.rtr_client.specs.Following.{state_of}
 use Rattle.rtr_client.specs.declared.state.ClientState.{ClientState}
 use Rattle.rtr_session.specs.SessionHistory.{client}
@@ -36,7 +37,7 @@ listed (Some held) = held
 -- what the peer of a slot holds; nothing where the slot isn't there
 abbrev pub held_by : Option Linked → List (Prefix × List ℕ)
 held_by None = []
-held_by (Some l) = l.adj_out
+held_by (Some l) = octets_of l.adj_out
 
 -- the routes of a slot's peer; no local network came from one
 abbrev pub received_by : ℕ → RouteTable → List (Prefix × PathAttributes)

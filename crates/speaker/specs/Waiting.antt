@@ -1,5 +1,6 @@
--- The prefixes that wait: a peer doesn't hold of them just what is exported to it (RFC 4271 sections 3.2 and 9.2).
-use Rattle.std.specs.Prelude.{◌≡◌, ◌≢◌, ℕ, List, Option, Some}
+-- The prefixes that wait: a peer doesn't hold of them just what is exported to it, or has asked for them again (RFC 4271
+-- sections 3.2 and 9.2, RFC 2918 section 4).
+use Rattle.std.specs.Prelude.{◌≡◌, ◌≢◌, ◌⊎◌, ℕ, List, Option, Some, true}
 use Rattle.std.specs.Option.{option_map}
 use Rattle.bgp_conf.specs.Configuration.{peer_at}
 use Rattle.bgp_conf.specs.declared.conf.ConfiguredPeer.{ConfiguredPeer}
@@ -9,20 +10,22 @@ use Rattle.net_prefix.specs.declared.prefix.Prefix.{Prefix}
 use Rattle.speaker.specs.Agreement.{tables_after}
 use Rattle.routes.specs.Export.{IsExport, export_peer_of}
 use Rattle.speaker.specs.Held.{held}
+use Rattle.speaker.specs.Refreshes.{asked}
 use Rattle.speaker.specs.Runs.{Run, configuration_of, history}
 use Rattle.speaker.specs.SpeakerState.{SpeakerState}
 use Rattle.routes.specs.Tables.{link_at}
 use Rattle.speaker.specs.declared.config.Config.{Config}
 use Rattle.routes.specs.Waiting.{waiting_at}
 
--- after a run, the slot's session is Established, and its peer doesn't hold of the prefix just what is exported to it
+-- after a run, the slot's session is Established, and its peer doesn't hold of the prefix just what is exported to it, or has asked
+-- for it again
 pub record IsWaitingIn (config : Config) (r : Run) (slot : ℕ) (prefix : Prefix) : Type 0 where
   pub peer : ConfiguredPeer
   pub export : Option (List ℕ)
   pub configured : peer_at (configuration_of config r) slot ≡ Some peer
   pub established : (session (history config slot r)).state ≡ Established
   pub is_export : IsExport (tables_after config r) (export_peer_of (configuration_of config r) slot peer) prefix export
-  pub differs : held (history config slot r) prefix ≢ export
+  pub waits : (held (history config slot r) prefix ≢ export) ⊎ (asked (history config slot r) prefix ≡ true)
 
 -- the known prefixes that wait of a slot
 abbrev pub waiting_of : SpeakerState → ℕ → List Prefix

@@ -1,11 +1,12 @@
-//! What the peers are owed: the UPDATEs that make what each was sent its export of Loc-RIB.
+//! What the peers are owed: the UPDATEs that make what each was sent its export of Loc-RIB, and those that a peer has asked for
+//! again (RFC 2918 section 4).
 ghost use Rattle.std.specs.Prelude.{◌≡◌, ◌≢◌, ◌≤◌, ◌<◌, ◌+◌, ◌==◌, ◌↔◌, ℕ, false, Some, None, OnOk, OnErr, IfSome, IfNone, IsTrue, length, if◌then◌else◌};
 ghost use Rattle.std.specs.Bool.{OnTrue};
 ghost use Rattle.std.specs.Option.{IsSome, option_map};
 ghost use Rattle.bgp_conf.specs.Configuration.{peer_at};
 ghost use Rattle.bgp_fsm.specs.declared.state.State.TheVariants.{Established};
 ghost use Rattle.export_rules.specs.Export.{most_attributes};
-ghost use Rattle.rib_out.specs.Held.{held_at};
+ghost use Rattle.rib_out.specs.Held.{asked_at, held_at};
 ghost use Rattle.speaker.specs.Agreement.{QueuesAll, QueuesOn, QueuesStarved};
 ghost use Rattle.routes.specs.Export.{export_peer_of};
 ghost use Rattle.speaker.specs.Export.{export_to};
@@ -122,7 +123,7 @@ impl<A: Allocator + Clone, B: Book<A>> Speaker<A, B> {
         }
     }
 
-    // Announces what is exported to the peer and what it doesn't hold just so.
+    // Announces what is exported to the peer and what it doesn't hold just so, or has asked for again.
     fn announce_all(
         &mut self,
         slot: u8,
@@ -182,10 +183,10 @@ impl<A: Allocator + Clone, B: Book<A>> Speaker<A, B> {
     }
 
     // The least prefix above the given one, or of all, that is exported to an Established peer and that it doesn't
-    // hold just so.
+    // hold just so, or has asked for again.
     fn announcement_after(&self, slot: u8, after: Option<Prefix>) -> Option<Prefix>
         requires { slot < 64 }
-        ensures { (l : Linked) → IsServedBy self.now slot l → IsNext (λ q. announced_of (export_to self.now slot q) (held_at l.adj_out q)) after result }
+        ensures { (l : Linked) → IsServedBy self.now slot l → IsNext (λ q. announced_of (export_to self.now slot q) (held_at l.adj_out q) (asked_at l.adj_out q)) after result }
     {
         self.routes.announcement_after(slot, after)
     }

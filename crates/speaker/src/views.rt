@@ -8,7 +8,7 @@ ghost use Rattle.bgp_peer.specs.SentMessages.{ring_of};
 ghost use Rattle.net_prefix.specs.PayloadSets.{IsPayloadSet};
 ghost use Rattle.net_prefix.specs.PrefixOrder.{prefix_cmp};
 ghost use Rattle.net_prefix.specs.declared.prefix.Prefix.{Prefix as ThePrefix};
-ghost use Rattle.rib_out.specs.Held.{held_at, is_prefix};
+ghost use Rattle.rib_out.specs.Held.{is_prefix};
 ghost use Rattle.speaker.specs.AdjRibIn.{route};
 ghost use Rattle.decision.specs.declared.candidate.Candidate.{Candidate as TheCandidate};
 ghost use Rattle.speaker.specs.Agreement.{Agrees, tables_after};
@@ -327,7 +327,7 @@ impl<A: Allocator + Clone, B: Book<A>> Speaker<A, B> {
         // Each prefix once.
         ensures rising { IsStrictlySortedBy prefix_cmp (keys_of result) }
         ensures kept { result ≡ held_by (link_at self.now.links slot) }
-        ensures agrees { (config : Config) (r : Run) (prefix : ThePrefix) → Agrees config r self.now → held_at result prefix ≡ held (history config slot r) prefix }
+        ensures agrees { (config : Config) (r : Run) (prefix : ThePrefix) → Agrees config r self.now → lookup (is_prefix prefix) result ≡ held (history config slot r) prefix }
     {
         self.held_rows(slot)
     }

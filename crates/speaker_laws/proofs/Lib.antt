@@ -1,2 +1,3 @@
 pub mod TravellingUpdates
 pub mod KeptAttributes
+pub mod AnsweredRefreshes

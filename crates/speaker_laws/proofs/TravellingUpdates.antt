@@ -22,7 +22,7 @@ use Rattle.bgp_fsm.specs.declared.timers.Timer.{Timer}
 use Rattle.bgp_msg.specs.MessageSpelling.{front_prefixes, update_parts}
 use Rattle.bgp_msg.specs.MessageStream.{Item, IsMessage, WholeMessage, FaultyHeader, messages, unread}
 use Rattle.bgp_msg.specs.UpdateMeaning.{UpdateBody, update_fault, update_in, update_of_parts}
-use Rattle.bgp_msg.specs.declared.frame.MessageType.TheVariants.{Open as OpenType, Update as UpdateType, Notification as NotificationType, Keepalive as KeepaliveType}
+use Rattle.bgp_msg.specs.declared.frame.MessageType.TheVariants.{Open as OpenType, Update as UpdateType, Notification as NotificationType, Keepalive as KeepaliveType, RouteRefresh as RouteRefreshType}
 use Rattle.bgp_msg.proofs.StreamPieces.{messages-nil, unread-anew, unread-nil}
 use Rattle.bgp_msg.proofs.Streams.{message-then}
 use Rattle.bgp_peer.specs.SentMessages.{given, sent, with_said}
@@ -82,6 +82,7 @@ heard_travels state terms (WholeMessage UpdateType body) =
     sound_if (is_established state) (sound_update (kind_of terms) body (update_fault (kind_of terms) body)) (sound_travels (kind_of terms) body (update_fault (kind_of terms) body))
 heard_travels state terms (WholeMessage NotificationType body) = tt
 heard_travels state terms (WholeMessage KeepaliveType body) = tt
+heard_travels state terms (WholeMessage RouteRefreshType body) = tt
 
 item_travels : (state : State) (terms : Terms) (item : Option Item) → UpdateTravels (option_and_then (update_heard state terms) item)
 item_travels state terms None = tt

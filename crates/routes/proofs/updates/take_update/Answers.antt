@@ -1,5 +1,5 @@
 use Rattle.routes.proofs.NamedPrefixes.{most_named, most_withdrawn, part_announced, part_withdrawn}
-use Rattle.routes.proofs.HeardOffers.{apart_heard, kept_withdrawn, on_kept, on_words, others_withdrawn, sound_heard}
+use Rattle.routes.proofs.HeardOffers.{apart_heard, kept_withdrawn, on_kept, on_unnamed, on_words, others_withdrawn, sound_heard, unnamed_withdrawn}
 use Rattle.routes.proofs.Results.{OnErr-is}
 use Rattle.routes.proofs.updates.take_update.Goals as goal
 
@@ -56,3 +56,12 @@ pub returns-clause-part : goal.returns-clause-part
 returns-clause-part g c =
     part_announced c.announce_each.result c.args.sender.slot c.args.update c.args.routing.now c.withdraw_each.new.routing c.announce_each.new.routing (rw (c.withdrawn.ensures, c.announced-announced.ensures) at c.withdraw_each.ensures.routes)
     (rw c.announced-announced.ensures at c.announce_each.ensures.announced) (returns-clause-chosen g c)
+
+pub returns-then-is_none-clause-unnamed : goal.returns-then-is_none-clause-unnamed
+returns-then-is_none-clause-unnamed g c = unnamed_withdrawn c.args.sender.slot c.args.update c.args.routing.now c.withdraw_each.new.routing (rw (c.withdrawn.ensures, c.announced-announced.ensures) at c.withdraw_each.ensures.offers)
+
+pub returns-clause-unnamed : goal.returns-clause-unnamed
+returns-clause-unnamed g c =
+    let gone = rw (c.withdrawn.ensures, c.announced-announced.ensures) at c.withdraw_each.ensures.offers in
+    let come = rw c.announced-announced.ensures at c.announce_each.ensures.offers in
+    on_unnamed c.announce_each.result c.args.sender.slot c.args.update _ c.args.routing.now c.withdraw_each.new.routing c.announce_each.new.routing gone come

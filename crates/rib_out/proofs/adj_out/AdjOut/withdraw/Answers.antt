@@ -1,4 +1,9 @@
+use Rattle.std.proofs.Common.{None}
+use Rattle.rib_out.proofs.HeldTables.{asked_of-put, held_of-put}
 use Rattle.rib_out.proofs.adj_out.AdjOut.withdraw.Goals as goal
 
-pub returns : goal.returns
-returns g c = λ q. rw (← c.self.view_is) (c.remove.ensures.updates.0 q)
+pub returns-clause-held : goal.returns-clause-held
+returns-clause-held g c = λ q. rw (← c.self.view_is) (held_of-put _ _ c.args.prefix None c.remove.ensures.updates.0 q)
+
+pub returns-clause-asked : goal.returns-clause-asked
+returns-clause-asked g c = λ q. rw (← c.self.view_is) (asked_of-put _ _ c.args.prefix None c.remove.ensures.updates.0 q)

@@ -3,7 +3,7 @@ use Rattle.std.specs.Option.{option_and_then, option_map}
 use Rattle.bgp_msg.specs.MessageStream.{meaning}
 use Rattle.bgp_peer.specs.SessionInputs.{input_of}
 use Rattle.routes.specs.Chosen.{named_if}
-use Rattle.routes.specs.Heard.{IsHeard, TakesMemoryAt, update_heard}
+use Rattle.routes.specs.Heard.{IsHeard, KeepsUnnamed, TakesMemoryAt, update_heard}
 use Rattle.routes.specs.Linked.{Linked}
 use Rattle.routes.specs.Tables.{session_at}
 use Rattle.routes.proofs.Results.{IfOk-as, OnErr-as, OnErr-is, OnOk-as}
@@ -23,6 +23,12 @@ returns-clause-routes g c =
     rw (← c.self.view_is) (OnOk-as c.take_front.result _ _
     (λ heard terms l of linked. subst (λ (x : Linked). IsHeard c.args.slot (option_and_then (update_heard x.peer.session.state terms) (meaning x.peer.rest)) c.self.inside.routing.adj_in c.take_front.new.routing.adj_in) (some_same _ _ _ c.in-Some.ensures.value linked) (heard terms of))
     c.take_front.ensures.routes)
+
+pub returns-clause-unnamed : goal.returns-clause-unnamed
+returns-clause-unnamed g c =
+    rw (← c.self.view_is) (OnOk-as c.take_front.result _ _
+    (λ kept terms l of linked. subst (λ (x : Linked). KeepsUnnamed c.args.slot (option_and_then (update_heard x.peer.session.state terms) (meaning x.peer.rest)) c.self.inside.routing.book c.take_front.new.routing.book) (some_same _ _ _ c.in-Some.ensures.value linked) (kept terms of))
+    c.take_front.ensures.unnamed)
 
 pub returns-clause-chosen : goal.returns-clause-chosen
 returns-clause-chosen g c =

@@ -15,8 +15,8 @@ returns-in_err-add-clause-marked g c =
 pub announce-announced-requires-clause-apart : goal.announce-announced-requires-clause-apart
 announce-announced-requires-clause-apart g c = rw (← c.self.view_is) at c.requires.apart
 
-pub refresh-requires-clause-marked : goal.refresh-requires-clause-marked
-refresh-requires-clause-marked g c =
+pub mark_peers-requires-clause-marked : goal.mark_peers-requires-clause-marked
+mark_peers-requires-clause-marked g c =
     let marked = rw (← c.self.view_is) at c.requires.marked in
     let old : RoutingState = record { adj_in = c.self.inside.ribs.adj_in; book = c.self.inside.ribs.book; chosen = c.self.inside.ribs.chosen; waiting = c.self.inside.waiting } in
     let new : RoutingState = record { adj_in = c.announce-announced.new.self.adj_in; book = c.announce-announced.new.self.book; chosen = c.announce-announced.new.self.chosen; waiting = c.add.new.self } in

@@ -5,8 +5,8 @@ use Rattle.routes.specs.RoutingState.{RoutingState}
 use Rattle.routes.proofs.Marking.{marked_but}
 use Rattle.routes.proofs.routing.Routing.change.Goals as goal
 
-pub refresh-requires-clause-marked : goal.refresh-requires-clause-marked
-refresh-requires-clause-marked g c =
+pub mark_peers-requires-clause-marked : goal.mark_peers-requires-clause-marked
+mark_peers-requires-clause-marked g c =
     let marked = rw (← c.self.view_is) at c.requires.marked in
     let old : RoutingState = record { adj_in = c.self.inside.ribs.adj_in; book = c.self.inside.ribs.book; chosen = c.self.inside.ribs.chosen; waiting = c.self.inside.waiting } in
     let new : RoutingState = record { adj_in = c.change.new.self.adj_in; book = c.change.new.self.book; chosen = c.change.new.self.chosen; waiting = c.self.inside.waiting } in

@@ -1,5 +1,5 @@
 use Rattle.std.proofs.Common.{◌≡◌, Some, None, ap}
-use Rattle.rib_out.specs.Held.{held_at}
+use Rattle.rib_out.specs.Held.{asked_at, held_at}
 use Rattle.routes.specs.Export.{export_in}
 use Rattle.speaker.specs.Export.{export_to}
 use Rattle.routes.specs.Owing.{announced_of}
@@ -51,5 +51,5 @@ pub returns-clause-done : goal.returns-clause-done
 returns-clause-done g c =
     let h = c.loop-prefix.invariant in
     let last = c.in_default.ensures h.serves.after (served_by _ _ _ _ h.serves c.requires.peer) in
-    Walks-end (IsHad (export_to c.args.self.now c.args.slot)) (λ q. announced_of (export_to c.loop-prefix.self c.args.slot q) (held_at h.serves.after.adj_out q)) c.args.slot c.args.self.now c.loop-prefix.self c.loop-prefix.after h
-    (had_by c.args.slot c.args.self.now c.loop-prefix.self (held_at h.serves.after.adj_out) (ap (λ e. e c.args.slot) (export_kept c.args.self.now c.loop-prefix.self h.serves.only.rest))) last
+    Walks-end (IsHad (export_to c.args.self.now c.args.slot)) (λ q. announced_of (export_to c.loop-prefix.self c.args.slot q) (held_at h.serves.after.adj_out q) (asked_at h.serves.after.adj_out q)) c.args.slot c.args.self.now c.loop-prefix.self c.loop-prefix.after h
+    (had_by c.args.slot c.args.self.now c.loop-prefix.self h.serves.after (ap (λ e. e c.args.slot) (export_kept c.args.self.now c.loop-prefix.self h.serves.only.rest))) last

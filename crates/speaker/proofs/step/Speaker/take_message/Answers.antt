@@ -14,6 +14,9 @@ use Rattle.speaker.specs.SpeakerState.{SpeakerState}
 use Rattle.speaker.proofs.Messages.{refused_chosen, rises_once, rises_twice, starves, takes, takes_none, some_same}
 use Rattle.speaker.proofs.step.Speaker.take_message.Goals as goal
 
+pub judge_front-requires : goal.judge_front-requires
+judge_front-requires g c = (terms_in c.self.inside.config c.in-Some.peer, record { expected_is = refl; kind_is = c.between.ensures })
+
 pub returns-in-Some-heard-clause-taken : goal.returns-in-Some-heard-clause-taken
 returns-in-Some-heard-clause-taken g c = λ l peer linked configured.
     let linked_here = rw (← c.self.view_is) at linked in

@@ -1,6 +1,6 @@
 use Rattle.std.proofs.Common.{arith}
 use Rattle.routes.proofs.Marking.{MarkedBelow-all, MarkedBelow-more}
-use Rattle.routes.proofs.routing.Routing.refresh.Goals as goal
+use Rattle.routes.proofs.routing.Routing.mark_peers.Goals as goal
 
 pub loop-slot-preserved : goal.loop-slot-preserved
 loop-slot-preserved g c = MarkedBelow-more _ _ _ _ _ _ c.loop-slot.slot c.loop-slot.invariant c.mark.ensures.rest c.mark.ensures.owed c.mark.ensures.known
