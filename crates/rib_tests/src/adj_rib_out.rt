@@ -64,6 +64,17 @@ fn holds_the_last(alloc: Global, table: &mut AdjOut) -> bool {
         && !table.holds(LOW, b"one")
 }
 
+// Then the peer asks for all again, and is told of the low one.
+fn asks_again(alloc: Global, table: &mut AdjOut) -> bool {
+    let told: [(Prefix, &[u8]); 1] = [(LOW, b"two")];
+    table.ask_all();
+    table.is_asked(LOW)
+        && holds_just(table, &[(LOW, b"two"), (HIGH, b"three")])
+        && announces(alloc, table, &told)
+        && !table.is_asked(LOW)
+        && table.is_asked(HIGH)
+}
+
 // Then the low one is withdrawn, and all is cleared.
 fn holds_no_more(table: &mut AdjOut) -> bool {
     table.withdraw(LOW);
@@ -75,7 +86,8 @@ fn holds_no_more(table: &mut AdjOut) -> bool {
 #[test]
 fn the_peer_holds_what_it_was_last_sent(rt: HostRuntime) {
     let mut table = AdjOut::new(rt.alloc());
-    assert!(rt; holds_the_last(rt.alloc(), &mut table) && holds_no_more(&mut table));
+    assert!(rt; holds_the_last(rt.alloc(), &mut table) && asks_again(rt.alloc(), &mut table));
+    assert!(rt; holds_no_more(&mut table));
 }
 
 // Whether the peer holds so many prefixes, each with these octets.

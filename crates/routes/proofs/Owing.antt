@@ -2,12 +2,13 @@ use Rattle.std.proofs.Common.{◌≡◌, ◌<◌, ℕ, ◌&&◌, not, Bool, true
 use Rattle.std.specs.Option.{IsSome, is_some, option_and_then}
 use Rattle.std.specs.Ordering.{is_gt}
 use Rattle.std.specs.Str.{bytes_eq}
-use Rattle.bgp_conf.specs.Configuration.{peer_at}
+use Rattle.bgp_conf.specs.Configuration.{Configuration, peer_at}
 use Rattle.bgp_conf.specs.declared.conf.ConfiguredPeer.{ConfiguredPeer}
 use Rattle.bgp_fsm.specs.StateTests.{is_established}
 use Rattle.bgp_fsm.specs.declared.state.State.TheVariants.{Established}
 use Rattle.decision.specs.BookContents.{rows_of}
 use Rattle.net_prefix.specs.PrefixOrder.{prefix_cmp, IsAbove}
+use Rattle.net_prefix.specs.declared.payload.Vrp.{Vrp}
 use Rattle.net_prefix.specs.declared.prefix.Prefix.{Prefix}
 use Rattle.prefix_trie.specs.TrieMap.{found}
 use Rattle.rib_out.specs.Held.{asked_at, held_at}
@@ -29,6 +30,10 @@ use Rattle.routes.proofs.WaitingLists.{not_established}
 -- the tables, with what waits
 abbrev pub routing_of : RoutesState → List (Prefix × Waits) → RoutingState
 routing_of s waiting = record { adj_in = s.adj_in; book = s.book; chosen = s.chosen; waiting = waiting }
+
+-- the routes with these tables
+abbrev pub state_of : Configuration → List Vrp → List (ℕ × Linked) → RoutingState → RoutesState
+state_of conf payloads links t = record { conf = conf; payloads = payloads; links = links; adj_in = t.adj_in; book = t.book; chosen = t.chosen }
 
 -- the export to a peer that is configured
 pub export_found : (s : RoutesState) (slot : ℕ) (peer : ConfiguredPeer) (q : Prefix) → peer_at s.conf slot ≡ Some peer → export_of s slot q ≡ export_in s.conf (best_at (rows_of s.book)) s.adj_in (export_peer_of s.conf slot peer) q

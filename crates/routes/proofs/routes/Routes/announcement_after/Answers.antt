@@ -1,31 +1,16 @@
-use Rattle.routes.specs.RoutesState.{RoutesState}
 use Rattle.rib_out.specs.declared.marks.Owed.TheVariants.{Announcement}
-use Rattle.routes.proofs.Owing.{next_announced, none_next}
+use Rattle.routes.proofs.Owing.{next_announced, none_next, state_of}
 use Rattle.routes.proofs.routes.Routes.announcement_after.Goals as goal
 
 pub returns-clause-next : goal.returns-clause-next
 returns-clause-next g c = λ peer l configured linked established.
     let configured_here = rw (← c.self.view_is) at configured in
     let linked_here = rw (← c.self.view_is) at linked in
-    let state : RoutesState = record {
-      conf = c.self.inside.conf;
-      payloads = c.self.inside.payloads;
-      links = c.self.inside.links.entries;
-      adj_in = c.self.inside.routing.adj_in;
-      book = c.self.inside.routing.book;
-      chosen = c.self.inside.routing.chosen;
-    } in
+    let state = state_of c.self.inside.conf c.self.inside.payloads c.self.inside.links.entries c.self.inside.routing in
     rw (← c.self.view_is)
     (next_announced state c.self.inside.routing.waiting c.args.slot peer l c.args.after c.next.result c.self.invariant.1 c.requires configured_here linked_here established c.next.ensures.has c.next.ensures.above c.next.ensures.least c.next.ensures.none)
 
 pub returns-clause-none : goal.returns-clause-none
 returns-clause-none g c =
-    let state : RoutesState = record {
-      conf = c.self.inside.conf;
-      payloads = c.self.inside.payloads;
-      links = c.self.inside.links.entries;
-      adj_in = c.self.inside.routing.adj_in;
-      book = c.self.inside.routing.book;
-      chosen = c.self.inside.routing.chosen;
-    } in
+    let state = state_of c.self.inside.conf c.self.inside.payloads c.self.inside.links.entries c.self.inside.routing in
     rw (← c.self.view_is) (λ unserved. none_next state c.self.inside.routing.waiting c.args.slot Announcement c.next.result c.self.invariant.1 c.requires unserved c.next.ensures.has)

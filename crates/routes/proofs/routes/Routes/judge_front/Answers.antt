@@ -12,6 +12,9 @@ use Rattle.routes.proofs.routes.Routes.judge_front.Goals as goal
 some_same : {X : Type 0} (o : Option X) (x y : X) → Some x ≡ o → o ≡ Some y → x ≡ y
 some_same o x y a b = cc
 
+pub returns-clause-none : goal.returns-clause-none
+returns-clause-none g c = rw (← c.self.view_is) (λ none. absurd (let never = c.in-Some.ensures.value ∙ none in cc))
+
 pub returns-clause-input : goal.returns-clause-input
 returns-clause-input g c =
     rw (← c.self.view_is) (IfOk-as c.take_front.result _ _

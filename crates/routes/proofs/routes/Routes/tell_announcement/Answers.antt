@@ -1,23 +1,15 @@
 use Rattle.std.proofs.Common.{Some, rules, sym, ap, subst}
 use Rattle.decision.specs.BookContents.{offer_at}
 use Rattle.routes.specs.Offers.{IsSound}
-use Rattle.routes.specs.RoutesState.{RoutesState}
 use Rattle.routes.specs.RoutingState.{RoutingState}
 use Rattle.routes.proofs.Marking.{IsNow, marked_told}
-use Rattle.routes.proofs.Owing.{exported_to}
+use Rattle.routes.proofs.Owing.{exported_to, state_of}
 use Rattle.routes.proofs.routes.Routes.tell_announcement.Goals as goal
 
 pub invariant_of-self-2 : goal.invariant_of-self-2
 invariant_of-self-2 g c =
     let exported = rw (← c.self.view_is) at c.requires.exported in
-    let state : RoutesState = record {
-      conf = c.self.inside.conf;
-      payloads = c.self.inside.payloads;
-      links = c.self.inside.links.entries;
-      adj_in = c.self.inside.routing.adj_in;
-      book = c.self.inside.routing.book;
-      chosen = c.self.inside.routing.chosen;
-    } in
+    let state = state_of c.self.inside.conf c.self.inside.payloads c.self.inside.links.entries c.self.inside.routing in
     let put : IsNow c.args.slot c.announce.new.link c.self.inside.links.entries (c.get_mut.follows.lender c.announce.new.link).entries = search rules in (
       subst (λ b. IsSound c.self.inside.conf (offer_at b)) (sym (ap (λ (t : RoutingState). t.book) c.told.ensures.rest)) c.self.invariant.0,
       marked_told c.self.inside.conf c.self.inside.routing c.told.new.self c.args.slot c.args.prefix (Some c.args.octets.now.items) c.in-Some.link.now c.announce.new.link c.self.inside.links.entries _ c.self.invariant.1
