@@ -1,15 +1,18 @@
 -- A served list before its first turn, and one that was served.
-use Rattle.std.proofs.Common.{◌≡◌, ℕ, Bool, true, false, List, [], ◌∷◌, Option, Result, if◌then◌else◌, length, sym, subst, ap, ◌∙◌}
+use Rattle.std.proofs.Common.{◌≡◌, ℕ, Bool, true, false, List, [], ◌∷◌, Option, Result, Ok, if◌then◌else◌, length, sym, subst, ap, ◌∙◌}
+use Rattle.std.specs.declared.net.socket_addr.SocketAddr.{SocketAddr}
+use Rattle.cache_turns.proofs.Listening.{listens_on}
+use Rattle.cache_turns.specs.Turns.{Turns}
 use Rattle.list_guards.specs.declared.Guards.{Guards}
 use Rattle.net_prefix.specs.declared.payload.Vrp.{Vrp}
 use Rattle.vrp_delta.specs.Versions.{Version}
-use Rattle.wires.specs.Wires.{WireState}
+use Rattle.wires.specs.Wires.{WireState, nothing_told}
 use Rattle.cache_settings.specs.declared.settings.CacheSettings.{CacheSettings}
 use Rattle.payload_sources.specs.PayloadSources.{SourceTexts}
 use Rattle.payload_sources.specs.declared.fault.SourceFile.{SourceFile}
 use Rattle.cache_program.proofs.Newest.{newest_set-kept_after}
+use Rattle.cache_program.proofs.ServedTurns.{served_are_steps}
 use Rattle.cache_program.specs.FirstList.{IsFirst}
-use Rattle.cache_program.specs.Opened.{AnyList, AnySecond, AnyWire}
 use Rattle.cache_program.specs.Passing.{have_passed}
 use Rattle.cache_program.specs.Rereads.{IsNewest, RereadsWhenDue, Served, newest_set}
 use Rattle.cache_program.specs.ServedTurns.{IsBegun, IsServed, ServesAll, ServesOnce, ServesSoMany}
@@ -35,50 +38,57 @@ is_served Lists Wires Seconds settings count start before mid behind begun serve
   takes = subst (λ (b : List ℕ). ServesSoMany Lists settings.reread count b behind begun served) read takes;
 }
 
--- the same, whatever the system has answered
-any_due : (Lists : Result SourceTexts SourceFile → Type 0) (is_due : Bool) (now : ℕ) (old : Served) (answer : Option Reread) (new : Served) → RereadsWhenDue Lists is_due now old answer new → RereadsWhenDue AnyList is_due now old answer new
-any_due Lists false now old answer new none = none
-any_due Lists true now old answer new rereads = (rereads.0, rereads.1, rereads.2, tt, rereads.4)
+-- the same, as others say what the system has answered
+due_as : (Lists Others : Result SourceTexts SourceFile → Type 0) → ((sources : Result SourceTexts SourceFile) → Lists sources → Others sources) → (is_due : Bool) (now : ℕ) (old : Served) (answer : Option Reread) (new : Served) → RereadsWhenDue Lists is_due now old answer new → RereadsWhenDue Others is_due now old answer new
+due_as Lists Others so false now old answer new none = none
+due_as Lists Others so true now old answer new rereads = (rereads.0, rereads.1, rereads.2, so rereads.2 rereads.3, rereads.4)
 
-any_once : (Lists : Result SourceTexts SourceFile → Type 0) (is_due : Bool) (now : ℕ) (old new : Served) → ServesOnce Lists is_due now old new → ServesOnce AnyList is_due now old new
-any_once Lists is_due now old new once = record {
+once_as : (Lists Others : Result SourceTexts SourceFile → Type 0) → ((sources : Result SourceTexts SourceFile) → Lists sources → Others sources) → (is_due : Bool) (now : ℕ) (old new : Served) → ServesOnce Lists is_due now old new → ServesOnce Others is_due now old new
+once_as Lists Others so is_due now old new once = record {
   between = once.between;
-  rereads = (once.rereads.0, any_due Lists is_due now old once.rereads.0 once.between once.rereads.1);
+  rereads = (once.rereads.0, due_as Lists Others so is_due now old once.rereads.0 once.between once.rereads.1);
   takes = once.takes;
   same = once.same;
 }
 
-any_all : (Lists : Result SourceTexts SourceFile → Type 0) (seconds : Option ℕ) (last : ℕ) (moments : List ℕ) (old new : Served) → ServesAll Lists seconds last moments old new → ServesAll AnyList seconds last moments old new
-any_all Lists seconds last [] old new same = same
-any_all Lists seconds last (now ∷ moments) old new all =
-    (all.0, any_once Lists (have_passed seconds last now) now old all.0 all.1, any_all Lists seconds (if have_passed seconds last now then now else last) moments all.0 new all.2)
+all_as : (Lists Others : Result SourceTexts SourceFile → Type 0) → ((sources : Result SourceTexts SourceFile) → Lists sources → Others sources) → (seconds : Option ℕ) (last : ℕ) (moments : List ℕ) (old new : Served) → ServesAll Lists seconds last moments old new → ServesAll Others seconds last moments old new
+all_as Lists Others so seconds last [] old new same = same
+all_as Lists Others so seconds last (now ∷ moments) old new all =
+    (all.0, once_as Lists Others so (have_passed seconds last now) now old all.0 all.1, all_as Lists Others so seconds (if have_passed seconds last now then now else last) moments all.0 new all.2)
 
-any_begun : (Lists : Result SourceTexts SourceFile → Type 0) (Wires : WireState → Type 0) (Seconds : ℕ → Type 0) (settings : CacheSettings) (served : Served) → IsBegun Lists Wires Seconds settings served → IsBegun AnyList AnyWire AnySecond settings served
-any_begun Lists Wires Seconds settings served begun = record {
-  cache = begun.cache;
-  wire = begun.wire;
-  second = begun.second;
-  set = begun.set;
-  told = tt;
-  of_settings = begun.of_settings;
-  first = record { sources = begun.first.sources; given = tt; passes = begun.first.passes; kept_is = begun.first.kept_is; serial_is = begun.first.serial_is };
-  payloads = begun.payloads;
-  guards = begun.guards;
-  listens = tt;
-  turns = begun.turns;
-}
+pub served_as : (Lists Others : Result SourceTexts SourceFile → Type 0) (Wires Opened : WireState → Type 0) (Seconds Told : ℕ → Type 0) (settings : CacheSettings) (count : ℕ) (before behind : List ℕ) (served : Served)
+    → ((sources : Result SourceTexts SourceFile) → Lists sources → Others sources) → ((wire : WireState) → Wires wire → Opened wire) → ((second : ℕ) → Seconds second → Told second)
+    → IsServed Lists Wires Seconds settings count before behind served → IsServed Others Opened Told settings count before behind served
+served_as Lists Others Wires Opened Seconds Told settings count before behind served lists wires seconds is =
+    let begun = is.begins in
+    record {
+      begun = is.begun;
+      start = is.start;
+      begins = record {
+        cache = begun.cache;
+        wire = begun.wire;
+        second = begun.second;
+        set = begun.set;
+        told = seconds begun.second begun.told;
+        of_settings = begun.of_settings;
+        first = record { sources = begun.first.sources; given = lists (Ok begun.first.sources) begun.first.given; passes = begun.first.passes; kept_is = begun.first.kept_is; serial_is = begun.first.serial_is };
+        payloads = begun.payloads;
+        guards = begun.guards;
+        listens = wires begun.wire begun.listens;
+        turns = begun.turns;
+      };
+      takes = record {
+        moments = is.takes.moments;
+        serves = all_as Lists Others lists settings.reread 0 is.takes.moments is.begun served is.takes.serves;
+        told = is.takes.told;
+        forward = is.takes.forward;
+        counted = is.takes.counted;
+      };
+    }
 
-pub any_served : (Lists : Result SourceTexts SourceFile → Type 0) (Wires : WireState → Type 0) (Seconds : ℕ → Type 0) (settings : CacheSettings) (count : ℕ) (before behind : List ℕ) (served : Served)
-    → IsServed Lists Wires Seconds settings count before behind served → IsServed AnyList AnyWire AnySecond settings count before behind served
-any_served Lists Wires Seconds settings count before behind served is = record {
-  begun = is.begun;
-  start = is.start;
-  begins = any_begun Lists Wires Seconds settings is.begun is.begins;
-  takes = record {
-    moments = is.takes.moments;
-    serves = any_all Lists settings.reread 0 is.takes.moments is.begun served is.takes.serves;
-    told = is.takes.told;
-    forward = is.takes.forward;
-    counted = is.takes.counted;
-  };
-}
+-- it listens where it was opened
+pub listens_there : (Lists : Result SourceTexts SourceFile → Type 0) (Seconds : ℕ → Type 0) (settings : CacheSettings) (count : ℕ) (before behind : List ℕ) (served : Served) (listens : Option SocketAddr)
+    → IsServed Lists (λ wire. wire ≡ nothing_told listens) Seconds settings count before behind served → served.turns.counts.wire.listens ≡ listens
+listens_there Lists Seconds settings count before behind served listens is =
+    let steps = served_are_steps Lists settings.reread 0 is.takes.moments is.begun served is.takes.serves in
+    listens_on steps.0 is.begun.turns served.turns steps.1 ∙ (ap (λ (t : Turns). t.counts.wire.listens) is.begins.turns ∙ ap (λ (w : WireState). w.listens) is.begins.listens)

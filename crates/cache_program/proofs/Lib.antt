@@ -4,3 +4,4 @@ pub mod Guarded
 pub mod Newest
 pub mod Opening
 pub mod ServedTurns
+pub mod SystemFiles

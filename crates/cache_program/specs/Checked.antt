@@ -1,23 +1,20 @@
 -- What is known of settings that were checked (own).
-use Rattle.std.specs.Prelude.{ℕ, List, ⊤}
-use Rattle.toml.specs.Data.{Members}
+use Rattle.std.specs.Prelude.{ℕ, List, Ok, ⊤}
 use Rattle.net_prefix.specs.declared.payload.Vrp.{Vrp}
 use Rattle.program_endings.specs.declared.aside.Aside.{Aside}
 use Rattle.program_endings.specs.declared.aside.Aside.TheVariants.{Help, Version, Check}
 use Rattle.payload_sources.specs.PayloadSources.{SourceTexts}
-use Rattle.settings_keys.specs.Keys.{IsTableOf}
-use Rattle.cache_settings.specs.ToldSettings.{IsToldBy}
 use Rattle.cache_settings.specs.declared.settings.CacheSettings.{CacheSettings}
 use Rattle.cache_program.specs.FirstList.{Passes}
+use Rattle.cache_program.specs.Opened.{AreSettingsAt, IsOpenedAt, SystemGives}
 
--- the octets of some file tell settings, whose guards let the list of some file be served first
-pub record IsChecked : Type 0 where
-  pub octets : List ℕ
-  pub table : Members
+-- a file that was opened at the path tells settings, whose guards let the set of the files that were opened at their paths be
+-- served first
+pub record IsChecked (path : List ℕ) : Type 0 where
   pub settings : CacheSettings
-  pub spelled : IsTableOf octets table
-  pub told : IsToldBy table settings
+  pub read : AreSettingsAt (IsOpenedAt path) (λ file. file.text) settings
   pub sources : SourceTexts
+  pub given : SystemGives settings (Ok sources)
   pub set : List Vrp
   pub passes : Passes settings.guards sources set
 
@@ -25,4 +22,4 @@ pub record IsChecked : Type 0 where
 abbrev pub IsCheckedBy : Aside → Type 0
 IsCheckedBy Help = ⊤
 IsCheckedBy Version = ⊤
-IsCheckedBy (Check path) = IsChecked
+IsCheckedBy (Check path) = IsChecked path.now

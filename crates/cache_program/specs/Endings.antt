@@ -1,5 +1,5 @@
 -- How the program of a cache ends.
-use Rattle.std.specs.Prelude.{ℕ, Result, Ok, Err, ⊤}
+use Rattle.std.specs.Prelude.{◌≡◌, ℕ, Result, Ok, Err, ⊤}
 use Rattle.program_endings.specs.Exits.{status_of}
 use Rattle.cache_program.specs.Exits.{exit_of_fault}
 use Rattle.cache_program.specs.declared.fault.CacheFault.{CacheFault}
@@ -17,6 +17,11 @@ IsOfWords (Clock error) = ⊥
 IsOfWords (Turn why) = ⊥
 IsOfWords (Output error) = ⊥
 IsOfWords NoMemory = ⊥
+
+-- well, or by this fault
+abbrev pub EndsSo : {T : Type 0} → Result T CacheFault → Result (Unit {0}) CacheFault → Type 0
+EndsSo (Ok served) result = result ≡ Ok tt
+EndsSo (Err fault) result = result ≡ Err fault
 
 -- the exit status of a program that has ended so
 abbrev pub status_at_end : Result (Unit {0}) CacheFault → ℕ

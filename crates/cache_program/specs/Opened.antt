@@ -1,10 +1,14 @@
 -- What the system answers: what paths lead to, what listens, and which second it is. What it has to do with the system's
 -- files, sockets and clock is trusted.
-use Rattle.std.specs.Prelude.{◌≡◌, ℕ, List, Option, Result, Ok, option_map, string_bytes}
+use Rattle.std.specs.Prelude.{◌≡◌, ℕ, List, Option, Result, Ok, Err, option_map, string_bytes, ⊤}
+use Rattle.toml.specs.Data.{Members}
+use Rattle.file_paths.specs.OpenedFiles.{AreOctetsOf, OpenedFile}
+use Rattle.settings_keys.specs.Keys.{IsTableOf}
 use Rattle.wires.specs.Wires.{WireState}
 use Rattle.payload_sources.specs.OpenedSources.{Opens}
 use Rattle.payload_sources.specs.PayloadSources.{SourceTexts}
 use Rattle.payload_sources.specs.declared.fault.SourceFile.{SourceFile}
+use Rattle.cache_settings.specs.ToldSettings.{IsToldBy}
 use Rattle.cache_settings.specs.declared.settings.CacheSettings.{CacheSettings}
 
 -- the texts of the settings' files, the list and the SLURM file where there is one, or which of them couldn't be opened, as
@@ -12,13 +16,30 @@ use Rattle.cache_settings.specs.declared.settings.CacheSettings.{CacheSettings}
 abbrev pub Gives : {L E : Type 0} → (List ℕ → Result L E → Type 0) → (L → Option (List ℕ)) → CacheSettings → Result SourceTexts SourceFile → Type 0
 Gives Answers remaining settings sources = Opens Answers remaining (string_bytes settings.csv) (option_map string_bytes settings.slurm) sources
 
+-- a file that was opened at the path, or none
+abbrev pub IsOpenedAt : List ℕ → Result OpenedFile (Unit {0}) → Type 0
+IsOpenedAt path (Ok file) = file.path ≡ path
+IsOpenedAt path (Err none) = ⊤
+
+-- the texts of the settings' files, as the system opens them at their paths
+abbrev pub SystemGives : CacheSettings → Result SourceTexts SourceFile → Type 0
+SystemGives settings sources = Gives IsOpenedAt (λ file. file.text) settings sources
+
+-- the settings are those that octets tell, which are those of the text, where that is known
+pub record AreSettingsOf (text : Option (List ℕ)) (settings : CacheSettings) : Type 0 where
+  pub octets : List ℕ
+  pub read : AreOctetsOf text octets
+  pub table : Members
+  pub spelled : IsTableOf octets table
+  pub told : IsToldBy table settings
+
+-- those of a file that is answered
+abbrev pub AreSettingsAt : {L E : Type 0} → (Result L E → Type 0) → (L → Option (List ℕ)) → CacheSettings → Type 0
+AreSettingsAt {L} {E} Answers remaining settings = (file : L) × Answers (Ok file) × AreSettingsOf (remaining file) settings
+
 -- the wire is one that is answered
 abbrev pub Listens : {W E : Type 0} → (Result W E → Type 0) → (W → WireState) → WireState → Type 0
 Listens {W} {E} Answers state wire = (listening : W) × Answers (Ok listening) × (wire ≡ state listening)
-
--- the second is one that is answered
-abbrev pub Tells : {E : Type 0} → (Result ℕ E → Type 0) → ℕ → Type 0
-Tells Answers second = Answers (Ok second)
 
 -- whatever the system answers
 abbrev pub AnyList : Result SourceTexts SourceFile → Type 0

@@ -1,39 +1,39 @@
 //! What the main of `ovcache` does.
-ghost use Rattle.std.specs.Prelude.{◌≡◌, ◌≤◌, [], ◌∷◌, ℕ, List, Option, Ok, IfErr, IfOk, MatchResult, OnErr, OnOk, false, if◌then◌else◌, length};
+ghost use Rattle.std.specs.Prelude.{◌≡◌, ◌≤◌, [], ◌∷◌, ℕ, List, Ok, Some, IfErr, IfOk, MatchResult, OnErr, OnOk, false, if◌then◌else◌};
 ghost use Rattle.clocks.specs.Moments.{IsNotBefore};
 ghost use Rattle.std.specs.Fn.{FnReturnsAt};
-ghost use Rattle.toml.specs.Data.{Members};
 ghost use Rattle.std.specs.Result.{IsErrAnd};
 ghost use Rattle.program_endings.specs.Asides.{Asks};
 ghost use Rattle.program_endings.specs.declared.aside.Aside.{Aside};
 ghost use Rattle.payload_sources.specs.PayloadSources.{SourceTexts};
-ghost use Rattle.cache_program.specs.Endings.{IsOfWords, status_at_end};
+ghost use Rattle.cache_program.specs.Endings.{EndsSo, IsOfWords, status_at_end};
 ghost use Rattle.cache_program.specs.Checked.{IsChecked, IsCheckedBy};
 ghost use Rattle.cache_program.specs.FirstList.{Passes};
-ghost use Rattle.cache_program.specs.Opened.{AnyList, AnySecond, AnyWire, Gives, Listens, Tells};
+ghost use Rattle.cache_program.specs.Opened.{AnySecond, AreSettingsAt, Gives, IsOpenedAt, Listens, SystemGives};
 ghost use Rattle.cache_program.specs.Passing.{have_passed};
 ghost use Rattle.cache_program.specs.Rereads.{Served};
 ghost use Rattle.cache_program.specs.ServedTurns.{IsBegun, IsServed, ServesOnce, ServesSoMany};
-ghost use Rattle.cache_settings.specs.ToldSettings.{IsToldBy};
 ghost use Rattle.cache_settings.specs.declared.settings.CacheSettings.{CacheSettings};
-ghost use Rattle.settings_keys.specs.Keys.{IsTableOf};
 ghost use Rattle.cache_turns.specs.Turns.{idle};
 ghost use Rattle.program_endings.specs.Words.{IsCall};
-ghost use Rattle.wires.specs.Wires.{WireState};
+ghost use Rattle.wires.specs.Wires.{WireState, nothing_told};
 
 use crate::every::Every;
 use crate::fault::CacheFault;
-use crate::files::{path_of, slurm_path};
+use crate::files::{open_at, path_of, slurm_path};
 use crate::help::{HELP, VERSION};
 use crate::journal::{LogLine, log};
 use crate::loading::{first_set, load_cache, opened_files};
 use crate::reread::Reread;
 use crate::served_list::ServedList;
+use crate::settings_file::read_settings;
 use crate::watched::Watched;
 use cache_settings::CacheSettings;
 use cache_turns::CacheLoop;
-use clocks::{MonotonicClock, SecondsClock};
-use net_wires::{NetWire, REST_MILLISECONDS};
+use clocks::{MonotonicClock, SecondsClock, SecondsSince1970, SystemSeconds};
+use list_guards::ListAge;
+use log_limits::LineLimit;
+use net_wires::{NetWire, REST_MILLISECONDS, RouterEvent};
 use payload_sources::SourceSet;
 use program_endings::{Aside, aside_of, end, print, read_words};
 use rtr_cache::Cache;
@@ -42,7 +42,7 @@ use std::fs;
 use std::io::{self, Read, Write};
 use std::net::{Net, SocketAddr, TcpListener, TcpStream};
 use std::rt::{Clock, Files};
-use std::time::{Duration, SystemTime};
+use std::time::Duration;
 use wires::Wire;
 
 /// `ovcache SETTINGS [TURNS]`: a cache that serves the list of its settings for so many turns. Its output is the log, and
@@ -60,10 +60,14 @@ where
     ensures range { result ≤ 2 }
     ensures output { ((path : List ℕ) (turns : ℕ) → ¬ (IsCall words.now path turns)) → ((aside : Aside) → ¬ (Asks words.now aside)) → output.new ≡ output.old }
     ensures silent { result ≡ 0 → errors.new ≡ errors.old }
-    // The status is 0 only where the settings of some file were served for just the turns of the words.
-    ensures serves { ((aside : Aside) → ¬ (Asks words.now aside)) → result ≡ 0 → (path : List ℕ) × (turns : ℕ) × (octets : List ℕ) × (table : Members) × (settings : CacheSettings) × (behind : List ℕ) × (served : Served)
-        × IsCall words.now path turns × IsTableOf octets table × IsToldBy table settings × IsServed AnyList AnyWire AnySecond settings turns [] behind served }
-    // Where they are to be checked, it is 0 only where some file tells settings whose guards let a list of some file be served.
+    // The status is 0 only where the settings that a file tells were served for just the turns of the words, a file that was opened
+    // at the path of the words: with the lists of files that were opened at their paths, over a wire that was opened where they
+    // listen, and that listens there still.
+    ensures serves { ((aside : Aside) → ¬ (Asks words.now aside)) → result ≡ 0 → (path : List ℕ) × (turns : ℕ) × (settings : CacheSettings) × (behind : List ℕ) × (served : Served)
+        × IsCall words.now path turns × AreSettingsAt (IsOpenedAt path) (λ file. file.text) settings
+        × IsServed (SystemGives settings) (λ wire. wire ≡ nothing_told (Some settings.listen)) AnySecond settings turns [] behind served × (served.turns.counts.wire.listens ≡ Some settings.listen) }
+    // Where they are to be checked, it is 0 only where a file that was opened at their path tells settings whose guards let the list
+    // of the files that were opened at theirs be served.
     ensures checks { (aside : Aside) → Asks words.now aside → result ≡ 0 → IsCheckedBy aside }
 {
     match aside_of(words) {
@@ -85,21 +89,49 @@ where
     ensures range { result ≤ 2 }
     ensures output { ((path : List ℕ) (turns : ℕ) → ¬ (IsCall words.now path turns)) → output.new ≡ output.old }
     ensures silent { result ≡ 0 → errors.new ≡ errors.old }
-    // The status is 0 only where the settings of some file were served for just the turns of the words.
-    ensures serves { result ≡ 0 → (path : List ℕ) × (turns : ℕ) × (octets : List ℕ) × (table : Members) × (settings : CacheSettings) × (behind : List ℕ) × (served : Served)
-        × IsCall words.now path turns × IsTableOf octets table × IsToldBy table settings × IsServed AnyList AnyWire AnySecond settings turns [] behind served }
+    ensures serves { result ≡ 0 → (path : List ℕ) × (turns : ℕ) × (settings : CacheSettings) × (behind : List ℕ) × (served : Served)
+        × IsCall words.now path turns × AreSettingsAt (IsOpenedAt path) (λ file. file.text) settings
+        × IsServed (SystemGives settings) (λ wire. wire ≡ nothing_told (Some settings.listen)) AnySecond settings turns [] behind served × (served.turns.counts.wire.listens ≡ Some settings.listen) }
 {
     let mut clock = MonotonicClock::new(rt);
-    let served = run_cache(
+    let served = serve_words(rt, words, output, &mut clock);
+    ending(ended(served), errors)
+}
+
+// How serving ended.
+fn ended<T: Drop>(served: Result<T, CacheFault>) -> Result<(), CacheFault>
+    ensures { EndsSo served result }
+{
+    match served {
+        Ok(_) => Ok(()),
+        Err(fault) => Err(fault),
+    }
+}
+
+// What the words ask for, by the system's files, sockets and second.
+fn serve_words<'a, R, O: Write, C: SecondsClock>(
+    rt: &'a R,
+    words: &[String],
+    output: &mut O,
+    clock: &mut C,
+) -> Result<ServedList<NetWire<'a, R>>, CacheFault>
+where
+    R: Net<Listener = TcpListener, Stream = TcpStream> + Files + Clock + AllocGlobal,
+    ensures wrong { ((path : List ℕ) (turns : ℕ) → ¬ (IsCall words.now path turns)) → IsErrAnd result IsOfWords }
+    ensures output { IsErrAnd result IsOfWords → output.new ≡ output.old }
+    ensures serves { IfOk result (λ served. (path : List ℕ) × (turns : ℕ) × (settings : CacheSettings)
+        × IsCall words.now path turns × AreSettingsAt (IsOpenedAt path) (λ file. file.text) settings
+        × IsServed (SystemGives settings) (λ wire. wire ≡ nothing_told (Some settings.listen)) AnySecond settings turns (C.readings clock.old) (C.readings clock.new) served × (served.turns.counts.wire.listens ≡ Some settings.listen)) }
+{
+    run_cache(
         rt,
         words,
         output,
-        &mut clock,
-        |path| fs::open(rt, path),
-        |listen| NetWire::listening(rt, listen),
-        || Ok(SystemTime::UNIX_EPOCH.elapsed(rt)?.as_secs()),
-    );
-    ending(served, errors)
+        clock,
+        |path: &str| open_at(rt, path),
+        |listen: SocketAddr| NetWire::listening(rt, listen),
+        &mut SystemSeconds::new(rt),
+    )
 }
 
 // The exit status of the program that has ended so; a fault has its line on `errors`.
@@ -131,9 +163,9 @@ where
 fn check<R, O: Write>(rt: &R, path: &str, output: &mut O) -> Result<(), CacheFault>
 where
     R: Files + AllocGlobal,
-    ensures { OnOk result IsChecked }
+    ensures { OnOk result (IsChecked path.now) }
 {
-    let settings = read_settings(rt, path)?;
+    let settings = settings_at(rt, path)?;
     let read = checked_files(rt, &settings)?;
     let address = settings.listen;
     if let Err(error) = writeln!(output, "{path}: settings that listen at {address}") {
@@ -144,13 +176,22 @@ where
     told.map_err(CacheFault::Output)
 }
 
+// The settings that the file at this path tells.
+fn settings_at<R>(rt: &R, path: &str) -> Result<CacheSettings, CacheFault>
+where
+    R: Files + AllocGlobal,
+    ensures told { IfOk result (AreSettingsAt (IsOpenedAt path.now) (λ file. file.text)) }
+{
+    read_settings(rt.alloc(), path, &|path: &str| open_at(rt, path))
+}
+
 // The set of the settings' files, which may be served first.
 fn checked_files<R>(rt: &R, settings: &CacheSettings) -> Result<SourceSet, CacheFault>
 where
     R: Files + AllocGlobal,
-    ensures { IfOk result (λ read. (sources : SourceTexts) × Passes settings.now.guards sources read.set.keys) }
+    ensures { IfOk result (λ read. (sources : SourceTexts) × SystemGives settings.now (Ok sources) × Passes settings.now.guards sources read.set.keys) }
 {
-    let files = opened_files(rt.alloc(), settings, &|path: &str| fs::open(rt, path))?;
+    let files = opened_files(rt.alloc(), settings, &|path: &str| open_at(rt, path))?;
     match first_set(rt.alloc(), &settings.guards, files) {
         Ok(read) => Ok(read),
         Err(why) => {
@@ -160,36 +201,43 @@ where
     }
 }
 
-// What the words ask for, by this clock: a list is what opening its path answers, the wire what listening at an address does,
-// and the second of the start, since 1970, is told.
-fn run_cache<R, O: Write, C: SecondsClock, L: Read + Drop, W: Wire + Watched + Drop, F, G, S>(
+// What the words ask for, by these clocks: a file is what opening its path answers, and the wire what listening at an address
+// does.
+fn run_cache<
+    R,
+    O: Write,
+    C: SecondsClock,
+    L: Read + Drop,
+    W: Wire + Watched + Drop,
+    F,
+    G,
+    S: SecondsSince1970,
+>(
     rt: &R,
     words: &[String],
     output: &mut O,
     clock: &mut C,
     opens: F,
     listens: G,
-    tells: S,
-) -> Result<(), CacheFault>
+    seconds: &mut S,
+) -> Result<ServedList<W>, CacheFault>
 where
     R: Files + Clock + AllocGlobal,
     F: Fn(&str) -> io::Result<L>,
     G: FnOnce(SocketAddr) -> io::Result<W>,
-    S: FnOnce() -> io::Result<u64>,
     requires opens { F.IsAlwaysCallable opens }
     requires listens { G.IsAlwaysCallable listens }
-    requires tells { S.IsAlwaysCallable tells }
     ensures wrong { ((path : List ℕ) (turns : ℕ) → ¬ (IsCall words.now path turns)) → IsErrAnd result IsOfWords }
     ensures right { (path : List ℕ) (turns : ℕ) → IsCall words.now path turns → ¬ (IsErrAnd result IsOfWords) }
     ensures output { IsErrAnd result IsOfWords → output.new ≡ output.old }
-    // Where all went well, the settings of some file were served for just the turns of the words.
-    ensures serves { OnOk result ((path : List ℕ) × (turns : ℕ) × (octets : List ℕ) × (table : Members) × (settings : CacheSettings) × (served : Served)
-        × IsCall words.now path turns × IsTableOf octets table × IsToldBy table settings
-        × IsServed (Gives (FnReturnsAt F.Fn opens) L.remaining settings) (Listens (G.post listens settings.listen) W.state) (Tells (S.post tells)) settings turns (C.readings clock.old) (C.readings clock.new) served) }
+    // The settings of the file that opening the path of the words gave were served for just the turns of the words.
+    ensures serves { IfOk result (λ served. (path : List ℕ) × (turns : ℕ) × (settings : CacheSettings)
+        × IsCall words.now path turns × AreSettingsAt (FnReturnsAt F.Fn opens path) L.remaining settings
+        × IsServed (Gives (FnReturnsAt F.Fn opens) L.remaining settings) (Listens (G.post listens settings.listen) W.state) (λ second. S.told seconds.new ≡ Some second) settings turns (C.readings clock.old) (C.readings clock.new) served) }
 {
     let (path, turns) = call_of(words)?;
-    let settings = read_settings(rt, path)?;
-    serve_cache(rt, &settings, turns, output, clock, opens, listens, tells)
+    let settings = read_settings(rt.alloc(), path, &opens)?;
+    serve_cache(rt, &settings, turns, output, clock, opens, listens, seconds)
 }
 
 // The path of the settings and the number of turns.
@@ -215,33 +263,21 @@ fn read_clock<C: SecondsClock>(clock: &mut C) -> Result<u64, CacheFault>
     }
 }
 
-// The settings in the file of this path.
-fn read_settings<R: Files + AllocGlobal>(rt: &R, path: &str) -> Result<CacheSettings, CacheFault>
-    ensures fault { IfErr result (λ fault. ¬ (IsOfWords fault)) }
-    ensures told { IfOk result (λ settings. (octets : List ℕ) × (table : Members) × IsTableOf octets table × IsToldBy table settings) }
-{
-    match fs::read(rt, path) {
-        Ok(octets) => settings_in(rt.alloc(), path, octets.as_slice()),
-        Err(error) => Err(CacheFault::unread(rt.alloc(), path, error)),
-    }
-}
-
-// The settings that the octets of a file tell.
-fn settings_in(alloc: Global, path: &str, octets: &[u8]) -> Result<CacheSettings, CacheFault>
-    ensures fault { IfErr result (λ fault. ¬ (IsOfWords fault)) }
-    ensures told { IfOk result (λ settings. (table : Members) × IsTableOf octets.now table × IsToldBy table settings) }
-{
-    match CacheSettings::read(alloc, octets) {
-        Ok(settings) => Ok(settings),
-        Err(why) => Err(CacheFault::bad_settings(alloc, path, why)),
-    }
-}
-
 /// Serves the list of these settings for so many turns, each at the moment that the clock tells for it: the list is read
 /// before the first, and again between two of them, as `ServedList::serve` says of each, under the exceptions of the SLURM
-/// file where there is one. The files are what `opens` answers at their paths; the wire is what `listens` answers at the address where the settings listen, and `tells` is the second of the start,
-/// since 1970. Nothing is written to the output where they ask for no log.
-pub fn serve_cache<R, O: Write, C: SecondsClock, L: Read + Drop, W: Wire + Watched + Drop, F, G, S>(
+/// file where there is one. The files are what `opens` answers at their paths; the wire is what `listens` answers at the
+/// address where the settings listen, and `seconds` tells the second of the start. Answers what is served behind the last
+/// turn. Nothing is written to the output where the settings ask for no log.
+pub fn serve_cache<
+    R,
+    O: Write,
+    C: SecondsClock,
+    L: Read + Drop,
+    W: Wire + Watched + Drop,
+    F,
+    G,
+    S: SecondsSince1970,
+>(
     rt: &R,
     settings: &CacheSettings,
     turns: u64,
@@ -249,51 +285,60 @@ pub fn serve_cache<R, O: Write, C: SecondsClock, L: Read + Drop, W: Wire + Watch
     clock: &mut C,
     opens: F,
     listens: G,
-    tells: S,
-) -> Result<(), CacheFault>
+    seconds: &mut S,
+) -> Result<ServedList<W>, CacheFault>
 where
     R: Files + Clock + AllocGlobal,
     F: Fn(&str) -> io::Result<L>,
     G: FnOnce(SocketAddr) -> io::Result<W>,
-    S: FnOnce() -> io::Result<u64>,
     requires opens { F.IsAlwaysCallable opens }
     requires listens { G.IsAlwaysCallable listens }
-    requires tells { S.IsAlwaysCallable tells }
     ensures fault { IfErr result (λ fault. ¬ (IsOfWords fault)) }
     ensures quiet { settings.now.log ≡ false → output.new ≡ output.old }
-    ensures serves { OnOk result ((served : Served) × IsServed (Gives (FnReturnsAt F.Fn opens) L.remaining settings.now) (Listens (G.post listens settings.now.listen) W.state) (Tells (S.post tells)) settings.now turns (C.readings clock.old) (C.readings clock.new) served) }
+    ensures serves { IfOk result (IsServed (Gives (FnReturnsAt F.Fn opens) L.remaining settings.now) (Listens (G.post listens settings.now.listen) W.state) (λ second. S.told seconds.new ≡ Some second) settings.now turns (C.readings clock.old) (C.readings clock.new)) }
 {
-    let mut served = begin(rt, settings, output, &opens, listens, tells)?;
+    let mut served = begin(rt, settings, output, &opens, listens, seconds)?;
     // The moment 0, from which the list is read again.
     let _start = read_clock(clock)?;
-    take_turns(rt, settings, &mut served, turns, output, clock, &opens)
+    take_turns(rt, settings, &mut served, turns, output, clock, &opens)?;
+    Ok(served)
 }
 
 // The list of the settings, before its first turn.
-fn begin<R, O: Write, L: Read + Drop, W: Wire + Watched + Drop, F, G, S>(
+fn begin<R, O: Write, L: Read + Drop, W: Wire + Watched + Drop, F, G, S: SecondsSince1970>(
     rt: &R,
     settings: &CacheSettings,
     output: &mut O,
     opens: &F,
     listens: G,
-    tells: S,
+    seconds: &mut S,
 ) -> Result<ServedList<W>, CacheFault>
 where
     R: Clock + AllocGlobal,
     F: Fn(&str) -> io::Result<L>,
     G: FnOnce(SocketAddr) -> io::Result<W>,
-    S: FnOnce() -> io::Result<u64>,
     requires opens { F.IsAlwaysCallable opens.now }
     requires listens { G.IsAlwaysCallable listens }
-    requires tells { S.IsAlwaysCallable tells }
     ensures fault { IfErr result (λ fault. ¬ (IsOfWords fault)) }
-    ensures begins { IfOk result (IsBegun (Gives (FnReturnsAt F.Fn opens.now) L.remaining settings.now) (Listens (G.post listens settings.now.listen) W.state) (Tells (S.post tells)) settings.now) }
+    ensures begins { IfOk result (IsBegun (Gives (FnReturnsAt F.Fn opens.now) L.remaining settings.now) (Listens (G.post listens settings.now.listen) W.state) (λ second. S.told seconds.new ≡ Some second) settings.now) }
     ensures quiet { settings.now.log ≡ false → output.new ≡ output.old }
 {
-    let second = tells().map_err(CacheFault::Clock)?;
+    let second = second_of(seconds)?;
     let (cache, serial, set) = load_cache(rt, settings, second, output, opens)?;
     let turns = over_wire(rt.alloc(), settings, cache, listens)?;
+    tell_listening(rt, settings.log, turns.wire(), output);
     Ok(ServedList::new(turns, settings.guards, serial, set))
+}
+
+// The second of the start.
+fn second_of<S: SecondsSince1970>(seconds: &mut S) -> Result<u64, CacheFault>
+    ensures fault { IfErr result (λ fault. ¬ (IsOfWords fault)) }
+    ensures told { IfOk result (λ second. S.told seconds.new ≡ Some second) }
+{
+    match seconds.second() {
+        Ok(second) => Ok(second),
+        Err(error) => Err(CacheFault::Clock(error)),
+    }
 }
 
 // The turns of a cache where the settings say that it listens.
@@ -337,9 +382,11 @@ where
 {
     let mut reread = Every::new(settings.reread);
     let mut status = Every::new(settings.status);
+    let mut limit = LineLimit::new(ROUTER_LINES);
     for _ in 0..turns {
         let now = read_clock(clock)?;
         serve_once(rt, settings, served, now, &mut reread, output, opens)?;
+        tell_routers(rt, settings.log, served, now, &mut limit, output);
         rest(rt, settings, served, now, status.is_due(now), output);
     }
     Ok(())
@@ -358,8 +405,9 @@ fn rest<R: Files + Clock, W: Wire + Drop, O: Write>(
     ensures quiet { settings.now.log ≡ false → output.new ≡ output.old }
 {
     if is_due {
-        tell_status(rt, settings.log, served, now, output);
-        tell_age(rt, settings, output);
+        let age = age_of(rt, settings.csv.as_str()).ok();
+        tell_status(rt, settings.log, served, now, ListAge(age), output);
+        tell_age(rt, settings, age, output);
     }
     served.wait(Duration::from_millis(REST_MILLISECONDS));
 }
@@ -388,8 +436,16 @@ where
         tell_list(rt, settings.log, led, served.payloads(), output);
     }
     turned?;
-    tell_routers(rt, settings.log, served, output);
     Ok(())
+}
+
+// Writes to the log where the cache listens: of port 0 the one that it was given.
+fn tell_listening<R: Clock, W: Watched, O: Write>(rt: &R, is_on: bool, wire: &W, output: &mut O)
+    ensures { is_on ≡ false → output.new ≡ output.old }
+{
+    if let Some(address) = wire.listens() {
+        log(rt, is_on, output, LogLine::Listens(address));
+    }
 }
 
 // Writes to the log what reading the list again has led to.
@@ -407,11 +463,17 @@ fn tell_list<R: Clock, O: Write>(rt: &R, is_on: bool, led: Reread, payloads: usi
     log(rt, is_on, output, line);
 }
 
-// Writes what the last turn saw of routers to the log.
+// How many lines a minute tell that routers came and went (own choice).
+const ROUTER_LINES: u32 = 300;
+
+// Writes what the last turn saw of routers to the log. Where more come and go in a minute than are told, the log gets their
+// number when it is over.
 fn tell_routers<R: Clock, W: Wire + Watched + Drop, O: Write>(
     rt: &R,
     is_on: bool,
     served: &ServedList<W>,
+    now: u64,
+    limit: &mut LineLimit,
     output: &mut O,
 )
     ensures { is_on ≡ false → output.new ≡ output.old }
@@ -419,8 +481,14 @@ fn tell_routers<R: Clock, W: Wire + Watched + Drop, O: Write>(
     if !is_on {
         return;
     }
+    if let Some(lines) = limit.tick(now) {
+        let most = ROUTER_LINES;
+        log(rt, is_on, output, LogLine::LeftOut { lines, most });
+    }
     for event in served.turns().wire().seen() {
-        log(rt, is_on, output, LogLine::Router(*event));
+        if matches!(event, RouterEvent::NoDescriptors) || limit.admits() {
+            log(rt, is_on, output, LogLine::Router(*event));
+        }
     }
 }
 
@@ -430,6 +498,7 @@ fn tell_status<R: Clock, W: Wire + Drop, O: Write>(
     is_on: bool,
     served: &ServedList<W>,
     now: u64,
+    age: ListAge,
     output: &mut O,
 )
     ensures { is_on ≡ false → output.new ≡ output.old }
@@ -447,22 +516,23 @@ fn tell_status<R: Clock, W: Wire + Drop, O: Write>(
         without: holding.without,
         octets_in: wire.octets_in(),
         octets_out: wire.octets_out(),
+        age,
         seconds: now.saturating_sub(served.read()),
     };
     log(rt, is_on, output, line);
 }
 
 // Warns in the log where the list's file was written too long ago, or its time can't be told.
-fn tell_age<R: Files + Clock, O: Write>(rt: &R, settings: &CacheSettings, output: &mut O)
+fn tell_age<R: Clock, O: Write>(rt: &R, settings: &CacheSettings, age: Option<u64>, output: &mut O)
     ensures { settings.now.log ≡ false → output.new ≡ output.old }
 {
     let Some(most) = settings.max_age else {
         return;
     };
-    let line = match age_of(rt, settings.csv.as_str()) {
-        Ok(seconds) if seconds <= most as u64 => return,
-        Ok(seconds) => LogLine::Old { seconds, most },
-        Err(_) => LogLine::NoAge,
+    let line = match age {
+        Some(seconds) if seconds <= most as u64 => return,
+        Some(seconds) => LogLine::Old { seconds, most },
+        None => LogLine::NoAge,
     };
     log(rt, settings.log, output, line);
 }

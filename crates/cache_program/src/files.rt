@@ -5,6 +5,7 @@ ghost use Rattle.payload_sources.specs.PayloadSources.{texts_of};
 ghost use Rattle.cache_program.specs.Opened.{Gives};
 
 use cache_settings::CacheSettings;
+pub(crate) use file_paths::open_at;
 use payload_sources::{SourceFile, Sources, Unopened, open_sources};
 use std::io::{self, Read};
 

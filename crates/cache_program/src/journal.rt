@@ -3,9 +3,11 @@ ghost use Rattle.std.specs.Prelude.{◌≡◌, false};
 
 use crate::reread::ListFault;
 use jiff::Timestamp;
+use list_guards::ListAge;
 use net_wires::RouterEvent;
 use payload_sources::SourceFile;
 use std::io::{self, Write};
+use std::net::SocketAddr;
 use std::rt::Clock;
 use std::time::SystemTime;
 use thiserror::Error;
@@ -19,6 +21,9 @@ pub enum LogLine {
         serial: u32,
         payloads: usize,
     },
+    /// The cache listens here.
+    #[error("listens at {0}")]
+    Listens(SocketAddr),
     /// A list can't be had, by the fault of this file.
     #[error("{file} refused: {why}")]
     Refused {
@@ -37,9 +42,15 @@ pub enum LogLine {
     /// A router came or went.
     #[error("{0}")]
     Router(RouterEvent),
+    /// More of them came or went in a minute than lines are written.
+    #[error("routers: {lines} more lines were left out, {most} a minute are written")]
+    LeftOut {
+        lines: u64,
+        most: u32,
+    },
     /// What is served, to how many routers, how many of them hold it, another list, and none, how many octets came and went
-    /// since the start, and how many seconds ago a list was read that could be had.
-    #[error("status: serial {serial}, payloads {payloads}, routers {routers} ({current} current, {behind} behind, {without} without), octets {octets_in} in, {octets_out} out, list read {seconds} seconds ago")]
+    /// since the start, when the list's file was written, and how many seconds ago a list was read that could be had.
+    #[error("status: serial {serial}, payloads {payloads}, routers {routers} ({current} current, {behind} behind, {without} without), octets {octets_in} in, {octets_out} out, list {age}, read {seconds} seconds ago")]
     Status {
         serial: u32,
         payloads: usize,
@@ -49,6 +60,7 @@ pub enum LogLine {
         without: usize,
         octets_in: u64,
         octets_out: u64,
+        age: ListAge,
         seconds: u64,
     },
 }

@@ -22,6 +22,7 @@ mod laws;
 mod loading;
 mod reread;
 mod served_list;
+mod settings_file;
 mod watched;
 
 pub use cache_main::{main_cache, serve_cache};

@@ -1,11 +1,14 @@
-//! What a log tells of routers.
+//! What a log tells of sockets.
 
 use net_wires::{NetWire, RouterEvent};
 use std::alloc::AllocGlobal;
-use std::net::{Net, TcpListener, TcpStream};
+use std::net::{Net, SocketAddr, TcpListener, TcpStream};
 
-/// A wire that tells what it has seen of routers.
+/// A wire that tells where it listens, and what it has seen of routers.
 pub trait Watched {
+    /// Where it listens, if it does.
+    fn listens(&self) -> Option<SocketAddr>;
+
     /// What it has seen of them in the last turn.
     fn seen(&self) -> &[RouterEvent];
 }
@@ -14,6 +17,10 @@ impl<'a, R> Watched for NetWire<'a, R>
 where
     R: Net<Listener = TcpListener, Stream = TcpStream> + AllocGlobal,
 {
+    fn listens(&self) -> Option<SocketAddr> {
+        self.local_address()
+    }
+
     fn seen(&self) -> &[RouterEvent] {
         self.events()
     }

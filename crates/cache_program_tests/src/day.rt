@@ -38,16 +38,17 @@ const HEARD: [u8; 76] = [
     1, 0, 0, 7, 0, 0, 0, 12, 0, 0, 0, 3,
 ];
 
-// The log before the router's address and behind it.
-const LOG: [&str; 2] = [
-    "2026-01-01T00:00:00Z list loaded: serial 1, payloads 1\n2026-01-01T00:00:01Z router ",
+// The log before the listener's address, before the router's and behind it.
+const LOG: [&str; 3] = [
+    "2026-01-01T00:00:00Z list loaded: serial 1, payloads 1\n2026-01-01T00:00:00Z listens at ",
+    "\n2026-01-01T00:00:01Z router ",
     " came
 2026-01-01T00:00:10Z list loaded: serial 2, payloads 1
 2026-01-01T00:00:30Z list refused: row 2: the prefix is no IPv4 prefix
 2026-01-01T00:00:40Z list refused: row 0: the first row is not the header of a payload list
 2026-01-01T00:00:50Z list loaded: serial 3, payloads 2
 2026-01-01T00:01:00Z list refused: it has 0 payloads, and 1 are wanted
-2026-01-01T00:01:00Z status: serial 3, payloads 2, routers 1 (0 current, 1 behind, 0 without), octets 8 in, 64 out, list read 10 seconds ago
+2026-01-01T00:01:00Z status: serial 3, payloads 2, routers 1 (0 current, 1 behind, 0 without), octets 8 in, 64 out, list written at a time that can't be told, read 10 seconds ago
 2026-01-01T00:01:00Z list old: when it was written can't be told
 2026-01-01T00:01:10Z list refused: the file can't be opened
 ",
@@ -140,10 +141,15 @@ pub(crate) fn is_told_on_a_file(rt: &HostRuntime, day: &str, stage: &Stage<'_>, 
     }
 }
 
-// Whether the day of a router at this address is told so.
-fn is_logged(rt: &HostRuntime, stage: &Stage<'_>, address: SocketAddr) -> bool {
-    let [before, behind] = LOG;
-    match format!(in rt.alloc(); "{before}{address}{behind}") {
+// Whether the day of a router at this address is told so, by a cache that listens at that one.
+fn is_logged(
+    rt: &HostRuntime,
+    stage: &Stage<'_>,
+    listener: SocketAddr,
+    address: SocketAddr,
+) -> bool {
+    let [before, between, behind] = LOG;
+    match format!(in rt.alloc(); "{before}{listener}{between}{address}{behind}") {
         Ok(log) => is_told_on_a_file(rt, "day", stage, log.as_str()),
         Err(_) => false,
     }
@@ -151,9 +157,11 @@ fn is_logged(rt: &HostRuntime, stage: &Stage<'_>, address: SocketAddr) -> bool {
 
 // Whether a router's day on this stage is told, and heard.
 fn goes_by(rt: &HostRuntime, stage: &Stage<'_>, router: &mut TcpStream) -> bool {
-    match router.local_addr() {
-        Ok(address) => is_logged(rt, stage, address) && is_heard(rt.alloc(), router),
-        Err(_) => false,
+    match (router.peer_addr(), router.local_addr()) {
+        (Ok(listener), Ok(address)) => {
+            is_logged(rt, stage, listener, address) && is_heard(rt.alloc(), router)
+        }
+        _ => false,
     }
 }
 

@@ -79,25 +79,29 @@ const LISTS: [&str; 7] = [
     SECOND,
 ];
 
-const LOG: &str = "2026-01-01T00:00:00Z list loaded: serial 1, payloads 1
+// The log before the listener's address and behind it.
+const LOG: [&str; 2] = [
+    "2026-01-01T00:00:00Z list loaded: serial 1, payloads 1\n2026-01-01T00:00:00Z listens at ",
+    "
 2026-01-01T00:00:20Z list refused: octet 82: the text is no JSON
 2026-01-01T00:00:30Z list refused: roas[1]: the member prefix is missing or no IPv4 prefix
 2026-01-01T00:00:40Z list refused: the list has no member roas
 2026-01-01T00:00:50Z list loaded: serial 2, payloads 1
-2026-01-01T00:01:00Z status: serial 2, payloads 1, routers 0 (0 current, 0 behind, 0 without), octets 0 in, 0 out, list read 0 seconds ago
+2026-01-01T00:01:00Z status: serial 2, payloads 1, routers 0 (0 current, 0 behind, 0 without), octets 0 in, 0 out, list written at a time that can't be told, read 0 seconds ago
 2026-01-01T00:01:00Z list old: when it was written can't be told
 2026-01-01T00:01:10Z list refused: the file can't be opened
-";
+",
+];
 
 // Whether a day of lists in either format, in files, is told by the log.
-fn is_told_on_files(rt: &HostRuntime, listener: &TcpListener) -> bool {
+fn is_told_on_files(rt: &HostRuntime, listener: &TcpListener, log: &str) -> bool {
     let mut paths = Vec::new(rt.alloc());
     writes_lists(rt, "formats", &LISTS, &mut paths)
         && is_told_on_a_file(
             rt,
             "formats",
             &Stage::new(rt, listener, paths.as_slice()),
-            LOG,
+            log,
         )
         && are_removed(rt, paths.as_slice())
 }
@@ -105,6 +109,9 @@ fn is_told_on_files(rt: &HostRuntime, listener: &TcpListener) -> bool {
 #[test]
 fn lists_in_either_format_are_told_by_the_log(rt: HostRuntime) -> Result<(), Fail> {
     let listener = TcpListener::bind(&rt, "127.0.0.1:0")?;
-    assert!(rt; is_told_on_files(&rt, &listener));
+    let [before, behind] = LOG;
+    let address = listener.local_addr()?;
+    let log = format!(in rt.alloc(); "{before}{address}{behind}")?;
+    assert!(rt; is_told_on_files(&rt, &listener, log.as_str()));
     Ok(())
 }

@@ -11,16 +11,16 @@ use Rattle.wires.specs.declared.wire.Received.{Received}
 use Rattle.wires.specs.declared.wire.Received.TheVariants.{Octets as Came, Nothing as NoneCame, End, Fault as ReadFault}
 
 -- a client that the cache hasn't closed leaves its connection as it is
-pub open_stays : (between : Transport) → between ≢ transport.Closing → found_at_rest between ≡ Stays
-open_stays transport.None differs = refl
-open_stays transport.Opening differs = refl
-open_stays transport.Listening differs = refl
-open_stays transport.Open differs = refl
-open_stays transport.Closing differs = absurd (differs refl)
+pub open_stays : (resting : Visit) (between : Transport) → between ≢ transport.Closing → found_at_rest resting between ≡ resting
+open_stays resting transport.None differs = refl
+open_stays resting transport.Opening differs = refl
+open_stays resting transport.Listening differs = refl
+open_stays resting transport.Open differs = refl
+open_stays resting transport.Closing differs = absurd (differs refl)
 
 -- nothing is to be written
-pub rests : (key : ℕ) (link : Connection) (old new : Sides) (visit : Visit) (octets : List ℕ) → Takes key link.waiting old.cache octets new.cache → octets ≡ [] → new.wire ≡ old.wire → visit ≡ found_at_rest (transport_of (client_at new.cache key)) → Answers key link old visit octets new
-rests key link old new visit octets takes none same finds =
+pub rests : (resting : Visit) (key : ℕ) (link : Connection) (old new : Sides) (visit : Visit) (octets : List ℕ) → Takes key link.waiting old.cache octets new.cache → octets ≡ [] → new.wire ≡ old.wire → visit ≡ found_at_rest resting (transport_of (client_at new.cache key)) → Answers resting key link old visit octets new
+rests resting key link old new visit octets takes none same finds =
     record {
       octets = octets;
       takes = takes;
@@ -29,8 +29,8 @@ rests key link old new visit octets takes none same finds =
     }
 
 -- something is
-pub writes : (key : ℕ) (link : Connection) (old new : Sides) (visit : Visit) (octets left : List ℕ) → Takes key link.waiting old.cache octets new.cache → octets ≢ [] → Writes link.number octets old.wire visit left new.wire → Answers key link old visit left new
-writes key link old new visit octets left takes some write =
+pub writes : (resting : Visit) (key : ℕ) (link : Connection) (old new : Sides) (visit : Visit) (octets left : List ℕ) → Takes key link.waiting old.cache octets new.cache → octets ≢ [] → Writes link.number octets old.wire visit left new.wire → Answers resting key link old visit left new
+writes resting key link old new visit octets left takes some write =
     record {
       octets = octets;
       takes = takes;
@@ -44,11 +44,12 @@ same_goes_on (Came count) key link moments old new visit left answers =
     record { octets = answers.octets; takes = answers.takes; none = answers.none; some = answers.some }
 same_goes_on NoneCame key link moments old new visit left answers =
     record { octets = answers.octets; takes = answers.takes; none = answers.none; some = answers.some }
-same_goes_on End key link moments old new visit left ends = ends
+same_goes_on End key link moments old new visit left answers =
+    record { octets = answers.octets; takes = answers.takes; none = answers.none; some = answers.some }
 same_goes_on ReadFault key link moments old new visit left ends = ends
 
 -- what follows a read that told neither an end nor a fault
-pub answered : (received : Received) (key : ℕ) (link : Connection) (old new : Sides) (visit : Visit) (left : List ℕ) → ((count : ℕ) × (received ≡ Came count)) ⊎ (received ≡ NoneCame) → Answers key link old visit left new → GoesOn received key link old visit left new
+pub answered : (received : Received) (key : ℕ) (link : Connection) (old new : Sides) (visit : Visit) (left : List ℕ) → ((count : ℕ) × (received ≡ Came count)) ⊎ (received ≡ NoneCame) → Answers Stays key link old visit left new → GoesOn received key link old visit left new
 answered received key link old new visit left (inl came) answers =
     subst (λ (r : Received). GoesOn r key link old visit left new) (sym came.1) answers
 answered received key link old new visit left (inr none) answers =

@@ -474,8 +474,8 @@ steps_carry first (step ∷ steps) old new are taken below =
     let come : taken.0.counts.wire.sockets < 2 ^ 64 - 1 = omega (arith, below, steps_arrive steps taken.0 new taken.2) in
     steps_carry first steps taken.0 new (step_carries first step old taken.0 are taken.1 come) taken.2 below
 
-at_first : (patience : Patience) (first : CacheState) (before : List Turn) (cache : CacheState) → IsRun first before cache → AreCarried first (idle patience cache nothing_told)
-at_first patience first before cache made =
+at_first : (patience : Patience) (first : CacheState) (before : List Turn) (cache : CacheState) (listens : Option SocketAddr) → IsRun first before cache → AreCarried first (idle patience cache (nothing_told listens))
+at_first patience first before cache listens made =
     record {
       before = before;
       made = made;
@@ -486,10 +486,10 @@ at_first patience first before cache made =
     }
 
 -- each connection carries whole versions
-pub carries_whole : (session : ℕ) (intervals : Intervals) (other_session : OtherSession) (before : List Turn) (patience : Patience) (cache : CacheState) (steps : List Step) (new : Turns) (key : ℕ) (link : Connection) → IsRun (empty_cache session intervals other_session) before cache → TakesSteps steps (idle patience cache nothing_told) new → new.counts.wire.sockets < 2 ^ 64 - 1 → link_at new key ≡ Some link → CarriesWhole (empty_cache session intervals other_session) new key link
-carries_whole session intervals other_session before patience cache steps new key link made taken below is =
+pub carries_whole : (session : ℕ) (intervals : Intervals) (other_session : OtherSession) (before : List Turn) (patience : Patience) (cache : CacheState) (listens : Option SocketAddr) (steps : List Step) (new : Turns) (key : ℕ) (link : Connection) → IsRun (empty_cache session intervals other_session) before cache → TakesSteps steps (idle patience cache (nothing_told listens)) new → new.counts.wire.sockets < 2 ^ 64 - 1 → link_at new key ≡ Some link → CarriesWhole (empty_cache session intervals other_session) new key link
+carries_whole session intervals other_session before patience cache listens steps new key link made taken below is =
     let first = empty_cache session intervals other_session in
-    let c = (steps_carry first steps (idle patience cache nothing_told) new (at_first patience first before cache made) taken below).each key link is in
+    let c = (steps_carry first steps (idle patience cache (nothing_told listens)) new (at_first patience first before cache listens made) taken below).each key link is in
     record {
       before = c.before;
       start = c.start;

@@ -150,8 +150,8 @@ write_calls (Went count) number octets wire = refl
 write_calls NoneWent number octets wire = refl
 write_calls WriteFault number octets wire = refl
 
-answers_carry : (key : ℕ) (link : Connection) (old : Sides) (visit : Visit) (left : List ℕ) (new : Sides) → Answers key link old visit left new → Carries key link.number link.waiting left old new
-answers_carry key link old visit left new answers =
+answers_carry : (resting : Visit) (key : ℕ) (link : Connection) (old : Sides) (visit : Visit) (left : List ℕ) (new : Sides) → Answers resting key link old visit left new → Carries key link.number link.waiting left old new
+answers_carry resting key link old visit left new answers =
     carries_on key link.number link.waiting answers.octets left old mid new
     (takes_carries key link.number link.waiting answers.octets old.wire old.cache new.cache answers.takes)
     (by_octets answers.octets refl)
@@ -180,12 +180,12 @@ pub record Visited (key : ℕ) (link : Connection) (old : Sides) (visit : Visit)
 pub serves_carries : (key : ℕ) (link : Connection) (old : Sides) (visit : Visit) (left : List ℕ) (new : Sides) → Serves key link old visit left new → Visited key link old visit left new
 serves_carries key link old visit left new serves = by_read serves.received serves.reads serves.goes_on
   where
-    answered : (received : Received) → Reads key link.number received old serves.behind → Answers key link serves.behind visit left new → Visited key link old visit left new
-    answered received reads answers =
+    answered : (received : Received) (resting : Visit) → Reads key link.number received old serves.behind → Answers resting key link serves.behind visit left new → Visited key link old visit left new
+    answered received resting reads answers =
         record {
           waits = left;
           stays = λ _. refl;
-          carries = carries_on key link.number link.waiting link.waiting left old serves.behind new (reads_carries received key link.number link.waiting old serves.behind reads) (answers_carry key link serves.behind visit left new answers);
+          carries = carries_on key link.number link.waiting link.waiting left old serves.behind new (reads_carries received key link.number link.waiting old serves.behind reads) (answers_carry resting key link serves.behind visit left new answers);
         }
 
     over : (received : Received) (found : Visit) → Reads key link.number received old serves.behind → found ≢ Stays → visit ≡ found → new ≡ serves.behind → Visited key link old visit left new
@@ -197,7 +197,7 @@ serves_carries key link old visit left new serves = by_read serves.received serv
         }
 
     by_read : (received : Received) → Reads key link.number received old serves.behind → GoesOn received key link serves.behind visit left new → Visited key link old visit left new
-    by_read (Came count) reads answers = answered (Came count) reads answers
-    by_read NoneCame reads answers = answered NoneCame reads answers
-    by_read End reads found = over End Ended reads (λ wrong. cc) found.0 found.1
+    by_read (Came count) reads answers = answered (Came count) Stays reads answers
+    by_read NoneCame reads answers = answered NoneCame Stays reads answers
+    by_read End reads answers = answered End Ended reads answers
     by_read ReadFault reads found = over ReadFault Faulty reads (λ wrong. cc) found.0 found.1

@@ -61,7 +61,7 @@ takes_keeps key (octet ∷ waiting) old octets new takes = same_keeps old new (t
 going_on_keeps : (received : Received) (key : ℕ) (link : Connection) (old : Sides) (visit : Visit) (left : List ℕ) (new : Sides) → GoesOn received key link old visit left new → Keeps old.cache new.cache
 going_on_keeps (Came count) key link old visit left new answers = takes_keeps key link.waiting old.cache answers.octets new.cache answers.takes
 going_on_keeps NoneCame key link old visit left new answers = takes_keeps key link.waiting old.cache answers.octets new.cache answers.takes
-going_on_keeps End key link old visit left new ends = ap (λ (s : Sides). s.cache.shared.kept) ends.1
+going_on_keeps End key link old visit left new answers = takes_keeps key link.waiting old.cache answers.octets new.cache answers.takes
 going_on_keeps ReadFault key link old visit left new ends = ap (λ (s : Sides). s.cache.shared.kept) ends.1
 
 serving_keeps : (key : ℕ) (link : Connection) (old : Sides) (visit : Visit) (left : List ℕ) (new : Sides) → Serves key link old visit left new → Keeps old.cache new.cache

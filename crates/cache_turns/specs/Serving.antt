@@ -82,32 +82,33 @@ pub record Writes (number : ℕ) (octets : List ℕ) (old : WireState) (visit : 
   pub finds : visit ≡ found_by_write sent
   pub leaves : left ≡ left_by sent octets
 
--- a connection for which nothing is to be written ends where the cache has closed its client
-abbrev pub found_at_rest : Transport → Visit
-found_at_rest Closing = Closed
-found_at_rest Open = Stays
-found_at_rest Listening = Stays
-found_at_rest Opening = Stays
-found_at_rest NoClient = Stays
+-- a connection for which nothing is to be written ends where the cache has closed its client; else this is found
+abbrev pub found_at_rest : Visit → Transport → Visit
+found_at_rest resting Closing = Closed
+found_at_rest resting Open = resting
+found_at_rest resting Listening = resting
+found_at_rest resting Opening = resting
+found_at_rest resting NoClient = resting
 
 -- nothing is to be written, and the wire is asked nothing
-pub record Rests (key : ℕ) (cache : CacheState) (old : WireState) (visit : Visit) (left : List ℕ) (new : WireState) : Type 0 where
+pub record Rests (resting : Visit) (key : ℕ) (cache : CacheState) (old : WireState) (visit : Visit) (left : List ℕ) (new : WireState) : Type 0 where
   pub same : new ≡ old
-  pub finds : visit ≡ found_at_rest (transport_of (client_at cache key))
+  pub finds : visit ≡ found_at_rest resting (transport_of (client_at cache key))
   pub leaves : left ≡ []
 
--- the client is answered: what is to be written is offered to its socket, just where there is any
-pub record Answers (key : ℕ) (link : Connection) (old : Sides) (visit : Visit) (left : List ℕ) (new : Sides) : Type 0 where
+-- the client is answered: what is to be written is offered to its socket, just where there is any, and else this is found
+pub record Answers (resting : Visit) (key : ℕ) (link : Connection) (old : Sides) (visit : Visit) (left : List ℕ) (new : Sides) : Type 0 where
   pub octets : List ℕ
   pub takes : Takes key link.waiting old.cache octets new.cache
-  pub none : octets ≡ [] → Rests key new.cache old.wire visit left new.wire
+  pub none : octets ≡ [] → Rests resting key new.cache old.wire visit left new.wire
   pub some : octets ≢ [] → Writes link.number octets old.wire visit left new.wire
 
--- what follows the read: a socket that has told its end or a fault is asked nothing more
+-- what follows the read: a client whose side sends no more is told all that is left, and then its connection ends; a socket
+-- that has told a fault is asked nothing more
 abbrev pub GoesOn : Received → ℕ → Connection → Sides → Visit → List ℕ → Sides → Type 0
-GoesOn (Came count) key link old visit left new = Answers key link old visit left new
-GoesOn NoneCame key link old visit left new = Answers key link old visit left new
-GoesOn End key link old visit left new = (visit ≡ Ended) × (new ≡ old)
+GoesOn (Came count) key link old visit left new = Answers Stays key link old visit left new
+GoesOn NoneCame key link old visit left new = Answers Stays key link old visit left new
+GoesOn End key link old visit left new = Answers Ended key link old visit left new
 GoesOn ReadFault key link old visit left new = (visit ≡ Faulty) × (new ≡ old)
 
 -- the connection of the client of this key is served: what that finds, and what it leaves waiting

@@ -1,5 +1,6 @@
 //! What follows of turns.
-ghost use Rattle.std.specs.Prelude.{◌≡◌, ◌<◌, ◌-◌, ◌^◌, ◌++◌, ℕ, List, Result, Some};
+ghost use Rattle.std.specs.Prelude.{◌≡◌, ◌<◌, ◌-◌, ◌^◌, ◌++◌, ℕ, List, Option, Result, Some};
+ghost use Rattle.std.specs.declared.net.socket_addr.SocketAddr.{SocketAddr};
 ghost use Rattle.rtr_cache.specs.CacheState.{CacheState, empty_cache};
 ghost use Rattle.rtr_cache.specs.declared.other_session.OtherSession.{OtherSession};
 ghost use Rattle.rtr_codec.specs.declared.intervals.Intervals.{Intervals};
@@ -33,5 +34,10 @@ pub fn turns_publish_nothing()
 /// connection has heard just what its socket gave, and what its socket took and what waits for it is just what the
 /// cache handed out for it, which with what is queued are whole PDUs, each response of one published version.
 pub fn connections_carry_whole_versions()
-    ensures { (session : ℕ) (intervals : Intervals) (other_session : OtherSession) (before : List Turn) (patience : Patience) (cache : CacheState) (steps : List Step) (new : Turns) (key : ℕ) (link : Connection) → IsRun (empty_cache session intervals other_session) before cache → TakesSteps steps (idle patience cache nothing_told) new → new.counts.wire.sockets < 2 ^ 64 - 1 → link_at new key ≡ Some link → CarriesWhole (empty_cache session intervals other_session) new key link }
+    ensures { (session : ℕ) (intervals : Intervals) (other_session : OtherSession) (before : List Turn) (patience : Patience) (cache : CacheState) (listens : Option SocketAddr) (steps : List Step) (new : Turns) (key : ℕ) (link : Connection) → IsRun (empty_cache session intervals other_session) before cache → TakesSteps steps (idle patience cache (nothing_told listens)) new → new.counts.wire.sockets < 2 ^ 64 - 1 → link_at new key ≡ Some link → CarriesWhole (empty_cache session intervals other_session) new key link }
+{}
+
+/// Whatever turns are taken and sets are loaded, the wire listens where it did.
+pub fn wires_listen_where_they_did()
+    ensures { (steps : List Step) (old new : Turns) → TakesSteps steps old new → new.counts.wire.listens ≡ old.counts.wire.listens }
 {}

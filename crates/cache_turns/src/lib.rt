@@ -10,7 +10,7 @@
 //! client was silent for too long (`specs/Patience.antt`), and nowhere else. Each that ends is counted as lost, once. A
 //! turn that ends the program changes no connection. Over all turns what a socket takes is just what the cache hands
 //! out for its client: a front of whole PDUs (`specs/Carrying.antt`). No turn publishes anything: what is served
-//! changes between turns, by `load`, alone.
+//! changes between turns, by `load`, alone. Where the wire listens no turn changes.
 #![tactic(auto)]
 
 mod cache_loop;
@@ -23,7 +23,7 @@ pub use cache_loop::CacheLoop;
 pub use holding::Holding;
 pub use laws::{
     connections_carry_whole_versions, no_more_are_lost_than_are_counted,
-    turns_are_calls_of_the_cache, turns_publish_nothing,
+    turns_are_calls_of_the_cache, turns_publish_nothing, wires_listen_where_they_did,
 };
 pub use patience::{CLOSING_SECONDS, Patience};
 pub use wires::{

@@ -23,7 +23,7 @@ pub(crate) enum Visit {
     Stays,
     /// The wire failed.
     Faulty,
-    /// The other side sends no more.
+    /// The other side sends no more, and is told all that there was to tell.
     Ended,
     /// The cache has closed the session, and all that it said is written.
     Closed,
@@ -114,8 +114,10 @@ impl<W: Wire, A: Allocator + Clone> Link<W, A> {
         ensures there { IsSome (client_at cache.old client) → IsSome (client_at cache.new client) }
     {
         match self.receive(client, now, wire, cache, buf) {
-            Received::Octets(_) | Received::Nothing => self.answer(client, wire, cache, buf),
-            Received::End => Visit::Ended,
+            Received::Octets(_) | Received::Nothing => {
+                self.answer(client, Visit::Stays, wire, cache, buf)
+            }
+            Received::End => self.answer(client, Visit::Ended, wire, cache, buf),
             Received::Fault => Visit::Faulty,
         }
     }
@@ -151,10 +153,17 @@ impl<W: Wire, A: Allocator + Clone> Link<W, A> {
         received
     }
 
-    // Takes what is to be written, where all that was taken is written, and writes it.
-    fn answer(&mut self, client: u64, wire: &mut W, cache: &mut Cache<A>, buf: &mut [u8]) -> Visit
+    // Takes what is to be written, where all that was taken is written, and writes it. A connection at rest comes to this.
+    fn answer(
+        &mut self,
+        client: u64,
+        resting: Visit,
+        wire: &mut W,
+        cache: &mut Cache<A>,
+        buf: &mut [u8],
+    ) -> Visit
         requires { length buf.old ≡ turn_octets }
-        ensures answers { Answers client self.old (record { wire = W.state wire.old; cache = cache.old }) result self.new.waiting (record { wire = W.state wire.new; cache = cache.new }) }
+        ensures answers { Answers resting client self.old (record { wire = W.state wire.old; cache = cache.old }) result self.new.waiting (record { wire = W.state wire.new; cache = cache.new }) }
         ensures same { self.new ≡ record self.old { waiting = self.new.waiting } }
         ensures others { OthersStay cache.old client cache.new }
         ensures there { IsSome (client_at cache.old client) → IsSome (client_at cache.new client) }
@@ -163,7 +172,7 @@ impl<W: Wire, A: Allocator + Clone> Link<W, A> {
         if self.outgoing.is_empty() {
             return match cache.transport(client) {
                 Transport::Closing => Visit::Closed,
-                _ => Visit::Stays,
+                _ => resting,
             };
         }
         self.write(wire)

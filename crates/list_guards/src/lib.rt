@@ -10,6 +10,9 @@ ghost use Rattle.net_prefix.specs.declared.payload.Vrp.{Vrp};
 ghost use Rattle.list_guards.specs.Guarding.{HasEnough, LosesFew, few_fault, guard_fault, leaving, shrink_fault};
 ghost use Rattle.list_guards.specs.declared.Guards.{Guards};
 
+mod list_age;
+
+pub use list_age::ListAge;
 use net_prefix::Vrp;
 use std::collections::BTreeSet;
 use thiserror::Error;

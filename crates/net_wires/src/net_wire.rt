@@ -1,7 +1,6 @@
 //! The system's TCP sockets.
 ghost use Rattle.std.specs.Prelude.{◌≡◌, IfOk, None, Some, false, true};
-ghost use Rattle.wires.specs.Wires.{failing, one_more, told_by_attempt, told_by_read, told_by_write};
-ghost use Rattle.net_wires.specs.Opening.{opened_at, telling};
+ghost use Rattle.wires.specs.Wires.{failing, nothing_told, one_more, told_by_attempt, told_by_read, told_by_write};
 
 use crate::accept_fault::AcceptFault;
 use crate::net_socket::NetSocket;
@@ -43,34 +42,40 @@ pub struct NetWire<'a, R: Net<Listener = TcpListener, Stream = net::TcpStream> +
 
 impl<'a, R: Net<Listener = TcpListener, Stream = net::TcpStream> + AllocGlobal> Model
     for NetWire<'a, R> {
-    ghost use Rattle.net_wires.specs.Opening.{OpenedWire};
+    ghost use Rattle.wires.specs.Wires.{WireState};
 
-    ghost Value = { OpenedWire };
+    ghost Value = { WireState };
 
     ghost view = { λ wire. record {
       listens = wire.system.listens;
-      state = record { faults = wire.faults; accept_faults = wire.accept_faults; ends = wire.ends; sockets = wire.sockets; octets_in = wire.octets_in; octets_out = wire.octets_out; calls = wire.system.calls };
+      faults = wire.faults;
+      accept_faults = wire.accept_faults;
+      ends = wire.ends;
+      sockets = wire.sockets;
+      octets_in = wire.octets_in;
+      octets_out = wire.octets_out;
+      calls = wire.system.calls;
     } };
 }
 
 impl<'a, R: Net<Listener = TcpListener, Stream = net::TcpStream> + AllocGlobal> NetWire<'a, R> {
     /// A wire that only connects.
     pub fn new(net: &'a R) -> io::Result<Self>
-        ensures { IfOk result (λ wire. wire ≡ opened_at None) }
+        ensures { IfOk result (λ wire. wire ≡ nothing_told None) }
     {
         NetWire::open(net, None)
     }
 
     /// A wire that listens at the address too.
     pub fn listening(net: &'a R, address: SocketAddr) -> io::Result<Self>
-        ensures { IfOk result (λ wire. wire ≡ opened_at (Some address)) }
+        ensures { IfOk result (λ wire. wire ≡ nothing_told (Some address)) }
     {
         NetWire::open(net, Some(address))
     }
 
     /// A wire that listens too where an address is given.
     pub fn open(net: &'a R, address: Option<SocketAddr>) -> io::Result<Self>
-        ensures { IfOk result (λ wire. wire ≡ opened_at address) }
+        ensures { IfOk result (λ wire. wire ≡ nothing_told address) }
     {
         let waiter = Waiter::new(net)?;
         let system = SystemSockets::open(net, address)?;
@@ -114,9 +119,9 @@ impl<'a, R: Net<Listener = TcpListener, Stream = net::TcpStream> + AllocGlobal> 
 
     // The next socket.
     fn next_socket(&mut self, stream: TcpStream, address: SocketAddr, known: Readiness) -> NetSocket
-        ensures number { result.number ≡ self.old.state.sockets }
+        ensures number { result.number ≡ self.old.sockets }
         ensures address { result.address ≡ address }
-        ensures tells { self.new ≡ telling (λ state. record state { sockets = one_more state.sockets }) self.old }
+        ensures tells { self.new ≡ record self.old { sockets = one_more self.old.sockets } }
     {
         let number = self.sockets;
         self.sockets = self.sockets.saturating_add(1);
@@ -142,14 +147,14 @@ impl<'a, R: Net<Listener = TcpListener, Stream = net::TcpStream> + AllocGlobal> 
 
     // Counts a fault.
     fn fail(&mut self)
-        ensures { self.new ≡ telling failing self.old }
+        ensures { self.new ≡ failing self.old }
     {
         self.faults = self.faults.saturating_add(1);
     }
 
     // Counts what an attempt tells.
     fn count_attempt(&mut self, attempt: Attempt)
-        ensures { self.new ≡ telling (told_by_attempt attempt) self.old }
+        ensures { self.new ≡ told_by_attempt attempt self.old }
     {
         match attempt {
             Attempt::Connected => self.is_busy = true,
@@ -160,7 +165,7 @@ impl<'a, R: Net<Listener = TcpListener, Stream = net::TcpStream> + AllocGlobal> 
 
     // Counts what a read tells.
     fn count_read(&mut self, received: Received)
-        ensures { self.new ≡ telling (told_by_read received) self.old }
+        ensures { self.new ≡ told_by_read received self.old }
     {
         match received {
             Received::Octets(count) => {
@@ -175,7 +180,7 @@ impl<'a, R: Net<Listener = TcpListener, Stream = net::TcpStream> + AllocGlobal> 
 
     // Counts what a write tells.
     fn count_write(&mut self, sent: Sent)
-        ensures { self.new ≡ telling (told_by_write sent) self.old }
+        ensures { self.new ≡ told_by_write sent self.old }
     {
         match sent {
             Sent::Octets(count) => {
@@ -189,9 +194,9 @@ impl<'a, R: Net<Listener = TcpListener, Stream = net::TcpStream> + AllocGlobal> 
 
     // A connection that came.
     fn take_in(&mut self, stream: TcpStream, address: SocketAddr) -> NetSocket
-        ensures number { result.number ≡ self.old.state.sockets }
+        ensures number { result.number ≡ self.old.sockets }
         ensures address { result.address ≡ address }
-        ensures tells { self.new ≡ telling (λ state. record state { sockets = one_more state.sockets }) self.old }
+        ensures tells { self.new ≡ record self.old { sockets = one_more self.old.sockets } }
     {
         self.see(RouterEvent::Came(address));
         self.next_socket(stream, address, Readiness::BOTH)
@@ -199,7 +204,7 @@ impl<'a, R: Net<Listener = TcpListener, Stream = net::TcpStream> + AllocGlobal> 
 
     // What a fault of accepting leads to: whether the listener has failed.
     fn judge_accept(&mut self, error: &io::Error) -> bool
-        ensures fails { result ≡ true → self.new ≡ telling (λ state. record state { faults = one_more state.faults; accept_faults = one_more state.accept_faults }) self.old }
+        ensures fails { result ≡ true → self.new ≡ record self.old { faults = one_more self.old.faults; accept_faults = one_more self.old.accept_faults } }
         ensures stays { result ≡ false → self.new ≡ self.old }
     {
         if error.kind() == ErrorKind::WouldBlock {
@@ -225,7 +230,7 @@ impl<R: Net<Listener = TcpListener, Stream = net::TcpStream> + AllocGlobal> Wire
     for NetWire<'_, R> {
     type Socket = NetSocket;
 
-    ghost state = { λ wire. wire.state };
+    ghost state = { λ wire. wire };
 
     ghost number = { λ socket. socket.number };
 

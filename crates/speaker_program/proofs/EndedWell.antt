@@ -1,5 +1,6 @@
 -- What is known where serving ended well.
-use Rattle.std.proofs.Common.{◌≡◌, ℕ, List, [], ◌∷◌, String, Global, OnOk, Option, Result, Ok, Err, IfOk, ap, ◌∙◌, sym}
+use Rattle.std.proofs.Common.{◌≡◌, ℕ, List, [], ◌∷◌, String, Global, OnOk, Option, Result, Ok, Err, IfOk, ap, ◌∙◌, sym, subst}
+use Rattle.std.specs.declared.net.socket_addr.SocketAddr.{SocketAddr}
 use Rattle.program_endings.specs.Asides.{Asks}
 use Rattle.program_endings.specs.Exits.{status_of}
 use Rattle.program_endings.specs.declared.aside.Aside.{Aside}
@@ -7,13 +8,16 @@ use Rattle.program_endings.specs.declared.aside.Aside.TheVariants.{Help, Version
 use Rattle.program_endings.specs.declared.fault.ExitFault.{ExitFault}
 use Rattle.program_endings.specs.declared.fault.ExitFault.TheVariants.{Arguments, Settings, BadLine, RefusedLine, Device}
 use Rattle.speaker_program.specs.Begun.{IsServed}
-use Rattle.speaker_program.specs.Checked.{IsCheckedBy}
+use Rattle.speaker_program.specs.Checked.{IsChecked, IsCheckedBy}
 use Rattle.speaker_program.specs.Endings.{EndsSo, status_at_end}
 use Rattle.speaker_program.specs.Exits.{exit_of_fault}
 use Rattle.speaker_program.specs.declared.fault.SpeakerFault.{SpeakerFault}
 use Rattle.speaker_settings.specs.declared.settings.SpeakerSettings.{SpeakerSettings}
-use Rattle.speaker_turns.specs.Turns.{Turns}
-use Rattle.wires.specs.Wires.{WireState}
+use Rattle.speaker_turns.specs.Turns.{Turns, idle}
+use Rattle.speaker_turns.proofs.Listening.{listens_on}
+use Rattle.speaker_program.proofs.Remotes.{remotes_listen}
+use Rattle.speaker_program.proofs.TakenTurns.{well_are_turns}
+use Rattle.wires.specs.Wires.{WireState, nothing_told}
 
 never_zero : (fault : ExitFault) → status_of fault ≡ 0 → ⊥
 never_zero Arguments zero = absurd cc
@@ -54,7 +58,10 @@ zero_is_well (Err fault) zero is = absurd (never_zero (exit_of_fault fault) zero
 pub one_aside : (words : List (String Global)) (a b : Aside) → Asks words a → Asks words b → IsCheckedBy a → IsCheckedBy b
 one_aside words a Help x y is = tt
 one_aside words a Version x y is = tt
-one_aside words (Check path) (Check other) x y is = is
+one_aside [] (Check path) (Check other) x y is = absurd y
+one_aside (word ∷ []) (Check path) (Check other) x y is = absurd y
+one_aside (word ∷ settings ∷ []) (Check path) (Check other) x y is = subst IsChecked (x.1 ∙ sym y.1) is
+one_aside (word ∷ settings ∷ more ∷ words) (Check path) (Check other) x y is = absurd y
 one_aside [] Help (Check other) x y is = absurd y
 one_aside (word ∷ []) Help (Check other) x y is = absurd y
 one_aside (word ∷ settings ∷ []) Help (Check other) x y is = absurd x
@@ -68,3 +75,10 @@ one_aside (word ∷ settings ∷ more ∷ words) Version (Check other) x y is = 
 pub on_ok_of : {T E : Type 0} {P : Type 0} (r : Result T E) → P → OnOk r P
 on_ok_of (Ok done) is = is
 on_ok_of (Err why) is = tt
+
+-- the wire listens where it was opened
+pub listens_there : (Told : Option (List ℕ) → Type 0) (settings : SpeakerSettings) (count : ℕ) (before behind : List ℕ) (turns : Turns) (listens : Option SocketAddr) → IsServed Told (λ wire. wire ≡ nothing_told listens) settings count before behind turns → turns.counts.wire.listens ≡ listens
+listens_there Told settings count before behind turns listens is =
+    listens_on is.takes.moments is.begun turns (well_are_turns is.takes.moments is.begun turns is.takes.taken)
+    ∙ (ap (λ (t : Turns). t.counts.wire.listens) is.begins.remotes
+    ∙ (remotes_listen settings.peers.items settings.cache (idle is.begins.speaker is.begins.wire) ∙ ap (λ (w : WireState). w.listens) is.begins.opened))

@@ -3,4 +3,5 @@ pub mod Checked
 pub mod Commanded
 pub mod Endings
 pub mod Exits
+pub mod Files
 pub mod Slots

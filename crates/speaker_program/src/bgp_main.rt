@@ -1,5 +1,5 @@
 //! What the main of `ovbgpd` does.
-ghost use Rattle.std.specs.Prelude.{◌≡◌, [], ◌∷◌, ◌≤◌, ℕ, List, Vec, Ok, Some, IfErr, IfOk, MatchOption, MatchResult, OnErr, OnOk, ⊤, is_some, string_bytes};
+ghost use Rattle.std.specs.Prelude.{◌≡◌, [], ◌∷◌, ◌≤◌, ℕ, List, Vec, Option, Ok, Some, IfErr, IfOk, MatchOption, MatchResult, OnErr, OnOk, is_some, string_bytes};
 ghost use Rattle.clocks.specs.Moments.{IsNotBefore};
 ghost use Rattle.std.specs.Fn.{FnOnceReturnsAt};
 ghost use Rattle.std.specs.Global.{Global as TheGlobal};
@@ -19,9 +19,11 @@ ghost use Rattle.speaker_turns.specs.Turns.{Turns};
 ghost use Rattle.program_endings.specs.Words.{IsCall};
 ghost use Rattle.scenario.specs.FileLines.{lines};
 ghost use Rattle.speaker.specs.Agreement.{Agrees};
-ghost use Rattle.net_wires.specs.Opening.{opened_at};
+ghost use Rattle.wires.specs.Wires.{nothing_told};
+ghost use Rattle.speaker_program.specs.Files.{AreOctetsAt, AreSettingsOf, IsTextAt};
 
 use crate::fault::SpeakerFault;
+use crate::files::{lines_of, octets_at};
 use crate::help::{HELP, VERSION};
 use bgp_conf::PEER_SLOTS;
 use clocks::{MonotonicClock, SecondsClock};
@@ -33,8 +35,7 @@ use speaker::{Config, Speaker};
 use speaker_settings::{SpeakerSettings, has_slot};
 use speaker_turns::{End, SpeakerLoop};
 use std::alloc::{AllocGlobal, Global};
-use std::fs;
-use std::io::{self, BufRead, BufReader, Write};
+use std::io::{self, BufRead, Write};
 use std::net::{Net, SocketAddr, TcpListener, TcpStream};
 use std::rt::{Clock, Files};
 use std::time::Duration;
@@ -55,13 +56,14 @@ where
     ensures range { result ≤ 2 }
     ensures output { ((path : List ℕ) (turns : ℕ) → ¬ (IsCall words.now path turns)) → ((aside : Aside) → ¬ (Asks words.now aside)) → output.new ≡ output.old }
     ensures silent { result ≡ 0 → errors.new ≡ errors.old }
-    // The status is 0 only where the settings that a file tells were served for just the turns of the words, over a wire that was
-    // opened where they listen.
-    ensures serves { ((aside : Aside) → ¬ (Asks words.now aside)) → result ≡ 0 → (path : List ℕ) × (turns : ℕ) × (octets : List ℕ) × (table : Members) × (settings : SpeakerSettings) × (behind : List ℕ) × (served : Turns)
-        × IsCall words.now path turns × IsTableOf octets table × IsToldBy table settings
-        × IsServed (λ text. ⊤) (StateFrom (λ wire. wire ≡ opened_at settings.listen) (λ wire. wire.state)) settings turns [] behind served }
-    // Where they are to be checked, it is 0 only where a file tells settings, and the commands of some file leave a speaker of them
-    // with just their slots.
+    // The status is 0 only where the settings of a file that was opened at the path of the words were served for just the turns of
+    // the words: with the commands of a file that was opened at their path, over a wire that was opened where they listen, and that
+    // listens there still.
+    ensures serves { ((aside : Aside) → ¬ (Asks words.now aside)) → result ≡ 0 → (path : List ℕ) × (turns : ℕ) × (settings : SpeakerSettings) × (behind : List ℕ) × (served : Turns)
+        × IsCall words.now path turns × AreSettingsOf (AreOctetsAt path) settings
+        × IsServed (IsTextAt (string_bytes settings.commands)) (λ wire. wire ≡ nothing_told settings.listen) settings turns [] behind served × (served.counts.wire.listens ≡ settings.listen) }
+    // Where they are to be checked, it is 0 only where a file that was opened at their path tells settings, and the commands of a
+    // file that was opened at theirs leave a speaker of them with just their slots.
     ensures checks { (aside : Aside) → Asks words.now aside → result ≡ 0 → IsCheckedBy aside }
 {
     match aside_of(words) {
@@ -83,11 +85,9 @@ where
     ensures range { result ≤ 2 }
     ensures output { ((path : List ℕ) (turns : ℕ) → ¬ (IsCall words.now path turns)) → output.new ≡ output.old }
     ensures silent { result ≡ 0 → errors.new ≡ errors.old }
-    // The status is 0 only where the settings that a file tells were served for just the turns of the words, over a wire that was
-    // opened where they listen.
-    ensures serves { result ≡ 0 → (path : List ℕ) × (turns : ℕ) × (octets : List ℕ) × (table : Members) × (settings : SpeakerSettings) × (behind : List ℕ) × (served : Turns)
-        × IsCall words.now path turns × IsTableOf octets table × IsToldBy table settings
-        × IsServed (λ text. ⊤) (StateFrom (λ wire. wire ≡ opened_at settings.listen) (λ wire. wire.state)) settings turns [] behind served }
+    ensures serves { result ≡ 0 → (path : List ℕ) × (turns : ℕ) × (settings : SpeakerSettings) × (behind : List ℕ) × (served : Turns)
+        × IsCall words.now path turns × AreSettingsOf (AreOctetsAt path) settings
+        × IsServed (IsTextAt (string_bytes settings.commands)) (λ wire. wire ≡ nothing_told settings.listen) settings turns [] behind served × (served.counts.wire.listens ≡ settings.listen) }
 {
     let mut clock = MonotonicClock::new(rt);
     let served = serve_words::<B, _, _, _>(rt, words, output, &mut clock);
@@ -131,12 +131,34 @@ fn check<B: Book<Global>, R, O: Write>(
 ) -> Result<(), SpeakerFault>
 where
     R: Files + AllocGlobal,
-    ensures { OnOk result IsChecked }
+    ensures { OnOk result (IsChecked path.now) }
 {
-    let alloc = rt.alloc();
-    let settings = read_settings(alloc, path, |path: &str| fs::read(rt, path))?;
-    let _speaker = commanded::<B, _, _>(alloc, &settings, |path: &str| lines_of(rt, path))?;
+    let settings = settings_at(rt, path)?;
+    let _speaker = speaker_of::<B, _>(rt, &settings)?;
     tell_checked(path, &settings, output)
+}
+
+// The settings in the file at this path.
+fn settings_at<R>(rt: &R, path: &str) -> Result<SpeakerSettings, SpeakerFault>
+where
+    R: Files + AllocGlobal,
+    ensures { IfOk result (AreSettingsOf (AreOctetsAt path.now)) }
+{
+    read_settings(rt.alloc(), path, |path: &str| octets_at(rt, path))
+}
+
+// The speaker of the settings, which has obeyed the commands in the file at their path.
+fn speaker_of<B: Book<Global>, R>(
+    rt: &R,
+    settings: &SpeakerSettings,
+) -> Result<Speaker<Global, B>, SpeakerFault>
+where
+    R: Files + AllocGlobal,
+    ensures slots { IfOk result (HasJust settings.now.peers.items) }
+    ensures commands { IfOk result (λ speaker. (text : Option (List ℕ)) × IsTextAt (string_bytes settings.now.commands) text
+        × IsCommanded text (record { asn = settings.now.asn; identifier = settings.now.identifier; cache = is_some settings.now.cache; multiprotocol = settings.now.multiprotocol }) speaker) }
+{
+    commanded(rt.alloc(), settings, |path: &str| lines_of(rt, path))
 }
 
 // Tells what settings are.
@@ -167,25 +189,19 @@ where
     R: Net<Listener = TcpListener, Stream = TcpStream> + Files + AllocGlobal,
     ensures wrong { ((path : List ℕ) (turns : ℕ) → ¬ (IsCall words.now path turns)) → IsErrAnd result IsOfWords }
     ensures output { IsErrAnd result IsOfWords → output.new ≡ output.old }
-    ensures serves { IfOk result (λ served. (path : List ℕ) × (turns : ℕ) × (octets : List ℕ) × (table : Members) × (settings : SpeakerSettings)
-        × IsCall words.now path turns × IsTableOf octets table × IsToldBy table settings
-        × IsServed (λ text. ⊤) (StateFrom (λ wire. wire ≡ opened_at settings.listen) (λ wire. wire.state)) settings turns (C.readings clock.old) (C.readings clock.new) served) }
+    ensures serves { IfOk result (λ served. (path : List ℕ) × (turns : ℕ) × (settings : SpeakerSettings)
+        × IsCall words.now path turns × AreSettingsOf (AreOctetsAt path) settings
+        × IsServed (IsTextAt (string_bytes settings.commands)) (λ wire. wire ≡ nothing_told settings.listen) settings turns (C.readings clock.old) (C.readings clock.new) served × (served.counts.wire.listens ≡ settings.listen)) }
 {
     run_bgp(
         rt.alloc(),
         words,
         output,
         clock,
-        |path: &str| fs::read(rt, path),
+        |path: &str| octets_at(rt, path),
         |path: &str| lines_of(rt, path),
         |listen| NetWire::open(rt, listen),
     )
-}
-
-// The lines of the file of this path.
-fn lines_of<R: Files + AllocGlobal>(rt: &R, path: &str) -> io::Result<BufReader<R::File>> {
-    let file = fs::open(rt, path)?;
-    BufReader::new(rt.alloc(), file)
 }
 
 // How serving ended.

@@ -4,5 +4,6 @@ mod Counting
 mod Effects
 mod Ending
 mod Exchanges
+pub mod Listening
 mod Places
 mod Stepping

@@ -38,3 +38,8 @@ pub fn turns_are_calls_of_the_speaker()
 pub fn sessions_carry_their_own_octets()
     ensures { (config : Config) (r : Run) (moments : List ℕ) (start new : Turns) (key : ℕ) (line : Connection) → Agrees config r start.speaker → length start.places ≡ place_count → IsFresh start → TakesTurns moments start new → new.counts.wire.sockets < 2 ^ 64 - 1 → (place_at new key).line ≡ Some line → line.is_up ≡ true → CarriesOwn config r new key line }
 {}
+
+/// Whatever turns are taken, the wire listens where it did.
+pub fn wires_listen_where_they_did()
+    ensures { (moments : List ℕ) (old new : Turns) → TakesTurns moments old new → new.counts.wire.listens ≡ old.counts.wire.listens }
+{}

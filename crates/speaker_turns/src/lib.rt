@@ -9,6 +9,7 @@
 //! is taken of the speaker (`specs/Serving.antt`). A connection ends where its socket has told a fault or the end of its
 //! input, or where the speaker has closed its session and all that was said is written, or wasn't for a minute; an attempt
 //! where it fails or the speaker doesn't want it any more. Each of these ends is counted as lost, but for what isn't wanted.
+//! Where the wire listens no turn changes.
 //!
 //! Losing a session may take the speaker long, where it had many routes. So of the connections that the wire tells to be ending
 //! one is visited a turn, the others are put off, and each comes to its turn: between two of them all other connections are read
@@ -26,7 +27,7 @@ mod speaker_loop;
 pub use end::End;
 pub use laws::{
     as_many_are_lost_as_are_counted, sessions_carry_their_own_octets,
-    those_that_end_have_their_turn, turns_are_calls_of_the_speaker,
+    those_that_end_have_their_turn, turns_are_calls_of_the_speaker, wires_listen_where_they_did,
 };
 pub use line::CLOSING_SECONDS;
 pub use place::Visit;

@@ -10,7 +10,7 @@ use rtr_codec::Intervals;
 use std::alloc::Global;
 use std::collections::BTreeSet;
 use std::io::{ErrorKind, Read, Write};
-use std::net::TcpStream;
+use std::net::{Shutdown, TcpStream};
 use std::process::Abort;
 use wires::Wire;
 
@@ -92,15 +92,19 @@ fn asks(router: &mut TcpStream) -> bool {
     router.set_nonblocking(true).is_ok() && router.write_all(&RESET_QUERY).is_ok()
 }
 
-// Whether the router, which asks for the list, gets all, and no connection is lost.
-fn takes_all<W: Wire + Drop>(alloc: Global, served: &mut Served<W, TcpStream>) -> bool {
+// Whether the router, which has asked for the list, gets all, and so many connections are lost.
+fn takes_all<W: Wire + Drop>(
+    alloc: Global,
+    served: &mut Served<W, TcpStream>,
+    lost: u64,
+) -> bool {
     let mut taken = Vec::new(alloc);
     let mut expected = Vec::new(alloc);
-    asks(&mut served.router)
-        && takes_in_turns(served, &mut taken)
+    takes_in_turns(served, &mut taken)
         && takes_expected(&mut expected)
         && taken.as_slice() == expected.as_slice()
-        && served.turns.lost() == 0
+        && served.turns.lost() == lost
+        && served.turns.closed() == 0
 }
 
 // Whether the cache serves all payloads.
@@ -119,5 +123,21 @@ fn serving(rt: &impl Abort, alloc: Global) -> Cache {
 #[test]
 fn a_router_takes_each_payload_over_a_socket(rt: HostRuntime) {
     let served = over_loopback(&rt, serving(&rt, rt.alloc()));
-    assert!(rt; lend(served, |served| takes_all(rt.alloc(), served)));
+    assert!(rt; lend(served, |served| {
+        asks(&mut served.router) && takes_all(rt.alloc(), served, 0)
+    }));
+}
+
+// Whether the router asks for the list, and then sends no more.
+fn asks_last(router: &mut TcpStream) -> bool {
+    asks(router) && router.shutdown(Shutdown::Write).is_ok()
+}
+
+// A router that ends its own side behind its query is told all first.
+#[test]
+fn a_router_that_sends_no_more_takes_each_payload(rt: HostRuntime) {
+    let served = over_loopback(&rt, serving(&rt, rt.alloc()));
+    assert!(rt; lend(served, |served| {
+        asks_last(&mut served.router) && takes_all(rt.alloc(), served, 1)
+    }));
 }

@@ -160,11 +160,12 @@ struct Plug {
 }
 
 impl Model for MemoryWire {
+    ghost use Rattle.std.specs.Prelude.{None};
     ghost use Rattle.wires.specs.Wires.{WireState};
 
     ghost Value = { WireState };
 
-    ghost view = { λ wire. record { faults = wire.faults; accept_faults = wire.accept_faults; ends = wire.ends; sockets = wire.sockets; octets_in = wire.octets_in; octets_out = wire.octets_out; calls = wire.log.calls } };
+    ghost view = { λ wire. record { listens = None; faults = wire.faults; accept_faults = wire.accept_faults; ends = wire.ends; sockets = wire.sockets; octets_in = wire.octets_in; octets_out = wire.octets_out; calls = wire.log.calls } };
 }
 
 impl MemoryWire {

@@ -12,8 +12,9 @@ use Rattle.wires.specs.declared.wire.Received.TheVariants.{Octets as Came, Nothi
 use Rattle.wires.specs.declared.wire.Sent.{Sent}
 use Rattle.wires.specs.declared.wire.Sent.TheVariants.{Octets as Went, Nothing as NoneWent, Fault as WriteFault}
 
--- what a wire has told, and its calls, the newest first
+-- where a wire listens, if it does, what it has told, and its calls, the newest first
 pub record WireState : Type 0 where
+  pub listens : Option SocketAddr
   pub faults : ℕ  -- calls that answered a fault
   pub accept_faults : ℕ  -- those of them that asked for a connection
   pub ends : ℕ  -- ends of input
@@ -22,9 +23,9 @@ pub record WireState : Type 0 where
   pub octets_out : ℕ  -- octets that went
   pub calls : List WireCall
 
--- before its first call
-abbrev pub nothing_told : WireState
-nothing_told = record { faults = 0; accept_faults = 0; ends = 0; sockets = 0; octets_in = 0; octets_out = 0; calls = [] }
+-- before its first call; no call changes where it listens
+abbrev pub nothing_told : Option SocketAddr → WireState
+nothing_told listens = record { listens = listens; faults = 0; accept_faults = 0; ends = 0; sockets = 0; octets_in = 0; octets_out = 0; calls = [] }
 
 -- a count goes on by one, and stays at the greatest u64
 abbrev pub one_more : ℕ → ℕ

@@ -1,8 +1,8 @@
-use Rattle.std.proofs.Common.{◌≡◌, ◌∙◌, subst, sym}
-use Rattle.std.specs.Prelude.{⊤}
+use Rattle.std.proofs.Common.{◌≡◌, ◌∙◌, string_bytes, subst, sym}
 use Rattle.clocks.specs.Moments.{Clocked}
-use Rattle.speaker_program.specs.Begun.{IsServed, StateFrom}
-use Rattle.net_wires.specs.Opening.{OpenedWire, opened_at}
+use Rattle.wires.specs.Wires.{WireState, nothing_told}
+use Rattle.speaker_program.specs.Begun.{IsServed}
+use Rattle.speaker_program.specs.Files.{IsTextAt}
 use Rattle.speaker_program.proofs.EndedWell.{served_so}
 use Rattle.speaker_program.proofs.bgp_main.main_serving.Goals as goal
 
@@ -13,12 +13,10 @@ returns-clause-serves g c = λ zero.
       is.0,
       is.1,
       is.2,
-      is.3,
-      is.4,
       c.serve_words-served.new.clock.moments,
       so.0,
-      is.5,
+      is.3,
+      is.4,
+      subst (λ (clock : Clocked). IsServed (IsTextAt (string_bytes (is.2).commands)) (λ (wire : WireState). wire ≡ nothing_told (is.2).listen) is.2 is.1 clock.moments c.serve_words-served.new.clock.moments so.0) c.new-clock.ensures is.5,
       is.6,
-      is.7,
-      subst (λ (clock : Clocked). IsServed (λ text. ⊤) (StateFrom (λ (wire : OpenedWire). wire ≡ opened_at (is.4).listen) (λ wire. wire.state)) is.4 is.1 clock.moments c.serve_words-served.new.clock.moments so.0) c.new-clock.ensures is.8,
     )

@@ -1,10 +1,23 @@
-use Rattle.std.proofs.Common.{rules}
-use Rattle.speaker_program.proofs.EndedWell.{served_as}
+use Rattle.std.proofs.Common.{◌≡◌, ◌∙◌, List, ℕ, refl, rules, subst}
+use Rattle.std.specs.Io.Buffered.{reader_remaining}
+use Rattle.file_paths.specs.OpenedFiles.{OpenedFile}
+use Rattle.speaker_program.proofs.EndedWell.{listens_there, served_as}
 use Rattle.speaker_program.proofs.ServedWords.{if_ok_so}
+use Rattle.speaker_program.specs.Files.{AreOctetsAt, IsTextAt}
 use Rattle.speaker_program.proofs.bgp_main.serve_words.Goals as goal
 
 pub returns-clause-serves : goal.returns-clause-serves
 returns-clause-serves g c =
     if_ok_so c.run_bgp.result
-    (λ served is. (is.0, is.1, (is.2).items, is.3, is.4, is.5, is.7, is.8, served_as _ _ _ _ is.4 is.1 _ _ served is.9 (λ text told. tt) (λ wire opened. (opened.0, (let gives = opened.1 in search rules), opened.2))))
+    (λ served is.
+    let settings = is.4 in
+    let octets = (is.2).items in
+    let read : AreOctetsAt is.6.0.now octets = (let gives = is.6.1 in search rules) in
+    let so =
+    served_as _ _ _ _ settings is.1 _ _ served is.9
+    (λ text told.
+    let lines : IsTextAt told.1.0.now (reader_remaining (λ (f : OpenedFile). f.text) told.0) = (let gives = told.1.1 in search rules) in
+    (lines.0, lines.1 ∙ told.1.2, told.2 ∙ lines.2))
+    (λ wire opened. opened.2 ∙ (let gives = opened.1 in search rules)) in
+    (is.0, is.1, settings, is.5, record { octets = octets; read = subst (λ (path : List ℕ). AreOctetsAt path octets) is.6.2 read; table = is.3; spelled = is.7; told = is.8 }, so, listens_there _ settings is.1 _ _ served _ so))
     c.run_bgp.ensures.serves

@@ -15,9 +15,10 @@ returns-in-Octets-clause-stands g c =
 pub returns-in-End-clause-stands : goal.returns-in-End-clause-stands
 returns-in-End-clause-stands g c =
     let between : Sides = record { wire = g.W.Wire.state c.receive.new.wire; cache = c.receive.new.cache } in
-    served c.args.now c.args.client c.args.self.now c.receive.new.self c.receive.new.self _ between between c.receive.result _ c.receive.ensures.reads c.receive.ensures.same
-    (subst (λ (r : Received). GoesOn r c.args.client c.receive.new.self between _ c.receive.new.self.waiting between) (sym c.in-End.is) (refl, refl))
-    refl
+    let behind : Sides = record { wire = g.W.Wire.state c.answer-in-End.new.wire; cache = c.answer-in-End.new.cache } in
+    served c.args.now c.args.client c.args.self.now c.receive.new.self c.answer-in-End.new.self _ between behind c.receive.result c.answer-in-End.result c.receive.ensures.reads c.receive.ensures.same
+    (subst (λ (r : Received). GoesOn r c.args.client c.receive.new.self between c.answer-in-End.result c.answer-in-End.new.self.waiting behind) (sym c.in-End.is) c.answer-in-End.ensures.answers)
+    c.answer-in-End.ensures.same
 
 pub returns-in-Fault-clause-stands : goal.returns-in-Fault-clause-stands
 returns-in-Fault-clause-stands g c =

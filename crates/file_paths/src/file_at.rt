@@ -1,0 +1,46 @@
+//! The call of the system that opens a file, and a note of its path.
+//!
+//! This module does nothing else, and no other one writes such a note. That the file is the one to which the path leads is
+//! trusted, beside the toolchain.
+ghost use Rattle.std.specs.Prelude.{◌≡◌, IfOk};
+
+use std::alloc::AllocGlobal;
+use std::fs;
+use std::io::{self, Read};
+use std::marker::Model;
+use std::rt::Files;
+
+/// A file that was opened at a path, to be read.
+#[derive(Drop)]
+pub struct FileAt<F: Read> {
+    path: String,
+    file: F,
+}
+
+impl<F: Read> Model for FileAt<F> {
+    ghost use Rattle.std.specs.Prelude.{string_bytes};
+    ghost use Rattle.file_paths.specs.OpenedFiles.{OpenedFile};
+
+    ghost Value = { OpenedFile };
+
+    ghost view = { λ opened. record { path = string_bytes opened.path; text = F.remaining opened.file } };
+}
+
+/// The file at the path.
+pub fn open_at<R: Files + AllocGlobal>(rt: &R, path: &str) -> io::Result<FileAt<R::File>>
+    ensures { IfOk result (λ opened. opened.path ≡ path.now) }
+{
+    let file = fs::open(rt, path)?;
+    Ok(FileAt {
+        path: String::from_str(rt.alloc(), path)?,
+        file,
+    })
+}
+
+impl<F: Read> Read for FileAt<F> {
+    ghost remaining = { λ opened. opened.text };
+
+    fn read(&mut self, buf: &mut [u8]) -> io::Result<usize> {
+        self.file.read(buf)
+    }
+}
