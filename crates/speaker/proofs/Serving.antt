@@ -66,8 +66,8 @@ served_still slot n now new only other served peer l configured is =
     let exports : export_to new slot ≡ export_to now slot = ap (λ e. e slot) (export_kept now new only.rest) in
     let conf : peer_at new.conf slot ≡ peer_at now.conf slot = ap (λ (s : SpeakerState). peer_at s.conf slot) only.rest in
     λ established room q.
-        let before = served peer l (sym conf ∙ configured) (sym (only.others slot other) ∙ is) established room q in
-        (before.0 ∙ sym (ap (λ e. e q) exports), before.1)
+    let before = served peer l (sym conf ∙ configured) (sym (only.others slot other) ∙ is) established room q in
+    (before.0 ∙ sym (ap (λ e. e q) exports), before.1)
 
 pub below_still : (slot : ℕ) (now new : SpeakerState) → IsOfSlot slot now new → AreServedBelow now slot → AreServedBelow new slot
 below_still slot now new only below t low = served_still t slot now new only (λ is. absurd (omega (arith, is, low))) (below t low)
