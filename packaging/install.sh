@@ -30,8 +30,8 @@ put 644 "$here/ovcache.8" "$PREFIX/share/man/man8"
 put 644 "$here/ovbgpd.8" "$PREFIX/share/man/man8"
 put 644 "$here/ovplay.1" "$PREFIX/share/man/man1"
 
-for page in README.md LICENSE CHANGELOG.md docs/GUIDE.md docs/OVPLAY.md docs/PROTOCOL.md docs/THEOREMS.md docs/INCIDENTS.md docs/PERFORMANCE.md docs/GLOSSARY.md; do
-    put 644 "$top/$page" "$PREFIX/share/doc/kenyodla"
+for page in "$top"/README.md "$top"/LICENSE "$top"/CHANGELOG.md "$top"/docs/*.md; do
+    put 644 "$page" "$PREFIX/share/doc/kenyodla"
 done
 
 for unit in ovcache.service ovbgpd.service; do
