@@ -1,0 +1,3 @@
+pub mod HeldRows
+pub mod Times
+pub mod Arrivals
