@@ -27,7 +27,7 @@ octet_stream Connected now octet c is = hearing_stream now (completed_in c octet
 octet_stream Closing now octet c is = absurd cc
 
 -- a connection that stands behind an octet stood before it
-octet_stood : (transport : Transport) (now octet : ℕ) (c : Course) → transport_of c.client ≡ transport → transport_of (octet_on transport now octet c).client ≡ Connected → transport ≡ Connected
+pub octet_stood : (transport : Transport) (now octet : ℕ) (c : Course) → transport_of c.client ≡ transport → transport_of (octet_on transport now octet c).client ≡ Connected → transport ≡ Connected
 octet_stood NoConnection now octet c is stands = sym is ∙ stands
 octet_stood Connecting now octet c is stands = sym is ∙ stands
 octet_stood Listening now octet c is stands = sym is ∙ stands
@@ -35,7 +35,7 @@ octet_stood Connected now octet c is stands = refl
 octet_stood Closing now octet c is stands = sym is ∙ stands
 
 -- while a connection stands its stream is what arrived
-arrived_is : (h : List Event) → transport_of (client h) ≡ Connected → stream h ≡ arrived h
+pub arrived_is : (h : List Event) → transport_of (client h) ≡ Connected → stream h ≡ arrived h
 arrived_is [] stands = refl
 arrived_is (Came_up ∷ h) stands = refl
 arrived_is (Failed ∷ h) stands = refl
@@ -46,7 +46,7 @@ arrived_is (Refused ∷ h) stands = absurd (starved_closes (moment_of h) (client
 arrived_is (Handed octets ∷ h) stands = arrived_is h stands
 arrived_is (Ticked now ∷ h) stands = arrived_is h (stood_before now (client h) Tick (λ e. cc) (stood_after now Tick (waiting (course h)) (client h) stands))
 
-item_stands : (transport : Transport) (c : Course) (octet : ℕ) (item : Item) → item_on transport c octet ≡ Some item → transport ≡ Connected
+pub item_stands : (transport : Transport) (c : Course) (octet : ℕ) (item : Item) → item_on transport c octet ≡ Some item → transport ≡ Connected
 item_stands NoConnection c octet item is = absurd cc
 item_stands Connecting c octet item is = absurd cc
 item_stands Listening c octet item is = absurd cc
@@ -54,7 +54,7 @@ item_stands Connected c octet item is = refl
 item_stands Closing c octet item is = absurd cc
 
 -- what an octet completes on the connection it completes of what arrived
-item_arrives : (h : List Event) (octet : ℕ) (item : Item) → item_at h octet ≡ Some item → pdus first_place (arrived (Octet octet ∷ h)) ≡ pdus first_place (arrived h) ++ item ∷ []
+pub item_arrives : (h : List Event) (octet : ℕ) (item : Item) → item_at h octet ≡ Some item → pdus first_place (arrived (Octet octet ∷ h)) ≡ pdus first_place (arrived h) ++ item ∷ []
 item_arrives h octet item is =
     let stood = item_stands (transport_of (client h)) (course h) octet item is in
     let here = arrived_is h stood in
@@ -62,7 +62,7 @@ item_arrives h octet item is =
     ap (pdus first_place) (sym (one ∙ ap (λ (x : List ℕ). x ++ octet ∷ []) here)) ∙ octets_are_pdus h octet
     ∙ ap (λ (x : List Item). x ++ with_front (item_at h octet) []) (ap (pdus first_place) here) ∙ ap (λ (x : Option Item). pdus first_place (arrived h) ++ with_front x []) is
 
-fresh_of : (h : List Event) (set : List Vrp) → AreUnexpired h set → HasFreshEnd h
+unfoldable pub fresh_of : (h : List Event) (set : List Vrp) → AreUnexpired h set → HasFreshEnd h
 fresh_of h set k = record {
   later = k.later;
   octet = k.octet;

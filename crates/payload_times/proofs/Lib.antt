@@ -1,3 +1,4 @@
 pub mod HeldRows
 pub mod Times
 pub mod Arrivals
+pub mod Told

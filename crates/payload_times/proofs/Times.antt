@@ -20,7 +20,7 @@ use Rattle.payload_times.specs.PayloadTimes.{AreUnexpired, CompletesNone, Expire
 -- What an octet does.
 
 -- it completes nothing, and the client stays; or an item, which the client hears
-abbrev OctetStep : Transport → ℕ → ℕ → Course → Type 0
+abbrev pub OctetStep : Transport → ℕ → ℕ → Course → Type 0
 OctetStep transport now octet c =
     ((item_on transport c octet ≡ None) × ((octet_on transport now octet c).client ≡ c.client))
     ⊎ ((item : Item) × (item_on transport c octet ≡ Some item) × (transport ≡ Connected) × ((octet_on transport now octet c).client ≡ client_after now (input_of item) (waiting c) c.client))
@@ -36,8 +36,11 @@ octet_step Listening now octet c = inl (refl, refl)
 octet_step Connected now octet c = step_by now octet c (completed_in c octet) refl
 octet_step Closing now octet c = inl (refl, refl)
 
-abbrev StepOf : List Event → ℕ → Type 0
+abbrev pub StepOf : List Event → ℕ → Type 0
 StepOf h octet = OctetStep (transport_of (client h)) (moment_of h) octet (course h)
+
+pub step_of : (h : List Event) (octet : ℕ) → StepOf h octet
+step_of h octet = octet_step (transport_of (client h)) (moment_of h) octet (course h)
 
 connected_is : (c : Client) → transport_of c ≡ Connected → is_connected c.stage ≡ true
 connected_is c stands = by_test (is_connected c.stage) refl
@@ -135,7 +138,7 @@ turn_tick h now false is = inr (inr (
 turn : (h : List Event) (e : Event) → Turn h e
 turn h Came_up = inr (inr (λ k. k, held_after (moment_of h) Up (waiting (anew (course h))) (client h) ∙ held_up (moment_of h) (client h), λ other k. k))
 turn h Failed = inr (inr (λ k. k, held_after (moment_of h) Fail (waiting (anew (course h))) (client h) ∙ held_fail (moment_of h) (client h), λ other k. k))
-turn h (Octet octet) = turn_octet h octet (octet_step (transport_of (client h)) (moment_of h) octet (course h))
+turn h (Octet octet) = turn_octet h octet (step_of h octet)
 turn h Refused = inr (inr (λ k. k, held_after (moment_of h) Starved (waiting (course h)) (client h) ∙ held_starved (moment_of h) (client h), λ other k. k))
 turn h (Handed octets) = inr (inr (λ k. k, refl, λ other k. k))
 turn h (Ticked now) = turn_tick h now (has_come (client h).expire now) refl

@@ -1,5 +1,6 @@
 //! Laws of how long payloads are in force. Each is the contract of an empty function.
 ghost use Rattle.payload_times.specs.PayloadTimes.{ExpiredAreGone, PayloadsAreFresh, PayloadsAreUnexpired, UnexpiredAreInForce};
+ghost use Rattle.payload_times.specs.ToldPayloads.{PayloadsAreTold};
 
 /// Where payloads are in force, the octet that completed their load stands in the history, on whatever connection: no
 /// moment handed in since lies the expire interval behind that its End of Data told, and neither a newer load nor a flush
@@ -19,4 +20,10 @@ pub fn expired_payloads_are_gone()
 /// and no moment handed in since lies its expire interval behind.
 pub fn payloads_are_fresh()
     ensures { PayloadsAreFresh }
+{}
+
+/// And which they are, by the PDUs that came: those of a load, from its Cache Response to that End of Data, make of no
+/// payloads, or of those that were in force when the Cache Response came, just these.
+pub fn payloads_are_told()
+    ensures { PayloadsAreTold }
 {}

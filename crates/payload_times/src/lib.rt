@@ -7,4 +7,6 @@
 
 mod laws;
 
-pub use laws::{expired_payloads_are_gone, payloads_are_fresh, payloads_are_unexpired};
+pub use laws::{
+    expired_payloads_are_gone, payloads_are_fresh, payloads_are_told, payloads_are_unexpired,
+};
