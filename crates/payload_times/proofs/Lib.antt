@@ -1,0 +1,4 @@
+pub mod HeldRows
+pub mod Times
+pub mod Arrivals
+pub mod Told

@@ -1,0 +1,2 @@
+pub mod PayloadTimes
+pub mod ToldPayloads
