@@ -119,7 +119,7 @@ fn are_judged(asked: &[(&str, Asked)]) -> bool {
 // What a head of so many octets asks for that doesn't end.
 fn asked_by_long(alloc: Global, octets: usize) -> Result<Asked, Fail> {
     let mut text = Vec::from_slice(alloc, b"GET /metrics HTTP/1.1\r\nHost: ")?;
-    while text.len() < octets {
+    for _ in text.len()..octets {
         text.push(b'a')?;
     }
     Ok(judge_request(text.as_slice()))
