@@ -72,11 +72,11 @@ fail_leaves now s idle none = (rw idle refl, rw idle none, rw idle refl)
 
 -- a connection that stands is closed by an input that says why, or by a NOTIFICATION
 told_at : (now : ℕ) (state : State) (input : Input) (s : Session) → s.state ≡ state → transport_at state s ≡ Connected → transport_of ((row_at state input s).0 now) ≡ Closing
-    → (input ≡ Notification) ⊎ ((told : NotificationBody) × ((row_at state input s).1.message ≡ Some (Notify told)))
+    → ((told : NotificationBody) × (input ≡ Notification told)) ⊎ ((told : NotificationBody) × ((row_at state input s).1.message ≡ Some (Notify told)))
 told_at now Idle input s is stands closes = grind (arith, common_steps)
 told_at now Connect input s is stands closes = grind (arith, common_steps)
 told_at now Active input s is stands closes = grind (arith, common_steps)
-told_at now state Notification s is stands closes = inl refl
+told_at now state (Notification told) s is stands closes = inl (told, refl)
 told_at now OpenSent Disable s is stands closes = inr (error_notification AdministrativeShutdown, refl)
 told_at now OpenSent Remove s is stands closes = inr (error_notification PeerDeconfigured, refl)
 told_at now OpenSent UnexpectedOpen s is stands closes = inr (error_notification UnexpectedMessage, refl)

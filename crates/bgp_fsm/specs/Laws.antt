@@ -111,7 +111,7 @@ ClosesWhatIsOpen =
 abbrev pub ClosingIsTold : Type 0
 ClosingIsTold =
     (now : ℕ) (input : Input) (s : Session) → transport_of s ≡ Connected → transport_of (session_after now input s) ≡ Closing
-    → (input ≡ NotificationInput) ⊎ ((told : NotificationBody) × ((effects_of input s).message ≡ Some (Notify told)))
+    → ((told : NotificationBody) × (input ≡ NotificationInput told)) ⊎ ((told : NotificationBody) × ((effects_of input s).message ≡ Some (Notify told)))
 
 -- and says it nowhere else: behind a NOTIFICATION the connection is closed
 abbrev pub NotificationsClose : Type 0
@@ -121,4 +121,12 @@ NotificationsClose =
 
 -- a NOTIFICATION that came is never answered
 abbrev pub NotificationIsUnanswered : Type 0
-NotificationIsUnanswered = (s : Session) → (effects_of NotificationInput s).message ≡ None
+NotificationIsUnanswered = (told : NotificationBody) (s : Session) → (effects_of (NotificationInput told) s).message ≡ None
+
+-- what it says is handed on just as it came, where the connection stands
+abbrev pub NotificationIsReceived : Type 0
+NotificationIsReceived = (told : NotificationBody) (s : Session) → transport_of s ≡ Connected → (effects_of (NotificationInput told) s).received ≡ Some told
+
+-- and by nothing else is any handed on
+abbrev pub ReceivedTells : Type 0
+ReceivedTells = (input : Input) (s : Session) (told : NotificationBody) → (effects_of input s).received ≡ Some told → input ≡ NotificationInput told

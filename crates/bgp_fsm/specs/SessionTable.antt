@@ -7,7 +7,7 @@ use Rattle.bgp_msg.specs.declared.open_message.Open.{Open as OpenMessage}
 use Rattle.bgp_msg.specs.declared.open_message.OwnOpen.{OwnOpen as OwnOpenMessage}
 use Rattle.bgp_msg.specs.declared.notification.SessionError.{SessionError}
 use Rattle.bgp_msg.specs.declared.notification.SessionError.TheVariants.{HoldTimerExpired, UnexpectedMessage, AdministrativeShutdown, PeerDeconfigured, OutOfResources}
-use Rattle.bgp_msg.specs.Notifications.{error_notification}
+use Rattle.bgp_msg.specs.Notifications.{NotificationBody, error_notification}
 use Rattle.bgp_fsm.specs.declared.state.State.{State}
 use Rattle.bgp_fsm.specs.declared.state.State.TheVariants.{Idle, Connect, Active, OpenSent, OpenConfirm, Established}
 use Rattle.bgp_fsm.specs.declared.input.Input.{Input}
@@ -22,31 +22,38 @@ use Rattle.bgp_fsm.specs.StateTests.{is_established}
 
 -- a row that does nothing beside its change of the session
 abbrev pub nothing : Effects
-nothing = record { message = None; opened = false; entered = false; left = false; refreshed = false }
+nothing = record { message = None; opened = false; entered = false; left = false; refreshed = false; received = None }
 
 -- a row that queues this message
 abbrev pub says : Outgoing → Effects
-says message = record { message = Some message; opened = false; entered = false; left = false; refreshed = false }
+says message = record { message = Some message; opened = false; entered = false; left = false; refreshed = false; received = None }
 
 -- a row that begins a connection attempt
 abbrev pub begins : Effects
-begins = record { message = None; opened = true; entered = false; left = false; refreshed = false }
+begins = record { message = None; opened = true; entered = false; left = false; refreshed = false; received = None }
 
 -- a row that begins Established
 abbrev pub enters : Effects
-enters = record { message = None; opened = false; entered = true; left = false; refreshed = false }
+enters = record { message = None; opened = false; entered = true; left = false; refreshed = false; received = None }
 
 -- a row that ends Established
 abbrev pub leaves : Effects
-leaves = record { message = None; opened = false; entered = false; left = true; refreshed = false }
+leaves = record { message = None; opened = false; entered = false; left = true; refreshed = false; received = None }
 
 -- a row that ends Established and queues this message
 abbrev pub leaves_saying : Outgoing → Effects
-leaves_saying message = record { message = Some message; opened = false; entered = false; left = true; refreshed = false }
+leaves_saying message = record { message = Some message; opened = false; entered = false; left = true; refreshed = false; received = None }
 
 -- a row at which a ROUTE-REFRESH comes: whether the peer asks for all routes again
 abbrev pub asked_again : Bool → Effects
-asked_again asks = record { message = None; opened = false; entered = false; left = false; refreshed = asks }
+asked_again asks = record { message = None; opened = false; entered = false; left = false; refreshed = asks; received = None }
+
+-- a row at which the peer ends the session by this NOTIFICATION, and one at which it ends Established by it
+abbrev pub receives : NotificationBody → Effects
+receives told = record nothing { received = Some told }
+
+abbrev pub leaves_receiving : NotificationBody → Effects
+leaves_receiving told = record leaves { received = Some told }
 
 -- the NOTIFICATION of an error that no message holds
 abbrev pub error : SessionError → Outgoing
@@ -178,7 +185,7 @@ row_at OpenSent UnexpectedOpen s = (closed s, says (error UnexpectedMessage))
 row_at OpenSent Keepalive s = (closed s, says (error UnexpectedMessage))
 row_at OpenSent Update s = (closed s, says (error UnexpectedMessage))
 row_at OpenSent (RouteRefresh asks) s = (closed s, says (error UnexpectedMessage))
-row_at OpenSent Notification s = (closed s, nothing)
+row_at OpenSent (Notification told) s = (closed s, receives told)
 row_at OpenSent (Fault told) s = (closed s, says (Notify told))
 row_at OpenSent NoMemory s = (closed s, says (error OutOfResources))
 row_at OpenSent (Expires Hold) s = (closed s, says (error HoldTimerExpired))
@@ -191,7 +198,7 @@ row_at OpenConfirm UnexpectedOpen s = (closed s, says (error UnexpectedMessage))
 row_at OpenConfirm Keepalive s = (established s, enters)
 row_at OpenConfirm Update s = (closed s, says (error UnexpectedMessage))
 row_at OpenConfirm (RouteRefresh asks) s = (closed s, says (error UnexpectedMessage))
-row_at OpenConfirm Notification s = (closed s, nothing)
+row_at OpenConfirm (Notification told) s = (closed s, receives told)
 row_at OpenConfirm (Fault told) s = (closed s, says (Notify told))
 row_at OpenConfirm NoMemory s = (closed s, says (error OutOfResources))
 row_at OpenConfirm (Expires Hold) s = (closed s, says (error HoldTimerExpired))
@@ -205,7 +212,7 @@ row_at Established UnexpectedOpen s = (closed s, leaves_saying (error Unexpected
 row_at Established Keepalive s = (heard s, nothing)
 row_at Established Update s = (heard s, nothing)
 row_at Established (RouteRefresh asks) s = (heard s, asked_again asks)
-row_at Established Notification s = (closed s, leaves)
+row_at Established (Notification told) s = (closed s, leaves_receiving told)
 row_at Established (Fault told) s = (closed s, leaves_saying (Notify told))
 row_at Established NoMemory s = (closed s, leaves_saying (error OutOfResources))
 row_at Established (Expires Hold) s = (closed s, leaves_saying (error HoldTimerExpired))
@@ -223,4 +230,4 @@ effects_of input s = (row_at s.state input s).1
 
 -- what a row does that takes the session out of this state, where the peer is told this, if anything
 abbrev pub leaving : State → Option Outgoing → Effects
-leaving state message = record { message = message; opened = false; entered = false; left = is_established state; refreshed = false }
+leaving state message = record { message = message; opened = false; entered = false; left = is_established state; refreshed = false; received = None }

@@ -3,8 +3,8 @@
 use crate::timers::Timer;
 use bgp_msg::{Notification, Open};
 
-/// An input of a session (the events of RFC 4271 section 8.1 that this profile has). A fault borrows the data of its
-/// NOTIFICATION, which may be a whole attribute.
+/// An input of a session (the events of RFC 4271 section 8.1 that this profile has). A NOTIFICATION borrows
+/// its data, which may be a whole attribute.
 #[derive(Debug, Drop)]
 pub enum Input<'a> {
     /// The operator enables the peer.
@@ -27,8 +27,8 @@ pub enum Input<'a> {
     Update,
     /// A ROUTE-REFRESH has come (RFC 2918 section 3), and whether it asks for IPv4 unicast.
     RouteRefresh(bool),
-    /// A NOTIFICATION has come.
-    Notification,
+    /// A NOTIFICATION has come, and this is what it says.
+    Notification(Notification<'a>),
     /// A faulty message has come, and this tells its fault.
     Fault(Notification<'a>),
     /// Memory was refused to what the session needs.

@@ -1,5 +1,5 @@
 //! Laws of the session table, in the words of RFC 4271 section 8.2.2. Each is the contract of an empty function.
-ghost use Rattle.bgp_fsm.specs.Laws.{EstablishedBegins, EnteredTells, LeftTells, RefreshedTells, OpenAnswersUp, ClosesWhatIsOpen, ClosingIsTold, NotificationsClose, NotificationIsUnanswered, OpenedTells, TimersFit, fit, OpenIsAwaited, AttemptsAreRetried, FallsAndRises, HoldTimeIsAgreed, MessagesHold};
+ghost use Rattle.bgp_fsm.specs.Laws.{EstablishedBegins, EnteredTells, LeftTells, RefreshedTells, OpenAnswersUp, ClosesWhatIsOpen, ClosingIsTold, NotificationsClose, NotificationIsReceived, NotificationIsUnanswered, OpenedTells, ReceivedTells, TimersFit, fit, OpenIsAwaited, AttemptsAreRetried, FallsAndRises, HoldTimeIsAgreed, MessagesHold};
 ghost use Rattle.std.specs.Prelude.{◌≡◌, true};
 ghost use Rattle.bgp_fsm.specs.SessionTable.{fresh};
 ghost use Rattle.bgp_msg.specs.declared.open_message.OwnOpen.{OwnOpen};
@@ -60,6 +60,12 @@ pub fn closes_what_is_open()
 pub fn closing_is_told()
     ensures told { ClosingIsTold }
     ensures unanswered { NotificationIsUnanswered }
+{}
+
+/// What a NOTIFICATION that comes says is handed on just as it came, and nothing else is.
+pub fn notification_is_received()
+    ensures received { NotificationIsReceived }
+    ensures alone { ReceivedTells }
 {}
 
 /// Behind a NOTIFICATION that is queued the connection is closed.

@@ -235,6 +235,17 @@ impl Session {
         }
     }
 
+    /// The same where the peer has told by a NOTIFICATION why it closes, which isn't answered.
+    pub(crate) fn receive<'a>(&mut self, told: &Notification<'a>, now: u64) -> Effects<'a>
+        ensures session { self.new ≡ closed self.old now }
+        ensures effects { result ≡ record (leaving self.old.state None) { received = Some told.now } }
+    {
+        Effects {
+            received: Some(told.share()),
+            ..self.close(None, now)
+        }
+    }
+
     /// The same for a faulty message.
     pub(crate) fn answer<'a>(&mut self, fault: &Notification<'a>, now: u64) -> Effects<'a>
         ensures session { self.new ≡ closed self.old now }

@@ -36,6 +36,9 @@ pub struct Effects<'a> {
     pub left: bool,
     /// The peer asks for all routes again (RFC 2918 section 4).
     pub refreshed: bool,
+    /// The NOTIFICATION by which the peer has ended the session. Where its code is 2 and its subcode 7, its data are the
+    /// capabilities that the peer wants (RFC 5492 section 5).
+    pub received: Option<Notification<'a>>,
 }
 
 /// One peer's session.
@@ -67,6 +70,7 @@ impl Effects<'_> {
         entered: false,
         left: false,
         refreshed: false,
+        received: None,
     };
 }
 
@@ -150,7 +154,7 @@ impl Session {
             (OpenSent, Input::Fail) => self.retry(self.mode, now),
             (OpenSent, Input::Open(message)) => self.confirm(*message, now),
             (OpenSent, Input::UnexpectedOpen | Input::Keepalive | Input::Update | Input::RouteRefresh(_)) => self.refuse(UnexpectedMessage, now),
-            (OpenSent, Input::Notification) => self.close(None, now),
+            (OpenSent, Input::Notification(told)) => self.receive(told, now),
             (OpenSent, Input::Fault(fault)) => self.answer(fault, now),
             (OpenSent, Input::NoMemory) => self.refuse(OutOfResources, now),
             (OpenSent, Input::Expires(Timer::Hold)) => self.refuse(HoldTimerExpired, now),
@@ -160,7 +164,7 @@ impl Session {
             (OpenConfirm, Input::Fail) => self.fall(now),
             (OpenConfirm, Input::Open(_) | Input::UnexpectedOpen | Input::Update | Input::RouteRefresh(_)) => self.refuse(UnexpectedMessage, now),
             (OpenConfirm, Input::Keepalive) => self.establish(now),
-            (OpenConfirm, Input::Notification) => self.close(None, now),
+            (OpenConfirm, Input::Notification(told)) => self.receive(told, now),
             (OpenConfirm, Input::Fault(fault)) => self.answer(fault, now),
             (OpenConfirm, Input::NoMemory) => self.refuse(OutOfResources, now),
             (OpenConfirm, Input::Expires(Timer::Hold)) => self.refuse(HoldTimerExpired, now),
@@ -172,7 +176,7 @@ impl Session {
             (Established, Input::Open(_) | Input::UnexpectedOpen) => self.refuse(UnexpectedMessage, now),
             (Established, Input::Keepalive | Input::Update) => self.hear(now),
             (Established, Input::RouteRefresh(asks)) => self.refresh(*asks, now),
-            (Established, Input::Notification) => self.close(None, now),
+            (Established, Input::Notification(told)) => self.receive(told, now),
             (Established, Input::Fault(fault)) => self.answer(fault, now),
             (Established, Input::NoMemory) => self.refuse(OutOfResources, now),
             (Established, Input::Expires(Timer::Hold)) => self.refuse(HoldTimerExpired, now),

@@ -77,6 +77,12 @@ fault_notification (Update fault) = refusal_notification (seen fault)
 unfoldable pub notification_body : NotificationBody → List ℕ
 notification_body told = told.code ∷ told.subcode ∷ take 4075 told.octets
 
+-- what a NOTIFICATION says whose octets behind the header are these, of which there are two at least
+abbrev pub notification_told : List ℕ → NotificationBody
+notification_told [] = telling 0 0 []
+notification_told (code ∷ []) = telling code 0 []
+notification_told (code ∷ subcode ∷ octets) = telling code subcode octets
+
 -- a NOTIFICATION: its header, the code, the subcode, the data
 unfoldable pub notification_of : NotificationBody → List ℕ
 notification_of told =

@@ -1,6 +1,6 @@
 //! The NOTIFICATION message: what it tells of each fault (RFC 4271 sections 4.5 and 6, RFC 4486).
 ghost use Rattle.std.specs.Prelude.{◌≡◌, ◌≤◌, length, take};
-ghost use Rattle.bgp_msg.specs.Notifications.{error_code, error_subcode, error_notification, fault_notification, telling};
+ghost use Rattle.bgp_msg.specs.Notifications.{NotificationBody, error_code, error_subcode, error_notification, fault_notification, notification_body, notification_told, telling};
 
 use crate::fault::Fault;
 use crate::frame::MAX_MESSAGE;
@@ -96,6 +96,19 @@ impl<'a> Notification<'a> {
                 (Some(code), Some(subcode)) => tell(code, subcode, fault.data(), room),
                 _ => Notification::of_error(SessionError::OutOfResources),
             },
+        }
+    }
+
+    /// What a NOTIFICATION says that has come, whose octets behind the header are these (RFC 4271 section 4.5). Its data are
+    /// written to `room`.
+    pub fn read(body: &[u8], room: &'a mut ArrayVec<u8, MAX_MESSAGE>) -> Self
+        ensures told { result ≡ notification_told body.now }
+        ensures written { (told : NotificationBody) → body.now ≡ notification_body told → result ≡ telling told.code told.subcode told.octets }
+    {
+        match body {
+            [code, subcode, shown @ ..] => tell(*code, *subcode, shown, room),
+            [code] => tell(*code, 0, &[], room),
+            [] => tell(0, 0, &[], room),
         }
     }
 

@@ -13,7 +13,7 @@ use Rattle.bgp_msg.specs.declared.open_message.Open.{Open as OpenMessage}
 use Rattle.bgp_msg.specs.declared.open_message.OwnOpen.{OwnOpen as OwnOpenMessage}
 use Rattle.bgp_msg.specs.declared.open_message.Expected.{Expected}
 use Rattle.bgp_msg.specs.MessageFaults.{open_fault, hold_time_at, identifier_at}
-use Rattle.bgp_msg.specs.Notifications.{header_notification, open_notification, update_notification}
+use Rattle.bgp_msg.specs.Notifications.{header_notification, notification_told, open_notification, update_notification}
 use Rattle.bgp_msg.specs.MessageStream.{Item, WholeMessage, FaultyHeader, completed, unread}
 use Rattle.bgp_msg.specs.RouteRefresh.{is_ipv4_unicast}
 use Rattle.bgp_msg.specs.UpdateMeaning.{update_fault}
@@ -124,7 +124,7 @@ input_of state terms (FaultyHeader fault) = Fault (header_notification fault)
 input_of state terms (WholeMessage OpenType body) = if awaits_open state then open_input terms body (open_fault body (expected_of terms)) else UnexpectedOpen
 input_of state terms (WholeMessage UpdateType body) = if is_established state then update_input (update_fault (kind_of terms) body) else Update
 input_of state terms (WholeMessage KeepaliveType body) = Keepalive
-input_of state terms (WholeMessage NotificationType body) = Notification
+input_of state terms (WholeMessage NotificationType body) = Notification (notification_told body)
 input_of state terms (WholeMessage RouteRefreshType body) = RouteRefresh (is_ipv4_unicast body)
 
 -- an input, if there is one

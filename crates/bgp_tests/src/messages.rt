@@ -234,6 +234,21 @@ fn errors_are_told_without_data(rt: HostRuntime) {
     }
 }
 
+// What BIRD tells a peer that doesn't announce IPv4 unicast, behind the header: 2/7 with the capability that it wants.
+const WANTS_A_CAPABILITY: [u8; 8] = [2, 7, 1, 4, 0, 1, 0, 1];
+
+fn is_read_as(body: &[u8], code: u8, subcode: u8, data: &[u8]) -> bool {
+    let mut room = ArrayVec::new();
+    let told = Notification::read(body, &mut room);
+    told.code() == code && told.subcode() == subcode && told.data() == data
+}
+
+#[test]
+fn a_notification_that_comes_is_read_whole(rt: HostRuntime) {
+    assert!(rt; is_read_as(&WANTS_A_CAPABILITY, 2, 7, &WANTS_A_CAPABILITY[2..]));
+    assert!(rt; is_read_as(&[6, 2], 6, 2, &[]));
+}
+
 // An attribute that is longer than any message.
 const LONG: [u8; 4100] = [7; 4100];
 

@@ -31,6 +31,8 @@ enum Came {
     Update,
     // A ROUTE-REFRESH, and whether it asks for IPv4 unicast.
     Refresh(bool),
+    // A NOTIFICATION of want of resources.
+    Notification,
     Fault,
     NoMemory,
 }
@@ -66,6 +68,9 @@ fn input_of(came: Came) -> Input<'static> {
         Came::Keepalive => Input::Keepalive,
         Came::Update => Input::Update,
         Came::Refresh(asks) => Input::RouteRefresh(asks),
+        Came::Notification => {
+            Input::Notification(Notification::of_error(SessionError::OutOfResources))
+        }
         Came::Fault => Input::Fault(Notification::of_error(SessionError::UnexpectedMessage)),
         Came::NoMemory => Input::NoMemory,
     }
@@ -122,6 +127,32 @@ fn asks_again(state: State, came: Came) -> bool {
 fn an_established_peer_asks_for_its_routes_again(rt: HostRuntime) {
     for (state, came, asks) in &ASKING {
         assert!(rt; asks_again(*state, *came) == *asks);
+    }
+}
+
+// The state of a session, what comes, and the code and subcode of the NOTIFICATION that is handed on, if one is.
+const RECEIVING: [(State, Came, Option<(u8, u8)>); 6] = [
+    (State::OpenSent, Came::Notification, Some((6, 8))),
+    (State::OpenConfirm, Came::Notification, Some((6, 8))),
+    (State::Established, Came::Notification, Some((6, 8))),
+    (State::Established, Came::Fault, None),
+    (State::Active, Came::Notification, None),
+    (State::Idle, Came::Notification, None),
+];
+
+fn hands_on(state: State, came: Came, received: Option<(u8, u8)>) -> bool {
+    let mut session = session_in(Mode::Passive, state);
+    let effects = session.input(input_of(came), 0);
+    match effects.received {
+        None => received.is_none(),
+        Some(told) => received == Some((told.code(), told.subcode())),
+    }
+}
+
+#[test]
+fn what_a_peer_tells_is_handed_on(rt: HostRuntime) {
+    for (state, came, received) in &RECEIVING {
+        assert!(rt; hands_on(*state, *came, *received));
     }
 }
 

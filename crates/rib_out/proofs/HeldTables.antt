@@ -1,9 +1,10 @@
 -- What a peer holds, and what it has asked for again.
-use Rattle.std.proofs.Common.{◌≡◌, Bool, true, false, cond, List, [], ◌∷◌, Option, Some, None, refl, sym, ap, ◌∙◌}
+use Rattle.std.proofs.Common.{◌≡◌, ℕ, Bool, true, false, cond, List, [], ◌∷◌, Option, Some, None, refl, sym, ap, ◌∙◌}
 use Rattle.std.specs.Map.{keys_of, lookup}
 use Rattle.std.specs.Option.{IsSome, is_some, option_map, option_map_or}
 use Rattle.std.proofs.lemmas.Map.Made.{lookup-map_values}
 use Rattle.net_prefix.specs.declared.prefix.Prefix.{Prefix}
+use Rattle.prefix_trie.proofs.MapLaws.{one_prefix}
 use Rattle.rib_out.specs.Held.{HeldRoute, all_asked, asked_at, held_at, is_prefix, octets_of}
 
 -- one route, asked for again
@@ -25,6 +26,11 @@ held_at-all_asked table q = ap (option_map (λ route. route.octets)) (lookup-map
 -- and has asked for just that
 pub asked_at-all_asked : (table : List (Prefix × HeldRoute)) (q : Prefix) → asked_at (all_asked table) q ≡ is_some (held_at table q)
 asked_at-all_asked table q = ap (λ o. option_map_or (λ (route : HeldRoute). route.asked) o false) (lookup-map_values asked_again (is_prefix q) table) ∙ all_again (lookup (is_prefix q) table)
+
+-- asking once more changes nothing
+pub again_all_asked : (table : List (Prefix × HeldRoute)) → all_asked (all_asked table) ≡ all_asked table
+again_all_asked [] = refl
+again_all_asked (e ∷ table) = ap (λ rest. (e.0, asked_again e.1) ∷ rest) (again_all_asked table)
 
 held_if_of : (o : Option HeldRoute) → option_map_or (λ route. route.asked) o false ≡ true → IsSome (option_map (λ route. route.octets) o)
 held_if_of None asked = absurd cc
@@ -59,6 +65,24 @@ module _ (old new : List (Prefix × HeldRoute)) (prefix : Prefix) (found : Optio
   pub asked_of-put : (q : Prefix) → asked_at new q ≡ cond (is_prefix prefix q) (option_map_or (λ route. route.asked) found false) (asked_at old q)
   asked_of-put q = ap (λ o. option_map_or (λ (route : HeldRoute). route.asked) o false) (put q) ∙ asked_put (is_prefix prefix q) found (lookup (is_prefix q) old)
 
+-- what a peer holds of one prefix is told once more
+module _ (old new : List (Prefix × HeldRoute)) (prefix : Prefix) (octets : List ℕ) (was : held_at old prefix ≡ Some octets)
+    (put : (q : Prefix) → lookup (is_prefix q) new ≡ cond (is_prefix prefix q) (Some (record { octets = octets; asked = false })) (lookup (is_prefix q) old)) where
+  pub held_renewed : (q : Prefix) → held_at new q ≡ held_at old q
+  held_renewed q = held_of-put old new prefix (Some (record { octets = octets; asked = false })) put q ∙ same (is_prefix prefix q) refl
+    where
+      same : (b : Bool) → is_prefix prefix q ≡ b → cond b (Some octets) (held_at old q) ≡ held_at old q
+      same true is = sym was ∙ ap (held_at old) (one_prefix prefix q is)
+      same false other = refl
+
+-- of a prefix that isn't held nothing was asked for
+pub unasked_absent : (table : List (Prefix × HeldRoute)) (prefix q : Prefix) → lookup (is_prefix prefix) table ≡ None → asked_at table q ≡ cond (is_prefix prefix q) false (asked_at table q)
+unasked_absent table prefix q none = by_prefix (is_prefix prefix q) refl
+  where
+    by_prefix : (b : Bool) → is_prefix prefix q ≡ b → asked_at table q ≡ cond b false (asked_at table q)
+    by_prefix true is = ap (asked_at table) (sym (one_prefix prefix q is)) ∙ ap (λ o. option_map_or (λ (route : HeldRoute). route.asked) o false) none
+    by_prefix false other = refl
+
 -- a prefix that stands in the table is held, and no other one
 held_there : (o : Option HeldRoute) → is_some (option_map (λ route. route.octets) o) ≡ is_some o
 held_there None = refl
@@ -72,3 +96,7 @@ there_if_held table q held = sym (is_some_held table q) ∙ held
 
 pub none_held : (table : List (Prefix × HeldRoute)) (q : Prefix) → lookup (is_prefix q) table ≡ None → held_at table q ≡ None
 none_held table q none = ap (option_map (λ route. route.octets)) none
+
+pub is_found : (o : Option HeldRoute) (route : HeldRoute) → o ≡ Some route → IsSome o
+is_found None route found = cc
+is_found (Some here) route found = refl

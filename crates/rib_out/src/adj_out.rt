@@ -20,6 +20,8 @@ use std::ops::Bound;
 #[derive(Drop)]
 pub struct AdjOut<A: Allocator = Global> {
     routes: BTreeMap<Prefix, HeldRoute<A>, A>,
+    // Whether it is known that each of them was asked for again, so that asking once more needs no walk.
+    is_all_asked: bool,
 }
 
 /// What a peer holds of a prefix.
@@ -39,13 +41,15 @@ impl<A: Allocator> Model for HeldRoute<A> {
 }
 
 impl<A: Allocator> Model for AdjOut<A> {
-    ghost use Rattle.std.specs.Prelude.{List};
+    ghost use Rattle.std.specs.Prelude.{List, ◌≡◌, IsTrue};
     ghost use Rattle.net_prefix.specs.declared.prefix.Prefix.{Prefix};
-    ghost use Rattle.rib_out.specs.Held.{HeldRoute};
+    ghost use Rattle.rib_out.specs.Held.{HeldRoute, all_asked};
 
     ghost Value = { List (Prefix × HeldRoute) };
 
     ghost view = { λ t. t.routes.entries };
+
+    ghost invariant = { λ t. IsTrue t.is_all_asked → all_asked t.routes.entries ≡ t.routes.entries };
 }
 
 impl<A: Allocator + Clone> AdjOut<A> {
@@ -55,6 +59,7 @@ impl<A: Allocator + Clone> AdjOut<A> {
     {
         AdjOut {
             routes: BTreeMap::new(alloc),
+            is_all_asked: true,
         }
     }
 
@@ -78,6 +83,13 @@ impl<A: Allocator + Clone> AdjOut<A> {
         }
     }
 
+    /// Whether it is known that the peer has asked again for each prefix that it holds: asking once more changes nothing.
+    pub fn is_all_asked(&self) -> bool
+        ensures { IsTrue result → all_asked self.now ≡ self.now }
+    {
+        self.is_all_asked
+    }
+
     /// Whether the peer holds just these octets of a prefix.
     pub fn holds(&self, prefix: Prefix, octets: &[u8]) -> bool
         ensures { IsTrue result ↔ (held_at self.now prefix ≡ Some octets.now) }
@@ -98,10 +110,23 @@ impl<A: Allocator + Clone> AdjOut<A> {
             octets,
             asked: false,
         };
+        self.is_all_asked = false;
         match self.routes.insert(prefix, held) {
             Ok(_) => Ok(()),
             Err(_) => Err(AllocError),
         }
+    }
+
+    /// The peer was sent once more what it holds of the prefix. It takes no memory.
+    pub fn renew(&mut self, prefix: Prefix)
+        ensures held { (q : Prefix) → held_at self.new q ≡ held_at self.old q }
+        ensures asked { (q : Prefix) → asked_at self.new q ≡ (if is_prefix prefix q then false else asked_at self.old q) }
+    {
+        self.is_all_asked = false;
+        let Some(held) = self.routes.get_mut(&prefix) else {
+            return;
+        };
+        held.asked = false;
     }
 
     /// The peer was sent a withdrawal of the prefix.
@@ -109,6 +134,7 @@ impl<A: Allocator + Clone> AdjOut<A> {
         ensures held { (q : Prefix) → held_at self.new q ≡ (if is_prefix prefix q then None else held_at self.old q) }
         ensures asked { (q : Prefix) → asked_at self.new q ≡ (if is_prefix prefix q then false else asked_at self.old q) }
     {
+        self.is_all_asked = false;
         self.routes.remove(&prefix);
     }
 
@@ -118,10 +144,14 @@ impl<A: Allocator + Clone> AdjOut<A> {
         ensures held { (q : Prefix) → held_at self.new q ≡ held_at self.old q }
         ensures asked { (q : Prefix) → asked_at self.new q ≡ is_some (held_at self.old q) }
     {
+        if self.is_all_asked {
+            return;
+        }
         self.routes.retain(|_, held| {
             held.asked = true;
             true
         });
+        self.is_all_asked = true;
     }
 
     /// The peer holds nothing any more: its session has ended.
@@ -129,6 +159,7 @@ impl<A: Allocator + Clone> AdjOut<A> {
         ensures { self.new ≡ [] }
     {
         self.routes.clear();
+        self.is_all_asked = true;
     }
 
     /// The least prefix that the peer holds above the given one, or the least of all.

@@ -634,9 +634,10 @@ marked_put conf t slot l m old new marked linked session adj_out put = record {
     ]
 
 -- a session has taken an input
-pub followed : (now : ℕ) (conf : Configuration) (t : RoutingState) (slot : ℕ) (l : Linked) (input : Input) (old new : List (ℕ × Linked)) → AreMarked conf old t → link_at old slot ≡ Some l → IsNow slot (moved now l input) old new
-    → IsFollowed conf new slot (effects_of input l.peer.session) t
-followed now conf t slot l input old new marked linked put = record {
+pub followed : (now : ℕ) (conf : Configuration) (t : RoutingState) (slot : ℕ) (l : Linked) (input : Input) (asks : Bool) (old new : List (ℕ × Linked)) → AreMarked conf old t → link_at old slot ≡ Some l → IsNow slot (moved now l input) old new
+    → (asks ≡ false → ((effects_of input l.peer.session).refreshed ≡ false) ⊎ (all_asked l.adj_out ≡ l.adj_out))
+    → IsFollowed conf new slot (effects_of input l.peer.session) asks t
+followed now conf t slot l input asks old new marked linked put news = record {
   within = marked.there.within slot l linked;
   linked = subst (λ o. IsSome o) (sym (now_on slot (moved now l input) old new put)) refl;
   there = record { within = within_put slot l (moved now l input) old new linked put marked.there.within; known = marked.there.known };
@@ -664,10 +665,15 @@ followed now conf t slot l input old new marked linked put = record {
     held_still p true = held_at-all_asked l.adj_out p
     held_still p false = refl
 
-    put_here : (effects_of input l.peer.session).left ≡ false → (effects_of input l.peer.session).entered ≡ false → (p : Prefix) → ((effects_of input l.peer.session).refreshed ≡ false) ⊎ (best_at (rows_of t.book) p ≡ None)
+    same_table : (again : Bool) → (again ≡ false) ⊎ (all_asked l.adj_out ≡ l.adj_out) → cond again (all_asked l.adj_out) l.adj_out ≡ l.adj_out
+    same_table again (inl unasked) = ap (λ b. cond b (all_asked l.adj_out) l.adj_out) unasked
+    same_table true (inr same) = same
+    same_table false (inr same) = refl
+
+    put_here : (effects_of input l.peer.session).left ≡ false → (effects_of input l.peer.session).entered ≡ false → (p : Prefix) → (asks ≡ false) ⊎ (best_at (rows_of t.book) p ≡ None)
         → mark_of conf t.adj_in t.book slot p (peer_at conf slot) (Some (moved now l input)) ≡ mark_of conf t.adj_in t.book slot p (peer_at conf slot) (Some l)
     put_here stays still p (inl unasked) =
-        let table = table_after stays still ∙ ap (λ asks. cond asks (all_asked l.adj_out) l.adj_out) unasked in
+        let table = table_after stays still ∙ same_table (effects_of input l.peer.session).refreshed (news unasked) in
         mark_put_of conf t.adj_in t.book slot p (peer_at conf slot) l (moved now l input) (lasts stays still) (ap (λ a. held_at a p) table) (ap (λ a. asked_at a p) table)
     put_here stays still p (inr none) =
         mark_put_none conf t.adj_in t.book slot p (peer_at conf slot) l (moved now l input) (lasts stays still)
@@ -682,8 +688,8 @@ followed now conf t slot l input old new marked linked put = record {
         (cond (effects_of input l.peer.session).refreshed (all_asked l.adj_out) l.adj_out) entered
 
 -- the slot's peer has asked for all routes again
-pub marked_asked : (conf : Configuration) (links : List (ℕ × Linked)) (slot : ℕ) (effects : Effects) (t : RoutingState) → IsFollowed conf links slot effects t → effects.left ≡ false → effects.entered ≡ false → AreMarkedFor (is_other slot) conf links t
-marked_asked conf links slot effects t h stays still = record {
+pub marked_asked : (conf : Configuration) (links : List (ℕ × Linked)) (slot : ℕ) (effects : Effects) (asks : Bool) (t : RoutingState) → IsFollowed conf links slot effects asks t → effects.left ≡ false → effects.entered ≡ false → AreMarkedFor (is_other slot) conf links t
+marked_asked conf links slot effects asks t h stays still = record {
   there = h.there;
   released = h.released;
   marks = λ s p within is. elim (cases_eq s slot) [

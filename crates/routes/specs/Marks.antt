@@ -75,14 +75,15 @@ pub record IsUnmarked (conf : Configuration) (links : List (ℕ × Linked)) (slo
   pub others : (s : ℕ) (p : Prefix) → s < 64 → s ≢ slot → owed_at t.waiting s p ≡ mark_at conf links t s p
   pub none : (p : Prefix) → owed_at t.waiting slot p ≡ None
 
--- the slot's session has taken an input with these effects: so it is of all other slots, and of this one too, where
--- it neither left nor entered Established, and its peer didn't ask for all routes again or the prefix has no best route
-pub record IsFollowed (conf : Configuration) (links : List (ℕ × Linked)) (slot : ℕ) (effects : Effects) (t : RoutingState) : Type 0 where
+-- the slot's session has taken an input with these effects, and this tells whether its peer asks for a route for which it
+-- hadn't asked: so it is of all other slots, and of this one too, where it neither left nor entered Established, and its peer
+-- doesn't ask so or the prefix has no best route
+pub record IsFollowed (conf : Configuration) (links : List (ℕ × Linked)) (slot : ℕ) (effects : Effects) (asks : Bool) (t : RoutingState) : Type 0 where
   pub within : slot < 64
   pub linked : IsSome (link_at links slot)
   pub there : AreKnown links t
   pub released : (prefix : Prefix) → IsReleased t prefix
   pub others : (s : ℕ) (p : Prefix) → s < 64 → s ≢ slot → owed_at t.waiting s p ≡ mark_at conf links t s p
-  pub same : effects.left ≡ false → effects.entered ≡ false → (p : Prefix) → (effects.refreshed ≡ false) ⊎ (best_at (rows_of t.book) p ≡ None) → owed_at t.waiting slot p ≡ mark_at conf links t slot p
+  pub same : effects.left ≡ false → effects.entered ≡ false → (p : Prefix) → (asks ≡ false) ⊎ (best_at (rows_of t.book) p ≡ None) → owed_at t.waiting slot p ≡ mark_at conf links t slot p
   pub left : effects.left ≡ true → (l : Linked) → link_at links slot ≡ Some l → is_established l.peer.session.state ≡ false
   pub entered : effects.entered ≡ true → (l : Linked) → link_at links slot ≡ Some l → l.adj_out ≡ []

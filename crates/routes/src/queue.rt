@@ -65,8 +65,8 @@ impl<A: Allocator + Clone, B: Book<A>> Routes<A, B> {
         self.routing.told(slot, prefix);
     }
 
-    /// Tells an Established peer the attributes of the prefix that are exported to it. Where memory is refused, nothing
-    /// changes. The UPDATE is written to `message`.
+    /// Tells an Established peer the attributes of the prefix that are exported to it. Memory is taken only where it holds
+    /// others, and where that is refused, nothing changes. The UPDATE is written to `message`.
     pub fn tell_announcement(
         &mut self,
         slot: u8,
@@ -82,6 +82,7 @@ impl<A: Allocator + Clone, B: Book<A>> Routes<A, B> {
         ensures told { OnOk result (TellsSlot slot prefix (Some octets.now.items) self.old self.new) }
         ensures message { OnOk result (message.new.items ≡ update_saying prefix (Some octets.now.items)) }
         ensures err { OnErr result ((s : ℕ) → link_at self.new.links s ≡ link_at self.old.links s) }
+        ensures others { OnErr result ((l : Linked) → link_at self.old.links slot ≡ Some l → held_at l.adj_out prefix ≢ Some octets.now.items) }
         ensures rest { self.new ≡ record self.old { links = self.new.links } }
         ensures payloads { self.new.payloads ≡ self.old.payloads }
     {

@@ -45,8 +45,17 @@ impl<A: Allocator + Clone, B: Book<A>> Routes<A, B> {
         let Some(link) = self.links.get_mut(&slot) else {
             return false;
         };
+        let was_asked = link.adj_out.is_all_asked();
         let effects = link.input(input, now);
-        follow(&self.conf, &self.links, &mut self.routing, slot, &effects);
+        let asks = effects.refreshed && !was_asked;
+        follow(
+            &self.conf,
+            &self.links,
+            &mut self.routing,
+            slot,
+            &effects,
+            asks,
+        );
         effects.opened
     }
 
@@ -142,16 +151,17 @@ impl<A: Allocator + Clone, B: Book<A>> Routes<A, B> {
 }
 
 // Leaving Established removes all routes of the session, with the candidates that they make, and nothing waits for its
-// peer any more. Entering it, the peer waits for all that is exported to it. A peer that asks for all routes again waits for
-// what it holds.
+// peer any more. Entering it, the peer waits for all that is exported to it. A peer that asks for all routes again, of which
+// it hadn't asked for each already, waits for what it holds.
 fn follow<A: Allocator + Clone, B: Book<A>>(
     conf: &Conf<A>,
     links: &Links<A>,
     routing: &mut Routing<A, B>,
     slot: u8,
     effects: &Effects<'_>,
+    asks: bool,
 )
-    requires { IsFollowed conf.now links.now.entries slot effects.now routing.old }
+    requires { IsFollowed conf.now links.now.entries slot effects.now asks routing.old }
     ensures marked { AreMarked conf.now links.now.entries routing.new }
     ensures routes { (s : ℕ) (prefix : ThePrefix) → route_at routing.new.adj_in s prefix ≡ (if effects.now.left && s == slot then None else route_at routing.old.adj_in s prefix) }
     ensures offers { (s : ℕ) (prefix : ThePrefix) → offer_at routing.new.book s prefix ≡ (if effects.now.left && s == slot then None else offer_at routing.old.book s prefix) }
@@ -165,7 +175,7 @@ fn follow<A: Allocator + Clone, B: Book<A>>(
     } else if effects.entered {
         routing.clear(slot);
         routing.enter(conf, links, slot);
-    } else if effects.refreshed {
+    } else if asks {
         routing.mark_slot(conf, links, slot);
     }
 }

@@ -294,7 +294,7 @@ agrees_served config call r queue s passes fair thrifty served =
       thrifty = (fair, passes.owed, thrifty);
     }
 
--- as the run stands, the slot's export has what is new to its peer
+-- as the run stands, the slot's export has what its peer doesn't hold
 is_short : (config : Config) (r : Run) (s : SpeakerState) (slot : ℕ) → Holds config r s → IsLocRib (tables_after config r) s.loc_rib → IsShortAt s slot → IsShortIn config r slot
 is_short config r s slot holds loc_rib short =
     let tables : tables_after config r ≡ tables_of s = tables_same config r s.conf s.payloads (link_at s.links) s.adj_in (sym holds.conf) holds.payloads holds.slots holds.networks in
@@ -308,10 +308,8 @@ is_short config r s slot holds loc_rib short =
       configured = ap (λ c. peer_at c slot) (sym holds.conf) ∙ short.configured;
       established = ap (λ (x : Session). x.state) (sym here.link.peer.session) ∙ short.up;
       room = subst (λ ring. length ring + 8192 ≤ 65536) (sym (ring-is (history config slot r) short.linked.peer here.link.peer)) short.room;
-      news = record {
-        is_export = subst E short.exported (export_of_run config r s slot short.peer short.prefix tables (sym holds.conf) chosen short.configured);
-        news = news_by (history config slot r) short.linked short.prefix (Some short.octets) (Some short.octets) here.link refl short.news;
-      };
+      is_export = subst E short.exported (export_of_run config r s slot short.peer short.prefix tables (sym holds.conf) chosen short.configured);
+      other = λ is. short.other (here.link.held short.prefix ∙ is);
       lowest = settled_below config r s slot holds loc_rib short.below;
     }
 

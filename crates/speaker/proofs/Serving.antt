@@ -318,11 +318,11 @@ Serves-still slot first now new h still =
       queues = queues_still now new still;
     })
 
--- what memory is refused to is exported, and not held just so, or asked for again
+-- what memory is refused to is exported, and not held just so
 pub short_still : (slot : ℕ) (first now new : SpeakerState) (p : Prefix) (peer : ExportPeer) (octets : List ℕ) → (h : Serves slot first now) → slot < 64 → HasRoomAt now slot
-    → Some peer ≡ option_map (export_peer_of first.conf slot) (peer_at first.conf slot) → IsSome (announced_of (export_to now slot p) (held_at h.after.adj_out p) (asked_at h.after.adj_out p))
+    → Some peer ≡ option_map (export_peer_of first.conf slot) (peer_at first.conf slot) → held_at h.after.adj_out p ≢ Some octets
     → export_in now.conf (best_at now.loc_rib) now.adj_in peer p ≡ Some octets → IsStill now new → AreServedBelow first slot → IsShortAt new slot
-short_still slot first now new p peer octets h within room is next some still below =
+short_still slot first now new p peer octets h within room is other some still below =
     let by = served_by slot first now peer h is in
     let exports : export_to now slot p ≡ Some octets = ap (λ e. e slot p) (export_kept first now h.only.rest) ∙ export_now first now slot peer h.only.rest is p ∙ some in
     record {
@@ -336,7 +336,7 @@ short_still slot first now new p peer octets h within room is next some still be
       up = h.up;
       room = room h.after h.is;
       exported = ap (λ e. e slot p) (export_kept now new still.rest) ∙ exports;
-      news = announced_news (export_to now slot p) (held_at h.after.adj_out p) (asked_at h.after.adj_out p) octets exports next;
+      other = other;
       below = below_still slot now new (record { rest = still.rest; others = λ s other. still.links s }) (below_still slot first now h.only below);
     }
 

@@ -125,8 +125,8 @@ pub record IsOwedIn (config : Config) (r : Run) (s : ℕ) (update : List ℕ) : 
   pub lowest : IsLowest config r s
 
 -- as the run stands, the slot's session is Established, 8,192 octets of its ring are free, and the export to it has of some
--- prefix what its peer doesn't hold, or has asked for again; of all slots that are owed something and have room for it this is the
--- lowest
+-- prefix what its peer doesn't hold (telling again what it holds takes no memory); of all slots that are owed something and have
+-- room for it this is the lowest
 pub record IsShortIn (config : Config) (r : Run) (s : ℕ) : Type 0 where
   pub peer : ConfiguredPeer
   pub prefix : Prefix
@@ -134,7 +134,8 @@ pub record IsShortIn (config : Config) (r : Run) (s : ℕ) : Type 0 where
   pub configured : peer_at (configuration_of config r) s ≡ Some peer
   pub established : (session (history config s r)).state ≡ Established
   pub room : length (ring_of (history config s r)) + room_for_update ≤ ring_octets
-  pub news : IsNews config r s peer prefix (Some octets)
+  pub is_export : IsExport (tables_after config r) (export_peer_of (configuration_of config r) s peer) prefix (Some octets)
+  pub other : held (history config s r) prefix ≢ Some octets
   pub lowest : IsLowest config r s
 
 -- what is done for a slot was owed to it: an UPDATE that is queued, and what memory is refused to

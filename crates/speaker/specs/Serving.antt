@@ -44,8 +44,8 @@ HasRoomAt s slot = (l : Linked) → link_at s.links slot ≡ Some l → HasRoom 
 abbrev pub IsNewTo : Linked → Prefix → Option (List ℕ) → Type 0
 IsNewTo l prefix export = (held_at l.adj_out prefix ≢ export) ⊎ (asked_at l.adj_out prefix ≡ true)
 
--- the slot's session is Established, its ring has room, and of some prefix its peer doesn't hold what is exported to it, or has asked
--- for it again; all lower slots are served
+-- the slot's session is Established, its ring has room, and of some prefix its peer doesn't hold what is exported to it; all lower
+-- slots are served
 pub record IsShortAt (s : SpeakerState) (slot : ℕ) : Type 0 where
   pub peer : ConfiguredPeer
   pub linked : Linked
@@ -57,7 +57,7 @@ pub record IsShortAt (s : SpeakerState) (slot : ℕ) : Type 0 where
   pub up : linked.peer.session.state ≡ Established
   pub room : HasRoom linked
   pub exported : export_to s slot prefix ≡ Some octets
-  pub news : IsNewTo linked prefix (Some octets)
+  pub other : held_at linked.adj_out prefix ≢ Some octets
   pub below : AreServedBelow s slot
 
 -- whether a slot is there with an Established session

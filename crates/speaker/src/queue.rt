@@ -217,6 +217,7 @@ impl<A: Allocator + Clone, B: Book<A>> Speaker<A, B> {
         requires exported { export_to self.old slot prefix ≡ Some octets.now.items }
         ensures told { OnOk result (IsToldAt slot prefix (Some octets.now.items) self.old self.new) }
         ensures err { OnErr result (IsStill self.old self.new) }
+        ensures others { OnErr result ((l : Linked) → link_at self.old.links slot ≡ Some l → held_at l.adj_out prefix ≢ Some octets.now.items) }
     {
         self.routes.tell_announcement(slot, prefix, octets, message)
     }

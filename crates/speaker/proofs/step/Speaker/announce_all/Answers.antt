@@ -17,11 +17,10 @@ returns-in_err-announce_at-clause-serves g c = Serves-still _ _ c.loop-prefix.se
 pub returns-in_err-announce_at-clause-short : goal.returns-in_err-announce_at-clause-short
 returns-in_err-announce_at-clause-short g c =
     let h = c.loop-prefix.invariant in
-    let next = c.in-Some.ensures h.serves.after (served_by _ _ _ _ h.serves c.requires.peer) in
     let tells = c.if-export.ensures.tells in
     let some : export_in c.loop-prefix.self.conf (best_at c.loop-prefix.self.loc_rib) c.loop-prefix.self.adj_in c.args.peer.now c.in-Some.prefix ≡ Some c.export.new.octets.items = rw (← c.self.view_is) tells in
     let room : HasRoomAt c.loop-prefix.self c.args.slot = λ l is. (c.has_room.ensures l is).0 (let has = c.if-not-has_room.false in (cc)) in
-    OnErr-is _ _ (short_still c.args.slot c.args.self.now c.loop-prefix.self _ c.in-Some.prefix c.args.peer.now c.export.new.octets.items h.serves c.requires.slot room c.requires.peer next.0 some c.in_err-announce_at.ensures.err c.requires.below)
+    OnErr-is _ _ (short_still c.args.slot c.args.self.now c.loop-prefix.self _ c.in-Some.prefix c.args.peer.now c.export.new.octets.items h.serves c.requires.slot room c.requires.peer (c.in_err-announce_at.ensures.others h.serves.after h.serves.is) some c.in_err-announce_at.ensures.err c.requires.below)
 
 pub loop-prefix-smaller : goal.loop-prefix-smaller
 loop-prefix-smaller g c =
