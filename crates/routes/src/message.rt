@@ -124,7 +124,9 @@ fn judge<'r, A: Allocator + Clone, B: Book<A>>(
         }
         (MessageType::Update, _) => Ok(Input::Update),
         (MessageType::Keepalive, _) => Ok(Input::Keepalive),
-        (MessageType::Notification, _) => Ok(Input::Notification(Notification::read(frame.body, room))),
+        (MessageType::Notification, _) => Ok(Input::Notification(Notification::read(
+            frame.body, room,
+        ))),
         (MessageType::RouteRefresh, _) => Ok(Input::RouteRefresh(is_ipv4_unicast(frame.body))),
     }
 }

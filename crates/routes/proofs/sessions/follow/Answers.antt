@@ -24,11 +24,11 @@ same_marks conf links slot effects asks t h left entered unasked = record {
 pub returns-then-effects-clause-chosen : goal.returns-then-effects-clause-chosen
 returns-then-effects-clause-chosen g c = λ left. ends_all c.args.slot c.args.routing.now c.clear.new.self _ c.clear.ensures.rest c.drop_slot.ensures.chosen
 
-pub returns-then-effects-3-clause-marked : goal.returns-then-effects-3-clause-marked
-returns-then-effects-3-clause-marked g c =
+pub returns-then-asks-clause-marked : goal.returns-then-asks-clause-marked
+returns-then-asks-clause-marked g c =
     let before = marked_asked c.args.conf.now c.args.links.now.entries c.args.slot c.args.effects.now c.args.asks c.args.routing.now c.requires c.if-effects.false c.if-effects-2.false in
     all_marked _ _ _ _ (λ s few. inl (this_or_other c.args.slot s)) (c.mark_slot.ensures.marked (is_other c.args.slot) before)
 
-pub returns-else-effects-3-clause-marked : goal.returns-else-effects-3-clause-marked
-returns-else-effects-3-clause-marked g c =
+pub returns-else-asks-clause-marked : goal.returns-else-asks-clause-marked
+returns-else-asks-clause-marked g c =
     same_marks c.args.conf.now c.args.links.now.entries c.args.slot c.args.effects.now c.args.asks c.args.routing.now c.requires c.if-effects.false c.if-effects-2.false c.if-asks.false
