@@ -24,7 +24,8 @@ IsNumber most value n = (word : List ℕ) × (as_number value ≡ Some word) × 
 -- the AS that an entry gives, if it gives one
 abbrev pub IsAsn : Json → Result (Option declared_asn.Asn) Cause → Type 0
 IsAsn entry (Ok None) = get (name_of named.Asn) entry ≡ None
-IsAsn entry (Ok (Some asn)) = (value : Json) × HasMember named.Asn entry value × IsNumber 10 value asn.0
+IsAsn entry (Ok (Some asn)) =
+    (asn.0 < 2 ^ 32) × (value : Json) × HasMember named.Asn entry value × IsNumber 10 value asn.0
 IsAsn entry (Err fault) =
     (fault ≡ cause.Asn) × (value : Json) × HasMember named.Asn entry value
     × ((asn : ℕ) → asn < 2 ^ 32 → ¬ (IsNumber 10 value asn))

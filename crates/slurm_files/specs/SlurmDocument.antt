@@ -95,3 +95,9 @@ abbrev pub IsSlurm : List ℕ → Result Said SlurmFault → Type 0
 IsSlurm octets result =
     ((octet : ℕ) × (result ≡ Err (fault.Text octet)) × IsNoJson octets octet)
     ⊎ (IsUtf8 octets × (value : Json) × (document octets ≡ Some value) × IsSaid value result)
+
+-- two faults of one text, which is no JSON: where it stops being JSON isn't said
+abbrev pub AreTexts : List ℕ → Result Said SlurmFault → Result Said SlurmFault → Type 0
+AreTexts octets a b =
+    IsUtf8 octets × (document octets ≡ None)
+    × (one : ℕ) × (other : ℕ) × (a ≡ Err (fault.Text one)) × (b ≡ Err (fault.Text other))

@@ -100,7 +100,7 @@ abbrev pub parts_of : Json → Result SlurmParts SlurmFault
 parts_of value = with_halves (halves_of value)
 
 -- what the code keeps of them
-abbrev pub parts_view : Parts → SlurmParts
+abbrev pub parts_view : {A : Type 0} → Parts A → SlurmParts
 parts_view parts = record {
   prefix_filters = map value_view parts.prefix_filters.now;
   bgpsec_filters = map value_view parts.bgpsec_filters.now;

@@ -11,6 +11,7 @@ use crate::names::object_fault;
 use json::Value;
 use local_exceptions::Filter;
 use net_prefix::{Asn, Prefix, Vrp};
+use std::alloc::Allocator;
 
 const PREFIX_FILTER: [Member; 3] = [Member::Prefix, Member::Asn, Member::Comment];
 
@@ -43,7 +44,7 @@ pub enum Entry {
 
 /// What an entry of this array says, or its first fault: of its members' names; then of its members, in the order of the
 /// table.
-pub(crate) fn read_entry(part: Part, entry: &Value<'_>) -> Result<Entry, Cause>
+pub(crate) fn read_entry<A: Allocator>(part: Part, entry: &Value<'_, A>) -> Result<Entry, Cause>
     ensures { IsEntry part (value_view entry.now) result }
 {
     match part {
@@ -55,7 +56,7 @@ pub(crate) fn read_entry(part: Part, entry: &Value<'_>) -> Result<Entry, Cause>
 }
 
 // A filter of prefixes (RFC 8416 section 3.3.1).
-fn prefix_filter(entry: &Value<'_>) -> Result<Entry, Cause>
+fn prefix_filter<A: Allocator>(entry: &Value<'_, A>) -> Result<Entry, Cause>
     ensures { IsEntry part_named.PrefixFilters (value_view entry.now) result }
 {
     if let Some(fault) = object_fault(entry, &PREFIX_FILTER) {
@@ -93,7 +94,7 @@ fn filter_entry(prefix: GivenPrefix, asn: Option<Asn>) -> Result<Entry, Cause>
 }
 
 // A filter of router keys (RFC 8416 section 3.3.2).
-fn bgpsec_filter(entry: &Value<'_>) -> Result<Entry, Cause>
+fn bgpsec_filter<A: Allocator>(entry: &Value<'_, A>) -> Result<Entry, Cause>
     ensures { IsEntry part_named.BgpsecFilters (value_view entry.now) result }
 {
     if let Some(fault) = object_fault(entry, &BGPSEC_FILTER) {
@@ -121,7 +122,7 @@ fn key_filter_of(
 }
 
 // An assertion of a prefix (RFC 8416 section 3.4.1).
-fn prefix_assertion(entry: &Value<'_>) -> Result<Entry, Cause>
+fn prefix_assertion<A: Allocator>(entry: &Value<'_, A>) -> Result<Entry, Cause>
     ensures { IsEntry part_named.PrefixAssertions (value_view entry.now) result }
 {
     if let Some(fault) = object_fault(entry, &PREFIX_ASSERTION) {
@@ -163,7 +164,7 @@ fn payload_of(asn: Asn, prefix: Prefix, max_len: Option<u8>) -> Result<Entry, Ca
 }
 
 // An assertion of a router key (RFC 8416 section 3.4.2).
-fn bgpsec_assertion(entry: &Value<'_>) -> Result<Entry, Cause>
+fn bgpsec_assertion<A: Allocator>(entry: &Value<'_, A>) -> Result<Entry, Cause>
     ensures { IsEntry part_named.BgpsecAssertions (value_view entry.now) result }
 {
     if let Some(fault) = object_fault(entry, &BGPSEC_ASSERTION) {

@@ -12,22 +12,22 @@ use crate::member::Part;
 use crate::parts::{Parts, parts_of};
 use json::{Error, MAX_DEPTH, Reader, Scratch, Value};
 use local_exceptions::{ExceptionFault, Exceptions};
-use std::alloc::{AllocError, Global};
+use std::alloc::{AllocError, Allocator, Global};
 use std::marker::Model;
 use std::str;
 
 /// What a file says.
 #[derive(Drop)]
-pub struct SlurmFile {
+pub struct SlurmFile<A: Allocator = Global> {
     /// The filters and assertions of IPv4 prefixes, and those that match by AS alone.
-    pub exceptions: Exceptions,
+    pub exceptions: Exceptions<A>,
     /// How many entries are of IPv6 prefixes, which are skipped.
     pub ipv6: u64,
     /// How many entries are of keys of BGPsec, which are skipped.
     pub bgpsec: u64,
 }
 
-impl Model for SlurmFile {
+impl<A: Allocator> Model for SlurmFile<A> {
     ghost use Rattle.slurm_files.specs.SlurmDocument.{Said};
 
     ghost Value = { Said };
@@ -36,7 +36,10 @@ impl Model for SlurmFile {
 }
 
 /// What the file of these octets says, or its first fault.
-pub fn read_slurm(alloc: Global, octets: &[u8]) -> Result<SlurmFile, SlurmFault>
+pub fn read_slurm<A: Allocator + Clone + Copy>(
+    alloc: A,
+    octets: &[u8],
+) -> Result<SlurmFile<A>, SlurmFault>
     ensures { (result ≡ Err SlurmFault.NoMemory) ⊎ IsSlurm octets.now result }
 {
     let text = match str::from_utf8(octets) {
@@ -47,7 +50,7 @@ pub fn read_slurm(alloc: Global, octets: &[u8]) -> Result<SlurmFile, SlurmFault>
 }
 
 // What the file of this text says.
-fn read_text(alloc: Global, text: &str) -> Result<SlurmFile, SlurmFault>
+fn read_text<A: Allocator + Clone + Copy>(alloc: A, text: &str) -> Result<SlurmFile<A>, SlurmFault>
     ensures { IsUtf8 text.now → (result ≡ Err SlurmFault.NoMemory) ⊎ IsSlurm text.now result }
 {
     let mut scratch = Scratch::new(alloc);
@@ -59,7 +62,7 @@ fn read_text(alloc: Global, text: &str) -> Result<SlurmFile, SlurmFault>
 }
 
 // The fault of a text that is no value of JSON.
-fn text_fault(alloc: Global, text: &str) -> SlurmFault
+fn text_fault<A: Allocator + Clone + Copy>(alloc: A, text: &str) -> SlurmFault
     ensures { (result ≡ SlurmFault.NoMemory) ⊎ ((octet : ℕ) × (result ≡ SlurmFault.Text octet)) }
 {
     let mut scratch = Scratch::new(alloc);
@@ -73,7 +76,10 @@ fn text_fault(alloc: Global, text: &str) -> SlurmFault
 }
 
 // What the file of this value says.
-fn read_value(alloc: Global, value: &Value<'_>) -> Result<SlurmFile, SlurmFault>
+fn read_value<A: Allocator + Clone + Copy>(
+    alloc: A,
+    value: &Value<'_, A>,
+) -> Result<SlurmFile<A>, SlurmFault>
     ensures { (result ≡ Err SlurmFault.NoMemory) ⊎ IsSaid (value_view value.now) result }
 {
     match parts_of(value) {
@@ -83,7 +89,10 @@ fn read_value(alloc: Global, value: &Value<'_>) -> Result<SlurmFile, SlurmFault>
 }
 
 // What the entries of these arrays say.
-fn read_parts(alloc: Global, parts: &Parts<'_, '_>) -> Result<SlurmFile, SlurmFault>
+fn read_parts<A: Allocator + Clone + Copy>(
+    alloc: A,
+    parts: &Parts<'_, '_, A>,
+) -> Result<SlurmFile<A>, SlurmFault>
     ensures { (result ≡ Err SlurmFault.NoMemory) ⊎ ReadsParts (parts_view parts.now) result }
 {
     let Ok(mut file) = SlurmFile::new(alloc) else {
@@ -96,9 +105,9 @@ fn read_parts(alloc: Global, parts: &Parts<'_, '_>) -> Result<SlurmFile, SlurmFa
     Ok(file)
 }
 
-impl SlurmFile {
+impl<A: Allocator + Clone> SlurmFile<A> {
     /// A file that says nothing.
-    pub fn new(alloc: Global) -> Result<SlurmFile, AllocError>
+    pub fn new(alloc: A) -> Result<SlurmFile<A>, AllocError>
         ensures { IfOk result (λ file. file ≡ nothing_said) }
     {
         let exceptions = Exceptions::new(alloc)?;
@@ -110,7 +119,7 @@ impl SlurmFile {
     }
 
     // Takes in the entries of an array, up to the first fault.
-    fn add_entries(&mut self, part: Part, entries: &[Value<'_>]) -> Result<(), SlurmFault>
+    fn add_entries(&mut self, part: Part, entries: &[Value<'_, A>]) -> Result<(), SlurmFault>
         ensures { (result ≡ Err SlurmFault.NoMemory) ⊎ Reads part 0 (map value_view entries.now) self.old (outcome result self.new) }
     {
         for (place, entry) in entries.iter().enumerate() {

@@ -7,6 +7,7 @@ use crate::fault::Cause;
 use crate::member::Member;
 use json::Value;
 use net_prefix::{Asn, Prefix};
+use std::alloc::Allocator;
 
 // The most digits of an AS number.
 const ASN_DIGITS: usize = 10;
@@ -22,7 +23,7 @@ pub(crate) enum GivenPrefix {
 }
 
 /// The AS of an entry, if it gives one, or that the member is no AS number.
-pub(crate) fn given_asn(entry: &Value<'_>) -> Result<Option<Asn>, Cause>
+pub(crate) fn given_asn<A: Allocator>(entry: &Value<'_, A>) -> Result<Option<Asn>, Cause>
     ensures { IsAsn (value_view entry.now) result }
 {
     let Some(value) = entry.get(Member::Asn.name()) else {
@@ -38,7 +39,7 @@ pub(crate) fn given_asn(entry: &Value<'_>) -> Result<Option<Asn>, Cause>
 }
 
 /// The prefix of an entry, if it gives one, or why the member is none. A text with a colon is taken for one of IPv6.
-pub(crate) fn given_prefix(entry: &Value<'_>) -> Result<GivenPrefix, Cause>
+pub(crate) fn given_prefix<A: Allocator>(entry: &Value<'_, A>) -> Result<GivenPrefix, Cause>
     ensures { IsPrefix (value_view entry.now) result }
 {
     let Some(value) = entry.get(Member::Prefix.name()) else {
@@ -57,7 +58,7 @@ pub(crate) fn given_prefix(entry: &Value<'_>) -> Result<GivenPrefix, Cause>
 }
 
 /// The maximum length of an entry, if it gives one, or that the member is no number of one or two digits.
-pub(crate) fn given_max(entry: &Value<'_>) -> Result<Option<u8>, Cause>
+pub(crate) fn given_max<A: Allocator>(entry: &Value<'_, A>) -> Result<Option<u8>, Cause>
     ensures { IsMax (value_view entry.now) result }
 {
     let Some(value) = entry.get(Member::MaxPrefixLength.name()) else {
@@ -73,7 +74,7 @@ pub(crate) fn given_max(entry: &Value<'_>) -> Result<Option<u8>, Cause>
 }
 
 /// Whether the entry gives a text under this name, or that the member is no text.
-pub(crate) fn given_text(entry: &Value<'_>, member: Member) -> Result<bool, Cause>
+pub(crate) fn given_text<A: Allocator>(entry: &Value<'_, A>, member: Member) -> Result<bool, Cause>
     ensures { result ≡ given_text member (value_view entry.now) }
 {
     match entry.get(member.name()) {

@@ -8,9 +8,10 @@ ghost use Rattle.slurm_files.specs.MemberNames.{is_known, name_fault, names_faul
 use crate::fault::Cause;
 use crate::member::Member;
 use json::Value;
+use std::alloc::Allocator;
 
 /// The first fault of a value that is to be an object with these members, each at most once.
-pub(crate) fn object_fault(value: &Value<'_>, known: &[Member]) -> Option<Cause>
+pub(crate) fn object_fault<A: Allocator>(value: &Value<'_, A>, known: &[Member]) -> Option<Cause>
     ensures { result ≡ object_fault known.now (value_view value.now) }
 {
     match value {
@@ -20,7 +21,7 @@ pub(crate) fn object_fault(value: &Value<'_>, known: &[Member]) -> Option<Cause>
 }
 
 // The first fault of the members.
-fn names_fault(members: &[(&str, Value<'_>)], known: &[Member]) -> Option<Cause>
+fn names_fault<A: Allocator>(members: &[(&str, Value<'_, A>)], known: &[Member]) -> Option<Cause>
     ensures { result ≡ names_fault known.now 0 (map (λ m. m.0.now) members.now) }
 {
     for (place, member) in members.iter().enumerate() {
@@ -32,11 +33,11 @@ fn names_fault(members: &[(&str, Value<'_>)], known: &[Member]) -> Option<Cause>
 }
 
 // The fault of the member of this name at this place, behind which come these.
-fn name_fault(
+fn name_fault<A: Allocator>(
     known: &[Member],
     place: u64,
     name: &str,
-    behind: &[(&str, Value<'_>)],
+    behind: &[(&str, Value<'_, A>)],
 ) -> Option<Cause>
     ensures { result ≡ name_fault known.now place name.now (map (λ m. m.0.now) behind.now) }
 {
@@ -55,7 +56,7 @@ fn is_known(known: &[Member], name: &str) -> bool
     known.iter().any(|member| member.name() == name)
 }
 
-fn is_named(members: &[(&str, Value<'_>)], name: &str) -> bool
+fn is_named<A: Allocator>(members: &[(&str, Value<'_, A>)], name: &str) -> bool
     ensures { result ≡ list_any (λ m. bytes_eq m.0.now name.now) members.now }
 {
     members.iter().any(|member| member.0 == name)

@@ -7,6 +7,7 @@ use crate::fault::{Cause, SlurmFault};
 use crate::member::Member;
 use crate::names::object_fault;
 use json::Value;
+use std::alloc::Allocator;
 
 const FILE: [Member; 3] = [
     Member::SlurmVersion,
@@ -16,15 +17,17 @@ const FILE: [Member; 3] = [
 
 /// The entries of the four arrays.
 #[derive(Drop)]
-pub(crate) struct Parts<'v, 'a> {
-    pub(crate) prefix_filters: &'v [Value<'a>],
-    pub(crate) bgpsec_filters: &'v [Value<'a>],
-    pub(crate) prefix_assertions: &'v [Value<'a>],
-    pub(crate) bgpsec_assertions: &'v [Value<'a>],
+pub(crate) struct Parts<'v, 'a, A: Allocator> {
+    pub(crate) prefix_filters: &'v [Value<'a, A>],
+    pub(crate) bgpsec_filters: &'v [Value<'a, A>],
+    pub(crate) prefix_assertions: &'v [Value<'a, A>],
+    pub(crate) bgpsec_assertions: &'v [Value<'a, A>],
 }
 
 /// The arrays of the value of a file, or the first fault of the objects around them (RFC 8416 section 3.2).
-pub(crate) fn parts_of<'v, 'a>(value: &'v Value<'a>) -> Result<Parts<'v, 'a>, SlurmFault>
+pub(crate) fn parts_of<'v, 'a, A: Allocator>(
+    value: &'v Value<'a, A>,
+) -> Result<Parts<'v, 'a, A>, SlurmFault>
     ensures { MatchResult result (λ parts. parts_of (value_view value.now) ≡ Ok (parts_view parts)) (λ fault. parts_of (value_view value.now) ≡ Err fault) }
 {
     let (filters, assertions) = match halves_of(value) {
@@ -55,7 +58,9 @@ pub(crate) fn parts_of<'v, 'a>(value: &'v Value<'a>) -> Result<Parts<'v, 'a>, Sl
 }
 
 // The filters and the assertions of a file of version 1.
-fn halves_of<'v, 'a>(value: &'v Value<'a>) -> Result<(&'v Value<'a>, &'v Value<'a>), Cause>
+fn halves_of<'v, 'a, A: Allocator>(
+    value: &'v Value<'a, A>,
+) -> Result<(&'v Value<'a, A>, &'v Value<'a, A>), Cause>
     ensures { MatchResult result (λ halves. halves_of (value_view value.now) ≡ Ok (value_view halves.0.now, value_view halves.1.now)) (λ fault. halves_of (value_view value.now) ≡ Err fault) }
 {
     if let Some(fault) = object_fault(value, &FILE) {
@@ -71,11 +76,11 @@ fn halves_of<'v, 'a>(value: &'v Value<'a>) -> Result<(&'v Value<'a>, &'v Value<'
 }
 
 // The arrays under these two names, in an object that has no other members.
-fn arrays_of<'v, 'a>(
-    value: &'v Value<'a>,
+fn arrays_of<'v, 'a, A: Allocator>(
+    value: &'v Value<'a, A>,
     first: Member,
     second: Member,
-) -> Result<(&'v [Value<'a>], &'v [Value<'a>]), Cause>
+) -> Result<(&'v [Value<'a, A>], &'v [Value<'a, A>]), Cause>
     ensures { MatchResult result (λ arrays. arrays_of first second (value_view value.now) ≡ Ok (map value_view arrays.0.now, map value_view arrays.1.now)) (λ fault. arrays_of first second (value_view value.now) ≡ Err fault) }
 {
     if let Some(fault) = object_fault(value, &[first, second]) {
@@ -87,7 +92,10 @@ fn arrays_of<'v, 'a>(
 }
 
 // The array under this name.
-fn array_of<'v, 'a>(value: &'v Value<'a>, member: Member) -> Result<&'v [Value<'a>], Cause>
+fn array_of<'v, 'a, A: Allocator>(
+    value: &'v Value<'a, A>,
+    member: Member,
+) -> Result<&'v [Value<'a, A>], Cause>
     ensures { MatchResult result (λ entries. array_of member (value_view value.now) ≡ Ok (map value_view entries.now)) (λ fault. array_of member (value_view value.now) ≡ Err fault) }
 {
     match member_of(value, member)? {
@@ -97,7 +105,10 @@ fn array_of<'v, 'a>(value: &'v Value<'a>, member: Member) -> Result<&'v [Value<'
 }
 
 // The member of this name.
-fn member_of<'v, 'a>(value: &'v Value<'a>, member: Member) -> Result<&'v Value<'a>, Cause>
+fn member_of<'v, 'a, A: Allocator>(
+    value: &'v Value<'a, A>,
+    member: Member,
+) -> Result<&'v Value<'a, A>, Cause>
     ensures { MatchResult result (λ found. member_of member (value_view value.now) ≡ Ok (value_view found.now)) (λ fault. member_of member (value_view value.now) ≡ Err fault) }
 {
     match value.get(member.name()) {

@@ -6,7 +6,7 @@ use Rattle.slurm_files.proofs.GivenValues.{has_value, no_number, none_written}
 use Rattle.slurm_files.proofs.given.given_asn.Goals as goal
 
 pub returns-in_default-as_number : goal.returns-in_default-as_number
-returns-in_default-as_number c = (
+returns-in_default-as_number g c = (
   refl,
   value_view c.in-Some.value.now,
   has_value c.name.result.now (name_of Asn) (value_view c.args.entry.now) (value_view c.in-Some.value.now) c.name.ensures c.in-Some.ensures,
@@ -14,7 +14,7 @@ returns-in_default-as_number c = (
 )
 
 pub returns-in-None : goal.returns-in-None
-returns-in-None c = (
+returns-in-None g c = (
   refl,
   value_view c.in-Some.value.now,
   has_value c.name.result.now (name_of Asn) (value_view c.args.entry.now) (value_view c.in-Some.value.now) c.name.ensures c.in-Some.ensures,

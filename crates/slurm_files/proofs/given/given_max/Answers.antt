@@ -7,7 +7,7 @@ use Rattle.slurm_files.proofs.GivenValues.{has_value, no_number, none_short}
 use Rattle.slurm_files.proofs.given.given_max.Goals as goal
 
 pub returns-in_default-as_number : goal.returns-in_default-as_number
-returns-in_default-as_number c = (
+returns-in_default-as_number g c = (
   refl,
   value_view c.in-Some.value.now,
   has_value c.name.result.now (name_of MaxPrefixLength) (value_view c.args.entry.now) (value_view c.in-Some.value.now) c.name.ensures c.in-Some.ensures,
@@ -15,10 +15,10 @@ returns-in_default-as_number c = (
 )
 
 pub overflow_cast-result : goal.overflow_cast-result
-overflow_cast-result c = omega (arith, two_digits _ _ c.in-Some-read_number.ensures)
+overflow_cast-result g c = omega (arith, two_digits _ _ c.in-Some-read_number.ensures)
 
 pub returns-in-None : goal.returns-in-None
-returns-in-None c = (
+returns-in-None g c = (
   refl,
   value_view c.in-Some.value.now,
   has_value c.name.result.now (name_of MaxPrefixLength) (value_view c.args.entry.now) (value_view c.in-Some.value.now) c.name.ensures c.in-Some.ensures,

@@ -5,5 +5,5 @@ use Rattle.slurm_files.specs.declared.fault.SlurmFault.{SlurmFault}
 use Rattle.slurm_files.proofs.file.SlurmFile.add_entries.Given as goal
 
 abbrev pub invariant-loop-place : goal.invariant-loop-place
-invariant-loop-place l =
+invariant-loop-place g l =
     (result : Result Said SlurmFault) → Reads l.part l.place (map value_view (drop l.place l.entries)) l.self result → Reads l.part 0 (map value_view l.entries) l.fn.self result
