@@ -29,6 +29,6 @@ policy_fault words name body (Ok line) fault are told rules = absurd told
 policy_fault words name body (Err BadLine) fault are told rules =
     let none : AreNoRules (rule_groups body) = subst (λ why. ReadsRules body (Err why)) (sym told) rules in
     policy_none words (λ other those is.
-        let same : is.0 ≡ body = let stands = is.1 in cc in
-        none those (subst (λ (ws : List (List ℕ)). AreRules (rule_groups ws) those) same is.3))
+    let same : is.0 ≡ body = let stands = is.1 in cc in
+    none those (subst (λ (ws : List (List ℕ)). AreRules (rule_groups ws) those) same is.3))
 policy_fault words name body (Err NoMemory) fault are told rules = tt

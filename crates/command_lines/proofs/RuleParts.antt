@@ -51,8 +51,10 @@ begin_later words rule is = record {
   where
     in_froms : (other : List ℕ) → other ≢ codes "from" → other ≢ codes "reject" → other ≢ codes "accept" → ¬ (Begin is.froms other)
     in_froms other from reject accept = number_begins 8 (codes "from") is.froms _ is.actions other is.from from (action_begins is.actions rule.action other is.action reject accept)
+
     in_paths : (other : List ℕ) → other ≢ codes "path" → other ≢ codes "from" → other ≢ codes "reject" → other ≢ codes "accept" → ¬ (Begin is.paths other)
     in_paths other path from reject accept = number_begins 32 (codes "path") is.paths _ is.froms other is.path path (in_froms other from reject accept)
+
     in_origins : (other : List ℕ) → other ≢ codes "origin" → other ≢ codes "path" → other ≢ codes "from" → other ≢ codes "reject" → other ≢ codes "accept" → ¬ (Begin is.origins other)
     in_origins other origin path from reject accept = number_begins 32 (codes "origin") is.origins _ is.paths other is.origin origin (in_paths other path from reject accept)
 
@@ -93,10 +95,13 @@ test_of words prefix from to behind are (Some range) rest is none =
   where
     third_is : {w a b c d e f : List ℕ} {r s : List (List ℕ)} → w ∷ a ∷ b ∷ c ∷ r ≡ w ∷ d ∷ e ∷ f ∷ s → d ≡ a
     third_is same = cc
+
     fourth_is : {w a b c d e f : List ℕ} {r s : List (List ℕ)} → w ∷ a ∷ b ∷ c ∷ r ≡ w ∷ d ∷ e ∷ f ∷ s → e ≡ b
     fourth_is same = cc
+
     fifth_is : {w a b c d e f : List ℕ} {r s : List (List ℕ)} → w ∷ a ∷ b ∷ c ∷ r ≡ w ∷ d ∷ e ∷ f ∷ s → f ≡ c
     fifth_is same = cc
+
     behind_is : {w a b c d e f : List ℕ} {r s : List (List ℕ)} → w ∷ a ∷ b ∷ c ∷ r ≡ w ∷ d ∷ e ∷ f ∷ s → r ≡ s
     behind_is same = cc
 

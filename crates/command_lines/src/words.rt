@@ -42,7 +42,9 @@ pub(crate) fn two_words<'a>(words: &[&'a str]) -> Option<(&'a str, &'a str)>
 }
 
 /// The first three words, and those behind them.
-pub(crate) fn first_three<'w, 'a>(words: &'w [&'a str]) -> Option<(&'a str, &'a str, &'a str, &'w [&'a str])>
+pub(crate) fn first_three<'w, 'a>(
+    words: &'w [&'a str],
+) -> Option<(&'a str, &'a str, &'a str, &'w [&'a str])>
     ensures { MatchOption result ((first second third : List ℕ) (rest : List (List ℕ)) → map (λ word. word.now) words.now ≢ first ∷ second ∷ third ∷ rest) (λ cut. map (λ word. word.now) words.now ≡ cut.0.now ∷ cut.1.now ∷ cut.2.now ∷ map (λ word. word.now) cut.3.now) }
 {
     let [first, second, third, rest @ ..] = words else {
