@@ -1,1 +1,7 @@
+pub mod FirstWords
+pub mod Numbers
+pub mod PrefixWords
+pub mod ReadLines
 pub mod RuleLines
+pub mod RuleParts
+pub mod SingleWords

@@ -7,9 +7,12 @@ use Rattle.bgp_conf.specs.declared.command.PeerConf.{PeerConf}
 use Rattle.net_prefix.specs.PrefixText.{Writes}
 use Rattle.net_prefix.specs.declared.prefix.Prefix.{Prefix}
 use Rattle.policy.specs.declared.rule.Rule.{Rule}
+use Rattle.command_lines.specs.Keywords.{text_of}
 use Rattle.command_lines.specs.RuleWords.{AreRules, rule_groups}
-use Rattle.command_lines.specs.Words.{WritesAddress, WritesNumber, mode_word}
+use Rattle.command_lines.specs.Words.{IsName, WritesAddress, WritesBits, mode_word}
 use Rattle.command_lines.specs.declared.command_line.CommandLine.{CommandLine}
+use Rattle.command_lines.specs.declared.keywords.Keyword.{Keyword}
+use Rattle.command_lines.specs.declared.keywords.Keyword.TheVariants as word
 use Rattle.command_lines.specs.declared.command_line.CommandLine.TheVariants.{Plain, SetPolicy as SetOwnPolicy}
 
 -- the word writes the prefix
@@ -19,49 +22,87 @@ WritesPrefix word prefix = Writes word prefix.bits prefix.len
 -- `active|passive HOLD IMPORT EXPORT`
 abbrev pub AreTerms : List (List ℕ) → Mode → ℕ → List ℕ → List ℕ → Type 0
 AreTerms words mode hold import export =
-    (way : List ℕ) × (seconds : List ℕ) × (words ≡ way ∷ seconds ∷ import ∷ export ∷ []) × (way ≡ mode_word mode) × WritesNumber seconds hold
+    (way : List ℕ) × (seconds : List ℕ) × (words ≡ way ∷ seconds ∷ import ∷ export ∷ []) × (way ≡ mode_word mode) × WritesBits 16 seconds hold
+    × IsName import × IsName export
 
 -- `AS ADDRESS LOCAL active|passive HOLD IMPORT EXPORT`
 abbrev pub IsPeer : List (List ℕ) → PeerConf → Type 0
 IsPeer words peer =
     (asn : List ℕ) × (address : List ℕ) × (local : List ℕ) × (terms : List (List ℕ)) × (words ≡ asn ∷ address ∷ local ∷ terms)
-    × WritesNumber asn peer.asn.0 × WritesAddress address peer.address × WritesAddress local peer.local
+    × WritesBits 32 asn peer.asn.0 × WritesAddress address peer.address × WritesAddress local peer.local
     × AreTerms terms peer.mode peer.hold peer.import.now peer.export.now
 
--- a name and a slot
-abbrev pub SaysSlot : List ℕ → List (List ℕ) → ℕ → Type 0
-SaysSlot name words slot = (word : List ℕ) × (words ≡ name ∷ word ∷ []) × WritesNumber word slot
+-- a slot
+abbrev pub IsSlot : List (List ℕ) → ℕ → Type 0
+IsSlot words slot = (word : List ℕ) × (words ≡ word ∷ []) × WritesBits 8 word slot
 
--- `use`, `in` or `out`, a slot and a policy
-abbrev pub SaysUse : List ℕ → List (List ℕ) → ℕ → List ℕ → Type 0
-SaysUse way words slot policy = (word : List ℕ) × (words ≡ codes "use" ∷ way ∷ word ∷ policy ∷ []) × WritesNumber word slot
+-- a name
+abbrev pub IsNamed : List (List ℕ) → List ℕ → Type 0
+IsNamed words name = (words ≡ name ∷ []) × IsName name
 
--- a name and a prefix
-abbrev pub SaysPrefix : List ℕ → List (List ℕ) → Prefix → Type 0
-SaysPrefix name words prefix = (word : List ℕ) × (words ≡ name ∷ word ∷ []) × WritesPrefix word prefix
+-- `in` or `out`, a slot and a policy
+abbrev pub IsUse : List ℕ → List (List ℕ) → ℕ → List ℕ → Type 0
+IsUse way words slot policy = (word : List ℕ) × (words ≡ way ∷ word ∷ policy ∷ []) × WritesBits 8 word slot × IsName policy
 
--- `policy NAME RULE ; RULE ..`
-abbrev pub SaysPolicy : List (List ℕ) → List ℕ → List Rule → Type 0
-SaysPolicy words name rules = (body : List (List ℕ)) × (words ≡ codes "policy" ∷ name ∷ body) × AreRules (rule_groups body) rules
+-- a prefix
+abbrev pub IsPrefixWord : List (List ℕ) → Prefix → Type 0
+IsPrefixWord words prefix = (word : List ℕ) × (words ≡ word ∷ []) × WritesPrefix word prefix
+
+-- a prefix and a cost
+abbrev pub IsReach : List (List ℕ) → Prefix → ℕ → Type 0
+IsReach words prefix cost = (word : List ℕ) × (number : List ℕ) × (words ≡ word ∷ number ∷ []) × WritesPrefix word prefix × WritesBits 32 number cost
+
+-- a slot, and what is said of its peer
+abbrev pub IsSlotAndPeer : List (List ℕ) → ℕ → PeerConf → Type 0
+IsSlotAndPeer words slot peer = (word : List ℕ) × (body : List (List ℕ)) × (words ≡ word ∷ body) × WritesBits 8 word slot × IsPeer body peer
+
+-- `NAME RULE ; RULE ..`
+abbrev pub IsPolicy : List (List ℕ) → List ℕ → List Rule → Type 0
+IsPolicy words name rules = (body : List (List ℕ)) × (words ≡ name ∷ body) × IsName name × AreRules (rule_groups body) rules
+
+-- the first word of a command
+abbrev pub keyword_in : Command → Keyword
+keyword_in (AddPeer slot peer) = word.Peer
+keyword_in (RemovePeer slot) = word.Drop
+keyword_in (Enable slot) = word.Enable
+keyword_in (Disable slot) = word.Disable
+keyword_in (SetPolicy name rules) = word.Policy
+keyword_in (DropPolicy name) = word.NoPolicy
+keyword_in (UseIn slot policy) = word.Use
+keyword_in (UseOut slot policy) = word.Use
+keyword_in (Network prefix) = word.Network
+keyword_in (NoNetwork prefix) = word.NoNetwork
+keyword_in (Reach prefix cost) = word.Reach
+keyword_in (NoReach prefix) = word.NoReach
+
+-- how it is spelled
+abbrev pub word_of : Command → List ℕ
+word_of command = text_of (keyword_in command)
+
+-- the words behind its first one
+abbrev pub AreBehind : Command → List (List ℕ) → Type 0
+AreBehind (AddPeer slot peer) words = IsSlotAndPeer words slot peer
+AreBehind (RemovePeer slot) words = IsSlot words slot
+AreBehind (Enable slot) words = IsSlot words slot
+AreBehind (Disable slot) words = IsSlot words slot
+AreBehind (SetPolicy name rules) words = IsPolicy words name.now rules.now
+AreBehind (DropPolicy name) words = IsNamed words name.now
+AreBehind (UseIn slot policy) words = IsUse (codes "in") words slot policy.now
+AreBehind (UseOut slot policy) words = IsUse (codes "out") words slot policy.now
+AreBehind (Network prefix) words = IsPrefixWord words prefix
+AreBehind (NoNetwork prefix) words = IsPrefixWord words prefix
+AreBehind (Reach prefix cost) words = IsReach words prefix cost
+AreBehind (NoReach prefix) words = IsPrefixWord words prefix
 
 -- the words say this command
 abbrev pub Says : List (List ℕ) → Command → Type 0
-Says words (AddPeer slot peer) =
-    (word : List ℕ) × (body : List (List ℕ)) × (words ≡ codes "peer" ∷ word ∷ body) × WritesNumber word slot × IsPeer body peer
-Says words (RemovePeer slot) = SaysSlot (codes "drop") words slot
-Says words (Enable slot) = SaysSlot (codes "enable") words slot
-Says words (Disable slot) = SaysSlot (codes "disable") words slot
-Says words (SetPolicy name rules) = SaysPolicy words name.now rules.now
-Says words (DropPolicy name) = words ≡ codes "nopolicy" ∷ name.now ∷ []
-Says words (UseIn slot policy) = SaysUse (codes "in") words slot policy.now
-Says words (UseOut slot policy) = SaysUse (codes "out") words slot policy.now
-Says words (Network prefix) = SaysPrefix (codes "network") words prefix
-Says words (NoNetwork prefix) = SaysPrefix (codes "nonetwork") words prefix
-Says words (Reach prefix cost) =
-    (word : List ℕ) × (number : List ℕ) × (words ≡ codes "reach" ∷ word ∷ number ∷ []) × WritesPrefix word prefix × WritesNumber number cost
-Says words (NoReach prefix) = SaysPrefix (codes "noreach") words prefix
+Says words command = (behind : List (List ℕ)) × (words ≡ word_of command ∷ behind) × AreBehind command behind
 
--- the same of a line that has been read
+-- the words say no command
+abbrev pub SayNone : List (List ℕ) → Type 0
+SayNone words = (command : Command) → ¬ (Says words command)
+
+-- the same as `Says` of a line that has been read
 abbrev pub SaysLine : List (List ℕ) → CommandLine → Type 0
 SaysLine words (Plain command) = Says words command
-SaysLine words (SetOwnPolicy name rules) = SaysPolicy words name.now rules.items
+SaysLine words (SetOwnPolicy name rules) = (behind : List (List ℕ)) × (words ≡ codes "policy" ∷ behind) × IsPolicy behind name.now rules.items

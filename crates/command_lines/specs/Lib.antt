@@ -1,3 +1,4 @@
 pub mod CommandWords
+pub mod Keywords
 pub mod RuleWords
 pub mod Words

@@ -11,7 +11,7 @@ use Rattle.policy.specs.declared.rule.Action.{Action}
 use Rattle.policy.specs.declared.rule.Action.TheVariants.{Reject, Accept}
 use Rattle.policy.specs.declared.rule.PrefixRange.{PrefixRange}
 use Rattle.policy.specs.declared.rule.Rule.{Rule}
-use Rattle.command_lines.specs.Words.{WritesNumber}
+use Rattle.command_lines.specs.Words.{WritesBits}
 
 -- rules stand apart by a semicolon
 abbrev pub are_apart : List ℕ → Bool
@@ -26,7 +26,7 @@ abbrev pub IsPrefixTest : List (List ℕ) → Option PrefixRange → List (List 
 IsPrefixTest words None rest = words ≡ rest
 IsPrefixTest words (Some range) rest =
     (prefix : List ℕ) × (from : List ℕ) × (to : List ℕ) × (words ≡ codes "prefix" ∷ prefix ∷ from ∷ to ∷ rest)
-    × Writes prefix range.prefix.bits range.prefix.len × WritesNumber from range.from × WritesNumber to range.to
+    × Writes prefix range.prefix.bits range.prefix.len × WritesBits 8 from range.from × WritesBits 8 to range.to
 
 abbrev pub state_word : Validity → List ℕ
 state_word Valid = codes "valid"
@@ -38,17 +38,17 @@ abbrev pub IsStateTest : List (List ℕ) → Option Validity → List (List ℕ)
 IsStateTest words None rest = words ≡ rest
 IsStateTest words (Some state) rest = words ≡ codes "state" ∷ state_word state ∷ rest
 
--- a name and a number, if they are there, and the words behind them
-abbrev pub IsNumbered : List ℕ → List (List ℕ) → Option ℕ → List (List ℕ) → Type 0
-IsNumbered name words None rest = words ≡ rest
-IsNumbered name words (Some number) rest = (word : List ℕ) × (words ≡ name ∷ word ∷ rest) × WritesNumber word number
+-- a name and a number of so many bits, if they are there, and the words behind them
+abbrev pub IsNumbered : ℕ → List ℕ → List (List ℕ) → Option ℕ → List (List ℕ) → Type 0
+IsNumbered bits name words None rest = words ≡ rest
+IsNumbered bits name words (Some number) rest = (word : List ℕ) × (words ≡ name ∷ word ∷ rest) × WritesBits bits word number
 
 -- `reject`, or `accept` and what it sets
 abbrev pub IsAction : List (List ℕ) → Action → Type 0
 IsAction words Reject = words ≡ codes "reject" ∷ []
 IsAction words (Accept degree med prepend) =
     (degrees : List (List ℕ)) × (meds : List (List ℕ)) × (prepends : List (List ℕ)) × (words ≡ codes "accept" ∷ degrees)
-    × IsNumbered (codes "degree") degrees degree meds × IsNumbered (codes "med") meds med prepends × IsNumbered (codes "prepend") prepends prepend []
+    × IsNumbered 32 (codes "degree") degrees degree meds × IsNumbered 32 (codes "med") meds med prepends × IsNumbered 8 (codes "prepend") prepends prepend []
 
 -- the number of an AS
 abbrev pub number_of : Option Asn → Option ℕ
@@ -63,9 +63,9 @@ pub record IsRule (words : List (List ℕ)) (rule : Rule) : Type 0 where
   pub actions : List (List ℕ)
   pub prefix : IsPrefixTest words rule.condition.prefix states
   pub state : IsStateTest states rule.condition.state origins
-  pub origin : IsNumbered (codes "origin") origins (number_of rule.condition.origin) paths
-  pub path : IsNumbered (codes "path") paths (number_of rule.condition.path) froms
-  pub from : IsNumbered (codes "from") froms rule.condition.from actions
+  pub origin : IsNumbered 32 (codes "origin") origins (number_of rule.condition.origin) paths
+  pub path : IsNumbered 32 (codes "path") paths (number_of rule.condition.path) froms
+  pub from : IsNumbered 8 (codes "from") froms rule.condition.from actions
   pub action : IsAction actions rule.action
 
 -- each group of words is a rule, in order
@@ -74,3 +74,7 @@ AreRules [] [] = ⊤
 AreRules [] (rule ∷ rules) = ⊥
 AreRules (words ∷ groups) [] = ⊥
 AreRules (words ∷ groups) (rule ∷ rules) = IsRule words rule × AreRules groups rules
+
+-- the words are rules of none
+abbrev pub AreNoRules : List (List (List ℕ)) → Type 0
+AreNoRules groups = (rules : List Rule) → ¬ (AreRules groups rules)

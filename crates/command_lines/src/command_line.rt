@@ -1,12 +1,14 @@
 //! The command of a line.
-ghost use Rattle.std.specs.Prelude.{◌≡◌, ◌∷◌, ℕ, List, IfOk, IfSome, codes, map};
-ghost use Rattle.command_lines.specs.CommandWords.{AreTerms, IsPeer, Says, SaysLine};
-ghost use Rattle.command_lines.specs.Words.{words_in};
+ghost use Rattle.std.specs.Prelude.{◌≡◌, ◌≢◌, ◌∷◌, ℕ, List, MatchOption, codes, map};
+ghost use Rattle.bgp_attr.specs.declared.peer.Mode.{Mode as Way};
+ghost use Rattle.command_lines.specs.CommandWords.{AreTerms, IsNamed, IsPeer, IsPrefixWord, IsSlot, SayNone, Says, SaysLine};
+ghost use Rattle.command_lines.specs.Words.{Finds, IsName, Reads, words_in};
 ghost use Rattle.command_lines.specs.declared.command_line.LineFault.TheVariants.{NoMemory};
 
-use crate::fields::{address, long, mode_of, name_of, octet, short};
+use crate::fields::{address, is_word, long, mode_of, name_of, octet, prefix_of, short};
+use crate::keywords::{Keyword, keyword_of};
 use crate::rules::rules_of;
-use crate::words::words_of;
+use crate::words::{first_three, first_word, only_word, two_words, words_of};
 use bgp_attr::Mode;
 use bgp_conf::{Command, PeerConf, Rule};
 use net_prefix::{Asn, Prefix};
@@ -46,7 +48,7 @@ pub enum CommandLine<'a> {
 impl CommandLine<'_> {
     /// What the words of a text command.
     pub fn parse(alloc: Global, text: &str) -> Result<CommandLine<'_>, LineFault>
-        ensures { IfOk result (SaysLine (words_in text.now)) }
+        ensures { Reads (SaysLine (words_in text.now)) (SayNone (words_in text.now)) result }
     {
         let words = words_of(alloc, text)?;
         CommandLine::of(alloc, words.as_slice())
@@ -54,14 +56,17 @@ impl CommandLine<'_> {
 
     /// What words command.
     pub fn of<'a>(alloc: Global, words: &[&'a str]) -> Result<CommandLine<'a>, LineFault>
-        ensures { IfOk result (SaysLine (map (λ word. word.now) words.now)) }
+        ensures { Reads (SaysLine (map (λ word. word.now) words.now)) (SayNone (map (λ word. word.now) words.now)) result }
     {
-        match words {
-            ["policy", name, words @ ..] => policy(alloc, name, words),
-            words => match command(words) {
-                Some(command) => Ok(CommandLine::Plain(command)),
-                None => Err(LineFault::BadLine),
-            },
+        let Some((word, words)) = first_word(words) else {
+            return Err(LineFault::BadLine);
+        };
+        if is_word(word, "policy") {
+            return policy(alloc, words);
+        }
+        match command(word, words) {
+            Some(command) => Ok(CommandLine::Plain(command)),
+            None => Err(LineFault::BadLine),
         }
     }
 
@@ -76,71 +81,95 @@ impl CommandLine<'_> {
     }
 }
 
-fn policy<'a>(
-    alloc: Global,
-    name: &&'a str,
-    words: &[&'a str],
-) -> Result<CommandLine<'a>, LineFault>
-    ensures { IfOk result (SaysLine (codes "policy" ∷ name.now.now ∷ map (λ word. word.now) words.now)) }
+// The policy that the words behind `policy` set.
+fn policy<'a>(alloc: Global, words: &[&'a str]) -> Result<CommandLine<'a>, LineFault>
+    ensures { Reads (SaysLine (codes "policy" ∷ map (λ word. word.now) words.now)) (SayNone (codes "policy" ∷ map (λ word. word.now) words.now)) result }
 {
-    let Some(name) = name_of(name) else {
+    let Some((name, words)) = named_rules(words) else {
         return Err(LineFault::BadLine);
     };
     let rules = rules_of(alloc, words)?;
     Ok(CommandLine::SetPolicy(name, rules))
 }
 
-fn command<'a>(words: &[&'a str]) -> Option<Command<'a>>
-    ensures { IfSome result (Says (map (λ word. word.now) words.now)) }
+// The name of a policy, and the words of its rules.
+fn named_rules<'w, 'a>(words: &'w [&'a str]) -> Option<(&'a str, &'w [&'a str])>
+    ensures { MatchOption result ((name : List ℕ) (body : List (List ℕ)) → map (λ word. word.now) words.now ≡ name ∷ body → ¬ (IsName name)) (λ read. (map (λ word. word.now) words.now ≡ read.0.now ∷ map (λ word. word.now) read.1.now) × IsName read.0.now) }
 {
-    if let ["peer", ..] = words {
-        return add_peer(words);
+    let (word, words) = first_word(words)?;
+    Some((name_of(word)?, words))
+}
+
+// The command that a first word and those behind it say, save that of a policy's rules.
+fn command<'a>(word: &str, words: &[&'a str]) -> Option<Command<'a>>
+    ensures { MatchOption result (word.now ≢ codes "policy" → SayNone (word.now ∷ map (λ word. word.now) words.now)) (Says (word.now ∷ map (λ word. word.now) words.now)) }
+{
+    let keyword = keyword_of(word)?;
+    match keyword {
+        Keyword::Peer => add_peer(words),
+        Keyword::Drop => Some(Command::RemovePeer(slot(words)?)),
+        Keyword::Enable => Some(Command::Enable(slot(words)?)),
+        Keyword::Disable => Some(Command::Disable(slot(words)?)),
+        Keyword::Policy => None,
+        Keyword::NoPolicy => Some(Command::DropPolicy(name(words)?)),
+        Keyword::Use => use_policy(words),
+        Keyword::Network => Some(Command::Network(prefix(words)?)),
+        Keyword::NoNetwork => Some(Command::NoNetwork(prefix(words)?)),
+        Keyword::Reach => reach(words),
+        Keyword::NoReach => Some(Command::NoReach(prefix(words)?)),
     }
-    let command = match words {
-        ["drop", slot] => Command::RemovePeer(octet(slot)?),
-        ["enable", slot] => Command::Enable(octet(slot)?),
-        ["disable", slot] => Command::Disable(octet(slot)?),
-        ["use", "in", slot, name] => Command::UseIn(octet(slot)?, name_of(name)?),
-        ["use", "out", slot, name] => Command::UseOut(octet(slot)?, name_of(name)?),
-        words => return command_for_all(words),
-    };
-    Some(command)
+}
+
+fn slot(words: &[&str]) -> Option<u8>
+    ensures { Finds (IsSlot (map (λ word. word.now) words.now)) result }
+{
+    octet(only_word(words)?)
+}
+
+fn name<'a>(words: &[&'a str]) -> Option<&'a str>
+    ensures { MatchOption result ((name : List ℕ) → ¬ (IsNamed (map (λ word. word.now) words.now) name)) (λ name. IsNamed (map (λ word. word.now) words.now) name.now) }
+{
+    name_of(only_word(words)?)
+}
+
+fn prefix(words: &[&str]) -> Option<Prefix>
+    ensures { Finds (IsPrefixWord (map (λ word. word.now) words.now)) result }
+{
+    prefix_of(only_word(words)?)
+}
+
+fn reach<'a>(words: &[&'a str]) -> Option<Command<'a>>
+    ensures { MatchOption result (SayNone (codes "reach" ∷ map (λ word. word.now) words.now)) (Says (codes "reach" ∷ map (λ word. word.now) words.now)) }
+{
+    let (prefix, cost) = two_words(words)?;
+    Some(Command::Reach(prefix_of(prefix)?, long(cost)?))
+}
+
+fn use_policy<'a>(words: &[&'a str]) -> Option<Command<'a>>
+    ensures { MatchOption result (SayNone (codes "use" ∷ map (λ word. word.now) words.now)) (Says (codes "use" ∷ map (λ word. word.now) words.now)) }
+{
+    let (way, words) = first_word(words)?;
+    let (number, policy) = two_words(words)?;
+    let slot = octet(number)?;
+    let name = name_of(policy)?;
+    if is_word(way, "in") {
+        return Some(Command::UseIn(slot, name));
+    }
+    if is_word(way, "out") {
+        return Some(Command::UseOut(slot, name));
+    }
+    None
 }
 
 fn add_peer<'a>(words: &[&'a str]) -> Option<Command<'a>>
-    ensures { IfSome result (Says (map (λ word. word.now) words.now)) }
+    ensures { MatchOption result (SayNone (codes "peer" ∷ map (λ word. word.now) words.now)) (Says (codes "peer" ∷ map (λ word. word.now) words.now)) }
 {
-    let (slot, terms) = words_of_peer(words)?;
+    let (slot, terms) = first_word(words)?;
     Some(Command::AddPeer(octet(slot)?, peer(terms)?))
 }
 
-// The slot of a peer, and what is said of it.
-fn words_of_peer<'w, 'a>(words: &'w [&'a str]) -> Option<(&'a str, &'w [&'a str])>
-    ensures { IfSome result (λ cut. map (λ word. word.now) words.now ≡ codes "peer" ∷ cut.0.now ∷ map (λ word. word.now) cut.1.now) }
-{
-    match words {
-        ["peer", slot, rest @ ..] => Some((*slot, rest)),
-        _ => None,
-    }
-}
-
-// A command that is for no slot alone.
-fn command_for_all<'a>(words: &[&'a str]) -> Option<Command<'a>>
-    ensures { IfSome result (Says (map (λ word. word.now) words.now)) }
-{
-    let command = match words {
-        ["nopolicy", name] => Command::DropPolicy(name_of(name)?),
-        ["network", prefix] => Command::Network(Prefix::parse(prefix).ok()?),
-        ["nonetwork", prefix] => Command::NoNetwork(Prefix::parse(prefix).ok()?),
-        ["reach", prefix, cost] => Command::Reach(Prefix::parse(prefix).ok()?, long(cost)?),
-        ["noreach", prefix] => Command::NoReach(Prefix::parse(prefix).ok()?),
-        _ => return None,
-    };
-    Some(command)
-}
-
 fn peer<'a>(words: &[&'a str]) -> Option<PeerConf<'a>>
-    ensures { IfSome result (IsPeer (map (λ word. word.now) words.now)) }
+    ensures { Finds (IsPeer (map (λ word. word.now) words.now)) result }
 {
     let (asn, peer_address, local, terms) = first_three(words)?;
     let (mode, hold, import, export) = terms_of(terms)?;
@@ -155,19 +184,9 @@ fn peer<'a>(words: &[&'a str]) -> Option<PeerConf<'a>>
     })
 }
 
-// The first three words, and those behind them.
-fn first_three<'w, 'a>(words: &'w [&'a str]) -> Option<(&'a str, &'a str, &'a str, &'w [&'a str])>
-    ensures { IfSome result (λ cut. map (λ word. word.now) words.now ≡ cut.0.now ∷ cut.1.now ∷ cut.2.now ∷ map (λ word. word.now) cut.3.now) }
-{
-    let [first, second, third, rest @ ..] = words else {
-        return None;
-    };
-    Some((*first, *second, *third, rest))
-}
-
 // Which side connects, the hold time, and the import and the export policy.
 fn terms_of<'a>(words: &[&'a str]) -> Option<(Mode, u16, &'a str, &'a str)>
-    ensures { IfSome result (λ terms. AreTerms (map (λ word. word.now) words.now) terms.0 terms.1 terms.2.now terms.3.now) }
+    ensures { MatchOption result ((mode : Way) (hold : ℕ) (import export : List ℕ) → ¬ (AreTerms (map (λ word. word.now) words.now) mode hold import export)) (λ terms. AreTerms (map (λ word. word.now) words.now) terms.0 terms.1 terms.2.now terms.3.now) }
 {
     let [mode, hold, import, export] = words else {
         return None;

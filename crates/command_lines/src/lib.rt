@@ -7,6 +7,7 @@
 
 mod command_line;
 mod fields;
+mod keywords;
 mod rules;
 mod words;
 

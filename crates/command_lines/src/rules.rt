@@ -1,18 +1,22 @@
 //! The rules of a policy.
-ghost use Rattle.std.specs.Prelude.{◌≡◌, ◌∷◌, IfOk, IfSome, codes, map};
+ghost use Rattle.std.specs.Prelude.{◌≡◌, ◌≢◌, ◌∷◌, ◌≤◌, ◌<◌, ◌^◌, ℕ, List, Option, Some, IfOk, IfSome, IsSomeAnd, MatchOption, codes, map};
 ghost use Rattle.std.specs.List.{slice_split};
-ghost use Rattle.command_lines.specs.RuleWords.{AreRules, IsAction, IsNumbered, IsPrefixTest, IsRule, IsStateTest, are_apart, number_of, rule_groups};
+ghost use Rattle.command_lines.specs.RuleWords.{AreNoRules, AreRules, IsAction, IsNumbered, IsPrefixTest, IsRule, IsStateTest, are_apart, number_of, rule_groups};
+ghost use Rattle.command_lines.specs.Words.{Begin, Finds, Reads};
+ghost use Rattle.origin_valid.specs.declared.validity.Validity.{Validity as State};
+ghost use Rattle.policy.specs.declared.rule.PrefixRange.{PrefixRange as Range};
 
 use crate::command_line::LineFault;
-use crate::fields::{is_word, long, octet};
+use crate::fields::{is_word, long, octet, prefix_of};
+use crate::words::first_word;
 use bgp_conf::{Action, Condition, PrefixRange, Rule};
-use net_prefix::{Asn, Prefix};
+use net_prefix::Asn;
 use origin_valid::Validity;
 use std::alloc::{AllocError, Global};
 
 /// The rules between the words `;`: at least one.
 pub(crate) fn rules_of(alloc: Global, words: &[&str]) -> Result<Vec<Rule>, LineFault>
-    ensures { IfOk result (λ rules. AreRules (rule_groups (map (λ word. word.now) words.now)) rules.items) }
+    ensures { Reads (λ rules. AreRules (rule_groups (map (λ word. word.now) words.now)) rules.items) (AreNoRules (rule_groups (map (λ word. word.now) words.now))) result }
 {
     let groups = groups_of(alloc, words)?;
     each_rule(alloc, groups.as_slice())
@@ -33,7 +37,7 @@ fn is_apart(word: &&str) -> bool
 }
 
 fn each_rule(alloc: Global, groups: &[&[&str]]) -> Result<Vec<Rule>, LineFault>
-    ensures { IfOk result (λ rules. AreRules (map (λ group. map (λ word. word.now) group.now) groups.now) rules.items) }
+    ensures { Reads (λ rules. AreRules (map (λ group. map (λ word. word.now) group.now) groups.now) rules.items) (AreNoRules (map (λ group. map (λ word. word.now) group.now) groups.now)) result }
 {
     let mut rules = Vec::new(alloc);
     for words in groups {
@@ -49,7 +53,7 @@ fn each_rule(alloc: Global, groups: &[&[&str]]) -> Result<Vec<Rule>, LineFault>
 
 // The rule that these words are: tests and then an action, each part at most once and in its order.
 fn rule_of(words: &[&str]) -> Option<Rule>
-    ensures { IfSome result (IsRule (map (λ word. word.now) words.now)) }
+    ensures { Finds (IsRule (map (λ word. word.now) words.now)) result }
 {
     let (prefix, words) = prefix_test(words)?;
     let (state, words) = state_test(words)?;
@@ -71,24 +75,36 @@ fn rule_of(words: &[&str]) -> Option<Rule>
 
 // `prefix P G L`
 fn prefix_test<'w, 'a>(words: &'w [&'a str]) -> Option<(Option<PrefixRange>, &'w [&'a str])>
-    ensures { IfSome result (λ read. IsPrefixTest (map (λ word. word.now) words.now) read.0 (map (λ word. word.now) read.1.now)) }
+    ensures some { IfSome result (λ read. IsPrefixTest (map (λ word. word.now) words.now) read.0 (map (λ word. word.now) read.1.now)) }
+    ensures only { (range : Option Range) (rest : List (List ℕ)) → IsPrefixTest (map (λ word. word.now) words.now) range rest → ¬ (Begin rest (codes "prefix")) → IsSomeAnd result (λ read. map (λ word. word.now) read.1.now ≡ rest) }
+{
+    let Some((prefix, from, to, rest)) = words_of_prefix(words) else {
+        return Some((None, words));
+    };
+    let range = PrefixRange {
+        prefix: prefix_of(prefix)?,
+        from: octet(from)?,
+        to: octet(to)?,
+    };
+    Some((Some(range), rest))
+}
+
+// The three words behind `prefix`, and those behind them.
+fn words_of_prefix<'w, 'a>(
+    words: &'w [&'a str],
+) -> Option<(&'a str, &'a str, &'a str, &'w [&'a str])>
+    ensures { MatchOption result ((prefix from to : List ℕ) (rest : List (List ℕ)) → map (λ word. word.now) words.now ≢ codes "prefix" ∷ prefix ∷ from ∷ to ∷ rest) (λ cut. map (λ word. word.now) words.now ≡ codes "prefix" ∷ cut.0.now ∷ cut.1.now ∷ cut.2.now ∷ map (λ word. word.now) cut.3.now) }
 {
     match words {
-        ["prefix", prefix, from, to, rest @ ..] => {
-            let range = PrefixRange {
-                prefix: Prefix::parse(prefix).ok()?,
-                from: octet(from)?,
-                to: octet(to)?,
-            };
-            Some((Some(range), rest))
-        }
-        words => Some((None, words)),
+        ["prefix", prefix, from, to, rest @ ..] => Some((*prefix, *from, *to, rest)),
+        _ => None,
     }
 }
 
 // `state valid|invalid|notfound`
 fn state_test<'w, 'a>(words: &'w [&'a str]) -> Option<(Option<Validity>, &'w [&'a str])>
-    ensures { IfSome result (λ read. IsStateTest (map (λ word. word.now) words.now) read.0 (map (λ word. word.now) read.1.now)) }
+    ensures some { IfSome result (λ read. IsStateTest (map (λ word. word.now) words.now) read.0 (map (λ word. word.now) read.1.now)) }
+    ensures only { (state : Option State) (rest : List (List ℕ)) → IsStateTest (map (λ word. word.now) words.now) state rest → ¬ (Begin rest (codes "state")) → IsSomeAnd result (λ read. map (λ word. word.now) read.1.now ≡ rest) }
 {
     match words {
         ["state", "valid", rest @ ..] => Some((Some(Validity::Valid), rest)),
@@ -101,7 +117,8 @@ fn state_test<'w, 'a>(words: &'w [&'a str]) -> Option<(Option<Validity>, &'w [&'
 
 // The name of a test or of a part of an action, and its number.
 fn numbered<'w, 'a>(name: &str, words: &'w [&'a str]) -> Option<(Option<u32>, &'w [&'a str])>
-    ensures { IfSome result (λ read. IsNumbered name.now (map (λ word. word.now) words.now) read.0 (map (λ word. word.now) read.1.now)) }
+    ensures some { IfSome result (λ read. IsNumbered 32 name.now (map (λ word. word.now) words.now) read.0 (map (λ word. word.now) read.1.now)) }
+    ensures only { (number : Option ℕ) (rest : List (List ℕ)) → IsNumbered 32 name.now (map (λ word. word.now) words.now) number rest → ¬ (Begin rest name.now) → IsSomeAnd result (λ read. (map (λ word. word.now) read.1.now ≡ rest) × (read.0 ≡ number)) }
 {
     match words {
         [word, value, rest @ ..] if is_word(word, name) => Some((Some(long(value)?), rest)),
@@ -121,7 +138,7 @@ fn asn(number: Option<u32>) -> Option<Asn>
 
 // A slot is a number of one octet.
 fn slot(number: Option<u32>) -> Option<Option<u8>>
-    ensures { IfSome result (λ slot. slot ≡ number) }
+    ensures { MatchOption result ((n : ℕ) × (number ≡ Some n) × (2 ^ 8 ≤ n)) (λ slot. (slot ≡ number) × IfSome slot (λ n. n < 2 ^ 8)) }
 {
     match number {
         Some(number) => Some(Some(u8::try_from(number).ok()?)),
@@ -131,7 +148,7 @@ fn slot(number: Option<u32>) -> Option<Option<u8>>
 
 // `reject`, or `accept` with any of `degree N`, `med N`, `prepend N`
 fn action_of(words: &[&str]) -> Option<Action>
-    ensures { IfSome result (IsAction (map (λ word. word.now) words.now)) }
+    ensures { Finds (IsAction (map (λ word. word.now) words.now)) result }
 {
     match words {
         ["reject"] => Some(Action::Reject),
@@ -141,17 +158,17 @@ fn action_of(words: &[&str]) -> Option<Action>
 }
 
 fn accept(words: &[&str]) -> Option<Action>
-    ensures { IfSome result (IsAction (codes "accept" ∷ map (λ word. word.now) words.now)) }
+    ensures { Finds (IsAction (codes "accept" ∷ map (λ word. word.now) words.now)) result }
 {
     let (degree, words) = numbered("degree", words)?;
     let (med, words) = numbered("med", words)?;
     let (prepend, words) = numbered("prepend", words)?;
-    if !words.is_empty() {
-        return None;
+    match first_word(words) {
+        Some(_) => None,
+        None => Some(Action::Accept {
+            degree,
+            med,
+            prepend: slot(prepend)?,
+        }),
     }
-    Some(Action::Accept {
-        degree,
-        med,
-        prepend: slot(prepend)?,
-    })
 }
