@@ -1,3 +1,4 @@
+pub mod AsciiTexts
 pub mod CommandFaults
 pub mod FileLines
 pub mod ObeyedCommands

@@ -1,6 +1,5 @@
 -- How commands follow one another.
-use Rattle.std.proofs.Common.{◌≡◌, ◌≤◌, ◌+◌, ◌-◌, ◌++◌, ◌∙◌, ℕ, Bool, suc, true, false, List, [], ◌∷◌, Option, None, Some, IfSome, MatchOption, Result, Ok, Err, length, refl, sym, ap, subst, take, append_assoc, append-nil, if◌then◌else◌, is_ok, length-append, arith}
-use Rattle.std.proofs.Math.Seq.{take-append_seam}
+use Rattle.std.proofs.Common.{◌≡◌, ◌+◌, ◌++◌, ◌∙◌, ℕ, Bool, true, false, List, [], ◌∷◌, Option, None, Some, IfSome, MatchOption, Result, Ok, Err, IfErr, inr, length, refl, sym, ap, subst, append_assoc, append-nil, if◌then◌else◌, is_ok, length-append, arith}
 use Rattle.std.specs.Io.BufRead.{drop_through}
 use Rattle.std.specs.Option.{option_map}
 use Rattle.std.specs.Result.{IsErrAnd}
@@ -13,20 +12,24 @@ use Rattle.net_prefix.specs.declared.prefix.Prefix.{Prefix}
 use Rattle.routes.proofs.KeptOffers.{kept_same}
 use Rattle.speaker.proofs.PeerRoutes.{peers_same}
 use Rattle.speaker.specs.Agreement.{Agrees, CacheAgrees, SlotAgrees}
-use Rattle.speaker.specs.FirstRefusal.{LacksMemory}
+use Rattle.speaker.specs.FirstRefusal.{LacksMemory, refusal_of}
 use Rattle.routes.specs.Linked.{Linked}
 use Rattle.speaker.specs.Runs.{Run, Turn, Command_call, asked, cache_history, history}
 use Rattle.speaker.specs.SpeakerState.{IsAsBefore, SpeakerState, tables_of}
 use Rattle.routes.specs.Tables.{link_at, network_route}
 use Rattle.speaker.specs.declared.config.Config.{Config}
 use Rattle.speaker.specs.declared.event.Event.{Event}
+use Rattle.speaker.specs.declared.event.Event.TheVariants.{Command as Commanded}
 use Rattle.speaker.specs.declared.event.Report.{Report}
-use Rattle.scenario.specs.CommandFaults.{NamesLine}
-use Rattle.command_lines.specs.CommandWords.{Says}
-use Rattle.command_lines.specs.Words.{words_in}
+use Rattle.scenario.specs.CommandFaults.{NamesLine, TellsRefusal, unread_at}
+use Rattle.command_lines.specs.CommandWords.{SayNone, Says, SaysLine}
+use Rattle.command_lines.specs.Words.{Reads, words_in}
+use Rattle.command_lines.specs.declared.command_line.CommandLine.{CommandLine}
+use Rattle.command_lines.specs.declared.command_line.LineFault.{LineFault}
+use Rattle.command_lines.specs.declared.command_line.LineFault.TheVariants.{BadLine as Bad, NoMemory as Unread}
 use Rattle.scenario.specs.FileLines.{lines, ReadsLine, says_nothing, without_end}
 use Rattle.std.specs.Bool.{MatchBool}
-use Rattle.scenario.specs.ObeyedCommands.{IsCommandOn, AreCommandsOf, AreTurnsOf, Obeys, ObeysBefore, ObeysSome, ObeysUpTo, Takes}
+use Rattle.scenario.specs.ObeyedCommands.{IsBad, IsCommandOn, IsFaultOf, IsRefusalOf, IsRefused, AreCommandsOf, AreTurnsOf, Obeys, ObeysBefore, ObeysSome, ObeysUpTo, StopsAt, Takes}
 use Rattle.scenario.specs.declared.commands.CommandsFault.{CommandsFault}
 use Rattle.scenario.specs.declared.commands.CommandsFault.TheVariants.{BadLine, Refused, Device, NoMemory}
 
@@ -164,28 +167,56 @@ obeyed_all known left number old new so_far ended text is =
     let all : lines text ≡ so_far.read = at.lines_are ∙ ap (λ x. so_far.read ++ lines x) none ∙ append-nil so_far.read in
     subst (λ ls. Obeys ls old new) (sym all) so_far.obeyed
 
--- the lines before this one
-before_line : (known left behind : Option (List ℕ)) (number : ℕ) (line : List ℕ) (old mid new : SpeakerState) (n : ℕ) → IsObeyedUpTo known left number old mid
-    → ReadsLine left true line behind → Obeys [] mid new → n ≡ number → (text : List ℕ) → known ≡ Some text
-    → (1 ≤ n) × (n ≤ length (lines text)) × Obeys (take (n - 1) (lines text)) old new
-before_line known left behind number line old mid new n so_far reads none same text is =
+-- the lines before one that is so
+before_line : (known left behind : Option (List ℕ)) (number : ℕ) (line : List ℕ) (old mid new : SpeakerState) (n : ℕ) (IsSo : List ℕ → Type 0) → IsObeyedUpTo known left number old mid
+    → ReadsLine left true line behind → Obeys [] mid new → n ≡ number → IsSo line → (text : List ℕ) → known ≡ Some text → StopsAt IsSo n (lines text) old new
+before_line known left behind number line old mid new n IsSo so_far reads none same so text is =
     let at = so_far.rest text is in
     let cut = subst (λ x. ReadsLine x true line behind) at.left_is reads in
     let rest : List (List ℕ) = lines (drop_through 10 at.unread) in
     let all : lines text ≡ so_far.read ++ line ∷ rest = at.lines_are ∙ ap (λ l. so_far.read ++ l) cut.0 in
-    let numbered = at.numbered in
-    let long : length (lines text) ≡ length so_far.read + suc (length rest) = ap (λ (l : List (List ℕ)). length l) all ∙ length-append so_far.read (line ∷ rest) in
-    let place : n - 1 ≡ length so_far.read = omega arith in
-    let front : take (n - 1) (lines text) ≡ so_far.read = ap (λ k. take k (lines text)) place ∙ ap (λ l. take (length so_far.read) l) all ∙ take-append_seam so_far.read (line ∷ rest) in
-    (omega arith, omega arith, subst (λ ls. Obeys ls old new) (append-nil so_far.read ∙ sym front) (obeys_then so_far.read [] old mid new so_far.obeyed none))
+    (line, so_far.read, rest, all, same ∙ sym at.numbered, so, subst (λ ls. Obeys ls old new) (append-nil so_far.read) (obeys_then so_far.read [] old mid new so_far.obeyed none))
 
 -- the lines before one that is at fault
 pub obeyed_before : (known left behind : Option (List ℕ)) (number : ℕ) (line : List ℕ) (old mid new : SpeakerState) (fault : CommandsFault) → IsObeyedUpTo known left number old mid
-    → ReadsLine left true line behind → Obeys [] mid new → NamesLine number fault → (text : List ℕ) → known ≡ Some text → ObeysBefore (lines text) fault old new
-obeyed_before known left behind number line old mid new (BadLine n) so_far reads none names text is = before_line known left behind number line old mid new n so_far reads none names text is
-obeyed_before known left behind number line old mid new (Refused n why) so_far reads none names text is = before_line known left behind number line old mid new n so_far reads none names.0 text is
-obeyed_before known left behind number line old mid new NoMemory so_far reads none names text is = tt
-obeyed_before known left behind number line old mid new Device so_far reads none names text is = tt
+    → ReadsLine left true line behind → Obeys [] mid new → NamesLine number fault → IsFaultOf line new fault → (text : List ℕ) → known ≡ Some text → ObeysBefore (lines text) fault old new
+obeyed_before known left behind number line old mid new (BadLine n) so_far reads none names so text is = before_line known left behind number line old mid new n IsBad so_far reads none names so text is
+obeyed_before known left behind number line old mid new (Refused n why) so_far reads none names so text is = before_line known left behind number line old mid new n (IsRefused new why) so_far reads none names.0 so text is
+obeyed_before known left behind number line old mid new NoMemory so_far reads none names so text is = tt
+obeyed_before known left behind number line old mid new Device so_far reads none names so text is = tt
+
+-- a command is refused as the speaker refuses it
+pub refusal_told : (first : Option Refusal) (command : Command) (why : Refusal) (old new : SpeakerState) (fault : CommandsFault) → refusal_of old (Commanded command) ≡ first
+    → MatchOption first ((why ≡ Memory) × LacksMemory (Commanded command) old new) (λ w. (err_of why ≡ err_of w) × (new ≡ old)) → TellsRefusal why fault → IsRefusalOf command new fault
+refusal_told first command why old new (BadLine n) is refused told = told
+refusal_told None command why old new (Refused n other) is lacks told = absurd (told.1 lacks.0)
+refusal_told (Some w) command why old new (Refused n other) is refused told =
+    let same : w ≡ other = let one = refused.0 in let two = told.0 in cc in
+    ap (λ (s : SpeakerState). refusal_of s (Commanded command)) refused.1 ∙ is ∙ ap (λ (x : Refusal). Some x) same
+refusal_told first command why old new Device is refused told = tt
+refusal_told first command why old new NoMemory is refused told = tt
+
+-- a command's fault is that of its line
+pub fault_of_command : (line : List ℕ) (command : Command) (s : SpeakerState) (result : Result (Unit {0}) CommandsFault) → says_nothing line ≡ false → Says (words_in (without_end line)) command
+    → IfErr result (IsRefusalOf command s) → IfErr result (IsFaultOf line s)
+fault_of_command line command s (Ok done) says said of = tt
+fault_of_command line command s (Err (BadLine n)) says said of = absurd of
+fault_of_command line command s (Err (Refused n why)) says said of = (command, says, said, of)
+fault_of_command line command s (Err Device) says said of = tt
+fault_of_command line command s (Err NoMemory) says said of = tt
+
+abbrev pub err_line : LineFault → Result CommandLine LineFault
+err_line fault = Err fault
+
+-- so is that of words that weren't read
+pub fault_of_words : (line text : List ℕ) (number : ℕ) (s : SpeakerState) (fault : LineFault) → says_nothing line ≡ false → text ≡ without_end line
+    → Reads (SaysLine (words_in text)) (SayNone (words_in text)) (err_line fault) → IsFaultOf line s (unread_at number fault)
+fault_of_words line text number s Bad says same read = (says, inr (subst (λ octets. SayNone (words_in octets)) same read))
+fault_of_words line text number s Unread says same read = tt
+
+pub words_name_line : (number : ℕ) (fault : LineFault) → NamesLine number (unread_at number fault)
+words_name_line number Bad = refl
+words_name_line number Unread = tt
 
 -- a fault that is passed on
 pub obeyed_with : (lines : List (List ℕ)) (old new : SpeakerState) (r : Result (Unit {0}) CommandsFault) (fault : CommandsFault) → IsErrAnd r (λ told. told ≡ fault) → ObeysBefore lines fault old new → ObeysUpTo lines r old new

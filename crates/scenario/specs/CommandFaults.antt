@@ -2,6 +2,8 @@
 use Rattle.std.specs.Prelude.{◌≡◌, ◌≢◌, ◌≤◌, ℕ, ⊤}
 use Rattle.bgp_conf.specs.declared.refusal.Refusal.{Refusal}
 use Rattle.bgp_conf.specs.declared.refusal.Refusal.TheVariants.{NoMemory as Memory}
+use Rattle.command_lines.specs.declared.command_line.LineFault.{LineFault}
+use Rattle.command_lines.specs.declared.command_line.LineFault.TheVariants.{BadLine as Bad, NoMemory as Unread}
 use Rattle.scenario.specs.declared.commands.CommandsFault.{CommandsFault}
 use Rattle.scenario.specs.declared.commands.CommandsFault.TheVariants.{BadLine, Refused, Device, NoMemory}
 
@@ -30,3 +32,15 @@ CountsFromOne NoMemory = ⊤
 abbrev pub fault_of : ℕ → Refusal → CommandsFault
 fault_of line Memory = NoMemory
 fault_of line why = Refused line why
+
+-- the fault tells of this refusal, unless memory was wanting
+abbrev pub TellsRefusal : Refusal → CommandsFault → Type 0
+TellsRefusal why (BadLine number) = ⊥
+TellsRefusal why (Refused number told) = (told ≡ why) × (why ≢ Memory)
+TellsRefusal why Device = ⊥
+TellsRefusal why NoMemory = ⊤
+
+-- what it is that the words of this line weren't read
+abbrev pub unread_at : ℕ → LineFault → CommandsFault
+unread_at line Bad = BadLine line
+unread_at line Unread = NoMemory

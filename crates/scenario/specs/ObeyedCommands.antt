@@ -1,13 +1,16 @@
 -- What the commands on lines make of a speaker.
-use Rattle.std.specs.Prelude.{◌≡◌, ◌≤◌, ◌-◌, ◌++◌, ℕ, ⊤, List, [], ◌∷◌, Result, Ok, Err, length, take}
+use Rattle.std.specs.Prelude.{◌≡◌, ◌+◌, ◌++◌, ◌⊎◌, ℕ, ⊤, false, IsAscii, List, [], ◌∷◌, Some, Result, Ok, Err, length}
 use Rattle.std.specs.Bool.{MatchBool}
 use Rattle.bgp_conf.specs.declared.command.Command.{Command}
-use Rattle.command_lines.specs.CommandWords.{Says}
+use Rattle.bgp_conf.specs.declared.refusal.Refusal.{Refusal}
+use Rattle.command_lines.specs.CommandWords.{SayNone, Says}
 use Rattle.command_lines.specs.Words.{words_in}
 use Rattle.speaker.specs.Agreement.{Agrees}
+use Rattle.speaker.specs.FirstRefusal.{refusal_of}
 use Rattle.speaker.specs.Runs.{Run, Turn, Command_call, asked}
 use Rattle.speaker.specs.SpeakerState.{SpeakerState}
 use Rattle.speaker.specs.declared.config.Config.{Config}
+use Rattle.speaker.specs.declared.event.Event.TheVariants.{Command as Commanded}
 use Rattle.scenario.specs.FileLines.{says_nothing, without_end}
 use Rattle.scenario.specs.declared.commands.CommandsFault.{CommandsFault}
 use Rattle.scenario.specs.declared.commands.CommandsFault.TheVariants.{BadLine, Refused, Device, NoMemory}
@@ -39,10 +42,37 @@ abbrev pub Takes : Command → Result (Unit {0}) CommandsFault → SpeakerState 
 Takes command (Ok done) old new = (config : Config) (r : Run) → Agrees config r old → (now : Turn) × (asked now.call ≡ Command_call command) × Agrees config (now ∷ r) new
 Takes command (Err fault) old new = (config : Config) (r : Run) → Agrees config r old → Agrees config r new
 
--- where the fault is that of a line, just the commands on the lines before it were accepted
+-- the line says something that is no command: octets that aren't ASCII, or words that say none
+abbrev pub IsBad : List ℕ → Type 0
+IsBad line = (says_nothing line ≡ false) × (¬ (IsAscii (without_end line)) ⊎ SayNone (words_in (without_end line)))
+
+-- the line says a command, for which this is the first refusal of a speaker that is so
+abbrev pub IsRefused : SpeakerState → Refusal → List ℕ → Type 0
+IsRefused s why line = (command : Command) × (says_nothing line ≡ false) × Says (words_in (without_end line)) command × (refusal_of s (Commanded command) ≡ Some why)
+
+-- where the fault is that of a line, it is this one's, for a speaker that is so
+abbrev pub IsFaultOf : List ℕ → SpeakerState → CommandsFault → Type 0
+IsFaultOf line s (BadLine number) = IsBad line
+IsFaultOf line s (Refused number why) = IsRefused s why line
+IsFaultOf line s Device = ⊤
+IsFaultOf line s NoMemory = ⊤
+
+-- where the fault is that of a command, it is this one's, for a speaker that is so
+abbrev pub IsRefusalOf : Command → SpeakerState → CommandsFault → Type 0
+IsRefusalOf command s (BadLine number) = ⊥
+IsRefusalOf command s (Refused number why) = refusal_of s (Commanded command) ≡ Some why
+IsRefusalOf command s Device = ⊤
+IsRefusalOf command s NoMemory = ⊤
+
+-- the line of this number, counted from 1, is so, and just the commands on those before it were accepted
+abbrev pub StopsAt : (List ℕ → Type 0) → ℕ → List (List ℕ) → SpeakerState → SpeakerState → Type 0
+StopsAt IsSo number lines old new =
+    (line : List ℕ) × (before behind : List (List ℕ)) × (lines ≡ before ++ line ∷ behind) × (number ≡ length before + 1) × IsSo line × Obeys before old new
+
+-- where the fault is that of a line, the line that it names is at fault so, and just the commands before it were accepted
 abbrev pub ObeysBefore : List (List ℕ) → CommandsFault → SpeakerState → SpeakerState → Type 0
-ObeysBefore lines (BadLine number) old new = (1 ≤ number) × (number ≤ length lines) × Obeys (take (number - 1) lines) old new
-ObeysBefore lines (Refused number why) old new = (1 ≤ number) × (number ≤ length lines) × Obeys (take (number - 1) lines) old new
+ObeysBefore lines (BadLine number) old new = StopsAt IsBad number lines old new
+ObeysBefore lines (Refused number why) old new = StopsAt (IsRefused new why) number lines old new
 ObeysBefore lines Device old new = ⊤
 ObeysBefore lines NoMemory old new = ⊤
 

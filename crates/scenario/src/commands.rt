@@ -1,8 +1,8 @@
 //! Obeying a file of commands.
 ghost use Rattle.std.specs.Prelude.{◌≡◌, ◌∷◌, [], ℕ, List, Some, IfErr, is_ok, if◌then◌else◌};
-ghost use Rattle.scenario.specs.CommandFaults.{CountsFromOne, IsOutside, NamesLine, fault_of};
+ghost use Rattle.scenario.specs.CommandFaults.{CountsFromOne, IsOutside, NamesLine, TellsRefusal, fault_of, unread_at};
 ghost use Rattle.scenario.specs.FileLines.{lines};
-ghost use Rattle.scenario.specs.ObeyedCommands.{Obeys, ObeysSome, ObeysUpTo, Takes};
+ghost use Rattle.scenario.specs.ObeyedCommands.{IsFaultOf, IsRefusalOf, Obeys, ObeysSome, ObeysUpTo, Takes};
 
 use crate::reading::{ascii_text, is_passed_over, is_want_of_memory, read_line, without_line_end};
 use bgp_conf::{Command, Refusal};
@@ -85,6 +85,7 @@ fn obey_line<B: Book<Global>>(
 ) -> Result<(), CommandsFault>
     ensures obeys { Obeys (if is_ok result then line.now ∷ [] else []) speaker.old speaker.new }
     ensures line { IfErr result (NamesLine number) }
+    ensures fault { IfErr result (IsFaultOf line.now speaker.new) }
 {
     if is_passed_over(line) {
         return Ok(());
@@ -94,8 +95,17 @@ fn obey_line<B: Book<Global>>(
     };
     match CommandLine::parse(alloc, text) {
         Ok(said) => obey(speaker, number, said.command()),
-        Err(LineFault::BadLine) => Err(CommandsFault::BadLine(number)),
-        Err(LineFault::NoMemory) => Err(CommandsFault::NoMemory),
+        Err(fault) => Err(unread(number, fault)),
+    }
+}
+
+// What it is that the words of the line of this number weren't read.
+fn unread(number: u64, fault: LineFault) -> CommandsFault
+    ensures { result ≡ unread_at number fault }
+{
+    match fault {
+        LineFault::BadLine => CommandsFault::BadLine(number),
+        LineFault::NoMemory => CommandsFault::NoMemory,
     }
 }
 
@@ -106,6 +116,7 @@ fn obey<B: Book<Global>>(
 ) -> Result<(), CommandsFault>
     ensures obeys { Takes command.entry result speaker.old speaker.new }
     ensures line { IfErr result (NamesLine number) }
+    ensures fault { IfErr result (IsRefusalOf command.entry speaker.new) }
 {
     match speaker.step(Event::Command(command)) {
         Ok(_) => Ok(()),
@@ -115,7 +126,8 @@ fn obey<B: Book<Global>>(
 
 // What it is that the command on the line of this number was refused so.
 fn refused(number: u64, refusal: Refusal) -> CommandsFault
-    ensures { result ≡ fault_of number refusal }
+    ensures value { result ≡ fault_of number refusal }
+    ensures told { TellsRefusal refusal result }
 {
     match refusal {
         Refusal::NoMemory => CommandsFault::NoMemory,

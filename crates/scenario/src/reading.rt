@@ -1,5 +1,5 @@
 //! The lines of a file.
-ghost use Rattle.std.specs.Prelude.{◌≡◌, IfOk, IfSome};
+ghost use Rattle.std.specs.Prelude.{◌≡◌, IfOk, IsAscii, MatchOption};
 ghost use Rattle.scenario.specs.FileLines.{ReadsLine, says_nothing, without_end};
 
 use std::io::{self, BufRead, ErrorKind};
@@ -35,7 +35,7 @@ pub(crate) fn is_passed_over(line: &[u8]) -> bool
 
 /// The text of ASCII octets.
 pub(crate) fn ascii_text(octets: &[u8]) -> Option<&str>
-    ensures { IfSome result (λ text. text.now ≡ octets.now) }
+    ensures { MatchOption result (¬ (IsAscii octets.now)) (λ text. text.now ≡ octets.now) }
 {
     if !octets.is_ascii() {
         return None;

@@ -1,4 +1,5 @@
-use Rattle.scenario.proofs.ObeyedCommands.{takes_nothing}
+use Rattle.scenario.proofs.ObeyedCommands.{refusal_told, takes_nothing}
+use Rattle.std.proofs.Common.{refl}
 use Rattle.speaker.specs.declared.event.Event.TheVariants.{Command as Commanded}
 use Rattle.scenario.proofs.commands.obey.Goals as goal
 
@@ -9,3 +10,6 @@ returns-in-Ok-clause-obeys g c config r agrees =
 
 pub returns-in-Err-clause-obeys : goal.returns-in-Err-clause-obeys
 returns-in-Err-clause-obeys g c = takes_nothing _ (Commanded c.args.command) _ _ _ c.in-Err.ensures.refused
+
+pub returns-in-Err-clause-fault : goal.returns-in-Err-clause-fault
+returns-in-Err-clause-fault g c = refusal_told _ c.args.command c.in-Err.refusal _ _ c.refused.result refl c.in-Err.ensures.refused c.refused.ensures.told
