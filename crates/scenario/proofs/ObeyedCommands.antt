@@ -14,7 +14,7 @@ use Rattle.speaker.proofs.PeerRoutes.{peers_same}
 use Rattle.speaker.specs.Agreement.{Agrees, CacheAgrees, SlotAgrees}
 use Rattle.speaker.specs.FirstRefusal.{LacksMemory, refusal_of}
 use Rattle.routes.specs.Linked.{Linked}
-use Rattle.speaker.specs.Runs.{Run, Turn, Command_call, asked, cache_history, history}
+use Rattle.speaker.specs.Runs.{Run, Turn, cache_history, history}
 use Rattle.speaker.specs.SpeakerState.{IsAsBefore, SpeakerState, tables_of}
 use Rattle.routes.specs.Tables.{link_at, network_route}
 use Rattle.speaker.specs.declared.config.Config.{Config}

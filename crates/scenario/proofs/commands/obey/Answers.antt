@@ -12,4 +12,4 @@ pub returns-in-Err-clause-obeys : goal.returns-in-Err-clause-obeys
 returns-in-Err-clause-obeys g c = takes_nothing _ (Commanded c.args.command) _ _ _ c.in-Err.ensures.refused
 
 pub returns-in-Err-clause-fault : goal.returns-in-Err-clause-fault
-returns-in-Err-clause-fault g c = refusal_told _ c.args.command c.in-Err.refusal _ _ c.refused.result refl c.in-Err.ensures.refused c.refused.ensures.told
+returns-in-Err-clause-fault g c = refusal_told _ c.args.command c.in-Err.refusal c.args.speaker.now c.step.new.self c.refused.result refl c.in-Err.ensures.refused c.refused.ensures.told

@@ -18,7 +18,7 @@ returns-in_default-clause-fault g c = (sym c.is_passed_over.ensures ∙ c.if-is_
 pub returns-in-Ok-clause-fault : goal.returns-in-Ok-clause-fault
 returns-in-Ok-clause-fault g c =
     let text = c.in-Some.ensures in
-    fault_of_command c.args.line.now c.command.result _ c.obey.result (sym c.is_passed_over.ensures ∙ c.if-is_passed_over.false) (subst (λ (t : List ℕ). Says (words_in t) c.command.result) (text ∙ c.without_line_end.ensures) (c.command.ensures _ c.in-Ok.ensures)) c.obey.ensures.fault
+    fault_of_command c.args.line.now c.command.result c.obey.new.speaker c.obey.result (sym c.is_passed_over.ensures ∙ c.if-is_passed_over.false) (subst (λ (t : List ℕ). Says (words_in t) c.command.result) (text ∙ c.without_line_end.ensures) (c.command.ensures _ c.in-Ok.ensures)) c.obey.ensures.fault
 
 pub returns-in-Err-clause-obeys : goal.returns-in-Err-clause-obeys
 returns-in-Err-clause-obeys g c = obeys_none _
@@ -28,4 +28,4 @@ returns-in-Err-clause-line g c = rw c.unread.ensures (words_name_line _ c.in-Err
 
 pub returns-in-Err-clause-fault : goal.returns-in-Err-clause-fault
 returns-in-Err-clause-fault g c =
-    rw c.unread.ensures (fault_of_words c.args.line.now c.in-Some.text.now _ _ c.in-Err.fault (sym c.is_passed_over.ensures ∙ c.if-is_passed_over.false) (c.in-Some.ensures ∙ c.without_line_end.ensures) c.in-Err.ensures)
+    rw c.unread.ensures (fault_of_words c.args.line.now c.in-Some.text.now _ c.args.speaker.now c.in-Err.fault (sym c.is_passed_over.ensures ∙ c.if-is_passed_over.false) (c.in-Some.ensures ∙ c.without_line_end.ensures) c.in-Err.ensures)
