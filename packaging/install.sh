@@ -11,7 +11,7 @@ DESTDIR=${DESTDIR:-}
 here=$(dirname "$0")
 top=$here/..
 
-for name in ovcache ovbgpd ovplay; do
+for name in ovcache ovbgpd ovplay ovctl; do
     if ! [ -x "$top/crates/$name/out/$name" ]; then
         echo "install.sh: crates/$name/out/$name isn't there: rt run in crates/$name builds it" >&2
         exit 1
@@ -26,9 +26,11 @@ put() { # MODE FILE FOLDER
 put 755 "$top/crates/ovcache/out/ovcache" "$PREFIX/sbin"
 put 755 "$top/crates/ovbgpd/out/ovbgpd" "$PREFIX/sbin"
 put 755 "$top/crates/ovplay/out/ovplay" "$PREFIX/bin"
+put 755 "$top/crates/ovctl/out/ovctl" "$PREFIX/bin"
 put 644 "$here/ovcache.8" "$PREFIX/share/man/man8"
 put 644 "$here/ovbgpd.8" "$PREFIX/share/man/man8"
 put 644 "$here/ovplay.1" "$PREFIX/share/man/man1"
+put 644 "$here/ovctl.1" "$PREFIX/share/man/man1"
 
 for page in "$top"/README.md "$top"/LICENSE "$top"/CHANGELOG.md "$top"/docs/*.md; do
     put 644 "$page" "$PREFIX/share/doc/kenyodla"

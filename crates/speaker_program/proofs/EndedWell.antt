@@ -1,5 +1,5 @@
 -- What is known where serving ended well.
-use Rattle.std.proofs.Common.{◌≡◌, ℕ, List, [], ◌∷◌, String, Global, OnOk, Option, Result, Ok, Err, IfOk, ap, ◌∙◌, sym, subst}
+use Rattle.std.proofs.Common.{◌≡◌, ℕ, List, [], ◌∷◌, String, Global, OnOk, Option, None, Some, Result, Ok, Err, IfOk, ap, ◌∙◌, sym, subst}
 use Rattle.std.specs.declared.net.socket_addr.SocketAddr.{SocketAddr}
 use Rattle.program_endings.specs.Asides.{Asks}
 use Rattle.program_endings.specs.Exits.{status_of}
@@ -7,7 +7,7 @@ use Rattle.program_endings.specs.declared.aside.Aside.{Aside}
 use Rattle.program_endings.specs.declared.aside.Aside.TheVariants.{Help, Version, Check}
 use Rattle.program_endings.specs.declared.fault.ExitFault.{ExitFault}
 use Rattle.program_endings.specs.declared.fault.ExitFault.TheVariants.{Arguments, Settings, BadLine, RefusedLine, Device}
-use Rattle.speaker_program.specs.Begun.{IsServed}
+use Rattle.speaker_program.specs.Begun.{IsServed, TakesTurnsOf}
 use Rattle.speaker_program.specs.Checked.{IsChecked, IsCheckedBy}
 use Rattle.speaker_program.specs.Endings.{EndsSo, status_at_end}
 use Rattle.speaker_program.specs.Exits.{exit_of_fault}
@@ -15,6 +15,7 @@ use Rattle.speaker_program.specs.declared.fault.SpeakerFault.{SpeakerFault}
 use Rattle.speaker_settings.specs.declared.settings.SpeakerSettings.{SpeakerSettings}
 use Rattle.speaker_turns.specs.Turns.{Turns, idle}
 use Rattle.speaker_turns.proofs.Listening.{listens_on}
+use Rattle.speaker_desk.proofs.Listening.{moves_listen}
 use Rattle.speaker_program.proofs.Remotes.{remotes_listen}
 use Rattle.speaker_program.proofs.TakenTurns.{well_are_turns}
 use Rattle.wires.specs.Wires.{WireState, nothing_told}
@@ -76,9 +77,14 @@ pub on_ok_of : {T E : Type 0} {P : Type 0} (r : Result T E) → P → OnOk r P
 on_ok_of (Ok done) is = is
 on_ok_of (Err why) is = tt
 
+-- turns leave it where the wire listens
+taken_listens : (control : Option (String Global)) (count : ℕ) (before behind : List ℕ) (old new : Turns) → TakesTurnsOf control count before behind old new → new.counts.wire.listens ≡ old.counts.wire.listens
+taken_listens None count before behind old new takes = listens_on takes.moments old new (well_are_turns takes.moments old new takes.taken)
+taken_listens (Some path) count before behind old new takes = moves_listen takes.moves old new takes.made
+
 -- the wire listens where it was opened
 pub listens_there : (Told : Option (List ℕ) → Type 0) (settings : SpeakerSettings) (count : ℕ) (before behind : List ℕ) (turns : Turns) (listens : Option SocketAddr) → IsServed Told (λ wire. wire ≡ nothing_told listens) settings count before behind turns → turns.counts.wire.listens ≡ listens
 listens_there Told settings count before behind turns listens is =
-    listens_on is.takes.moments is.begun turns (well_are_turns is.takes.moments is.begun turns is.takes.taken)
+    taken_listens settings.control count before behind is.begun turns is.takes
     ∙ (ap (λ (t : Turns). t.counts.wire.listens) is.begins.remotes
     ∙ (remotes_listen settings.peers.items settings.cache (idle is.begins.speaker is.begins.wire) ∙ ap (λ (w : WireState). w.listens) is.begins.opened))

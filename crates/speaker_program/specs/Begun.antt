@@ -1,5 +1,6 @@
 -- What settings make of a loop, and turns of that.
-use Rattle.std.specs.Prelude.{◌≡◌, ℕ, List, [], ◌∷◌, Option, None, Some, Ok, is_some}
+use Rattle.std.specs.Prelude.{◌≡◌, ℕ, List, [], ◌∷◌, Option, None, Some, String, Ok, is_some}
+use Rattle.std.specs.declared.alloc.Global.{Global}
 use Rattle.std.specs.declared.net.socket_addr.SocketAddr.{SocketAddr as Address}
 use Rattle.speaker.specs.SpeakerState.{SpeakerState}
 use Rattle.speaker_turns.specs.Turns.{Turns, idle, with_remote}
@@ -8,6 +9,8 @@ use Rattle.wires.specs.Wires.{WireState}
 use Rattle.speaker_program.specs.Commanded.{IsCommanded, TakesSoMany}
 use Rattle.speaker_program.specs.declared.fault.SpeakerFault.{SpeakerFault}
 use Rattle.speaker_program.specs.Slots.{HasJust}
+use Rattle.speaker_desk.specs.Attended.{AttendsTurns}
+use Rattle.speaker_desk.specs.declared.attending.AttendFault.{AttendFault}
 use Rattle.speaker_settings.specs.declared.settings.SpeakerSettings.{SpeakerSettings}
 
 -- it is told where each of these peers is
@@ -44,8 +47,14 @@ pub record IsBegun (Told : Option (List ℕ) → Type 0) (Opened : WireState →
   pub slots : HasJust settings.peers.items speaker
   pub remotes : turns ≡ with_remotes settings.peers.items settings.cache (idle speaker wire)
 
--- from there so many turns were taken, each at the moment that the clock told for it
+-- so many turns, each at the moment that the clock told for it; where the settings have a path for operators, so many or fewer, with
+-- what operators asked for between them
+abbrev pub TakesTurnsOf : Option (String Global) → ℕ → List ℕ → List ℕ → Turns → Turns → Type 0
+TakesTurnsOf None count before behind old new = TakesSoMany {E = SpeakerFault} count (Ok tt) before behind old new
+TakesTurnsOf (Some path) count before behind old new = AttendsTurns {E = AttendFault} count (Ok tt) before behind old new
+
+-- from there turns were taken
 pub record IsServed (Told : Option (List ℕ) → Type 0) (Opened : WireState → Type 0) (settings : SpeakerSettings) (count : ℕ) (before behind : List ℕ) (turns : Turns) : Type 0 where
   pub begun : Turns
   pub begins : IsBegun Told Opened settings begun
-  pub takes : TakesSoMany {E = SpeakerFault} count (Ok tt) before behind begun turns
+  pub takes : TakesTurnsOf settings.control count before behind begun turns

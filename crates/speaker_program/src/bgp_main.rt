@@ -10,7 +10,7 @@ ghost use Rattle.speaker_program.specs.Endings.{EndsSo, IsOfWords, status_at_end
 ghost use Rattle.program_endings.specs.Asides.{Asks};
 ghost use Rattle.program_endings.specs.declared.aside.Aside.{Aside};
 ghost use Rattle.std.specs.Result.{IsErrAnd};
-ghost use Rattle.speaker_program.specs.Begun.{IsBegun, IsServed, StateFrom, TextFrom, with_remotes};
+ghost use Rattle.speaker_program.specs.Begun.{IsBegun, IsServed, StateFrom, TakesTurnsOf, TextFrom, with_remotes};
 ghost use Rattle.speaker_settings.specs.declared.settings.SpeakerSettings.{SpeakerSettings};
 ghost use Rattle.speaker_program.specs.Slots.{HasJust, is_configured};
 ghost use Rattle.speaker_settings.specs.ToldSettings.{IsToldBy};
@@ -27,11 +27,14 @@ use crate::files::{lines_of, octets_at};
 use crate::help::{HELP, VERSION};
 use bgp_conf::PEER_SLOTS;
 use clocks::{MonotonicClock, SecondsClock};
+use control_lines::Operators;
+use control_sockets::ControlSocket;
 use decision::Book;
 use net_wires::{NetWire, REST_MILLISECONDS};
 use program_endings::{Aside, aside_of, end, print, read_words};
 use scenario::{Table, obey_lines, show};
 use speaker::{Config, Speaker};
+use speaker_desk::{AttendFault, Desk, attended_turns};
 use speaker_settings::{SpeakerSettings, has_slot};
 use speaker_turns::{End, SpeakerLoop};
 use std::alloc::{AllocGlobal, Global};
@@ -57,7 +60,7 @@ where
     ensures output { ((path : List ℕ) (turns : ℕ) → ¬ (IsCall words.now path turns)) → ((aside : Aside) → ¬ (Asks words.now aside)) → output.new ≡ output.old }
     ensures silent { result ≡ 0 → errors.new ≡ errors.old }
     // The status is 0 only where the settings of a file that was opened at the path of the words were served for just the turns of
-    // the words: with the commands of a file that was opened at their path, over a wire that was opened where they listen, and that
+    // the words, or where they have a path for operators for so many or fewer with what operators asked for between them: with the commands of a file that was opened at their path, over a wire that was opened where they listen, and that
     // listens there still.
     ensures serves { ((aside : Aside) → ¬ (Asks words.now aside)) → result ≡ 0 → (path : List ℕ) × (turns : ℕ) × (settings : SpeakerSettings) × (behind : List ℕ) × (served : Turns)
         × IsCall words.now path turns × AreSettingsOf (AreOctetsAt path) settings
@@ -201,6 +204,7 @@ where
         |path: &str| octets_at(rt, path),
         |path: &str| lines_of(rt, path),
         |listen| NetWire::open(rt, listen),
+        |path: &str| ControlSocket::open(rt, path),
     )
 }
 
@@ -215,7 +219,18 @@ fn ending<T: Drop>(served: Result<T, SpeakerFault>) -> Result<(), SpeakerFault>
 }
 
 // What the words ask for, by what reading files and opening the wire gives, and by this clock.
-fn run_bgp<B: Book<Global>, O: Write, C: SecondsClock, L: BufRead + Drop, W: Wire + Drop, S, M, F>(
+fn run_bgp<
+    B: Book<Global>,
+    O: Write,
+    C: SecondsClock,
+    L: BufRead + Drop,
+    W: Wire + Drop,
+    P: Operators + Drop,
+    S,
+    M,
+    F,
+    D,
+>(
     alloc: Global,
     words: &[String],
     output: &mut O,
@@ -223,14 +238,17 @@ fn run_bgp<B: Book<Global>, O: Write, C: SecondsClock, L: BufRead + Drop, W: Wir
     reads: S,
     commands: M,
     opens: F,
+    controls: D,
 ) -> Result<SpeakerLoop<W, Global, B>, SpeakerFault>
 where
     S: FnOnce(&str) -> io::Result<Vec<u8>>,
     M: FnOnce(&str) -> io::Result<L>,
     F: FnOnce(Option<SocketAddr>) -> io::Result<W>,
+    D: FnOnce(&str) -> io::Result<P>,
     requires reads { S.IsAlwaysCallable reads }
     requires commands { M.IsAlwaysCallable commands }
     requires opens { F.IsAlwaysCallable opens }
+    requires controls { D.IsAlwaysCallable controls }
     ensures wrong { ((path : List ℕ) (turns : ℕ) → ¬ (IsCall words.now path turns)) → IsErrAnd result IsOfWords }
     ensures right { (path : List ℕ) (turns : ℕ) → IsCall words.now path turns → ¬ (IsErrAnd result IsOfWords) }
     ensures output { IsErrAnd result IsOfWords → output.new ≡ output.old }
@@ -243,11 +261,23 @@ where
 {
     let (path, turns) = call_of(words)?;
     let settings = read_settings(alloc, path, reads)?;
-    serve(alloc, &settings, turns, output, clock, commands, opens)
+    serve(
+        alloc, &settings, turns, output, clock, commands, opens, controls,
+    )
 }
 
 // So many turns of these settings, behind which Loc-RIB is printed.
-fn serve<B: Book<Global>, O: Write, C: SecondsClock, L: BufRead + Drop, W: Wire + Drop, M, F>(
+fn serve<
+    B: Book<Global>,
+    O: Write,
+    C: SecondsClock,
+    L: BufRead + Drop,
+    W: Wire + Drop,
+    P: Operators + Drop,
+    M,
+    F,
+    D,
+>(
     alloc: Global,
     settings: &SpeakerSettings,
     turns: u64,
@@ -255,18 +285,21 @@ fn serve<B: Book<Global>, O: Write, C: SecondsClock, L: BufRead + Drop, W: Wire 
     clock: &mut C,
     commands: M,
     opens: F,
+    controls: D,
 ) -> Result<SpeakerLoop<W, Global, B>, SpeakerFault>
 where
     M: FnOnce(&str) -> io::Result<L>,
     F: FnOnce(Option<SocketAddr>) -> io::Result<W>,
+    D: FnOnce(&str) -> io::Result<P>,
     requires commands { M.IsAlwaysCallable commands }
     requires opens { F.IsAlwaysCallable opens }
+    requires controls { D.IsAlwaysCallable controls }
     ensures fault { IfErr result (λ fault. ¬ (IsOfWords fault)) }
     ensures serves { IfOk result (λ served. IsServed (TextFrom (λ lines. FnOnceReturnsAt M.FnOnce commands (string_bytes settings.now.commands) (Ok lines)) L.remaining)
         (StateFrom (λ wire. F.post opens settings.now.listen (Ok wire)) W.state) settings.now turns (C.readings clock.old) (C.readings clock.new) served) }
 {
     let mut served = begin(alloc, settings, commands, opens)?;
-    take_turns(clock, &mut served, turns)?;
+    serve_turns(alloc, settings, turns, clock, &mut served, controls)?;
     show_routes(&served, output)?;
     Ok(served)
 }
@@ -508,6 +541,60 @@ fn tell_remotes<B: Book<Global>, W: Wire + Drop>(
     }
     if let Some(remote) = settings.cache {
         served.set_remote(End::Cache, remote);
+    }
+}
+
+// So many turns, with operators between them where the settings have a path for them.
+fn serve_turns<B: Book<Global>, C: SecondsClock, W: Wire + Drop, P: Operators + Drop, D>(
+    alloc: Global,
+    settings: &SpeakerSettings,
+    turns: u64,
+    clock: &mut C,
+    served: &mut SpeakerLoop<W, Global, B>,
+    controls: D,
+) -> Result<(), SpeakerFault>
+where
+    D: FnOnce(&str) -> io::Result<P>,
+    requires controls { D.IsAlwaysCallable controls }
+    ensures fault { IfErr result (λ fault. ¬ (IsOfWords fault)) }
+    ensures turns { OnOk result (TakesTurnsOf settings.now.control turns (C.readings clock.old) (C.readings clock.new) served.old served.new) }
+{
+    let Some(path) = &settings.control else {
+        return take_turns(clock, served, turns);
+    };
+    let path = path.as_str();
+    let mut operators = operators_at(alloc, path, controls)?;
+    let mut desk = Desk::new(alloc, settings.peers.as_slice())?;
+    let rest = Duration::from_millis(REST_MILLISECONDS);
+    match attended_turns(clock, served, &mut desk, &mut operators, turns, rest) {
+        Ok(()) => Ok(()),
+        Err(fault) => Err(of_attending(fault)),
+    }
+}
+
+// The operators at this path.
+fn operators_at<P: Operators + Drop, D>(
+    alloc: Global,
+    path: &str,
+    controls: D,
+) -> Result<P, SpeakerFault>
+where
+    D: FnOnce(&str) -> io::Result<P>,
+    requires { D.IsAlwaysCallable controls }
+    ensures fault { IfErr result (λ fault. ¬ (IsOfWords fault)) }
+{
+    match controls(path) {
+        Ok(operators) => Ok(operators),
+        Err(error) => Err(SpeakerFault::unread(alloc, path, error)),
+    }
+}
+
+fn of_attending(fault: AttendFault) -> SpeakerFault
+    ensures { ¬ (IsOfWords result) }
+{
+    match fault {
+        AttendFault::Clock(error) => SpeakerFault::Clock(error),
+        AttendFault::Turn(why) => SpeakerFault::Turn(why),
     }
 }
 

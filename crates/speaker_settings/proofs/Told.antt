@@ -1,5 +1,5 @@
 -- What settings tell, they tell in one way.
-use Rattle.std.proofs.Common.{◌≡◌, ◌<◌, ◌==◌, ◌++◌, ℕ, zero, suc, true, false, List, [], ◌∷◌, Option, None, Some, Err, nat_abs, length, take, get_or, get_or-take, length-take-le, refl, ap, sym, subst, ◌∙◌, arith, true≢false, codes}
+use Rattle.std.proofs.Common.{◌≡◌, ◌<◌, ◌==◌, ◌++◌, ℕ, zero, suc, true, false, List, [], ◌∷◌, Option, None, Some, Err, nat_abs, length, take, get_or, get_or-take, length-take-le, refl, ap, sym, subst, ◌∙◌, arith, true≢false, codes, string_bytes}
 use Rattle.std.proofs.lemmas.Option.{same_Some}
 use Rattle.std.proofs.lemmas.List.Folds.{list_any_none}
 use Rattle.std.proofs.NetLemmas.Theorems.{IsIpv4Text_unique}
@@ -18,7 +18,7 @@ use Rattle.settings_keys.specs.declared.cause.SettingsFault.{SettingsFault}
 use Rattle.settings_keys.specs.declared.cause.SettingsFault.TheVariants.{Settings, NoMemory}
 use Rattle.settings_keys.specs.Keys.{Answers, AnswersInMemory, IsAddress, IsNumber, IsText, IsTold, IsToldIfThere}
 use Rattle.speaker_settings.specs.PeerSlots.{AreSlots, has_slot}
-use Rattle.speaker_settings.specs.ToldSettings.{ArePeers, IsAsn, IsIdentifier, IsPeer, IsSlot, keys_of_a_peer}
+use Rattle.speaker_settings.specs.ToldSettings.{ArePeers, IsAsn, IsIdentifier, IsPeer, IsSlot, IsTextOf, keys_of_a_peer}
 
 pub no_asn : (o : Option Data) → TellsNothing (IsToldIfThere IsNumber o) → TellsNothing (IsTold IsAsn o)
 no_asn None none asn told = told
@@ -31,6 +31,10 @@ no_identifier (Some found) none identifier told = none told.1.0 told.1.1
 pub unspelled_identifier : (o : Option Data) (text : List ℕ) → IsTold IsText o text → TellsNothing (IsIpv4Text text) → TellsNothing (IsTold IsIdentifier o)
 unspelled_identifier None text is none identifier told = told
 unspelled_identifier (Some found) text is none identifier told = none told.0 (subst (λ (t : List ℕ). IsIpv4Text t told.0) (same_Some _ _ (sym told.1.1 ∙ is)) told.1.2)
+
+pub no_string : (o : Option Data) → TellsNothing (IsTold IsText o) → TellsNothing (IsTold IsTextOf o)
+no_string None none string told = told
+no_string (Some found) none string told = none (string_bytes string) told
 
 pub zero_identifier : (o : Option Data) (text : List ℕ) (address : Ipv4Addr) → IsTold IsText o text → IsIpv4Text text address → ipv4_bits address ≡ 0 → TellsNothing (IsTold IsIdentifier o)
 zero_identifier None text address is spelled none identifier told = told

@@ -1,5 +1,6 @@
 -- What a speaker's settings are, key by key (own).
-use Rattle.std.specs.Prelude.{◌≡◌, ◌<◌, ◌≤◌, ℕ, List, [], ◌∷◌, Option, None, Some, false, codes, string_bytes, ⊤}
+use Rattle.std.specs.Prelude.{◌≡◌, ◌<◌, ◌≤◌, ℕ, List, [], ◌∷◌, Option, None, Some, String, false, codes, string_bytes, ⊤}
+use Rattle.std.specs.declared.alloc.Global.{Global}
 use Rattle.std.specs.Net.Addr.{ipv4_bits}
 use Rattle.std.specs.Net.Grammar.{IsIpv4Text}
 use Rattle.std.specs.declared.net.ipv4_addr.Ipv4Addr.{Ipv4Addr}
@@ -26,10 +27,14 @@ IsSlot found slot = IsNumber found slot × (slot < 64)
 
 -- the keys of the settings, and of each peer's table
 abbrev pub keys_of_a_speaker : List (List ℕ)
-keys_of_a_speaker = codes "as" ∷ codes "identifier" ∷ codes "commands" ∷ codes "cache" ∷ codes "multiprotocol" ∷ codes "listen" ∷ codes "peer" ∷ []
+keys_of_a_speaker = codes "as" ∷ codes "identifier" ∷ codes "commands" ∷ codes "cache" ∷ codes "multiprotocol" ∷ codes "listen" ∷ codes "control" ∷ codes "peer" ∷ []
 
 abbrev pub keys_of_a_peer : List (List ℕ)
 keys_of_a_peer = codes "slot" ∷ codes "remote" ∷ []
+
+-- a text, as a string that has it
+abbrev pub IsTextOf : Data → String Global → Type 0
+IsTextOf found string = IsText found (string_bytes string)
 
 -- a table of a slot and where its peer is, and of nothing else
 abbrev pub IsPeer : Data → ℕ × Address → Type 0
@@ -58,4 +63,5 @@ pub record IsToldBy (table : Members) (settings : SpeakerSettings) : Type 0 wher
   pub cache : IsToldIfThere IsAddress (get_member (codes "cache") table) settings.cache
   pub multiprotocol : IsToldOrUsual IsYesOrNo false (get_member (codes "multiprotocol") table) settings.multiprotocol
   pub listen : IsToldIfThere IsAddress (get_member (codes "listen") table) settings.listen
+  pub control : IsToldIfThere IsTextOf (get_member (codes "control") table) settings.control
   pub peers : ArePeersAt (get_member (codes "peer") table) settings.peers.items

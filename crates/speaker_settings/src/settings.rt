@@ -3,9 +3,9 @@ ghost use Rattle.std.specs.Prelude.{◌≡◌, ◌≤◌, ◌<◌, IfOk, codes};
 ghost use Rattle.toml.specs.Data.{Members, get_member};
 ghost use Rattle.toml.specs.View.{items_view, table_view, view};
 ghost use Rattle.settings_keys.specs.Causes.{IsBad};
-ghost use Rattle.settings_keys.specs.Keys.{Answers, AnswersInMemory, IsTableOf, IsTold};
+ghost use Rattle.settings_keys.specs.Keys.{Answers, AnswersInMemory, IsTableOf, IsTold, IsToldIfThere};
 ghost use Rattle.speaker_settings.specs.PeerSlots.{AreSlots, has_slot};
-ghost use Rattle.speaker_settings.specs.ToldSettings.{ArePeers, ArePeersAt, IsAsn, IsIdentifier, IsPeer, IsSlot, IsToldBy};
+ghost use Rattle.speaker_settings.specs.ToldSettings.{ArePeers, ArePeersAt, IsAsn, IsIdentifier, IsPeer, IsSlot, IsTextOf, IsToldBy};
 
 use bgp_conf::PEER_SLOTS;
 use net_prefix::Asn;
@@ -33,6 +33,8 @@ pub struct SpeakerSettings {
     pub multiprotocol: bool,
     /// Where it listens, if it does.
     pub listen: Option<SocketAddr>,
+    /// The path of the Unix socket at which operators are answered, if they are.
+    pub control: Option<String>,
     /// The slot of each peer, and where the peer is.
     pub peers: Vec<(u8, SocketAddr)>,
 }
@@ -40,7 +42,7 @@ pub struct SpeakerSettings {
 impl SpeakerSettings {
     /// The settings that the octets of a file tell in TOML: `as`, a number from 1 to 4294967295, `identifier`, the text of
     /// an IPv4 address other than 0.0.0.0, and `commands`, a text; and, where they are there, `multiprotocol`, `true` or
-    /// `false`, `cache` and `listen`, each the text of an address and a port, and the tables `peer`, each with `slot`, from 0 to
+    /// `false`, `cache` and `listen`, each the text of an address and a port, `control`, a text, and the tables `peer`, each with `slot`, from 0 to
     /// 63 and none twice, and `remote`, the text of an address and a port. There are no keys of other names. Anything else is
     /// `Settings`.
     pub fn read(alloc: Global, octets: &[u8]) -> Result<SpeakerSettings, SettingsFault>
@@ -66,6 +68,7 @@ impl SpeakerSettings {
         let cache = address_if_told(alloc, table, "cache")?;
         let multiprotocol = yes_or_no_of(alloc, table, "multiprotocol")?;
         let listen = address_if_told(alloc, table, "listen")?;
+        let control = control_of(alloc, table)?;
         let peers = peers_of(alloc, table)?;
         Ok(SpeakerSettings {
             asn,
@@ -74,19 +77,21 @@ impl SpeakerSettings {
             cache,
             multiprotocol,
             listen,
+            control,
             peers,
         })
     }
 }
 
 // The keys of the settings, and of each peer's table.
-const KEYS: [&str; 7] = [
+const KEYS: [&str; 8] = [
     "as",
     "identifier",
     "commands",
     "cache",
     "multiprotocol",
     "listen",
+    "control",
     "peer",
 ];
 
@@ -117,6 +122,17 @@ fn identifier_of(alloc: Global, table: &Table) -> Result<u32, SettingsFault>
         0 => Err(bad_text(alloc, "identifier", text, wanted)),
         identifier => Ok(identifier),
     }
+}
+
+// The path of the Unix socket for operators, where it is told.
+fn control_of(alloc: Global, table: &Table) -> Result<Option<String>, SettingsFault>
+    ensures { AnswersInMemory (λ control. IsToldIfThere IsTextOf (get_member (codes "control") (table_view table.now)) control) result }
+{
+    if value_at(table, "control").is_none() {
+        return Ok(None);
+    }
+    let path = text_of(alloc, table, "control")?;
+    Ok(Some(String::from_str(alloc, path)?))
 }
 
 // The slot and the address of each peer; none where there are no such tables.

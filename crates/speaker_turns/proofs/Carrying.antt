@@ -32,7 +32,7 @@ use Rattle.speaker_turns.proofs.Effects.Standing.{Comes, Keeps, Tries}
 use Rattle.speaker_turns.proofs.Places.{as_many, counted_wire, elsewhere, here}
 
 -- the connection of the session of a place, over all calls since it came
-record IsCarried (first : SpeakerState) (now : Sides) (key : ℕ) (number : ℕ) (waiting : List ℕ) : Type 0 where
+pub record IsCarried (first : SpeakerState) (now : Sides) (key : ℕ) (number : ℕ) (waiting : List ℕ) : Type 0 where
   pub before : List Call
   pub since : List Call
   pub start : SpeakerState
@@ -71,7 +71,7 @@ carried_on first old new key number waiting left asks calls c makes told up hear
     }
 
 -- a connection is carried, and an attempt has carried nothing
-abbrev IsKept : Bool → SpeakerState → Sides → ℕ → ℕ → List ℕ → Type 0
+abbrev pub IsKept : Bool → SpeakerState → Sides → ℕ → ℕ → List ℕ → Type 0
 IsKept true first now key number waiting = IsCarried first now key number waiting
 IsKept false first now key number waiting = IsIdle number now.wire.calls × (waiting ≡ [])
 
@@ -84,11 +84,11 @@ kept_beside false first old new key number waiting asks calls kept makes told qu
     (idle_on number old.wire.calls calls new.wire.calls told kept.0 rests, kept.1)
 
 -- what is kept at a place of what stands there
-abbrev IsKeptAt : SpeakerState → Turns → ℕ → Connection → Type 0
+abbrev pub IsKeptAt : SpeakerState → Turns → ℕ → Connection → Type 0
 IsKeptAt first turns key line = IsKept line.is_up first (sides turns) key line.number (place_at turns key).waiting
 
 -- so it is at each place, each socket has a number of its own, and numbers that didn't come yet have carried nothing
-record AreCarried (first : SpeakerState) (turns : Turns) : Type 0 where
+pub record AreCarried (first : SpeakerState) (turns : Turns) : Type 0 where
   pub before : List Call
   pub made : Makes before first turns.speaker
   pub all : length turns.places ≡ place_count
@@ -273,7 +273,7 @@ effect_carries first old new key left behind are within e wire speaker placed be
     changed first old new key are (effect_changes first old new key left behind are within e wire speaker placed below)
 
 -- a step that leaves each place: its calls carry nothing of any
-record Passes (old new : Turns) : Type 0 where
+pub record Passes (old new : Turns) : Type 0 where
   pub asks : List Call
   pub calls : List WireCall
   pub makes : Makes asks old.speaker new.speaker
@@ -307,10 +307,10 @@ passed first old new are step =
         (kept_beside line.is_up first (sides old) (sides new) key line.number (place_at old key).waiting step.asks step.calls (are.each key line is) step.makes step.told (step.quiet key) (step.rests line.number))
 
 -- what happens at one place, and at the first ones
-abbrev Happening : Type 1
+abbrev pub Happening : Type 1
 Happening = End → PlaceState → Sides → Visit → PlaceState → Sides → Type 0
 
-abbrev HasEffect : Happening → Type 0
+abbrev pub HasEffect : Happening → Type 0
 HasEffect Happens = (key : ℕ) (old : PlaceState) (before : Sides) (visit : Visit) (left : PlaceState) (behind : Sides) → key < 65 → Happens (end_at key) old before visit left behind → Effect key old before left behind
 
 abbrev wire_at : (Happens : Happening) (old new : Turns) (key : ℕ) → (at : AtPlace Happens old key new) → new.counts.wire ≡ at.behind.wire
@@ -333,7 +333,7 @@ at_place_carries Happens effect first old new key are within at below =
     (wire_at Happens old new key at) at.speaker at.places below
 
 -- the speaker is as calls leave it
-abbrev Made : SpeakerState → SpeakerState → Type 0
+abbrev pub Made : SpeakerState → SpeakerState → Type 0
 Made old new = (asks : List Call) × Makes asks old new
 
 made_same : (old new : SpeakerState) → new ≡ old → Made old new
@@ -378,13 +378,13 @@ unfolding place_count
 few_all turns all = omega (arith, all)
 
 -- a step of a turn leads on: it loses no place, and no socket
-record LeadsOn (old new : Turns) : Type 0 where
+pub record LeadsOn (old new : Turns) : Type 0 where
   pub all : length new.places ≡ length old.places
   pub sockets : old.counts.wire.sockets ≤ new.counts.wire.sockets
   pub made : Made old.speaker new.speaker
   pub carries : (first : SpeakerState) → new.counts.wire.sockets < 2 ^ 64 - 1 → AreCarried first old → AreCarried first new
 
-all_lead : (Happens : Happening) → HasEffect Happens → (old new : Turns) → length old.places ≡ place_count → AtAll Happens old new → LeadsOn old new
+pub all_lead : (Happens : Happening) → HasEffect Happens → (old new : Turns) → length old.places ≡ place_count → AtAll Happens old new → LeadsOn old new
 all_lead Happens effect old new all at =
     let reach = at_places_reach Happens effect old.speaker (length old.places) old new (few_all old all) at in
     record {
@@ -394,7 +394,7 @@ all_lead Happens effect old new all at =
       carries = λ first below are. at_places_carry Happens effect first (length old.places) old new are (omega arith) (few_all old all) at below;
     }
 
-leads_both : (old mid new : Turns) → LeadsOn old mid → LeadsOn mid new → LeadsOn old new
+pub leads_both : (old mid new : Turns) → LeadsOn old mid → LeadsOn mid new → LeadsOn old new
 leads_both old mid new one other =
     record {
       all = other.all ∙ one.all;
@@ -403,11 +403,11 @@ leads_both old mid new one other =
       carries = λ first below are. other.carries first below (one.carries first (omega (arith, other.sockets, below)) are);
     }
 
-passes_lead : (old new : Turns) → Passes old new → LeadsOn old new
+pub passes_lead : (old new : Turns) → Passes old new → LeadsOn old new
 passes_lead old new passes =
     record { all = ap length passes.same; sockets = passes.sockets; made = (passes.asks, passes.makes); carries = λ first below are. passed first old new are passes }
 
-quiet_none : (key : ℕ) → Silent key []
+pub quiet_none : (key : ℕ) → Silent key []
 quiet_none key = record { hears = refl; hands = refl; up = tt }
 
 idle_accept : (from : Option SocketAddr) (number : ℕ) → IsIdle number (Accept from ∷ [])
@@ -553,7 +553,7 @@ visits_lead now old new all visits =
     (all_lead (VisitsBut old.next visits.one now) (λ key place before visit left behind few unless. visits_unless_effect (is_off old.next visits.one (place_of (end_at key))) key now place before visit (is_the_one visits.one (place_of (end_at key))) left behind few unless) old visits.visited all visits.visits)
     (next_leads visits.visited new (next_behind visits.one) visits.goes_on)
 
-turn_leads : (now : ℕ) (old new : Turns) (result : Result (Unit {0}) LoopFault) → length old.places ≡ place_count → TakesTurn now old result new → LeadsOn old new
+pub turn_leads : (now : ℕ) (old new : Turns) (result : Result (Unit {0}) LoopFault) → length old.places ≡ place_count → TakesTurn now old result new → LeadsOn old new
 turn_leads now old new (Ok nothing) all turn =
     let begins = begins_lead old turn.begun all turn.begins in
     let accepts = accepts_lead turn.begun turn.admitted (begins.all ∙ all) turn.accepts in
@@ -583,7 +583,7 @@ turns_lead (now ∷ moments) old new all turns =
     let one = turn_leads now old turns.0 turns.1 all turns.2 in
     leads_both old turns.0 new one (turns_lead moments turns.0 new (one.all ∙ all) turns.3)
 
-at_first : (start : Turns) → length start.places ≡ place_count → IsFresh start → AreCarried start.speaker start
+pub at_first : (start : Turns) → length start.places ≡ place_count → IsFresh start → AreCarried start.speaker start
 at_first start all fresh =
     record {
       before = [];

@@ -1,9 +1,9 @@
-mod Asking
-mod Carrying
+pub mod Asking
+pub mod Carrying
 mod Counting
-mod Effects
+pub mod Effects
 mod Ending
 mod Exchanges
 pub mod Listening
-mod Places
+pub mod Places
 mod Stepping

@@ -86,10 +86,10 @@ listens_counted Overdue counts = refl
 listens_counted Unwanted counts = refl
 
 -- what happens at a place doesn't change where the wire listens
-abbrev Happening : Type 1
+abbrev pub Happening : Type 1
 Happening = End → PlaceState → Sides → Visit → PlaceState → Sides → Type 0
 
-abbrev ListensOn : Happening → Type 0
+abbrev pub ListensOn : Happening → Type 0
 ListensOn Happens = (end : End) (old : PlaceState) (before : Sides) (visit : Visit) (left : PlaceState) (behind : Sides) → Happens end old before visit left behind → behind.wire.listens ≡ before.wire.listens
 
 listens_begun : ListensOn Begins
@@ -125,7 +125,7 @@ listens_visited_but next one now end old before visit left behind unless =
     by_line None looks = ap (λ (w : WireState). w.listens) looks.1
     by_line (Some line) looks = by_up line.is_up line looks
 
-listens_given_way : (report : Report) → ListensOn (GivesWay report)
+pub listens_given_way : (report : Report) → ListensOn (GivesWay report)
 listens_given_way report end old before visit left behind gives = by_test (has_opened report end) gives.gives
   where
     by_up : (up : Bool) (line : Connection) → GivesWayUp up line old before left behind → behind.wire.listens ≡ before.wire.listens
@@ -141,7 +141,7 @@ listens_given_way report end old before visit left behind gives = by_test (has_o
     by_test true given = by_line old.line given
 
 -- and at all places
-listens_at_places : (Happens : Happening) → ListensOn Happens → (count : ℕ) (old new : Turns) → AtPlaces Happens count old new → new.counts.wire.listens ≡ old.counts.wire.listens
+pub listens_at_places : (Happens : Happening) → ListensOn Happens → (count : ℕ) (old new : Turns) → AtPlaces Happens count old new → new.counts.wire.listens ≡ old.counts.wire.listens
 listens_at_places Happens on zero old new same = ap (λ (t : Turns). t.counts.wire.listens) same
 listens_at_places Happens on (suc key) old new at =
     ap (λ (c : Counts). c.wire.listens) at.2.counts
@@ -157,7 +157,7 @@ listens_admitted old new (inl none) = ap (λ (t : Turns). t.counts.wire.listens)
 listens_admitted old new (inr (inl away)) = ap (λ (t : Turns). t.counts.wire.listens) away.same
 listens_admitted old new (inr (inr lets)) = listens_seated (awaits_up (wanted_transport_of old.speaker (end_at lets.key))) lets.key lets.address old new lets.sits
 
-listens_turned : (now : ℕ) (old new : Turns) (result : Result (Unit {0}) LoopFault) → TakesTurn now old result new → new.counts.wire.listens ≡ old.counts.wire.listens
+pub listens_turned : (now : ℕ) (old new : Turns) (result : Result (Unit {0}) LoopFault) → TakesTurn now old result new → new.counts.wire.listens ≡ old.counts.wire.listens
 listens_turned now old new (Ok done) turn =
     listens_at_places (GivesWay turn.tells.report) (listens_given_way turn.tells.report) (length turn.tells.told.places) turn.tells.told new turn.tells.gives_way
     ∙ (ap (λ (t : Turns). t.counts.wire.listens) turn.tells.same

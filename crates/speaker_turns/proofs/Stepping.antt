@@ -9,12 +9,15 @@ use Rattle.bgp_fsm.specs.declared.session.Session.{Session}
 use Rattle.std.proofs.lemmas.List.{length-take-le, take_min}
 use Rattle.std.proofs.Math.Seq.{take-append_seam}
 use Rattle.speaker.specs.Agreement.{Agrees}
-use Rattle.speaker.specs.FirstRefusal.{Grows, LacksMemory, cache_refused_at, refused_at, take_refusal_of}
+use Rattle.speaker.specs.FirstRefusal.{Grows, LacksMemory, cache_refused_at, refusal_of, refused_at, take_refusal_of}
 use Rattle.speaker.specs.Runs.{Cache_take_call, Call, Run, Take_call, Turn, asked, call_of, report_of, turn}
 use Rattle.speaker.specs.Shown.{transport_at, transport_or_none}
 use Rattle.speaker.specs.SpeakerState.{SpeakerState}
 use Rattle.speaker.specs.declared.config.Config.{Config}
 use Rattle.speaker.specs.declared.event.Event.{Event}
+use Rattle.speaker.specs.declared.event.Event.TheVariants.{Command as Commanded}
+use Rattle.bgp_conf.specs.declared.command.Command.{Command}
+use Rattle.speaker_turns.specs.Obeying.{Commanding}
 use Rattle.speaker.specs.declared.event.Report.{Report}
 use Rattle.rtr_session.specs.SessionState.{Session as CacheSession}
 use Rattle.routes.specs.Linked.{Linked}
@@ -44,6 +47,18 @@ steps_well event old (Ok report) new None never refused = refl
 steps_well event old (Ok report) new (Some first) never refused = absurd (let wrong : Ok report ≡ Err first = refused.0 in cc)
 steps_well event old (Err why) new None never refused = absurd (never refused.1.0)
 steps_well event old (Err why) new (Some first) never refused = refl
+
+abbrev err_of : Refusal → Result Report Refusal
+err_of why = Err why
+
+-- a command is accepted, or refused
+pub command_steps : (command : Command) (old : SpeakerState) (result : Result Report Refusal) (new : SpeakerState) → Refuses (Commanded command) old result new (refusal_of old (Commanded command)) → Made (Commanded command) old result new → Commanding command old result new
+command_steps command old (Ok report) new refused made = made
+command_steps command old (Err why) new refused made = by_first (refusal_of old (Commanded command)) refused
+  where
+    by_first : (first : Option Refusal) → Refuses (Commanded command) old (Err why) new first → MatchOption first ((why ≡ NoMemory) × LacksMemory (Commanded command) old new) (λ w. (why ≡ w) × (new ≡ old))
+    by_first None lacks = lacks
+    by_first (Some w) is = ((let same : err_of why ≡ err_of w = is.0 in cc), is.1)
 
 -- what a transport takes isn't refused
 by_test : (test : Bool) (why : Refusal) → is_none (if test then None else Some why) ≡ test

@@ -3,12 +3,13 @@ ghost use Rattle.std.specs.Prelude.{◌≡◌, ◌≤◌, ◌<◌, is_none, leng
 ghost use Rattle.rib_out.specs.Slots.{has_slot};
 ghost use Rattle.speaker.specs.FirstRefusal.{Grows, awaits_up, may_bring_octets, may_fail, refusal_of};
 ghost use Rattle.speaker.specs.Runs.{call_of};
+ghost use Rattle.speaker_turns.specs.Obeying.{Commanding};
 ghost use Rattle.speaker_turns.specs.Sessions.{Asks, Ticks, bytes_call, fail_call, is_there, queued_for, take_call, transport_of, up_call, wanted_transport_of};
 ghost use Rattle.speaker_turns.specs.Turns.{has_opened};
 ghost use Rattle.speaker_turns.specs.declared.end.End.TheVariants.{Cache, Peer};
 
 use crate::end::End;
-use bgp_conf::PEER_SLOTS;
+use bgp_conf::{Command, PEER_SLOTS, Refusal};
 use decision::Book;
 use net_prefix::Transport;
 use speaker::{Event, Report, Speaker};
@@ -72,6 +73,16 @@ fn make<A: Allocator + Clone, B: Book<A>>(speaker: &mut Speaker<A, B>, event: Ev
     ensures asks { Asks (call_of event.entry) result speaker.old speaker.new }
 {
     speaker.step(event).is_ok()
+}
+
+/// Hands in a command.
+pub(crate) fn command<A: Allocator + Clone, B: Book<A>>(
+    speaker: &mut Speaker<A, B>,
+    command: Command<'_>,
+) -> Result<Report, Refusal>
+    ensures { Commanding command.entry speaker.old result speaker.new }
+{
+    speaker.step(Event::Command(command))
 }
 
 /// Takes what the speaker has queued for the session, as much as the buffer holds, and answers how many octets.

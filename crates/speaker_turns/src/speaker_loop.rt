@@ -3,12 +3,14 @@ ghost use Rattle.std.specs.Prelude.{◌≡◌, ◌<◌, ◌≤◌, ◌||◌, ℕ
 ghost use Rattle.std.specs.Option.{IfSome};
 ghost use Rattle.wires.specs.TurnOctets.{turn_octets};
 ghost use Rattle.speaker_turns.specs.Ends.{place_count};
+ghost use Rattle.speaker_turns.specs.Obeying.{Obeys};
 ghost use Rattle.speaker_turns.specs.Serving.{Begins, VisitsUnless};
 ghost use Rattle.speaker_turns.specs.Turns.{Admits, AtAll, AtPlace, AwaitsAt, GivesWay, IsTold, TakesTurn, VisitsAll, VisitsBut, counted, idle, vacant, with_remote};
 
 use crate::end::{End, PLACES};
 use crate::place::{Place, Visit};
-use crate::sessions::tick;
+use crate::sessions::{command as hand_in, tick};
+use bgp_conf::{Command, Refusal};
 use decision::Book;
 use live_book::LiveBook;
 use speaker::{Report, Speaker};
@@ -85,6 +87,20 @@ impl<W: Wire + Drop, A: Allocator + Clone, B: Book<A>> SpeakerLoop<W, A, B> {
         self.visit_all(now);
         self.tell(now);
         Ok(())
+    }
+
+    /// Hands the speaker a command between two turns. An attempt at a connection that the speaker begins again takes the place of
+    /// one that stands; all else that the command asks of connections is done by the next turn.
+    pub fn obey(&mut self, command: Command<'_>) -> Result<Report, Refusal>
+        ensures { Obeys command.entry self.old result self.new }
+    {
+        match hand_in(&mut self.speaker, command) {
+            Ok(report) => {
+                self.give_way_all(&report);
+                Ok(report)
+            }
+            Err(refusal) => Err(refusal),
+        }
     }
 
     /// The speaker.

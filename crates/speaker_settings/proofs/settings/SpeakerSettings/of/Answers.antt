@@ -44,6 +44,11 @@ returns-in_err-listen-clause-told c =
     let needs = IsToldBy (table_view c.args.table.now) in
     in_memory needs _ (passes_on _ needs c.from_residual-in_err-listen.result _ c.from_residual-in_err-listen.ensures.1 c.in_err-listen.ensures (λ none s told. none s.listen told.listen))
 
+pub returns-in_err-control-clause-told : goal.returns-in_err-control-clause-told
+returns-in_err-control-clause-told c =
+    let needs = IsToldBy (table_view c.args.table.now) in
+    passes_on_in_memory _ needs c.from_residual-in_err-control.result _ c.from_residual-in_err-control.ensures.1 c.in_err-control.ensures (λ none s told. none s.control told.control)
+
 pub returns-in_err-peers-clause-told : goal.returns-in_err-peers-clause-told
 returns-in_err-peers-clause-told c =
     let needs = IsToldBy (table_view c.args.table.now) in

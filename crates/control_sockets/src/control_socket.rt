@@ -1,0 +1,133 @@
+//! A Unix socket and its operators.
+
+use control_lines::{OPERATORS, Operator, Operators, Wish};
+use std::alloc::{AllocError, AllocGlobal, Global};
+use std::fs;
+use std::io::{self, ErrorKind};
+use std::net::Net;
+use std::os::unix::net::{UnixListener, UnixStream};
+use std::rt::Files;
+
+// The place of an operator.
+type Place = Option<Operator<UnixStream>>;
+
+/// A Unix socket that doesn't wait, and its operators.
+#[derive(Drop)]
+pub struct ControlSocket {
+    alloc: Global,
+    listener: UnixListener,
+    places: Vec<Place>,
+    is_busy: bool,
+}
+
+impl ControlSocket {
+    /// Listens at this path.
+    pub fn open<R: Net + Files + AllocGlobal>(rt: &R, path: &str) -> io::Result<ControlSocket> {
+        let listener = bound(rt, path)?;
+        listener.set_nonblocking(true)?;
+        Ok(ControlSocket {
+            alloc: rt.alloc(),
+            listener,
+            places: empty_places(rt.alloc())?,
+            is_busy: false,
+        })
+    }
+
+    // Lets in an operator who has come, where there is a place.
+    fn let_in(&mut self, now: u64) {
+        let Some(key) = self.places.iter().position(|place| place.is_none()) else {
+            return;
+        };
+        let Ok((stream, _)) = self.listener.accept() else {
+            return;
+        };
+        if stream.set_nonblocking(true).is_err() {
+            return;
+        }
+        if let Ok(operator) = Operator::new(self.alloc, stream, now)
+            && let Some(place) = self.places.get_mut(key)
+        {
+            *place = Some(operator);
+            self.is_busy = true;
+        }
+    }
+}
+
+impl Operators for ControlSocket {
+    fn turn(&mut self, now: u64) {
+        self.is_busy = false;
+        self.let_in(now);
+        for place in &mut self.places {
+            if visit(place, now) {
+                self.is_busy = true;
+            }
+        }
+    }
+
+    fn wish(&self, key: usize) -> Wish {
+        match self.places.get(key) {
+            Some(Some(operator)) => operator.wish(),
+            _ => Wish::Nothing,
+        }
+    }
+
+    fn line(&self, key: usize) -> &[u8] {
+        match self.places.get(key) {
+            Some(Some(operator)) => operator.line(),
+            _ => &[],
+        }
+    }
+
+    fn say(&mut self, key: usize, octets: &[u8], goes_on: bool) {
+        if let Some(Some(operator)) = self.places.get_mut(key) {
+            operator.say(octets, goes_on);
+            self.is_busy = true;
+        }
+    }
+
+    fn is_busy(&self) -> bool {
+        self.is_busy
+    }
+}
+
+// Visits who is at the place, and answers whether octets came or went.
+fn visit(place: &mut Place, now: u64) -> bool {
+    let visited = match place {
+        Some(operator) => operator.visit(now),
+        None => return false,
+    };
+    match visited {
+        Some(has_moved) => has_moved,
+        None => {
+            *place = None;
+            true
+        }
+    }
+}
+
+fn empty_places(alloc: Global) -> Result<Vec<Place>, AllocError> {
+    let mut places = Vec::new(alloc);
+    for _ in 0..OPERATORS {
+        places.push(None)?;
+    }
+    Ok(places)
+}
+
+// A listener at the path, in the place of one that a program left that is gone.
+fn bound<R: Net + Files + AllocGlobal>(rt: &R, path: &str) -> io::Result<UnixListener> {
+    match UnixListener::bind(rt, path) {
+        Err(error) if error.kind() == ErrorKind::AddrInUse && is_left(rt, path) => {
+            fs::remove_file(rt, path)?;
+            UnixListener::bind(rt, path)
+        }
+        bound => bound,
+    }
+}
+
+// Whether the socket at the path is one at which nobody listens.
+fn is_left<R: Net>(rt: &R, path: &str) -> bool {
+    match UnixStream::connect(rt, path) {
+        Ok(_) => false,
+        Err(error) => error.kind() == ErrorKind::ConnectionRefused,
+    }
+}

@@ -1,0 +1,3 @@
+pub mod AskedMoves
+pub mod Listening
+pub mod Moving

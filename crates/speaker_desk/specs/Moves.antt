@@ -1,0 +1,80 @@
+-- What turns and operators' lines make of a loop together (own).
+use Rattle.std.specs.Prelude.{◌≡◌, ◌++◌, ◌⊎◌, ℕ, ⊤, List, [], ◌∷◌, Result, Ok, Err, codes}
+use Rattle.std.specs.declared.net.socket_addr.SocketAddr.{SocketAddr}
+use Rattle.bgp_conf.specs.declared.command.Command.{Command}
+use Rattle.bgp_conf.specs.declared.command.Command.TheVariants.{Disable}
+use Rattle.bgp_conf.specs.declared.refusal.Refusal.{Refusal}
+use Rattle.command_lines.specs.CommandWords.{Says}
+use Rattle.command_lines.specs.Words.{words_in}
+use Rattle.speaker.specs.Runs.{Command_call, Run, Turn, asked}
+use Rattle.speaker.specs.declared.event.Report.{Report}
+use Rattle.wires.specs.declared.fault.LoopFault.TheVariants.{Accept}
+use Rattle.speaker_turns.specs.Obeying.{Obeys}
+use Rattle.speaker_turns.specs.Turns.{TakesTurn, Turns, with_remote}
+use Rattle.speaker_turns.specs.declared.end.End.{End}
+
+-- a line asks for the command that its words say, and one that stops the program for the end of each session
+abbrev pub AsksFor : List ℕ → Command → Type 0
+AsksFor line command = Says (words_in line) command ⊎ ((line ≡ codes "stop") × (slot : ℕ) × (command ≡ Disable slot))
+
+-- what happens to a loop: a turn at a moment, which goes well, or can't accept; a command that an operator's line asks for; or that it
+-- is told where a session's other side is
+pub data Move : Type 0 where
+  Turned : (now : ℕ) → Move
+  Stopped : (now : ℕ) → Move
+  Obeyed : (line : List ℕ) → (command : Command) → Move
+  Placed : (end : End) → (remote : SocketAddr) → Move
+
+abbrev pub Moves : Move → Turns → Turns → Type 0
+Moves (Turned now) old new = TakesTurn now old (Ok tt) new
+Moves (Stopped now) old new = TakesTurn now old (Err Accept) new
+Moves (Obeyed line command) old new = AsksFor line command × (result : Result Report Refusal) × Obeys command old result new
+Moves (Placed end remote) old new = new ≡ with_remote end remote old
+
+-- these, one after another
+abbrev pub MovesAll : List Move → Turns → Turns → Type 0
+MovesAll [] old new = new ≡ old
+MovesAll (move ∷ moves) old new = (mid : Turns) × Moves move old mid × MovesAll moves mid new
+
+-- the moments of the turns among them
+abbrev pub moments_in : List Move → List ℕ
+moments_in [] = []
+moments_in (Turned now ∷ moves) = now ∷ moments_in moves
+moments_in (Stopped now ∷ moves) = now ∷ moments_in moves
+moments_in (Obeyed line command ∷ moves) = moments_in moves
+moments_in (Placed end remote ∷ moves) = moments_in moves
+
+-- each turn among them goes well
+abbrev pub IsWell : Move → Type 0
+IsWell (Turned now) = ⊤
+IsWell (Stopped now) = ⊥
+IsWell (Obeyed line command) = ⊤
+IsWell (Placed end remote) = ⊤
+
+abbrev pub AreWell : List Move → Type 0
+AreWell [] = ⊤
+AreWell (move ∷ moves) = IsWell move × AreWell moves
+
+-- no turn is among them
+abbrev pub IsAnOperators : Move → Type 0
+IsAnOperators (Turned now) = ⊥
+IsAnOperators (Stopped now) = ⊥
+IsAnOperators (Obeyed line command) = ⊤
+IsAnOperators (Placed end remote) = ⊤
+
+abbrev pub AreOperators : List Move → Type 0
+AreOperators [] = ⊤
+AreOperators (move ∷ moves) = IsAnOperators move × AreOperators moves
+
+-- the calls of a move, the newest first: those of a turn are any; of a command that is accepted its own alone, and none where it is
+-- refused; being told where a side is makes none
+abbrev pub AreCallsOf : Move → Run → Type 0
+AreCallsOf (Turned now) r = ⊤
+AreCallsOf (Stopped now) r = ⊤
+AreCallsOf (Obeyed line command) r = (r ≡ []) ⊎ ((t : Turn) × (r ≡ t ∷ []) × (asked t.call ≡ Command_call command))
+AreCallsOf (Placed end remote) r = r ≡ []
+
+-- the run, the newest call first, is that of these moves, in order
+abbrev pub AreCallsOfAll : List Move → Run → Type 0
+AreCallsOfAll [] r = r ≡ []
+AreCallsOfAll (move ∷ moves) r = (later first : Run) × (r ≡ later ++ first) × AreCallsOf move first × AreCallsOfAll moves later
