@@ -7,13 +7,13 @@ use Rattle.program_endings.specs.declared.aside.Aside.{Aside}
 use Rattle.program_endings.specs.declared.aside.Aside.TheVariants.{Help, Version, Check}
 use Rattle.program_endings.specs.declared.fault.ExitFault.{ExitFault}
 use Rattle.program_endings.specs.declared.fault.ExitFault.TheVariants.{Arguments, Settings, BadLine, RefusedLine, Device}
-use Rattle.speaker_program.specs.Begun.{IsServed, TakesTurnsOf}
+use Rattle.speaker_program.specs.Begun.{IsServed, TakesTurnsOf, patience_of}
 use Rattle.speaker_program.specs.Checked.{IsChecked, IsCheckedBy}
 use Rattle.speaker_program.specs.Endings.{EndsSo, status_at_end}
 use Rattle.speaker_program.specs.Exits.{exit_of_fault}
 use Rattle.speaker_program.specs.declared.fault.SpeakerFault.{SpeakerFault}
 use Rattle.speaker_settings.specs.declared.settings.SpeakerSettings.{SpeakerSettings}
-use Rattle.speaker_turns.specs.Turns.{Turns, idle}
+use Rattle.speaker_turns.specs.Turns.{Turns, idle, with_patience}
 use Rattle.speaker_turns.proofs.Listening.{listens_on}
 use Rattle.speaker_desk.proofs.Listening.{moves_listen}
 use Rattle.speaker_program.proofs.Remotes.{remotes_listen}
@@ -87,4 +87,4 @@ pub listens_there : (Told : Option (List ℕ) → Type 0) (settings : SpeakerSet
 listens_there Told settings count before behind turns listens is =
     taken_listens settings.control count before behind is.begun turns is.takes
     ∙ (ap (λ (t : Turns). t.counts.wire.listens) is.begins.remotes
-    ∙ (remotes_listen settings.peers.items settings.cache (idle is.begins.speaker is.begins.wire) ∙ ap (λ (w : WireState). w.listens) is.begins.opened))
+    ∙ (remotes_listen settings.peers.items settings.cache (with_patience (patience_of settings) (idle is.begins.speaker is.begins.wire)) ∙ ap (λ (w : WireState). w.listens) is.begins.opened))

@@ -3,8 +3,9 @@ use Rattle.std.specs.Prelude.{◌≡◌, ℕ, List, [], ◌∷◌, Option, None,
 use Rattle.std.specs.declared.alloc.Global.{Global}
 use Rattle.std.specs.declared.net.socket_addr.SocketAddr.{SocketAddr as Address}
 use Rattle.speaker.specs.SpeakerState.{SpeakerState}
-use Rattle.speaker_turns.specs.Turns.{Turns, idle, with_remote}
+use Rattle.speaker_turns.specs.Turns.{Turns, idle, with_patience, with_remote}
 use Rattle.speaker_turns.specs.declared.end.End.TheVariants.{Peer, Cache}
+use Rattle.speaker_turns.specs.declared.patience.Patience.{Patience}
 use Rattle.wires.specs.Wires.{WireState}
 use Rattle.speaker_program.specs.Commanded.{IsCommanded, TakesSoMany}
 use Rattle.speaker_program.specs.declared.fault.SpeakerFault.{SpeakerFault}
@@ -26,6 +27,10 @@ with_cache (Some remote) turns = with_remote Cache remote turns
 abbrev pub with_remotes : List (ℕ × Address) → Option Address → Turns → Turns
 with_remotes peers cache turns = with_cache cache (with_peers peers turns)
 
+-- how patient a loop of the settings is
+abbrev pub patience_of : SpeakerSettings → Patience
+patience_of settings = record { send_hold = Some settings.send_hold; open_wait = settings.open_wait }
+
 -- the text of a reader that is given, as far as it is known
 abbrev pub TextFrom : {L : Type 0} → (L → Type 0) → (L → Option (List ℕ)) → Option (List ℕ) → Type 0
 TextFrom {L} gives remaining text = (lines : L) × gives lines × (text ≡ remaining lines)
@@ -35,8 +40,8 @@ abbrev pub StateFrom : {W : Type 0} → (W → Type 0) → (W → WireState) →
 StateFrom {W} gives state_of state = (wire : W) × gives wire × (state ≡ state_of wire)
 
 -- a loop before its first turn: its speaker is as the commands of the settings, of such a text, leave one of their AS, Identifier,
--- cache and capabilities, its slots are just those of the settings, and over such a wire it knows where each peer of the settings is, and their
--- cache
+-- cache and capabilities, its slots are just those of the settings, it is as patient as they tell, and over such a wire it knows
+-- where each peer of the settings is, and their cache
 pub record IsBegun (Told : Option (List ℕ) → Type 0) (Opened : WireState → Type 0) (settings : SpeakerSettings) (turns : Turns) : Type 0 where
   pub speaker : SpeakerState
   pub text : Option (List ℕ)
@@ -45,7 +50,7 @@ pub record IsBegun (Told : Option (List ℕ) → Type 0) (Opened : WireState →
   pub opened : Opened wire
   pub commanded : IsCommanded text (record { asn = settings.asn; identifier = settings.identifier; cache = is_some settings.cache; multiprotocol = settings.multiprotocol }) speaker
   pub slots : HasJust settings.peers.items speaker
-  pub remotes : turns ≡ with_remotes settings.peers.items settings.cache (idle speaker wire)
+  pub remotes : turns ≡ with_remotes settings.peers.items settings.cache (with_patience (patience_of settings) (idle speaker wire))
 
 -- so many turns, each at the moment that the clock told for it; where the settings have a path for operators, so many or fewer, with
 -- what operators asked for between them

@@ -10,7 +10,7 @@ ghost use Rattle.speaker_program.specs.Endings.{EndsSo, IsOfWords, status_at_end
 ghost use Rattle.program_endings.specs.Asides.{Asks};
 ghost use Rattle.program_endings.specs.declared.aside.Aside.{Aside};
 ghost use Rattle.std.specs.Result.{IsErrAnd};
-ghost use Rattle.speaker_program.specs.Begun.{IsBegun, IsServed, StateFrom, TakesTurnsOf, TextFrom, with_remotes};
+ghost use Rattle.speaker_program.specs.Begun.{IsBegun, IsServed, StateFrom, TakesTurnsOf, TextFrom, patience_of, with_remotes};
 ghost use Rattle.speaker_settings.specs.declared.settings.SpeakerSettings.{SpeakerSettings};
 ghost use Rattle.speaker_program.specs.Slots.{HasJust, is_configured};
 ghost use Rattle.speaker_settings.specs.ToldSettings.{IsToldBy};
@@ -36,7 +36,7 @@ use scenario::{Table, obey_lines, show};
 use speaker::{Config, Speaker};
 use speaker_desk::{AttendFault, Desk, attended_turns};
 use speaker_settings::{SpeakerSettings, has_slot};
-use speaker_turns::{End, SpeakerLoop};
+use speaker_turns::{End, Patience, SpeakerLoop};
 use std::alloc::{AllocGlobal, Global};
 use std::io::{self, BufRead, Write};
 use std::net::{Net, SocketAddr, TcpListener, TcpStream};
@@ -394,8 +394,19 @@ where
     let speaker = commanded(alloc, settings, commands)?;
     let wire = opened(settings.listen, opens)?;
     let mut served = SpeakerLoop::new(alloc, wire, speaker)?;
+    served.set_patience(patience_of(settings));
     tell_remotes(settings, &mut served);
     Ok(served)
+}
+
+// How patient the loop of the settings is.
+fn patience_of(settings: &SpeakerSettings) -> Patience
+    ensures { result ≡ patience_of settings.now }
+{
+    Patience {
+        send_hold: Some(settings.send_hold),
+        open_wait: settings.open_wait,
+    }
 }
 
 // The wire that is opened there.

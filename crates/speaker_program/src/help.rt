@@ -17,6 +17,8 @@ multiprotocol  true or false: whether its OPEN tells IPv4 unicast (false)
 cache          address and port of its RPKI cache, as \"192.0.2.2:323\" (no cache)
 listen         address and port where passive peers connect, as \"0.0.0.0:179\" (it doesn't listen)
 control        path of the Unix socket at which ovctl asks while it runs (none)
+send_hold      seconds after which a connection is closed that takes no octet (480)
+open_wait      seconds after which one is closed from which no whole OPEN comes (none)
 [[peer]]       a table for each slot that the commands fill:
   slot         number of the slot, 0 to 63, none twice
   remote       address and port of the peer

@@ -16,9 +16,9 @@ use Rattle.settings_keys.specs.declared.cause.SettingsPlace.{SettingsPlace}
 use Rattle.settings_keys.specs.KnownKeys.{HasNoKeyBut}
 use Rattle.settings_keys.specs.declared.cause.SettingsFault.{SettingsFault}
 use Rattle.settings_keys.specs.declared.cause.SettingsFault.TheVariants.{Settings, NoMemory}
-use Rattle.settings_keys.specs.Keys.{Answers, AnswersInMemory, IsAddress, IsNumber, IsText, IsTold, IsToldIfThere}
+use Rattle.settings_keys.specs.Keys.{Answers, AnswersInMemory, IsAddress, IsNumber, IsText, IsTold, IsToldIfThere, IsToldOrUsual}
 use Rattle.speaker_settings.specs.PeerSlots.{AreSlots, has_slot}
-use Rattle.speaker_settings.specs.ToldSettings.{ArePeers, IsAsn, IsIdentifier, IsPeer, IsSlot, IsTextOf, keys_of_a_peer}
+use Rattle.speaker_settings.specs.ToldSettings.{ArePeers, IsAsn, IsIdentifier, IsPeer, IsSeconds, IsSlot, IsTextOf, keys_of_a_peer}
 
 pub no_asn : (o : Option Data) → TellsNothing (IsToldIfThere IsNumber o) → TellsNothing (IsTold IsAsn o)
 no_asn None none asn told = told
@@ -43,6 +43,24 @@ zero_identifier (Some found) text address is spelled none identifier told =
     let same_address : told.0 ≡ address = IsIpv4Text_unique text told.0 address (subst (λ (t : List ℕ). IsIpv4Text t told.0) same_text told.1.2) spelled in
     let same : identifier ≡ 0 = told.2 ∙ ap ipv4_bits same_address ∙ none in
     absurd (omega (arith, told.3, same))
+
+-- no number is no seconds, nor is 0
+pub no_seconds : (o : Option Data) → TellsNothing (IsToldIfThere IsNumber o) → TellsNothing (IsToldIfThere IsSeconds o)
+no_seconds None none value told = none value told
+no_seconds (Some found) none None told = told
+no_seconds (Some found) none (Some value) told = none (Some value) told.0
+
+pub zero_seconds : (o : Option Data) → IsToldIfThere IsNumber o (Some 0) → TellsNothing (IsToldIfThere IsSeconds o)
+zero_seconds None is value told = absurd cc
+zero_seconds (Some found) is None told = told
+zero_seconds (Some found) is (Some value) told =
+    let same : value ≡ 0 = ap nat_abs (same_Some _ _ (sym told.0.0 ∙ is.0)) in
+    absurd (omega (arith, same, told.1))
+
+-- a key that tells nothing, and may lack
+pub nothing_or_usual : (Is : Data → ℕ → Type 0) (usual : ℕ) (o : Option Data) → TellsNothing (IsToldIfThere Is o) → TellsNothing (IsToldOrUsual Is usual o)
+nothing_or_usual Is usual None none value told = none None refl
+nothing_or_usual Is usual (Some found) none value told = none (Some value) told
 
 pub no_slot : (o : Option Data) → TellsNothing (IsToldIfThere IsNumber o) → TellsNothing (IsTold IsSlot o)
 no_slot None none slot told = told

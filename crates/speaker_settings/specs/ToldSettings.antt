@@ -21,13 +21,17 @@ abbrev pub IsIdentifier : Data → ℕ → Type 0
 IsIdentifier found identifier =
     (address : Ipv4Addr) × IsSpelled IsIpv4Text found address × (identifier ≡ ipv4_bits address) × (1 ≤ identifier)
 
+-- seconds: a number of 32 bits that is not 0
+abbrev pub IsSeconds : Data → ℕ → Type 0
+IsSeconds found seconds = IsNumber found seconds × (1 ≤ seconds)
+
 -- a number of the 64 slots
 abbrev pub IsSlot : Data → ℕ → Type 0
 IsSlot found slot = IsNumber found slot × (slot < 64)
 
 -- the keys of the settings, and of each peer's table
 abbrev pub keys_of_a_speaker : List (List ℕ)
-keys_of_a_speaker = codes "as" ∷ codes "identifier" ∷ codes "commands" ∷ codes "cache" ∷ codes "multiprotocol" ∷ codes "listen" ∷ codes "control" ∷ codes "peer" ∷ []
+keys_of_a_speaker = codes "as" ∷ codes "identifier" ∷ codes "commands" ∷ codes "cache" ∷ codes "multiprotocol" ∷ codes "listen" ∷ codes "control" ∷ codes "send_hold" ∷ codes "open_wait" ∷ codes "peer" ∷ []
 
 abbrev pub keys_of_a_peer : List (List ℕ)
 keys_of_a_peer = codes "slot" ∷ codes "remote" ∷ []
@@ -64,4 +68,6 @@ pub record IsToldBy (table : Members) (settings : SpeakerSettings) : Type 0 wher
   pub multiprotocol : IsToldOrUsual IsYesOrNo false (get_member (codes "multiprotocol") table) settings.multiprotocol
   pub listen : IsToldIfThere IsAddress (get_member (codes "listen") table) settings.listen
   pub control : IsToldIfThere IsTextOf (get_member (codes "control") table) settings.control
+  pub send_hold : IsToldOrUsual IsSeconds 480 (get_member (codes "send_hold") table) settings.send_hold
+  pub open_wait : IsToldIfThere IsSeconds (get_member (codes "open_wait") table) settings.open_wait
   pub peers : ArePeersAt (get_member (codes "peer") table) settings.peers.items

@@ -7,4 +7,4 @@
 
 mod settings;
 
-pub use settings::{SpeakerSettings, has_slot};
+pub use settings::{SEND_HOLD_SECONDS, SpeakerSettings, has_slot};

@@ -22,7 +22,7 @@ use Rattle.speaker_turns.specs.Carrying.{CarriesOwn, ComesLast, IsFresh, StaysUp
 use Rattle.speaker_turns.specs.Ends.{end_at, place_count, place_of}
 use Rattle.speaker_turns.specs.Serving.{Begins, Connection, PlaceState, Sides, seated, up}
 use Rattle.speaker_turns.specs.Sessions.{Asks, Makes, Ticks, up_call, wanted_transport_of}
-use Rattle.speaker_turns.specs.Turns.{Accepts, AtAll, AtPlace, AtPlaces, GivesWay, IsTold, LetsIn, NoneComes, SitsDown, Stops, TakesTurn, TakesTurns, Turns, TurnsAway, VisitsAll, VisitsBut, has_opened, is_off, is_the_one, next_behind, place_at, sides, vacant}
+use Rattle.speaker_turns.specs.Turns.{Accepts, AtAll, AtPlace, AtPlaces, GivesWay, IsTold, LetsIn, NoneComes, SitsDown, Stops, TakesTurn, TakesTurns, Turns, TurnsAway, VisitsAll, VisitsBut, has_opened, is_off, is_the_one, moment_of, next_behind, place_at, sides, vacant}
 use Rattle.speaker_turns.specs.declared.end.End.{End}
 use Rattle.speaker_turns.specs.declared.place.Visit.{Visit}
 use Rattle.speaker_turns.proofs.Asking.{Silent, handed-on, heard-on, makes_none, makes_on, of_up, silent, up-on}
@@ -550,7 +550,7 @@ next_leads old new next same =
 visits_lead : (now : ℕ) (old new : Turns) → length old.places ≡ place_count → VisitsAll now old new → LeadsOn old new
 visits_lead now old new all visits =
     leads_both old visits.visited new
-    (all_lead (VisitsBut old.next visits.one now) (λ key place before visit left behind few unless. visits_unless_effect (is_off old.next visits.one (place_of (end_at key))) key now place before visit (is_the_one visits.one (place_of (end_at key))) left behind few unless) old visits.visited all visits.visits)
+    (all_lead (VisitsBut old.next visits.one (moment_of old now)) (λ key place before visit left behind few unless. visits_unless_effect (is_off old.next visits.one (place_of (end_at key))) key (moment_of old now) place before visit (is_the_one visits.one (place_of (end_at key))) left behind few unless) old visits.visited all visits.visits)
     (next_leads visits.visited new (next_behind visits.one) visits.goes_on)
 
 pub turn_leads : (now : ℕ) (old new : Turns) (result : Result (Unit {0}) LoopFault) → length old.places ≡ place_count → TakesTurn now old result new → LeadsOn old new

@@ -20,8 +20,9 @@ use Rattle.speaker_turns.specs.Ends.{end_at, place_of}
 use Rattle.speaker_turns.specs.Losses.{LosesAllButOne}
 use Rattle.speaker_turns.specs.Serving.{Answers, AnswersAt, Attends, AttendsAttempt, AttendsUp, Begins, BeginsTo, Connection, Finds, GivesWayIf, GivesWayUp, GivesWayWhat, GoesOn, IsUnwanted, Looks, LooksUp, LooksWhat, PlaceState, Reads, Serves, Settles, Sides, Visits, VisitsTold, VisitsWhat, awaited_at, found_at_rest, found_by_write, found_up, is_opening, judged}
 use Rattle.speaker_turns.specs.Sessions.{transport_of, wanted_transport_of}
-use Rattle.speaker_turns.specs.Turns.{Accepts, AtPlaces, GivesWay, SitsDown, TakesTurn, Turned, Turns, VisitsBut, counted, has_opened, is_off, is_the_one, place_at, sides}
+use Rattle.speaker_turns.specs.Turns.{Accepts, AtPlaces, GivesWay, SitsDown, TakesTurn, Turned, Turns, VisitsBut, counted, has_opened, is_off, is_the_one, moment_of, place_at, sides}
 use Rattle.speaker_turns.specs.declared.end.End.{End}
+use Rattle.speaker_turns.specs.declared.patience.Moment.{Moment}
 use Rattle.speaker_turns.specs.declared.place.Visit.{Visit}
 use Rattle.speaker_turns.specs.declared.place.Visit.TheVariants.{Stays, Faulty, Ended, Closed, Overdue, Unwanted}
 
@@ -87,7 +88,7 @@ judged_tells true Closed visit old new is told = tells_found visit Closed old ne
 judged_tells true Overdue visit old new is told = tells_found visit Overdue old new is told
 judged_tells true Unwanted visit old new is told = tells_found visit Unwanted old new is told
 
-serves_tells : (end : End) (now : ℕ) (line : Connection) (waiting : List ℕ) (old : Sides) (visit : Visit) (after : Connection) (left : List ℕ) (new : Sides) → Serves end now line waiting old visit after left new → Tells visit old.wire new.wire
+serves_tells : (end : End) (now : Moment) (line : Connection) (waiting : List ℕ) (old : Sides) (visit : Visit) (after : Connection) (left : List ℕ) (new : Sides) → Serves end now line waiting old visit after left new → Tells visit old.wire new.wire
 serves_tells end now line waiting old visit after left new serves = by_read serves.received serves.reads serves.goes_on
   where
     answered : (received : Received) → serves.between.wire.faults ≡ old.wire.faults → serves.between.wire.ends ≡ old.wire.ends → AnswersAt end now line waiting serves.between visit after left new → Tells visit old.wire new.wire
@@ -121,7 +122,7 @@ looks_tell end line old visit after new looks = by_told looks.told looks.asks lo
     by_told AttemptFault is finds = tells_found visit Faulty old.wire new.wire finds.0 (record { faults_are = ap (λ (w : WireState). w.faults) is; ends_are = ap (λ (w : WireState). w.ends) is })
     by_told Connected is up = found (awaits_up (wanted_transport_of old.speaker end)) up.visit_is (record { faults_are = ap (λ (w : WireState). w.faults) is; ends_are = ap (λ (w : WireState). w.ends) is })
 
-attends_tell : (up : Bool) (end : End) (now : ℕ) (line : Connection) (waiting : List ℕ) (old : Sides) (visit : Visit) (after : Connection) (left : List ℕ) (new : Sides) → Attends up end now line waiting old visit after left new → Tells visit old.wire new.wire
+attends_tell : (up : Bool) (end : End) (now : Moment) (line : Connection) (waiting : List ℕ) (old : Sides) (visit : Visit) (after : Connection) (left : List ℕ) (new : Sides) → Attends up end now line waiting old visit after left new → Tells visit old.wire new.wire
 attends_tell true end now line waiting old visit after left new attends = by_test (may_bring_octets (transport_of old.speaker end)) attends
   where
     by_test : (test : Bool) → AttendsUp test end now line waiting old visit after left new → Tells visit old.wire new.wire
@@ -179,7 +180,7 @@ begins_tell end old before visit left behind begins = by_address (awaited_at (tr
     by_address (Some remote) (inr fails) =
         tells_found visit Faulty before.wire behind.wire fails.visit_is (record { faults_are = ap (λ (w : WireState). w.faults) fails.wire_is; ends_are = ap (λ (w : WireState). w.ends) fails.wire_is })
 
-visits_tell : (now : ℕ) → TellsAll (Visits now)
+visits_tell : (now : Moment) → TellsAll (Visits now)
 visits_tell now end old before visit left behind visits = by_line old.line visits
   where
     by_line : (line : Option Connection) → VisitsWhat end now line old before visit left behind → Tells visit before.wire behind.wire
@@ -188,7 +189,7 @@ visits_tell now end old before visit left behind visits = by_line old.line visit
         tells_on visit before.wire v.served.wire behind.wire (attends_tell line.is_up end now line old.waiting before visit v.after v.left v.served v.attends)
         (settles_tell visit end v.after v.served behind v.settles)
 
-visits_but_tell : (next : ℕ) (one : Option ℕ) (now : ℕ) → TellsAll (VisitsBut next one now)
+visits_but_tell : (next : ℕ) (one : Option ℕ) (now : Moment) → TellsAll (VisitsBut next one now)
 visits_but_tell next one now end old before visit left behind unless = by_line old.line unless.looks
   where
     visited : (told is_off is_one : Bool) → VisitsTold told is_off now end old (record before { wire = unless.wire }) visit is_one left behind → Tells visit unless.wire behind.wire
@@ -244,7 +245,7 @@ turned_loses now old new turn =
     loses_both _ _ _ (at_places_lose Begins begins_tell (length old.places) old turn.begun turn.begins)
     (loses_both _ _ _ (accepts_lose turn.begun turn.admitted turn.accepts)
     (loses_both _ _ _ (counted_as _ _ _ (ap (λ (t : Turns). t.counts) turn.visits.goes_on)
-    (at_places_lose (VisitsBut turn.admitted.next turn.visits.one now) (visits_but_tell turn.admitted.next turn.visits.one now) (length turn.admitted.places) turn.admitted turn.visits.visited turn.visits.visits))
+    (at_places_lose (VisitsBut turn.admitted.next turn.visits.one (moment_of turn.admitted now)) (visits_but_tell turn.admitted.next turn.visits.one (moment_of turn.admitted now)) (length turn.admitted.places) turn.admitted turn.visits.visited turn.visits.visits))
     (loses_both _ _ _ (counted_as turn.visited.counts turn.visited.counts turn.tells.told.counts (ap (λ (t : Turns). t.counts) turn.tells.same) (loses_none turn.visited.counts))
     (at_places_lose (GivesWay turn.tells.report) (gives_tell turn.tells.report) (length turn.tells.told.places) turn.tells.told new turn.tells.gives_way))))
 

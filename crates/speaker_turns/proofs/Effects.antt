@@ -16,6 +16,7 @@ use Rattle.speaker_turns.specs.Carrying.{ComesLast, StaysUp, handed, heard}
 use Rattle.speaker_turns.specs.Ends.{end_at}
 use Rattle.speaker_turns.specs.Serving.{Attends, AttendsAttempt, AttendsUp, Begins, BeginsTo, Connection, Finds, GivesWayIf, GivesWayUp, GivesWayWhat, IsUnwanted, Looks, LooksUp, LooksWhat, Loses, PlaceState, Settles, Sides, Visits, VisitsTold, VisitsUnless, VisitsWhat, awaited_at, is_opening, line_left}
 use Rattle.speaker_turns.specs.Sessions.{Asks, Makes, fail_call, transport_of, up_call, wanted_transport_of}
+use Rattle.speaker_turns.specs.declared.patience.Moment.{Moment}
 use Rattle.speaker_turns.specs.declared.place.Visit.{Visit}
 use Rattle.speaker_turns.specs.declared.place.Visit.TheVariants.{Stays, Faulty, Ended, Closed, Overdue, Unwanted}
 use Rattle.net_prefix.specs.declared.transport.Transport.{Transport}
@@ -207,7 +208,7 @@ unwanted_tended key line waiting before visit after left served u =
     }
 
 -- a connection is served
-up_tended : (test : Bool) (key now : ℕ) (line : Connection) (waiting : List ℕ) (before : Sides) (visit : Visit) (after : Connection) (left : List ℕ) (served : Sides) → key < 65 → line.is_up ≡ true → may_bring_octets (transport_of before.speaker (end_at key)) ≡ test → AttendsUp test (end_at key) now line waiting before visit after left served → Tended key line waiting before after left served
+up_tended : (test : Bool) (key : ℕ) (now : Moment) (line : Connection) (waiting : List ℕ) (before : Sides) (visit : Visit) (after : Connection) (left : List ℕ) (served : Sides) → key < 65 → line.is_up ≡ true → may_bring_octets (transport_of before.speaker (end_at key)) ≡ test → AttendsUp test (end_at key) now line waiting before visit after left served → Tended key line waiting before after left served
 up_tended false key now line waiting before visit after left served few up is u = unwanted_tended key line waiting before visit after left served u
 up_tended true key now line waiting before visit after left served few up is serves =
     let s = serves_carries key now line waiting before visit after left served few is serves in
@@ -274,14 +275,14 @@ attempt_tended : (test : Bool) (key : ℕ) (line : Connection) (waiting : List �
 attempt_tended true key line waiting before visit after left served few up looks = looks_tended key line waiting before visit after left served few up looks.1 looks.0
 attempt_tended false key line waiting before visit after left served few up u = unwanted_tended key line waiting before visit after left served u
 
-attends_tended : (up : Bool) (key now : ℕ) (line : Connection) (waiting : List ℕ) (before : Sides) (visit : Visit) (after : Connection) (left : List ℕ) (served : Sides) → key < 65 → line.is_up ≡ up → Attends up (end_at key) now line waiting before visit after left served → Tended key line waiting before after left served
+attends_tended : (up : Bool) (key : ℕ) (now : Moment) (line : Connection) (waiting : List ℕ) (before : Sides) (visit : Visit) (after : Connection) (left : List ℕ) (served : Sides) → key < 65 → line.is_up ≡ up → Attends up (end_at key) now line waiting before visit after left served → Tended key line waiting before after left served
 attends_tended true key now line waiting before visit after left served few up attends =
     up_tended (may_bring_octets (transport_of before.speaker (end_at key))) key now line waiting before visit after left served few up refl attends
 attends_tended false key now line waiting before visit after left served few up attends =
     attempt_tended (is_opening (transport_of before.speaker (end_at key))) key line waiting before visit after left served few up attends
 
 -- a visit
-pub visits_effect : (key now : ℕ) (old : PlaceState) (before : Sides) (visit : Visit) (left : PlaceState) (behind : Sides) → key < 65 → Visits now (end_at key) old before visit left behind → Effect key old before left behind
+pub visits_effect : (key : ℕ) (now : Moment) (old : PlaceState) (before : Sides) (visit : Visit) (left : PlaceState) (behind : Sides) → key < 65 → Visits now (end_at key) old before visit left behind → Effect key old before left behind
 visits_effect key now old before visit left behind few visits = by_line old.line refl visits
   where
     by_line : (line : Option Connection) → old.line ≡ line → VisitsWhat (end_at key) now line old before visit left behind → Effect key old before left behind
@@ -334,7 +335,7 @@ behind_look key old before wire left behind other told calls sockets effect =
     }
 
 -- a visit, unless it is put off
-pub visits_unless_effect : (is_off : Bool) (key now : ℕ) (old : PlaceState) (before : Sides) (visit : Visit) (is_one : Bool) (left : PlaceState) (behind : Sides) → key < 65 → VisitsUnless is_off now (end_at key) old before visit is_one left behind → Effect key old before left behind
+pub visits_unless_effect : (is_off : Bool) (key : ℕ) (now : Moment) (old : PlaceState) (before : Sides) (visit : Visit) (is_one : Bool) (left : PlaceState) (behind : Sides) → key < 65 → VisitsUnless is_off now (end_at key) old before visit is_one left behind → Effect key old before left behind
 visits_unless_effect is_off key now old before visit is_one left behind few unless = by_line old.line refl unless.looks
   where
     visited : (told is_off : Bool) → VisitsTold told is_off now (end_at key) old (record before { wire = unless.wire }) visit is_one left behind → Effect key old (record before { wire = unless.wire }) left behind

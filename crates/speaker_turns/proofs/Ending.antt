@@ -5,6 +5,7 @@ use Rattle.speaker_turns.specs.Serving.{PlaceState, Sides, VisitsTold, VisitsUnl
 use Rattle.speaker_turns.specs.Turns.{AtPlace, AtPlaces, IsNearer, Turns, VisitsAll, VisitsBut, comes_behind, is_off, is_the_one, next_behind, place_at, sides}
 use Rattle.speaker_turns.specs.declared.end.End.{End}
 use Rattle.speaker_turns.specs.declared.end.End.TheVariants.{Peer, Cache}
+use Rattle.speaker_turns.specs.declared.patience.Moment.{Moment}
 use Rattle.speaker_turns.specs.declared.place.Visit.{Visit}
 
 abbrev Happening : Type 1
@@ -29,20 +30,21 @@ at_place_so A B old new key so at =
       counts = at.counts;
       speaker = at.speaker;
       places = at.places;
+      patience = at.patience;
       next = at.next;
     }
 
 -- the same tests say the same
-abbrev pub visits_unless : Bool → ℕ → Bool → Happening
+abbrev pub visits_unless : Bool → Moment → Bool → Happening
 visits_unless is_off now is_one end old before visit new behind = VisitsUnless is_off now end old before visit is_one new behind
 
-same_tests : (is_off off is_one one : Bool) (now : ℕ) (end : End) (old : PlaceState) (before : Sides) (visit : Visit) (new : PlaceState) (behind : Sides) → is_off ≡ off → is_one ≡ one → VisitsUnless is_off now end old before visit is_one new behind → VisitsUnless off now end old before visit one new behind
+same_tests : (is_off off is_one one : Bool) (now : Moment) (end : End) (old : PlaceState) (before : Sides) (visit : Visit) (new : PlaceState) (behind : Sides) → is_off ≡ off → is_one ≡ one → VisitsUnless is_off now end old before visit is_one new behind → VisitsUnless off now end old before visit one new behind
 same_tests is_off off is_one one now end old before visit new behind same_off same_one unless =
     subst (λ (b : Bool). VisitsUnless off now end old before visit b new behind) same_one
     (subst (λ (b : Bool). VisitsUnless b now end old before visit is_one new behind) same_off unless)
 
 -- where one that ends was visited it wasn't put off
-not_off : (is_off : Bool) (now : ℕ) (end : End) (old : PlaceState) (before : Sides) (visit : Visit) (new : PlaceState) (behind : Sides) → VisitsUnless is_off now end old before visit true new behind → is_off ≡ false
+not_off : (is_off : Bool) (now : Moment) (end : End) (old : PlaceState) (before : Sides) (visit : Visit) (new : PlaceState) (behind : Sides) → VisitsUnless is_off now end old before visit true new behind → is_off ≡ false
 not_off is_off now end old before visit new behind unless = by_told unless.told is_off unless.visits
   where
     by_told : (told is_off : Bool) → VisitsTold told is_off now end old (record before { wire = unless.wire }) visit true new behind → is_off ≡ false
@@ -68,7 +70,7 @@ lower_is_another None key below = refl
 lower_is_another (Some one) key below = sym (ne_eqb one key (λ same. omega (arith, below, same)))
 
 -- to the places below it a higher one is none
-higher_is_none : (next one now : ℕ) (count : ℕ) (old new : Turns) → count ≤ one → one < 65 → AtPlaces (VisitsBut next None now) count old new → AtPlaces (VisitsBut next (Some one) now) count old new
+higher_is_none : (next one : ℕ) (now : Moment) (count : ℕ) (old new : Turns) → count ≤ one → one < 65 → AtPlaces (VisitsBut next None now) count old new → AtPlaces (VisitsBut next (Some one) now) count old new
 higher_is_none next one now zero old new within few same = same
 higher_is_none next one now (suc key) old new within few at =
     (at.0, higher_is_none next one now key old at.0 (omega (arith, within)) few at.1, at_place_so (VisitsBut next None now) (VisitsBut next (Some one) now) at.0 new key so at.2)
@@ -86,7 +88,7 @@ higher_is_none next one now (suc key) old new within few at =
         (sym (ne_eqb one (place_of (end_at key)) (λ same. omega (arith, same, here, below)))) unless
 
 -- a place more
-pub visited_more : (next : ℕ) (one : Option ℕ) (now key : ℕ) (is_one : Bool) (old mid new : Turns) → key < 65 → IfSome one (λ o. o < key) → AtPlaces (VisitsBut next one now) key old mid → AtPlace (visits_unless (nat_lt key next || is_some one) now is_one) mid key new → AtPlaces (VisitsBut next (if is_one then Some key else one) now) (suc key) old new
+pub visited_more : (next : ℕ) (one : Option ℕ) (now : Moment) (key : ℕ) (is_one : Bool) (old mid new : Turns) → key < 65 → IfSome one (λ o. o < key) → AtPlaces (VisitsBut next one now) key old mid → AtPlace (visits_unless (nat_lt key next || is_some one) now is_one) mid key new → AtPlaces (VisitsBut next (if is_one then Some key else one) now) (suc key) old new
 visited_more next one now key false old mid new few below at place = (mid, at, at_place_so (visits_unless (nat_lt key next || is_some one) now false) (VisitsBut next one now) mid new key so place)
   where
     here : place_of (end_at key) ≡ key
@@ -116,7 +118,7 @@ visited_more next one now key true old mid new few below at place =
         (sym (eq-eqb key (place_of (end_at key)) (sym here))) unless
 
 -- the one of this turn is a place that the turn looked at
-pub one_within : (next key : ℕ) (one : Option ℕ) (is_one : Bool) (now : ℕ) (mid new : Turns) → IfSome one (λ o. (next ≤ o) × (o < key)) → AtPlace (visits_unless (nat_lt key next || is_some one) now is_one) mid key new → IfSome (if is_one then Some key else one) (λ o. (next ≤ o) × (o < suc key))
+pub one_within : (next key : ℕ) (one : Option ℕ) (is_one : Bool) (now : Moment) (mid new : Turns) → IfSome one (λ o. (next ≤ o) × (o < key)) → AtPlace (visits_unless (nat_lt key next || is_some one) now is_one) mid key new → IfSome (if is_one then Some key else one) (λ o. (next ≤ o) × (o < suc key))
 one_within next key None false now mid new within place = tt
 one_within next key (Some one) false now mid new within place = let first = within.0 in let second = within.1 in (first, omega (arith, second))
 one_within next key one true now mid new within place =
@@ -150,5 +152,5 @@ pub one_few : (one : Option ℕ) (next key count : ℕ) → count ≡ place_coun
 one_few None next key count all up_to within = tt
 one_few (Some one) next key count all up_to within = let below = within.1 in subst (λ (n : ℕ). one < n) all (omega (arith, below, up_to))
 
-pub none_visited : (next now : ℕ) (turns : Turns) → AtPlaces (VisitsBut next None now) 0 turns turns
+pub none_visited : (next : ℕ) (now : Moment) (turns : Turns) → AtPlaces (VisitsBut next None now) 0 turns turns
 none_visited next now turns = refl

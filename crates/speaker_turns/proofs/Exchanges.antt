@@ -21,6 +21,7 @@ use Rattle.speaker_turns.specs.Serving.{Answers, AnswersAt, Connection, GoesOn, 
 use Rattle.speaker_turns.specs.Sessions.{Asks, Makes, bytes_call, is_there, queued_for, ring_of_slot, take_call, transport_of}
 use Rattle.speaker_turns.specs.declared.end.End.{End}
 use Rattle.speaker_turns.specs.declared.end.End.TheVariants.{Peer, Cache}
+use Rattle.speaker_turns.specs.declared.patience.Moment.{Moment}
 use Rattle.speaker_turns.specs.declared.place.Visit.{Visit}
 use Rattle.speaker_turns.proofs.Asking.{AreOf, are-on, bytes_hand_nothing, bytes_leave, handed-on, hands_take, heard-on, hears_bytes, makes_none, makes_on, of_bytes, of_take, take_hears_nothing, take_leaves, up-on}
 
@@ -201,7 +202,7 @@ pub record Served (key : ℕ) (line : Connection) (waiting : List ℕ) (old : Si
   pub is_up : after.is_up ≡ line.is_up
   pub carries : Carries key line.number waiting left old new
 
-pub serves_carries : (key now : ℕ) (line : Connection) (waiting : List ℕ) (old : Sides) (visit : Visit) (after : Connection) (left : List ℕ) (new : Sides) → key < 65 → may_bring_octets (transport_of old.speaker (end_at key)) ≡ true → Serves (end_at key) now line waiting old visit after left new → Served key line waiting old after left new
+pub serves_carries : (key : ℕ) (now : Moment) (line : Connection) (waiting : List ℕ) (old : Sides) (visit : Visit) (after : Connection) (left : List ℕ) (new : Sides) → key < 65 → may_bring_octets (transport_of old.speaker (end_at key)) ≡ true → Serves (end_at key) now line waiting old visit after left new → Served key line waiting old after left new
 serves_carries key now line waiting old visit after left new few carries serves = by_read serves.received serves.reads serves.goes_on
   where
     answered : (received : Received) → Reads (end_at key) line.number received old serves.between → AnswersAt (end_at key) now line waiting serves.between visit after left new → Served key line waiting old after left new

@@ -5,5 +5,6 @@ pub mod Effects
 mod Ending
 mod Exchanges
 pub mod Listening
+pub mod Patient
 pub mod Places
 mod Stepping

@@ -16,8 +16,9 @@ use Rattle.wires.specs.declared.wire.Sent.TheVariants.{Octets as Went, Nothing a
 use Rattle.speaker_turns.specs.Ends.{end_at, place_of}
 use Rattle.speaker_turns.specs.Serving.{Answers, Attends, AttendsAttempt, AttendsUp, Begins, BeginsTo, Connection, GivesWayUp, GivesWayWhat, GivesWayIf, GoesOn, LooksUp, LooksWhat, PlaceState, Serves, Settles, Sides, Visits, VisitsTold, VisitsWhat, awaited_at, is_opening}
 use Rattle.speaker_turns.specs.Sessions.{transport_of, up_call, wanted_transport_of}
-use Rattle.speaker_turns.specs.Turns.{Accepts, AtPlaces, GivesWay, SitsDown, TakesTurn, TakesTurns, Turns, VisitsBut, counted, has_opened, is_off, is_the_one, place_at, sides}
+use Rattle.speaker_turns.specs.Turns.{Accepts, AtPlaces, GivesWay, SitsDown, TakesTurn, TakesTurns, Turns, VisitsBut, counted, has_opened, is_off, is_the_one, moment_of, place_at, sides}
 use Rattle.speaker_turns.specs.declared.end.End.{End}
+use Rattle.speaker_turns.specs.declared.patience.Moment.{Moment}
 use Rattle.speaker_turns.specs.declared.place.Visit.{Visit}
 use Rattle.speaker_turns.specs.declared.place.Visit.TheVariants.{Stays, Faulty, Ended, Closed, Overdue, Unwanted}
 
@@ -46,18 +47,18 @@ listens_at_answer end number waiting old visit left new answers = by_octets answ
         let writes = answers.some (λ none. let wrong : octet ∷ octets ≡ [] = sym is ∙ none in cc) in
         ap (λ (w : WireState). w.listens) writes.asks ∙ listens_at_write writes.sent number answers.octets old.wire
 
-listens_behind : (received : Received) (end : End) (now : ℕ) (line : Connection) (waiting : List ℕ) (old : Sides) (visit : Visit) (after : Connection) (left : List ℕ) (new : Sides) → GoesOn received end now line waiting old visit after left new → new.wire.listens ≡ old.wire.listens
+listens_behind : (received : Received) (end : End) (now : Moment) (line : Connection) (waiting : List ℕ) (old : Sides) (visit : Visit) (after : Connection) (left : List ℕ) (new : Sides) → GoesOn received end now line waiting old visit after left new → new.wire.listens ≡ old.wire.listens
 listens_behind (Came count) end now line waiting old visit after left new at = listens_at_answer end line.number waiting old at.found left new at.answers
 listens_behind NoneCame end now line waiting old visit after left new at = listens_at_answer end line.number waiting old at.found left new at.answers
 listens_behind InputEnd end now line waiting old visit after left new found = ap (λ (s : Sides). s.wire.listens) found.3
 listens_behind ReadFault end now line waiting old visit after left new found = ap (λ (s : Sides). s.wire.listens) found.3
 
-listens_served : (end : End) (now : ℕ) (line : Connection) (waiting : List ℕ) (old : Sides) (visit : Visit) (after : Connection) (left : List ℕ) (new : Sides) → Serves end now line waiting old visit after left new → new.wire.listens ≡ old.wire.listens
+listens_served : (end : End) (now : Moment) (line : Connection) (waiting : List ℕ) (old : Sides) (visit : Visit) (after : Connection) (left : List ℕ) (new : Sides) → Serves end now line waiting old visit after left new → new.wire.listens ≡ old.wire.listens
 listens_served end now line waiting old visit after left new serves =
     listens_behind serves.received end now line waiting serves.between visit after left new serves.goes_on
     ∙ (ap (λ (w : WireState). w.listens) serves.reads.asks ∙ listens_at_read serves.received line.number serves.reads.buf old.wire)
 
-listens_attended : (up : Bool) (end : End) (now : ℕ) (line : Connection) (waiting : List ℕ) (old : Sides) (visit : Visit) (after : Connection) (left : List ℕ) (new : Sides) → Attends up end now line waiting old visit after left new → new.wire.listens ≡ old.wire.listens
+listens_attended : (up : Bool) (end : End) (now : Moment) (line : Connection) (waiting : List ℕ) (old : Sides) (visit : Visit) (after : Connection) (left : List ℕ) (new : Sides) → Attends up end now line waiting old visit after left new → new.wire.listens ≡ old.wire.listens
 listens_attended true end now line waiting old visit after left new attends = by_test (may_bring_octets (transport_of old.speaker end)) attends
   where
     by_test : (test : Bool) → AttendsUp test end now line waiting old visit after left new → new.wire.listens ≡ old.wire.listens
@@ -100,7 +101,7 @@ listens_begun end old before visit left behind begins = by_address (awaited_at (
     by_address (Some remote) (inl attempts) = ap (λ (s : Sides). s.wire.listens) attempts.sides_are
     by_address (Some remote) (inr fails) = ap (λ (w : WireState). w.listens) fails.wire_is
 
-listens_visited : (now : ℕ) → ListensOn (Visits now)
+listens_visited : (now : Moment) → ListensOn (Visits now)
 listens_visited now end old before visit left behind visits = by_line old.line visits
   where
     by_line : (line : Option Connection) → VisitsWhat end now line old before visit left behind → behind.wire.listens ≡ before.wire.listens
@@ -108,7 +109,7 @@ listens_visited now end old before visit left behind visits = by_line old.line v
     by_line (Some line) v =
         listens_settled visit end v.after v.served behind v.settles ∙ listens_attended line.is_up end now line old.waiting before visit v.after v.left v.served v.attends
 
-listens_visited_but : (next : ℕ) (one : Option ℕ) (now : ℕ) → ListensOn (VisitsBut next one now)
+listens_visited_but : (next : ℕ) (one : Option ℕ) (now : Moment) → ListensOn (VisitsBut next one now)
 listens_visited_but next one now end old before visit left behind unless =
     visited unless.told (is_off next one (place_of end)) (is_the_one one (place_of end)) unless.visits ∙ by_line old.line unless.looks
   where
@@ -162,7 +163,7 @@ listens_turned now old new (Ok done) turn =
     listens_at_places (GivesWay turn.tells.report) (listens_given_way turn.tells.report) (length turn.tells.told.places) turn.tells.told new turn.tells.gives_way
     ∙ (ap (λ (t : Turns). t.counts.wire.listens) turn.tells.same
     ∙ (ap (λ (t : Turns). t.counts.wire.listens) turn.visits.goes_on
-    ∙ (listens_at_places (VisitsBut turn.admitted.next turn.visits.one now) (listens_visited_but turn.admitted.next turn.visits.one now) (length turn.admitted.places) turn.admitted turn.visits.visited turn.visits.visits
+    ∙ (listens_at_places (VisitsBut turn.admitted.next turn.visits.one (moment_of turn.admitted now)) (listens_visited_but turn.admitted.next turn.visits.one (moment_of turn.admitted now)) (length turn.admitted.places) turn.admitted turn.visits.visited turn.visits.visits
     ∙ (listens_admitted turn.begun turn.admitted turn.accepts ∙ listens_at_places Begins listens_begun (length old.places) old turn.begun turn.begins))))
 listens_turned now old new (Err Accept) stops =
     ap (λ (t : Turns). t.counts.wire.listens) stops.stops ∙ listens_at_places Begins listens_begun (length old.places) old stops.begun stops.begins

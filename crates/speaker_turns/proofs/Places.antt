@@ -8,6 +8,7 @@ use Rattle.speaker_turns.specs.declared.end.End.{End}
 use Rattle.speaker_turns.specs.Turns.{AtPlace, Turns, counted, place_at, sides, vacant}
 use Rattle.speaker_turns.specs.declared.end.End.{End}
 use Rattle.speaker_turns.specs.Ends.{end_at}
+use Rattle.speaker_turns.specs.declared.patience.Moment.{Moment}
 use Rattle.speaker_turns.specs.declared.place.Visit.{Visit}
 use Rattle.speaker_turns.specs.declared.place.Visit.TheVariants.{Stays, Faulty, Ended, Closed, Overdue, Unwanted}
 
@@ -31,7 +32,7 @@ pub as_many : (old new : Turns) (key : ℕ) (left : PlaceState) → new.places �
 as_many old new key left places = ap length places ∙ length-set old.places key left
 
 -- a visit to what stands at a place, in its parts
-pub visited : (now : ℕ) (end : End) (old : PlaceState) (before : Sides) (visit : Visit) (line after : Connection) (left : List ℕ) (served : Sides) (new : PlaceState) (behind : Sides) → old.line ≡ Some line → Attends line.is_up end now line old.waiting before visit after left served → Settles visit end after served behind → new ≡ record { remote = old.remote; line = line_left visit after; waiting = left } → Visits now end old before visit new behind
+pub visited : (now : Moment) (end : End) (old : PlaceState) (before : Sides) (visit : Visit) (line after : Connection) (left : List ℕ) (served : Sides) (new : PlaceState) (behind : Sides) → old.line ≡ Some line → Attends line.is_up end now line old.waiting before visit after left served → Settles visit end after served behind → new ≡ record { remote = old.remote; line = line_left visit after; waiting = left } → Visits now end old before visit new behind
 visited now end old before visit line after left served new behind is attends settles place =
     subst (λ (found : Option Connection). VisitsWhat end now found old before visit new behind) (sym is)
     (record { after = after; left = left; served = served; attends = attends; settles = settles; place_is = place })
@@ -43,7 +44,7 @@ any_default (x ∷ xs) zero one other within = refl
 any_default (x ∷ xs) (suc key) one other within = any_default xs key one other (omega (arith, within))
 
 -- what happens at a place, in its parts
-pub at_place_by : (Happens : End → PlaceState → Sides → Visit → PlaceState → Sides → Type 0) (old mid new : Turns) (key : ℕ) (end : End) (found : PlaceState) (visit : Visit) (left : PlaceState) (behind : Sides) → end ≡ end_at key → key < length old.places → found ≡ slice_index_or old.places key found → Happens end found (sides old) visit left behind → mid ≡ record { counts = record old.counts { wire = behind.wire }; speaker = behind.speaker; places = slice_set old.places key left; next = old.next } → new ≡ record mid { counts = counted visit mid.counts } → AtPlace Happens old key new
+pub at_place_by : (Happens : End → PlaceState → Sides → Visit → PlaceState → Sides → Type 0) (old mid new : Turns) (key : ℕ) (end : End) (found : PlaceState) (visit : Visit) (left : PlaceState) (behind : Sides) → end ≡ end_at key → key < length old.places → found ≡ slice_index_or old.places key found → Happens end found (sides old) visit left behind → mid ≡ record { counts = record old.counts { wire = behind.wire }; speaker = behind.speaker; places = slice_set old.places key left; patience = old.patience; next = old.next } → new ≡ record mid { counts = counted visit mid.counts } → AtPlace Happens old key new
 at_place_by Happens old mid new key end found visit left behind is within at happens between counts =
     record {
       visit = visit;
@@ -53,5 +54,6 @@ at_place_by Happens old mid new key end found visit left behind is within at hap
       counts = ap (λ (t : Turns). t.counts) counts ∙ ap (λ (t : Turns). counted visit t.counts) between;
       speaker = ap (λ (t : Turns). t.speaker) counts ∙ ap (λ (t : Turns). t.speaker) between;
       places = ap (λ (t : Turns). t.places) counts ∙ ap (λ (t : Turns). t.places) between;
+      patience = ap (λ (t : Turns). t.patience) counts ∙ ap (λ (t : Turns). t.patience) between;
       next = ap (λ (t : Turns). t.next) counts ∙ ap (λ (t : Turns). t.next) between;
     }

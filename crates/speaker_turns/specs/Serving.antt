@@ -1,5 +1,5 @@
 -- What happens at the place of one session: an attempt begins, a connection comes or is visited, an attempt gives way.
-use Rattle.std.specs.Prelude.{◌≡◌, ◌≢◌, ◌+◌, ◌⊎◌, ℕ, List, [], Bool, false, true, nat_le, is_none, length, Option, Some, None, if◌then◌else◌, take, drop}
+use Rattle.std.specs.Prelude.{◌≡◌, ◌≢◌, ◌+◌, ◌⊎◌, ◌||◌, ◌==◌, ℕ, List, [], Bool, false, true, nat_le, is_none, length, Option, Some, None, if◌then◌else◌, take, drop}
 use Rattle.std.specs.declared.net.socket_addr.SocketAddr.{SocketAddr}
 use Rattle.net_prefix.specs.declared.transport.Transport.{Transport}
 use Rattle.net_prefix.specs.declared.transport.Transport.TheVariants as transport
@@ -16,17 +16,22 @@ use Rattle.wires.specs.declared.wire.Received.{Received}
 use Rattle.wires.specs.declared.wire.Received.TheVariants.{Octets as Came, Nothing as NoneCame, End as InputEnd, Fault as ReadFault}
 use Rattle.wires.specs.declared.wire.Sent.{Sent}
 use Rattle.wires.specs.declared.wire.Sent.TheVariants.{Octets as Went, Nothing as NoneWent, Fault as WriteFault}
-use Rattle.speaker_turns.specs.Sessions.{Asks, bytes_call, fail_call, is_there, queued_for, take_call, transport_of, up_call, wanted_transport_of}
+use Rattle.speaker_turns.specs.Sessions.{Asks, bytes_call, fail_call, is_there, is_unopened, queued_for, take_call, transport_of, up_call, wanted_transport_of}
 use Rattle.speaker_turns.specs.declared.end.End.{End}
+use Rattle.speaker_turns.specs.declared.line.Answered.{Answered}
+use Rattle.speaker_turns.specs.declared.patience.Moment.{Moment}
 use Rattle.speaker_turns.specs.declared.place.Visit.{Visit}
 use Rattle.speaker_turns.specs.declared.place.Visit.TheVariants.{Stays, Faulty, Ended, Closed, Overdue, Unwanted}
 
--- a connection, or an attempt at one: the number of its socket, the address of its other side, whether it is there, and since when the speaker has closed its session
+-- a connection, or an attempt at one: the number of its socket, the address of its other side, whether it is there, and since when
+-- the speaker has closed its session, octets wait of which none has gone, and its session awaits the peer's OPEN
 pub record Connection : Type 0 where
   pub number : ℕ
   pub address : SocketAddr
   pub is_up : Bool
   pub closing : Option ℕ
+  pub unsent : Option ℕ
+  pub unopened : Option ℕ
 
 -- the place of a session: where its other side is, what stands there, and what was taken of the speaker for it and not yet written
 pub record PlaceState : Type 0 where
@@ -41,10 +46,10 @@ pub record Sides : Type 0 where
 
 -- an attempt of this number, and a connection that has come
 abbrev pub attempt : ℕ → SocketAddr → Connection
-attempt number address = record { number = number; address = address; is_up = false; closing = None }
+attempt number address = record { number = number; address = address; is_up = false; closing = None; unsent = None; unopened = None }
 
 abbrev pub up : ℕ → SocketAddr → Connection
-up number address = record { number = number; address = address; is_up = true; closing = None }
+up number address = record { number = number; address = address; is_up = true; closing = None; unsent = None; unopened = None }
 
 -- it is put at a place, where nothing waits for it
 abbrev pub seated : Connection → PlaceState → PlaceState
@@ -146,14 +151,41 @@ pub record Answers (end : End) (number : ℕ) (waiting : List ℕ) (old : Sides)
   pub none : octets ≡ [] → Rests end new.speaker old.wire visit left new.wire
   pub some : octets ≢ [] → Writes number octets old.wire visit left new.wire
 
+-- since when something holds that holds at this moment
+abbrev pub first_since : Option ℕ → ℕ → Option ℕ
+first_since None now = Some now
+first_since (Some since) now = Some since
+
 -- since when the session is closed, behind an answer at this moment
 abbrev pub closing_since : Transport → Option ℕ → ℕ → Option ℕ
-closing_since transport.Closing None now = Some now
-closing_since transport.Closing (Some since) now = Some since
+closing_since transport.Closing before now = first_since before now
 closing_since transport.None before now = None
 closing_since transport.Opening before now = None
 closing_since transport.Listening before now = None
 closing_since transport.Open before now = None
+
+-- since when octets wait of which none has gone, where so many waited before the answer and so many are left behind it: while
+-- octets wait no others join them, so that as many are left just where none went
+abbrev pub unsent_since : Option ℕ → ℕ → ℕ → ℕ → Option ℕ
+unsent_since before waited left now =
+    if left == 0 then None else (if waited == left then first_since before now else Some now)
+
+-- since when the session awaits the peer's OPEN
+abbrev pub unopened_since : Bool → Option ℕ → ℕ → Option ℕ
+unopened_since false before now = None
+unopened_since true before now = first_since before now
+
+-- how a session, and what is to be written for it, stand behind an answer
+abbrev pub answered_so : End → ℕ → ℕ → SpeakerState → Answered
+answered_so end waited left speaker =
+    record { transport = transport_of speaker end; is_unopened = is_unopened speaker end; waited = waited; left = left }
+
+abbrev pub timed : Answered → ℕ → Connection → Connection
+timed answered now line = record line {
+  closing = closing_since answered.transport line.closing now;
+  unsent = unsent_since line.unsent answered.waited answered.left now;
+  unopened = unopened_since answered.is_unopened line.unopened now;
+}
 
 -- for how many seconds a connection stands whose session the speaker has closed
 abbrev pub closing_seconds : ℕ
@@ -162,6 +194,18 @@ closing_seconds = 60
 abbrev pub is_overdue : Option ℕ → ℕ → Bool
 is_overdue None now = false
 is_overdue (Some since) now = nat_le (since + closing_seconds) now
+
+-- whether something has held for so many seconds, where there is such a number
+abbrev pub is_past : Option ℕ → Option ℕ → ℕ → Bool
+is_past None since now = false
+is_past (Some bound) None now = false
+is_past (Some bound) (Some since) now = nat_le (since + bound) now
+
+-- whether a connection has stood for too long: with a closed session, with octets of which none goes, or with no OPEN of its peer
+abbrev pub is_over : Connection → Moment → Bool
+is_over line now =
+    (is_overdue line.closing now.seconds || is_past now.patience.send_hold line.unsent now.seconds)
+    || is_past now.patience.open_wait line.unopened now.seconds
 
 -- one that would stay has then lost its place
 abbrev pub judged : Bool → Visit → Visit
@@ -173,22 +217,22 @@ judged true Closed = Closed
 judged true Overdue = Overdue
 judged true Unwanted = Unwanted
 
--- an answer, and how long the session has been closed behind it
-pub record AnswersAt (end : End) (now : ℕ) (line : Connection) (waiting : List ℕ) (old : Sides) (visit : Visit) (after : Connection) (left : List ℕ) (new : Sides) : Type 0 where
+-- an answer, and since when all stands behind it as it does
+pub record AnswersAt (end : End) (now : Moment) (line : Connection) (waiting : List ℕ) (old : Sides) (visit : Visit) (after : Connection) (left : List ℕ) (new : Sides) : Type 0 where
   pub found : Visit
   pub answers : Answers end line.number waiting old found left new
-  pub line_is : after ≡ record line { closing = closing_since (transport_of new.speaker end) line.closing now }
-  pub judges : visit ≡ judged (is_overdue after.closing now) found
+  pub line_is : after ≡ timed (answered_so end (length waiting) (length left) new.speaker) now.seconds line
+  pub judges : visit ≡ judged (is_over after now) found
 
 -- what follows the read: a socket that has told its end or a fault is asked nothing more
-abbrev pub GoesOn : Received → End → ℕ → Connection → List ℕ → Sides → Visit → Connection → List ℕ → Sides → Type 0
+abbrev pub GoesOn : Received → End → Moment → Connection → List ℕ → Sides → Visit → Connection → List ℕ → Sides → Type 0
 GoesOn (Came count) end now line waiting old visit after left new = AnswersAt end now line waiting old visit after left new
 GoesOn NoneCame end now line waiting old visit after left new = AnswersAt end now line waiting old visit after left new
 GoesOn InputEnd end now line waiting old visit after left new = (visit ≡ Ended) × (after ≡ line) × (left ≡ waiting) × (new ≡ old)
 GoesOn ReadFault end now line waiting old visit after left new = (visit ≡ Faulty) × (after ≡ line) × (left ≡ waiting) × (new ≡ old)
 
 -- a connection is served: it is read once, and answered
-pub record Serves (end : End) (now : ℕ) (line : Connection) (waiting : List ℕ) (old : Sides) (visit : Visit) (after : Connection) (left : List ℕ) (new : Sides) : Type 0 where
+pub record Serves (end : End) (now : Moment) (line : Connection) (waiting : List ℕ) (old : Sides) (visit : Visit) (after : Connection) (left : List ℕ) (new : Sides) : Type 0 where
   pub received : Received
   pub between : Sides
   pub reads : Reads end line.number received old between
@@ -231,7 +275,7 @@ is_opening transport.Open = false
 is_opening transport.Closing = false
 
 -- a connection is visited where its session carries one, and an attempt where its session has begun one
-abbrev pub AttendsUp : Bool → End → ℕ → Connection → List ℕ → Sides → Visit → Connection → List ℕ → Sides → Type 0
+abbrev pub AttendsUp : Bool → End → Moment → Connection → List ℕ → Sides → Visit → Connection → List ℕ → Sides → Type 0
 AttendsUp true end now line waiting old visit after left new = Serves end now line waiting old visit after left new
 AttendsUp false end now line waiting old visit after left new = IsUnwanted line waiting old visit after left new
 
@@ -239,7 +283,7 @@ abbrev pub AttendsAttempt : Bool → End → Connection → List ℕ → Sides �
 AttendsAttempt true end line waiting old visit after left new = Looks end line old visit after new × (left ≡ waiting)
 AttendsAttempt false end line waiting old visit after left new = IsUnwanted line waiting old visit after left new
 
-abbrev pub Attends : Bool → End → ℕ → Connection → List ℕ → Sides → Visit → Connection → List ℕ → Sides → Type 0
+abbrev pub Attends : Bool → End → Moment → Connection → List ℕ → Sides → Visit → Connection → List ℕ → Sides → Type 0
 Attends true end now line waiting old visit after left new =
     AttendsUp (may_bring_octets (transport_of old.speaker end)) end now line waiting old visit after left new
 Attends false end now line waiting old visit after left new =
@@ -269,7 +313,7 @@ line_left Overdue line = None
 line_left Unwanted line = None
 
 -- a visit at this moment to what stands at a place
-pub record VisitsLine (end : End) (now : ℕ) (line : Connection) (old : PlaceState) (before : Sides) (visit : Visit) (new : PlaceState) (behind : Sides) : Type 0 where
+pub record VisitsLine (end : End) (now : Moment) (line : Connection) (old : PlaceState) (before : Sides) (visit : Visit) (new : PlaceState) (behind : Sides) : Type 0 where
   pub after : Connection
   pub left : List ℕ
   pub served : Sides
@@ -277,11 +321,11 @@ pub record VisitsLine (end : End) (now : ℕ) (line : Connection) (old : PlaceSt
   pub settles : Settles visit end after served behind
   pub place_is : new ≡ record { remote = old.remote; line = line_left visit after; waiting = left }
 
-abbrev pub VisitsWhat : End → ℕ → Option Connection → PlaceState → Sides → Visit → PlaceState → Sides → Type 0
+abbrev pub VisitsWhat : End → Moment → Option Connection → PlaceState → Sides → Visit → PlaceState → Sides → Type 0
 VisitsWhat end now None old before visit new behind = (visit ≡ Stays) × (new ≡ old) × (behind ≡ before)
 VisitsWhat end now (Some line) old before visit new behind = VisitsLine end now line old before visit new behind
 
-abbrev pub Visits : ℕ → End → PlaceState → Sides → Visit → PlaceState → Sides → Type 0
+abbrev pub Visits : Moment → End → PlaceState → Sides → Visit → PlaceState → Sides → Type 0
 Visits now end old before visit new behind = VisitsWhat end now old.line old before visit new behind
 
 -- the wire is asked whether a connection is known to end; of an attempt, and where nothing stands, it is asked nothing
@@ -300,16 +344,16 @@ pub record PutsOff (old : PlaceState) (before : Sides) (visit : Visit) (new : Pl
   pub sides_are : behind ≡ before
 
 -- a connection that is known to end is visited, and is then the one of this turn, or put off
-abbrev pub VisitsEnding : Bool → ℕ → End → PlaceState → Sides → Visit → Bool → PlaceState → Sides → Type 0
+abbrev pub VisitsEnding : Bool → Moment → End → PlaceState → Sides → Visit → Bool → PlaceState → Sides → Type 0
 VisitsEnding true now end old before visit is_one new behind = (is_one ≡ false) × PutsOff old before visit new behind
 VisitsEnding false now end old before visit is_one new behind = (is_one ≡ true) × Visits now end old before visit new behind
 
-abbrev pub VisitsTold : Bool → Bool → ℕ → End → PlaceState → Sides → Visit → Bool → PlaceState → Sides → Type 0
+abbrev pub VisitsTold : Bool → Bool → Moment → End → PlaceState → Sides → Visit → Bool → PlaceState → Sides → Type 0
 VisitsTold false is_off now end old before visit is_one new behind = (is_one ≡ false) × Visits now end old before visit new behind
 VisitsTold true is_off now end old before visit is_one new behind = VisitsEnding is_off now end old before visit is_one new behind
 
 -- a visit at this moment, unless the connection is known to end and is put off; it tells whether it was to one that ends
-pub record VisitsUnless (is_off : Bool) (now : ℕ) (end : End) (old : PlaceState) (before : Sides) (visit : Visit) (is_one : Bool) (new : PlaceState) (behind : Sides) : Type 0 where
+pub record VisitsUnless (is_off : Bool) (now : Moment) (end : End) (old : PlaceState) (before : Sides) (visit : Visit) (is_one : Bool) (new : PlaceState) (behind : Sides) : Type 0 where
   pub told : Bool
   pub wire : WireState
   pub looks : LooksWhat old.line before.wire told wire

@@ -1,5 +1,8 @@
 -- What turns ask of a speaker for one of its sessions, and what the speaker makes of it.
 use Rattle.std.specs.Prelude.{◌≡◌, ◌++◌, ℕ, List, [], ◌∷◌, Bool, true, false, is_some, Option, Some, None}
+use Rattle.std.specs.Option.{option_map}
+use Rattle.bgp_fsm.specs.StateTests.{awaits_open}
+use Rattle.bgp_fsm.specs.declared.state.State.{State}
 use Rattle.net_prefix.specs.declared.transport.Transport.{Transport}
 use Rattle.rtr_session.specs.SessionState.{Session as CacheSession}
 use Rattle.speaker.specs.Agreement.{Agrees}
@@ -24,6 +27,16 @@ transport_of s Cache = transport_or_none (cache_transport_of s)
 abbrev pub wanted_transport_of : SpeakerState → End → Transport
 wanted_transport_of s (Peer slot) = transport_at (configured_session (tables_of s) slot)
 wanted_transport_of s Cache = transport_or_none (cache_transport_of s)
+
+-- whether a session is in OpenSent
+abbrev pub is_in_open_sent : Option State → Bool
+is_in_open_sent None = false
+is_in_open_sent (Some state) = awaits_open state
+
+-- whether the session of a configured peer awaits that peer's OPEN; that with the cache never does
+abbrev pub is_unopened : SpeakerState → End → Bool
+is_unopened s (Peer slot) = is_in_open_sent (option_map (λ session. session.state) (configured_session (tables_of s) slot))
+is_unopened s Cache = false
 
 -- what a session has queued and not yet handed out
 abbrev pub ring_of_slot : Option Linked → List ℕ

@@ -19,15 +19,18 @@ use Rattle.speaker_turns.specs.Ends.{end_at, place_of, place_count}
 use Rattle.speaker_turns.specs.Serving.{Begins, GivesWayIf, PlaceState, Sides, VisitsUnless, seated, up}
 use Rattle.speaker_turns.specs.Sessions.{Asks, Ticks, transport_of, up_call, wanted_transport_of}
 use Rattle.speaker_turns.specs.declared.end.End.{End}
+use Rattle.speaker_turns.specs.declared.patience.Moment.{Moment}
+use Rattle.speaker_turns.specs.declared.patience.Patience.{Patience}
 use Rattle.speaker_turns.specs.declared.end.End.TheVariants.{Peer, Cache}
 use Rattle.speaker_turns.specs.declared.place.Visit.{Visit}
 use Rattle.speaker_turns.specs.declared.place.Visit.TheVariants.{Stays, Faulty, Ended, Closed, Overdue, Unwanted}
 
--- a loop: what is counted, its speaker, and the place of each session
+-- a loop: what is counted, its speaker, the place of each session, and how patient it is
 pub record Turns : Type 0 where
   pub counts : Counts
   pub speaker : SpeakerState
   pub places : List PlaceState
+  pub patience : Patience
   pub next : ℕ
 
 -- a place of which nothing is known
@@ -37,9 +40,13 @@ vacant = record { remote = None; line = None; waiting = [] }
 abbrev pub place_at : Turns → ℕ → PlaceState
 place_at turns key = slice_index_or turns.places key vacant
 
+-- patience without end
+abbrev pub endless : Patience
+endless = record { send_hold = None; open_wait = None }
+
 -- a loop before its first turn: of no session it is known where its other side is
 abbrev pub idle : SpeakerState → WireState → Turns
-idle speaker wire = record { counts = record { lost = 0; closed = 0; wire = wire }; speaker = speaker; places = replicate place_count vacant; next = 0 }
+idle speaker wire = record { counts = record { lost = 0; closed = 0; wire = wire }; speaker = speaker; places = replicate place_count vacant; patience = endless; next = 0 }
 
 -- the other side of a session is there; a slot that isn't there has no place
 abbrev pub with_remote : End → SocketAddr → Turns → Turns
@@ -47,6 +54,10 @@ with_remote end remote turns =
     if nat_lt (place_of end) (length turns.places)
     then record turns { places = slice_set turns.places (place_of end) (record (place_at turns (place_of end)) { remote = Some remote }) }
     else turns
+
+-- it is so patient from now on
+abbrev pub with_patience : Patience → Turns → Turns
+with_patience patience turns = record turns { patience = patience }
 
 -- what lies on the two sides of its connections
 abbrev pub sides : Turns → Sides
@@ -70,6 +81,7 @@ pub record AtPlace (Happens : End → PlaceState → Sides → Visit → PlaceSt
   pub counts : new.counts ≡ counted visit (record old.counts { wire = behind.wire })
   pub speaker : new.speaker ≡ behind.speaker
   pub places : new.places ≡ slice_set old.places key left
+  pub patience : new.patience ≡ old.patience
   pub next : new.next ≡ old.next
 
 -- so at each of the first places, one after another
@@ -120,6 +132,7 @@ pub record LetsIn (old new : Turns) : Type 0 where
   pub first : (other : ℕ) → other < key → AwaitsAt old.speaker old.places address other → ⊥
   pub asks : Asks (up_call (end_at key)) (awaits_up (wanted_transport_of old.speaker (end_at key))) old.speaker new.speaker
   pub sits : SitsDown (awaits_up (wanted_transport_of old.speaker (end_at key))) key address old new
+  pub patience : new.patience ≡ old.patience
 
 -- accepting goes well: no connection comes, or one is closed, or one is let in
 abbrev pub Accepts : Turns → Turns → Type 0
@@ -167,7 +180,7 @@ abbrev pub is_off : ℕ → Option ℕ → ℕ → Bool
 is_off next one key = nat_lt key next || comes_behind one key
 
 -- a visit in a turn in which this is the one that ends
-abbrev pub VisitsBut : ℕ → Option ℕ → ℕ → End → PlaceState → Sides → Visit → PlaceState → Sides → Type 0
+abbrev pub VisitsBut : ℕ → Option ℕ → Moment → End → PlaceState → Sides → Visit → PlaceState → Sides → Type 0
 VisitsBut next one now end old before visit new behind =
     VisitsUnless (is_off next one (place_of end)) now end old before visit (is_the_one one (place_of end)) new behind
 
@@ -176,12 +189,16 @@ abbrev pub next_behind : Option ℕ → ℕ
 next_behind None = 0
 next_behind (Some one) = one + 1
 
+-- a moment of a loop
+abbrev pub moment_of : Turns → ℕ → Moment
+moment_of turns now = record { seconds = now; patience = turns.patience }
+
 -- each place is visited. Of the connections that are known to end, just the first from a place on is; all others are put off
 pub record VisitsAll (now : ℕ) (old new : Turns) : Type 0 where
   pub one : Option ℕ
   pub within : IfSome one (λ o. (old.next ≤ o) × (o < length old.places))
   pub visited : Turns
-  pub visits : AtAll (VisitsBut old.next one now) old visited
+  pub visits : AtAll (VisitsBut old.next one (moment_of old now)) old visited
   pub goes_on : new ≡ record visited { next = next_behind one }
 
 -- behind a turn in which a place was put off, the next one looks nearer to it: below it, or from the first place on, until it

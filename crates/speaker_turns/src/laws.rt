@@ -8,8 +8,12 @@ ghost use Rattle.wires.specs.declared.fault.LoopFault.{LoopFault};
 ghost use Rattle.speaker_turns.specs.Carrying.{CarriesOwn, IsFresh};
 ghost use Rattle.speaker_turns.specs.Ends.{place_count};
 ghost use Rattle.speaker_turns.specs.Losses.{LosesAllButOne};
-ghost use Rattle.speaker_turns.specs.Serving.{Connection};
-ghost use Rattle.speaker_turns.specs.Turns.{IsNearer, TakesTurn, TakesTurns, Turns, VisitsAll, is_off, place_at};
+ghost use Rattle.bgp_conf.specs.declared.command.Command.{Command};
+ghost use Rattle.bgp_conf.specs.declared.refusal.Refusal.{Refusal};
+ghost use Rattle.speaker.specs.declared.event.Report.{Report};
+ghost use Rattle.speaker_turns.specs.Obeying.{Obeys};
+ghost use Rattle.speaker_turns.specs.Serving.{Connection, is_over, is_overdue};
+ghost use Rattle.speaker_turns.specs.Turns.{IsNearer, TakesTurn, TakesTurns, Turns, VisitsAll, endless, is_off, moment_of, place_at};
 
 /// A turn that goes well loses just as many connections, and attempts at one, as the wire told faults and ends of input and the
 /// loop closed connections of sessions that the speaker had closed, while no count is at the greatest u64; in one that can't
@@ -42,4 +46,15 @@ pub fn sessions_carry_their_own_octets()
 /// Whatever turns are taken, the wire listens where it did.
 pub fn wires_listen_where_they_did()
     ensures { (moments : List ℕ) (old new : Turns) → TakesTurns moments old new → new.counts.wire.listens ≡ old.counts.wire.listens }
+{}
+
+/// No turns and no command change how patient a loop is.
+pub fn loops_stay_as_patient()
+    ensures turns { (moments : List ℕ) (old new : Turns) → TakesTurns moments old new → new.patience ≡ old.patience }
+    ensures commands { (command : Command) (old new : Turns) (answer : Result Report Refusal) → Obeys command old answer new → new.patience ≡ old.patience }
+{}
+
+/// Where patience is endless no connection falls but with a closed session.
+pub fn endless_patience_ends_nothing()
+    ensures { (turns : Turns) (line : Connection) (now : ℕ) → turns.patience ≡ endless → is_over line (moment_of turns now) ≡ is_overdue line.closing now }
 {}

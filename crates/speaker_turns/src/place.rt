@@ -10,6 +10,7 @@ ghost use Rattle.speaker_turns.specs.Turns.{Awaits, GivesWay, vacant};
 
 use crate::end::End;
 use crate::line::{Line, is_from};
+use crate::patience::Moment;
 use crate::serving::{attend, settle};
 use crate::sessions::{come_up, fail, has_opened, transport};
 use decision::Book;
@@ -31,7 +32,8 @@ pub enum Visit {
     Ended,
     /// The speaker has closed the session, and all that it said is written.
     Closed,
-    /// The speaker has closed the session, and for a minute not all that it said was taken.
+    /// The speaker has closed the session, and for a minute not all that it said was taken; or octets have waited of which none
+    /// went, or no whole OPEN has come, for as long as the loop is patient.
     Overdue,
     /// The speaker doesn't want the connection, or the attempt at one, any more.
     Unwanted,
@@ -182,7 +184,7 @@ impl<W: Wire, A: Allocator + Clone> Place<W, A> {
         &mut self,
         is_off: bool,
         end: End,
-        now: u64,
+        now: Moment,
         wire: &mut W,
         speaker: &mut Speaker<A, B>,
         buf: &mut [u8],
@@ -212,7 +214,7 @@ impl<W: Wire, A: Allocator + Clone> Place<W, A> {
     pub fn visit<B: Book<A>>(
         &mut self,
         end: End,
-        now: u64,
+        now: Moment,
         wire: &mut W,
         speaker: &mut Speaker<A, B>,
         buf: &mut [u8],

@@ -2,13 +2,14 @@
 ghost use Rattle.std.specs.Prelude.{◌≡◌, ℕ, List, length};
 ghost use Rattle.speaker.specs.FirstRefusal.{may_bring_octets};
 ghost use Rattle.wires.specs.TurnOctets.{turn_octets};
-ghost use Rattle.speaker_turns.specs.Serving.{Answers, AnswersAt, Attends, AttendsAttempt, AttendsUp, Looks, Loses, Reads, Serves, Settles, Takes, Writes, is_opening, judged, line_left};
+ghost use Rattle.speaker_turns.specs.Serving.{Answers, AnswersAt, Attends, AttendsAttempt, AttendsUp, Looks, Loses, Reads, Serves, Settles, Takes, Writes, answered_so, is_opening, judged, line_left};
 ghost use Rattle.speaker_turns.specs.Sessions.{transport_of};
 
 use crate::end::End;
-use crate::line::Line;
+use crate::line::{Answered, Line};
+use crate::patience::Moment;
 use crate::place::Visit;
-use crate::sessions::{come_up, fail, hear, take, transport};
+use crate::sessions::{come_up, fail, hear, is_unopened, take, transport};
 use decision::Book;
 use net_prefix::Transport;
 use speaker::Speaker;
@@ -20,7 +21,7 @@ pub(crate) fn attend<W: Wire, A: Allocator + Clone, B: Book<A>>(
     line: &mut Line<W>,
     outgoing: &mut Outgoing<A>,
     end: End,
-    now: u64,
+    now: Moment,
     wire: &mut W,
     speaker: &mut Speaker<A, B>,
     buf: &mut [u8],
@@ -40,7 +41,7 @@ fn attend_connection<W: Wire, A: Allocator + Clone, B: Book<A>>(
     line: &mut Line<W>,
     outgoing: &mut Outgoing<A>,
     end: End,
-    now: u64,
+    now: Moment,
     wire: &mut W,
     speaker: &mut Speaker<A, B>,
     buf: &mut [u8],
@@ -100,7 +101,7 @@ fn serve<W: Wire, A: Allocator + Clone, B: Book<A>>(
     line: &mut Line<W>,
     outgoing: &mut Outgoing<A>,
     end: End,
-    now: u64,
+    now: Moment,
     wire: &mut W,
     speaker: &mut Speaker<A, B>,
     buf: &mut [u8],
@@ -138,12 +139,13 @@ fn receive<W: Wire, A: Allocator + Clone, B: Book<A>>(
     received
 }
 
-// Answers the session. One that was closed for too long, though not all is written, loses its place.
+// Answers the session. One that was closed for too long, though not all is written, loses its place, and so does one that has
+// taken nothing for too long, or from which no whole OPEN came for too long.
 fn answer_now<W: Wire, A: Allocator + Clone, B: Book<A>>(
     line: &mut Line<W>,
     outgoing: &mut Outgoing<A>,
     end: End,
-    now: u64,
+    now: Moment,
     wire: &mut W,
     speaker: &mut Speaker<A, B>,
     buf: &mut [u8],
@@ -152,9 +154,28 @@ fn answer_now<W: Wire, A: Allocator + Clone, B: Book<A>>(
     ensures answers { AnswersAt end now line.old outgoing.old (record { wire = W.state wire.old; speaker = speaker.old }) result line.new outgoing.new (record { wire = W.state wire.new; speaker = speaker.new }) }
     ensures room { length buf.new ≡ turn_octets }
 {
+    let waited = outgoing.octets().len();
     let found = answer(line, outgoing, end, wire, speaker, buf);
-    let is_over = line.outlast(transport(speaker, end), now);
+    let answered = answered(end, waited, outgoing, speaker);
+    let is_over = line.outlast(answered, now);
     judge(found, is_over)
+}
+
+// How the session, and what is to be written for it, stand behind an answer before which so many octets waited.
+fn answered<A: Allocator + Clone, B: Book<A>>(
+    end: End,
+    waited: usize,
+    outgoing: &Outgoing<A>,
+    speaker: &Speaker<A, B>,
+) -> Answered
+    ensures { result ≡ answered_so end waited (length outgoing.now) speaker.now }
+{
+    Answered {
+        transport: transport(speaker, end),
+        is_unopened: is_unopened(speaker, end),
+        waited,
+        left: outgoing.octets().len(),
+    }
 }
 
 // One that would stay has lost its place where it is over.

@@ -4,12 +4,13 @@ ghost use Rattle.rib_out.specs.Slots.{has_slot};
 ghost use Rattle.speaker.specs.FirstRefusal.{Grows, awaits_up, may_bring_octets, may_fail, refusal_of};
 ghost use Rattle.speaker.specs.Runs.{call_of};
 ghost use Rattle.speaker_turns.specs.Obeying.{Commanding};
-ghost use Rattle.speaker_turns.specs.Sessions.{Asks, Ticks, bytes_call, fail_call, is_there, queued_for, take_call, transport_of, up_call, wanted_transport_of};
+ghost use Rattle.speaker_turns.specs.Sessions.{Asks, Ticks, bytes_call, fail_call, is_in_open_sent, is_there, is_unopened, queued_for, take_call, transport_of, up_call, wanted_transport_of};
 ghost use Rattle.speaker_turns.specs.Turns.{has_opened};
 ghost use Rattle.speaker_turns.specs.declared.end.End.TheVariants.{Cache, Peer};
 
 use crate::end::End;
 use bgp_conf::{Command, PEER_SLOTS, Refusal};
+use bgp_fsm::State;
 use decision::Book;
 use net_prefix::Transport;
 use speaker::{Event, Report, Speaker};
@@ -25,6 +26,29 @@ pub(crate) fn transport<A: Allocator + Clone, B: Book<A>>(
     match end {
         End::Peer(slot) => speaker.transport(slot),
         End::Cache => speaker.cache_transport(),
+    }
+}
+
+/// Whether the session awaits its peer's OPEN, which that with the cache never does.
+pub(crate) fn is_unopened<A: Allocator + Clone, B: Book<A>>(
+    speaker: &Speaker<A, B>,
+    end: End,
+) -> bool
+    ensures { result ≡ is_unopened speaker.now end }
+{
+    match end {
+        End::Peer(slot) => is_in_open_sent(speaker.session(slot)),
+        End::Cache => false,
+    }
+}
+
+// Whether a session is in OpenSent.
+fn is_in_open_sent(state: Option<State>) -> bool
+    ensures { result ≡ is_in_open_sent state }
+{
+    match state {
+        Some(State::OpenSent) => true,
+        _ => false,
     }
 }
 

@@ -5,9 +5,10 @@ ghost use Rattle.wires.specs.TurnOctets.{turn_octets};
 ghost use Rattle.speaker_turns.specs.Ends.{place_count};
 ghost use Rattle.speaker_turns.specs.Obeying.{Obeys};
 ghost use Rattle.speaker_turns.specs.Serving.{Begins, VisitsUnless};
-ghost use Rattle.speaker_turns.specs.Turns.{Admits, AtAll, AtPlace, AwaitsAt, GivesWay, IsTold, TakesTurn, VisitsAll, VisitsBut, counted, idle, vacant, with_remote};
+ghost use Rattle.speaker_turns.specs.Turns.{Admits, AtAll, AtPlace, AwaitsAt, GivesWay, IsTold, TakesTurn, VisitsAll, VisitsBut, counted, idle, vacant, with_patience, with_remote};
 
 use crate::end::{End, PLACES};
+use crate::patience::{Moment, Patience};
 use crate::place::{Place, Visit};
 use crate::sessions::{command as hand_in, tick};
 use bgp_conf::{Command, Refusal};
@@ -27,6 +28,7 @@ pub struct SpeakerLoop<W: Wire, A: Allocator + Clone = Global, B: Book<A> = Live
     speaker: Speaker<A, B>,
     // That of the slot s stands at s, and that of the cache behind them.
     places: Vec<Place<W, A>, A>,
+    patience: Patience,
     // From this place on a turn looks for a connection that ends.
     next: usize,
     lost: u64,
@@ -40,13 +42,14 @@ impl<W: Wire, A: Allocator + Clone, B: Book<A>> Model for SpeakerLoop<W, A, B> {
 
     ghost Value = { Turns };
 
-    ghost view = { λ l. record { counts = record { lost = l.lost; closed = l.closed; wire = W.state l.wire }; speaker = l.speaker; places = l.places.items; next = l.next } };
+    ghost view = { λ l. record { counts = record { lost = l.lost; closed = l.closed; wire = W.state l.wire }; speaker = l.speaker; places = l.places.items; patience = l.patience; next = l.next } };
 
     ghost invariant = { λ l. length l.places.items ≡ place_count };
 }
 
 impl<W: Wire + Drop, B: Book<Global>> SpeakerLoop<W, Global, B> {
-    /// The turns of this speaker on this wire, before the first. Of no session it is known where its other side is.
+    /// The turns of this speaker on this wire, before the first. Of no session it is known where its other side is, and patience
+    /// is endless.
     pub fn new(alloc: Global, wire: W, speaker: Speaker<Global, B>) -> Result<Self, AllocError>
         ensures { IfOk result (λ turns. turns ≡ idle speaker (W.state wire)) }
     {
@@ -56,6 +59,7 @@ impl<W: Wire + Drop, B: Book<Global>> SpeakerLoop<W, Global, B> {
             wire,
             speaker,
             places,
+            patience: Patience::ENDLESS,
             next: 0,
             lost: 0,
             closed: 0,
@@ -73,6 +77,13 @@ impl<W: Wire + Drop, A: Allocator + Clone, B: Book<A>> SpeakerLoop<W, A, B> {
         if place < self.places.len() {
             self.places[place].set_remote(remote);
         }
+    }
+
+    /// For how long its connections may take nothing, and their peers send no OPEN. No other call changes it.
+    pub fn set_patience(&mut self, patience: Patience)
+        ensures { self.new ≡ with_patience patience self.old }
+    {
+        self.patience = patience;
     }
 
     /// One turn: attempts begin where sessions ask for them, a connection that waits is accepted, what came on each is handed
@@ -193,7 +204,11 @@ impl<W: Wire + Drop, A: Allocator + Clone, B: Book<A>> SpeakerLoop<W, A, B> {
     fn visit_all(&mut self, now: u64)
         ensures { VisitsAll now self.old self.new }
     {
-        let one = self.visit_each(now);
+        let moment = Moment {
+            seconds: now,
+            patience: self.patience,
+        };
+        let one = self.visit_each(moment);
         self.next = match one {
             Some(one) => one + 1,
             None => 0,
@@ -202,7 +217,7 @@ impl<W: Wire + Drop, A: Allocator + Clone, B: Book<A>> SpeakerLoop<W, A, B> {
 
     // Visits each place, and tells at which a connection that ends was visited.
     #[tactic(auto, unfolding(wires::specs::TurnOctets::turn_octets))]
-    fn visit_each(&mut self, now: u64) -> Option<usize>
+    fn visit_each(&mut self, now: Moment) -> Option<usize>
         ensures visits { AtAll (VisitsBut self.old.next result now) self.old self.new }
         ensures within { IfSome result (λ one. (self.old.next ≤ one) × (one < length self.old.places)) }
         ensures few { IfSome result (λ one. one < place_count) }
@@ -218,7 +233,7 @@ impl<W: Wire + Drop, A: Allocator + Clone, B: Book<A>> SpeakerLoop<W, A, B> {
     }
 
     // Tells whether a connection that ends was visited.
-    fn visit(&mut self, place: usize, is_off: bool, now: u64, buf: &mut [u8]) -> bool
+    fn visit(&mut self, place: usize, is_off: bool, now: Moment, buf: &mut [u8]) -> bool
         requires place { place < length self.old.places }
         requires room { length buf.old ≡ turn_octets }
         ensures visits { AtPlace (λ end old before visit new behind. VisitsUnless is_off now end old before visit result new behind) self.old place self.new }

@@ -1,6 +1,7 @@
 use Rattle.std.proofs.Common.{◌∙◌, ap, refl}
-use Rattle.speaker_turns.specs.Turns.{Turns}
-use Rattle.speaker_program.specs.Begun.{with_remotes}
+use Rattle.speaker_turns.specs.Turns.{Turns, with_patience}
+use Rattle.speaker_turns.specs.declared.patience.Patience.{Patience}
+use Rattle.speaker_program.specs.Begun.{patience_of, with_remotes}
 use Rattle.speaker_program.proofs.OtherFaults.{other_fault}
 use Rattle.speaker_program.proofs.bgp_main.begin.Goals as goal
 
@@ -18,5 +19,9 @@ returns-clause-begins g c =
       opened = (c.in_ok-wire.wire, c.in_ok-wire.ensures.wire, refl);
       commanded = told.2;
       slots = c.in_ok-speaker.ensures.slots;
-      remotes = c.tell_remotes.ensures ∙ ap (λ (turns : Turns). with_remotes c.args.settings.now.peers.items c.args.settings.now.cache turns) c.in_ok-served.ensures;
+      remotes =
+          c.tell_remotes.ensures
+          ∙ ap (λ (turns : Turns). with_remotes c.args.settings.now.peers.items c.args.settings.now.cache turns)
+          (c.set_patience.ensures
+          ∙ (ap (λ (patience : Patience). with_patience patience c.in_ok-served.served) c.patience_of.ensures ∙ ap (with_patience (patience_of c.args.settings.now)) c.in_ok-served.ensures));
     }

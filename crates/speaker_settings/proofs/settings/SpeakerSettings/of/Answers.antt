@@ -49,6 +49,16 @@ returns-in_err-control-clause-told c =
     let needs = IsToldBy (table_view c.args.table.now) in
     passes_on_in_memory _ needs c.from_residual-in_err-control.result _ c.from_residual-in_err-control.ensures.1 c.in_err-control.ensures (λ none s told. none s.control told.control)
 
+pub returns-in_err-send_hold-clause-told : goal.returns-in_err-send_hold-clause-told
+returns-in_err-send_hold-clause-told c =
+    let needs = IsToldBy (table_view c.args.table.now) in
+    in_memory needs _ (passes_on _ needs c.from_residual-in_err-send_hold.result _ c.from_residual-in_err-send_hold.ensures.1 c.in_err-send_hold.ensures.told (λ none s told. none s.send_hold told.send_hold))
+
+pub returns-in_err-open_wait-clause-told : goal.returns-in_err-open_wait-clause-told
+returns-in_err-open_wait-clause-told c =
+    let needs = IsToldBy (table_view c.args.table.now) in
+    in_memory needs _ (passes_on _ needs c.from_residual-in_err-open_wait.result _ c.from_residual-in_err-open_wait.ensures.1 c.in_err-open_wait.ensures.told (λ none s told. none s.open_wait told.open_wait))
+
 pub returns-in_err-peers-clause-told : goal.returns-in_err-peers-clause-told
 returns-in_err-peers-clause-told c =
     let needs = IsToldBy (table_view c.args.table.now) in
