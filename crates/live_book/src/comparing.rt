@@ -224,8 +224,18 @@ fn best_in(meter: &mut Meter, round: Round, places: &[Place]) -> Option<Candidat
         Few::Nobody => choose(meter, &[]),
         Few::One(one) => choose(meter, &[one]),
         Few::Two(one, other) => choose(meter, &[one, other]),
-        Few::Many => choose(meter, &contenders(round, places)),
+        Few::Many => best_of_many(meter, round, places),
     }
+}
+
+// The same of any number. The list that has room for all is filled on entry, so it stays out of where few take part.
+#[inline(never)]
+fn best_of_many(meter: &mut Meter, round: Round, places: &[Place]) -> Option<Candidate>
+    requires { ArePlaces (slots_of places.now) }
+    ensures counted { meter.new.count ≡ min (meter.old.count + 1) (2 ^ 64 - 1) }
+    ensures selected { MatchOption result (contenders_of round places.now ≡ []) (λ c. IsSelected (contenders_of round places.now) c) }
+{
+    choose(meter, &contenders(round, places))
 }
 
 // How a place stands where the slot has the best one of the neighbor AS.

@@ -20,5 +20,6 @@ pub mod RouteChanges
 pub mod SoundOffers
 pub mod Stretching
 pub mod ToldDegrees
+pub mod ToldRoutes
 pub mod TouchedStretches
 pub mod WaitingLists

@@ -90,7 +90,7 @@ impl<A: Allocator + Clone, B: Book<A>> Routes<A, B> {
             return Ok(());
         };
         announce(link, &mut self.recent, prefix, octets, message)?;
-        self.routing.told(slot, prefix);
+        self.routing.announced(slot, prefix);
         Ok(())
     }
 }

@@ -243,6 +243,19 @@ impl<A: Allocator + Clone, B: Book<A>> Routing<A, B> {
         self.release(prefix);
     }
 
+    /// The slot's peer was told a route to the prefix, which stays known for its route.
+    pub fn announced(&mut self, slot: u8, prefix: Prefix)
+        requires slot { slot < 64 }
+        requires known { is_known self.old.waiting prefix ≡ true }
+        requires routed { (s : ℕ) × IsSome (route_at self.old.adj_in s prefix) }
+        ensures owed { (s : ℕ) (p : ThePrefix) → owed_at self.new.waiting s p ≡ (if s == slot && is_prefix prefix p then None else owed_at self.old.waiting s p) }
+        ensures known { (p : ThePrefix) → is_known self.new.waiting p ≡ is_known self.old.waiting p }
+        ensures released { ((p : ThePrefix) → IsReleased self.old p) → (p : ThePrefix) → IsReleased self.new p }
+        ensures rest { self.new ≡ record self.old { waiting = self.new.waiting } }
+    {
+        Waiting::set(&mut self.waiting, slot, prefix, None);
+    }
+
     /// The least prefix above the given one, or of all, of which this waits for the slot.
     pub fn next(&self, slot: u8, owed: Owed, after: Option<Prefix>) -> Option<Prefix>
         requires { slot < 64 }

@@ -1,4 +1,4 @@
-use Rattle.std.proofs.Common.{◌≡◌, Some, None, sym, subst, ◌∙◌, ap}
+use Rattle.std.proofs.Common.{Some, None, sym, subst, ◌∙◌, ap}
 use Rattle.decision.specs.Selection.{IsSelected}
 use Rattle.decision.proofs.BestPlaces.{best_chosen}
 use Rattle.live_book.specs.NeighborBests.{contenders_of, last_round, slots_of}
