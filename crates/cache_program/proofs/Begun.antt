@@ -16,7 +16,7 @@ use Rattle.cache_program.specs.FirstList.{IsFirst}
 use Rattle.cache_program.specs.Passing.{have_passed}
 use Rattle.cache_program.specs.Rereads.{IsNewest, RereadsWhenDue, Served, newest_set}
 use Rattle.cache_program.specs.ServedTurns.{IsBegun, IsServed, ServesAll, ServesOnce, ServesSoMany}
-use Rattle.cache_program.specs.declared.reread.Reread.{Reread}
+use Rattle.cache_watch.specs.declared.reread.Reread.{Reread}
 
 -- the set that is published first is that of the newest version
 pub first_is_newest_set : (Lists : Result SourceTexts SourceFile → Type 0) (guards : Guards) (kept : List Version) (serial : ℕ) (set : List Vrp) → IsFirst Lists guards kept serial set → set ≡ newest_set kept

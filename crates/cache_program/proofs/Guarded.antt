@@ -16,8 +16,8 @@ use Rattle.cache_program.proofs.Newest.{newest_set-kept_after}
 use Rattle.cache_program.specs.Passing.{have_passed}
 use Rattle.cache_program.specs.Rereads.{HandsIn, Publishes, Rereads, RereadsFile, RereadsWhenDue, Served, newest_set, served_set, versions}
 use Rattle.cache_program.specs.ServedTurns.{IsBegun, IsServed, ServesAll, ServesOnce}
-use Rattle.cache_program.specs.declared.reread.Reread.{Reread}
-use Rattle.cache_program.specs.declared.reread.Reread.TheVariants.{Refused, Same, Published}
+use Rattle.cache_watch.specs.declared.reread.Reread.{Reread}
+use Rattle.cache_watch.specs.declared.reread.Reread.TheVariants.{Refused, Same, Published}
 
 -- the guards stay, and what is served has enough if it had
 record Stays (old new : Served) : Type 0 where

@@ -3,7 +3,7 @@ use Rattle.std.proofs.Common.{◌≡◌, ℕ, Bool, true, Some, Result, Ok, Err,
 use Rattle.payload_sources.specs.PayloadSources.{SourceTexts}
 use Rattle.payload_sources.specs.declared.fault.SourceFile.{SourceFile}
 use Rattle.cache_program.specs.Rereads.{Rereads, RereadsWhenDue, Served}
-use Rattle.cache_program.specs.declared.reread.Reread.{Reread}
+use Rattle.cache_watch.specs.declared.reread.Reread.{Reread}
 
 given_then : (Lists : Result SourceTexts SourceFile → Type 0) (is_due : Bool) (now : ℕ) (sources : Result SourceTexts SourceFile) (old : Served) (led : Reread) (new : Served)
     → is_due ≡ true → Lists sources → Rereads now sources old led new → RereadsWhenDue Lists is_due now old (Some led) new

@@ -11,8 +11,8 @@ use Rattle.cache_program.specs.Passing.{have_passed}
 use Rattle.cache_program.specs.declared.every.Every.{Every}
 use Rattle.cache_program.specs.Rereads.{HandsIn, Publishes, Rereads, RereadsFile, RereadsWhenDue, Served}
 use Rattle.cache_program.specs.ServedTurns.{HandsInWhereDue, ServesAll, ServesOnce}
-use Rattle.cache_program.specs.declared.reread.Reread.{Reread}
-use Rattle.cache_program.specs.declared.reread.Reread.TheVariants.{Refused, Same, Published}
+use Rattle.cache_watch.specs.declared.reread.Reread.{Reread}
+use Rattle.cache_watch.specs.declared.reread.Reread.TheVariants.{Refused, Same, Published}
 
 -- what reading the list again has led to
 pub hands_in : (Lists : Result SourceTexts SourceFile → Type 0) (is_due : Bool) (now : ℕ) (old : Served) (answer : Option Reread) (new : Served) → RereadsWhenDue Lists is_due now old answer new → HandsInWhereDue Lists is_due now old new

@@ -3,7 +3,7 @@ use Rattle.std.specs.Prelude.{◌≡◌, ℕ, Result, Ok, Err, ⊤}
 use Rattle.program_endings.specs.Exits.{status_of}
 use Rattle.cache_program.specs.Exits.{exit_of_fault}
 use Rattle.cache_program.specs.declared.fault.CacheFault.{CacheFault}
-use Rattle.cache_program.specs.declared.fault.CacheFault.TheVariants.{Words, File, Settings, List, Refused, Listen, Clock, Turn, Output, NoMemory}
+use Rattle.cache_program.specs.declared.fault.CacheFault.TheVariants.{Words, File, Settings, List, Refused, Listen, Metrics, Clock, Turn, Output, NoMemory}
 
 -- the words are wrong
 abbrev pub IsOfWords : CacheFault → Type 0
@@ -13,6 +13,7 @@ IsOfWords (Settings path why) = ⊥
 IsOfWords (List path why) = ⊥
 IsOfWords (Refused refusal) = ⊥
 IsOfWords (Listen address error) = ⊥
+IsOfWords (Metrics address error) = ⊥
 IsOfWords (Clock error) = ⊥
 IsOfWords (Turn why) = ⊥
 IsOfWords (Output error) = ⊥

@@ -2,11 +2,11 @@
 use Rattle.rtr_cache.specs.declared.refusal.CacheRefusal.{CacheRefusal}
 use Rattle.rtr_cache.specs.declared.refusal.CacheRefusal.TheVariants.{NoClient, Full, ClockBack, NoMemory as NoMemoryOfCache, Range}
 use Rattle.payload_sources.specs.SourceExits.{exit_of_source}
-use Rattle.cache_program.specs.declared.reread.ListFault.{ListFault}
-use Rattle.cache_program.specs.declared.reread.ListFault.TheVariants.{NoFile, Source, Guard, NoMemory}
+use Rattle.cache_watch.specs.declared.reread.ListFault.{ListFault}
+use Rattle.cache_watch.specs.declared.reread.ListFault.TheVariants.{NoFile, Source, Guard, NoMemory}
 use Rattle.settings_keys.specs.SettingsExits.{exit_of_settings}
 use Rattle.cache_program.specs.declared.fault.CacheFault.{CacheFault}
-use Rattle.cache_program.specs.declared.fault.CacheFault.TheVariants.{Words, File, Settings as BadSettings, List as BadList, Refused, Listen, Clock, Turn, Output, NoMemory as NoMemoryToBegin}
+use Rattle.cache_program.specs.declared.fault.CacheFault.TheVariants.{Words, File, Settings as BadSettings, List as BadList, Refused, Listen, Metrics, Clock, Turn, Output, NoMemory as NoMemoryToBegin}
 use Rattle.program_endings.specs.declared.fault.ExitFault.{ExitFault}
 use Rattle.program_endings.specs.declared.fault.ExitFault.TheVariants.{Arguments, Settings, Device}
 
@@ -33,6 +33,7 @@ exit_of_fault (BadSettings path why) = exit_of_settings why
 exit_of_fault (BadList path why) = exit_of_first_list why
 exit_of_fault (Refused refusal) = exit_of_refusal refusal
 exit_of_fault (Listen address error) = Device
+exit_of_fault (Metrics address error) = Device
 exit_of_fault (Clock error) = Device
 exit_of_fault (Turn why) = Device
 exit_of_fault (Output error) = Device

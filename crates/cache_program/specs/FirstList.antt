@@ -6,8 +6,8 @@ use Rattle.net_prefix.specs.declared.payload.Vrp.{Vrp}
 use Rattle.payload_sources.specs.PayloadSources.{IsRefused, IsSetOf, SourceTexts}
 use Rattle.payload_sources.specs.declared.fault.SourceFile.{SourceFile}
 use Rattle.vrp_delta.specs.Versions.{Version, kept_after, newest_serial}
-use Rattle.cache_program.specs.declared.reread.ListFault.{ListFault}
-use Rattle.cache_program.specs.declared.reread.ListFault.TheVariants.{NoFile, Source, Guard, NoMemory}
+use Rattle.cache_watch.specs.declared.reread.ListFault.{ListFault}
+use Rattle.cache_watch.specs.declared.reread.ListFault.TheVariants.{NoFile, Source, Guard, NoMemory}
 
 -- the set is that of the list that the text spells, under the exceptions of the SLURM file where there is one, and the
 -- guards let it be served first

@@ -2,6 +2,7 @@ pub mod CacheOfSettings
 pub mod Checked
 pub mod Endings
 pub mod Exits
+pub mod Figures
 pub mod FirstList
 pub mod Opened
 pub mod Passing

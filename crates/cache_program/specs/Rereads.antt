@@ -12,10 +12,10 @@ use Rattle.rtr_cache.specs.ClientHistory.{Loaded as Loads, Makes}
 use Rattle.vrp_delta.specs.Versions.{Version, is_newest_set, newest_serial, serial_after}
 use Rattle.cache_turns.specs.Turns.{TakesTurn, Turns}
 use Rattle.wires.specs.declared.fault.LoopFault.{LoopFault}
-use Rattle.cache_program.specs.declared.reread.ListFault.{ListFault}
-use Rattle.cache_program.specs.declared.reread.ListFault.TheVariants.{NoFile, Source, Guard, NoMemory}
-use Rattle.cache_program.specs.declared.reread.Reread.{Reread}
-use Rattle.cache_program.specs.declared.reread.Reread.TheVariants.{Refused, Same, Published}
+use Rattle.cache_watch.specs.declared.reread.ListFault.{ListFault}
+use Rattle.cache_watch.specs.declared.reread.ListFault.TheVariants.{NoFile, Source, Guard, NoMemory}
+use Rattle.cache_watch.specs.declared.reread.Reread.{Reread}
+use Rattle.cache_watch.specs.declared.reread.Reread.TheVariants.{Refused, Same, Published}
 
 -- the payloads of the newest version, and none before the first
 abbrev pub newest_set : List Version → List Vrp

@@ -12,7 +12,7 @@ use Rattle.cache_program.specs.CacheOfSettings.{IsCacheOf}
 use Rattle.cache_program.specs.FirstList.{IsFirst}
 use Rattle.cache_program.specs.Passing.{have_passed}
 use Rattle.cache_program.specs.Rereads.{RereadsWhenDue, Served}
-use Rattle.cache_program.specs.declared.reread.Reread.{Reread}
+use Rattle.cache_watch.specs.declared.reread.Reread.{Reread}
 
 -- the list is read again where it is due, whatever that leads to
 abbrev pub HandsInWhereDue : (Result SourceTexts SourceFile → Type 0) → Bool → ℕ → Served → Served → Type 0

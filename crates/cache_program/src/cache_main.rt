@@ -22,23 +22,24 @@ use crate::every::Every;
 use crate::fault::CacheFault;
 use crate::files::{open_at, path_of, slurm_path};
 use crate::help::{HELP, VERSION};
-use crate::journal::{LogLine, log};
-use crate::loading::{first_set, load_cache, opened_files};
-use crate::reread::Reread;
+use crate::loading::{first_set, load_cache, opened_files, session_id};
 use crate::served_list::ServedList;
 use crate::settings_file::read_settings;
-use crate::watched::Watched;
 use cache_settings::CacheSettings;
 use cache_turns::CacheLoop;
+use cache_watch::{
+    ROUTER_LINES, Watch, Watched, age_of, tell_list, tell_listening, tell_metrics, tell_routers,
+    tell_status,
+};
 use clocks::{MonotonicClock, SecondsClock, SecondsSince1970, SystemSeconds};
-use list_guards::ListAge;
 use log_limits::LineLimit;
-use net_wires::{NetWire, REST_MILLISECONDS, RouterEvent};
+use metrics_sockets::MetricsSocket;
+use net_wires::{NetWire, REST_MILLISECONDS};
 use payload_sources::SourceSet;
 use program_endings::{Aside, aside_of, end, print, read_words};
 use rtr_cache::Cache;
+use scrapers::Scrapers;
 use std::alloc::{AllocGlobal, Global};
-use std::fs;
 use std::io::{self, Read, Write};
 use std::net::{Net, SocketAddr, TcpListener, TcpStream};
 use std::rt::{Clock, Files};
@@ -130,6 +131,7 @@ where
         clock,
         |path: &str| open_at(rt, path),
         |listen: SocketAddr| NetWire::listening(rt, listen),
+        |address: SocketAddr| MetricsSocket::open(rt, address),
         &mut SystemSeconds::new(rt),
     )
 }
@@ -209,8 +211,10 @@ fn run_cache<
     C: SecondsClock,
     L: Read + Drop,
     W: Wire + Watched + Drop,
+    P: Scrapers + Drop,
     F,
     G,
+    D,
     S: SecondsSince1970,
 >(
     rt: &R,
@@ -219,14 +223,17 @@ fn run_cache<
     clock: &mut C,
     opens: F,
     listens: G,
+    scrapes: D,
     seconds: &mut S,
 ) -> Result<ServedList<W>, CacheFault>
 where
     R: Files + Clock + AllocGlobal,
     F: Fn(&str) -> io::Result<L>,
     G: FnOnce(SocketAddr) -> io::Result<W>,
+    D: FnOnce(SocketAddr) -> io::Result<P>,
     requires opens { F.IsAlwaysCallable opens }
     requires listens { G.IsAlwaysCallable listens }
+    requires scrapes { D.IsAlwaysCallable scrapes }
     ensures wrong { ((path : List ℕ) (turns : ℕ) → ¬ (IsCall words.now path turns)) → IsErrAnd result IsOfWords }
     ensures right { (path : List ℕ) (turns : ℕ) → IsCall words.now path turns → ¬ (IsErrAnd result IsOfWords) }
     ensures output { IsErrAnd result IsOfWords → output.new ≡ output.old }
@@ -237,7 +244,9 @@ where
 {
     let (path, turns) = call_of(words)?;
     let settings = read_settings(rt.alloc(), path, &opens)?;
-    serve_cache(rt, &settings, turns, output, clock, opens, listens, seconds)
+    serve_cache(
+        rt, &settings, turns, output, clock, opens, listens, scrapes, seconds,
+    )
 }
 
 // The path of the settings and the number of turns.
@@ -266,16 +275,20 @@ fn read_clock<C: SecondsClock>(clock: &mut C) -> Result<u64, CacheFault>
 /// Serves the list of these settings for so many turns, each at the moment that the clock tells for it: the list is read
 /// before the first, and again between two of them, as `ServedList::serve` says of each, under the exceptions of the SLURM
 /// file where there is one. The files are what `opens` answers at their paths; the wire is what `listens` answers at the
-/// address where the settings listen, and `seconds` tells the second of the start. Answers what is served behind the last
-/// turn. Nothing is written to the output where the settings ask for no log.
+/// address where the settings listen, and `seconds` tells the second of the start. Scrapers are what `scrapes` answers at the
+/// address where the settings have them ask for figures, if they do: they are attended to between turns, and change nothing
+/// of what is served. Answers what is served behind the last turn. Nothing is written to the output where the settings ask
+/// for no log.
 pub fn serve_cache<
     R,
     O: Write,
     C: SecondsClock,
     L: Read + Drop,
     W: Wire + Watched + Drop,
+    P: Scrapers + Drop,
     F,
     G,
+    D,
     S: SecondsSince1970,
 >(
     rt: &R,
@@ -285,33 +298,73 @@ pub fn serve_cache<
     clock: &mut C,
     opens: F,
     listens: G,
+    scrapes: D,
     seconds: &mut S,
 ) -> Result<ServedList<W>, CacheFault>
 where
     R: Files + Clock + AllocGlobal,
     F: Fn(&str) -> io::Result<L>,
     G: FnOnce(SocketAddr) -> io::Result<W>,
+    D: FnOnce(SocketAddr) -> io::Result<P>,
     requires opens { F.IsAlwaysCallable opens }
     requires listens { G.IsAlwaysCallable listens }
+    requires scrapes { D.IsAlwaysCallable scrapes }
     ensures fault { IfErr result (λ fault. ¬ (IsOfWords fault)) }
     ensures quiet { settings.now.log ≡ false → output.new ≡ output.old }
     ensures serves { IfOk result (IsServed (Gives (FnReturnsAt F.Fn opens) L.remaining settings.now) (Listens (G.post listens settings.now.listen) W.state) (λ second. S.told seconds.new ≡ Some second) settings.now turns (C.readings clock.old) (C.readings clock.new)) }
 {
-    let mut served = begin(rt, settings, output, &opens, listens, seconds)?;
+    let second = second_of(seconds)?;
+    let mut served = begin(rt, settings, second, output, &opens, listens)?;
+    let session = session_id(settings.session, second);
+    let mut watch = watch_of(rt, settings, session, output, scrapes)?;
     // The moment 0, from which the list is read again.
     let _start = read_clock(clock)?;
-    take_turns(rt, settings, &mut served, turns, output, clock, &opens)?;
+    take_turns(
+        rt,
+        settings,
+        &mut served,
+        turns,
+        output,
+        clock,
+        &opens,
+        &mut watch,
+    )?;
     Ok(served)
 }
 
-// The list of the settings, before its first turn.
-fn begin<R, O: Write, L: Read + Drop, W: Wire + Watched + Drop, F, G, S: SecondsSince1970>(
+// What operators see of the run. Scrapers may come where the settings say that they ask for figures.
+fn watch_of<R: Clock, O: Write, P: Scrapers + Drop, D>(
     rt: &R,
     settings: &CacheSettings,
+    session: u16,
+    output: &mut O,
+    scrapes: D,
+) -> Result<Watch<P>, CacheFault>
+where
+    D: FnOnce(SocketAddr) -> io::Result<P>,
+    requires { D.IsAlwaysCallable scrapes }
+    ensures fault { IfErr result (λ fault. ¬ (IsOfWords fault)) }
+    ensures quiet { settings.now.log ≡ false → output.new ≡ output.old }
+{
+    let Some(address) = settings.metrics else {
+        return Ok(Watch::new(session, None));
+    };
+    let scrapers = match scrapes(address) {
+        Ok(scrapers) => scrapers,
+        Err(error) => return Err(CacheFault::Metrics { address, error }),
+    };
+    tell_metrics(rt, settings.log, &scrapers, output);
+    Ok(Watch::new(session, Some(scrapers)))
+}
+
+// The list of the settings, begun in this second, before its first turn.
+fn begin<R, O: Write, L: Read + Drop, W: Wire + Watched + Drop, F, G>(
+    rt: &R,
+    settings: &CacheSettings,
+    second: u64,
     output: &mut O,
     opens: &F,
     listens: G,
-    seconds: &mut S,
 ) -> Result<ServedList<W>, CacheFault>
 where
     R: Clock + AllocGlobal,
@@ -320,10 +373,9 @@ where
     requires opens { F.IsAlwaysCallable opens.now }
     requires listens { G.IsAlwaysCallable listens }
     ensures fault { IfErr result (λ fault. ¬ (IsOfWords fault)) }
-    ensures begins { IfOk result (IsBegun (Gives (FnReturnsAt F.Fn opens.now) L.remaining settings.now) (Listens (G.post listens settings.now.listen) W.state) (λ second. S.told seconds.new ≡ Some second) settings.now) }
+    ensures begins { IfOk result (IsBegun (Gives (FnReturnsAt F.Fn opens.now) L.remaining settings.now) (Listens (G.post listens settings.now.listen) W.state) (λ told. told ≡ second) settings.now) }
     ensures quiet { settings.now.log ≡ false → output.new ≡ output.old }
 {
-    let second = second_of(seconds)?;
     let (cache, serial, set) = load_cache(rt, settings, second, output, opens)?;
     let turns = over_wire(rt.alloc(), settings, cache, listens)?;
     tell_listening(rt, settings.log, turns.wire(), output);
@@ -363,7 +415,15 @@ where
 }
 
 // So many turns, each at the moment that is read for it.
-fn take_turns<R, O: Write, C: SecondsClock, L: Read + Drop, W: Wire + Watched + Drop, F>(
+fn take_turns<
+    R,
+    O: Write,
+    C: SecondsClock,
+    L: Read + Drop,
+    W: Wire + Watched + Drop,
+    P: Scrapers + Drop,
+    F,
+>(
     rt: &R,
     settings: &CacheSettings,
     served: &mut ServedList<W>,
@@ -371,6 +431,7 @@ fn take_turns<R, O: Write, C: SecondsClock, L: Read + Drop, W: Wire + Watched + 
     output: &mut O,
     clock: &mut C,
     opens: &F,
+    watch: &mut Watch<P>,
 ) -> Result<(), CacheFault>
 where
     R: Files + Clock + AllocGlobal,
@@ -385,8 +446,10 @@ where
     let mut limit = LineLimit::new(ROUTER_LINES);
     for _ in 0..turns {
         let now = read_clock(clock)?;
-        serve_once(rt, settings, served, now, &mut reread, output, opens)?;
-        tell_routers(rt, settings.log, served, now, &mut limit, output);
+        serve_once(rt, settings, served, now, &mut reread, watch, output, opens)?;
+        let wire = served.turns().wire();
+        tell_routers(rt, settings.log, wire, now, &mut limit, output);
+        attend(rt, settings, served, now, watch);
         rest(rt, settings, served, now, status.is_due(now), output);
     }
     Ok(())
@@ -405,20 +468,35 @@ fn rest<R: Files + Clock, W: Wire + Drop, O: Write>(
     ensures quiet { settings.now.log ≡ false → output.new ≡ output.old }
 {
     if is_due {
-        let age = age_of(rt, settings.csv.as_str()).ok();
-        tell_status(rt, settings.log, served, now, ListAge(age), output);
-        tell_age(rt, settings, age, output);
+        let figures = served.figures(now);
+        let age = age_of(rt, settings.csv.as_str());
+        tell_status(rt, settings.log, figures, age, settings.max_age, output);
     }
     served.wait(Duration::from_millis(REST_MILLISECONDS));
 }
 
+// The turn of the scrapers: those who wait for the figures are told what is served now.
+fn attend<R: Files + Clock + AllocGlobal, W: Wire + Drop, P: Scrapers>(
+    rt: &R,
+    settings: &CacheSettings,
+    served: &ServedList<W>,
+    now: u64,
+    watch: &mut Watch<P>,
+) {
+    if watch.attend(now) {
+        let age = age_of(rt, settings.csv.as_str());
+        watch.tell(rt.alloc(), &served.figures(now), age);
+    }
+}
+
 // What is done at a moment, and what the log says of it.
-fn serve_once<R, O: Write, L: Read + Drop, W: Wire + Watched + Drop, F>(
+fn serve_once<R, O: Write, L: Read + Drop, W: Wire + Drop, P: Scrapers, F>(
     rt: &R,
     settings: &CacheSettings,
     served: &mut ServedList<W>,
     now: u64,
     reread: &mut Every,
+    watch: &mut Watch<P>,
     output: &mut O,
     opens: &F,
 ) -> Result<(), CacheFault>
@@ -432,113 +510,10 @@ where
     ensures serves { OnOk result (ServesOnce (Gives (FnReturnsAt F.Fn opens.now) L.remaining settings.now) (have_passed reread.old.seconds reread.old.last now) now served.old served.new) }
 {
     let (led, turned) = served.serve(rt.alloc(), now, reread, settings, opens);
+    watch.count(led);
     if let Some(led) = led {
         tell_list(rt, settings.log, led, served.payloads(), output);
     }
     turned?;
     Ok(())
-}
-
-// Writes to the log where the cache listens: of port 0 the one that it was given.
-fn tell_listening<R: Clock, W: Watched, O: Write>(rt: &R, is_on: bool, wire: &W, output: &mut O)
-    ensures { is_on ≡ false → output.new ≡ output.old }
-{
-    if let Some(address) = wire.listens() {
-        log(rt, is_on, output, LogLine::Listens(address));
-    }
-}
-
-// Writes to the log what reading the list again has led to.
-fn tell_list<R: Clock, O: Write>(rt: &R, is_on: bool, led: Reread, payloads: usize, output: &mut O)
-    ensures { is_on ≡ false → output.new ≡ output.old }
-{
-    let line = match led {
-        Reread::Refused(why) => LogLine::Refused {
-            file: why.file(),
-            why,
-        },
-        Reread::Same => return,
-        Reread::Published(serial) => LogLine::Loaded { serial, payloads },
-    };
-    log(rt, is_on, output, line);
-}
-
-// How many lines a minute tell that routers came and went (own choice).
-const ROUTER_LINES: u32 = 300;
-
-// Writes what the last turn saw of routers to the log. Where more come and go in a minute than are told, the log gets their
-// number when it is over.
-fn tell_routers<R: Clock, W: Wire + Watched + Drop, O: Write>(
-    rt: &R,
-    is_on: bool,
-    served: &ServedList<W>,
-    now: u64,
-    limit: &mut LineLimit,
-    output: &mut O,
-)
-    ensures { is_on ≡ false → output.new ≡ output.old }
-{
-    if !is_on {
-        return;
-    }
-    if let Some(lines) = limit.tick(now) {
-        let most = ROUTER_LINES;
-        log(rt, is_on, output, LogLine::LeftOut { lines, most });
-    }
-    for event in served.turns().wire().seen() {
-        if matches!(event, RouterEvent::NoDescriptors) || limit.admits() {
-            log(rt, is_on, output, LogLine::Router(*event));
-        }
-    }
-}
-
-// Writes what is served, and what routers hold, to the log.
-fn tell_status<R: Clock, W: Wire + Drop, O: Write>(
-    rt: &R,
-    is_on: bool,
-    served: &ServedList<W>,
-    now: u64,
-    age: ListAge,
-    output: &mut O,
-)
-    ensures { is_on ≡ false → output.new ≡ output.old }
-{
-    let turns = served.turns();
-    let wire = turns.wire();
-    let serial = served.serial();
-    let holding = turns.holding(serial);
-    let line = LogLine::Status {
-        serial,
-        payloads: served.payloads(),
-        routers: turns.connections(),
-        current: holding.current,
-        behind: holding.behind,
-        without: holding.without,
-        octets_in: wire.octets_in(),
-        octets_out: wire.octets_out(),
-        age,
-        seconds: now.saturating_sub(served.read()),
-    };
-    log(rt, is_on, output, line);
-}
-
-// Warns in the log where the list's file was written too long ago, or its time can't be told.
-fn tell_age<R: Clock, O: Write>(rt: &R, settings: &CacheSettings, age: Option<u64>, output: &mut O)
-    ensures { settings.now.log ≡ false → output.new ≡ output.old }
-{
-    let Some(most) = settings.max_age else {
-        return;
-    };
-    let line = match age {
-        Some(seconds) if seconds <= most as u64 => return,
-        Some(seconds) => LogLine::Old { seconds, most },
-        None => LogLine::NoAge,
-    };
-    log(rt, settings.log, output, line);
-}
-
-// How many seconds ago a file was written.
-fn age_of<R: Files + Clock>(rt: &R, path: &str) -> io::Result<u64> {
-    let written = fs::metadata(rt, path)?.modified()?;
-    Ok(written.elapsed(rt)?.as_secs())
 }

@@ -2,7 +2,7 @@
 ghost use Rattle.std.specs.Prelude.{◌≡◌, ◌≢◌};
 ghost use Rattle.cache_program.specs.Exits.{exit_of_first_list, exit_of_refusal};
 
-use crate::reread::ListFault;
+use cache_watch::ListFault;
 use program_endings::ExitFault;
 use rtr_cache::CacheRefusal;
 

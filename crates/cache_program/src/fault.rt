@@ -5,7 +5,7 @@ ghost use Rattle.cache_program.specs.Endings.{IsOfWords};
 ghost use Rattle.cache_program.specs.declared.fault.CacheFault.TheVariants.{NoMemory, Turn};
 
 use crate::exits::{of_first_list, of_refusal};
-use crate::reread::ListFault;
+use cache_watch::ListFault;
 use program_endings::{ExitFault, FilePath, WordsFault};
 use rtr_cache::CacheRefusal;
 use settings_keys::SettingsFault;
@@ -48,6 +48,12 @@ pub enum CacheFault {
         address: SocketAddr,
         error: io::Error,
     },
+    /// The address of the figures can't be listened at.
+    #[error("metrics {address}: {error}")]
+    Metrics {
+        address: SocketAddr,
+        error: io::Error,
+    },
     /// The clock fails.
     #[error("the clock: {0}")]
     Clock(io::Error),
@@ -73,6 +79,7 @@ impl CacheFault {
             CacheFault::List { why, .. } => of_first_list(*why),
             CacheFault::Refused(refusal) => of_refusal(*refusal),
             CacheFault::File { .. } | CacheFault::Listen { .. } => ExitFault::Device,
+            CacheFault::Metrics { .. } => ExitFault::Device,
             CacheFault::Clock(_) | CacheFault::Turn(_) => ExitFault::Device,
             CacheFault::Output(_) | CacheFault::NoMemory => ExitFault::Device,
         }

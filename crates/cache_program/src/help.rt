@@ -24,6 +24,7 @@ reread         seconds until the list is read again, 1 at least (never)
 min_payloads   payloads that a list has at least (any number)
 max_shrink     per cent of the served payloads that may go at once, 0 to 100 (any number)
 max_age        seconds since the list was written, else the log warns, 1 at least (never)
+metrics        address and port where scrapers get the figures, as \"127.0.0.1:9847\" (none)
 log            true or false: whether there is a log on the output (false)
 status         seconds between two status lines of the log, 1 at least (none)
 

@@ -1,4 +1,4 @@
-//! The program of a cache: the list that it reads again, its log, and what the main of `ovcache` does.
+//! The program of a cache: the list that it reads again, and what the main of `ovcache` does.
 //!
 //! `main_cache` reads the words exactly, and tells what the operator has to mend from what the system didn't give
 //! (`specs/Exits.antt`). `ServedList` takes the list again while routers are served: one that can't be had, or that a guard
@@ -17,20 +17,15 @@ mod exits;
 mod fault;
 mod files;
 mod help;
-mod journal;
 mod laws;
 mod loading;
-mod reread;
 mod served_list;
 mod settings_file;
-mod watched;
 
 pub use cache_main::{main_cache, serve_cache};
+pub use cache_watch::{ListFault, LogLine, Reread, Watched};
 pub use every::Every;
 pub use exits::{of_first_list, of_refusal};
 pub use fault::CacheFault;
-pub use journal::LogLine;
 pub use laws::{no_fewer_are_served_than_are_wanted, served_turns_are_steps};
-pub use reread::{ListFault, Reread};
 pub use served_list::ServedList;
-pub use watched::Watched;

@@ -10,9 +10,8 @@ ghost use Rattle.vrp_delta.specs.Versions.{kept_after, newest_serial};
 
 use crate::fault::CacheFault;
 use crate::files::{open_files, path_of};
-use crate::journal::{LogLine, log};
-use crate::reread::ListFault;
 use cache_settings::{CacheSettings, SessionSource};
+use cache_watch::{ListFault, LogLine, log};
 use list_guards::Guards;
 use net_prefix::Vrp;
 use payload_sources::{SourceSet, Sources, read_sources};
@@ -62,8 +61,8 @@ fn made_cache(alloc: Global, settings: &CacheSettings, second: u64) -> Result<Ca
     }
 }
 
-// The session id. By the clock it is the low 16 bits of the seconds since 1970: another one in each of 65,536 seconds.
-fn session_id(session: SessionSource, second: u64) -> u16
+/// The session id. By the clock it is the low 16 bits of the seconds since 1970: another one in each of 65,536 seconds.
+pub(crate) fn session_id(session: SessionSource, second: u64) -> u16
     ensures { IsSessionOf session second result }
 {
     match session {

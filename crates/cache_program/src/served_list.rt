@@ -4,15 +4,17 @@ ghost use Rattle.std.specs.Fn.{FnReturnsAt};
 ghost use Rattle.cache_turns.specs.Turns.{TakesTurn};
 ghost use Rattle.list_guards.specs.Guarding.{guard_fault};
 ghost use Rattle.payload_sources.specs.PayloadSources.{texts_of};
+ghost use Rattle.cache_program.specs.Figures.{figures_of};
 ghost use Rattle.cache_program.specs.Opened.{Gives};
 ghost use Rattle.cache_program.specs.Passing.{have_passed};
 ghost use Rattle.cache_program.specs.Rereads.{IsNewest, Publishes, Rereads, RereadsFile, RereadsWhenDue, ServesAt, newest_set, served_set};
 
 use crate::every::Every;
 use crate::files::open_files;
-use crate::reread::{ListFault, Reread};
+use cache_figures::CacheFigures;
 use cache_settings::CacheSettings;
 use cache_turns::CacheLoop;
+use cache_watch::{ListFault, Reread};
 use list_guards::{GuardFault, Guards};
 use net_prefix::Vrp;
 use payload_sources::{Sources, Unopened, read_sources};
@@ -178,6 +180,28 @@ impl<W: Wire + Drop> ServedList<W> {
             return Reread::Same;
         }
         Reread::Published(self.serial)
+    }
+
+    /// What is served and what routers hold at this moment.
+    pub fn figures(&self, now: u64) -> CacheFigures
+        ensures { result ≡ figures_of now self.now }
+    {
+        let turns = &self.turns;
+        let wire = turns.wire();
+        let holding = turns.holding(self.serial);
+        CacheFigures {
+            serial: self.serial,
+            payloads: self.payloads,
+            routers: turns.connections(),
+            current: holding.current,
+            behind: holding.behind,
+            without: holding.without,
+            octets_in: wire.octets_in(),
+            octets_out: wire.octets_out(),
+            lost: turns.lost(),
+            closed: turns.closed(),
+            read: now.saturating_sub(self.read),
+        }
     }
 
     /// The turns.

@@ -164,7 +164,7 @@ fn the_version_is_told(rt: HostRuntime) {
 }
 
 // Settings but for the list's path.
-const GOOD_SETTINGS: [&str; 9] = [
+const GOOD_SETTINGS: [&str; 10] = [
     SETTINGS,
     "session = 0\nlisten = \"127.0.0.1:0\"\nrefresh = 1\nretry = 7200\nexpire = 172800\n",
     "session = 65535\nlisten = \"127.0.0.1:0\"\n",
@@ -172,18 +172,20 @@ const GOOD_SETTINGS: [&str; 9] = [
     "session = 7\nlisten = \"127.0.0.1:0\"\nother_session = \"report\"\n",
     "session = 7\nlisten = \"127.0.0.1:0\"\nreread = 1\nlog = false\nstatus = 4294967295\n",
     "session = 7\nlisten = \"127.0.0.1:0\"\nfirst = 1\nidle = 3601\n",
+    "session = 7\nlisten = \"127.0.0.1:0\"\nmetrics = \"127.0.0.1:0\"\n",
     "session = 7\nlisten = \"127.0.0.1:0\"\nmin_payloads = 1\nmax_shrink = 0\nmax_age = 1\n",
     "session = 7\nlisten = \"127.0.0.1:0\"\nmin_payloads = 0\nmax_shrink = 100\nmax_age = 4294967295\n",
 ];
 
 #[rattlefmt::skip]
-const BAD_SETTINGS: [(&str, &str); 40] = [
+const BAD_SETTINGS: [(&str, &str); 41] = [
     ("listen = \"127.0.0.1:0\"\nsession = 7\nno toml", "line 4: key with no value, expected `=`"),
     ("listen = \"127.0.0.1:0\"\n", "'session' isn't there"),
     ("session = 7\n", "'listen' isn't there"),
     ("listen = \"127.0.0.1\"\nsession = 7\n", "listen: '127.0.0.1' is no IP address and port"),
     ("listen = \"localhost:323\"\nsession = 7\n", "listen: 'localhost:323' is no IP address and port"),
     ("listen = 323\nsession = 7\n", "listen: 323 is no IP address and port"),
+    ("listen = \"127.0.0.1:0\"\nsession = 7\nmetrics = 9847\n", "metrics: 9847 is no IP address and port"),
     ("listen = \"127.0.0.1:0\"\nsession = 65536\n", "session: 65536 is neither a number from 0 to 65535 nor 'clock'"),
     ("listen = \"127.0.0.1:0\"\nsession = -1\n", "session: -1 is neither a number from 0 to 65535 nor 'clock'"),
     ("listen = \"127.0.0.1:0\"\nsession = \"7\"\n", "session: '7' is neither a number from 0 to 65535 nor 'clock'"),

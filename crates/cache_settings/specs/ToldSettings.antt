@@ -81,7 +81,7 @@ terms_of settings = record {
 abbrev pub keys_of_a_cache : List (List ℕ)
 keys_of_a_cache =
     codes "listen" ∷ codes "csv" ∷ codes "slurm" ∷ codes "session" ∷ codes "other_session" ∷ codes "refresh" ∷ codes "retry" ∷ codes "expire" ∷ codes "first" ∷ codes "idle" ∷ codes "min_payloads"
-    ∷ codes "max_shrink" ∷ codes "reread" ∷ codes "max_age" ∷ codes "log" ∷ codes "status" ∷ []
+    ∷ codes "max_shrink" ∷ codes "reread" ∷ codes "max_age" ∷ codes "log" ∷ codes "status" ∷ codes "metrics" ∷ []
 
 -- the settings are what stands at their keys, and there are no others
 pub record IsToldBy (table : Members) (settings : CacheSettings) : Type 0 where
@@ -89,4 +89,5 @@ pub record IsToldBy (table : Members) (settings : CacheSettings) : Type 0 where
   pub listen : IsTold IsAddress (get_member (codes "listen") table) settings.listen
   pub csv : IsTold IsText (get_member (codes "csv") table) (string_bytes settings.csv)
   pub slurm : IsToldIfThere IsText (get_member (codes "slurm") table) (option_map string_bytes settings.slurm)
+  pub metrics : IsToldIfThere IsAddress (get_member (codes "metrics") table) settings.metrics
   pub terms : AreTerms table (terms_of settings)

@@ -13,8 +13,8 @@ use list_guards::Guards;
 use rtr_cache::OtherSession;
 use rtr_codec::Intervals;
 use settings_keys::{
-    Owner, SettingsFault, Wanted, address_of, bad_number, bad_value, lacks, not_greater, number_of,
-    only_known, read_table, text_of, value_at, yes_or_no_of,
+    Owner, SettingsFault, Wanted, address_if_told, address_of, bad_number, bad_value, lacks,
+    not_greater, number_of, only_known, read_table, text_of, value_at, yes_or_no_of,
 };
 use std::alloc::Global;
 use std::net::SocketAddr;
@@ -38,6 +38,8 @@ pub struct CacheSettings {
     pub csv: String,
     /// The path of the SLURM file under whose exceptions it serves the list, if there is one.
     pub slurm: Option<String>,
+    /// Where scrapers ask for its figures, if they may.
+    pub metrics: Option<SocketAddr>,
     /// Where its session id comes from.
     pub session: SessionSource,
     /// What it answers a Serial Query of another session with.
@@ -63,7 +65,7 @@ impl CacheSettings {
     /// `session`, a number of 16 bits or `"clock"`; and, where they are there, `other_session`, `"report"` or `"reset"`,
     /// `refresh`, `retry` and `expire`, in place of the usual intervals and lawful together, `first`, 1 at least, `idle`,
     /// above `refresh`, `reread`, `max_age` and `status`, 1 at least, and `min_payloads`, each a number of 32 bits, `max_shrink`,
-    /// up to 100, `log`, a boolean, and `slurm`, a text. There are no keys of other names. Anything else is `Settings`.
+    /// up to 100, `log`, a boolean, `slurm`, a text, and `metrics`, as `listen`. There are no keys of other names. Anything else is `Settings`.
     pub fn read(alloc: Global, octets: &[u8]) -> Result<CacheSettings, SettingsFault>
         ensures told { AnswersInMemory (λ settings. (table : Members) × IsTableOf octets.now table × IsToldBy table settings) result }
         ensures intervals { IfOk result (λ settings. are_lawful settings.intervals ≡ true) }
@@ -87,12 +89,14 @@ impl CacheSettings {
         let listen = address_of(alloc, table, "listen")?;
         let path = text_of(alloc, table, "csv")?;
         let csv = String::from_str(alloc, path)?;
+        let metrics = address_if_told(alloc, table, "metrics")?;
         let slurm = path_if_told(alloc, table, "slurm")?;
         let terms = terms_of(alloc, table)?;
         Ok(CacheSettings {
             listen,
             csv,
             slurm,
+            metrics,
             session: terms.session,
             other_session: terms.other_session,
             intervals: terms.intervals,
@@ -107,7 +111,7 @@ impl CacheSettings {
 }
 
 // The keys of the settings.
-const KEYS: [&str; 16] = [
+const KEYS: [&str; 17] = [
     "listen",
     "csv",
     "slurm",
@@ -124,6 +128,7 @@ const KEYS: [&str; 16] = [
     "max_age",
     "log",
     "status",
+    "metrics",
 ];
 
 // The path at a key, if the key is there.

@@ -16,4 +16,4 @@ mod writing;
 pub use answer::write_answer;
 pub use metric::{Label, Metric, MetricKind, Sample};
 pub use request::{Asked, MOST_HEADERS, MOST_OCTETS, judge_request};
-pub use writing::write_metrics;
+pub use writing::{write_metric, write_metrics, write_sample};

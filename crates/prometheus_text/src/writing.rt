@@ -20,7 +20,11 @@ pub fn write_metrics<A: Allocator>(
     Ok(())
 }
 
-fn write_metric<A: Allocator>(text: &mut Vec<u8, A>, metric: &Metric<'_>) -> Result<(), AllocError>
+/// The same of one metric.
+pub fn write_metric<A: Allocator>(
+    text: &mut Vec<u8, A>,
+    metric: &Metric<'_>,
+) -> Result<(), AllocError>
     ensures { OnOk result (text.new.items ≡ text.old.items ++ metric_text metric.now) }
 {
     write_help(text, metric)?;
@@ -61,7 +65,8 @@ fn write_samples<A: Allocator>(
     Ok(())
 }
 
-fn write_sample<A: Allocator>(
+/// Writes a sample of the metric of this name.
+pub fn write_sample<A: Allocator>(
     text: &mut Vec<u8, A>,
     name: &str,
     sample: &Sample<'_>,

@@ -33,3 +33,8 @@ pub returns-in_err-slurm-clause-told : goal.returns-in_err-slurm-clause-told
 returns-in_err-slurm-clause-told c =
     let needs = IsToldBy (table_view c.args.table.now) in
     passes_on_in_memory _ needs c.from_residual-in_err-slurm.result _ c.from_residual-in_err-slurm.ensures.1 c.in_err-slurm.ensures (λ none s told. none s.slurm told.slurm)
+
+pub returns-in_err-metrics-clause-told : goal.returns-in_err-metrics-clause-told
+returns-in_err-metrics-clause-told c =
+    let needs = IsToldBy (table_view c.args.table.now) in
+    in_memory needs _ (passes_on _ needs c.from_residual-in_err-metrics.result _ c.from_residual-in_err-metrics.ensures.1 c.in_err-metrics.ensures (λ none s told. none s.metrics told.metrics))

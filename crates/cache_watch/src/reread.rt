@@ -1,4 +1,8 @@
 //! What reading the list again has led to.
+ghost use Rattle.std.specs.Prelude.{◌≡◌};
+ghost use Rattle.cache_watch.specs.Outcomes.{outcome_of};
+
+use cache_figures::Outcome;
 use list_guards::GuardFault;
 use payload_sources::{SourceFault, SourceFile};
 use thiserror::Error;
@@ -40,4 +44,17 @@ pub enum Reread {
     Same,
     /// It has others, which are served from now on under this serial.
     Published(u32),
+}
+
+impl Reread {
+    /// As it is counted.
+    pub fn outcome(self) -> Outcome
+        ensures { result ≡ outcome_of self }
+    {
+        match self {
+            Reread::Refused(_) => Outcome::Refused,
+            Reread::Same => Outcome::Same,
+            Reread::Published(_) => Outcome::Taken,
+        }
+    }
 }

@@ -2,6 +2,7 @@
 ghost use Rattle.std.specs.Prelude.{◌≡◌, false};
 
 use crate::reread::ListFault;
+use cache_figures::CacheFigures;
 use jiff::Timestamp;
 use list_guards::ListAge;
 use net_wires::RouterEvent;
@@ -48,21 +49,16 @@ pub enum LogLine {
         lines: u64,
         most: u32,
     },
-    /// What is served, to how many routers, how many of them hold it, another list, and none, how many octets came and went
-    /// since the start, when the list's file was written, and how many seconds ago a list was read that could be had.
-    #[error("status: serial {serial}, payloads {payloads}, routers {routers} ({current} current, {behind} behind, {without} without), octets {octets_in} in, {octets_out} out, list {age}, read {seconds} seconds ago")]
+    /// What is served and held, when the list's file was written, and how many seconds ago a list was read that could be had.
+    #[error("status: {figures}, list {age}, read {seconds} seconds ago")]
     Status {
-        serial: u32,
-        payloads: usize,
-        routers: usize,
-        current: usize,
-        behind: usize,
-        without: usize,
-        octets_in: u64,
-        octets_out: u64,
+        figures: CacheFigures,
         age: ListAge,
         seconds: u64,
     },
+    /// Scrapers connect here.
+    #[error("metrics at {0}")]
+    Metrics(SocketAddr),
 }
 
 /// Writes a line to the log where there is one.

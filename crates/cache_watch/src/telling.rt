@@ -1,0 +1,133 @@
+//! What the log says when, and what scrapers are told.
+ghost use Rattle.std.specs.Prelude.{◌≡◌, false};
+
+use crate::journal::{LogLine, log};
+use crate::reread::Reread;
+use crate::watched::Watched;
+use cache_figures::CacheFigures;
+use list_guards::ListAge;
+use log_limits::LineLimit;
+use net_wires::RouterEvent;
+use scrapers::Scrapers;
+use std::fs;
+use std::io::{self, Write};
+use std::rt::{Clock, Files};
+
+/// Writes to the log where the cache listens: of port 0 the one that it was given.
+pub fn tell_listening<R: Clock, W: Watched, O: Write>(rt: &R, is_on: bool, wire: &W, output: &mut O)
+    ensures { is_on ≡ false → output.new ≡ output.old }
+{
+    if let Some(address) = wire.listens() {
+        log(rt, is_on, output, LogLine::Listens(address));
+    }
+}
+
+/// The same of where scrapers connect.
+pub fn tell_metrics<R: Clock, P: Scrapers, O: Write>(
+    rt: &R,
+    is_on: bool,
+    scrapers: &P,
+    output: &mut O,
+)
+    ensures { is_on ≡ false → output.new ≡ output.old }
+{
+    if let Some(address) = scrapers.address() {
+        log(rt, is_on, output, LogLine::Metrics(address));
+    }
+}
+
+/// Writes to the log what reading the list again has led to.
+pub fn tell_list<R: Clock, O: Write>(
+    rt: &R,
+    is_on: bool,
+    led: Reread,
+    payloads: usize,
+    output: &mut O,
+)
+    ensures { is_on ≡ false → output.new ≡ output.old }
+{
+    let line = match led {
+        Reread::Refused(why) => LogLine::Refused {
+            file: why.file(),
+            why,
+        },
+        Reread::Same => return,
+        Reread::Published(serial) => LogLine::Loaded { serial, payloads },
+    };
+    log(rt, is_on, output, line);
+}
+
+/// How many lines a minute tell that routers came and went (own choice).
+pub const ROUTER_LINES: u32 = 300;
+
+/// Writes what the last turn saw of routers to the log. Where more come and go in a minute than are told, the log gets their
+/// number when it is over.
+pub fn tell_routers<R: Clock, W: Watched, O: Write>(
+    rt: &R,
+    is_on: bool,
+    wire: &W,
+    now: u64,
+    limit: &mut LineLimit,
+    output: &mut O,
+)
+    ensures { is_on ≡ false → output.new ≡ output.old }
+{
+    if !is_on {
+        return;
+    }
+    if let Some(lines) = limit.tick(now) {
+        let most = ROUTER_LINES;
+        log(rt, is_on, output, LogLine::LeftOut { lines, most });
+    }
+    for event in wire.seen() {
+        if matches!(event, RouterEvent::NoDescriptors) || limit.admits() {
+            log(rt, is_on, output, LogLine::Router(*event));
+        }
+    }
+}
+
+/// Writes what is served, and what routers hold, to the log, with how many seconds ago the list's file was written, if that
+/// can be told; and warns where that is more than this.
+pub fn tell_status<R: Clock, O: Write>(
+    rt: &R,
+    is_on: bool,
+    figures: CacheFigures,
+    age: Option<u64>,
+    most: Option<u32>,
+    output: &mut O,
+)
+    ensures { is_on ≡ false → output.new ≡ output.old }
+{
+    let seconds = figures.read;
+    let status = LogLine::Status {
+        figures,
+        age: ListAge(age),
+        seconds,
+    };
+    log(rt, is_on, output, status);
+    if let Some(most) = most {
+        tell_age(rt, is_on, age, most, output);
+    }
+}
+
+// Warns in the log where the list's file was written too long ago, or its time can't be told.
+fn tell_age<R: Clock, O: Write>(rt: &R, is_on: bool, age: Option<u64>, most: u32, output: &mut O)
+    ensures { is_on ≡ false → output.new ≡ output.old }
+{
+    let line = match age {
+        Some(seconds) if seconds <= most as u64 => return,
+        Some(seconds) => LogLine::Old { seconds, most },
+        None => LogLine::NoAge,
+    };
+    log(rt, is_on, output, line);
+}
+
+/// How many seconds ago a file was written, if that can be told.
+pub fn age_of<R: Files + Clock>(rt: &R, path: &str) -> Option<u64> {
+    seconds_since_written(rt, path).ok()
+}
+
+fn seconds_since_written<R: Files + Clock>(rt: &R, path: &str) -> io::Result<u64> {
+    let written = fs::metadata(rt, path)?.modified()?;
+    Ok(written.elapsed(rt)?.as_secs())
+}
