@@ -17,6 +17,8 @@ multiprotocol  true or false: whether its OPEN tells IPv4 unicast (false)
 cache          address and port of its RPKI cache, as \"192.0.2.2:323\" (no cache)
 listen         address and port where passive peers connect, as \"0.0.0.0:179\" (it doesn't listen)
 control        path of the Unix socket at which ovctl asks while it runs (none)
+log            true or false: whether it writes a log (false)
+status         seconds between two status lines of the log, 1 or more (none)
 [[peer]]       a table for each slot that the commands fill:
   slot         number of the slot, 0 to 63, none twice
   remote       address and port of the peer

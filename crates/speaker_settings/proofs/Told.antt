@@ -18,11 +18,16 @@ use Rattle.settings_keys.specs.declared.cause.SettingsFault.{SettingsFault}
 use Rattle.settings_keys.specs.declared.cause.SettingsFault.TheVariants.{Settings, NoMemory}
 use Rattle.settings_keys.specs.Keys.{Answers, AnswersInMemory, IsAddress, IsNumber, IsText, IsTold, IsToldIfThere}
 use Rattle.speaker_settings.specs.PeerSlots.{AreSlots, has_slot}
-use Rattle.speaker_settings.specs.ToldSettings.{ArePeers, IsAsn, IsIdentifier, IsPeer, IsSlot, IsTextOf, keys_of_a_peer}
+use Rattle.speaker_settings.specs.ToldSettings.{ArePeers, IsAsn, IsIdentifier, IsPeer, IsSeconds, IsSlot, IsTextOf, keys_of_a_peer}
 
 pub no_asn : (o : Option Data) → TellsNothing (IsToldIfThere IsNumber o) → TellsNothing (IsTold IsAsn o)
 no_asn None none asn told = told
 no_asn (Some found) none asn told = none (Some asn.0) told.0
+
+pub no_seconds : (o : Option Data) → TellsNothing (IsToldIfThere IsNumber o) → TellsNothing (IsToldIfThere IsSeconds o)
+no_seconds None none value told = none value told
+no_seconds (Some found) none None told = told
+no_seconds (Some found) none (Some value) told = none (Some value) told.0
 
 pub no_identifier : (o : Option Data) → TellsNothing (IsTold IsText o) → TellsNothing (IsTold IsIdentifier o)
 no_identifier None none identifier told = told

@@ -25,9 +25,13 @@ IsIdentifier found identifier =
 abbrev pub IsSlot : Data → ℕ → Type 0
 IsSlot found slot = IsNumber found slot × (slot < 64)
 
+-- a number of seconds that isn't 0
+abbrev pub IsSeconds : Data → ℕ → Type 0
+IsSeconds found seconds = IsNumber found seconds × (1 ≤ seconds)
+
 -- the keys of the settings, and of each peer's table
 abbrev pub keys_of_a_speaker : List (List ℕ)
-keys_of_a_speaker = codes "as" ∷ codes "identifier" ∷ codes "commands" ∷ codes "cache" ∷ codes "multiprotocol" ∷ codes "listen" ∷ codes "control" ∷ codes "peer" ∷ []
+keys_of_a_speaker = codes "as" ∷ codes "identifier" ∷ codes "commands" ∷ codes "cache" ∷ codes "multiprotocol" ∷ codes "listen" ∷ codes "control" ∷ codes "log" ∷ codes "status" ∷ codes "peer" ∷ []
 
 abbrev pub keys_of_a_peer : List (List ℕ)
 keys_of_a_peer = codes "slot" ∷ codes "remote" ∷ []
@@ -64,4 +68,6 @@ pub record IsToldBy (table : Members) (settings : SpeakerSettings) : Type 0 wher
   pub multiprotocol : IsToldOrUsual IsYesOrNo false (get_member (codes "multiprotocol") table) settings.multiprotocol
   pub listen : IsToldIfThere IsAddress (get_member (codes "listen") table) settings.listen
   pub control : IsToldIfThere IsTextOf (get_member (codes "control") table) settings.control
+  pub log : IsToldOrUsual IsYesOrNo false (get_member (codes "log") table) settings.log
+  pub status : IsToldIfThere IsSeconds (get_member (codes "status") table) settings.status
   pub peers : ArePeersAt (get_member (codes "peer") table) settings.peers.items

@@ -1,11 +1,11 @@
 //! The settings of a speaker.
-ghost use Rattle.std.specs.Prelude.{◌≡◌, ◌≤◌, ◌<◌, IfOk, codes};
+ghost use Rattle.std.specs.Prelude.{◌≡◌, ◌≤◌, ◌<◌, IfOk, IfSome, codes};
 ghost use Rattle.toml.specs.Data.{Members, get_member};
 ghost use Rattle.toml.specs.View.{items_view, table_view, view};
 ghost use Rattle.settings_keys.specs.Causes.{IsBad};
 ghost use Rattle.settings_keys.specs.Keys.{Answers, AnswersInMemory, IsTableOf, IsTold, IsToldIfThere};
 ghost use Rattle.speaker_settings.specs.PeerSlots.{AreSlots, has_slot};
-ghost use Rattle.speaker_settings.specs.ToldSettings.{ArePeers, ArePeersAt, IsAsn, IsIdentifier, IsPeer, IsSlot, IsTextOf, IsToldBy};
+ghost use Rattle.speaker_settings.specs.ToldSettings.{ArePeers, ArePeersAt, IsAsn, IsIdentifier, IsPeer, IsSeconds, IsSlot, IsTextOf, IsToldBy};
 
 use bgp_conf::PEER_SLOTS;
 use net_prefix::Asn;
@@ -35,19 +35,24 @@ pub struct SpeakerSettings {
     pub listen: Option<SocketAddr>,
     /// The path of the Unix socket at which operators are answered, if they are.
     pub control: Option<String>,
+    /// Whether it writes a log.
+    pub log: bool,
+    /// After how many seconds the log gets a status line, if it does.
+    pub status: Option<u32>,
     /// The slot of each peer, and where the peer is.
     pub peers: Vec<(u8, SocketAddr)>,
 }
 
 impl SpeakerSettings {
     /// The settings that the octets of a file tell in TOML: `as`, a number from 1 to 4294967295, `identifier`, the text of
-    /// an IPv4 address other than 0.0.0.0, and `commands`, a text; and, where they are there, `multiprotocol`, `true` or
-    /// `false`, `cache` and `listen`, each the text of an address and a port, `control`, a text, and the tables `peer`, each with `slot`, from 0 to
-    /// 63 and none twice, and `remote`, the text of an address and a port. There are no keys of other names. Anything else is
+    /// an IPv4 address other than 0.0.0.0, and `commands`, a text; and, where they are there, `multiprotocol` and `log`,
+    /// `true` or `false`, `cache` and `listen`, each the text of an address and a port, `control`, a text, `status`, a number of 32 bits,
+    /// 1 at least, and the tables `peer`, each with `slot`, from 0 to 63 and none twice, and `remote`, the text of an address and a port. There are no keys of other names. Anything else is
     /// `Settings`.
     pub fn read(alloc: Global, octets: &[u8]) -> Result<SpeakerSettings, SettingsFault>
         ensures told { AnswersInMemory (λ settings. (table : Members) × IsTableOf octets.now table × IsToldBy table settings) result }
         ensures own { IfOk result (λ settings. (1 ≤ settings.asn.0) × (1 ≤ settings.identifier)) }
+        ensures status { IfOk result (λ settings. IfSome settings.status (λ seconds. 1 ≤ seconds)) }
         ensures slots { IfOk result (λ settings. AreSlots settings.peers.items) }
     {
         let table = read_table(alloc, octets)?;
@@ -58,6 +63,7 @@ impl SpeakerSettings {
     fn of(alloc: Global, table: &Table) -> Result<SpeakerSettings, SettingsFault>
         ensures told { AnswersInMemory (IsToldBy (table_view table.now)) result }
         ensures own { IfOk result (λ settings. (1 ≤ settings.asn.0) × (1 ≤ settings.identifier)) }
+        ensures status { IfOk result (λ settings. IfSome settings.status (λ seconds. 1 ≤ seconds)) }
         ensures slots { IfOk result (λ settings. AreSlots settings.peers.items) }
     {
         only_known(alloc, table, Owner::Speaker, &KEYS)?;
@@ -69,6 +75,8 @@ impl SpeakerSettings {
         let multiprotocol = yes_or_no_of(alloc, table, "multiprotocol")?;
         let listen = address_if_told(alloc, table, "listen")?;
         let control = control_of(alloc, table)?;
+        let log = yes_or_no_of(alloc, table, "log")?;
+        let status = seconds_of(alloc, table, "status")?;
         let peers = peers_of(alloc, table)?;
         Ok(SpeakerSettings {
             asn,
@@ -78,13 +86,15 @@ impl SpeakerSettings {
             multiprotocol,
             listen,
             control,
+            log,
+            status,
             peers,
         })
     }
 }
 
 // The keys of the settings, and of each peer's table.
-const KEYS: [&str; 8] = [
+const KEYS: [&str; 10] = [
     "as",
     "identifier",
     "commands",
@@ -92,6 +102,8 @@ const KEYS: [&str; 8] = [
     "multiprotocol",
     "listen",
     "control",
+    "log",
+    "status",
     "peer",
 ];
 
@@ -133,6 +145,21 @@ fn control_of(alloc: Global, table: &Table) -> Result<Option<String>, SettingsFa
     }
     let path = text_of(alloc, table, "control")?;
     Ok(Some(String::from_str(alloc, path)?))
+}
+
+// The seconds that a key may have.
+const SECONDS: Wanted = Wanted::Number(1, u32::MAX);
+
+// The seconds at a key, if the key is there.
+fn seconds_of(alloc: Global, table: &Table, key: &str) -> Result<Option<u32>, SettingsFault>
+    ensures told { Answers (IsToldIfThere IsSeconds (get_member key.now (table_view table.now))) result }
+    ensures some { IfOk result (λ seconds. IfSome seconds (λ number. 1 ≤ number)) }
+{
+    match number_of(alloc, table, key, SECONDS)? {
+        None => Ok(None),
+        Some(0) => Err(bad_number(alloc, key, 0, SECONDS)),
+        Some(seconds) => Ok(Some(seconds)),
+    }
 }
 
 // The slot and the address of each peer; none where there are no such tables.
