@@ -1,5 +1,5 @@
 //! Turns with operators between them.
-ghost use Rattle.std.specs.Prelude.{◌≡◌, ◌∷◌, IfOk, OnErr};
+ghost use Rattle.std.specs.Prelude.{◌≡◌, ◌∷◌, IfOk, OnErr, false};
 ghost use Rattle.clocks.specs.Moments.{IsNotBefore};
 ghost use Rattle.speaker_desk.specs.Attended.{AttendsTurns, TakesOrStops};
 
@@ -7,9 +7,11 @@ use crate::desk::Desk;
 use clocks::SecondsClock;
 use control_lines::Operators;
 use decision::Book;
+use log_lines::Onlooker;
 use speaker_turns::SpeakerLoop;
 use std::alloc::Global;
-use std::io;
+use std::io::{self, Write};
+use std::rt::Clock;
 use std::time::Duration;
 use thiserror::Error;
 use wires::{LoopFault, Wire};
@@ -26,20 +28,34 @@ pub enum AttendFault {
 }
 
 /// So many turns, or fewer where an operator stops them, each at the moment that is read for it, with the operators' lines between
-/// them. Between turns the program rests until one may find something to do, or so long.
-pub fn attended_turns<W: Wire + Drop, B: Book<Global>, O: Operators, C: SecondsClock>(
+/// them. The journal looks on behind each turn, and writes to the output. Between turns the program rests until one may find
+/// something to do, or so long.
+pub fn attended_turns<
+    R: Clock,
+    W: Wire + Drop,
+    B: Book<Global>,
+    P: Operators,
+    C: SecondsClock,
+    N: Onlooker<SpeakerLoop<W, Global, B>>,
+    O: Write,
+>(
+    rt: &R,
     clock: &mut C,
     served: &mut SpeakerLoop<W, Global, B>,
     desk: &mut Desk<'_>,
-    operators: &mut O,
+    operators: &mut P,
     turns: u64,
     rest: Duration,
+    journal: &mut N,
+    output: &mut O,
 ) -> Result<(), AttendFault>
-    ensures { AttendsTurns turns result (C.readings clock.old) (C.readings clock.new) served.old served.new }
+    ensures turns { AttendsTurns turns result (C.readings clock.old) (C.readings clock.new) served.old served.new }
+    ensures silent { N.writes journal.old ≡ false → output.new ≡ output.old }
 {
     for _ in 0..turns {
         let now = read_clock(clock)?;
         take_turn(served, now)?;
+        journal.look(rt, served, now, output);
         operators.turn(now);
         if desk.has_stopped(served.speaker(), operators.is_busy(), now) {
             return Ok(());

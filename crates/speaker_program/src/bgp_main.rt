@@ -1,5 +1,5 @@
 //! What the main of `ovbgpd` does.
-ghost use Rattle.std.specs.Prelude.{◌≡◌, [], ◌∷◌, ◌≤◌, ℕ, List, Vec, Option, Ok, Some, IfErr, IfOk, MatchOption, MatchResult, OnErr, OnOk, is_some, string_bytes};
+ghost use Rattle.std.specs.Prelude.{◌≡◌, [], ◌∷◌, ◌≤◌, ℕ, List, Vec, Option, Ok, Some, IfErr, IfOk, MatchOption, MatchResult, OnErr, OnOk, false, is_some, string_bytes};
 ghost use Rattle.clocks.specs.Moments.{IsNotBefore};
 ghost use Rattle.std.specs.Fn.{FnOnceReturnsAt};
 ghost use Rattle.std.specs.Global.{Global as TheGlobal};
@@ -15,6 +15,8 @@ ghost use Rattle.speaker_settings.specs.declared.settings.SpeakerSettings.{Speak
 ghost use Rattle.speaker_program.specs.Slots.{HasJust, is_configured};
 ghost use Rattle.speaker_settings.specs.ToldSettings.{IsToldBy};
 ghost use Rattle.settings_keys.specs.Keys.{IsTableOf};
+ghost use Rattle.speaker_desk.specs.Attended.{AttendsTurns};
+ghost use Rattle.speaker_desk.specs.declared.attending.AttendFault.{AttendFault as TheAttendFault};
 ghost use Rattle.speaker_turns.specs.Turns.{Turns};
 ghost use Rattle.program_endings.specs.Words.{IsCall};
 ghost use Rattle.scenario.specs.FileLines.{lines};
@@ -25,11 +27,13 @@ ghost use Rattle.speaker_program.specs.Files.{AreOctetsAt, AreSettingsOf, IsText
 use crate::fault::SpeakerFault;
 use crate::files::{lines_of, octets_at};
 use crate::help::{HELP, VERSION};
+use crate::journal::LoopJournal;
 use bgp_conf::PEER_SLOTS;
 use clocks::{MonotonicClock, SecondsClock};
 use control_lines::Operators;
 use control_sockets::ControlSocket;
 use decision::Book;
+use log_lines::Onlooker;
 use net_wires::{NetWire, REST_MILLISECONDS};
 use program_endings::{Aside, aside_of, end, print, read_words};
 use scenario::{Table, obey_lines, show};
@@ -42,6 +46,7 @@ use std::io::{self, BufRead, Write};
 use std::net::{Net, SocketAddr, TcpListener, TcpStream};
 use std::rt::{Clock, Files};
 use std::time::Duration;
+use watched_wires::{Watched, WatchedWire};
 use wires::Wire;
 
 /// `ovbgpd SETTINGS [TURNS]`: a speaker that obeys the commands of its settings and then serves its sessions for so many turns.
@@ -187,9 +192,9 @@ fn serve_words<'a, B: Book<Global>, R, O: Write, C: SecondsClock>(
     words: &[String],
     output: &mut O,
     clock: &mut C,
-) -> Result<SpeakerLoop<NetWire<'a, R>, Global, B>, SpeakerFault>
+) -> Result<SpeakerLoop<WatchedWire<NetWire<'a, R>>, Global, B>, SpeakerFault>
 where
-    R: Net<Listener = TcpListener, Stream = TcpStream> + Files + AllocGlobal,
+    R: Net<Listener = TcpListener, Stream = TcpStream> + Files + Clock + AllocGlobal,
     ensures wrong { ((path : List ℕ) (turns : ℕ) → ¬ (IsCall words.now path turns)) → IsErrAnd result IsOfWords }
     ensures output { IsErrAnd result IsOfWords → output.new ≡ output.old }
     ensures serves { IfOk result (λ served. (path : List ℕ) × (turns : ℕ) × (settings : SpeakerSettings)
@@ -197,15 +202,30 @@ where
         × IsServed (IsTextAt (string_bytes settings.commands)) (λ wire. wire ≡ nothing_told settings.listen) settings turns (C.readings clock.old) (C.readings clock.new) served × (served.counts.wire.listens ≡ settings.listen)) }
 {
     run_bgp(
-        rt.alloc(),
+        rt,
         words,
         output,
         clock,
         |path: &str| octets_at(rt, path),
         |path: &str| lines_of(rt, path),
-        |listen| NetWire::open(rt, listen),
+        |listen, log| open_wire(rt, listen, log),
         |path: &str| ControlSocket::open(rt, path),
     )
+}
+
+// The system's sockets, which listen where an address is given, and are watched where a log is asked for.
+fn open_wire<R>(
+    rt: &R,
+    listen: Option<SocketAddr>,
+    log: bool,
+) -> io::Result<WatchedWire<NetWire<'_, R>>>
+where
+    R: Net<Listener = TcpListener, Stream = TcpStream> + AllocGlobal,
+    ensures { IfOk result (λ wire. wire.wire ≡ nothing_told listen) }
+{
+    let wire = NetWire::open(rt, listen)?;
+    let listens = wire.local_address();
+    Ok(WatchedWire::new(rt.alloc(), wire, listens, log))
 }
 
 // How serving ended.
@@ -220,18 +240,19 @@ fn ending<T: Drop>(served: Result<T, SpeakerFault>) -> Result<(), SpeakerFault>
 
 // What the words ask for, by what reading files and opening the wire gives, and by this clock.
 fn run_bgp<
+    R: Clock + AllocGlobal,
     B: Book<Global>,
     O: Write,
     C: SecondsClock,
     L: BufRead + Drop,
-    W: Wire + Drop,
+    W: Wire + Watched + Drop,
     P: Operators + Drop,
     S,
     M,
     F,
     D,
 >(
-    alloc: Global,
+    rt: &R,
     words: &[String],
     output: &mut O,
     clock: &mut C,
@@ -243,7 +264,7 @@ fn run_bgp<
 where
     S: FnOnce(&str) -> io::Result<Vec<u8>>,
     M: FnOnce(&str) -> io::Result<L>,
-    F: FnOnce(Option<SocketAddr>) -> io::Result<W>,
+    F: FnOnce(Option<SocketAddr>, bool) -> io::Result<W>,
     D: FnOnce(&str) -> io::Result<P>,
     requires reads { S.IsAlwaysCallable reads }
     requires commands { M.IsAlwaysCallable commands }
@@ -257,28 +278,29 @@ where
     ensures serves { IfOk result (λ served. (path : List ℕ) × (turns : ℕ) × (octets : Vec ℕ TheGlobal) × (table : Members) × (settings : SpeakerSettings)
         × IsCall words.now path turns × FnOnceReturnsAt S.FnOnce reads path (Ok octets) × IsTableOf octets.items table × IsToldBy table settings
         × IsServed (TextFrom (λ lines. FnOnceReturnsAt M.FnOnce commands (string_bytes settings.commands) (Ok lines)) L.remaining)
-        (StateFrom (λ wire. F.post opens settings.listen (Ok wire)) W.state) settings turns (C.readings clock.old) (C.readings clock.new) served) }
+        (StateFrom (λ wire. F.post opens settings.listen settings.log (Ok wire)) W.state) settings turns (C.readings clock.old) (C.readings clock.new) served) }
 {
     let (path, turns) = call_of(words)?;
-    let settings = read_settings(alloc, path, reads)?;
+    let settings = read_settings(rt.alloc(), path, reads)?;
     serve(
-        alloc, &settings, turns, output, clock, commands, opens, controls,
+        rt, &settings, turns, output, clock, commands, opens, controls,
     )
 }
 
 // So many turns of these settings, behind which Loc-RIB is printed.
 fn serve<
+    R: Clock + AllocGlobal,
     B: Book<Global>,
     O: Write,
     C: SecondsClock,
     L: BufRead + Drop,
-    W: Wire + Drop,
+    W: Wire + Watched + Drop,
     P: Operators + Drop,
     M,
     F,
     D,
 >(
-    alloc: Global,
+    rt: &R,
     settings: &SpeakerSettings,
     turns: u64,
     output: &mut O,
@@ -289,17 +311,17 @@ fn serve<
 ) -> Result<SpeakerLoop<W, Global, B>, SpeakerFault>
 where
     M: FnOnce(&str) -> io::Result<L>,
-    F: FnOnce(Option<SocketAddr>) -> io::Result<W>,
+    F: FnOnce(Option<SocketAddr>, bool) -> io::Result<W>,
     D: FnOnce(&str) -> io::Result<P>,
     requires commands { M.IsAlwaysCallable commands }
     requires opens { F.IsAlwaysCallable opens }
     requires controls { D.IsAlwaysCallable controls }
     ensures fault { IfErr result (λ fault. ¬ (IsOfWords fault)) }
     ensures serves { IfOk result (λ served. IsServed (TextFrom (λ lines. FnOnceReturnsAt M.FnOnce commands (string_bytes settings.now.commands) (Ok lines)) L.remaining)
-        (StateFrom (λ wire. F.post opens settings.now.listen (Ok wire)) W.state) settings.now turns (C.readings clock.old) (C.readings clock.new) served) }
+        (StateFrom (λ wire. F.post opens settings.now.listen settings.now.log (Ok wire)) W.state) settings.now turns (C.readings clock.old) (C.readings clock.new) served) }
 {
-    let mut served = begin(alloc, settings, commands, opens)?;
-    serve_turns(alloc, settings, turns, clock, &mut served, controls)?;
+    let mut served = begin(rt.alloc(), settings, commands, opens)?;
+    serve_turns(rt, settings, turns, output, clock, &mut served, controls)?;
     show_routes(&served, output)?;
     Ok(served)
 }
@@ -384,15 +406,15 @@ fn begin<B: Book<Global>, L: BufRead + Drop, W: Wire + Drop, M, F>(
 ) -> Result<SpeakerLoop<W, Global, B>, SpeakerFault>
 where
     M: FnOnce(&str) -> io::Result<L>,
-    F: FnOnce(Option<SocketAddr>) -> io::Result<W>,
+    F: FnOnce(Option<SocketAddr>, bool) -> io::Result<W>,
     requires commands { M.IsAlwaysCallable commands }
     requires opens { F.IsAlwaysCallable opens }
     ensures fault { IfErr result (λ fault. ¬ (IsOfWords fault)) }
     ensures begins { IfOk result (λ served. IsBegun (TextFrom (λ lines. FnOnceReturnsAt M.FnOnce commands (string_bytes settings.now.commands) (Ok lines)) L.remaining)
-        (StateFrom (λ wire. F.post opens settings.now.listen (Ok wire)) W.state) settings.now served) }
+        (StateFrom (λ wire. F.post opens settings.now.listen settings.now.log (Ok wire)) W.state) settings.now served) }
 {
     let speaker = commanded(alloc, settings, commands)?;
-    let wire = opened(settings.listen, opens)?;
+    let wire = opened(settings.listen, settings.log, opens)?;
     let mut served = SpeakerLoop::new(alloc, wire, speaker)?;
     served.set_patience(patience_of(settings));
     tell_remotes(settings, &mut served);
@@ -409,15 +431,19 @@ fn patience_of(settings: &SpeakerSettings) -> Patience
     }
 }
 
-// The wire that is opened there.
-fn opened<W: Wire + Drop, F>(listen: Option<SocketAddr>, opens: F) -> Result<W, SpeakerFault>
+// The wire that is opened there, for a log or for none.
+fn opened<W: Wire + Drop, F>(
+    listen: Option<SocketAddr>,
+    log: bool,
+    opens: F,
+) -> Result<W, SpeakerFault>
 where
-    F: FnOnce(Option<SocketAddr>) -> io::Result<W>,
+    F: FnOnce(Option<SocketAddr>, bool) -> io::Result<W>,
     requires { F.IsAlwaysCallable opens }
     ensures fault { IfErr result (λ fault. ¬ (IsOfWords fault)) }
-    ensures wire { IfOk result (λ wire. F.post opens listen (Ok wire)) }
+    ensures wire { IfOk result (λ wire. F.post opens listen log (Ok wire)) }
 {
-    match opens(listen) {
+    match opens(listen, log) {
         Ok(wire) => Ok(wire),
         Err(error) => Err(SpeakerFault::Listen { listen, error }),
     }
@@ -555,11 +581,20 @@ fn tell_remotes<B: Book<Global>, W: Wire + Drop>(
     }
 }
 
-// So many turns, with operators between them where the settings have a path for them.
-fn serve_turns<B: Book<Global>, C: SecondsClock, W: Wire + Drop, P: Operators + Drop, D>(
-    alloc: Global,
+// So many turns, with operators between them where the settings have a path for them, and with the log that they ask for.
+fn serve_turns<
+    R: Clock + AllocGlobal,
+    B: Book<Global>,
+    O: Write,
+    C: SecondsClock,
+    W: Wire + Watched + Drop,
+    P: Operators + Drop,
+    D,
+>(
+    rt: &R,
     settings: &SpeakerSettings,
     turns: u64,
+    output: &mut O,
     clock: &mut C,
     served: &mut SpeakerLoop<W, Global, B>,
     controls: D,
@@ -569,15 +604,55 @@ where
     requires controls { D.IsAlwaysCallable controls }
     ensures fault { IfErr result (λ fault. ¬ (IsOfWords fault)) }
     ensures turns { OnOk result (TakesTurnsOf settings.now.control turns (C.readings clock.old) (C.readings clock.new) served.old served.new) }
+    ensures quiet { settings.now.log ≡ false → output.new ≡ output.old }
 {
+    let mut journal = LoopJournal::begin(rt, rt.alloc(), settings, served.wire(), output)?;
     let Some(path) = &settings.control else {
-        return take_turns(clock, served, turns);
+        return take_turns(rt, clock, served, turns, &mut journal, output);
     };
     let path = path.as_str();
-    let mut operators = operators_at(alloc, path, controls)?;
-    let mut desk = Desk::new(alloc, settings.peers.as_slice())?;
+    let mut operators = operators_at(rt.alloc(), path, controls)?;
+    attend(
+        rt,
+        settings,
+        clock,
+        served,
+        &mut operators,
+        turns,
+        &mut journal,
+        output,
+    )
+}
+
+// The turns with these operators between them.
+fn attend<
+    R: Clock + AllocGlobal,
+    B: Book<Global>,
+    C: SecondsClock,
+    W: Wire + Drop,
+    P: Operators,
+    N: Onlooker<SpeakerLoop<W, Global, B>>,
+    O: Write,
+>(
+    rt: &R,
+    settings: &SpeakerSettings,
+    clock: &mut C,
+    served: &mut SpeakerLoop<W, Global, B>,
+    operators: &mut P,
+    turns: u64,
+    journal: &mut N,
+    output: &mut O,
+) -> Result<(), SpeakerFault>
+    ensures fault { IfErr result (λ fault. ¬ (IsOfWords fault)) }
+    ensures turns { OnOk result (AttendsTurns {E = TheAttendFault} turns (Ok tt) (C.readings clock.old) (C.readings clock.new) served.old served.new) }
+    ensures silent { N.writes journal.old ≡ false → output.new ≡ output.old }
+{
+    let mut desk = Desk::new(rt.alloc(), settings.peers.as_slice())?;
     let rest = Duration::from_millis(REST_MILLISECONDS);
-    match attended_turns(clock, served, &mut desk, &mut operators, turns, rest) {
+    let ended = attended_turns(
+        rt, clock, served, &mut desk, operators, turns, rest, journal, output,
+    );
+    match ended {
         Ok(()) => Ok(()),
         Err(fault) => Err(of_attending(fault)),
     }
@@ -609,18 +684,30 @@ fn of_attending(fault: AttendFault) -> SpeakerFault
     }
 }
 
-// So many turns, each at the moment that is read for it.
-fn take_turns<B: Book<Global>, C: SecondsClock, W: Wire + Drop>(
+// So many turns, each at the moment that is read for it; the journal looks on behind each.
+fn take_turns<
+    R: Clock,
+    B: Book<Global>,
+    C: SecondsClock,
+    W: Wire + Drop,
+    N: Onlooker<SpeakerLoop<W, Global, B>>,
+    O: Write,
+>(
+    rt: &R,
     clock: &mut C,
     served: &mut SpeakerLoop<W, Global, B>,
     turns: u64,
+    journal: &mut N,
+    output: &mut O,
 ) -> Result<(), SpeakerFault>
     ensures fault { IfErr result (λ fault. ¬ (IsOfWords fault)) }
     ensures turns { TakesSoMany turns result (C.readings clock.old) (C.readings clock.new) served.old served.new }
+    ensures silent { N.writes journal.old ≡ false → output.new ≡ output.old }
 {
     for _ in 0..turns {
         let now = read_clock(clock)?;
         served.turn(now)?;
+        journal.look(rt, served, now, output);
         served.wait(Duration::from_millis(REST_MILLISECONDS));
     }
     Ok(())

@@ -19,6 +19,8 @@ listen         address and port where passive peers connect, as \"0.0.0.0:179\" 
 control        path of the Unix socket at which ovctl asks while it runs (none)
 send_hold      seconds after which a connection is closed that takes no octet (480)
 open_wait      seconds after which one is closed from which no whole OPEN comes (none)
+log            true or false: whether it writes a log (false)
+status         seconds between two status lines of the log, 1 or more (none)
 [[peer]]       a table for each slot that the commands fill:
   slot         number of the slot, 0 to 63, none twice
   remote       address and port of the peer

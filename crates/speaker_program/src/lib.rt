@@ -15,6 +15,7 @@ mod exits;
 mod fault;
 mod files;
 mod help;
+mod journal;
 mod laws;
 
 pub use bgp_main::main_bgp;

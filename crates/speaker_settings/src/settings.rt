@@ -39,21 +39,26 @@ pub struct SpeakerSettings {
     pub send_hold: u32,
     /// For how many seconds a connection may stand from which no whole OPEN has come, if that is told.
     pub open_wait: Option<u32>,
+    /// Whether it writes a log.
+    pub log: bool,
+    /// After how many seconds the log gets a status line, if it does.
+    pub status: Option<u32>,
     /// The slot of each peer, and where the peer is.
     pub peers: Vec<(u8, SocketAddr)>,
 }
 
 impl SpeakerSettings {
     /// The settings that the octets of a file tell in TOML: `as`, a number from 1 to 4294967295, `identifier`, the text of
-    /// an IPv4 address other than 0.0.0.0, and `commands`, a text; and, where they are there, `multiprotocol`, `true` or
-    /// `false`, `cache` and `listen`, each the text of an address and a port, `control`, a text, `send_hold`, in the place of
-    /// `SEND_HOLD_SECONDS`, and `open_wait`, each a number from 1 to 4294967295, and the tables `peer`, each with `slot`, from 0 to
-    /// 63 and none twice, and `remote`, the text of an address and a port. There are no keys of other names. Anything else is
+    /// an IPv4 address other than 0.0.0.0, and `commands`, a text; and, where they are there, `multiprotocol` and `log`,
+    /// `true` or `false`, `cache` and `listen`, each the text of an address and a port, `control`, a text, `send_hold`, in the
+    /// place of `SEND_HOLD_SECONDS`, `open_wait` and `status`, each a number from 1 to 4294967295, and the tables `peer`, each with
+    /// `slot`, from 0 to 63 and none twice, and `remote`, the text of an address and a port. There are no keys of other names. Anything else is
     /// `Settings`.
     pub fn read(alloc: Global, octets: &[u8]) -> Result<SpeakerSettings, SettingsFault>
         ensures told { AnswersInMemory (λ settings. (table : Members) × IsTableOf octets.now table × IsToldBy table settings) result }
         ensures own { IfOk result (λ settings. (1 ≤ settings.asn.0) × (1 ≤ settings.identifier)) }
         ensures seconds { IfOk result (λ settings. (1 ≤ settings.send_hold) × IfSome settings.open_wait (λ seconds. 1 ≤ seconds)) }
+        ensures status { IfOk result (λ settings. IfSome settings.status (λ seconds. 1 ≤ seconds)) }
         ensures slots { IfOk result (λ settings. AreSlots settings.peers.items) }
     {
         let table = read_table(alloc, octets)?;
@@ -65,6 +70,7 @@ impl SpeakerSettings {
         ensures told { AnswersInMemory (IsToldBy (table_view table.now)) result }
         ensures own { IfOk result (λ settings. (1 ≤ settings.asn.0) × (1 ≤ settings.identifier)) }
         ensures seconds { IfOk result (λ settings. (1 ≤ settings.send_hold) × IfSome settings.open_wait (λ seconds. 1 ≤ seconds)) }
+        ensures status { IfOk result (λ settings. IfSome settings.status (λ seconds. 1 ≤ seconds)) }
         ensures slots { IfOk result (λ settings. AreSlots settings.peers.items) }
     {
         only_known(alloc, table, Owner::Speaker, &KEYS)?;
@@ -78,6 +84,8 @@ impl SpeakerSettings {
         let control = control_of(alloc, table)?;
         let send_hold = send_hold_of(alloc, table)?;
         let open_wait = seconds_of(alloc, table, "open_wait")?;
+        let log = yes_or_no_of(alloc, table, "log")?;
+        let status = seconds_of(alloc, table, "status")?;
         let peers = peers_of(alloc, table)?;
         Ok(SpeakerSettings {
             asn,
@@ -89,13 +97,15 @@ impl SpeakerSettings {
             control,
             send_hold,
             open_wait,
+            log,
+            status,
             peers,
         })
     }
 }
 
 // The keys of the settings, and of each peer's table.
-const KEYS: [&str; 10] = [
+const KEYS: [&str; 12] = [
     "as",
     "identifier",
     "commands",
@@ -105,6 +115,8 @@ const KEYS: [&str; 10] = [
     "control",
     "send_hold",
     "open_wait",
+    "log",
+    "status",
     "peer",
 ];
 

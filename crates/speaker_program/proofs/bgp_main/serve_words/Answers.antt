@@ -19,5 +19,5 @@ returns-clause-serves g c =
     (λ text told.
     let lines : IsTextAt told.1.0.now (reader_remaining (λ (f : OpenedFile). f.text) told.0) = (let gives = told.1.1 in search rules) in
     (lines.0, lines.1 ∙ told.1.2, told.2 ∙ lines.2))
-    (λ wire opened. let listens : opened.0 ≡ nothing_told settings.listen = (let gives = opened.1 in search rules) in opened.2 ∙ listens) in
+    (λ wire opened. let listens : (opened.0).wire ≡ nothing_told settings.listen = (let gives = opened.1 in search rules) in opened.2 ∙ listens) in
     (is.0, is.1, settings, is.5, record { octets = octets; read = subst (λ (path : List ℕ). AreOctetsAt path octets) is.6.2 read; table = is.3; spelled = is.7; told = is.8 }, so, listens_there _ settings is.1 _ _ served _ so))

@@ -59,6 +59,16 @@ returns-in_err-open_wait-clause-told c =
     let needs = IsToldBy (table_view c.args.table.now) in
     in_memory needs _ (passes_on _ needs c.from_residual-in_err-open_wait.result _ c.from_residual-in_err-open_wait.ensures.1 c.in_err-open_wait.ensures.told (λ none s told. none s.open_wait told.open_wait))
 
+pub returns-in_err-log-clause-told : goal.returns-in_err-log-clause-told
+returns-in_err-log-clause-told c =
+    let needs = IsToldBy (table_view c.args.table.now) in
+    in_memory needs _ (passes_on _ needs c.from_residual-in_err-log.result _ c.from_residual-in_err-log.ensures.1 c.in_err-log.ensures (λ none s told. none s.log told.log))
+
+pub returns-in_err-status-clause-told : goal.returns-in_err-status-clause-told
+returns-in_err-status-clause-told c =
+    let needs = IsToldBy (table_view c.args.table.now) in
+    in_memory needs _ (passes_on _ needs c.from_residual-in_err-status.result _ c.from_residual-in_err-status.ensures.1 c.in_err-status.ensures.told (λ none s told. none s.status told.status))
+
 pub returns-in_err-peers-clause-told : goal.returns-in_err-peers-clause-told
 returns-in_err-peers-clause-told c =
     let needs = IsToldBy (table_view c.args.table.now) in

@@ -1,0 +1,17 @@
+//! The log of a speaker.
+//!
+//! `Journal` is shown a speaker behind each turn, tells in what it differs from the turn before, and what its wire saw: the steps
+//! of sessions, why connections end, NOTIFICATIONs, those that are refused, the session with the cache, and each so many seconds
+//! how all stands. Lines about strangers are bounded, and so are those about peers and the cache: what is left out in a minute is
+//! counted and told behind it. Nothing is written where the log is off. What the lines say is shown by tests.
+#![tactic(auto)]
+
+mod journal;
+mod line;
+mod shown;
+mod side;
+
+pub use journal::{Journal, LINES_A_MINUTE};
+pub use line::{CacheChange, Flood, SessionChange, SpeakerLine};
+pub use shown::Shown;
+pub use side::Side;
