@@ -24,11 +24,6 @@ pub no_asn : (o : Option Data) → TellsNothing (IsToldIfThere IsNumber o) → T
 no_asn None none asn told = told
 no_asn (Some found) none asn told = none (Some asn.0) told.0
 
-pub no_seconds : (o : Option Data) → TellsNothing (IsToldIfThere IsNumber o) → TellsNothing (IsToldIfThere IsSeconds o)
-no_seconds None none value told = none value told
-no_seconds (Some found) none None told = told
-no_seconds (Some found) none (Some value) told = none (Some value) told.0
-
 pub no_identifier : (o : Option Data) → TellsNothing (IsTold IsText o) → TellsNothing (IsTold IsIdentifier o)
 no_identifier None none identifier told = told
 no_identifier (Some found) none identifier told = none told.1.0 told.1.1

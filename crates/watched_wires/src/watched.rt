@@ -168,7 +168,7 @@ impl<W: Wire> Wire for WatchedWire<W> {
         self.wire.close(socket, parting);
     }
 
-    // What was seen has been told by now.
+    // What was seen in the turn has been told by now; what a command behind it closed isn't told.
     fn wait(&mut self, most: Duration) {
         self.events.clear();
         self.wire.wait(most);
