@@ -3,12 +3,14 @@ ghost use Rattle.std.specs.Prelude.{ℕ, List};
 ghost use Rattle.speaker_desk.specs.Attended.{Attends};
 ghost use Rattle.speaker_desk.specs.Moves.{AsksFor};
 
-use crate::pieces::{Place, Rest, write_piece};
+use crate::pieces::{Place, Rest, Scene, write_piece};
+use crate::shown::{Shown, shown_by};
+use crate::times::StateTimes;
 use bgp_conf::{Command, PEER_SLOTS, Refusal};
 use control_lines::{OPERATORS, Operators, Wish};
 use decision::Book;
 use net_prefix::Transport;
-use scenario::{Line, LineFault, SpeakerLine, Table};
+use scenario::{Line, LineFault, SpeakerLine};
 use speaker::{Report, Speaker};
 use speaker_turns::{End, SpeakerLoop};
 use std::alloc::{AllocError, Global};
@@ -49,6 +51,8 @@ pub struct Desk<'a> {
     left: Vec<Left>,
     // When `stop` was said.
     stopped: Option<u64>,
+    // Since when sessions are in their states.
+    times: StateTimes,
 }
 
 impl<'a> Desk<'a> {
@@ -60,7 +64,13 @@ impl<'a> Desk<'a> {
             page: Vec::new(alloc),
             left: nothing_left(alloc)?,
             stopped: None,
+            times: StateTimes::new(alloc)?,
         })
+    }
+
+    /// Looks at the sessions behind a turn of this moment, to tell since when they are in their states.
+    pub fn look<B: Book<Global>>(&mut self, speaker: &Speaker<Global, B>, now: u64) {
+        self.times.look(speaker, now);
     }
 
     /// Answers each operator that waits for something.
@@ -77,7 +87,7 @@ impl<'a> Desk<'a> {
             match operators.wish(key) {
                 Wish::Nothing => {}
                 Wish::Answer => self.answer(served, operators, key, now),
-                Wish::More => self.go_on(served.speaker(), operators, key),
+                Wish::More => self.go_on(served.speaker(), operators, key, now),
             }
         }
     }
@@ -107,7 +117,7 @@ impl<'a> Desk<'a> {
         ensures { Attends served.old served.new }
     {
         self.page.clear();
-        let said = self.say(served, operators.line(key));
+        let said = self.say(served, operators.line(key), now);
         if let Ok(Said::Stop) = said {
             self.stopped = Some(now);
         }
@@ -120,10 +130,11 @@ impl<'a> Desk<'a> {
         speaker: &Speaker<Global, B>,
         operators: &mut O,
         key: usize,
+        now: u64,
     ) {
         self.page.clear();
-        let said = match self.left.get(key) {
-            Some(Some(rest)) => show(speaker, *rest, &mut self.page),
+        let said = match self.left.get(key).copied() {
+            Some(Some(rest)) => self.show(speaker, rest, now),
             _ => Ok(Said::Whole),
         };
         self.put(operators, key, said);
@@ -147,6 +158,7 @@ impl<'a> Desk<'a> {
         &mut self,
         served: &mut SpeakerLoop<W, Global, B>,
         line: &[u8],
+        now: u64,
     ) -> io::Result<Said>
         ensures { Attends served.old served.new }
     {
@@ -158,9 +170,14 @@ impl<'a> Desk<'a> {
             self.say_whole("ok")?;
             return Ok(Said::Stop);
         }
+        if let Some(shown) = shown_by(text) {
+            return self.begin(served.speaker(), shown, now);
+        }
         match Line::parse(self.alloc, text) {
             Ok(Line::Drive(SpeakerLine::Obey(line))) => self.obey(served, line.command()),
-            Ok(Line::Drive(SpeakerLine::Show(table))) => self.begin(served.speaker(), table),
+            Ok(Line::Drive(SpeakerLine::Show(table))) => {
+                self.begin(served.speaker(), Shown::Table(table), now)
+            }
             Ok(_) | Err(LineFault::BadLine) => self.say_whole("bad line"),
             Err(LineFault::NoMemory) => self.refuse(Refusal::NoMemory),
         }
@@ -228,24 +245,32 @@ impl<'a> Desk<'a> {
     fn begin<B: Book<Global>>(
         &mut self,
         speaker: &Speaker<Global, B>,
-        table: Table,
+        shown: Shown,
+        now: u64,
     ) -> io::Result<Said> {
         let rest = Rest {
-            table,
+            shown,
             behind: Place::Start,
         };
-        show(speaker, rest, &mut self.page)
+        self.show(speaker, rest, now)
     }
-}
 
-fn show<B: Book<Global>>(
-    speaker: &Speaker<Global, B>,
-    rest: Rest,
-    page: &mut Vec<u8>,
-) -> io::Result<Said> {
-    match write_piece(speaker, rest, page)? {
-        Some(rest) => Ok(Said::More(rest)),
-        None => Ok(Said::Whole),
+    // Shows the next piece of a table.
+    fn show<B: Book<Global>>(
+        &mut self,
+        speaker: &Speaker<Global, B>,
+        rest: Rest,
+        now: u64,
+    ) -> io::Result<Said> {
+        let scene = Scene {
+            speaker,
+            times: &self.times,
+            now,
+        };
+        match write_piece(&scene, rest, &mut self.page)? {
+            Some(rest) => Ok(Said::More(rest)),
+            None => Ok(Said::Whole),
+        }
     }
 }
 
