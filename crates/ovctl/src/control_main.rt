@@ -17,8 +17,9 @@ ovctl SOCKET WORDS..       sends the words as a line to the ovbgpd whose setting
 ovctl --help, --version
 
 The words are a command, as in a file of commands, or one of these:
-show sessions, show rib, show payloads, show in SLOT, show held SLOT, show waiting SLOT
+show sessions, show peers, show cache, show rib, show payloads, show in SLOT, show held SLOT, show waiting SLOT
 stop           ends all sessions and the program
+help           lists the lines that ovbgpd knows
 
 Exit status: 0 where the answer is ok or a table, 1 where words or the line are refused, 2 where the system fails.
 docs/GUIDE.md tells more.

@@ -55,7 +55,7 @@ pub fn attended_turns<
     for _ in 0..turns {
         let now = read_clock(clock)?;
         take_turn(served, now)?;
-        desk.look(served.speaker(), now);
+        desk.note_states(served.speaker(), now);
         journal.look(rt, served, now, output);
         operators.turn(now);
         if desk.has_stopped(served.speaker(), operators.is_busy(), now) {

@@ -68,8 +68,8 @@ impl<'a> Desk<'a> {
         })
     }
 
-    /// Looks at the sessions behind a turn of this moment, to tell since when they are in their states.
-    pub fn look<B: Book<Global>>(&mut self, speaker: &Speaker<Global, B>, now: u64) {
+    /// Notes the states of the sessions behind a turn of this moment, to tell since when they are in them.
+    pub fn note_states<B: Book<Global>>(&mut self, speaker: &Speaker<Global, B>, now: u64) {
         self.times.look(speaker, now);
     }
 
