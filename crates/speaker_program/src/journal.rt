@@ -7,6 +7,7 @@ use bgp_fsm::State;
 use decision::Book;
 use log_lines::Onlooker;
 use rtr_client::ClientState;
+use speaker::Speaker;
 use speaker_log::{Journal, Shown};
 use speaker_settings::SpeakerSettings;
 use speaker_turns::SpeakerLoop;
@@ -83,11 +84,11 @@ impl<W: Wire + Watched + Drop, B: Book<Global>> Shown for Behind<'_, W, B> {
     }
 
     fn payloads(&self) -> u64 {
-        count(self.served.speaker().payloads().take(MAX_ROWS))
+        payload_count(self.served.speaker())
     }
 
     fn routes(&self) -> u64 {
-        count(self.served.speaker().loc_rib().take(MAX_ROWS))
+        route_count(self.served.speaker())
     }
 
     fn lost(&self) -> u64 {
@@ -115,13 +116,19 @@ impl<W: Wire + Watched + Drop, B: Book<Global>> Shown for Behind<'_, W, B> {
     }
 }
 
-// How many there are, at most the greatest u64.
-fn count<I: Iterator + Drop>(rows: I) -> u64
-where
-    I::Item: Drop,
-{
+// How many payloads are in force.
+fn payload_count<B: Book<Global>>(speaker: &Speaker<Global, B>) -> u64 {
     let mut count = 0u64;
-    for _row in rows {
+    for _payload in speaker.payloads().take(MAX_ROWS) {
+        count = count.saturating_add(1);
+    }
+    count
+}
+
+// How many prefixes have a best route.
+fn route_count<B: Book<Global>>(speaker: &Speaker<Global, B>) -> u64 {
+    let mut count = 0u64;
+    for _route in speaker.loc_rib().take(MAX_ROWS) {
         count = count.saturating_add(1);
     }
     count
