@@ -1,5 +1,4 @@
-//! Each call of a speaker's wire fails once: its session is told so, and all others go on. And a peer that takes nothing, or says
-//! nothing, falls at its moment.
+//! Each call of a speaker's wire fails once: its session is told so, and all others go on.
 ghost use Rattle.std.specs.Prelude.{◌≡◌, ◌≤◌, if◌then◌else◌, length};
 ghost use Rattle.wires.specs.Calls.{call_of};
 ghost use Rattle.wires.specs.Wires.{FitsIn, FitsInSent, calling, failing, told_by_attempt, told_by_read, told_by_write};
@@ -8,7 +7,7 @@ use crate::made::made;
 use bgp_attr::Mode;
 use net_prefix::{Asn, Prefix};
 use speaker::{ClientState, Command, Config, Event, PeerConf, Speaker, State};
-use speaker_turns::{End, Patience, SpeakerLoop};
+use speaker_turns::{End, SpeakerLoop};
 use std::alloc::AllocGlobal;
 use std::cmp::min;
 use std::marker::Model;
@@ -21,9 +20,6 @@ use wires::{Accepted, Attempt, Log, LoopFault, Note, Parting, Received, Sent, Wi
 const READ_OCTETS: usize = 11;
 
 const WRITE_OCTETS: usize = 17;
-
-// Where the KEEPALIVE of the first peer begins.
-const KEEPALIVE_AT: usize = 37;
 
 // An OPEN of AS 65001 and a KEEPALIVE.
 #[rattlefmt::skip]
@@ -54,17 +50,6 @@ const CACHE: [u8; 52] = [
 // The other side of each session: the peer that connects to us, the one that we connect to, and the cache.
 const SIDES: [&[u8]; 3] = [&FIRST_PEER, &SECOND_PEER, &CACHE];
 
-// How the peer that connects to us behaves.
-#[derive(Clone, Copy, PartialEq, Eq)]
-enum Manner {
-    // It says all that it has to say, and takes all.
-    Plain,
-    // Behind that it sends KEEPALIVEs, and takes an octet in the turn of this number and nothing else.
-    TakesAt(u64),
-    // Its first connection says nothing. Once that is closed it comes again, and is plain.
-    SilentAtFirst,
-}
-
 #[derive(Clone, Copy, PartialEq, Eq)]
 enum Call {
     Accept,
@@ -86,9 +71,7 @@ struct Side {
 #[derive(Drop)]
 struct MemoryWire {
     sides: [Side; 3],
-    manner: Manner,
-    // How many connections of the peer that connects to us have come.
-    come: u64,
+    has_come: bool,
     calls: u64,
     fails_at: u64,
     failed: Option<Call>,
@@ -140,8 +123,7 @@ impl MemoryWire {
         };
         MemoryWire {
             sides: [side, side, side],
-            manner: Manner::Plain,
-            come: 0,
+            has_come: false,
             calls: 0,
             fails_at,
             failed: None,
@@ -162,43 +144,6 @@ impl MemoryWire {
         MemoryWire {
             ends_at,
             ..MemoryWire::failing_at(0)
-        }
-    }
-
-    // The peer that connects to us behaves so.
-    fn of_manner(manner: Manner) -> MemoryWire {
-        MemoryWire {
-            manner,
-            ..MemoryWire::failing_at(0)
-        }
-    }
-
-    // Whether that peer connects now.
-    fn comes(&self) -> bool {
-        match self.come {
-            0 => true,
-            1 => self.manner == Manner::SilentAtFirst && self.sides[0].parting.is_some(),
-            _ => false,
-        }
-    }
-
-    // How many octets a side takes at once.
-    fn room(&self, side: usize) -> usize {
-        match self.manner {
-            Manner::TakesAt(turn) if side == 0 => match turn == self.turns {
-                true => 1,
-                false => 0,
-            },
-            _ => WRITE_OCTETS,
-        }
-    }
-
-    // From where on a side says what it has to say, where it has said so much.
-    fn next_of(&self, side: usize, said: usize) -> Option<usize> {
-        match self.manner {
-            Manner::TakesAt(_) if side == 0 && said >= FIRST_PEER.len() => Some(KEEPALIVE_AT),
-            Manner::SilentAtFirst if side == 0 && self.come < 2 => None,
-            _ => Some(said),
         }
     }
 
@@ -269,16 +214,13 @@ impl MemoryWire {
         ensures same { self.new ≡ self.old }
     {
         let octets = SIDES.get(side).copied().unwrap_or(&[]);
-        let said = self.sides.get(side).map_or(0, |found| found.said);
-        let Some(from) = self.next_of(side, said) else {
+        let Some(side) = self.sides.get_mut(side) else {
             return 0;
         };
-        let rest = octets.get(from..).unwrap_or(&[]);
+        let rest = octets.get(side.said..).unwrap_or(&[]);
         let count = min(rest.len(), min(buf.len(), READ_OCTETS));
         buf[..count].copy_from_slice(&rest[..count]);
-        if let Some(found) = self.sides.get_mut(side) {
-            found.said = from.saturating_add(count);
-        }
+        side.said = side.said.saturating_add(count);
         count
     }
 
@@ -289,10 +231,7 @@ impl MemoryWire {
         if self.fails(Call::OfSide(side)) {
             return Sent::Fault;
         }
-        let count = min(octets.len(), self.room(side));
-        if count == 0 {
-            return Sent::Nothing;
-        }
+        let count = min(octets.len(), WRITE_OCTETS);
         self.octets_out = self.octets_out.saturating_add(count as u64);
         Sent::Octets(count)
     }
@@ -335,11 +274,11 @@ impl Wire for MemoryWire {
             self.accept_faults = self.accept_faults.saturating_add(1);
             return Accepted::Fault;
         }
-        if !self.comes() {
+        if self.has_come {
             self.note(&Note::Accept(None));
             return Accepted::Nothing;
         }
-        self.come = self.come.saturating_add(1);
+        self.has_come = true;
         let address = address_of(0);
         let number = self.sockets;
         self.sockets = self.sockets.saturating_add(1);
@@ -575,68 +514,4 @@ fn one_that_ends_is_visited_a_turn(rt: HostRuntime) {
     let wire = MemoryWire::ending_at(21);
     let mut turns = made(&rt, SpeakerLoop::new(rt.alloc(), wire, prepared(&rt)));
     assert!(rt; loses_one_a_turn(&mut turns));
-}
-
-// Eight turns at each of some moments, and how the session of the peer that connects to us stands behind them.
-type Moments = &'static [(u64, State)];
-
-// It falls where nothing went for 480 seconds. An octet that goes in the first turn at 479 begins them anew.
-#[rattlefmt::skip]
-const TAKES_NOTHING: Moments = &[
-    (0, State::Established), (80, State::Established), (160, State::Established), (240, State::Established),
-    (320, State::Established), (400, State::Established), (479, State::Established), (480, State::Idle),
-];
-
-#[rattlefmt::skip]
-const TAKES_AN_OCTET: Moments = &[
-    (0, State::Established), (80, State::Established), (160, State::Established), (240, State::Established),
-    (320, State::Established), (400, State::Established), (479, State::Established), (480, State::Established),
-    (560, State::Established), (640, State::Established), (720, State::Established), (800, State::Established),
-    (880, State::Established), (958, State::Established), (959, State::Idle),
-];
-
-// It falls where no OPEN came for 30 seconds, its slot listens again, and the peer comes up.
-#[rattlefmt::skip]
-const SAYS_NOTHING: Moments = &[(0, State::OpenSent), (29, State::OpenSent), (30, State::Established)];
-
-const MANNERS: [(Manner, Moments); 3] = [
-    (Manner::TakesAt(0), TAKES_NOTHING),
-    (Manner::TakesAt(49), TAKES_AN_OCTET),
-    (Manner::SilentAtFirst, SAYS_NOTHING),
-];
-
-// The session of that peer behind eight turns at this moment.
-fn session_at(turns: &mut SpeakerLoop<MemoryWire>, now: u64) -> Option<State> {
-    for _ in 0..8 {
-        let _taken = turns.turn(now);
-    }
-    turns.speaker().session(0)
-}
-
-// Whether its session stands at each moment as told, and its first connection was closed as overdue at the last one alone.
-fn stands_so(turns: &mut SpeakerLoop<MemoryWire>, moments: Moments) -> bool {
-    let mut left = moments.len();
-    for (now, state) in moments {
-        left = left.saturating_sub(1);
-        let is_so = session_at(turns, *now) == Some(*state);
-        let is_closed = turns.wire().sides[0].parting == Some(Parting::Overdue);
-        if !is_so || is_closed != (left == 0) {
-            return false;
-        }
-    }
-    true
-}
-
-#[test]
-fn a_connection_falls_where_patience_ends(rt: HostRuntime) {
-    for (manner, moments) in &MANNERS {
-        let wire = MemoryWire::of_manner(*manner);
-        let mut turns = made(&rt, SpeakerLoop::new(rt.alloc(), wire, prepared(&rt)));
-        turns.set_patience(Patience {
-            send_hold: Some(480),
-            open_wait: Some(30),
-        });
-        turns.set_remote(End::Peer(0), address_of(0));
-        assert!(rt; stands_so(&mut turns, moments));
-    }
 }
