@@ -1,7 +1,5 @@
-//! Tests alone: the texts and statuses of `ovbgpd`, and what its log says.
+//! Tests alone: the texts and statuses of `ovbgpd`.
 #![tactic(auto)]
 
-#[cfg(test)]
-mod bgp_logs;
 #[cfg(test)]
 mod bgp_statuses;
