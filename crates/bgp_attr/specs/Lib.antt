@@ -8,6 +8,7 @@ pub mod AttributeTable
 pub mod PathAttributes
 pub mod PathReading
 pub mod ReceivedAttributes
+pub mod SoundRoutes
 pub mod Spread
 pub mod TravellingAttributes
 pub mod UnknownAttributes

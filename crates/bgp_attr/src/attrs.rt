@@ -1,8 +1,11 @@
 //! The attributes of an UPDATE.
 ghost use Rattle.std.specs.Prelude.{◌≡◌, ◌<◌, ◌^◌, MatchOption, ⊤, true};
+ghost use Rattle.std.specs.List.{AllByRecursion};
 ghost use Rattle.std.specs.Option.{option_copied};
 ghost use Rattle.bgp_attr.specs.AttributeFaults.{is_host};
 ghost use Rattle.bgp_attr.specs.PathAttributes.{PathAttributes, origin_at, origin_octet, originated, missing_of};
+ghost use Rattle.bgp_attr.specs.AttributeSpelling.{IsSegment};
+ghost use Rattle.bgp_attr.specs.SoundRoutes.{IsSoundRoute};
 ghost use Rattle.bgp_attr.specs.TravellingAttributes.{MayAllTravel};
 ghost use Rattle.bgp_attr.specs.UnknownAttributes.{ArePassedOn, unknown_or_none};
 ghost use Rattle.bgp_attr.specs.Written.{attributes_of};
@@ -163,6 +166,26 @@ impl<A: Allocator> Attrs<A> {
         }
     }
 
+    /// What holds of all attributes that were taken.
+    pub fn is_sound(&self)
+        ensures { IsSoundRoute self.now }
+    {
+        self.has_sound_path();
+        self.next_hop();
+        sound_number(self.next_hop);
+        sound_number(self.multi_exit_disc);
+        self.aggregator();
+        self.unknown();
+    }
+
+    fn has_sound_path(&self)
+        ensures { MatchOption self.now.as_path ⊤ (AllByRecursion IsSegment) }
+    {
+        if let Some(path) = &self.as_path {
+            path.segments();
+        }
+    }
+
     /// The least code of the attributes that routes from such a peer need and that did not come (RFC 4271 section 6.3).
     pub fn missing(&self, kind: PeerKind) -> Option<AttributeType>
         ensures { result ≡ missing_of kind self.now }
@@ -200,4 +223,11 @@ impl<A: Allocator> Attrs<A> {
             unknown: self.unknown.as_ref(),
         }
     }
+}
+
+// A number has four octets.
+fn sound_number(number: Option<u32>)
+    ensures { MatchOption number ⊤ (λ n. n < 2 ^ 32) }
+{
+    let _number = number;
 }

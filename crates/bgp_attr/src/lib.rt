@@ -34,5 +34,5 @@ pub use laws::{
 pub use peer::{Mode, PeerKind};
 pub use prepending::{PrependedPath, prepend};
 pub use reading::{is_host, read_attrs};
-pub use unknown::UnknownAttributes;
+pub use unknown::{UnknownAttributes, UnknownValues};
 pub use writing::{AttrsToWrite, write_attrs};

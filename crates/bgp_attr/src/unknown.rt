@@ -1,6 +1,7 @@
 //! Attributes that this speaker does not know and passes on (RFC 4271 section 5).
 ghost use Rattle.std.specs.Prelude.{◌≡◌, [], true, ◌≤◌, length, OnOk, OnErr, IfOk};
 ghost use Rattle.std.specs.BTreeMap.{insert_entry, is_at};
+ghost use Rattle.std.specs.Iterator.{YieldsFirstBy, item_count};
 ghost use Rattle.std.specs.Map.{lookup};
 ghost use Rattle.std.specs.Option.{option_copied};
 ghost use Rattle.std.specs.Ordering.{nat_cmp};
@@ -8,7 +9,7 @@ ghost use Rattle.bgp_attr.specs.AttributeTable.{is_passed_on};
 ghost use Rattle.bgp_attr.specs.UnknownAttributes.{ArePassedOn};
 
 use std::alloc::{AllocError, Allocator, Global};
-use std::collections::BTreeMap;
+use std::collections::{BTreeMap, btree_map};
 use std::marker::Model;
 
 // The value of an attribute.
@@ -96,6 +97,44 @@ impl<A: Allocator> UnknownAttributes<A> {
     {
         match self.values.get(&code) {
             Some(value) => Some(value.as_slice()),
+            None => None,
+        }
+    }
+
+    /// The codes with their values, in rising order of the codes.
+    pub fn iter(&self) -> UnknownValues<'_, A>
+        ensures { result ≡ self.now }
+    {
+        UnknownValues {
+            rest: self.values.iter(),
+        }
+    }
+}
+
+/// Codes with their values, in rising order of the codes. It is seen as those still to come.
+#[derive(Drop)]
+pub struct UnknownValues<'a, A: Allocator = Global> {
+    rest: btree_map::Iter<'a, u8, Value<A>>,
+}
+
+impl<'a, A: Allocator> Model for UnknownValues<'a, A> {
+    ghost use Rattle.bgp_attr.specs.UnknownAttributes.{Unknown};
+
+    ghost Value = { Unknown };
+
+    ghost view = { λ v. v.rest };
+}
+
+impl<'a, A: Allocator> Iterator for UnknownValues<'a, A> {
+    type Item = (u8, &'a [u8]);
+
+    ghost next_gives = { YieldsFirstBy (λ item. (item.0, item.1.now)) (λ rest. rest) };
+
+    ghost remaining = { item_count (λ rest. rest) };
+
+    fn next(&mut self) -> Option<(u8, &'a [u8])> {
+        match self.rest.next() {
+            Some((code, value)) => Some((*code, value.as_slice())),
             None => None,
         }
     }

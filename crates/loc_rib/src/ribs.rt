@@ -15,7 +15,7 @@ ghost use Rattle.loc_rib.specs.RibTables.{CountsAnother, RisesBy, started};
 use crate::rows::Rows;
 use bgp_attr::Attrs;
 use decision::{Book, Candidate, Change, Meter};
-use net_prefix::Prefix;
+use net_prefix::{Asn, Prefix};
 use rib_in::AdjIn;
 use std::alloc::{AllocError, Allocator};
 use std::marker::Model;
@@ -40,11 +40,11 @@ impl<A: Allocator + Clone, B: Book<A>> Model for Ribs<A, B> {
 }
 
 impl<A: Allocator + Clone, B: Book<A>> Ribs<A, B> {
-    /// No routes.
-    pub fn new(alloc: A) -> Result<Self, AllocError>
+    /// No routes. What is alike of them is found soon for this AS.
+    pub fn new(alloc: A, own: Asn) -> Result<Self, AllocError>
         ensures { IfOk result (λ ribs. ribs ≡ started) }
     {
-        let adj_in = AdjIn::new(alloc.clone()?);
+        let adj_in = AdjIn::new(alloc.clone()?, own);
         let book = B::empty(alloc)?;
         Ok(Ribs {
             adj_in,

@@ -19,6 +19,15 @@ pub struct Prefix {
     pub ghost no_host_bits: { HasNoHostBits bits len },
 }
 
+impl Default for Prefix {
+    ghost is_default = { λ p. (p.bits ≡ 0) × (p.len ≡ 0) };
+
+    /// All addresses, 0.0.0.0/0.
+    fn default() -> Self {
+        Prefix { bits: 0, len: 0 }
+    }
+}
+
 impl Prefix {
     /// The prefix of this address and length. The first fault of: a length over 32; bits behind the length.
     pub fn new(bits: u32, len: u8) -> Result<Prefix, PrefixFault>

@@ -1,3 +1,4 @@
+pub mod ClassedRoutes
 pub mod LatestRoutes
 pub mod PrefixRoutes
 pub mod RibNumbers

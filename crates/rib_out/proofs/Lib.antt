@@ -3,4 +3,5 @@ pub mod OwedMarks
 pub mod Prefixes
 pub mod Records
 pub mod SlotBits
+pub mod Undos
 pub mod Walks

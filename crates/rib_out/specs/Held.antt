@@ -1,5 +1,6 @@
 -- What a peer was last sent of each prefix, and that wasn't withdrawn since: Adj-RIB-Out (RFC 4271 section 3.2).
 use Rattle.std.specs.Prelude.{ℕ, Bool, true, false, List, Option, map}
+use Rattle.std.specs.List.{list_any}
 use Rattle.std.specs.Option.{option_map, option_map_or}
 use Rattle.std.specs.Ordering.{is_eq}
 use Rattle.std.specs.List.Sorted.{IsStrictlySortedBy}
@@ -10,6 +11,10 @@ use Rattle.net_prefix.specs.declared.prefix.Prefix.{Prefix}
 -- whether both are one prefix
 abbrev pub is_prefix : Prefix → Prefix → Bool
 is_prefix p q = is_eq (prefix_cmp p q)
+
+-- the prefix is one of these
+abbrev pub is_among : Prefix → List Prefix → Bool
+is_among prefix prefixes = list_any (λ p. is_eq (prefix_cmp p prefix)) prefixes
 
 -- what a peer holds of a prefix: the octets of its attributes, and whether the peer has asked for the route again since
 -- (RFC 2918 section 4)

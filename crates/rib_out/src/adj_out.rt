@@ -5,10 +5,11 @@ ghost use Rattle.std.specs.Ordering.{is_gt};
 ghost use Rattle.std.specs.declared.cmp.Ordering.TheVariants.{Less};
 ghost use Rattle.std.specs.Iterator.{YieldsFirstBy, item_count};
 ghost use Rattle.net_prefix.specs.declared.prefix.Prefix.{Prefix};
-ghost use Rattle.rib_out.specs.Held.{IsRising, all_asked, asked_at, held_at, is_prefix, octets_of};
+ghost use Rattle.rib_out.specs.Held.{IsRising, all_asked, asked_at, held_at, is_among, is_prefix, octets_of};
 ghost use Rattle.net_prefix.specs.PrefixOrder.{prefix_cmp, IsAbove};
 
 use crate::shared::SharedOctets;
+use crate::undo::{UndoLog, tell_all};
 use net_prefix::Prefix;
 use std::alloc::{AllocError, Allocator, Global};
 use std::collections::{BTreeMap, btree_map};
@@ -26,10 +27,10 @@ pub struct AdjOut<A: Allocator = Global> {
 
 /// What a peer holds of a prefix.
 #[derive(Drop)]
-struct HeldRoute<A: Allocator> {
-    octets: SharedOctets<A>,
+pub(crate) struct HeldRoute<A: Allocator> {
+    pub(crate) octets: SharedOctets<A>,
     // Whether the peer has asked for the route again since it was sent it (RFC 2918 section 4).
-    asked: bool,
+    pub(crate) asked: bool,
 }
 
 impl<A: Allocator> Model for HeldRoute<A> {
@@ -117,6 +118,21 @@ impl<A: Allocator + Clone> AdjOut<A> {
         }
     }
 
+    /// The peer was sent routes with these attributes to all these prefixes. Where memory is refused, all is as before.
+    pub fn announce_all(
+        &mut self,
+        prefixes: &[Prefix],
+        octets: &SharedOctets<A>,
+        log: &mut UndoLog<A>,
+    ) -> Result<(), AllocError>
+        ensures held { OnOk result ((q : Prefix) → held_at self.new q ≡ (if is_among q prefixes.now then Some octets.now else held_at self.old q)) }
+        ensures asked { OnOk result ((q : Prefix) → asked_at self.new q ≡ (if is_among q prefixes.now then false else asked_at self.old q)) }
+        ensures err { OnErr result (self.new ≡ self.old) }
+    {
+        self.is_all_asked = false;
+        tell_all(&mut self.routes, prefixes, octets, &mut log.steps)
+    }
+
     /// The peer was sent once more what it holds of the prefix. It takes no memory.
     pub fn renew(&mut self, prefix: Prefix)
         ensures held { (q : Prefix) → held_at self.new q ≡ held_at self.old q }
@@ -129,6 +145,16 @@ impl<A: Allocator + Clone> AdjOut<A> {
         held.asked = false;
     }
 
+    /// The peer was sent once more what it holds of these prefixes. It takes no memory.
+    pub fn renew_all(&mut self, prefixes: &[Prefix])
+        ensures held { (q : Prefix) → held_at self.new q ≡ held_at self.old q }
+        ensures asked { (q : Prefix) → asked_at self.new q ≡ (if is_among q prefixes.now then false else asked_at self.old q) }
+    {
+        for prefix in prefixes {
+            self.renew(*prefix);
+        }
+    }
+
     /// The peer was sent a withdrawal of the prefix.
     pub fn withdraw(&mut self, prefix: Prefix)
         ensures held { (q : Prefix) → held_at self.new q ≡ (if is_prefix prefix q then None else held_at self.old q) }
@@ -136,6 +162,16 @@ impl<A: Allocator + Clone> AdjOut<A> {
     {
         self.is_all_asked = false;
         self.routes.remove(&prefix);
+    }
+
+    /// The peer was sent a withdrawal of all these prefixes.
+    pub fn withdraw_all(&mut self, prefixes: &[Prefix])
+        ensures held { (q : Prefix) → held_at self.new q ≡ (if is_among q prefixes.now then None else held_at self.old q) }
+        ensures asked { (q : Prefix) → asked_at self.new q ≡ (if is_among q prefixes.now then false else asked_at self.old q) }
+    {
+        for prefix in prefixes {
+            self.withdraw(*prefix);
+        }
     }
 
     /// The peer asks again for each prefix that it holds (RFC 2918 section 4). It takes no memory.

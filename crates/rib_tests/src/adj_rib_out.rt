@@ -4,7 +4,7 @@ ghost use Rattle.std.specs.Prelude.{◌≤◌};
 use crate::given::{is_filled_at_last, prefix_of};
 use net_prefix::Prefix;
 use refusing::Refusing;
-use rib_out::{AdjOut, RecentOctets, SharedOctets};
+use rib_out::{AdjOut, RecentOctets, SharedOctets, UndoLog};
 use std::alloc::{AllocError, Allocator, Global};
 use std::process::Abort;
 
@@ -155,6 +155,84 @@ fn refusals_from(rt: &impl Abort, heap: &Refusing<Global>) -> u32 {
 #[test]
 fn a_refused_growth_leaves_the_table(rt: HostRuntime) {
     assert!(rt; is_filled_at_last(rt.alloc(), |heap| refusals_from(&rt, heap)));
+}
+
+// The prefixes that `fill` fills a table with, and half as many more.
+fn more_prefixes(rt: &impl Abort, alloc: Global) -> Result<Vec<Prefix>, AllocError> {
+    let mut prefixes = Vec::new(alloc);
+    for number in 0..96u32 {
+        prefixes.push(prefix_of(rt, number * 256, 24))?;
+    }
+    Ok(prefixes)
+}
+
+// Tells all of these prefixes to a peer that holds those of `fill` and has asked for them, and again where a growth is
+// refused. Answers whether one was.
+fn is_told_again<A: Allocator + Clone>(
+    rt: &impl Abort,
+    table: &mut AdjOut<A>,
+    log: &mut UndoLog<A>,
+    prefixes: &[Prefix],
+    octets: &SharedOctets<A>,
+) -> bool {
+    let refused = table.announce_all(prefixes, octets, log).is_err();
+    if refused {
+        assert!(rt; holds_so_many(table, &[7; 40], 64) && table.is_asked(prefix_of(rt, 0, 24)));
+        assert!(rt; table.announce_all(prefixes, octets, log).is_ok());
+    }
+    assert!(rt; holds_so_many(table, &[8; 40], 96) && !table.is_asked(prefix_of(rt, 0, 24)));
+    refused
+}
+
+// Fills the table, and tells the peer of more. Answers how often a growth was refused.
+fn refusals_told<A: Allocator + Clone>(
+    rt: &impl Abort,
+    mut table: AdjOut<A>,
+    mut log: UndoLog<A>,
+    prefixes: &[Prefix],
+    first: Result<SharedOctets<A>, AllocError>,
+    last: Result<SharedOctets<A>, AllocError>,
+) -> u32 {
+    let Ok(first) = first else {
+        return 1;
+    };
+    let Ok(last) = last else {
+        return 1;
+    };
+    let refused = fill(rt, &mut table, &first);
+    table.ask_all();
+    if is_told_again(rt, &mut table, &mut log, prefixes, &last) {
+        refused.saturating_add(1)
+    } else {
+        refused
+    }
+}
+
+// The same from the heap.
+fn refusals_all(rt: &impl Abort, heap: &Refusing<Global>, prefixes: &[Prefix]) -> u32 {
+    let first = SharedOctets::of(heap, &[7; 40]);
+    let last = SharedOctets::of(heap, &[8; 40]);
+    refusals_told(
+        rt,
+        AdjOut::new(heap),
+        UndoLog::new(heap),
+        prefixes,
+        first,
+        last,
+    )
+}
+
+#[test]
+fn all_prefixes_of_an_update_are_told_or_none(rt: HostRuntime) {
+    let Ok(prefixes) = more_prefixes(&rt, rt.alloc()) else {
+        panic!(rt; "no memory");
+    };
+    assert!(rt;
+        is_filled_at_last(
+            rt.alloc(),
+            |heap| refusals_all(&rt, heap, prefixes.as_slice())
+        )
+    );
 }
 
 // Whether the first octets find memory. Then octets that were announced lately take none, and others do.

@@ -7,6 +7,8 @@ mod adj_rib_in;
 #[cfg(test)]
 mod adj_rib_out;
 #[cfg(test)]
+mod alike_routes;
+#[cfg(test)]
 mod books;
 #[cfg(test)]
 mod given;

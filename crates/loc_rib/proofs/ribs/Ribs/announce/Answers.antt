@@ -1,5 +1,5 @@
 use Rattle.std.proofs.Common.{is_ok}
-use Rattle.loc_rib.proofs.BookRooms.{apart_same, no_route_yet, not_ok, on_err, on_ok, roomy_announced, room_made, roomy_back, routes_back}
+use Rattle.loc_rib.proofs.BookRooms.{apart_same, no_route_yet, not_ok, on_ok, roomy_announced, room_made, roomy_back, routes_back}
 use Rattle.loc_rib.proofs.ribs.Ribs.announce.Goals as goal
 
 pub invariant_of-self-then-is_err-2 : goal.invariant_of-self-then-is_err-2

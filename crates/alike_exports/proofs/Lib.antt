@@ -1,0 +1,3 @@
+pub mod PathsBehind
+pub mod ReadBack
+pub mod Alike

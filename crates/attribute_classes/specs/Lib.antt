@@ -1,0 +1,3 @@
+pub mod ClassNumber
+pub mod Feeding
+pub mod Passed
