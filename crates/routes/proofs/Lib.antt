@@ -1,7 +1,9 @@
 pub mod AddedMarks
+pub mod AlikeRoutes
 pub mod CandidateLists
 pub mod Clearing
 pub mod Counting
+pub mod Due
 pub mod Exported
 pub mod HeardOffers
 pub mod KeptOffers
@@ -9,6 +11,7 @@ pub mod LocalNetworks
 pub mod Marking
 pub mod MergedPrefixes
 pub mod NamedPrefixes
+pub mod Naming
 pub mod NeededMemory
 pub mod OneBest
 pub mod Owing
@@ -20,6 +23,7 @@ pub mod RouteChanges
 pub mod SoundOffers
 pub mod Stretching
 pub mod ToldDegrees
+pub mod ToldPrefixes
 pub mod ToldRoutes
 pub mod TouchedStretches
 pub mod WaitingLists

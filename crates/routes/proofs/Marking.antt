@@ -21,7 +21,7 @@ use Rattle.export_rules.specs.declared.export.ExportPeer.{ExportPeer}
 use Rattle.net_prefix.specs.PrefixOrder.{prefix_cmp, IsAbove}
 use Rattle.net_prefix.specs.declared.prefix.Prefix.{Prefix}
 use Rattle.rib_in.specs.LatestRoutes.{RouteTable, is_route, route_at}
-use Rattle.rib_out.specs.Held.{HeldRoute, all_asked, asked_at, held_at}
+use Rattle.rib_out.specs.Held.{HeldRoute, all_asked, asked_at, held_at, is_among}
 use Rattle.rib_out.specs.Waiting.{is_known, owed_at}
 use Rattle.rib_out.specs.declared.marks.Owed.{Owed}
 use Rattle.rib_out.specs.declared.waits.Waits.{Waits}
@@ -83,7 +83,7 @@ pub routes_off : (slot : ℕ) (prefix : Prefix) (what : Option PathAttributes) (
 routes_off slot prefix what old new routes s p other = routes s p ∙ ap (λ b. cond b what (route_at old s p)) (off_prefix slot s prefix p other)
 
 -- a prefix that is known just as it was, with the same routes, and of which the same waits
-released_alike : (t u : RoutingState) (p : Prefix) → IsReleased t p → ((s : ℕ) → route_at u.adj_in s p ≡ route_at t.adj_in s p) → ((s : ℕ) → s < 64 → owed_at u.waiting s p ≡ owed_at t.waiting s p)
+pub released_alike : (t u : RoutingState) (p : Prefix) → IsReleased t p → ((s : ℕ) → route_at u.adj_in s p ≡ route_at t.adj_in s p) → ((s : ℕ) → s < 64 → owed_at u.waiting s p ≡ owed_at t.waiting s p)
     → is_known u.waiting p ≡ is_known t.waiting p → IsReleased u p
 released_alike t u p released routes owed known = record { unknown = λ unrouted idle. known ∙ released.unknown (λ s. sym (routes s) ∙ unrouted s) (λ s few. sym (owed s few) ∙ idle s few) }
 
@@ -706,12 +706,13 @@ marked_asked conf links slot effects asks t h stays still = record {
     here s p same (inl is) = absurd (other_is slot s is same)
     here s p same (inr none) = h.same stays still p (inr none)
 
--- the slot's peer was told what is exported to it
-pub marked_told : (conf : Configuration) (t u : RoutingState) (slot : ℕ) (prefix : Prefix) (export : Option (List ℕ)) (l m : Linked) (old new : List (ℕ × Linked)) → AreMarked conf old t → link_at old slot ≡ Some l
-    → IsTold prefix export l m → IsNow slot m old new → ((peer : ConfiguredPeer) → peer_at conf slot ≡ Some peer → export_in conf (best_at (rows_of t.book)) t.adj_in (export_peer_of conf slot peer) prefix ≡ export)
-    → u ≡ record t { waiting = u.waiting } → ((s : ℕ) (p : Prefix) → owed_at u.waiting s p ≡ cond (s == slot && is_prefix prefix p) None (owed_at t.waiting s p))
+-- the slot's peer was told what is exported to it of these prefixes
+pub marked_told : (conf : Configuration) (t u : RoutingState) (slot : ℕ) (named : List Prefix) (export : Option (List ℕ)) (l m : Linked) (old new : List (ℕ × Linked)) → AreMarked conf old t → link_at old slot ≡ Some l
+    → IsTold named export l m → IsNow slot m old new
+    → ((peer : ConfiguredPeer) (p : Prefix) → peer_at conf slot ≡ Some peer → is_among p named ≡ true → export_in conf (best_at (rows_of t.book)) t.adj_in (export_peer_of conf slot peer) p ≡ export)
+    → u ≡ record t { waiting = u.waiting } → ((s : ℕ) (p : Prefix) → owed_at u.waiting s p ≡ cond (s == slot && is_among p named) None (owed_at t.waiting s p))
     → ((s : ℕ) (p : Prefix) → IsSome (route_at t.adj_in s p) → is_known u.waiting p ≡ is_known t.waiting p) → (((p : Prefix) → IsReleased t p) → (p : Prefix) → IsReleased u p) → AreMarked conf new u
-marked_told conf t u slot prefix export l m old new marked linked told put exported rest owed known released = record {
+marked_told conf t u slot named export l m old new marked linked told put exported rest owed known released = record {
   there = record {
     within = within_put slot l m old new linked put marked.there.within;
     known = λ s p there.
@@ -722,32 +723,33 @@ marked_told conf t u slot prefix export l m old new marked linked told put expor
   marks = λ s p within. owed s p ∙ here s p within ∙ ap (λ (x : RoutingState). mark_at conf new x s p) (sym rest);
 }
   where
-    of_told : (peer : Option ConfiguredPeer) → ((x : ConfiguredPeer) → peer ≡ Some x → export_in conf (best_at (rows_of t.book)) t.adj_in (export_peer_of conf slot x) prefix ≡ export)
-        → None ≡ mark_of conf t.adj_in t.book slot prefix peer (Some m)
-    of_told None is = refl
-    of_told (Some x) is = rw (is x refl, told.held prefix, told.asked prefix, is_prefix-refl prefix) (sym (nothing_owed (is_established m.peer.session.state) export))
+    of_told : (p : Prefix) → is_among p named ≡ true → (peer : Option ConfiguredPeer)
+        → ((x : ConfiguredPeer) → peer ≡ Some x → export_in conf (best_at (rows_of t.book)) t.adj_in (export_peer_of conf slot x) p ≡ export)
+        → None ≡ mark_of conf t.adj_in t.book slot p peer (Some m)
+    of_told p among None is = refl
+    of_told p among (Some x) is = rw (is x refl, told.held p, told.asked p, among) (sym (nothing_owed (is_established m.peer.session.state) export))
 
-    told_here : None ≡ mark_at conf new t slot prefix
-    told_here = of_told (peer_at conf slot) exported ∙ ap (mark_of conf t.adj_in t.book slot prefix (peer_at conf slot)) (sym (now_on slot m old new put))
+    told_here : (p : Prefix) → is_among p named ≡ true → None ≡ mark_at conf new t slot p
+    told_here p among = of_told p among (peer_at conf slot) (λ x is. exported x p is among) ∙ ap (mark_of conf t.adj_in t.book slot p (peer_at conf slot)) (sym (now_on slot m old new put))
 
     same_state_told : is_established m.peer.session.state ≡ is_established l.peer.session.state
     same_state_told = ap (λ (x : Slot). is_established x.session.state) told.peer
 
-    of_other : (p : Prefix) → is_prefix prefix p ≡ false → mark_at conf old t slot p ≡ mark_at conf new t slot p
+    of_other : (p : Prefix) → is_among p named ≡ false → mark_at conf old t slot p ≡ mark_at conf new t slot p
     of_other p other =
         ap (mark_of conf t.adj_in t.book slot p (peer_at conf slot)) linked
         ∙ sym (mark_put_of conf t.adj_in t.book slot p (peer_at conf slot) l m same_state_told (told.held p ∙ ap (λ b. cond b export (held_at l.adj_out p)) other)
         (told.asked p ∙ ap (λ b. cond b false (asked_at l.adj_out p)) other))
         ∙ ap (mark_of conf t.adj_in t.book slot p (peer_at conf slot)) (sym (now_on slot m old new put))
 
-    by_prefix : (p : Prefix) → slot < 64 → (b : Bool) → is_prefix prefix p ≡ b → cond b None (owed_at t.waiting slot p) ≡ mark_at conf new t slot p
-    by_prefix p within true is = subst (λ q. None ≡ mark_at conf new t slot q) (same_from_is_prefix prefix p is) told_here
-    by_prefix p within false is = marked.marks slot p within ∙ of_other p is
+    by_among : (p : Prefix) → slot < 64 → (b : Bool) → is_among p named ≡ b → cond b None (owed_at t.waiting slot p) ≡ mark_at conf new t slot p
+    by_among p within true is = told_here p is
+    by_among p within false is = marked.marks slot p within ∙ of_other p is
 
-    here : (s : ℕ) (p : Prefix) → s < 64 → cond (s == slot && is_prefix prefix p) None (owed_at t.waiting s p) ≡ mark_at conf new t s p
+    here : (s : ℕ) (p : Prefix) → s < 64 → cond (s == slot && is_among p named) None (owed_at t.waiting s p) ≡ mark_at conf new t s p
     here s p within = elim (cases_eq s slot) [
       | inl same ↦
-          subst (λ x. cond (x == slot && is_prefix prefix p) None (owed_at t.waiting x p) ≡ mark_at conf new t x p) (sym same)
-          (rw (eq-eqb slot slot refl) (by_prefix p (subst (λ x. x < 64) same within) (is_prefix prefix p) refl))
+          subst (λ x. cond (x == slot && is_among p named) None (owed_at t.waiting x p) ≡ mark_at conf new t x p) (sym same)
+          (rw (eq-eqb slot slot refl) (by_among p (subst (λ x. x < 64) same within) (is_among p named) refl))
       | inr other ↦ rw (ne_eqb s slot other) (marked.marks s p within ∙ sym (mark_off conf t slot m old new put s p other))
     ]

@@ -75,7 +75,7 @@ announcement_some (Some octets) (Some held) asked some = by_test (bytes_eq held 
     by_test true some = absurd (cc)
     by_test false some = refl
 
-some_announcement : (export held : Option (List ℕ)) (asked : Bool) → owed_for export held asked ≡ Some Announcement → IsSome (announced_of export held asked)
+pub some_announcement : (export held : Option (List ℕ)) (asked : Bool) → owed_for export held asked ≡ Some Announcement → IsSome (announced_of export held asked)
 some_announcement None None asked is = absurd (cc)
 some_announcement None (Some held) asked is = absurd (cc)
 some_announcement (Some octets) None asked is = refl
@@ -141,7 +141,7 @@ pub exported_to : (s : RoutesState) (slot : ℕ) (p : Prefix) (export : Option (
     → (peer : ConfiguredPeer) → peer_at s.conf slot ≡ Some peer → export_in s.conf (best_at (rows_of s.book)) s.adj_in (export_peer_of s.conf slot peer) p ≡ export
 exported_to s slot p export is peer configured = sym (export_found s slot peer p configured) ∙ is
 
-some_of : {X : Type 0} (o : Option X) → IsSome o → (x : X) × (o ≡ Some x)
+pub some_of : {X : Type 0} (o : Option X) → IsSome o → (x : X) × (o ≡ Some x)
 some_of None some = absurd (cc)
 some_of (Some x) some = (x, refl)
 

@@ -1,4 +1,4 @@
-use Rattle.std.proofs.Common.{◌≡◌, ◌==◌, ◌&&◌, ℕ, List, Option, Some, None, cond, refl}
+use Rattle.std.proofs.Common.{◌≡◌, ◌==◌, ◌&&◌, ℕ, Bool, true, false, List, Option, Some, None, cond, refl, sym, ap, ◌∙◌}
 use Rattle.std.specs.Option.{IsSome, option_and_then}
 use Rattle.bgp_attr.specs.PathAttributes.{PathAttributes}
 use Rattle.bgp_conf.specs.Configuration.{Configuration, peer_at}
@@ -8,16 +8,15 @@ use Rattle.decision.specs.declared.candidate.Candidate.{Candidate}
 use Rattle.export_rules.specs.declared.export.ExportPeer.{ExportPeer}
 use Rattle.net_prefix.specs.declared.prefix.Prefix.{Prefix}
 use Rattle.rib_in.specs.LatestRoutes.{RouteTable, route_at}
-use Rattle.rib_out.specs.Held.{is_prefix}
+use Rattle.rib_out.specs.Held.{is_among}
 use Rattle.rib_out.specs.Waiting.{is_known, owed_at}
-use Rattle.rib_out.specs.declared.waits.Waits.{Waits}
+use Rattle.rib_out.specs.declared.marks.Owed.{Owed}
 use Rattle.routes.specs.Export.{export_in, export_peer_of, exported_at}
 use Rattle.routes.specs.Marks.{IsReleased}
 use Rattle.routes.specs.RoutesState.{RoutesState, export_of}
 use Rattle.routes.specs.RoutingState.{RoutingState}
 use Rattle.routes.specs.Tables.{best_at}
-use Rattle.routes.proofs.Clearing.{told_released}
-use Rattle.routes.proofs.Marking.{no_none}
+use Rattle.routes.proofs.Marking.{no_none, released_alike}
 
 -- What a peer is told is a route, whose prefix stays known.
 
@@ -43,10 +42,22 @@ module _ (adj_in : RouteTable) (p : Prefix) (octets : List ℕ) where
 pub exported_routed : (s : RoutesState) (slot : ℕ) (p : Prefix) (octets : List ℕ) → export_of s slot p ≡ Some octets → (x : ℕ) × IsSome (route_at s.adj_in x p)
 exported_routed s slot p octets is = of_peer s.adj_in p octets s.conf (best_at (rows_of s.book)) slot (peer_at s.conf slot) is
 
--- behind what a peer was told of a route no prefix is known that needn't be
-pub announced_released : (slot : ℕ) (prefix : Prefix) (t : RoutingState) (waiting : List (Prefix × Waits)) → ((s : ℕ) × IsSome (route_at t.adj_in s prefix))
-    → ((s : ℕ) (p : Prefix) → owed_at waiting s p ≡ cond (s == slot && is_prefix prefix p) None (owed_at t.waiting s p)) → ((p : Prefix) → is_known waiting p ≡ is_known t.waiting p)
-    → ((p : Prefix) → IsReleased t p) → (p : Prefix) → IsReleased (record t { waiting = waiting }) p
-announced_released slot prefix t waiting routed set known all =
-    told_released slot prefix t (record t { waiting = waiting }) waiting refl set known (λ s p. refl) (λ p other. refl)
-    (record { unknown = λ unrouted idle. no_none (route_at t.adj_in routed.0 prefix) (unrouted routed.0) routed.1 }) all
+-- behind what a peer was told of routes no prefix is known that needn't be
+pub announced_released : (slot : ℕ) (named : List Prefix) (t u : RoutingState) → u ≡ record t { waiting = u.waiting } → ((p : Prefix) → is_among p named ≡ true → (s : ℕ) × IsSome (route_at t.adj_in s p))
+    → ((s : ℕ) (p : Prefix) → owed_at u.waiting s p ≡ cond (s == slot && is_among p named) None (owed_at t.waiting s p)) → ((p : Prefix) → is_known u.waiting p ≡ is_known t.waiting p)
+    → ((p : Prefix) → IsReleased t p) → (p : Prefix) → IsReleased u p
+announced_released slot named t u rest routed set known all p = by_test (is_among p named) refl
+  where
+    same : (s : ℕ) → route_at u.adj_in s p ≡ route_at t.adj_in s p
+    same s = ap (λ (x : RoutingState). route_at x.adj_in s p) rest
+
+    untouched : (b c : Bool) (old : Option Owed) → c ≡ false → cond (b && c) None old ≡ old
+    untouched true true old is = absurd (cc)
+    untouched true false old is = refl
+    untouched false c old is = refl
+
+    by_test : (b : Bool) → is_among p named ≡ b → IsReleased u p
+    by_test true is =
+        let there = routed p is in
+        record { unknown = λ unrouted idle. no_none (route_at t.adj_in there.0 p) (sym (same there.0) ∙ unrouted there.0) there.1 }
+    by_test false is = released_alike t u p (all p) same (λ s few. set s p ∙ untouched (s == slot) (is_among p named) (owed_at t.waiting s p) is) (known p)

@@ -9,6 +9,7 @@ pub mod LocRib
 pub mod Marks
 pub mod Offers
 pub mod Owing
+pub mod Packing
 pub mod Places
 pub mod RoutesState
 pub mod RoutingState

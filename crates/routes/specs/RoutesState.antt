@@ -88,11 +88,11 @@ pub record BringsNetwork (network : Prefix) (old new : RoutesState) : Type 0 whe
   pub links : new.links ≡ old.links
   pub chosen : (old.chosen ≤ new.chosen) × (new.chosen ≤ old.chosen + 1)
 
--- the slot's peer is told this of the prefix, and nothing else changes
-pub record TellsSlot (slot : ℕ) (prefix : Prefix) (export : Option (List ℕ)) (old new : RoutesState) : Type 0 where
+-- the slot's peer is told this of these prefixes, and nothing else changes
+pub record TellsSlot (slot : ℕ) (named : List Prefix) (export : Option (List ℕ)) (old new : RoutesState) : Type 0 where
   pub before : Linked
   pub after : Linked
   pub was : link_at old.links slot ≡ Some before
-  pub told : IsTold prefix export before after
+  pub told : IsTold named export before after
   pub puts : IsSet slot (Some after) old new
   pub rest : new ≡ record old { links = new.links }

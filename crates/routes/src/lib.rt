@@ -12,7 +12,7 @@
 //! depends on it (`originate`, `set_policy` and the like); payloads that came or went judge again the routes that they
 //! concern (`payloads_changed`). Whatever changes, it goes one way: the candidates of the touched prefixes are made again,
 //! the best route of each is chosen once at most, and for each Established peer the prefix is marked. What is marked is
-//! asked for in order (`withdrawal_after`, `announcement_after`) and told (`tell_withdrawal`, `tell_announcement`).
+//! asked for in order (`withdrawal_after`, `announcement_after`) and told (`tell_withdrawals`, `tell_announcements`).
 //!
 //! **What holds when.** Between calls: no two peers have one address, each candidate has its own peer's, and of each prefix
 //! there waits for each slot just what its peer is owed (the invariant of `Routes`). No clause outside speaks of marks.
@@ -29,6 +29,7 @@ mod commands;
 mod exports;
 mod link;
 mod message;
+mod packing;
 mod queue;
 mod routes;
 mod routing;
@@ -40,5 +41,6 @@ mod waiting;
 pub use exports::{Octets, place};
 pub use link::Link;
 pub use message::Standard;
+pub use packing::Draft;
 pub use routes::Routes;
 pub use waiting::WaitingPrefixes;

@@ -1,22 +1,27 @@
 //! What a slot's peer is owed, and that it is told.
-ghost use Rattle.std.specs.Prelude.{◌≡◌, ◌≢◌, ◌≤◌, ◌<◌, ℕ, None, Some, OnOk, OnErr, length};
-ghost use Rattle.std.specs.Option.{IfSome, IsSome};
+ghost use Rattle.std.specs.Prelude.{◌≡◌, ◌≢◌, ◌≤◌, ◌<◌, ◌-◌, ℕ, true, None, Some, OnOk, OnErr, length};
+ghost use Rattle.std.specs.Option.{IfSome, IsSome, option_map};
 ghost use Rattle.bgp_conf.specs.Configuration.{peer_at};
 ghost use Rattle.bgp_conf.specs.declared.conf.ConfiguredPeer.{ConfiguredPeer};
 ghost use Rattle.bgp_fsm.specs.declared.state.State.TheVariants.{Established};
-ghost use Rattle.export_rules.specs.Export.{most_attributes};
+ghost use Rattle.export_rules.specs.Export.{IsSender, most_attributes};
 ghost use Rattle.net_prefix.specs.PrefixOrder.{IsAbove};
-ghost use Rattle.rib_out.specs.Held.{asked_at, held_at};
+ghost use Rattle.net_prefix.specs.declared.prefix.Prefix.{Prefix as ThePrefix};
+ghost use Rattle.rib_out.specs.Held.{asked_at, held_at, is_among};
+ghost use Rattle.routes.specs.Export.{export_peer_of};
 ghost use Rattle.routes.specs.Linked.{Linked};
 ghost use Rattle.routes.specs.Owing.{IsNext, IsServed, announced_of, withdrawn_of};
+ghost use Rattle.routes.specs.Packing.{IsDue, IsFrom, IsNewTo, IsPack, most_named};
 ghost use Rattle.routes.specs.RoutesState.{TellsSlot, export_of};
 ghost use Rattle.routes.specs.Tables.{link_at};
 ghost use Rattle.routes.specs.Told.{HasRoom, update_saying};
 
 use crate::exports::Octets;
+use crate::packing::Draft;
 use crate::routes::Routes;
 use crate::told::{announce, withdraw};
 use decision::Book;
+use export_rules::ExportPeer;
 use net_prefix::Prefix;
 use rib_out::Owed;
 use std::alloc::{AllocError, Allocator};
@@ -45,52 +50,78 @@ impl<A: Allocator + Clone, B: Book<A>> Routes<A, B> {
         self.routing.next(slot, Owed::Announcement, after)
     }
 
-    /// Tells an Established peer that the prefix is withdrawn, which it holds and which isn't exported to it. The UPDATE is
-    /// written to `message`.
-    pub fn tell_withdrawal(&mut self, slot: u8, prefix: Prefix, message: &mut Octets)
+    /// Tells an Established peer withdrawals: of the prefixes that it holds and that aren't exported to it, from this one
+    /// on, the longest beginning that one UPDATE holds. The UPDATE is written to `draft`.
+    pub fn tell_withdrawals(&mut self, slot: u8, least: Prefix, draft: &mut Draft)
         requires slot { slot < 64 }
         requires up { (l : Linked) × (link_at self.old.links slot ≡ Some l) × (l.peer.session.state ≡ Established) }
         requires room { (l : Linked) → link_at self.old.links slot ≡ Some l → HasRoom l }
-        requires gone { export_of self.old slot prefix ≡ None }
-        requires held { (l : Linked) → link_at self.old.links slot ≡ Some l → IsSome (held_at l.adj_out prefix) }
+        requires gone { export_of self.old slot least ≡ None }
+        requires held { (l : Linked) → link_at self.old.links slot ≡ Some l → IsSome (held_at l.adj_out least) }
         requires peer { IsSome (peer_at self.old.conf slot) }
-        ensures told { TellsSlot slot prefix None self.old self.new }
-        ensures message { message.new.items ≡ update_saying prefix None }
+        ensures told { TellsSlot slot draft.new.named.items None self.old self.new }
+        ensures least { is_among least draft.new.named.items ≡ true }
+        ensures packed { (l : Linked) → link_at self.old.links slot ≡ Some l → IsPack (IsFrom least (IsDue (export_of self.old slot) None l)) most_named draft.new.named.items }
+        ensures message { draft.new.message.items ≡ update_saying draft.new.named.items None }
         ensures payloads { self.new.payloads ≡ self.old.payloads }
     {
+        self.name_withdrawals(slot, least, &mut draft.named);
         let Some(link) = self.links.get_mut(&slot) else {
             return;
         };
-        withdraw(link, prefix, message);
-        self.routing.told(slot, prefix);
+        withdraw(link, draft.named.as_slice(), &mut draft.message);
+        self.routing.told_all(slot, draft.named.as_slice());
     }
 
-    /// Tells an Established peer the attributes of the prefix that are exported to it. Memory is taken only where it holds
-    /// others, and where that is refused, nothing changes. The UPDATE is written to `message`.
-    pub fn tell_announcement(
+    /// Tells an Established peer announcements with the attributes that are exported to it of this prefix: of the
+    /// prefixes that wait with the same, from this one on, the longest beginning that one UPDATE holds. Memory is taken
+    /// only where it holds others, and where that is refused, nothing changes. The UPDATE is written to `draft`.
+    pub fn tell_announcements(
         &mut self,
         slot: u8,
-        prefix: Prefix,
+        peer: &ExportPeer,
+        least: Prefix,
         octets: &Octets,
-        message: &mut Octets,
+        draft: &mut Draft,
     ) -> Result<(), AllocError>
         requires slot { slot < 64 }
         requires up { (l : Linked) × (link_at self.old.links slot ≡ Some l) × (l.peer.session.state ≡ Established) }
         requires room { (l : Linked) → link_at self.old.links slot ≡ Some l → HasRoom l }
         requires small { length octets.now.items ≤ most_attributes }
-        requires exported { export_of self.old slot prefix ≡ Some octets.now.items }
-        ensures told { OnOk result (TellsSlot slot prefix (Some octets.now.items) self.old self.new) }
-        ensures message { OnOk result (message.new.items ≡ update_saying prefix (Some octets.now.items)) }
+        requires exported { export_of self.old slot least ≡ Some octets.now.items }
+        requires news { (l : Linked) → link_at self.old.links slot ≡ Some l → IsNewTo l least (Some octets.now.items) }
+        requires peer { Some peer.now ≡ option_map (export_peer_of self.old.conf slot) (peer_at self.old.conf slot) }
+        ensures told { OnOk result (TellsSlot slot draft.new.named.items (Some octets.now.items) self.old self.new) }
+        ensures least { is_among least draft.new.named.items ≡ true }
+        ensures each { (q : ThePrefix) → is_among q draft.new.named.items ≡ true → export_of self.old slot q ≡ Some octets.now.items }
+        // The own AS is one and the own address is a host's for each peer that was configured, so none is left out.
+        ensures packed { IsSender peer.now → (l : Linked) → link_at self.old.links slot ≡ Some l → IsPack (IsFrom least (IsDue (export_of self.old slot) (Some octets.now.items) l)) (most_named - length octets.now.items) draft.new.named.items }
+        ensures message { OnOk result (draft.new.message.items ≡ update_saying draft.new.named.items (Some octets.now.items)) }
         ensures err { OnErr result ((s : ℕ) → link_at self.new.links s ≡ link_at self.old.links s) }
-        ensures others { OnErr result ((l : Linked) → link_at self.old.links slot ≡ Some l → held_at l.adj_out prefix ≢ Some octets.now.items) }
+        ensures short { OnErr result ((l : Linked) → link_at self.old.links slot ≡ Some l → (q : ThePrefix) × (export_of self.old slot q ≡ Some octets.now.items) × (held_at l.adj_out q ≢ Some octets.now.items)) }
         ensures rest { self.new ≡ record self.old { links = self.new.links } }
         ensures payloads { self.new.payloads ≡ self.old.payloads }
     {
+        self.name_announcements(
+            slot,
+            peer,
+            least,
+            octets,
+            &mut draft.named,
+            &mut draft.other,
+        );
         let Some(link) = self.links.get_mut(&slot) else {
             return Ok(());
         };
-        announce(link, &mut self.recent, prefix, octets, message)?;
-        self.routing.announced(slot, prefix);
+        announce(
+            link,
+            &mut self.recent,
+            &mut self.undo,
+            draft.named.as_slice(),
+            octets,
+            &mut draft.message,
+        )?;
+        self.routing.announced_all(slot, draft.named.as_slice());
         Ok(())
     }
 }

@@ -33,7 +33,7 @@ use loc_rib::Rows;
 use net_prefix::{Asn, Prefix};
 use origin_valid::PayloadTrie;
 use rib_in::SlotRoutes;
-use rib_out::RecentOctets;
+use rib_out::{RecentOctets, UndoLog};
 use std::alloc::{AllocError, Allocator};
 use std::collections::BTreeMap;
 use std::marker::Model;
@@ -49,6 +49,8 @@ pub struct Routes<A: Allocator + Clone, B: Book<A>> {
     pub(crate) routing: Routing<A, B>,
     // What was announced lately, for peers to share.
     pub(crate) recent: RecentOctets<A>,
+    // What an UPDATE changes of what a peer holds, until it is told whole.
+    pub(crate) undo: UndoLog<A>,
 }
 
 impl<A: Allocator + Clone, B: Book<A>> Model for Routes<A, B> {
@@ -79,13 +81,14 @@ impl<A: Allocator + Clone + Copy, B: Book<A>> Routes<A, B> {
     {
         let recent = RecentOctets::new(alloc)?;
         let conf = Conf::new(alloc, own)?;
-        let routing = Routing::new(alloc)?;
+        let routing = Routing::new(alloc, own)?;
         Ok(Routes {
             conf,
             payloads: PayloadTrie::new(alloc),
             links: BTreeMap::new(alloc),
             routing,
             recent,
+            undo: UndoLog::new(alloc),
         })
     }
 }

@@ -9,6 +9,7 @@ ghost use Rattle.decision.specs.BookContents.{AreApart, changed, is_prefix, offe
 ghost use Rattle.net_prefix.specs.PrefixOrder.{IsAbove, prefix_cmp};
 ghost use Rattle.net_prefix.specs.declared.prefix.Prefix.{Prefix as ThePrefix};
 ghost use Rattle.rib_in.specs.LatestRoutes.{is_route, route_at};
+ghost use Rattle.rib_out.specs.Held.{is_among};
 ghost use Rattle.rib_out.specs.Waiting.{is_known, owed_at};
 ghost use Rattle.routes.specs.Chosen.{Ends};
 ghost use Rattle.routes.specs.Linked.{Linked};
@@ -23,7 +24,7 @@ use bgp_conf::Conf;
 use bgp_fsm::State;
 use decision::{Book, Candidate, Change};
 use loc_rib::Ribs;
-use net_prefix::Prefix;
+use net_prefix::{Asn, Prefix};
 use rib_out::{Owed, Waiting};
 use std::alloc::{AllocError, Allocator};
 use std::collections::BTreeMap;
@@ -50,12 +51,12 @@ impl<A: Allocator + Clone, B: Book<A>> Model for Routing<A, B> {
 }
 
 impl<A: Allocator + Clone, B: Book<A>> Routing<A, B> {
-    /// No routes, and nothing waits.
-    pub fn new(alloc: A) -> Result<Self, AllocError>
+    /// No routes, and nothing waits, in a speaker of this AS.
+    pub fn new(alloc: A, own: Asn) -> Result<Self, AllocError>
         ensures { IfOk result (λ t. t ≡ started) }
     {
         let waiting = Waiting::new(alloc.clone()?);
-        let ribs = Ribs::new(alloc)?;
+        let ribs = Ribs::new(alloc, own)?;
         Ok(Routing { ribs, waiting })
     }
 
@@ -243,17 +244,51 @@ impl<A: Allocator + Clone, B: Book<A>> Routing<A, B> {
         self.release(prefix);
     }
 
-    /// The slot's peer was told a route to the prefix, which stays known for its route.
-    pub fn announced(&mut self, slot: u8, prefix: Prefix)
+    /// The slot's peer was told what it was owed of these prefixes.
+    pub fn told_all(&mut self, slot: u8, prefixes: &[Prefix])
         requires slot { slot < 64 }
-        requires known { is_known self.old.waiting prefix ≡ true }
-        requires routed { (s : ℕ) × IsSome (route_at self.old.adj_in s prefix) }
-        ensures owed { (s : ℕ) (p : ThePrefix) → owed_at self.new.waiting s p ≡ (if s == slot && is_prefix prefix p then None else owed_at self.old.waiting s p) }
-        ensures known { (p : ThePrefix) → is_known self.new.waiting p ≡ is_known self.old.waiting p }
+        requires known { (p : ThePrefix) → is_among p prefixes.now ≡ true → is_known self.old.waiting p ≡ true }
+        ensures owed { (s : ℕ) (p : ThePrefix) → owed_at self.new.waiting s p ≡ (if s == slot && is_among p prefixes.now then None else owed_at self.old.waiting s p) }
+        ensures known { (s : ℕ) (p : ThePrefix) → IsSome (route_at self.old.adj_in s p) → is_known self.new.waiting p ≡ is_known self.old.waiting p }
         ensures released { ((p : ThePrefix) → IsReleased self.old p) → (p : ThePrefix) → IsReleased self.new p }
         ensures rest { self.new ≡ record self.old { waiting = self.new.waiting } }
     {
-        Waiting::set(&mut self.waiting, slot, prefix, None);
+        self.announced_all(slot, prefixes);
+        self.release_all(prefixes);
+    }
+
+    /// The slot's peer was told routes to these prefixes, which stay known for them.
+    pub fn announced_all(&mut self, slot: u8, prefixes: &[Prefix])
+        requires slot { slot < 64 }
+        requires known { (p : ThePrefix) → is_among p prefixes.now ≡ true → is_known self.old.waiting p ≡ true }
+        ensures owed { (s : ℕ) (p : ThePrefix) → owed_at self.new.waiting s p ≡ (if s == slot && is_among p prefixes.now then None else owed_at self.old.waiting s p) }
+        ensures known { (p : ThePrefix) → is_known self.new.waiting p ≡ is_known self.old.waiting p }
+        ensures rest { self.new ≡ record self.old { waiting = self.new.waiting } }
+    {
+        for prefix in prefixes {
+            self.waiting.set(slot, *prefix, None);
+        }
+    }
+
+    // Those of these prefixes that are without routes, and of which nothing waits, aren't known any more.
+    fn release_all(&mut self, prefixes: &[Prefix])
+        ensures released { (p : ThePrefix) → is_among p prefixes.now ≡ true → IsReleased self.new p }
+        ensures others { (p : ThePrefix) → is_among p prefixes.now ≡ false → is_known self.new.waiting p ≡ is_known self.old.waiting p }
+        ensures owed { (s : ℕ) (p : ThePrefix) → owed_at self.new.waiting s p ≡ owed_at self.old.waiting s p }
+        ensures known { (s : ℕ) (p : ThePrefix) → IsSome (route_at self.old.adj_in s p) → is_known self.new.waiting p ≡ is_known self.old.waiting p }
+        ensures rest { self.new ≡ record self.old { waiting = self.new.waiting } }
+    {
+        for prefix in prefixes {
+            self.release(*prefix);
+        }
+    }
+
+    /// What waits of the prefix for the slot.
+    pub fn owed(&self, slot: u8, prefix: Prefix) -> Option<Owed>
+        requires { slot < 64 }
+        ensures { result ≡ owed_at self.now.waiting slot prefix }
+    {
+        self.waiting.get(slot, prefix)
     }
 
     /// The least prefix above the given one, or of all, of which this waits for the slot.
