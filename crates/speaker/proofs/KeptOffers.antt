@@ -158,8 +158,8 @@ hands_keep slot l count old new linked hands =
     kept_put slot l (record { peer = handed l.peer count; adj_out = l.adj_out }) old new (offer_at old.book) (offer_at new.book) linked refl hands.links hands.rest.conf hands.rest.payloads hands.routes (ap (λ b. offer_at b) hands.book)
 
 -- a peer is told something
-pub kept_told : (slot : ℕ) (p : Prefix) (export : Option (List ℕ)) (old new : SpeakerState) (had : Offers) → IsToldAt slot p export old new → AreKept (tables_of old) had → AreKept (tables_of new) had
-kept_told slot p export old new had told =
+pub kept_told : (slot : ℕ) (named : List Prefix) (export : Option (List ℕ)) (old new : SpeakerState) (had : Offers) → IsToldAt slot named export old new → AreKept (tables_of old) had → AreKept (tables_of new) had
+kept_told slot named export old new had told =
     kept_put slot told.before told.after old new had had told.was (ap (λ (x : Slot). x.session) told.told.peer) told.puts
     (ap (λ (s : SpeakerState). s.conf) told.rest) (ap (λ (s : SpeakerState). s.payloads) told.rest) (ap (λ (s : SpeakerState). s.adj_in) told.rest) refl
 

@@ -1,4 +1,4 @@
-use Rattle.std.proofs.Common.{◌≡◌, ◌≢◌, ◌⊎◌, ◌≤◌, ◌<◌, ◌+◌, ◌==◌, ◌^◌, ℕ, Bool, true, false, List, [], ◌∷◌, Option, Some, None, length, cond, MatchOption, refl, sym, ap, ◌∙◌, subst, arith, inl, inr}
+use Rattle.std.proofs.Common.{◌≡◌, ◌≢◌, ◌⊎◌, ◌≤◌, ◌<◌, ◌+◌, ◌==◌, ℕ, Bool, true, false, List, [], ◌∷◌, Option, Some, None, length, cond, MatchOption, refl, sym, ap, ◌∙◌, subst, arith, inl, inr}
 use Rattle.std.proofs.lemmas.Bool.{eq-eqb}
 use Rattle.std.specs.List.Sorted.{IsStrictlySortedBy}
 use Rattle.std.specs.Map.{keys_of}
@@ -19,17 +19,18 @@ use Rattle.bgp_peer.specs.SessionInputs.{Queued, session, is_there}
 use Rattle.bgp_peer.proofs.Agreeing.{ring-is}
 use Rattle.decision.specs.BookContents.{IsBestOf, offer_at}
 use Rattle.decision.specs.declared.candidate.Candidate.{Candidate}
-use Rattle.export_rules.specs.Export.{AreAccepted, IsComplete}
+use Rattle.export_rules.specs.Export.{AreAccepted, IsComplete, IsSender}
 use Rattle.net_prefix.specs.PrefixOrder.{prefix_cmp}
 use Rattle.net_prefix.specs.declared.prefix.Prefix.{Prefix}
 use Rattle.rib_in.specs.LatestRoutes.{route_at}
+use Rattle.rib_out.specs.Held.{is_among}
 use Rattle.speaker.specs.AdjRibIn.{route}
 use Rattle.speaker.specs.Agreement.{IsLowest, LinkAgrees, SlotAgrees, tables_after, IsFair, IsNews, IsOwedIn, IsShortIn, IsThrifty, Holds, Passes, QueuesAll, QueuesOn, QueuesStarved, Agrees}
 use Rattle.speaker.specs.Choices.{choices_in}
 use Rattle.speaker.specs.Chosen.{Chooses}
 use Rattle.routes.specs.Export.{IsAccepted, IsExport, export_peer_of}
 use Rattle.speaker.specs.Export.{export_to}
-use Rattle.speaker.specs.Held.{held, told_in}
+use Rattle.speaker.specs.Held.{held}
 use Rattle.speaker.specs.Refreshes.{asked}
 use Rattle.routes.specs.Linked.{Linked}
 use Rattle.routes.specs.LocRib.{HasNoCandidate, IsBest, IsLocRib}
@@ -37,10 +38,11 @@ use Rattle.routes.specs.Candidates.{IsCandidate, IsPeerCandidate}
 use Rattle.routes.specs.Offers.{AreKept}
 use Rattle.speaker.specs.Moves.{Moves}
 use Rattle.speaker.specs.Queueing.{ComesFirst, Queue, Starves, Tells, IsServed, starved_in}
+use Rattle.routes.specs.Packing.{IsDue, IsFrom, IsNewTo, IsPack, room_beside}
 use Rattle.routes.specs.Told.{update_saying, HasRoom}
 use Rattle.routes.specs.Places.{rank_of}
 use Rattle.speaker.specs.Runs.{payloads_after, Call, Run, turn, configuration_of, history}
-use Rattle.speaker.specs.Serving.{AreServedBelow, IsNewTo, IsServedAt, IsShortAt, IsStill, IsToldAt}
+use Rattle.speaker.specs.Serving.{AreServedBelow, IsServedAt, IsShortAt, IsStill, IsToldAt}
 use Rattle.speaker.specs.SpeakerState.{SpeakerState, tables_of}
 use Rattle.routes.specs.Tables.{Tables, best_at, link_at, network_route, peer_route_at}
 use Rattle.speaker.specs.declared.config.Config.{Config}
@@ -52,7 +54,7 @@ use Rattle.speaker.proofs.Histories.{route_stays}
 use Rattle.routes.proofs.OneBest.{same_export}
 use Rattle.routes.proofs.KeptOffers.{kept_loc_rib}
 use Rattle.speaker.proofs.KeptOffers.{kept_still_links, kept_told}
-use Rattle.speaker.proofs.QueuedUpdates.{IsGood, saying_faultless, slot_queued, saying_is_update, saying_names, saying_says, named_is}
+use Rattle.speaker.proofs.QueuedUpdates.{CanBeSaid, IsGood, saying_faultless, slot_queued, saying_is_update, saying_names, saying_says, named_is}
 use Rattle.speaker.proofs.SlotStates.{SlotIs, linked_from}
 
 -- The queueing of a call: each UPDATE was owed, and with room each peer holds its export.
@@ -124,12 +126,18 @@ best_complete s p networks chosen c attrs best =
 abbrev pub Accepts : SpeakerState → ℕ → Prefix → Option (List ℕ) → Type 0
 Accepts s slot p export = (a : List ℕ) → export ≡ Some a → (peer : ConfiguredPeer) → peer_at s.conf slot ≡ Some peer → IsAccepted s.loc_rib s.adj_in (export_peer_of s.conf slot peer) p a
 
+-- this side has an AS and an address of a host
+is_sender : (config : Config) (r : Run) (s : SpeakerState) (slot : ℕ) (peer : ConfiguredPeer) → Holds config r s → peer_at s.conf slot ≡ Some peer → IsSender (export_peer_of s.conf slot peer)
+is_sender config r s slot peer holds configured =
+    let own : s.conf.own ≡ config.asn = ap (λ (c : Configuration). c.own) holds.conf ∙ own_is config r in
+    record { own = rw own holds.peers.0; local = (holds.peers.1 slot peer configured).local }
+
 is_good : (config : Config) (r : Run) (s : SpeakerState) (slot : ℕ) (p : Prefix) (export : Option (List ℕ)) (peer : ConfiguredPeer) → Holds config r s → IsLocRib (tables_of s) s.loc_rib
     → peer_at s.conf slot ≡ Some peer → Accepts s slot p export → IsGood (kind_between peer.asn config.asn) export
 is_good config r s slot p export peer holds chosen configured accepts a some =
     let own : s.conf.own ≡ config.asn = ap (λ (c : Configuration). c.own) holds.conf ∙ own_is config r in
     subst (λ asn. AreAccepted (kind_between peer.asn asn) a) own
-    (accepts a some peer configured (record { own = rw own holds.peers.0; local = (holds.peers.1 slot peer configured).local }) (best_complete s p holds.networks chosen))
+    (accepts a some peer configured (is_sender config r s slot peer holds configured) (best_complete s p holds.networks chosen))
 
 -- a slot that is served holds the run's export
 served_slot : (config : Config) (r : Run) (s : SpeakerState) (slot : ℕ) (peer : ConfiguredPeer) (found : Option Linked) (links : ℕ → Option Linked) → links slot ≡ found
@@ -168,34 +176,53 @@ pub news_to : (h : List happens.Event) (l : Linked) (q : Prefix) (e f : Option (
 news_to h l q e f link same (inl other) = inl (λ is. other (sym (link.held q) ∙ is ∙ same))
 news_to h l q e f link same (inr is) = inr (link.asked q ∙ is)
 
--- an UPDATE that says of a prefix what the export has and what is new to the peer is owed
-is_owed : (config : Config) (r : Run) (s : SpeakerState) (slot : ℕ) (p : Prefix) (export : Option (List ℕ)) (peer : ConfiguredPeer) (l : Linked) → Holds config r s
-    → IsLocRib (tables_after config r) s.loc_rib → peer_at s.conf slot ≡ Some peer → SlotIs config peer l (route_at s.adj_in slot) (history config slot r) → rank_of p < 2 ^ 38
-    → export_to s slot p ≡ export → ((a : List ℕ) → export ≡ Some a → length a ≤ 4068) → Accepts s slot p export → IsNewTo l p export
-    → ((q : Prefix) → IsNewTo l q (export_to s slot q) → ComesFirst p export q (export_to s slot q)) → AreServedBelow s slot → IsOwedIn config r slot (update_saying p export)
-is_owed config r s slot p export peer l holds loc_rib configured here place exported short accepts news order below =
+-- what holds of the same prefixes is packed the same way
+pub pack_as : (A B : Prefix → Type 0) (most : ℕ) (named : List Prefix) → ((q : Prefix) → A q → B q) → ((q : Prefix) → B q → A q) → IsPack A most named → IsPack B most named
+pack_as A B most named on back pack = record {
+  some = pack.some;
+  each = λ q among. on q (pack.each q among);
+  rising = pack.rising;
+  fits = pack.fits;
+  behind = λ q there other. pack.behind q (back q there) other;
+  full = λ q there other least. pack.full q (back q there) other (λ p here beside. least p (on p here) beside);
+}
+
+-- of what is told alike the lower prefix comes first
+alike_first : (p q : Prefix) (export : Option (List ℕ)) → ComesFirst p export q export → rank_of p ≤ rank_of q
+alike_first p q None first = first
+alike_first p q (Some octets) first = first
+
+-- an UPDATE that says of prefixes what the export has and what is new to the peer is owed
+is_owed : (config : Config) (r : Run) (s : SpeakerState) (slot : ℕ) (named : List Prefix) (least : Prefix) (export : Option (List ℕ)) (peer : ConfiguredPeer) (l : Linked) → Holds config r s
+    → IsLocRib (tables_after config r) s.loc_rib → peer_at s.conf slot ≡ Some peer → SlotIs config peer l (route_at s.adj_in slot) (history config slot r) → CanBeSaid named export
+    → is_among least named ≡ true → IsPack (IsFrom least (IsDue (export_to s slot) export l)) (room_beside export) named → Accepts s slot least export
+    → ((q : Prefix) → IsNewTo l q (export_to s slot q) → ComesFirst least export q (export_to s slot q)) → AreServedBelow s slot → IsOwedIn config r slot (update_saying named export)
+is_owed config r s slot named least export peer l holds loc_rib configured here can among pack accepts order below =
     let tables : tables_after config r ≡ tables_of s = tables_same config r s.conf s.payloads (link_at s.links) s.adj_in (sym holds.conf) holds.payloads holds.slots holds.networks in
     let chosen : IsLocRib (tables_of s) s.loc_rib = subst (λ t. IsLocRib t s.loc_rib) tables loc_rib in
-    let E : Option (List ℕ) → Type 0 = λ e. IsExport (tables_after config r) (export_peer_of (configuration_of config r) slot peer) p e in
-    let P : Prefix → Type 0 = λ q. IsNews config r slot peer q (told_in (update_saying p export) q) in
-    let this : P p = record {
-      is_export = subst E (sym (saying_says p export place short)) (subst E exported (export_of_run config r s slot peer p tables (sym holds.conf) chosen configured));
-      news = news_by (history config slot r) l p export (told_in (update_saying p export) p) here.link (sym (saying_says p export place short)) news;
+    let kept : (q : Prefix) → IsExport (tables_after config r) (export_peer_of (configuration_of config r) slot peer) q (export_to s slot q) =
+    λ q. export_of_run config r s slot peer q tables (sym holds.conf) chosen configured in
+    let first : (q : Prefix) (e : Option (List ℕ)) → IsNews config r slot peer q e → (e ≡ export_to s slot q) × ComesFirst least export q e = λ q e other.
+    let same : e ≡ export_to s slot q = same_export (tables_after config r) (export_peer_of (configuration_of config r) slot peer) q e (export_to s slot q) other.is_export (kept q) in
+    (same, subst (λ x. ComesFirst least export q x) (sym same) (order q (news_to (history config slot r) l q (export_to s slot q) e here.link (sym same) other.news))) in
+    let on : (q : Prefix) → IsFrom least (IsDue (export_to s slot) export l) q → IsNews config r slot peer q export = λ q due. record {
+      is_export = subst (λ e. IsExport (tables_after config r) (export_peer_of (configuration_of config r) slot peer) q e) due.1.0 (kept q);
+      news = news_by (history config slot r) l q export export here.link refl due.1.1;
     } in
+    let back : (q : Prefix) → IsNews config r slot peer q export → IsFrom least (IsDue (export_to s slot) export l) q = λ q news.
+    let is = first q export news in (alike_first least q export is.1, (sym is.0, news_to (history config slot r) l q export export here.link refl news.news)) in
     record {
       peer = peer;
       configured = ap (λ c. peer_at c slot) (sym holds.conf) ∙ configured;
-      is_update = saying_is_update p export short;
-      faultless =
-          saying_faultless p export (kind_between peer.asn config.asn) short place
-          (is_good config r s slot p export peer holds chosen configured accepts);
-      alone = (p, (export, refl));
-      some = (p, saying_names p export place short);
-      each = λ q names. subst P (named_is p export q place short names) this;
-      first = λ q e other.
-          let same : e ≡ export_to s slot q = same_export (tables_after config r) (export_peer_of (configuration_of config r) slot peer) q e (export_to s slot q) other.is_export
-          (export_of_run config r s slot peer q tables (sym holds.conf) chosen configured) in
-          subst (λ x. ComesFirst p export q x) (sym same) (order q (news_to (history config slot r) l q (export_to s slot q) e here.link (sym same) other.news));
+      is_update = saying_is_update named export can;
+      faultless = saying_faultless named export (kind_between peer.asn config.asn) can (is_good config r s slot least export peer holds chosen configured accepts);
+      says = (named, (export, refl));
+      some = (least, saying_names named export least can among);
+      each = λ q names.
+          let there = named_is named export q can names in
+          subst (λ e. IsNews config r slot peer q e) (sym (saying_says named export q can there)) (on q (pack.each q there));
+      packed = pack_as (IsFrom least (IsDue (export_to s slot) export l)) (λ q. IsNews config r slot peer q export) (room_beside export) named on back pack;
+      first = (least, among, λ q e other. (first q e other).1);
       lowest = settled_below config r s slot holds loc_rib below;
     }
 
@@ -208,31 +235,35 @@ told_few config call r queue slot u now new rest few =
     omega (arith, same, same_before, few)
 
 -- a peer is told what it is owed
-pub queues_told : (slot : ℕ) (p : Prefix) (export : Option (List ℕ)) (now new : SpeakerState) → (told : IsToldAt slot p export now new) → told.before.peer.session.state ≡ Established
-    → HasRoom told.before → export_to now slot p ≡ export → Accepts now slot p export → IsNewTo told.before p export
-    → ((q : Prefix) → IsNewTo told.before q (export_to now slot q) → ComesFirst p export q (export_to now slot q)) → AreServedBelow now slot → QueuesOn now new
-queues_told slot p export now new told up room exported accepts news order below config call r queue passes =
-    let was : Run = turn call queue ∷ r in
-    let is : Run = turn call ((slot, Tells (update_saying p export)) ∷ queue) ∷ r in
+pub queues_told : (slot : ℕ) (named : List Prefix) (least : Prefix) (export : Option (List ℕ)) (now new : SpeakerState) → (told : IsToldAt slot named export now new) → told.before.peer.session.state ≡ Established
+    → HasRoom told.before → is_among least named ≡ true
+    → ((peer : ConfiguredPeer) → peer_at now.conf slot ≡ Some peer → IsSender (export_peer_of now.conf slot peer) → IsPack (IsFrom least (IsDue (export_to now slot) export told.before)) (room_beside export) named)
+    → Accepts now slot least export → ((q : Prefix) → IsNewTo told.before q (export_to now slot q) → ComesFirst least export q (export_to now slot q)) → AreServedBelow now slot → QueuesOn now new
+queues_told slot named least export now new told up room among packed accepts order below config call r queue passes =
     let peer = peer_of config (turn call queue ∷ r) slot told.before now passes.holds told.was (rw up refl) in
     let before = slot_is config (turn call queue ∷ r) slot peer.0 told.before now passes.holds peer.1 told.was in
-    let short : (a : List ℕ) → export ≡ Some a → length a ≤ 4068 = λ a some. export_short now slot p a (exported ∙ some) in
-    let after = slot_queued config peer.0 p export told.before told.after (route_at now.adj_in slot) (history config slot (turn call queue ∷ r)) short up room told.told before in
+    let pack = packed peer.0 peer.1 (is_sender config (turn call queue ∷ r) now slot peer.0 passes.holds peer.1) in
+    let can : CanBeSaid named export = record {
+      places = told.told.places;
+      room = pack.fits;
+      short = λ a some. export_short now slot least a ((pack.each least among).1.0 ∙ some);
+    } in
+    let after = slot_queued config peer.0 named export told.before told.after (route_at now.adj_in slot) (history config slot (turn call queue ∷ r)) can up room told.told before in
     let routes : new.adj_in ≡ now.adj_in = ap (λ (s : SpeakerState). s.adj_in) told.rest in
     let book : new.book ≡ now.book = ap (λ (s : SpeakerState). s.book) told.rest in
     let loc_rib : new.loc_rib ≡ now.loc_rib = ap (λ (s : SpeakerState). s.loc_rib) told.rest in
     let T : Tables → Type 0 = λ t. IsLocRib t new.loc_rib in (
-      (slot, Tells (update_saying p export)) ∷ queue,
+      (slot, Tells (update_saying named export)) ∷ queue,
       record {
         holds =
-            holds_put config (turn call queue ∷ r) (turn call ((slot, Tells (update_saying p export)) ∷ queue) ∷ r) slot told.after now new passes.holds refl refl refl
-            (λ kept. subst (λ b. AreKept (tables_of new) (offer_at b)) (sym book) (kept_told slot p export now new (offer_at now.book) told kept))
+            holds_put config (turn call queue ∷ r) (turn call ((slot, Tells (update_saying named export)) ∷ queue) ∷ r) slot told.after now new passes.holds refl refl refl
+            (λ kept. subst (λ b. AreKept (tables_of new) (offer_at b)) (sym book) (kept_told slot named export now new (offer_at now.book) told kept))
             (record { config = ap (λ (s : SpeakerState). s.config) told.rest; moment = ap (λ (s : SpeakerState). s.moment) told.rest; conf = ap (λ (s : SpeakerState). s.conf) told.rest; cache = ap (λ (s : SpeakerState). s.cache) told.rest; payloads = ap (λ (s : SpeakerState). s.payloads) told.rest; chosen_before = ap (λ (s : SpeakerState). s.chosen_before) told.rest })
-            told.puts (λ t other q. ap (λ table. route_at table t q) routes) (λ t other. off_slot config t slot call (Tells (update_saying p export)) queue r other)
-            (told_few config call r queue slot (update_saying p export) now new told.rest passes.holds.chosen)
-            peer.0 peer.1 (rw (routes, at_slot config slot call (Tells (update_saying p export)) queue r) after);
-        loc_rib = subst T (sym (tables_queued config call r queue slot (update_saying p export))) (rw loc_rib passes.loc_rib);
-        owed = (is_owed config (turn call queue ∷ r) now slot p export peer.0 told.before passes.holds passes.loc_rib peer.1 before told.told.place exported short accepts news order below, passes.owed);
+            told.puts (λ t other q. ap (λ table. route_at table t q) routes) (λ t other. off_slot config t slot call (Tells (update_saying named export)) queue r other)
+            (told_few config call r queue slot (update_saying named export) now new told.rest passes.holds.chosen)
+            peer.0 peer.1 (rw (routes, at_slot config slot call (Tells (update_saying named export)) queue r) after);
+        loc_rib = subst T (sym (tables_queued config call r queue slot (update_saying named export))) (rw loc_rib passes.loc_rib);
+        owed = (is_owed config (turn call queue ∷ r) now slot named least export peer.0 told.before passes.holds passes.loc_rib peer.1 before can among pack accepts order below, passes.owed);
       },
       refl,
     )

@@ -1,9 +1,7 @@
-use Rattle.std.proofs.Common.{◌≡◌, ◌≤◌, ◌<◌, ◌+◌, ◌^◌, ◌&&◌, ◌||◌, ℕ, Bool, true, false, not, List, [], ◌∷◌, ◌++◌, Option, Some, None, length, cond, refl, sym, ap, ◌∙◌, subst, arith, append-nil, length-append, inl, inr}
+use Rattle.std.proofs.Common.{◌≡◌, ◌≤◌, ◌<◌, ◌+◌, ◌^◌, ◌&&◌, ◌||◌, ℕ, Bool, true, false, not, List, [], ◌∷◌, ◌++◌, Option, Some, None, length, cond, get_or, refl, sym, ap, ◌∙◌, subst, arith, append-nil, inl, inr}
 use Rattle.std.specs.Prelude.{All}
 use Rattle.std.specs.List.{list_any}
-use Rattle.std.proofs.lemmas.List.Elements.{All-cons}
 use Rattle.std.proofs.lemmas.Bool.{le-leb}
-use Rattle.std.proofs.lemmas.List.{length-take}
 use Rattle.bgp_attr.specs.PathAttributes.{PathAttributes}
 use Rattle.bgp_attr.specs.declared.peer.PeerKind.{PeerKind}
 use Rattle.bgp_conf.specs.declared.conf.ConfiguredPeer.{ConfiguredPeer}
@@ -23,37 +21,36 @@ use Rattle.bgp_peer.specs.SentMessages.{sent}
 use Rattle.bgp_peer.specs.SessionInputs.{Event, Queued, session}
 use Rattle.bgp_peer.proofs.Agreeing.{agrees-queue}
 use Rattle.export_rules.specs.Export.{AreAccepted}
-use Rattle.net_prefix.specs.PrefixSpelling.{spelling_of, address_octets, octets_for}
 use Rattle.net_prefix.specs.declared.prefix.Prefix.{Prefix}
-use Rattle.rib_out.proofs.Prefixes.{is_prefix-refl}
-use Rattle.rib_out.specs.Held.{is_prefix}
-use Rattle.routes.specs.Updates.{is_among}
+use Rattle.rib_out.specs.Held.{is_among}
 use Rattle.speaker.specs.Held.{told_by, told_from, told_in, held_in}
 use Rattle.speaker.specs.Refreshes.{asked, named, named_by, names_in}
 use Rattle.routes.specs.Linked.{Linked}
 use Rattle.speaker.specs.Agreement.{Names}
+use Rattle.routes.specs.Packing.{room_beside}
 use Rattle.routes.specs.Told.{update_saying, IsTold, HasRoom}
 use Rattle.routes.specs.Places.{rank_of}
 use Rattle.speaker.specs.declared.config.Config.{Config}
 use Rattle.bgp_fsm.specs.StateTests.{is_established}
 use Rattle.speaker.proofs.Histories.{route_stays}
-use Rattle.routes.proofs.Places.{same_from_is_prefix}
 use Rattle.speaker.proofs.SlotStates.{SlotIs}
 use Rattle.speaker.proofs.SentPrefixes.{told_in-append}
 use Rattle.routes.proofs.NeededMemory.{no_prefixes}
 
-pub one_prefix : (p : Prefix) → p.bits < 2 ^ 32 → (front_prefixes (wire_form (p ∷ []))).0 ≡ p ∷ []
-one_prefix p small =
-    (prefixes_in-parts (wire_form (p ∷ [])) (p ∷ [])
-    (wire_form-read (p ∷ []) (All-cons (λ prefix. prefix.bits < 2 ^ 32) p [] small (λ k d h. absurd (omega arith))))).0
+-- prefixes that one UPDATE says this of
+pub record CanBeSaid (prefixes : List Prefix) (export : Option (List ℕ)) : Type 0 where
+  pub places : All (λ p. rank_of p < 2 ^ 38) prefixes
+  pub room : length (wire_form prefixes) ≤ room_beside export
+  pub short : (a : List ℕ) → export ≡ Some a → length a ≤ 4068
 
 small_bits : (p : Prefix) → rank_of p < 2 ^ 38 → p.bits < 2 ^ 32
 small_bits p place = omega (arith, place)
 
-wire_short : (p : Prefix) → length (wire_form (p ∷ [])) ≤ 5
-wire_short p =
-    let cut = length-take (octets_for p.len) (address_octets p.bits) in
-    omega (arith, length-append (spelling_of p.bits p.len) [], cut)
+all_small : (prefixes : List Prefix) → All (λ p. rank_of p < 2 ^ 38) prefixes → All (λ p. p.bits < 2 ^ 32) prefixes
+all_small prefixes places k d h = small_bits (get_or prefixes k d) (places k d h)
+
+read_back : (prefixes : List Prefix) → All (λ p. rank_of p < 2 ^ 38) prefixes → (front_prefixes (wire_form prefixes)).0 ≡ prefixes
+read_back prefixes places = (prefixes_in-parts (wire_form prefixes) prefixes (wire_form-read prefixes (all_small prefixes places))).0
 
 -- an UPDATE of these parts, as long as it may be
 pub record Fits (w a n : List ℕ) : Type 0 where
@@ -76,26 +73,23 @@ update_tells w a n before q fits =
     ∙ ap (λ items. told_from before (WholeMessage Update (update_body w a n) ∷ items) q) messages-nil
     ∙ ap (λ parts. told_by parts q before) (update_has_parts w a n fits.all)
 
+withdrawal_fits : (prefixes : List Prefix) → CanBeSaid prefixes None → Fits (wire_form prefixes) [] []
+withdrawal_fits prefixes can = record { all = omega (arith, can.room) }
+
+announcement_fits : (prefixes : List Prefix) (a : List ℕ) → CanBeSaid prefixes (Some a) → Fits [] a (wire_form prefixes)
+announcement_fits prefixes a can = record { all = omega (arith, can.room, can.short a refl) }
+
+withdrawal_tells : (prefixes : List Prefix) (before : Option (List ℕ)) (q : Prefix) → All (λ p. rank_of p < 2 ^ 38) prefixes
+    → told_by (Some (wire_form prefixes, [], [])) q before ≡ cond (is_among q prefixes) None before
+withdrawal_tells prefixes before q places = rw (no_prefixes, read_back prefixes places) refl
+
+announcement_tells : (prefixes : List Prefix) (a : List ℕ) (before : Option (List ℕ)) (q : Prefix) → All (λ p. rank_of p < 2 ^ 38) prefixes
+    → told_by (Some ([], a, wire_form prefixes)) q before ≡ cond (is_among q prefixes) (Some a) before
+announcement_tells prefixes a before q places = rw (read_back prefixes places, no_prefixes) refl
+
 or_false : (b : Bool) → (b || false) ≡ b
 or_false true = refl
 or_false false = refl
-
-among_one : (p q : Prefix) → is_among q (p ∷ []) ≡ is_prefix p q
-among_one p q = or_false (is_prefix p q)
-
-withdrawal_fits : (p : Prefix) → Fits (wire_form (p ∷ [])) [] []
-withdrawal_fits p = record { all = omega (arith, wire_short p) }
-
-announcement_fits : (p : Prefix) (a : List ℕ) → length a ≤ 4068 → Fits [] a (wire_form (p ∷ []))
-announcement_fits p a small = record { all = omega (arith, wire_short p, small) }
-
-withdrawal_tells : (p : Prefix) (before : Option (List ℕ)) (q : Prefix) → p.bits < 2 ^ 32
-    → told_by (Some (wire_form (p ∷ []), [], [])) q before ≡ cond (is_prefix p q) None before
-withdrawal_tells p before q small = rw (no_prefixes, one_prefix p small, among_one p q) refl
-
-announcement_tells : (p : Prefix) (a : List ℕ) (before : Option (List ℕ)) (q : Prefix) → p.bits < 2 ^ 32
-    → told_by (Some ([], a, wire_form (p ∷ []))) q before ≡ cond (is_prefix p q) (Some a) before
-announcement_tells p a before q small = rw (one_prefix p small, no_prefixes, among_one p q) refl
 
 -- it names what its parts name
 update_named : (w a n : List ℕ) (q : Prefix) → Fits w a n → names_in (update_of w a n) q ≡ named_by (Some (w, a, n)) q
@@ -106,52 +100,51 @@ update_named w a n q fits =
     ∙ or_false (named (WholeMessage Update (update_body w a n)) q)
     ∙ ap (λ parts. named_by parts q) (update_has_parts w a n fits.all)
 
-withdrawal_named : (p q : Prefix) → p.bits < 2 ^ 32 → named_by (Some (wire_form (p ∷ []), [], [])) q ≡ is_prefix p q
-withdrawal_named p q small = rw (no_prefixes, one_prefix p small, among_one p q) refl
+withdrawal_named : (prefixes : List Prefix) (q : Prefix) → All (λ p. rank_of p < 2 ^ 38) prefixes → named_by (Some (wire_form prefixes, [], [])) q ≡ is_among q prefixes
+withdrawal_named prefixes q places = rw (no_prefixes, read_back prefixes places) refl
 
-announcement_named : (p : Prefix) (a : List ℕ) (q : Prefix) → p.bits < 2 ^ 32 → named_by (Some ([], a, wire_form (p ∷ []))) q ≡ is_prefix p q
-announcement_named p a q small = rw (no_prefixes, one_prefix p small, among_one p q) (or_false (is_prefix p q))
+announcement_named : (prefixes : List Prefix) (a : List ℕ) (q : Prefix) → All (λ p. rank_of p < 2 ^ 38) prefixes → named_by (Some ([], a, wire_form prefixes)) q ≡ is_among q prefixes
+announcement_named prefixes a q places = rw (read_back prefixes places, no_prefixes) (or_false (is_among q prefixes))
 
-saying_named : (p : Prefix) (export : Option (List ℕ)) (q : Prefix) → rank_of p < 2 ^ 38 → ((a : List ℕ) → export ≡ Some a → length a ≤ 4068) → names_in (update_saying p export) q ≡ is_prefix p q
-saying_named p None q place short = update_named (wire_form (p ∷ [])) [] [] q (withdrawal_fits p) ∙ withdrawal_named p q (small_bits p place)
-saying_named p (Some a) q place short = update_named [] a (wire_form (p ∷ [])) q (announcement_fits p a (short a refl)) ∙ announcement_named p a q (small_bits p place)
+saying_named : (prefixes : List Prefix) (export : Option (List ℕ)) (q : Prefix) → CanBeSaid prefixes export → names_in (update_saying prefixes export) q ≡ is_among q prefixes
+saying_named prefixes None q can = update_named (wire_form prefixes) [] [] q (withdrawal_fits prefixes can) ∙ withdrawal_named prefixes q can.places
+saying_named prefixes (Some a) q can = update_named [] a (wire_form prefixes) q (announcement_fits prefixes a can) ∙ announcement_named prefixes a q can.places
 
--- the UPDATE that says this of a prefix is one, and says this of it and nothing of any other
-pub saying_is_update : (p : Prefix) (export : Option (List ℕ)) → ((a : List ℕ) → export ≡ Some a → length a ≤ 4068) → IsUpdateMessage (update_saying p export)
-saying_is_update p None short = update_message (wire_form (p ∷ [])) [] [] (withdrawal_fits p)
-saying_is_update p (Some a) short = update_message [] a (wire_form (p ∷ [])) (announcement_fits p a (short a refl))
+-- the UPDATE that says this of prefixes is one, and says this of them and nothing of any other
+pub saying_is_update : (prefixes : List Prefix) (export : Option (List ℕ)) → CanBeSaid prefixes export → IsUpdateMessage (update_saying prefixes export)
+saying_is_update prefixes None can = update_message (wire_form prefixes) [] [] (withdrawal_fits prefixes can)
+saying_is_update prefixes (Some a) can = update_message [] a (wire_form prefixes) (announcement_fits prefixes a can)
 
-pub saying_tells : (p : Prefix) (export before : Option (List ℕ)) (q : Prefix) → rank_of p < 2 ^ 38 → ((a : List ℕ) → export ≡ Some a → length a ≤ 4068)
-    → told_from before (messages (update_saying p export)) q ≡ cond (is_prefix p q) export before
-saying_tells p None before q place short = update_tells (wire_form (p ∷ [])) [] [] before q (withdrawal_fits p) ∙ withdrawal_tells p before q (small_bits p place)
-saying_tells p (Some a) before q place short =
-    update_tells [] a (wire_form (p ∷ [])) before q (announcement_fits p a (short a refl)) ∙ announcement_tells p a before q (small_bits p place)
+pub saying_tells : (prefixes : List Prefix) (export before : Option (List ℕ)) (q : Prefix) → CanBeSaid prefixes export
+    → told_from before (messages (update_saying prefixes export)) q ≡ cond (is_among q prefixes) export before
+saying_tells prefixes None before q can = update_tells (wire_form prefixes) [] [] before q (withdrawal_fits prefixes can) ∙ withdrawal_tells prefixes before q can.places
+saying_tells prefixes (Some a) before q can = update_tells [] a (wire_form prefixes) before q (announcement_fits prefixes a can) ∙ announcement_tells prefixes a before q can.places
 
 names_by : (b : Bool) (export before : Option (List ℕ)) → b ≡ true → cond b export before ≡ cond b export None
 names_by true export before is = refl
 names_by false export before is = absurd (cc)
 
--- it names this prefix
-pub saying_names : (p : Prefix) (export : Option (List ℕ)) → rank_of p < 2 ^ 38 → ((a : List ℕ) → export ≡ Some a → length a ≤ 4068) → Names (update_saying p export) p
-saying_names p export place short before =
-    saying_tells p export before p place short ∙ names_by (is_prefix p p) export before (is_prefix-refl p) ∙ sym (saying_tells p export None p place short)
+-- it names these prefixes
+pub saying_names : (prefixes : List Prefix) (export : Option (List ℕ)) (q : Prefix) → CanBeSaid prefixes export → is_among q prefixes ≡ true → Names (update_saying prefixes export) q
+saying_names prefixes export q can among before =
+    saying_tells prefixes export before q can ∙ names_by (is_among q prefixes) export before among ∙ sym (saying_tells prefixes export None q can)
 
 none_named : (b : Bool) (export : Option (List ℕ)) → cond b export (Some []) ≡ cond b export None → b ≡ true
 none_named true export same = refl
 none_named false export same = absurd (cc)
 
 -- and no other one
-pub named_is : (p : Prefix) (export : Option (List ℕ)) (q : Prefix) → rank_of p < 2 ^ 38 → ((a : List ℕ) → export ≡ Some a → length a ≤ 4068) → Names (update_saying p export) q → p ≡ q
-named_is p export q place short names =
-    same_from_is_prefix p q (none_named (is_prefix p q) export (sym (saying_tells p export (Some []) q place short) ∙ names (Some []) ∙ saying_tells p export None q place short))
+pub named_is : (prefixes : List Prefix) (export : Option (List ℕ)) (q : Prefix) → CanBeSaid prefixes export → Names (update_saying prefixes export) q → is_among q prefixes ≡ true
+named_is prefixes export q can names =
+    none_named (is_among q prefixes) export (sym (saying_tells prefixes export (Some []) q can) ∙ names (Some []) ∙ saying_tells prefixes export None q can)
 
 told_by_it : (b : Bool) (export : Option (List ℕ)) → b ≡ true → cond b export None ≡ export
 told_by_it true export is = refl
 told_by_it false export is = absurd (cc)
 
--- it says this of it
-pub saying_says : (p : Prefix) (export : Option (List ℕ)) → rank_of p < 2 ^ 38 → ((a : List ℕ) → export ≡ Some a → length a ≤ 4068) → told_in (update_saying p export) p ≡ export
-saying_says p export place short = saying_tells p export None p place short ∙ told_by_it (is_prefix p p) export (is_prefix-refl p)
+-- it says this of them
+pub saying_says : (prefixes : List Prefix) (export : Option (List ℕ)) (q : Prefix) → CanBeSaid prefixes export → is_among q prefixes ≡ true → told_in (update_saying prefixes export) q ≡ export
+saying_says prefixes export q can among = saying_tells prefixes export None q can ∙ told_by_it (is_among q prefixes) export among
 
 -- who hears this side as such a peer finds no fault with what is exported
 abbrev pub IsGood : PeerKind → Option (List ℕ) → Type 0
@@ -160,17 +153,14 @@ IsGood kind export = (a : List ℕ) → export ≡ Some a → AreAccepted kind a
 none_named_in : All (λ (prefix : Prefix). prefix.bits < 2 ^ 32) []
 none_named_in k d h = absurd (omega (arith, h))
 
-one_named_in : (p : Prefix) → rank_of p < 2 ^ 38 → All (λ prefix. prefix.bits < 2 ^ 32) (p ∷ [])
-one_named_in p place = All-cons (λ prefix. prefix.bits < 2 ^ 32) p [] (small_bits p place) none_named_in
-
 -- nor with the UPDATE that says it
-pub saying_faultless : (p : Prefix) (export : Option (List ℕ)) (kind : PeerKind) (short : (a : List ℕ) → export ≡ Some a → length a ≤ 4068) → rank_of p < 2 ^ 38
-    → IsGood kind export → update_fault kind (saying_is_update p export short).0 ≡ None
+pub saying_faultless : (prefixes : List Prefix) (export : Option (List ℕ)) (kind : PeerKind) (can : CanBeSaid prefixes export) → IsGood kind export
+    → update_fault kind (saying_is_update prefixes export can).0 ≡ None
 unfolding saying_is_update update_message
-saying_faultless p None kind short place good =
-    (written_says kind (p ∷ []) [] [] (one_named_in p place) none_named_in (omega (arith, wire_short p)) (no_attributes kind) (inl refl)).0
-saying_faultless p (Some a) kind short place good =
-    (written_says kind [] (p ∷ []) a none_named_in (one_named_in p place) (omega (arith, wire_short p, short a refl)) (good a refl).faultless (inr (good a refl).complete)).0
+saying_faultless prefixes None kind can good =
+    (written_says kind prefixes [] [] (all_small prefixes can.places) none_named_in (omega (arith, can.room)) (no_attributes kind) (inl refl)).0
+saying_faultless prefixes (Some a) kind can good =
+    (written_says kind [] prefixes a none_named_in (all_small prefixes can.places) (omega (arith, can.room, can.short a refl)) (good a refl).faultless (inr (good a refl).complete)).0
 
 -- what it names isn't asked for any more
 answered : (b asked : Bool) → cond b false asked ≡ (asked && not b)
@@ -180,28 +170,27 @@ answered false true = refl
 answered false false = refl
 
 -- the slot after an UPDATE
-pub slot_queued : (config : Config) (peer : ConfiguredPeer) (p : Prefix) (export : Option (List ℕ)) (l new : Linked) (routes : Prefix → Option PathAttributes) (h : List Event)
-    → ((a : List ℕ) → export ≡ Some a → length a ≤ 4068) → l.peer.session.state ≡ Established → HasRoom l → IsTold p export l new → SlotIs config peer l routes h
-    → SlotIs config peer new routes (Queued (update_saying p export) ∷ h)
-slot_queued config peer p export l new routes h short up room told s =
-    let u = update_saying p export in
+pub slot_queued : (config : Config) (peer : ConfiguredPeer) (prefixes : List Prefix) (export : Option (List ℕ)) (l new : Linked) (routes : Prefix → Option PathAttributes) (h : List Event)
+    → CanBeSaid prefixes export → l.peer.session.state ≡ Established → HasRoom l → IsTold prefixes export l new → SlotIs config peer l routes h
+    → SlotIs config peer new routes (Queued (update_saying prefixes export) ∷ h)
+slot_queued config peer prefixes export l new routes h can up room told s =
     let established : (session h).state ≡ Established = ap (λ (x : Session). x.state) (sym s.link.peer.session) ∙ up in
     record {
       terms = s.terms;
       link = record {
-        peer = rw told.peer (agrees-queue h l.peer (update_saying p export) up (saying_is_update p export short) room s.link.peer);
+        peer = rw told.peer (agrees-queue h l.peer (update_saying prefixes export) up (saying_is_update prefixes export can) room s.link.peer);
         held = λ q.
             told.held q
-            ∙ ap (λ before. cond (is_prefix p q) export before) (s.link.held q ∙ ap (λ state. held_in state (sent h) q) established)
-            ∙ sym (saying_tells p export (told_in (sent h) q) q told.place short)
-            ∙ sym (told_in-append (sent h) (update_saying p export) q s.link.peer.whole)
-            ∙ ap (λ state. held_in state (sent h ++ update_saying p export) q) (sym established);
+            ∙ ap (λ before. cond (is_among q prefixes) export before) (s.link.held q ∙ ap (λ state. held_in state (sent h) q) established)
+            ∙ sym (saying_tells prefixes export (told_in (sent h) q) q can)
+            ∙ sym (told_in-append (sent h) (update_saying prefixes export) q s.link.peer.whole)
+            ∙ ap (λ state. held_in state (sent h ++ update_saying prefixes export) q) (sym established);
         asked = λ q.
             told.asked q
-            ∙ ap (λ before. cond (is_prefix p q) false before) (s.link.asked q)
-            ∙ answered (is_prefix p q) (asked h q)
-            ∙ ap (λ b. asked h q && not b) (sym (saying_named p export q told.place short))
-            ∙ ap (λ b. b && (asked h q && not (names_in (update_saying p export) q))) (sym (ap is_established established));
+            ∙ ap (λ before. cond (is_among q prefixes) false before) (s.link.asked q)
+            ∙ answered (is_among q prefixes) (asked h q)
+            ∙ ap (λ b. asked h q && not b) (sym (saying_named prefixes export q can))
+            ∙ ap (λ b. b && (asked h q && not (names_in (update_saying prefixes export) q))) (sym (ap is_established established));
         silent = λ k new p. let back = ap is_established established in absurd (cc);
       };
       routes_are = λ p. s.routes_are p ∙ sym (route_stays h p);

@@ -101,10 +101,10 @@ announces config moment cache counted before network old new conf comes begun = 
 }
 
 -- a peer is told
-pub told_at : {T F : Type 0} (result : Result T F) (config : Config) (moment : ℕ) (cache : Option CacheSession) (counted : ℕ) (slot : ℕ) (prefix : Prefix) (export : Option (List ℕ)) (old new : RoutesState) → OnOk result (TellsSlot slot prefix export old new)
-    → OnOk result (IsToldAt slot prefix export (seen config moment cache counted old) (seen config moment cache counted new))
-told_at (Ok done) config moment cache counted slot prefix export old new did = record { before = did.before; after = did.after; was = did.was; told = did.told; puts = did.puts; rest = ap (seen config moment cache counted) did.rest }
-told_at (Err why) config moment cache counted slot prefix export old new did = tt
+pub told_at : {T F : Type 0} (result : Result T F) (config : Config) (moment : ℕ) (cache : Option CacheSession) (counted : ℕ) (slot : ℕ) (named : List Prefix) (export : Option (List ℕ)) (old new : RoutesState) → OnOk result (TellsSlot slot named export old new)
+    → OnOk result (IsToldAt slot named export (seen config moment cache counted old) (seen config moment cache counted new))
+told_at (Ok done) config moment cache counted slot named export old new did = record { before = did.before; after = did.after; was = did.was; told = did.told; puts = did.puts; rest = ap (seen config moment cache counted) did.rest }
+told_at (Err why) config moment cache counted slot named export old new did = tt
 
 pub still_at : {T F : Type 0} (result : Result T F) (config : Config) (moment : ℕ) (cache : Option CacheSession) (counted : ℕ) (old new : RoutesState) → OnErr result ((t : ℕ) → link_at new.links t ≡ link_at old.links t) → new ≡ record old { links = new.links }
     → OnErr result (IsStill (seen config moment cache counted old) (seen config moment cache counted new))

@@ -1,28 +1,29 @@
-use Rattle.std.proofs.Common.{◌≡◌, ◌≢◌, ◌⊎◌, ◌≤◌, ◌<◌, ◌+◌, ◌^◌, ◌==◌, ℕ, Bool, true, false, List, Option, Some, None, Result, Ok, Err, OnOk, cond, refl, sym, ap, ◌∙◌, subst, inl, inr, arith, length-append}
+use Rattle.std.proofs.Common.{◌≡◌, ◌≢◌, ◌≤◌, ◌<◌, ◌+◌, ◌-◌, ◌^◌, ◌==◌, ℕ, Bool, true, false, List, Option, Some, None, length, Result, Ok, Err, OnOk, cond, refl, sym, ap, ◌∙◌, subst, inl, inr, arith, length-append}
 use Rattle.std.specs.Option.{IsSome, option_and_then, option_map}
 use Rattle.std.proofs.lemmas.Bool.{cases_eq, cases_lt, eq-eqb, ne_eqb}
 use Rattle.bgp_conf.specs.Configuration.{peer_at}
 use Rattle.bgp_conf.specs.declared.conf.ConfiguredPeer.{ConfiguredPeer}
 use Rattle.bgp_fsm.specs.declared.state.State.TheVariants.{Established}
+use Rattle.export_rules.specs.Export.{IsSender}
 use Rattle.export_rules.specs.declared.export.ExportPeer.{ExportPeer}
 use Rattle.net_prefix.specs.declared.prefix.Prefix.{Prefix}
-use Rattle.rib_out.specs.Held.{HeldRoute, asked_at, held_at, is_prefix}
+use Rattle.rib_out.specs.Held.{HeldRoute, asked_at, held_at, is_among}
 use Rattle.rib_out.proofs.HeldTables.{held_if_asked}
-use Rattle.rib_out.proofs.Prefixes.{is_prefix-refl}
 use Rattle.speaker.specs.Agreement.{QueuesOn}
 use Rattle.routes.specs.Export.{IsAccepted, export_in, export_peer_of}
 use Rattle.speaker.specs.Export.{export_to}
 use Rattle.routes.specs.Linked.{Linked}
-use Rattle.speaker.specs.Serving.{AreServedBelow, IsServedBy, IsServedAt, IsShortAt, IsUpAt, HasRoomAt, IsOfSlot, IsStill, IsToldAt, Serves, Stand, IsDoneAt, IsDoneOf, IsGone, IsHad, IsNewTo, is_standing}
+use Rattle.speaker.specs.Serving.{AreServedBelow, IsServedBy, IsServedAt, IsShortAt, IsUpAt, HasRoomAt, IsOfSlot, IsStill, IsToldAt, Serves, Stand, IsDoneAt, IsDoneOf, IsGone, IsHad, is_standing}
 use Rattle.routes.specs.Owing.{IsNext, announced_of, withdrawn_of}
 use Rattle.speaker.specs.Queueing.{ComesFirst}
+use Rattle.routes.specs.Packing.{IsDue, IsFrom, IsNewTo, IsPack, most_named, room_beside}
 use Rattle.routes.specs.Places.{rank_of}
 use Rattle.routes.specs.Told.{update_saying, HasRoom}
 use Rattle.speaker.specs.SpeakerState.{SpeakerState}
 use Rattle.routes.specs.Tables.{best_at, link_at}
-use Rattle.speaker.proofs.Owing.{announced_news, gone_idle, had_idle, withdrawn_parts}
+use Rattle.speaker.proofs.Owing.{announced_news, gone_idle, had_idle}
 use Rattle.speaker.proofs.Passing.{Accepts, QueuesOn-more, QueuesOn-none, queues_told, queues_still}
-use Rattle.routes.proofs.Places.{reached, above_from_rank, same_from_is_prefix, same_from_rank, IsPlace, none_between}
+use Rattle.routes.proofs.Places.{reached, above_from_rank, same_from_rank, IsPlace, none_between}
 
 -- the slots with one that has gone on
 slot_only : (slot : ℕ) (old new : SpeakerState) (l : Linked) → ((s : ℕ) → link_at new.links s ≡ cond (s == slot) (Some l) (link_at old.links s)) → (s : ℕ) → s ≢ slot → link_at new.links s ≡ link_at old.links s
@@ -128,15 +129,14 @@ Walks-kept done there slot first now after p h idle next place here = record {
   place = place;
 }
 
-gone_told : (p q : Prefix) (b : Bool) (export : Option (List ℕ)) (exports : Prefix → Option (List ℕ)) (held : Option (List ℕ)) → is_prefix p q ≡ b → exports p ≡ export
-    → exports q ≡ None → held ≡ None → cond b export held ≡ None
-gone_told p q true export exports held is here none was = let same = same_from_is_prefix p q is in sym here ∙ ap exports same ∙ none
-gone_told p q false export exports held is here none was = was
+gone_told : (b : Bool) (export is held : Option (List ℕ)) → (b ≡ true → is ≡ export) → is ≡ None → held ≡ None → cond b export held ≡ None
+gone_told true export is held here none was = sym (here refl) ∙ none
+gone_told false export is held here none was = was
 
-done_told : (done : Prefix → Option (List ℕ) → Bool → Type 0) (p q : Prefix) (b : Bool) (export held : Option (List ℕ)) (asked : Bool) → is_prefix p q ≡ b → done p export false
-    → (is_prefix p q ≡ false → done q held asked) → done q (cond b export held) (cond b false asked)
-done_told done p q true export held asked is here other = subst (λ x. done x export false) (same_from_is_prefix p q is) here
-done_told done p q false export held asked is here other = other is
+done_told : (done : Prefix → Option (List ℕ) → Bool → Type 0) (q : Prefix) (b : Bool) (export held : Option (List ℕ)) (asked : Bool) → (b ≡ true → done q export false)
+    → (b ≡ false → done q held asked) → done q (cond b export held) (cond b false asked)
+done_told done q true export held asked here other = here refl
+done_told done q false export held asked here other = other refl
 
 -- what isn't held isn't asked for again
 unasked : (table : List (Prefix × HeldRoute)) (q : Prefix) → held_at table q ≡ None → asked_at table q ≡ false
@@ -168,17 +168,18 @@ first_had (Some others) octets p q l news gone below =
       | inr high ↦ high
     ]
 
--- the peer is told what it is owed of the next prefix
-pub Walks-told : {X : Type 0} (done : Prefix → Option (List ℕ) → Bool → Type 0) (there : Prefix → Option X) (slot : ℕ) (first now new : SpeakerState) (after : Option Prefix) (p : Prefix) (export : Option (List ℕ))
+-- the peer is told what it is owed of prefixes, of which the next one is the least
+pub Walks-told : {X : Type 0} (done : Prefix → Option (List ℕ) → Bool → Type 0) (there : Prefix → Option X) (slot : ℕ) (first now new : SpeakerState) (after : Option Prefix) (p : Prefix) (named : List Prefix) (export : Option (List ℕ))
     → (h : Walks done slot first after now) → ((q : Prefix) → there q ≡ None → IsDoneOf done h.serves.after q) → IsNext there after (Some p)
-    → rank_of p < 2 ^ 38 → HasRoomAt now slot → export_to first slot p ≡ export → IsNewTo h.serves.after p export → done p export false → Accepts now slot p export → IsToldAt slot p export now new
+    → rank_of p < 2 ^ 38 → HasRoomAt now slot → is_among p named ≡ true → ((q : Prefix) → is_among q named ≡ true → export_to now slot q ≡ export) → ((q : Prefix) → is_among q named ≡ true → done q export false)
+    → Accepts now slot p export → IsToldAt slot named export now new
+    → ((l : Linked) → link_at now.links slot ≡ Some l → (peer : ConfiguredPeer) → peer_at now.conf slot ≡ Some peer → IsSender (export_peer_of now.conf slot peer) → IsPack (IsFrom p (IsDue (export_to now slot) export l)) (room_beside export) named)
     → ((q : Prefix) → IsNewTo h.serves.after q (export_to now slot q) → ComesFirst p export q (export_to now slot q)) → AreServedBelow first slot
     → Walks done slot first (Some p) new
 unfolding Serves-more
-Walks-told done there slot first now new after p export h idle next place room exported news here accepts told order below =
+Walks-told done there slot first now new after p named export h idle next place room among exported here accepts told packed order below =
     let same : told.before ≡ h.serves.after = the_slot slot now told.before h.serves.after told.was h.serves.is in
     let is : link_at new.links slot ≡ Some told.after = told.puts slot ∙ rw (eq-eqb slot slot refl) refl in
-    let exports : export_to now slot p ≡ export = ap (λ e. e slot p) (export_kept first now h.serves.only.rest) ∙ exported in
     let step : Serves slot now new = record {
       before = told.before;
       after = told.after;
@@ -186,19 +187,19 @@ Walks-told done there slot first now new after p export h idle next place room e
       is = is;
       stood = rw same h.serves.up;
       up = rw told.told.peer (rw same h.serves.up);
-      grows = rw told.told.peer (omega (arith, length-append told.before.peer.ring (update_saying p export)));
-      gone = λ q none held. told.told.held q ∙ gone_told p q _ export (export_to now slot) (held_at told.before.adj_out q) refl exports none held;
+      grows = rw told.told.peer (omega (arith, length-append told.before.peer.ring (update_saying named export)));
+      gone = λ q none held. told.told.held q ∙ gone_told (is_among q named) export (export_to now slot q) (held_at told.before.adj_out q) (exported q) none held;
       only = record { rest = told.rest; others = slot_only slot now new told.after told.puts };
-      queues = queues_told slot p export now new told (rw same h.serves.up) (room told.before told.was) exports accepts (rw same news) (λ q. rw same (order q)) (below_still slot first now h.serves.only below);
+      queues = queues_told slot named p export now new told (rw same h.serves.up) (room told.before told.was) among (packed told.before told.was) accepts (λ q. rw same (order q)) (below_still slot first now h.serves.only below);
     } in
     record {
       serves = Serves-more slot first now new h.serves step;
-      below = λ q under. rw (told.told.held q, told.told.asked q) (done_told done p q _ export (held_at told.before.adj_out q) (asked_at told.before.adj_out q) refl here (λ other.
+      below = λ q under. rw (told.told.held q, told.told.asked q) (done_told done q (is_among q named) export (held_at told.before.adj_out q) (asked_at told.before.adj_out q) (here q) (λ other.
           elim (cases_lt (rank_of q) (rank_of p)) [
             | inl before ↦ rw same (done_before (IsDoneOf done h.serves.after) there after p idle h.below next q before)
             | inr behind ↦
                 let is_it : q ≡ p = same_from_rank q p (omega (arith, under, behind)) in
-                let there_it : is_prefix p q ≡ true = rw is_it (is_prefix-refl p) in absurd (cc)
+                let there_it : is_among q named ≡ true = rw is_it among in absurd (cc)
           ]));
       place = place;
     }
@@ -247,27 +248,34 @@ pub gone_by : (slot : ℕ) (first now : SpeakerState) (l : Linked) → export_to
 gone_by slot first now l exports q idle = subst (λ e. IsDoneOf (IsGone e) l q) exports (gone_idle (export_to now slot) q (held_at l.adj_out q) (asked_at l.adj_out q) idle)
 
 -- what is held and isn't exported is withdrawn
-pub Walks-withdrawn : (slot : ℕ) (first now new : SpeakerState) (after : Option Prefix) (p : Prefix) → (h : Walks (IsGone (export_to first slot)) slot first after now)
-    → IsNext (λ q. withdrawn_of (export_to now slot q) (held_at h.serves.after.adj_out q)) after (Some p) → rank_of p < 2 ^ 38 → HasRoomAt now slot → IsToldAt slot p None now new → AreServedBelow first slot
+pub Walks-withdrawn : (slot : ℕ) (first now new : SpeakerState) (after : Option Prefix) (p : Prefix) (named : List Prefix) → (h : Walks (IsGone (export_to first slot)) slot first after now)
+    → IsNext (λ q. withdrawn_of (export_to now slot q) (held_at h.serves.after.adj_out q)) after (Some p) → rank_of p < 2 ^ 38 → HasRoomAt now slot → IsToldAt slot named None now new → is_among p named ≡ true
+    → ((l : Linked) → link_at now.links slot ≡ Some l → IsPack (IsFrom p (IsDue (export_to now slot) None l)) most_named named) → AreServedBelow first slot
     → Walks (IsGone (export_to first slot)) slot first (Some p) new
-Walks-withdrawn slot first now new after p h next place room told below =
+Walks-withdrawn slot first now new after p named h next place room told among packed below =
     let exports : export_to now slot ≡ export_to first slot = ap (λ e. e slot) (export_kept first now h.serves.only.rest) in
-    let parts = withdrawn_parts (export_to now slot p) (held_at h.serves.after.adj_out p) next.0 in
-    Walks-told (IsGone (export_to first slot)) (λ q. withdrawn_of (export_to now slot q) (held_at h.serves.after.adj_out q)) slot first now new after p None h
-    (gone_by slot first now h.serves.after exports) next place room
-    (sym (ap (λ e. e p) exports) ∙ parts.0) (inl (λ gone. let some = subst (λ o. IsSome o) gone parts.1 in (cc))) (λ missing. refl) (λ a some. absurd (cc)) told
+    Walks-told (IsGone (export_to first slot)) (λ q. withdrawn_of (export_to now slot q) (held_at h.serves.after.adj_out q)) slot first now new after p named None h
+    (gone_by slot first now h.serves.after exports) next place room among (λ q there. ((packed told.before told.was).each q there).1.0) (λ q there missing. refl) (λ a some. absurd (cc)) told
+    (λ l linked peer configured sender. packed l linked)
     (λ q other. first_gone (export_to now slot q) p q h.serves.after other (λ low none.
     done_before (IsDoneOf (IsGone (export_to first slot)) h.serves.after) (λ x. withdrawn_of (export_to now slot x) (held_at h.serves.after.adj_out x)) after p
     (gone_by slot first now h.serves.after exports) h.below next q low (sym (ap (λ e. e q) exports) ∙ none))) below
+
+-- the slot's peer is the configured one, while only slots differ
+pub peer_now : (slot : ℕ) (first now : SpeakerState) (peer : ExportPeer) → now ≡ record first { links = now.links } → Some peer ≡ option_map (export_peer_of first.conf slot) (peer_at first.conf slot)
+    → Some peer ≡ option_map (export_peer_of now.conf slot) (peer_at now.conf slot)
+peer_now slot first now peer rest is = let conf : now.conf ≡ first.conf = ap (λ (s : SpeakerState). s.conf) rest in rw conf is
+
+peer_given : (slot : ℕ) (first now : SpeakerState) (peer : ExportPeer) (q : ConfiguredPeer) → now ≡ record first { links = now.links }
+    → Some peer ≡ option_map (export_peer_of first.conf slot) (peer_at first.conf slot) → peer_at now.conf slot ≡ Some q → peer ≡ export_peer_of now.conf slot q
+peer_given slot first now peer q rest is configured =
+    let found : Some peer ≡ Some (export_peer_of now.conf slot q) = peer_now slot first now peer rest is ∙ ap (option_map (export_peer_of now.conf slot)) configured in cc
 
 -- what is exported is good to the slot's peer
 accepts_given : (slot : ℕ) (first now : SpeakerState) (p : Prefix) (peer : ExportPeer) (octets : List ℕ) → now ≡ record first { links = now.links }
     → Some peer ≡ option_map (export_peer_of first.conf slot) (peer_at first.conf slot) → IsAccepted now.loc_rib now.adj_in peer p octets → Accepts now slot p (Some octets)
 accepts_given slot first now p peer octets rest is accepted a some q configured =
-    let conf : now.conf ≡ first.conf = ap (λ (s : SpeakerState). s.conf) rest in
-    let at : Some peer ≡ option_map (export_peer_of now.conf slot) (peer_at now.conf slot) = rw conf is in
-    let found : Some peer ≡ Some (export_peer_of now.conf slot q) = at ∙ ap (option_map (export_peer_of now.conf slot)) configured in
-    let same : peer ≡ export_peer_of now.conf slot q = cc in
+    let same : peer ≡ export_peer_of now.conf slot q = peer_given slot first now peer q rest is configured in
     let here : octets ≡ a = cc in
     subst (λ x. IsAccepted now.loc_rib now.adj_in x p a) same (subst (λ x. IsAccepted now.loc_rib now.adj_in peer p x) here accepted)
 
@@ -276,22 +284,33 @@ pub had_by : (slot : ℕ) (first now : SpeakerState) (l : Linked) → export_to 
 had_by slot first now l exports q idle = subst (λ e. IsDoneOf (IsHad e) l q) exports (had_idle (export_to now slot) q (held_at l.adj_out q) (asked_at l.adj_out q) idle)
 
 -- what is exported and isn't held just so is announced
-pub Walks-announced : (slot : ℕ) (first now new : SpeakerState) (after : Option Prefix) (p : Prefix) (peer : ExportPeer) (octets : List ℕ) → (h : Walks (IsHad (export_to first slot)) slot first after now)
+pub Walks-announced : (slot : ℕ) (first now new : SpeakerState) (after : Option Prefix) (p : Prefix) (named : List Prefix) (peer : ExportPeer) (octets : List ℕ) → (h : Walks (IsHad (export_to first slot)) slot first after now)
     → Some peer ≡ option_map (export_peer_of first.conf slot) (peer_at first.conf slot) → IsNext (λ q. announced_of (export_to now slot q) (held_at h.serves.after.adj_out q) (asked_at h.serves.after.adj_out q)) after (Some p) → rank_of p < 2 ^ 38 → HasRoomAt now slot
-    → export_in now.conf (best_at now.loc_rib) now.adj_in peer p ≡ Some octets → IsAccepted now.loc_rib now.adj_in peer p octets → IsToldAt slot p (Some octets) now new
+    → IsAccepted now.loc_rib now.adj_in peer p octets → IsToldAt slot named (Some octets) now new → is_among p named ≡ true
+    → ((q : Prefix) → is_among q named ≡ true → export_to now slot q ≡ Some octets)
+    → (IsSender peer → (l : Linked) → link_at now.links slot ≡ Some l → IsPack (IsFrom p (IsDue (export_to now slot) (Some octets) l)) (most_named - length octets) named)
     → IsDoneAt (IsGone (export_to first slot)) first slot → AreServedBelow first slot → Walks (IsHad (export_to first slot)) slot first (Some p) new
-Walks-announced slot first now new after p peer octets h is next place room some accepted told gone below =
+Walks-announced slot first now new after p named peer octets h is next place room accepted told among exported packed gone below =
     let later = room h.serves.after h.serves.is in
     let earlier : HasRoom h.serves.before = omega (arith, h.serves.grows, later) in
-    let exported = export_now first now slot peer h.serves.only.rest is p ∙ some in
     let exports : export_to now slot ≡ export_to first slot = ap (λ e. e slot) (export_kept first now h.serves.only.rest) in
-    Walks-told (IsHad (export_to first slot)) (λ q. announced_of (export_to now slot q) (held_at h.serves.after.adj_out q) (asked_at h.serves.after.adj_out q)) slot first now new after p (Some octets) h (had_by slot first now h.serves.after exports) next place room
-    exported (announced_news (export_to now slot p) (held_at h.serves.after.adj_out p) (asked_at h.serves.after.adj_out p) octets (ap (λ e. e p) exports ∙ exported) next.0) (λ others same. (sym exported ∙ same, refl))
+    Walks-told (IsHad (export_to first slot)) (λ q. announced_of (export_to now slot q) (held_at h.serves.after.adj_out q) (asked_at h.serves.after.adj_out q)) slot first now new after p named (Some octets) h (had_by slot first now h.serves.after exports) next place room
+    among exported (λ q there others some. (sym (exported q there) ∙ ap (λ e. e q) exports ∙ some, refl))
     (accepts_given slot first now p peer octets h.serves.only.rest is accepted) told
+    (λ l linked q configured sender. packed (subst IsSender (sym (peer_given slot first now peer q h.serves.only.rest is configured)) sender) l linked)
     (λ q other. first_had (export_to now slot q) octets p q h.serves.after other
     (λ none. let never = sym (ap (λ e. e q) exports) ∙ none in h.serves.gone q never (gone h.serves.before h.serves.was earlier q never))
     (λ low o have. done_before (IsDoneOf (IsHad (export_to first slot)) h.serves.after) (λ x. announced_of (export_to now slot x) (held_at h.serves.after.adj_out x) (asked_at h.serves.after.adj_out x)) after p
     (had_by slot first now h.serves.after exports) h.below next q low o (sym (ap (λ e. e q) exports) ∙ have))) below
+
+-- what is announced is new to the slot's peer
+pub announced_is_new : (slot : ℕ) (first now : SpeakerState) (after : Option Prefix) (p : Prefix) (peer : ExportPeer) (octets : List ℕ) → (h : Serves slot first now)
+    → Some peer ≡ option_map (export_peer_of first.conf slot) (peer_at first.conf slot) → export_in now.conf (best_at now.loc_rib) now.adj_in peer p ≡ Some octets
+    → IsNext (λ q. announced_of (export_to now slot q) (held_at h.after.adj_out q) (asked_at h.after.adj_out q)) after (Some p)
+    → (l : Linked) → link_at now.links slot ≡ Some l → IsNewTo l p (Some octets)
+announced_is_new slot first now after p peer octets h is some next l linked =
+    let exported : export_to now slot p ≡ Some octets = ap (λ e. e slot p) (export_kept first now h.only.rest) ∙ export_now first now slot peer h.only.rest is p ∙ some in
+    subst (λ x. IsNewTo x p (Some octets)) (the_slot slot now h.after l h.is linked) (announced_news (export_to now slot p) (held_at h.after.adj_out p) (asked_at h.after.adj_out p) octets exported next.0)
 
 -- where nothing is exported there is nothing to be had
 pub Walks-had : (slot : ℕ) (first now : SpeakerState) (after : Option Prefix) (p : Prefix) (peer : ExportPeer) → (h : Walks (IsHad (export_to first slot)) slot first after now)
@@ -319,24 +338,25 @@ Serves-still slot first now new h still =
     })
 
 -- what memory is refused to is exported, and not held just so
-pub short_still : (slot : ℕ) (first now new : SpeakerState) (p : Prefix) (peer : ExportPeer) (octets : List ℕ) → (h : Serves slot first now) → slot < 64 → HasRoomAt now slot
-    → Some peer ≡ option_map (export_peer_of first.conf slot) (peer_at first.conf slot) → held_at h.after.adj_out p ≢ Some octets
-    → export_in now.conf (best_at now.loc_rib) now.adj_in peer p ≡ Some octets → IsStill now new → AreServedBelow first slot → IsShortAt new slot
-short_still slot first now new p peer octets h within room is other some still below =
+pub short_still : (slot : ℕ) (first now new : SpeakerState) (peer : ExportPeer) (octets : List ℕ) → (h : Serves slot first now) → slot < 64 → HasRoomAt now slot
+    → Some peer ≡ option_map (export_peer_of first.conf slot) (peer_at first.conf slot)
+    → ((l : Linked) → link_at now.links slot ≡ Some l → (q : Prefix) × (export_to now slot q ≡ Some octets) × (held_at l.adj_out q ≢ Some octets))
+    → IsStill now new → AreServedBelow first slot → IsShortAt new slot
+short_still slot first now new peer octets h within room is other still below =
     let by = served_by slot first now peer h is in
-    let exports : export_to now slot p ≡ Some octets = ap (λ e. e slot p) (export_kept first now h.only.rest) ∙ export_now first now slot peer h.only.rest is p ∙ some in
+    let one = other h.after h.is in
     record {
       peer = by.peer;
       linked = h.after;
-      prefix = p;
+      prefix = one.0;
       octets = octets;
       within = within;
       configured = ap (λ (s : SpeakerState). peer_at s.conf slot) still.rest ∙ by.configured;
       is = still.links slot ∙ h.is;
       up = h.up;
       room = room h.after h.is;
-      exported = ap (λ e. e slot p) (export_kept now new still.rest) ∙ exports;
-      other = other;
+      exported = ap (λ e. e slot one.0) (export_kept now new still.rest) ∙ one.1;
+      other = one.2;
       below = below_still slot now new (record { rest = still.rest; others = λ s other. still.links s }) (below_still slot first now h.only below);
     }
 

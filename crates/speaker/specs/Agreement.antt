@@ -24,7 +24,7 @@ use Rattle.net_prefix.specs.declared.asn.Asn.{Asn}
 use Rattle.net_prefix.specs.declared.prefix.Prefix.{Prefix}
 use Rattle.net_prefix.specs.declared.transport.Transport.TheVariants.{Open as Connected}
 use Rattle.rib_in.specs.LatestRoutes.{route_at}
-use Rattle.rib_out.specs.Held.{asked_at, held_at}
+use Rattle.rib_out.specs.Held.{asked_at, held_at, is_among}
 use Rattle.rtr_codec.specs.ClientTable.{in_force, initial}
 use Rattle.rtr_codec.specs.PduSpelling.{Content}
 use Rattle.rtr_codec.specs.PduStream.{WholePdu}
@@ -37,6 +37,7 @@ use Rattle.routes.specs.Updates.{NeedsMemory}
 use Rattle.speaker.specs.AdjRibIn.{route}
 use Rattle.speaker.specs.Choices.{choices_endings, choices_in, choices_to}
 use Rattle.routes.specs.Export.{IsExport, export_peer_of}
+use Rattle.routes.specs.Packing.{IsPack, room_beside}
 use Rattle.speaker.specs.Held.{held, told_from, told_in}
 use Rattle.routes.specs.Linked.{Linked}
 use Rattle.routes.specs.LocRib.{IsLocRib}
@@ -110,18 +111,21 @@ pub record IsNews (config : Config) (r : Run) (s : ℕ) (peer : ConfiguredPeer) 
   pub news : (held (history config s r) prefix ≢ export) ⊎ (asked (history config s r) prefix ≡ true)
 
 -- as the run stands, the octets are an UPDATE that says of each prefix which it names what the export to the slot has
--- and its peer doesn't hold, or has asked for again; it names one at least, and as yet no other. Of all that the peer is owed it comes
--- first, and of all slots that are owed something and have room for it this is the lowest
+-- and its peer doesn't hold, or has asked for again, and it names one at least: that they are withdrawn, or one list of attributes.
+-- Of all to which just that is owed, in rising order, it names the longest beginning that it has room for (the rule is an own one, for
+-- RFC 4271 section 4.3). One of them comes first of all that the peer is owed, and of all slots that are owed something and have room
+-- for it this is the lowest
 pub record IsOwedIn (config : Config) (r : Run) (s : ℕ) (update : List ℕ) : Type 0 where
   pub peer : ConfiguredPeer
   pub configured : peer_at (configuration_of config r) s ≡ Some peer
   pub is_update : IsUpdateMessage update
   -- the other end finds no fault with it
   pub faultless : update_fault (kind_between peer.asn config.asn) is_update.0 ≡ None
-  pub alone : (prefix : Prefix) × ((export : Option (List ℕ)) × (update ≡ update_saying prefix export))
+  pub says : (named : List Prefix) × ((export : Option (List ℕ)) × (update ≡ update_saying named export))
   pub some : (prefix : Prefix) × Names update prefix
   pub each : (prefix : Prefix) → Names update prefix → IsNews config r s peer prefix (told_in update prefix)
-  pub first : (prefix : Prefix) (export : Option (List ℕ)) → IsNews config r s peer prefix export → ComesFirst alone.0 alone.1.0 prefix export
+  pub packed : IsPack (λ prefix. IsNews config r s peer prefix says.1.0) (room_beside says.1.0) says.0
+  pub first : (least : Prefix) × (is_among least says.0 ≡ true) × ((prefix : Prefix) (export : Option (List ℕ)) → IsNews config r s peer prefix export → ComesFirst least says.1.0 prefix export)
   pub lowest : IsLowest config r s
 
 -- as the run stands, the slot's session is Established, 8,192 octets of its ring are free, and the export to it has of some

@@ -1,6 +1,6 @@
 -- What waits of each prefix for each peer: what it is owed, so that it holds its export (our own, for RFC 4271 section 9.2) and was
 -- told what it asked for again (RFC 2918 section 4).
-use Rattle.std.specs.Prelude.{◌≡◌, ◌≢◌, ◌⊎◌, ◌<◌, ℕ, Bool, List, Option, Some, None, true, false, ◌≤◌, length}
+use Rattle.std.specs.Prelude.{◌≡◌, ◌≢◌, ◌<◌, ℕ, Bool, List, Option, Some, None, false, ◌≤◌, length}
 use Rattle.bgp_conf.specs.Configuration.{peer_at}
 use Rattle.bgp_conf.specs.declared.conf.ConfiguredPeer.{ConfiguredPeer}
 use Rattle.bgp_fsm.specs.StateTests.{is_established}
@@ -40,10 +40,6 @@ IsUpAt s slot = (l : Linked) × (link_at s.links slot ≡ Some l) × (l.peer.ses
 abbrev pub HasRoomAt : SpeakerState → ℕ → Type 0
 HasRoomAt s slot = (l : Linked) → link_at s.links slot ≡ Some l → HasRoom l
 
--- the slot's peer doesn't hold of the prefix just what is exported to it, or has asked for it again
-abbrev pub IsNewTo : Linked → Prefix → Option (List ℕ) → Type 0
-IsNewTo l prefix export = (held_at l.adj_out prefix ≢ export) ⊎ (asked_at l.adj_out prefix ≡ true)
-
 -- the slot's session is Established, its ring has room, and of some prefix its peer doesn't hold what is exported to it; all lower
 -- slots are served
 pub record IsShortAt (s : SpeakerState) (slot : ℕ) : Type 0 where
@@ -79,12 +75,12 @@ pub record IsStill (old new : SpeakerState) : Type 0 where
   pub rest : new ≡ record old { links = new.links }
   pub links : (s : ℕ) → link_at new.links s ≡ link_at old.links s
 
--- the slot's peer is told this of the prefix, and nothing else of the speaker changes
-pub record IsToldAt (slot : ℕ) (prefix : Prefix) (export : Option (List ℕ)) (old new : SpeakerState) : Type 0 where
+-- the slot's peer is told this of these prefixes, and nothing else of the speaker changes
+pub record IsToldAt (slot : ℕ) (named : List Prefix) (export : Option (List ℕ)) (old new : SpeakerState) : Type 0 where
   pub before : Linked
   pub after : Linked
   pub was : link_at old.links slot ≡ Some before
-  pub told : IsTold prefix export before after
+  pub told : IsTold named export before after
   pub puts : IsPut slot after old new
   pub rest : new ≡ record old { links = new.links }
 

@@ -1,17 +1,19 @@
 //! What the peers are owed: the UPDATEs that make what each was sent its export of Loc-RIB, and those that a peer has asked for
 //! again (RFC 2918 section 4).
-ghost use Rattle.std.specs.Prelude.{◌≡◌, ◌≢◌, ◌≤◌, ◌<◌, ◌+◌, ◌==◌, ◌↔◌, ℕ, false, Some, None, OnOk, OnErr, IfSome, IfNone, IsTrue, length, if◌then◌else◌};
+ghost use Rattle.std.specs.Prelude.{◌≡◌, ◌≢◌, ◌≤◌, ◌<◌, ◌+◌, ◌-◌, ◌==◌, ◌↔◌, ℕ, true, false, Some, None, OnOk, OnErr, IfSome, IfNone, IsTrue, length, if◌then◌else◌};
 ghost use Rattle.std.specs.Bool.{OnTrue};
 ghost use Rattle.std.specs.Option.{IsSome, option_map};
 ghost use Rattle.bgp_conf.specs.Configuration.{peer_at};
 ghost use Rattle.bgp_fsm.specs.declared.state.State.TheVariants.{Established};
-ghost use Rattle.export_rules.specs.Export.{most_attributes};
-ghost use Rattle.rib_out.specs.Held.{asked_at, held_at};
+ghost use Rattle.export_rules.specs.Export.{IsSender, most_attributes};
+ghost use Rattle.rib_out.specs.Held.{asked_at, held_at, is_among};
 ghost use Rattle.speaker.specs.Agreement.{QueuesAll, QueuesOn, QueuesStarved};
 ghost use Rattle.routes.specs.Export.{export_peer_of};
 ghost use Rattle.speaker.specs.Export.{export_to};
 ghost use Rattle.routes.specs.Linked.{Linked};
 ghost use Rattle.speaker.specs.Serving.{AreServedBelow, IsServedBy, IsServedAt, IsShortAt, IsUpAt, HasRoomAt, IsOfSlot, IsStill, IsToldAt, Serves, Stand, IsDoneAt, IsGone, IsHad, is_standing};
+ghost use Rattle.routes.specs.Packing.{IsDue, IsFrom, IsNewTo, IsPack, most_named};
+ghost use Rattle.net_prefix.specs.declared.prefix.Prefix.{Prefix as ThePrefix};
 ghost use Rattle.routes.specs.Owing.{IsNext, announced_of, withdrawn_of};
 ghost use Rattle.routes.specs.Told.{HasRoom};
 ghost use Rattle.routes.specs.Tables.{link_at};
@@ -23,7 +25,7 @@ use bgp_peer::ROOM_FOR_UPDATE;
 use decision::Book;
 use export_rules::ExportPeer;
 use net_prefix::Prefix;
-use routes::{Octets, place};
+use routes::{Draft, Octets, place};
 use std::alloc::{AllocError, Allocator};
 
 impl<A: Allocator + Clone, B: Book<A>> Speaker<A, B> {
@@ -38,8 +40,8 @@ impl<A: Allocator + Clone, B: Book<A>> Speaker<A, B> {
     {
         let mut starved = 0;
         let mut octets = Octets::new();
-        let mut message = Octets::new();
-        while let Some(slot) = self.pass(&mut octets, &mut message) {
+        let mut draft = Draft::new();
+        while let Some(slot) = self.pass(&mut octets, &mut draft) {
             self.starve(slot);
             starved = only(slot) | starved;
         }
@@ -48,7 +50,7 @@ impl<A: Allocator + Clone, B: Book<A>> Speaker<A, B> {
 
     // For each Established slot in rising order, queues the UPDATEs that it is owed. Answers the first to which memory
     // is refused.
-    fn pass(&mut self, octets: &mut Octets, message: &mut Octets) -> Option<u8>
+    fn pass(&mut self, octets: &mut Octets, draft: &mut Draft) -> Option<u8>
         ensures stand { Stand self.old self.new }
         ensures queues { QueuesOn self.old self.new }
         ensures served { IfNone result ((slot : ℕ) → slot < 64 → IsServedAt self.new slot) }
@@ -57,7 +59,7 @@ impl<A: Allocator + Clone, B: Book<A>> Speaker<A, B> {
         ensures rises { self.old.chosen ≤ self.new.chosen }
     {
         for slot in 0..self.routes.slots_end() {
-            if self.serve_slot(slot, octets, message).is_err() {
+            if self.serve_slot(slot, octets, draft).is_err() {
                 return Some(slot);
             }
         }
@@ -82,7 +84,7 @@ impl<A: Allocator + Clone, B: Book<A>> Speaker<A, B> {
         &mut self,
         slot: u8,
         octets: &mut Octets,
-        message: &mut Octets,
+        draft: &mut Draft,
     ) -> Result<(), AllocError>
         requires slot { slot < 64 }
         requires below { AreServedBelow self.old slot }
@@ -98,12 +100,12 @@ impl<A: Allocator + Clone, B: Book<A>> Speaker<A, B> {
         if !self.is_up(slot) {
             return Ok(());
         }
-        self.withdraw_all(slot, &peer, message);
-        self.announce_all(slot, &peer, octets, message)
+        self.withdraw_all(slot, &peer, draft);
+        self.announce_all(slot, &peer, octets, draft)
     }
 
     // Withdraws what the peer holds and what isn't exported to it any more.
-    fn withdraw_all(&mut self, slot: u8, peer: &ExportPeer, message: &mut Octets)
+    fn withdraw_all(&mut self, slot: u8, peer: &ExportPeer, draft: &mut Draft)
         requires slot { slot < 64 }
         requires peer { Some peer.now ≡ option_map (export_peer_of self.old.conf slot) (peer_at self.old.conf slot) }
         requires up { IsUpAt self.old slot }
@@ -116,7 +118,7 @@ impl<A: Allocator + Clone, B: Book<A>> Speaker<A, B> {
             if !self.has_room(slot) {
                 return;
             }
-            self.withdraw_at(slot, prefix, message);
+            self.withdraw_from(slot, prefix, draft);
             // Places rise, so the walk ends.
             let _place = place(prefix);
             after = Some(prefix);
@@ -129,7 +131,7 @@ impl<A: Allocator + Clone, B: Book<A>> Speaker<A, B> {
         slot: u8,
         peer: &ExportPeer,
         octets: &mut Octets,
-        message: &mut Octets,
+        draft: &mut Draft,
     ) -> Result<(), AllocError>
         requires slot { slot < 64 }
         requires peer { Some peer.now ≡ option_map (export_peer_of self.old.conf slot) (peer_at self.old.conf slot) }
@@ -146,7 +148,7 @@ impl<A: Allocator + Clone, B: Book<A>> Speaker<A, B> {
                 return Ok(());
             }
             if self.routes.export(peer, prefix, octets) {
-                self.announce_at(slot, prefix, octets, message)?;
+                self.announce_from(slot, peer, prefix, octets, draft)?;
             }
             // Places rise, so the walk ends.
             let _place = place(prefix);
@@ -191,34 +193,43 @@ impl<A: Allocator + Clone, B: Book<A>> Speaker<A, B> {
         self.routes.announcement_after(slot, after)
     }
 
-    fn withdraw_at(&mut self, slot: u8, prefix: Prefix, message: &mut Octets)
+    fn withdraw_from(&mut self, slot: u8, least: Prefix, draft: &mut Draft)
         requires slot { slot < 64 }
         requires up { IsUpAt self.old slot }
         requires room { HasRoomAt self.old slot }
-        requires gone { export_to self.old slot prefix ≡ None }
-        requires held { (l : Linked) → IsServedBy self.old slot l → IsSome (held_at l.adj_out prefix) }
+        requires gone { export_to self.old slot least ≡ None }
+        requires held { (l : Linked) → IsServedBy self.old slot l → IsSome (held_at l.adj_out least) }
         requires peer { IsSome (peer_at self.old.conf slot) }
-        ensures { IsToldAt slot prefix None self.old self.new }
+        ensures told { IsToldAt slot draft.new.named.items None self.old self.new }
+        ensures least { is_among least draft.new.named.items ≡ true }
+        ensures packed { (l : Linked) → link_at self.old.links slot ≡ Some l → IsPack (IsFrom least (IsDue (export_to self.old slot) None l)) most_named draft.new.named.items }
     {
-        self.routes.tell_withdrawal(slot, prefix, message);
+        self.routes.tell_withdrawals(slot, least, draft);
     }
 
-    fn announce_at(
+    fn announce_from(
         &mut self,
         slot: u8,
-        prefix: Prefix,
+        peer: &ExportPeer,
+        least: Prefix,
         octets: &Octets,
-        message: &mut Octets,
+        draft: &mut Draft,
     ) -> Result<(), AllocError>
         requires slot { slot < 64 }
         requires up { IsUpAt self.old slot }
         requires room { HasRoomAt self.old slot }
         requires small { length octets.now.items ≤ most_attributes }
-        requires exported { export_to self.old slot prefix ≡ Some octets.now.items }
-        ensures told { OnOk result (IsToldAt slot prefix (Some octets.now.items) self.old self.new) }
+        requires exported { export_to self.old slot least ≡ Some octets.now.items }
+        requires news { (l : Linked) → link_at self.old.links slot ≡ Some l → IsNewTo l least (Some octets.now.items) }
+        requires peer { Some peer.now ≡ option_map (export_peer_of self.old.conf slot) (peer_at self.old.conf slot) }
+        ensures told { OnOk result (IsToldAt slot draft.new.named.items (Some octets.now.items) self.old self.new) }
+        ensures least { is_among least draft.new.named.items ≡ true }
+        ensures each { (q : ThePrefix) → is_among q draft.new.named.items ≡ true → export_to self.old slot q ≡ Some octets.now.items }
+        ensures packed { IsSender peer.now → (l : Linked) → link_at self.old.links slot ≡ Some l → IsPack (IsFrom least (IsDue (export_to self.old slot) (Some octets.now.items) l)) (most_named - length octets.now.items) draft.new.named.items }
         ensures err { OnErr result (IsStill self.old self.new) }
-        ensures others { OnErr result ((l : Linked) → link_at self.old.links slot ≡ Some l → held_at l.adj_out prefix ≢ Some octets.now.items) }
+        ensures short { OnErr result ((l : Linked) → link_at self.old.links slot ≡ Some l → (q : ThePrefix) × (export_to self.old slot q ≡ Some octets.now.items) × (held_at l.adj_out q ≢ Some octets.now.items)) }
     {
-        self.routes.tell_announcement(slot, prefix, octets, message)
+        self.routes
+            .tell_announcements(slot, peer, least, octets, draft)
     }
 }

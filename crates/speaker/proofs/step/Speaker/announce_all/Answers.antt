@@ -6,21 +6,30 @@ use Rattle.routes.specs.Owing.{announced_of}
 use Rattle.speaker.specs.Serving.{HasRoomAt, IsHad}
 use Rattle.routes.specs.Tables.{best_at}
 use Rattle.routes.proofs.Results.{OnErr-is}
-use Rattle.speaker.proofs.Serving.{export_kept, had_by, served_by, Serves-still, short_still, Walks-announced, Walks-end, Walks-had}
+use Rattle.speaker.proofs.Serving.{announced_is_new, export_kept, had_by, peer_now, served_by, Serves-still, short_still, Walks-announced, Walks-end, Walks-had}
 use Rattle.routes.proofs.Places.{left-smaller}
 use Rattle.speaker.proofs.step.Speaker.announce_all.Goals as goal
-use Rattle.speaker.proofs.step.Speaker.announce_all.Goals.{then-export+in_ok-announce_at, else-export}
+use Rattle.speaker.proofs.step.Speaker.announce_all.Goals.{then-export+in_ok-announce_from, else-export}
 
-pub returns-in_err-announce_at-clause-serves : goal.returns-in_err-announce_at-clause-serves
-returns-in_err-announce_at-clause-serves g c = Serves-still _ _ c.loop-prefix.self _ c.loop-prefix.invariant.serves c.in_err-announce_at.ensures.err
-
-pub returns-in_err-announce_at-clause-short : goal.returns-in_err-announce_at-clause-short
-returns-in_err-announce_at-clause-short g c =
+pub announce_from-requires-clause-news : goal.announce_from-requires-clause-news
+announce_from-requires-clause-news g c =
     let h = c.loop-prefix.invariant in
+    let next = c.in-Some.ensures h.serves.after (served_by _ _ _ _ h.serves c.requires.peer) in
     let tells = c.if-export.ensures.tells in
     let some : export_in c.loop-prefix.self.conf (best_at c.loop-prefix.self.loc_rib) c.loop-prefix.self.adj_in c.args.peer.now c.in-Some.prefix ≡ Some c.export.new.octets.items = rw (← c.self.view_is) tells in
+    announced_is_new c.args.slot c.args.self.now c.loop-prefix.self c.loop-prefix.after c.in-Some.prefix c.args.peer.now c.export.new.octets.items h.serves c.requires.peer some next
+
+pub announce_from-requires-clause-peer : goal.announce_from-requires-clause-peer
+announce_from-requires-clause-peer g c = peer_now c.args.slot c.args.self.now c.loop-prefix.self c.args.peer.now c.loop-prefix.invariant.serves.only.rest c.requires.peer
+
+pub returns-in_err-announce_from-clause-serves : goal.returns-in_err-announce_from-clause-serves
+returns-in_err-announce_from-clause-serves g c = Serves-still _ _ c.loop-prefix.self _ c.loop-prefix.invariant.serves c.in_err-announce_from.ensures.err
+
+pub returns-in_err-announce_from-clause-short : goal.returns-in_err-announce_from-clause-short
+returns-in_err-announce_from-clause-short g c =
+    let h = c.loop-prefix.invariant in
     let room : HasRoomAt c.loop-prefix.self c.args.slot = λ l is. (c.has_room.ensures l is).0 (let has = c.if-not-has_room.false in (cc)) in
-    OnErr-is _ _ (short_still c.args.slot c.args.self.now c.loop-prefix.self _ c.in-Some.prefix c.args.peer.now c.export.new.octets.items h.serves c.requires.slot room c.requires.peer (c.in_err-announce_at.ensures.others h.serves.after h.serves.is) some c.in_err-announce_at.ensures.err c.requires.below)
+    OnErr-is _ _ (short_still c.args.slot c.args.self.now c.loop-prefix.self _ c.args.peer.now c.export.new.octets.items h.serves c.requires.slot room c.requires.peer c.in_err-announce_from.ensures.short c.in_err-announce_from.ensures.err c.requires.below)
 
 pub loop-prefix-smaller : goal.loop-prefix-smaller
 loop-prefix-smaller g c =
@@ -35,11 +44,9 @@ loop-prefix-preserved g c =
     let below = rw c.place-place.ensures.place at c.place-place.ensures.below in
     let room : HasRoomAt c.loop-prefix.self c.args.slot = λ l is. (c.has_room.ensures l is).0 (let has = c.if-not-has_room.false in (cc)) in
     elim c.if-export.branch [
-      | then-export+in_ok-announce_at w ↦
-          let tells = w.if-export.ensures.tells in
+      | then-export+in_ok-announce_from w ↦
           let accepted = w.if-export.ensures.accepted in
-          let some : export_in c.loop-prefix.self.conf (best_at c.loop-prefix.self.loc_rib) c.loop-prefix.self.adj_in c.args.peer.now c.in-Some.prefix ≡ Some c.export.new.octets.items = rw (← c.self.view_is) tells in
-          rw w.self-is (Walks-announced _ _ _ _ _ _ _ _ h c.requires.peer next below room some (rw (← c.self.view_is) accepted) w.in_ok-announce_at.ensures.told c.requires.gone c.requires.below)
+          rw w.self-is (Walks-announced _ _ _ _ _ _ _ _ _ h c.requires.peer next below room (rw (← c.self.view_is) accepted) w.in_ok-announce_from.ensures.told w.in_ok-announce_from.ensures.least w.in_ok-announce_from.ensures.each w.in_ok-announce_from.ensures.packed c.requires.gone c.requires.below)
       | else-export w ↦
           let tells = w.if-export.ensures.tells.0 in
           let none : export_in c.loop-prefix.self.conf (best_at c.loop-prefix.self.loc_rib) c.loop-prefix.self.adj_in c.args.peer.now c.in-Some.prefix ≡ None = rw (← c.self.view_is) tells in

@@ -1,10 +1,14 @@
 use Rattle.std.proofs.Common.{◌∙◌, sym, subst}
 use Rattle.speaker.specs.Serving.{IsDoneAt, IsGone}
+use Rattle.speaker.proofs.Passing.{QueuesOn-more}
 use Rattle.speaker.proofs.Serving.{below_still, export_kept, served_on, stand_served}
 use Rattle.speaker.proofs.step.Speaker.serve_slot.Goals as goal
 
 pub returns-clause-served : goal.returns-clause-served
 returns-clause-served g c = served_on c.announce_all.result _ _ c.withdraw_all.new.self _ c.withdraw_all.ensures.serves c.announce_all.ensures.serves c.withdraw_all.ensures.done c.announce_all.ensures.done
+
+pub returns-clause-queues : goal.returns-clause-queues
+returns-clause-queues g c = QueuesOn-more _ _ _ c.withdraw_all.ensures.serves.queues c.announce_all.ensures.serves.queues
 
 pub returns-clause-stand : goal.returns-clause-stand
 returns-clause-stand g c = λ s. stand_served _ _ _ c.announce_all.ensures.serves s ∙ stand_served _ _ _ c.withdraw_all.ensures.serves s
