@@ -21,7 +21,8 @@
 //!
 //! Nothing here speaks of a run or of a session's history: the speaker above does. To read first: the definitions
 //! `RoutesState` and `Marks`, then `routes`, `sessions`, `commands`, `queue` (the calls), `routing` (the tables and their
-//! marks), `candidates` (what makes a route a candidate), `message`, `updates`, `exports`, `told`, `waiting`.
+//! marks), `candidates` (what makes a route a candidate), `message`, `updates`, `exports`, `packing` (which prefixes one
+//! UPDATE names), `told`, `waiting`.
 #![tactic(auto)]
 
 mod candidates;
