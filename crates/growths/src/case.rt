@@ -38,6 +38,7 @@ pub struct Counts {
     closed: usize,
     cache: usize,
     clients: usize,
+    unseen: usize,
 }
 
 impl Counts {
@@ -48,6 +49,7 @@ impl Counts {
             closed: count_of(endings, b"closed").saturating_sub(cache),
             cache,
             clients: count_of(endings, b"client"),
+            unseen: count_of(endings, b"unseen"),
         }
     }
 }
@@ -58,7 +60,8 @@ impl fmt::Display for Counts {
         let (cache, clients) = (self.cache, self.clients);
         write!(
             f,
-            "refused {refused} peers {closed} cache {cache} clients {clients}"
+            "refused {refused} peers {closed} cache {cache} clients {clients} unseen {}",
+            self.unseen
         )
     }
 }

@@ -19,6 +19,8 @@ pub enum Ending {
     CacheClosed,
     /// This client of the cache was closed.
     ClientClosed(u64),
+    /// Nothing shows of it.
+    Unseen,
 }
 
 impl fmt::Display for Ending {
@@ -29,6 +31,7 @@ impl fmt::Display for Ending {
             Ending::Closed(slot) => write!(f, "closed {slot}"),
             Ending::CacheClosed => f.write_str("closed cache"),
             Ending::ClientClosed(key) => write!(f, "client {key}"),
+            Ending::Unseen => f.write_str("unseen"),
         }
     }
 }

@@ -6,7 +6,8 @@
 //! Then its peer comes again, by the lines of the case, and the rest of the script is answered as told; where the case
 //! has no such lines the rest is played without that peer. Or the session with a cache was closed: the cache is sent
 //! an Error Report, and what is in force stays. Or a client of a cache was closed, and no other: it is sent an Error
-//! Report in the place of a response, comes again by the lines of the case, and has its response.
+//! Report in the place of a response, comes again by the lines of the case, and has its response. Or nothing shows of it:
+//! what was asked for is a help to find things soon, the call is answered as in the other run, and both show the same.
 ghost use Rattle.std.specs.Prelude.{◌≤◌};
 
 use crate::calls::{Call, split_call};
@@ -124,11 +125,23 @@ fn meet<R: Runs>(case: Case<'_>, runs: &mut R, call: Call<'_>) -> Option<Met> {
             is_apart: is_apart(case.again, ending),
         }),
         Some(_) => None,
-        None => {
-            runs.expect(false, Wrong::OtherwiseWhereRefused, call.number);
-            None
-        }
+        None if is_unseen(runs, call) => Some(Met {
+            ending: Ending::Unseen,
+            number: call.number,
+            is_apart: false,
+        }),
+        None => None,
     }
+}
+
+// Nothing shows of the refused request.
+fn is_unseen<R: Runs>(runs: &mut R, call: Call<'_>) -> bool {
+    if !runs.play_whole(call) {
+        return false;
+    }
+    let holds = runs.is_as_told();
+    runs.expect(holds, Wrong::OtherwiseWhereRefused, call.number)
+        && runs.shows_alike(Ending::Unseen, Scope::Whole, call.number)
 }
 
 fn is_met<R: Runs>(case: Case<'_>, runs: &mut R, call: Call<'_>, ending: Ending) -> bool {

@@ -6,7 +6,7 @@
 //! `told N`: a peer whose session was closed is told so many octets.
 //! `ask N LINE -> ANSWER`: where the Nth call was refused, and before it comes again, this line is answered so.
 //! `has ENDING` and `not ENDING`: some refused request came to this, or none did: `refused`, `closed SLOT`, `closed
-//! cache` or `client KEY`, and where a number follows, at the call of this number.
+//! cache`, `client KEY` or `unseen`, and where a number follows, at the call of this number.
 
 use crate::lines::{Lines, number_of, place_of, row_of};
 

@@ -1,5 +1,5 @@
-use Rattle.std.proofs.Common.{◌≡◌, ◌==◌, ◌&&◌, ℕ, Bool, true, false, List, Option, Some, None, Result, Ok, Err, OnErr, OnOk, is_ok, All, cond, inl, inr, refl, sym, ap, ◌∙◌, subst}
-use Rattle.std.specs.Option.{IsSome, is_some}
+use Rattle.std.proofs.Common.{◌≡◌, ◌≢◌, ◌==◌, ◌&&◌, ℕ, Bool, true, false, List, Option, Some, None, Result, Ok, Err, OnErr, OnOk, is_ok, All, cond, inl, inr, refl, sym, ap, ◌∙◌, subst}
+use Rattle.std.specs.Option.{IfSome, IsSome, is_some}
 use Rattle.std.specs.Result.{is_err}
 use Rattle.std.specs.Cmp.{nat_cmp_is}
 use Rattle.std.specs.Ordering.{is_eq, nat_cmp, ordering_then}
@@ -10,8 +10,9 @@ use Rattle.std.proofs.lemmas.Map.Lookups.{exact_unsigned}
 use Rattle.bgp_attr.proofs.EntryLists.{equal_from}
 use Rattle.bgp_attr.specs.PathAttributes.{PathAttributes}
 use Rattle.decision.proofs.BookRows.{prefix_exact}
+use Rattle.decision.proofs.Laws.{selected_member}
 use Rattle.decision.proofs.PlaceLists.{unchanged}
-use Rattle.decision.specs.BookContents.{AreApart, BookState, HasNoEmptyPrefix, changed, has_place_at, is_prefix, kept_at, offer_at}
+use Rattle.decision.specs.BookContents.{AreApart, BookState, HasNoEmptyPrefix, IsBestOf, best_at, changed, has_place_at, is_prefix, kept_at, offer_at, rows_of}
 use Rattle.decision.specs.declared.book.Change.{Change}
 use Rattle.decision.specs.declared.candidate.Candidate.{Candidate}
 use Rattle.net_prefix.specs.declared.prefix.Prefix.{Prefix}
@@ -29,13 +30,55 @@ is_some-to : {X : Type 0} (o : Option X) → is_some o ≡ true → IsSome o
 is_some-to None is = absurd (cc)
 is_some-to (Some x) is = refl
 
+-- ---- a best route is a candidate that is kept
+abbrev pub AreKept : BookState → Type 0
+AreKept book = (prefix : Prefix) (c : Candidate) → best_at (rows_of book) prefix ≡ Some c → IsSome (offer_at book c.slot prefix)
+
+pub offered_best : (f : ℕ → Option Candidate) (best : Option Candidate) (c : Candidate) → IsBestOf f best → best ≡ Some c → IsSome (f c.slot)
+offered_best f None c is at = absurd (cc)
+offered_best f (Some d) c is at =
+    let offered : f d.slot ≡ Some d = (is.1 d).0 (selected_member is.0 (Some d) is.2) in
+    let same : d ≡ c = cc in
+    subst (λ (x : Candidate). IsSome (f x.slot)) same (rw offered refl)
+
+-- where that of one prefix was chosen anew
+pub kept_anew : (old new : BookState) (prefix : Prefix) → AreKept old → IsBestOf (λ s. offer_at new s prefix) (best_at (rows_of new) prefix)
+    → ((p : Prefix) → is_prefix prefix p ≡ false → best_at (rows_of new) p ≡ best_at (rows_of old) p) → ((s : ℕ) (p : Prefix) → is_prefix prefix p ≡ false → offer_at new s p ≡ offer_at old s p) → AreKept new
+kept_anew old new prefix had best others stays p c is = here (is_prefix prefix p) refl
+  where
+    here : (b : Bool) → is_prefix prefix p ≡ b → IsSome (offer_at new c.slot p)
+    here true at =
+        let same : prefix ≡ p = prefix_exact prefix p at in
+        offered_best (λ s. offer_at new s p) (best_at (rows_of new) p) c (subst (λ q. IsBestOf (λ s. offer_at new s q) (best_at (rows_of new) q)) same best) is
+    here false at = subst (λ o. IsSome o) (sym (stays c.slot p at)) (had p c (sym (others p at) ∙ is))
+
+-- where nothing changes
+pub kept_same : (old new : BookState) → AreKept old → rows_of new ≡ rows_of old → ((s : ℕ) (p : Prefix) → offer_at new s p ≡ offer_at old s p) → AreKept new
+kept_same old new had rows offers p c is = subst (λ o. IsSome o) (sym (offers c.slot p)) (had p c (ap (λ r. best_at r p) (sym rows) ∙ is))
+
+none_there : {X : Type 0} (o : Option X) → o ≡ None → IsSome o → ⊥
+none_there None is there = absurd (cc)
+none_there (Some x) is there = absurd (cc)
+
+-- a slot without a route has no best one
+pub best_of_other : (adj_in : RouteTable) (book : BookState) (slot : ℕ) (prefix : Prefix) → AreRoomy adj_in book → route_at adj_in slot prefix ≡ None → IfSome (best_at (rows_of book) prefix) (λ c. c.slot ≢ slot)
+best_of_other adj_in book slot prefix h none = here (best_at (rows_of book) prefix) refl
+  where
+    here : (o : Option Candidate) → best_at (rows_of book) prefix ≡ o → IfSome o (λ c. c.slot ≢ slot)
+    here None is = tt
+    here (Some c) is = λ same.
+        let there : IsSome (route_at adj_in slot prefix) = subst (λ s. IsSome (route_at adj_in s prefix)) same (h.routed c.slot prefix (h.best prefix c is)) in
+        none_there (route_at adj_in slot prefix) none there
+
 -- candidates of routes to a prefix change
 pub roomy_changed : (adj_in : RouteTable) (old new : BookState) (prefix : Prefix) (changes : List Change) → AreRoomy adj_in old → All (λ c. IsSome (route_at adj_in c.slot prefix)) changes
     → ((s : ℕ) (p : Prefix) → offer_at new s p ≡ cond (is_prefix prefix p) (changed changes s (offer_at old s p)) (offer_at old s p))
-    → ((s : ℕ) (p : Prefix) → has_place_at new s p ≡ has_place_at old s p) → ((p : Prefix) → is_prefix prefix p ≡ true → p ≡ prefix) → AreRoomy adj_in new
-roomy_changed adj_in old new prefix changes h routed offers places same = record {
+    → ((s : ℕ) (p : Prefix) → has_place_at new s p ≡ has_place_at old s p) → ((p : Prefix) → is_prefix prefix p ≡ true → p ≡ prefix)
+    → IsBestOf (λ s. offer_at new s prefix) (best_at (rows_of new) prefix) → ((p : Prefix) → is_prefix prefix p ≡ false → best_at (rows_of new) p ≡ best_at (rows_of old) p) → AreRoomy adj_in new
+roomy_changed adj_in old new prefix changes h routed offers places same best others = record {
   places = λ s p. places s p ∙ h.places s p;
   routed = λ s p there. here s p (is_prefix prefix p) refl (offers s p) there;
+  best = kept_anew old new prefix h.best best others (λ s p other. offers s p ∙ ap (λ b. cond b (changed changes s (offer_at old s p)) (offer_at old s p)) other);
 }
   where
     by_route : (s : ℕ) (b : Bool) → is_some (route_at adj_in s prefix) ≡ b → IsSome (changed changes s (offer_at old s prefix)) → IsSome (route_at adj_in s prefix)
@@ -128,18 +171,21 @@ routes_back adj_in middle routes slot prefix attrs none came went s p = here (is
 
 -- places of routes that are as others, which have them
 pub roomy_back : (adj_in routes : RouteTable) (old new : BookState) (slot : ℕ) (prefix : Prefix) (ok : Bool) → ok ≡ false → AreRoomy adj_in old → ((s : ℕ) (p : Prefix) → route_at routes s p ≡ route_at adj_in s p)
-    → ((s : ℕ) (p : Prefix) → offer_at new s p ≡ offer_at old s p) → ((s : ℕ) (p : Prefix) → has_place_at new s p ≡ cond (ok && (s == slot && is_prefix prefix p)) true (has_place_at old s p)) → AreRoomy routes new
-roomy_back adj_in routes old new slot prefix ok failed h same offers places = record {
+    → ((s : ℕ) (p : Prefix) → offer_at new s p ≡ offer_at old s p) → ((s : ℕ) (p : Prefix) → has_place_at new s p ≡ cond (ok && (s == slot && is_prefix prefix p)) true (has_place_at old s p))
+    → rows_of new ≡ rows_of old → AreRoomy routes new
+roomy_back adj_in routes old new slot prefix ok failed h same offers places rows = record {
   places = λ s p. places s p ∙ ap (λ b. cond (b && (s == slot && is_prefix prefix p)) true (has_place_at old s p)) failed ∙ h.places s p ∙ ap is_some (sym (same s p));
   routed = λ s p there. subst (λ o. IsSome o) (sym (same s p)) (h.routed s p (subst (λ o. IsSome o) (offers s p) there));
+  best = kept_same old new h.best rows offers;
 }
 
 pub roomy_announced : (adj_in routes : RouteTable) (old made new : BookState) (slot : ℕ) (prefix : Prefix) (attrs : PathAttributes) (candidate : Option Candidate) → AreRoomy adj_in old
     → ((s : ℕ) (p : Prefix) → route_at routes s p ≡ cond (is_route slot prefix s p) (Some attrs) (route_at adj_in s p))
     → ((s : ℕ) (p : Prefix) → offer_at made s p ≡ offer_at old s p) → ((s : ℕ) (p : Prefix) → has_place_at made s p ≡ cond (s == slot && is_prefix prefix p) true (has_place_at old s p))
     → ((s : ℕ) (p : Prefix) → offer_at new s p ≡ cond (is_prefix prefix p) (cond (slot == s) candidate (offer_at made s p)) (offer_at made s p))
-    → ((s : ℕ) (p : Prefix) → has_place_at new s p ≡ has_place_at made s p) → AreRoomy routes new
-roomy_announced adj_in routes old made new slot prefix attrs candidate h announced offers places changed kept = record {
+    → ((s : ℕ) (p : Prefix) → has_place_at new s p ≡ has_place_at made s p) → rows_of made ≡ rows_of old
+    → IsBestOf (λ s. offer_at new s prefix) (best_at (rows_of new) prefix) → ((p : Prefix) → is_prefix prefix p ≡ false → best_at (rows_of new) p ≡ best_at (rows_of made) p) → AreRoomy routes new
+roomy_announced adj_in routes old made new slot prefix attrs candidate h announced offers places changed kept rows best others = record {
   places = λ s p.
       kept s p
       ∙ (places s p
@@ -148,6 +194,8 @@ roomy_announced adj_in routes old made new slot prefix attrs candidate h announc
   routed = λ s p there.
       subst (λ o. IsSome o) (sym (announced s p))
       (routed_here s p (is_route slot prefix s p) refl (subst (λ o. IsSome o) (changed s p) there));
+  best = kept_anew old new prefix h.best best (λ p other. others p other ∙ ap (λ r. best_at r p) rows)
+      (λ s p other. changed s p ∙ ap (λ b. cond b (cond (slot == s) candidate (offer_at made s p)) (offer_at made s p)) other ∙ offers s p);
 }
   where
     placed : (b place : Bool) (o : Option PathAttributes) → place ≡ is_some o → cond b true place ≡ is_some (cond b (Some attrs) o)
@@ -165,6 +213,50 @@ roomy_announced adj_in routes old made new slot prefix attrs candidate h announc
     routed_here s p false is there =
         let apart : (slot == s && is_prefix prefix p) ≡ false = ap (λ b. b && is_prefix prefix p) (same_slot slot s) ∙ (at_place slot prefix s p ∙ is) in
         h.routed s p (subst (λ o. IsSome o) (stays (is_prefix prefix p) (slot == s) (offer_at made s p) apart ∙ offers s p) there)
+
+-- a route that makes no candidate
+pub roomy_brought : (adj_in routes : RouteTable) (old new : BookState) (slot : ℕ) (prefix : Prefix) (attrs : PathAttributes) → AreRoomy adj_in old
+    → ((s : ℕ) (p : Prefix) → route_at routes s p ≡ cond (is_route slot prefix s p) (Some attrs) (route_at adj_in s p)) → ((s : ℕ) (p : Prefix) → offer_at new s p ≡ offer_at old s p)
+    → ((s : ℕ) (p : Prefix) → has_place_at new s p ≡ cond (s == slot && is_prefix prefix p) true (has_place_at old s p)) → rows_of new ≡ rows_of old → AreRoomy routes new
+roomy_brought adj_in routes old new slot prefix attrs h come offers places rows = record {
+  places = λ s p. places s p ∙ ap (λ b. cond b true (has_place_at old s p)) (at_place slot prefix s p) ∙ placed (is_route slot prefix s p) (has_place_at old s p) (route_at adj_in s p) (h.places s p) ∙ sym (ap is_some (come s p));
+  routed = λ s p there. subst (λ o. IsSome o) (sym (come s p)) (still (is_route slot prefix s p) (route_at adj_in s p) (h.routed s p (subst (λ o. IsSome o) (offers s p) there)));
+  best = kept_same old new h.best rows offers;
+}
+  where
+    placed : (b place : Bool) (o : Option PathAttributes) → place ≡ is_some o → cond b true place ≡ is_some (cond b (Some attrs) o)
+    placed true place o is = refl
+    placed false place o is = is
+
+    still : (b : Bool) (o : Option PathAttributes) → IsSome o → IsSome (cond b (Some attrs) o)
+    still true o there = refl
+    still false o there = there
+
+-- a route goes
+pub roomy_left : (adj_in routes : RouteTable) (old new : BookState) (slot : ℕ) (prefix : Prefix) → AreRoomy adj_in old
+    → ((s : ℕ) (p : Prefix) → route_at routes s p ≡ cond (is_route slot prefix s p) None (route_at adj_in s p))
+    → ((s : ℕ) (p : Prefix) → offer_at new s p ≡ cond (s == slot && is_prefix prefix p) None (offer_at old s p))
+    → ((s : ℕ) (p : Prefix) → has_place_at new s p ≡ cond (s == slot && is_prefix prefix p) false (has_place_at old s p))
+    → IsBestOf (λ s. offer_at new s prefix) (best_at (rows_of new) prefix) → ((p : Prefix) → is_prefix prefix p ≡ false → best_at (rows_of new) p ≡ best_at (rows_of old) p) → AreRoomy routes new
+roomy_left adj_in routes old new slot prefix h went offers places best others = record {
+  places = λ s p. places s p ∙ ap (λ b. cond b false (has_place_at old s p)) (at_place slot prefix s p) ∙ placed (is_route slot prefix s p) (has_place_at old s p) (route_at adj_in s p) (h.places s p) ∙ sym (ap is_some (went s p));
+  routed = λ s p there.
+      subst (λ o. IsSome o) (sym (went s p))
+      (still (is_route slot prefix s p) (offer_at old s p) (route_at adj_in s p) (h.routed s p) (subst (λ o. IsSome o) (offers s p ∙ ap (λ b. cond b None (offer_at old s p)) (at_place slot prefix s p)) there));
+  best = kept_anew old new prefix h.best best others (λ s p other. offers s p ∙ ap (λ b. cond b None (offer_at old s p)) (no_second (s == slot) (is_prefix prefix p) other));
+}
+  where
+    placed : (b place : Bool) (o : Option PathAttributes) → place ≡ is_some o → cond b false place ≡ is_some (cond b None o)
+    placed true place o is = refl
+    placed false place o is = is
+
+    still : (b : Bool) (c : Option Candidate) (o : Option PathAttributes) → (IsSome c → IsSome o) → IsSome (cond b None c) → IsSome (cond b None o)
+    still true c o so there = absurd (cc)
+    still false c o so there = so there
+
+    no_second : (a b : Bool) → b ≡ false → (a && b) ≡ false
+    no_second true b is = is
+    no_second false b is = refl
 
 -- a prefix that is kept has a route
 pub kept_routed : (adj_in : RouteTable) (book : BookState) → AreRoomy adj_in book → HasNoEmptyPrefix book → (p : Prefix) → IsSome (kept_at book p) → HasRoute adj_in p

@@ -1,6 +1,6 @@
 //! Adj-RIB-In and Loc-RIB (RFC 4271 section 3.2): the peers' latest routes, the candidates that they make, and the best
 //! route of each prefix.
-ghost use Rattle.std.specs.Prelude.{◌≡◌, ◌==◌, ℕ, false, All, IfOk, OnOk, OnErr, None, Some, length, if◌then◌else◌};
+ghost use Rattle.std.specs.Prelude.{◌≡◌, ◌≢◌, ◌==◌, ℕ, false, All, IfOk, OnOk, OnErr, None, Some, length, if◌then◌else◌};
 ghost use Rattle.std.specs.List.Sorted.{IsStrictlySortedBy};
 ghost use Rattle.std.specs.Map.{keys_of};
 ghost use Rattle.std.specs.Option.{IfNone, IfSome, IsSome};
@@ -15,7 +15,7 @@ ghost use Rattle.loc_rib.specs.RibTables.{CountsAnother, RisesBy, started};
 use crate::rows::Rows;
 use bgp_attr::Attrs;
 use decision::{Book, Candidate, Change, Meter};
-use net_prefix::{Asn, Prefix};
+use net_prefix::Prefix;
 use rib_in::AdjIn;
 use std::alloc::{AllocError, Allocator};
 use std::marker::Model;
@@ -40,11 +40,11 @@ impl<A: Allocator + Clone, B: Book<A>> Model for Ribs<A, B> {
 }
 
 impl<A: Allocator + Clone, B: Book<A>> Ribs<A, B> {
-    /// No routes. What is alike of them is found soon for this AS.
-    pub fn new(alloc: A, own: Asn) -> Result<Self, AllocError>
+    /// No routes.
+    pub fn new(alloc: A) -> Result<Self, AllocError>
         ensures { IfOk result (λ ribs. ribs ≡ started) }
     {
-        let adj_in = AdjIn::new(alloc.clone()?, own);
+        let adj_in = AdjIn::new(alloc.clone()?);
         let book = B::empty(alloc)?;
         Ok(Ribs {
             adj_in,
@@ -85,6 +85,32 @@ impl<A: Allocator + Clone, B: Book<A>> Ribs<A, B> {
         }
         let change = Change { slot, candidate };
         self.book.change(&mut self.meter, prefix, &[change]);
+        Ok(())
+    }
+
+    /// A slot without a route to the prefix has this one from now on, which makes no candidate yet. Where memory is refused,
+    /// all is as before.
+    pub fn bring(
+        &mut self,
+        slot: u8,
+        prefix: Prefix,
+        attrs: Rc<Attrs<A>, A>,
+    ) -> Result<(), AllocError>
+        requires { route_at self.old.adj_in slot prefix ≡ None }
+        ensures routes { OnOk result ((s : ℕ) (p : ThePrefix) → route_at self.new.adj_in s p ≡ (if is_route slot prefix s p then Some attrs.value else route_at self.old.adj_in s p)) }
+        ensures err { OnErr result ((s : ℕ) (p : ThePrefix) → route_at self.new.adj_in s p ≡ route_at self.old.adj_in s p) }
+        ensures offers { (s : ℕ) (p : ThePrefix) → offer_at self.new.book s p ≡ offer_at self.old.book s p }
+        ensures rows { rows_of self.new.book ≡ rows_of self.old.book }
+        ensures other { IfSome (best_at (rows_of self.old.book) prefix) (λ c. c.slot ≢ slot) }
+        ensures chosen { self.new.chosen ≡ self.old.chosen }
+    {
+        if self.adj_in.announce(slot, prefix, attrs).is_err() {
+            return Err(AllocError);
+        }
+        if self.book.room(slot, prefix).is_err() {
+            AdjIn::withdraw(&mut self.adj_in, slot, prefix);
+            return Err(AllocError);
+        }
         Ok(())
     }
 

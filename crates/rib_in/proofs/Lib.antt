@@ -1,4 +1,3 @@
-pub mod ClassedTables
 pub mod Ordered
 pub mod RouteLists
 pub mod SlotWalks

@@ -1,4 +1,3 @@
-pub mod ClassedRoutes
 pub mod LatestRoutes
 pub mod PrefixRoutes
 pub mod RibNumbers

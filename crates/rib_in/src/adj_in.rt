@@ -1,23 +1,21 @@
-//! The routes that came, and by what goes on of them.
-ghost use Rattle.std.specs.Prelude.{◌≡◌, ◌≢◌, [], ℕ, None, Some, OnOk, OnErr, IfSome, IfNone, IsSome, is_some, MatchBool, ◌==◌, false, if◌then◌else◌};
+//! The routes by prefix and slot.
+ghost use Rattle.std.specs.Prelude.{◌≡◌, [], ◌<◌, ℕ, None, Some, OnOk, OnErr, IfOk, IfSome, IfNone, IsSome, MatchBool, ◌==◌, false, if◌then◌else◌};
 ghost use Rattle.std.specs.List.Sorted.{IsStrictlySortedBy};
 ghost use Rattle.std.specs.Map.{keys_of, lookup};
-ghost use Rattle.std.specs.Option.{option_copied};
+ghost use Rattle.std.specs.Option.{option_copied, option_map, is_some};
 ghost use Rattle.std.specs.Ordering.{is_gt};
-ghost use Rattle.attribute_classes.specs.Passed.{passed_of};
-ghost use Rattle.bgp_attr.specs.PathAttributes.{PathAttributes};
-ghost use Rattle.bgp_attr.specs.SoundRoutes.{IsSoundRoute};
 ghost use Rattle.net_prefix.specs.PrefixOrder.{prefix_cmp, IsAbove};
 ghost use Rattle.net_prefix.specs.declared.prefix.Prefix.{Prefix};
-ghost use Rattle.rib_in.specs.LatestRoutes.{HasRoute, is_prefix, is_route, route_at, routes_of};
+ghost use Rattle.prefix_trie.specs.TrieMap.{IsRising, found};
+ghost use Rattle.rib_in.specs.PrefixRoutes.{is_only};
+ghost use Rattle.rib_in.specs.LatestRoutes.{HasRoute, is_prefix, is_route, route_at, route_in, routes_of};
 
-use crate::class_index::{ClassIndex, prefix_of_class};
 use crate::fault::RibFault;
-use crate::latest_routes::LatestRoutes;
+use crate::prefix_routes::{MARKS, PrefixRoutes, mark};
 use crate::slot_routes::SlotRoutes;
-use attribute_classes::class_of;
 use bgp_attr::Attrs;
-use net_prefix::{Asn, Prefix};
+use net_prefix::Prefix;
+use prefix_trie::Trie;
 use std::alloc::{Allocator, Global};
 use std::marker::Model;
 use std::rc::Rc;
@@ -25,46 +23,48 @@ use std::rc::Rc;
 /// The latest route of each slot and prefix.
 #[derive(Drop)]
 pub struct AdjIn<A: Allocator = Global> {
-    routes: LatestRoutes<A>,
-    // By what goes on of them from this AS.
-    index: ClassIndex<A>,
-    own: Asn,
+    routes: Trie<PrefixRoutes<A>, A>,
+    // Of the routes to one prefix but the first. There is none where the allocator couldn't be cloned.
+    alloc: Option<A>,
 }
 
 impl<A: Allocator> Model for AdjIn<A> {
-    ghost use Rattle.rib_in.specs.LatestRoutes.{RouteTable};
+    ghost use Rattle.rib_in.specs.LatestRoutes.{RouteTable, HasNoEmptyList};
 
     ghost Value = { RouteTable };
 
     ghost view = { λ t. t.routes };
 
-    ghost use Rattle.rib_in.specs.ClassedRoutes.{AreKept};
-
-    ghost invariant = { λ t. AreKept t.own t.index.routes t.routes };
+    ghost invariant = { λ t. HasNoEmptyList t.routes };
 }
 
 impl<A: Allocator + Clone> AdjIn<A> {
-    /// No routes. What is alike of them is found soon for this AS.
-    pub fn new(alloc: A, own: Asn) -> Self
+    /// No routes.
+    pub fn new(alloc: A) -> Self
         ensures { result ≡ [] }
     {
-        let routes = LatestRoutes::new(alloc);
-        let index = ClassIndex::new(routes.memory());
-        AdjIn { routes, index, own }
+        let more = alloc.clone().ok();
+        AdjIn {
+            routes: Trie::new(alloc),
+            alloc: more,
+        }
     }
 
     /// The attributes of the latest route of the slot to the prefix.
     pub fn get(&self, slot: u8, prefix: Prefix) -> Option<&Attrs<A>>
         ensures { option_copied result ≡ route_at self.now slot prefix }
     {
-        self.routes.get(slot, prefix)
+        match self.routes.get(&prefix) {
+            Some(routes) => routes.get(slot),
+            None => None,
+        }
     }
 
     /// Whether some slot has a route to the prefix.
     pub fn is_routed(&self, prefix: Prefix) -> bool
         ensures { MatchBool result (HasRoute self.now prefix) ((s : ℕ) → route_at self.now s prefix ≡ None) }
     {
-        self.routes.is_routed(prefix)
+        self.routes.get(&prefix).is_some()
     }
 
     /// The slot announced a route to the prefix, which replaces the one before it (RFC 4271 section 3.1).
@@ -79,48 +79,73 @@ impl<A: Allocator + Clone> AdjIn<A> {
         // Replacing a route takes no memory.
         ensures absent { OnErr result (route_at self.old slot prefix ≡ None) }
     {
-        self.mend();
-        attrs.is_sound();
-        let class = class_of(self.own, &attrs);
-        let before = self.class_at(slot, prefix);
-        let listed = self.index.make_room(slot, prefix, before, class);
-        if listed.is_err() {
-            return Err(RibFault::NoMemory);
-        }
-        if let Err(fault) = self.routes.announce(slot, prefix, attrs) {
-            self.index.leave(slot, prefix, Some(class));
-            return Err(fault);
-        }
-        self.index.change(slot, prefix, before, class);
-        Ok(())
-    }
-
-    // Routes are listed by class again, once there is none any more.
-    fn mend(&mut self)
-        ensures { self.new ≡ self.old }
-    {
-        if self.index.routes.is_none() && self.routes.prefix_after(None).is_none() {
-            self.index = ClassIndex::new(self.routes.memory());
+        match self.has_route(slot, prefix) {
+            Some(true) => {
+                self.routes
+                    .update(&prefix, |routes| routes.replace(slot, attrs));
+                Ok(())
+            }
+            Some(false) => {
+                let route = self.boxed(PrefixRoutes::one(slot, attrs))?;
+                self.routes.update(&prefix, |routes| routes.put(route));
+                Ok(())
+            }
+            None => match self.routes.insert(prefix, PrefixRoutes::one(slot, attrs)) {
+                Ok(_) => Ok(()),
+                Err(_) => Err(RibFault::NoMemory),
+            },
         }
     }
 
-    // The class of the slot's route to the prefix.
-    fn class_at(&self, slot: u8, prefix: Prefix) -> Option<u64>
-        ensures { is_some result ≡ is_some (route_at self.now slot prefix) }
+    // Whether the slot has a route to the prefix, if any slot has.
+    fn has_route(&self, slot: u8, prefix: Prefix) -> Option<bool>
+        ensures { result ≡ option_map (λ routes. is_some (route_in routes slot)) (found self.now prefix) }
     {
-        match self.routes.get(slot, prefix) {
-            Some(attrs) => Some(class_of(self.own, attrs)),
+        match self.routes.get(&prefix) {
+            Some(routes) => Some(routes.get(slot).is_some()),
             None => None,
         }
+    }
+
+    // Takes memory for a route.
+    fn boxed(&self, route: PrefixRoutes<A>) -> Result<Box<PrefixRoutes<A>, A>, RibFault>
+        ensures { IfOk result (λ boxed. boxed.value ≡ route) }
+    {
+        match self.memory() {
+            Some(alloc) => match Box::new(alloc, route) {
+                Ok(boxed) => Ok(boxed),
+                Err(_) => Err(RibFault::NoMemory),
+            },
+            None => Err(RibFault::NoMemory),
+        }
+    }
+
+    fn memory(&self) -> Option<A> {
+        self.alloc.as_ref()?.clone().ok()
     }
 
     /// The slot withdrew its route to the prefix.
     pub fn withdraw(&mut self, slot: u8, prefix: Prefix)
         ensures { (s : ℕ) (p : Prefix) → route_at self.new s p ≡ (if is_route slot prefix s p then None else route_at self.old s p) }
     {
-        let class = self.class_at(slot, prefix);
-        self.routes.withdraw(slot, prefix);
-        self.index.leave(slot, prefix, class);
+        let Some(only) = self.is_only(slot, prefix) else {
+            return;
+        };
+        if only {
+            self.routes.remove(&prefix);
+        } else {
+            self.routes.update(&prefix, |routes| routes.withdraw(slot));
+        }
+    }
+
+    // Whether no other slot has a route to the prefix, if any slot has.
+    fn is_only(&self, slot: u8, prefix: Prefix) -> Option<bool>
+        ensures { result ≡ option_map (is_only slot) (found self.now prefix) }
+    {
+        match self.routes.get(&prefix) {
+            Some(routes) => Some(routes.is_only(slot)),
+            None => None,
+        }
     }
 
     /// The slot's session has ended: none of its routes is kept.
@@ -141,22 +166,20 @@ impl<A: Allocator + Clone> AdjIn<A> {
         ensures least { IfSome result (λ p. (s : ℕ) (q : Prefix) → IsAbove after q → IsSome (route_at self.now s q) → is_gt (prefix_cmp p q) ≡ false) }
         ensures none { IfNone result ((s : ℕ) (q : Prefix) → IsAbove after q → route_at self.now s q ≡ None) }
     {
-        self.routes.prefix_after(after)
+        self.rises();
+        self.routes.after(after)
     }
 
-    /// A prefix above the given one, such that between them no prefix has a route of which the same goes on from this AS as
-    /// of these attributes; none where no prefix above has one. Found soon for the AS that the table was made with.
-    pub fn alike_after(&self, own: Asn, attrs: &Attrs<A>, after: Prefix) -> Option<Prefix>
-        ensures above { IfSome result (λ p. IsAbove (Some after) p) }
-        ensures least { IfSome result (λ p. (s : ℕ) (q : Prefix) (a : PathAttributes) → IsAbove (Some after) q → route_at self.now s q ≡ Some a → passed_of own a ≡ passed_of own attrs.now → is_gt (prefix_cmp p q) ≡ false) }
-        ensures none { IfNone result ((s : ℕ) (q : Prefix) (a : PathAttributes) → IsAbove (Some after) q → route_at self.now s q ≡ Some a → passed_of own a ≢ passed_of own attrs.now) }
+    // The least prefix above the given one, or of all, to which a slot below 64 has a route: found through the marks.
+    fn marked_prefix_after(&self, slot: u8, after: Option<Prefix>) -> Option<Prefix>
+        requires { slot < 64 }
+        ensures has { IfSome result (λ p. IsSome (route_at self.now slot p)) }
+        ensures above { IfSome result (λ p. IsAbove after p) }
+        ensures least { IfSome result (λ p. (q : Prefix) → IsAbove after q → IsSome (route_at self.now slot q) → is_gt (prefix_cmp p q) ≡ false) }
+        ensures none { IfNone result ((q : Prefix) → IsAbove after q → route_at self.now slot q ≡ None) }
     {
-        match &self.index.routes {
-            Some(routes) if self.own.0 == own.0 => {
-                prefix_of_class(routes, class_of(own, attrs), after)
-            }
-            _ => self.prefix_after(Some(after)),
-        }
+        self.rises();
+        self.routes.marked_after(after, mark(slot))
     }
 
     /// The least prefix above the given one, or of all, to which the slot has a route. That of a slot below 64 is found
@@ -167,7 +190,17 @@ impl<A: Allocator + Clone> AdjIn<A> {
         ensures least { IfSome result (λ p. (q : Prefix) → IsAbove after q → IsSome (route_at self.now slot q) → is_gt (prefix_cmp p q) ≡ false) }
         ensures none { IfNone result ((q : Prefix) → IsAbove after q → route_at self.now slot q ≡ None) }
     {
-        self.routes.slot_prefix_after(slot, after)
+        if slot < MARKS {
+            return self.marked_prefix_after(slot, after);
+        }
+        let mut last = after;
+        while let Some(prefix) = self.prefix_after(last) {
+            if self.get(slot, prefix).is_some() {
+                return Some(prefix);
+            }
+            last = Some(prefix);
+        }
+        None
     }
 
     /// The routes of a slot, in rising order of prefix.
@@ -176,13 +209,14 @@ impl<A: Allocator + Clone> AdjIn<A> {
         ensures rising { IsStrictlySortedBy prefix_cmp (keys_of result) }
         ensures found { (p : Prefix) → lookup (is_prefix p) result ≡ route_at self.now slot p }
     {
-        self.routes.routes_of(slot)
+        self.rises();
+        SlotRoutes::among(self.routes.iter(), slot)
     }
 
-    /// The attributes of each route are sound.
-    pub fn are_sound(&self)
-        ensures { (s : ℕ) (p : Prefix) (a : PathAttributes) → route_at self.now s p ≡ Some a → IsSoundRoute a }
+    // The prefixes rise.
+    fn rises(&self)
+        ensures { IsRising self.now }
     {
-        let _ = &self.own;
+        self.routes.len();
     }
 }

@@ -3,16 +3,13 @@
 //! `AdjIn` keeps the attributes of the latest route of each slot and prefix (RFC 4271 section 3.2): an announcement
 //! replaces the route before it, a withdrawal takes it out, and the end of a session takes out each route of its
 //! slot. Attributes are shared by the routes of one UPDATE. The routes stand in a trie by prefix, whose marks are the
-//! slots, so that the routes of one slot are found without looking at the others. Routes of which the same goes on to
-//! every peer are found by their class, one after another. Only `announce` takes memory, and where it gets none for the
-//! route the table stays as it was; where it gets none for the class, routes are found without classes until there is no
-//! route any more. Which route is chosen, and whether one is taken at all, is decided above.
+//! slots, so that the routes of one slot are found without looking at the others. Only `announce` takes memory, and
+//! where it gets none the table stays as it was. Which route is chosen, and whether one is taken at all, is decided
+//! above.
 #![tactic(auto)]
 
 mod adj_in;
-mod class_index;
 mod fault;
-mod latest_routes;
 mod prefix_routes;
 mod slot_routes;
 

@@ -1,3 +1,4 @@
+pub mod AlikeLists
 pub mod HeldTables
 pub mod OwedMarks
 pub mod Prefixes

@@ -117,3 +117,9 @@ module _ (a b c other slot : ℕ) where
   pub apart_with_right : ((s : ℕ) → has_slot b s ≡ (not (s == slot) && has_slot other s)) → ((s : ℕ) → has_slot c s ≡ (s == slot || has_slot a s)) → bit_and b a ≡ 0 → bit_and b c ≡ 0
   apart_with_right without with h =
       apart_from_slots b c (λ s. rw (with s, without s) (with_case_right (s == slot) (has_slot a s) (has_slot other s) (rw (without s) at (slots_from_apart b a s h))))
+
+-- the slots for which an announcement waits
+pub announced_slots : (waits : Waits) (slot : ℕ) → IsTrue (has_slot waits.marks.announcements slot) ↔ (owed_by waits slot ≡ Some Announcement)
+announced_slots waits slot =
+    announcement_case (has_slot waits.marks.withdrawals slot) (has_slot waits.marks.announcements slot)
+    (slots_from_apart waits.marks.withdrawals waits.marks.announcements slot waits.never_both)

@@ -1,3 +1,4 @@
+pub mod Alike
 pub mod Held
 pub mod Slots
 pub mod Undo

@@ -10,10 +10,16 @@
 //! the record of a prefix takes memory, and marking takes none. The next prefix of which something waits for a slot is
 //! found through the marks.
 //!
+//! `AlikePrefixes` lists what waits to be announced to each slot by a number of the octets of attributes that are to be
+//! sent, so that the prefixes of one UPDATE (RFC 4271 section 4.3) are found soon and in order. Other octets may have the
+//! same number: whoever looks for prefixes with the same attributes compares the octets besides. Listing one never fails:
+//! where memory is refused, the slot's list is no longer whole until it begins anew, and is to be done without.
+//!
 //! What is sent, and when, is decided above.
 #![tactic(auto)]
 
 mod adj_out;
+mod alike;
 mod marks;
 mod shared;
 mod slots;
@@ -22,7 +28,9 @@ mod waiting;
 mod waits;
 
 pub use adj_out::{AdjOut, HeldRoutes};
+pub use alike::AlikePrefixes;
 pub use marks::Owed;
 pub use shared::{RecentOctets, SharedOctets};
+pub use slots::Slots;
 pub use undo::UndoLog;
 pub use waiting::Waiting;

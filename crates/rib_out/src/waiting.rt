@@ -1,12 +1,15 @@
 //! What waits of each known prefix for each peer's slot.
-ghost use Rattle.std.specs.Prelude.{◌≡◌, ◌≢◌, ◌+◌, ◌<◌, ◌==◌, ◌&&◌, ℕ, [], None, Some, IfSome, IfNone, IfErr, IsSome, IsTrue, MatchBool, is_ok, true, false, if◌then◌else◌};
+ghost use Rattle.std.specs.Prelude.{◌≡◌, ◌≢◌, ◌↔◌, ◌+◌, ◌<◌, ◌==◌, ◌&&◌, ℕ, [], None, Some, IfSome, IfNone, IfErr, IsSome, IsTrue, MatchBool, is_ok, true, false, if◌then◌else◌};
 ghost use Rattle.std.specs.Ordering.{is_gt};
 ghost use Rattle.net_prefix.specs.declared.prefix.Prefix.{Prefix};
 ghost use Rattle.net_prefix.specs.PrefixOrder.{prefix_cmp, IsAbove};
 ghost use Rattle.rib_out.specs.Held.{is_prefix};
+ghost use Rattle.rib_out.specs.Slots.{has_slot};
+ghost use Rattle.rib_out.specs.declared.marks.Owed.TheVariants.{Announcement};
 ghost use Rattle.rib_out.specs.Waiting.{IsOfSlot, IsSet, count_owed, is_known, owed_at, owed_by};
 
 use crate::marks::Owed;
+use crate::slots::Slots;
 use crate::waits::Waits;
 use net_prefix::Prefix;
 use prefix_trie::Trie;
@@ -100,6 +103,16 @@ impl<A: Allocator> Waiting<A> {
         match self.records.get(&prefix) {
             Some(waits) => waits.owed(slot),
             None => None,
+        }
+    }
+
+    /// The slots for which the prefix waits to be announced.
+    pub fn announced(&self, prefix: Prefix) -> Slots
+        ensures { (s : ℕ) → IsTrue (has_slot result.bits s) ↔ (owed_at self.now s prefix ≡ Some Announcement) }
+    {
+        match self.records.get(&prefix) {
+            Some(waits) => waits.announced(),
+            None => Slots { bits: 0 },
         }
     }
 

@@ -2,7 +2,7 @@
 ghost use Rattle.std.specs.Prelude.{◌≡◌, ◌↔◌, ◌<◌, ◌==◌, ℕ, IsTrue, None, Some, bit_and, is_some, if◌then◌else◌};
 
 use crate::marks::{Marks, Owed};
-use crate::slots;
+use crate::slots::{self, Slots};
 use prefix_trie::Marked;
 
 /// The marks of one prefix: for a slot waits a withdrawal of it, or an announcement, or nothing.
@@ -23,7 +23,9 @@ impl Marked for Waits {
 }
 
 impl Waits {
+    ghost use Rattle.rib_out.specs.Slots.{has_slot};
     ghost use Rattle.rib_out.specs.Waiting.{marks_meet, owed_by};
+    ghost use Rattle.rib_out.specs.declared.marks.Owed.TheVariants.{Announcement};
     ghost use Rattle.rib_out.specs.declared.waits.Waits.{Waits};
 
     /// For no slot waits anything.
@@ -57,6 +59,15 @@ impl Waits {
             Some(Owed::Announcement)
         } else {
             None
+        }
+    }
+
+    /// The slots for which an announcement waits.
+    pub(crate) fn announced(&self) -> Slots
+        ensures { (s : ℕ) → IsTrue (has_slot result.bits s) ↔ (owed_by self.now s ≡ Some Announcement) }
+    {
+        Slots {
+            bits: self.marks.announcements,
         }
     }
 

@@ -50,7 +50,7 @@ fn announce_all(rt: &impl Abort, table: &mut AdjIn, attrs: &Rc<Attrs>, routes: &
 // The table of these routes, each a slot and a prefix.
 fn table_of(rt: &impl Abort, alloc: Global, routes: &[(u8, Prefix)]) -> AdjIn {
     let attrs = shared(rt, alloc);
-    let mut table = AdjIn::new(alloc, Asn(64496));
+    let mut table = AdjIn::new(alloc);
     announce_all(rt, &mut table, &attrs, routes);
     table
 }
@@ -265,7 +265,7 @@ fn fill<A: Allocator + Clone>(
 // Fills a table from one heap with routes from another. Answers how often a growth was refused.
 fn refusals_in<A: Allocator + Clone>(rt: &impl Abort, heap: A, ample: A) -> u32 {
     let attrs = shared(rt, ample);
-    fill(rt, &mut AdjIn::new(heap, Asn(64496)), &attrs)
+    fill(rt, &mut AdjIn::new(heap), &attrs)
 }
 
 #[test]

@@ -7,7 +7,7 @@ mod adj_rib_in;
 #[cfg(test)]
 mod adj_rib_out;
 #[cfg(test)]
-mod alike_routes;
+mod alike_prefixes;
 #[cfg(test)]
 mod books;
 #[cfg(test)]

@@ -8,7 +8,7 @@ use crate::books::candidate;
 use bgp_attr::Attrs;
 use decision::{Book, PlainBook};
 use loc_rib::Ribs;
-use net_prefix::{Asn, Prefix};
+use net_prefix::Prefix;
 use std::alloc::{AllocError, Allocator, Global};
 use std::process::Abort;
 use std::rc::Rc;
@@ -103,7 +103,7 @@ fn ends_the_sessions<A: Allocator + Clone, B: Book<A>>(ribs: &mut Ribs<A, B>) ->
 fn ribs_of(rt: &impl Abort, alloc: Global) -> Ribs<Global, PlainBook>
     ensures { AreAddressed (offer_at result.book) }
 {
-    match Ribs::new(alloc, Asn(64496)) {
+    match Ribs::new(alloc) {
         Ok(ribs) => ribs,
         Err(_) => panic!(rt; "no memory"),
     }

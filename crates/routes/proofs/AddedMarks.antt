@@ -8,7 +8,8 @@ use Rattle.bgp_conf.specs.ConfAfter.{conf_after, configured_of, exporting, impor
 use Rattle.bgp_conf.specs.Configuration.{Configuration, peer_at}
 use Rattle.bgp_conf.specs.FirstRefusal.{first_refusal}
 use Rattle.bgp_conf.specs.PeerPolicies.{action_by, export_action, exports_by}
-use Rattle.bgp_conf.specs.declared.command.Command.TheVariants.{AddPeer, SetPolicy, DropPolicy, UseIn, UseOut}
+use Rattle.bgp_conf.specs.declared.command.Command.{Command}
+use Rattle.bgp_conf.specs.declared.command.Command.TheVariants.{AddPeer, RemovePeer, Enable, Disable, SetPolicy, DropPolicy, UseIn, UseOut, Network, NoNetwork, Reach, NoReach}
 use Rattle.bgp_conf.specs.declared.command.PeerConf.{PeerConf}
 use Rattle.bgp_conf.specs.declared.conf.ConfiguredPeer.{ConfiguredPeer}
 use Rattle.bgp_fsm.specs.StateTests.{is_established}
@@ -24,12 +25,13 @@ use Rattle.net_prefix.specs.declared.asn.Asn.{Asn}
 use Rattle.net_prefix.specs.declared.prefix.Prefix.{Prefix}
 use Rattle.rib_in.specs.LatestRoutes.{RouteTable, route_at}
 use Rattle.rib_out.specs.Held.{asked_at, held_at}
-use Rattle.routes.specs.Export.{export_in, export_peer_of, exported_at, selected_of}
+use Rattle.routes.specs.Commands.{resolves}
+use Rattle.routes.specs.Export.{export_in, export_peer_of, selected_of}
 use Rattle.routes.specs.Linked.{Linked}
-use Rattle.routes.specs.Marks.{AreMarked, AreMarkedFor, mark_at, mark_of, owed_for}
+use Rattle.routes.specs.Marks.{AreMarked, AreMarkedFor, mark_at, mark_for, mark_of, no_mark}
 use Rattle.routes.specs.RoutingState.{RoutingState}
 use Rattle.routes.specs.Tables.{best_at, link_at}
-use Rattle.routes.proofs.Marking.{IsNow, is_other, mark_unlinked, now_off, other_is}
+use Rattle.routes.proofs.Marking.{IsNow, export_none, is_other, marked_as, none_unlinked, now_off, other_is}
 
 -- What waits, where a peer is added.
 
@@ -41,10 +43,6 @@ export_conf conf conf2 loc_rib adj_in peer p own actions i =
   where
     same : (c : Candidate) (attrs : PathAttributes) → export_action conf2 peer.slot (selected_of conf2.own p c attrs) ≡ export_action conf peer.slot (selected_of conf.own p c attrs)
     same c attrs = ap (λ asn. export_action conf2 peer.slot (selected_of asn p c attrs)) own ∙ actions (selected_of conf.own p c attrs)
-
--- nothing is exported of a prefix without a best route
-export_none : (conf : Configuration) (loc_rib : Prefix → Option Candidate) (adj_in : RouteTable) (peer : ExportPeer) (p : Prefix) → loc_rib p ≡ None → export_in conf loc_rib adj_in peer p ≡ None
-export_none conf loc_rib adj_in peer p none = ap (option_and_then (λ (c : Candidate). option_and_then (λ attrs. exported_at conf peer p c attrs) (route_at adj_in c.slot p))) none
 
 -- what the export to a peer goes by, beside its policy
 abbrev pub exported_by : ConfiguredPeer → Asn × ℕ
@@ -60,7 +58,7 @@ mark_conf conf conf2 adj_in book slot p (Some a) None linked own same exports = 
 mark_conf conf conf2 adj_in book slot p (Some a) (Some b) None own same exports = refl
 mark_conf conf conf2 adj_in book slot p (Some a) (Some b) (Some l) own same exports =
     let both : exported_by b ≡ exported_by a = one same in
-    ap (λ e. cond (is_established l.peer.session.state) (owed_for e (held_at l.adj_out p) (asked_at l.adj_out p)) None)
+    ap (λ e. cond (is_established l.peer.session.state) (mark_for e (held_at l.adj_out p) (asked_at l.adj_out p)) no_mark)
     (exports (export_peer_of conf2 slot b) refl ∙ (λ i. export_in conf (best_at (rows_of book)) adj_in (record { slot = slot; own = own i; asn = (both i).0; local = (both i).1 }) p))
   where
     one : {X : Type 0} {x y : X} → Some x ≡ Some y → x ≡ y
@@ -84,12 +82,12 @@ mark_same conf conf2 t slot p linked own policies peers = mark_kept conf conf2 t
 
 -- a peer whose session isn't Established is owed nothing
 mark_down : (conf : Configuration) (adj_in : RouteTable) (book : BookState) (slot : ℕ) (p : Prefix) (peer : Option ConfiguredPeer) (l : Linked) → is_established l.peer.session.state ≡ false
-    → mark_of conf adj_in book slot p peer (Some l) ≡ None
+    → mark_of conf adj_in book slot p peer (Some l) ≡ no_mark
 mark_down conf adj_in book slot p None l down = refl
 mark_down conf adj_in book slot p (Some peer) l down = rw down refl
 
 -- a slot that isn't there is owed nothing
-mark_nobody : (conf : Configuration) (adj_in : RouteTable) (book : BookState) (slot : ℕ) (p : Prefix) (peer : Option ConfiguredPeer) → mark_of conf adj_in book slot p peer None ≡ None
+mark_nobody : (conf : Configuration) (adj_in : RouteTable) (book : BookState) (slot : ℕ) (p : Prefix) (peer : Option ConfiguredPeer) → mark_of conf adj_in book slot p peer None ≡ no_mark
 mark_nobody conf adj_in book slot p None = refl
 mark_nobody conf adj_in book slot p (Some peer) = refl
 
@@ -104,7 +102,7 @@ marked_added closing conf conf2 links links2 t slot peer m marked may own polici
     known = marked.there.known;
   };
   released = marked.released;
-  marks = λ s p within. marked.marks s p within ∙ same s p;
+  marks = λ s p within. marked_as _ _ t s p (same s p) (marked.marks s p within);
 }
   where
     at_slot : (p : Prefix) → mark_at conf links t slot p ≡ mark_at conf2 links2 t slot p
@@ -126,7 +124,7 @@ pub marked_links : (conf : Configuration) (links links2 : List (ℕ × Linked)) 
 marked_links conf links links2 t marked same = record {
   there = record { within = λ s l there. marked.there.within s l (sym (same s) ∙ there); known = marked.there.known };
   released = marked.released;
-  marks = λ s p within. marked.marks s p within ∙ sym (ap (mark_of conf t.adj_in t.book s p (peer_at conf s)) (same s));
+  marks = λ s p within. marked_as _ _ t s p (sym (ap (mark_of conf t.adj_in t.book s p (peer_at conf s)) (same s))) (marked.marks s p within);
 }
 
 -- an entry of `reach` says nothing of the export
@@ -134,8 +132,25 @@ pub marked_reached : (conf conf2 : Configuration) (links : List (ℕ × Linked))
 marked_reached conf conf2 links t marked own policies peers = record {
   there = marked.there;
   released = marked.released;
-  marks = λ s p within. marked.marks s p within ∙ sym (mark_same conf conf2 t s p (link_at links s) own policies (peers s));
+  marks = λ s p within. marked_as _ _ t s p (sym (mark_same conf conf2 t s p (link_at links s) own policies (peers s))) (marked.marks s p within);
 }
+
+-- nor does any command that changes how next hops resolve
+pub marked_resolved : (conf conf2 : Configuration) (links : List (ℕ × Linked)) (t : RoutingState) (command : Command) → conf2 ≡ conf_after conf command → resolves command ≡ true → AreMarked conf links t → AreMarked conf2 links t
+marked_resolved conf conf2 links t (AddPeer slot peer) is so marked = absurd (cc)
+marked_resolved conf conf2 links t (RemovePeer slot) is so marked = absurd (cc)
+marked_resolved conf conf2 links t (Enable slot) is so marked = absurd (cc)
+marked_resolved conf conf2 links t (Disable slot) is so marked = absurd (cc)
+marked_resolved conf conf2 links t (SetPolicy name rules) is so marked = absurd (cc)
+marked_resolved conf conf2 links t (DropPolicy name) is so marked = absurd (cc)
+marked_resolved conf conf2 links t (UseIn slot name) is so marked = absurd (cc)
+marked_resolved conf conf2 links t (UseOut slot name) is so marked = absurd (cc)
+marked_resolved conf conf2 links t (Network prefix) is so marked = absurd (cc)
+marked_resolved conf conf2 links t (NoNetwork prefix) is so marked = absurd (cc)
+marked_resolved conf conf2 links t (Reach prefix cost) is so marked =
+    marked_reached conf conf2 links t marked (ap (λ (c : Configuration). c.own) is) (ap (λ (c : Configuration). c.policies) is) (λ s. ap (λ c. peer_at c s) is)
+marked_resolved conf conf2 links t (NoReach prefix) is so marked =
+    marked_reached conf conf2 links t marked (ap (λ (c : Configuration). c.own) is) (ap (λ (c : Configuration). c.policies) is) (λ s. ap (λ c. peer_at c s) is)
 
 -- where a peer is removed: its session isn't Established
 pub marked_removed : (conf conf2 : Configuration) (links : List (ℕ × Linked)) (t : RoutingState) (slot : ℕ) → AreMarked conf links t → conf2.own ≡ conf.own → conf2.policies ≡ conf.policies → ((s : ℕ) → peer_at conf2 s ≡ cond (s == slot) None (peer_at conf s))
@@ -143,10 +158,10 @@ pub marked_removed : (conf conf2 : Configuration) (links : List (ℕ × Linked))
 marked_removed conf conf2 links t slot marked own policies peers down = record {
   there = marked.there;
   released = marked.released;
-  marks = λ s p within. marked.marks s p within ∙ same s p;
+  marks = λ s p within. marked_as _ _ t s p (same s p) (marked.marks s p within);
 }
   where
-    was : (p : Prefix) (linked : Option Linked) → link_at links slot ≡ linked → mark_of conf t.adj_in t.book slot p (peer_at conf slot) linked ≡ None
+    was : (p : Prefix) (linked : Option Linked) → link_at links slot ≡ linked → mark_of conf t.adj_in t.book slot p (peer_at conf slot) linked ≡ no_mark
     was p None is = mark_nobody conf t.adj_in t.book slot p (peer_at conf slot)
     was p (Some l) is = mark_down conf t.adj_in t.book slot p (peer_at conf slot) l (down l is)
 
@@ -173,7 +188,7 @@ marked_gone conf links links2 t slot marked nobody gone = record {
     known = marked.there.known;
   };
   released = marked.released;
-  marks = λ s p within. marked.marks s p within ∙ sym (same s p);
+  marks = λ s p within. marked_as _ _ t s p (sym (same s p)) (marked.marks s p within);
 }
   where
     same : (s : ℕ) (p : Prefix) → mark_at conf links2 t s p ≡ mark_at conf links t s p
@@ -190,9 +205,10 @@ marked_importing conf conf2 links t slot name is marked = subst (λ c. AreMarked
   there = marked.there;
   released = marked.released;
   marks = λ s p within.
-      marked.marks s p within
-      ∙ sym (mark_kept conf (conf_after conf (UseIn slot name)) t s p (link_at links s) refl (option_map-changed conf slot (importing (name_of name.now)) exported_by (λ peer. refl) s)
-      (λ route. export_action-UseIn conf s route slot name));
+      marked_as _ _ t s p
+      (sym (mark_kept conf (conf_after conf (UseIn slot name)) t s p (link_at links s) refl (option_map-changed conf slot (importing (name_of name.now)) exported_by (λ peer. refl) s)
+      (λ route. export_action-UseIn conf s route slot name)))
+      (marked.marks s p within);
 })
 
 -- a policy that no peer uses is dropped
@@ -201,7 +217,7 @@ pub marked_dropped : (closing : ℕ) (conf conf2 : Configuration) (links : List 
 marked_dropped closing conf conf2 links t name may is marked = subst (λ c. AreMarked c links t) (sym is) (record {
   there = marked.there;
   released = marked.released;
-  marks = λ s p within. marked.marks s p within ∙ sym (mark_kept conf (conf_after conf (DropPolicy name)) t s p (link_at links s) refl refl (λ route. export_action-DropPolicy conf s route closing name may));
+  marks = λ s p within. marked_as _ _ t s p (sym (mark_kept conf (conf_after conf (DropPolicy name)) t s p (link_at links s) refl refl (λ route. export_action-DropPolicy conf s route closing name may))) (marked.marks s p within);
 })
 
 -- what is owed of a prefix without a best route, whatever export policies say
@@ -217,8 +233,8 @@ marked_for : (done : ℕ → Bool) (conf conf2 : Configuration) (links : List (�
 marked_for done conf conf2 links t marked own peers actions = record {
   there = marked.there;
   released = marked.released;
-  marks = λ s p within is. marked.marks s p within ∙ sym (either s p is);
-  none = λ s p within unlinked. marked.marks s p within ∙ mark_unlinked conf links t s p unlinked;
+  marks = λ s p within is. marked_as _ _ t s p (sym (either s p is)) (marked.marks s p within);
+  none = λ s p within unlinked. none_unlinked conf links t t s p unlinked (marked.marks s p within);
 }
   where
     either : (s : ℕ) (p : Prefix) → (done s ≡ true) ⊎ (best_at (rows_of t.book) p ≡ None) → mark_at conf2 links t s p ≡ mark_at conf links t s p

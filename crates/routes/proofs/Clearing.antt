@@ -30,7 +30,7 @@ pub told_released : (slot : ℕ) (prefix : Prefix) (t u : RoutingState) (unmarke
     → ((s : ℕ) (p : Prefix) → owed_at u.waiting s p ≡ owed_at unmarked s p) → ((p : Prefix) → is_prefix prefix p ≡ false → is_known u.waiting p ≡ is_known unmarked p) → IsReleased u prefix
     → ((p : Prefix) → IsReleased t p) → (p : Prefix) → IsReleased u p
 told_released slot prefix t u unmarked rest set set_known owed known here all =
-    all_released prefix t u rest (λ s p few other. owed s p ∙ set s p ∙ off_prefix_of (s == slot) (is_prefix prefix p) (owed_at t.waiting s p) other) (λ p other. known p other ∙ set_known p) here (λ p other. all p)
+    all_released prefix t u (λ s p. ap (λ (x : RoutingState). route_at x.adj_in s p) rest) (λ s p few other. owed s p ∙ set s p ∙ off_prefix_of (s == slot) (is_prefix prefix p) (owed_at t.waiting s p) other) (λ p other. known p other ∙ set_known p) here (λ p other. all p)
 
 -- each prefix with a route is known just as it was
 abbrev pub StaysKnown : RoutingState → RoutingState → Type 0

@@ -68,7 +68,7 @@ pub there_more : (slot : ℕ) (p : Prefix) (old now new : RouteTable) → WereTh
 there_more slot p old now new were out q there = were q (there_case (is_route slot p slot q) (route_at now slot q) (subst (λ o. IsSome o) (out slot q) there))
 
 -- where it leaves Established, a best route is chosen once at most for each of its routes
-pub ends_all : (slot : ℕ) (t u : RoutingState) (after : ℕ) → u ≡ record t { waiting = u.waiting } → Ends slot u.adj_in u.chosen after → Ends slot t.adj_in t.chosen after
+pub ends_all : (slot : ℕ) (t u : RoutingState) (after : ℕ) → u ≡ record t { waiting = u.waiting; alike = u.alike } → Ends slot u.adj_in u.chosen after → Ends slot t.adj_in t.chosen after
 ends_all slot t u after rest all =
     let few = all.2 in
     let count = ap (λ (r : RoutingState). r.chosen) rest in (
@@ -85,22 +85,6 @@ either_still false c d still there = still there
 pub among_all : (p : Prefix) (seen rest : List Prefix) → is_among p seen ≡ true → is_among p (seen ++ rest) ≡ true
 among_all p [] rest h = absurd (cc)
 among_all p (d ∷ seen) rest h = either_still (is_eq (prefix_cmp d p)) (is_among p seen) (is_among p (seen ++ rest)) (among_all p seen rest) h
-
--- a route of the slot was there before, or the UPDATE announces it
-abbrev pub AreAnnounced : ℕ → List Prefix → RouteTable → RouteTable → Type 0
-AreAnnounced slot prefixes old new = (p : Prefix) → IsSome (route_at new slot p) → IsSome (route_at old slot p) ⊎ (is_among p prefixes ≡ true)
-
-announced_case : {X : Type 0} (a b : Bool) (what o : Option X) (Q : Type 0) → (b ≡ true → Q) → IsSome (cond (a && b) what o) → IsSome o ⊎ Q
-announced_case true true what o Q named there = inr (named refl)
-announced_case true false what o Q named there = inl there
-announced_case false b what o Q named there = inl there
-
-pub announced_some : (slot : ℕ) (prefixes seen rest : List Prefix) (what : Prefix → Option PathAttributes) (old now new : RouteTable) → Sets slot (λ p. true) prefixes seen rest what (route_at old) (route_at now)
-    → ((s : ℕ) (p : Prefix) → route_at new s p ≡ route_at now s p) → AreAnnounced slot prefixes old new
-announced_some slot prefixes seen rest what old now new h same p there =
-    let here = subst (λ o. IsSome o) (same slot p ∙ h.set slot p) there in
-    announced_case (slot == slot) (is_among p seen && true) (what p) (route_at old slot p) (is_among p prefixes ≡ true)
-    (λ among. subst (λ all. is_among p all ≡ true) h.whole (among_all p seen rest (both_true (is_among p seen) true among))) here
 
 -- a best route was chosen once at most for each different one of those seen that are taken
 pub record CountsNamed (taken : Prefix → Bool) (seen : List Prefix) (before now : ℕ) : Type 0 where

@@ -1,21 +1,27 @@
-use Rattle.std.proofs.Common.{◌≡◌, ◌≢◌, ◌⊎◌, ◌≤◌, ◌<◌, ◌+◌, ◌&&◌, ℕ, Bool, true, false, not, List, Option, Some, None, IfSome, MatchOption, cond, refl, sym, ap, ◌∙◌, subst, arith, inl, inr}
+use Rattle.std.proofs.Common.{◌≡◌, ◌≢◌, ◌⊎◌, ◌≤◌, ◌<◌, ◌&&◌, ℕ, Bool, true, false, not, List, Option, Some, None, IfSome, IfNone, MatchOption, cond, refl, ap, ◌∙◌, subst, arith, inl, inr}
 use Rattle.std.specs.Option.{IsSome}
 use Rattle.std.specs.Ordering.{is_gt}
 use Rattle.std.specs.Str.{bytes_eq}
 use Rattle.std.proofs.lemmas.Bool.{cases_lt}
 use Rattle.std.proofs.lemmas.Slice.Eq.{bytes_eq-Decides}
+use Rattle.bgp_fsm.specs.declared.state.State.TheVariants.{Established}
 use Rattle.net_prefix.specs.PrefixOrder.{prefix_cmp, IsAbove}
 use Rattle.net_prefix.specs.declared.prefix.Prefix.{Prefix}
+use Rattle.rib_out.specs.Alike.{AlikeState, IsListed}
 use Rattle.rib_out.specs.Held.{asked_at, held_at}
+use Rattle.rib_out.specs.Waiting.{owed_at}
+use Rattle.rib_out.specs.declared.waits.Waits.{Waits}
 use Rattle.rib_out.specs.declared.marks.Owed.TheVariants.{Announcement}
 use Rattle.rib_out.proofs.HeldTables.{held_if_asked}
 use Rattle.routes.specs.Linked.{Linked}
-use Rattle.routes.specs.Marks.{owed_for}
-use Rattle.routes.specs.Owing.{IsNext, announced_of, withdrawn_of}
+use Rattle.routes.specs.Marks.{AreMarked, owed_for}
+use Rattle.routes.specs.Owing.{IsNext, withdrawn_of}
 use Rattle.routes.specs.Packing.{IsBehind, IsDue, IsFrom, IsNewTo}
 use Rattle.routes.specs.Places.{rank_of}
-use Rattle.routes.proofs.Owing.{some_announcement}
-use Rattle.routes.proofs.Places.{above_from_rank, greater_from_rank, rank_from_above}
+use Rattle.routes.specs.RoutesState.{RoutesState, export_of}
+use Rattle.routes.specs.Tables.{link_at}
+use Rattle.routes.proofs.Owing.{announced_listed, peer_told, routing_of}
+use Rattle.routes.proofs.Places.{above_from_rank, greater_from_rank, rank_from_above, same_from_rank}
 
 -- What is due to a peer, by what waits for it.
 
@@ -116,7 +122,54 @@ coming_alike There p (Some n) due above = (due, above)
 pub due_held : (exports : Prefix → Option (List ℕ)) (l : Linked) (q : Prefix) → IsDue exports None l q → IsSome (held_at l.adj_out q)
 due_held exports l q due = (withdrawn_none (exports q) (held_at l.adj_out q) (withdrawn_due exports l q due)).1
 
--- what is due to be announced waits
-pub due_some : (exports : Prefix → Option (List ℕ)) (octets : List ℕ) (l : Linked) (q : Prefix) → IsDue exports (Some octets) l q → IsSome (announced_of (exports q) (held_at l.adj_out q) (asked_at l.adj_out q))
-due_some exports octets l q due =
-    some_announcement (exports q) (held_at l.adj_out q) (asked_at l.adj_out q) (announced_due octets (exports q) (held_at l.adj_out q) (asked_at l.adj_out q) due.0 due.1)
+-- a prefix that isn't due isn't the one that is
+pub passed_over : (p q : Prefix) (Due : Prefix → Type 0) → (Due p → ⊥) → Due q → rank_of p ≤ rank_of q → rank_of p < rank_of q
+passed_over p q Due not due low =
+    elim (cases_lt (rank_of p) (rank_of q)) [
+      | inl less ↦ less
+      | inr more ↦ absurd (not (subst Due (same_from_rank q p (omega (arith, low, more))) due))
+    ]
+
+-- a prefix above another has a higher place
+pub ranked_above : (last : Prefix) (next : Option Prefix) → IfSome next (λ p. IsAbove (Some last) p) → IfSome next (λ p. rank_of last < rank_of p)
+ranked_above last None above = tt
+ranked_above last (Some p) above = omega (arith, rank_from_above (Some last) p above)
+
+-- the next that waits, whatever is listed
+module _ (waiting : List (Prefix × Waits)) (alike : AlikeState) (slot : ℕ) (octets : List ℕ) (last : Prefix) where
+  pub least_listed : (next : Option Prefix) → IfSome next (λ p. (q : Prefix) → IsAbove (Some last) q → owed_at waiting slot q ≡ Some Announcement → is_gt (prefix_cmp p q) ≡ false)
+      → IfSome next (λ p. (q : Prefix) → IsAbove (Some last) q → owed_at waiting slot q ≡ Some Announcement → IsListed alike slot octets q → is_gt (prefix_cmp p q) ≡ false)
+  least_listed None least = tt
+  least_listed (Some p) least = λ q over waits listed. least q over waits
+
+  -- the next that is listed, whatever waits
+  pub least_waiting : (next : Option Prefix) → IfSome next (λ p. (q : Prefix) → IsAbove (Some last) q → IsListed alike slot octets q → is_gt (prefix_cmp p q) ≡ false)
+      → IfSome next (λ p. (q : Prefix) → IsAbove (Some last) q → owed_at waiting slot q ≡ Some Announcement → IsListed alike slot octets q → is_gt (prefix_cmp p q) ≡ false)
+  least_waiting None least = tt
+  least_waiting (Some p) least = λ q over waits listed. least q over listed
+
+  pub none_waiting : (next : Option Prefix) → IfNone next ((q : Prefix) → IsAbove (Some last) q → IsListed alike slot octets q → ⊥)
+      → IfNone next ((q : Prefix) → IsAbove (Some last) q → owed_at waiting slot q ≡ Some Announcement → IsListed alike slot octets q → ⊥)
+  none_waiting None none = λ q over waits listed. none q over listed
+  none_waiting (Some p) none = tt
+
+  pub none_listed : (next : Option Prefix) → IfNone next ((q : Prefix) → IsAbove (Some last) q → owed_at waiting slot q ≢ Some Announcement)
+      → IfNone next ((q : Prefix) → IsAbove (Some last) q → owed_at waiting slot q ≡ Some Announcement → IsListed alike slot octets q → ⊥)
+  none_listed None none = λ q over waits listed. none q over waits
+  none_listed (Some p) none = tt
+
+-- what is due to be announced with these octets waits, and is listed by them
+module _ (s : RoutesState) (waiting : List (Prefix × Waits)) (alike : AlikeState) (slot : ℕ) (l : Linked) (octets : List ℕ) (last : Prefix) (marked : AreMarked s.conf s.links (routing_of s waiting alike)) (within : slot < 64)
+    (linked : link_at s.links slot ≡ Some l) (established : l.peer.session.state ≡ Established) where
+  listed_due : (q : Prefix) → IsDue (export_of s slot) (Some octets) l q → (owed_at waiting slot q ≡ Some Announcement) × IsListed alike slot octets q
+  listed_due q due =
+      let told = peer_told s slot q octets due.0 in
+      announced_listed s waiting alike slot told.0 l octets q marked within told.1 linked established due.0
+      (announced_due octets (export_of s slot q) (held_at l.adj_out q) (asked_at l.adj_out q) due.0 due.1)
+
+  -- so it stands no lower than the next that waits and is listed so
+  pub behind_listed : (next : Option Prefix)
+      → IfSome next (λ p. (q : Prefix) → IsAbove (Some last) q → owed_at waiting slot q ≡ Some Announcement → IsListed alike slot octets q → is_gt (prefix_cmp p q) ≡ false)
+      → IfNone next ((q : Prefix) → IsAbove (Some last) q → owed_at waiting slot q ≡ Some Announcement → IsListed alike slot octets q → ⊥) → IsBehind (IsDue (export_of s slot) (Some octets) l) last next
+  behind_listed None least none = λ q due above. let here = listed_due q due in none q (above_from_rank (Some last) q (omega (arith, above))) here.0 here.1
+  behind_listed (Some n) least none = λ q due above. let here = listed_due q due in low_or n q (least q (above_from_rank (Some last) q (omega (arith, above))) here.0 here.1)

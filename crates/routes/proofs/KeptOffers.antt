@@ -207,57 +207,61 @@ some_if o p is there = rw is there
 pub kept_same : (t u : Tables) (f g : Offers) → t ≡ u → g ≡ f → AreKept t f → AreKept u g
 kept_same t u f g tables offers kept = subst (λ x. AreKept x g) tables (subst (λ x. AreKept t x) (sym offers) kept)
 
+-- what the selection reads, by what routes there are
+abbrev pub reads : Configuration → List Vrp → (ℕ → Option Session) → (ℕ → Prefix → Option PathAttributes) → Tables
+reads conf payloads sessions routes = record { conf = conf; payloads = payloads; sessions = sessions; routes = λ slot prefix. routes slot prefix }
+
 -- some slots' routes go, with their candidates
-pub kept_gone : (conf : Configuration) (payloads : List Vrp) (sessions : ℕ → Option Session) (old new : RouteTable) (had has : Offers) (gone : ℕ → Prefix → Bool)
-    → ((slot : ℕ) (prefix : Prefix) → route_at new slot prefix ≡ cond (gone slot prefix) None (route_at old slot prefix))
+pub kept_gone : (conf : Configuration) (payloads : List Vrp) (sessions : ℕ → Option Session) (old new : ℕ → Prefix → Option PathAttributes) (had has : Offers) (gone : ℕ → Prefix → Bool)
+    → ((slot : ℕ) (prefix : Prefix) → new slot prefix ≡ cond (gone slot prefix) None (old slot prefix))
     → ((slot : ℕ) (prefix : Prefix) → has slot prefix ≡ cond (gone slot prefix) None (had slot prefix))
-    → AreKept (read_in conf payloads sessions old) had → AreKept (read_in conf payloads sessions new) has
+    → AreKept (reads conf payloads sessions old) had → AreKept (reads conf payloads sessions new) has
 kept_gone conf payloads sessions old new had has gone routes offers kept = record {
   made = λ slot prefix. made_here slot prefix (gone slot prefix) (routes slot prefix) (offers slot prefix);
   routed = λ slot prefix there. kept.routed slot prefix (routed_here slot prefix (gone slot prefix) (routes slot prefix) there);
   below = kept.below;
 }
   where
-    made_here : (slot : ℕ) (prefix : Prefix) (b : Bool) → route_at new slot prefix ≡ cond b None (route_at old slot prefix) → has slot prefix ≡ cond b None (had slot prefix)
-        → IsOffer (read_in conf payloads sessions new) slot prefix (has slot prefix)
-    made_here slot prefix true route offer = subst (λ f. IsOffer (read_in conf payloads sessions new) slot prefix f) (sym offer) (none_routed (read_in conf payloads sessions new) prefix slot route)
+    made_here : (slot : ℕ) (prefix : Prefix) (b : Bool) → new slot prefix ≡ cond b None (old slot prefix) → has slot prefix ≡ cond b None (had slot prefix)
+        → IsOffer (reads conf payloads sessions new) slot prefix (has slot prefix)
+    made_here slot prefix true route offer = subst (λ f. IsOffer (reads conf payloads sessions new) slot prefix f) (sym offer) (none_routed (reads conf payloads sessions new) prefix slot route)
     made_here slot prefix false route offer =
-        subst (λ f. IsOffer (read_in conf payloads sessions new) slot prefix f) (sym offer)
-        (offer_alike (read_in conf payloads sessions old) (read_in conf payloads sessions new) slot prefix (had slot prefix) (record { own = refl; reach = refl; peer = refl; identifier = refl; route = route; state = λ origin. refl; action = λ seen. refl }) (kept.made slot prefix))
+        subst (λ f. IsOffer (reads conf payloads sessions new) slot prefix f) (sym offer)
+        (offer_alike (reads conf payloads sessions old) (reads conf payloads sessions new) slot prefix (had slot prefix) (record { own = refl; reach = refl; peer = refl; identifier = refl; route = route; state = λ origin. refl; action = λ seen. refl }) (kept.made slot prefix))
 
-    routed_here : (slot : ℕ) (prefix : Prefix) (b : Bool) → route_at new slot prefix ≡ cond b None (route_at old slot prefix) → IsSome (route_at new slot prefix) → IsSome (route_at old slot prefix)
-    routed_here slot prefix true route there = no_none (route_at new slot prefix) route there
-    routed_here slot prefix false route there = some_if (route_at old slot prefix) (route_at new slot prefix) (sym route) there
+    routed_here : (slot : ℕ) (prefix : Prefix) (b : Bool) → new slot prefix ≡ cond b None (old slot prefix) → IsSome (new slot prefix) → IsSome (old slot prefix)
+    routed_here slot prefix true route there = no_none (new slot prefix) route there
+    routed_here slot prefix false route there = some_if (old slot prefix) (new slot prefix) (sym route) there
 
 -- routes of the slot with these attributes come, and make this candidate, each with its state
-pub kept_come : (conf : Configuration) (payloads : List Vrp) (slot identifier : ℕ) (attrs : PathAttributes) (found : Option Candidate) (old new : RouteTable) (had has : Offers) (come : ℕ → Prefix → Bool)
+pub kept_come : (conf : Configuration) (payloads : List Vrp) (slot identifier : ℕ) (attrs : PathAttributes) (found : Option Candidate) (old new : ℕ → Prefix → Option PathAttributes) (had has : Offers) (come : ℕ → Prefix → Bool)
     → ((s : ℕ) (p : Prefix) → come s p ≡ true → s ≡ slot) → IsMade conf slot identifier attrs found
-    → ((s : ℕ) (p : Prefix) → route_at new s p ≡ cond (come s p) (Some attrs) (route_at old s p))
+    → ((s : ℕ) (p : Prefix) → new s p ≡ cond (come s p) (Some attrs) (old s p))
     → ((s : ℕ) (p : Prefix) → has s p ≡ cond (come s p) (judged_at conf payloads attrs found p) (had s p))
     → (session : Session) → is_established session.state ≡ true → session.identifier ≡ identifier → (sessions : ℕ → Option Session) → sessions slot ≡ Some session
-    → AreKept (read_in conf payloads sessions old) had → AreKept (read_in conf payloads sessions new) has
+    → AreKept (reads conf payloads sessions old) had → AreKept (reads conf payloads sessions new) has
 kept_come conf payloads slot identifier attrs found old new had has come here made routes offers session established same sessions there kept = record {
   made = λ s p. made_here s p (come s p) refl (routes s p) (offers s p);
   routed = λ s p routed. routed_here s p (come s p) refl (routes s p) routed;
   below = kept.below;
 }
   where
-    made_there : (s : ℕ) (p : Prefix) → s ≡ slot → route_at new s p ≡ Some attrs → IsOffer (read_in conf payloads sessions new) s p (judged_at conf payloads attrs found p)
+    made_there : (s : ℕ) (p : Prefix) → s ≡ slot → new s p ≡ Some attrs → IsOffer (reads conf payloads sessions new) s p (judged_at conf payloads attrs found p)
     made_there s p slots route =
-        subst (λ x. IsOffer (read_in conf payloads sessions new) x p (judged_at conf payloads attrs found p)) (sym slots)
-        (candidate_made (read_in conf payloads sessions new) p slot identifier session attrs found (kept.below slot session there) there (subst (λ x. route_at new x p ≡ Some attrs) slots route) (sym same) made)
+        subst (λ x. IsOffer (reads conf payloads sessions new) x p (judged_at conf payloads attrs found p)) (sym slots)
+        (candidate_made (reads conf payloads sessions new) p slot identifier session attrs found (kept.below slot session there) there (subst (λ x. new x p ≡ Some attrs) slots route) (sym same) made)
 
-    made_here : (s : ℕ) (p : Prefix) (b : Bool) → come s p ≡ b → route_at new s p ≡ cond b (Some attrs) (route_at old s p) → has s p ≡ cond b (judged_at conf payloads attrs found p) (had s p)
-        → IsOffer (read_in conf payloads sessions new) s p (has s p)
-    made_here s p true is route offer = subst (λ f. IsOffer (read_in conf payloads sessions new) s p f) (sym offer) (made_there s p (here s p is) route)
+    made_here : (s : ℕ) (p : Prefix) (b : Bool) → come s p ≡ b → new s p ≡ cond b (Some attrs) (old s p) → has s p ≡ cond b (judged_at conf payloads attrs found p) (had s p)
+        → IsOffer (reads conf payloads sessions new) s p (has s p)
+    made_here s p true is route offer = subst (λ f. IsOffer (reads conf payloads sessions new) s p f) (sym offer) (made_there s p (here s p is) route)
     made_here s p false is route offer =
-        subst (λ f. IsOffer (read_in conf payloads sessions new) s p f) (sym offer)
-        (offer_alike (read_in conf payloads sessions old) (read_in conf payloads sessions new) s p (had s p) (record { own = refl; reach = refl; peer = refl; identifier = refl; route = route; state = λ origin. refl; action = λ seen. refl }) (kept.made s p))
+        subst (λ f. IsOffer (reads conf payloads sessions new) s p f) (sym offer)
+        (offer_alike (reads conf payloads sessions old) (reads conf payloads sessions new) s p (had s p) (record { own = refl; reach = refl; peer = refl; identifier = refl; route = route; state = λ origin. refl; action = λ seen. refl }) (kept.made s p))
 
-    routed_here : (s : ℕ) (p : Prefix) (b : Bool) → come s p ≡ b → route_at new s p ≡ cond b (Some attrs) (route_at old s p) → IsSome (route_at new s p)
+    routed_here : (s : ℕ) (p : Prefix) (b : Bool) → come s p ≡ b → new s p ≡ cond b (Some attrs) (old s p) → IsSome (new s p)
         → ((x : Session) × (sessions s ≡ Some x) × (is_established x.state ≡ true)) ⊎ (s ≡ 64)
     routed_here s p true is route routed = inl (session, ap sessions (here s p is) ∙ there, established)
-    routed_here s p false is route routed = kept.routed s p (some_if (route_at old s p) (route_at new s p) (sym route) routed)
+    routed_here s p false is route routed = kept.routed s p (some_if (old s p) (new s p) (sym route) routed)
 
 -- a local network comes, with the candidate that it makes
 pub kept_network : (conf : Configuration) (payloads : List Vrp) (network : Prefix) (sessions : ℕ → Option Session) (old new : RouteTable) (had has : Offers) → ((p q : Prefix) → is_route 64 p 64 q ≡ true → p ≡ q)
@@ -292,7 +296,7 @@ kept_network conf payloads network sessions old new had has one here routes offe
 -- nothing has changed at any route
 pub kept_still : (conf : Configuration) (payloads : List Vrp) (sessions : ℕ → Option Session) (old new : RouteTable) (had has : Offers) → ((s : ℕ) (p : Prefix) → route_at new s p ≡ route_at old s p)
     → ((s : ℕ) (p : Prefix) → has s p ≡ had s p) → AreKept (read_in conf payloads sessions old) had → AreKept (read_in conf payloads sessions new) has
-kept_still conf payloads sessions old new had has routes offers kept = kept_gone conf payloads sessions old new had has (λ s p. false) routes offers kept
+kept_still conf payloads sessions old new had has routes offers kept = kept_gone conf payloads sessions (route_at old) (route_at new) had has (λ s p. false) routes offers kept
 
 -- Loc-RIB has the best of the candidates of all routes
 

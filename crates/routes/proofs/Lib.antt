@@ -1,5 +1,6 @@
 pub mod AddedMarks
-pub mod AlikeRoutes
+pub mod BroughtPrefixes
+pub mod BroughtRoutes
 pub mod CandidateLists
 pub mod Clearing
 pub mod Counting

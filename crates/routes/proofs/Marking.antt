@@ -21,15 +21,17 @@ use Rattle.export_rules.specs.declared.export.ExportPeer.{ExportPeer}
 use Rattle.net_prefix.specs.PrefixOrder.{prefix_cmp, IsAbove}
 use Rattle.net_prefix.specs.declared.prefix.Prefix.{Prefix}
 use Rattle.rib_in.specs.LatestRoutes.{RouteTable, is_route, route_at}
+use Rattle.rib_out.specs.Alike.{AlikeState, IsListed}
 use Rattle.rib_out.specs.Held.{HeldRoute, all_asked, asked_at, held_at, is_among}
 use Rattle.rib_out.specs.Waiting.{is_known, owed_at}
 use Rattle.rib_out.specs.declared.marks.Owed.{Owed}
+use Rattle.rib_out.specs.declared.marks.Owed.TheVariants.{Announcement}
 use Rattle.rib_out.specs.declared.waits.Waits.{Waits}
 use Rattle.rib_out.proofs.HeldTables.{held_at-all_asked}
 use Rattle.rib_out.proofs.Prefixes.{is_prefix-refl}
 use Rattle.routes.specs.Export.{export_in, export_peer_of, exported_at}
 use Rattle.routes.specs.Linked.{Linked, moved}
-use Rattle.routes.specs.Marks.{AreKnown, AreMarked, AreMarkedBut, AreMarkedFor, IsFollowed, IsReleased, IsUnmarked, mark_at, mark_of, owed_for}
+use Rattle.routes.specs.Marks.{AreKnown, AreMarked, AreMarkedBut, AreMarkedFor, IsFollowed, IsMarked, IsReleased, IsUnmarked, Mark, mark_at, mark_for, mark_of, no_mark}
 use Rattle.routes.specs.Told.{IsTold}
 use Rattle.routes.specs.Places.{rank_of}
 use Rattle.routes.specs.RoutingState.{RoutingState}
@@ -39,13 +41,69 @@ use Rattle.routes.proofs.RouteChanges.{is_route-parts}
 
 -- What waits of each prefix for each peer, while tables change.
 
+-- nothing has changed but what waits
+abbrev pub KeepsTables : RoutingState → RoutingState → Type 0
+KeepsTables t u = u ≡ record t { waiting = u.waiting; alike = u.alike }
+
+-- what is listed of the prefix for the slot still is, where it waits to be announced
+abbrev pub KeepsList : RoutingState → RoutingState → ℕ → Prefix → Type 0
+KeepsList t u s p = (o : List ℕ) → owed_at u.waiting s p ≡ Some Announcement → IsListed t.alike s o p → IsListed u.alike s o p
+
+-- what is listed still is
+abbrev pub KeepsLists : RoutingState → RoutingState → Type 0
+KeepsLists t u = (s : ℕ) (o : List ℕ) (p : Prefix) → IsListed t.alike s o p → IsListed u.alike s o p
+
+-- a mark that stays
+pub marked_still : (mark new : Mark) (t u : RoutingState) (s : ℕ) (p : Prefix) → IsMarked mark t s p → owed_at u.waiting s p ≡ owed_at t.waiting s p → KeepsList t u s p → mark ≡ new → IsMarked new u s p
+marked_still mark new t u s p h owed keeps is = subst (λ m. IsMarked m u s p) is (record {
+  waits = owed ∙ h.waits;
+  listed = λ announced. keeps mark.octets (owed ∙ h.waits ∙ announced) (h.listed announced);
+})
+
+-- another mark of the same
+pub marked_as : (mark new : Mark) (t : RoutingState) (s : ℕ) (p : Prefix) → mark ≡ new → IsMarked mark t s p → IsMarked new t s p
+marked_as mark new t s p is h = subst (λ m. IsMarked m t s p) is h
+
+-- where nothing waits
+pub marked_none : (mark : Mark) (t : RoutingState) (s : ℕ) (p : Prefix) → owed_at t.waiting s p ≡ None → mark.owed ≡ None → IsMarked mark t s p
+marked_none mark t s p none is = record { waits = none ∙ sym is; listed = λ announced. absurd (let never = sym is ∙ announced in cc) }
+
+-- the tables stay, and the lists too, where only what waits has changed
+pub tables_stay : (t u : RoutingState) → u ≡ record t { waiting = u.waiting } → KeepsTables t u
+tables_stay t u rest = rest ∙ ap (λ a. record t { waiting = u.waiting; alike = a }) (sym (ap (λ (x : RoutingState). x.alike) rest))
+
+pub lists_stay : (t u : RoutingState) → u ≡ record t { waiting = u.waiting } → KeepsLists t u
+lists_stay t u rest s o p listed = subst (λ a. IsListed a s o p) (sym (ap (λ (x : RoutingState). x.alike) rest)) listed
+
 -- without a slot nothing is owed
-mark_unlinked_of : (conf : Configuration) (adj_in : RouteTable) (book : BookState) (slot : ℕ) (p : Prefix) (peer : Option ConfiguredPeer) → mark_of conf adj_in book slot p peer None ≡ None
+mark_unlinked_of : (conf : Configuration) (adj_in : RouteTable) (book : BookState) (slot : ℕ) (p : Prefix) (peer : Option ConfiguredPeer) → mark_of conf adj_in book slot p peer None ≡ no_mark
 mark_unlinked_of conf adj_in book slot p None = refl
 mark_unlinked_of conf adj_in book slot p (Some peer) = refl
 
-pub mark_unlinked : (conf : Configuration) (links : List (ℕ × Linked)) (t : RoutingState) (slot : ℕ) (p : Prefix) → link_at links slot ≡ None → mark_at conf links t slot p ≡ None
+pub mark_unlinked : (conf : Configuration) (links : List (ℕ × Linked)) (t : RoutingState) (slot : ℕ) (p : Prefix) → link_at links slot ≡ None → mark_at conf links t slot p ≡ no_mark
 mark_unlinked conf links t slot p none = ap (mark_of conf t.adj_in t.book slot p (peer_at conf slot)) none ∙ mark_unlinked_of conf t.adj_in t.book slot p (peer_at conf slot)
+
+pub none_unlinked : (conf : Configuration) (links : List (ℕ × Linked)) (t u : RoutingState) (slot : ℕ) (p : Prefix) → link_at links slot ≡ None → IsMarked (mark_at conf links t slot p) u slot p → owed_at u.waiting slot p ≡ None
+none_unlinked conf links t u slot p none marked = marked.waits ∙ ap (λ (m : Mark). m.owed) (mark_unlinked conf links t slot p none)
+
+-- nothing is exported of a prefix without a best route
+pub export_none : (conf : Configuration) (loc_rib : Prefix → Option Candidate) (adj_in : RouteTable) (peer : ExportPeer) (p : Prefix) → loc_rib p ≡ None → export_in conf loc_rib adj_in peer p ≡ None
+export_none conf loc_rib adj_in peer p none = ap (option_and_then (λ (c : Candidate). option_and_then (λ attrs. exported_at conf peer p c attrs) (route_at adj_in c.slot p))) none
+
+not_announced : (b : Bool) (export held : Option (List ℕ)) (asked : Bool) → export ≡ None → (cond b (mark_for export held asked) no_mark).owed ≡ Some Announcement → ⊥
+not_announced false export held asked none is = cc
+not_announced true (Some octets) held asked none is = cc
+not_announced true None None asked none is = cc
+not_announced true None (Some held) asked none is = cc
+
+-- so it doesn't wait to be announced
+unrouted_of : (conf : Configuration) (t : RoutingState) (slot : ℕ) (p : Prefix) (peer : Option ConfiguredPeer) (linked : Option Linked) → best_at (rows_of t.book) p ≡ None
+    → (mark_of conf t.adj_in t.book slot p peer linked).owed ≡ Some Announcement → ⊥
+unrouted_of conf t slot p None linked none is = cc
+unrouted_of conf t slot p (Some peer) None none is = cc
+unrouted_of conf t slot p (Some peer) (Some l) none is =
+    not_announced (is_established l.peer.session.state) (export_in conf (best_at (rows_of t.book)) t.adj_in (export_peer_of conf slot peer) p) (held_at l.adj_out p) (asked_at l.adj_out p)
+    (export_none conf (best_at (rows_of t.book)) t.adj_in (export_peer_of conf slot peer) p none) is
 
 -- where a prefix has the same best route and the same routes, the same is exported and owed
 pub export_alike : (conf : Configuration) (t u : RoutingState) (peer : ExportPeer) (p : Prefix) → best_at (rows_of u.book) p ≡ best_at (rows_of t.book) p → ((s : ℕ) → route_at u.adj_in s p ≡ route_at t.adj_in s p)
@@ -57,7 +115,7 @@ mark_alike_of : (conf : Configuration) (t u : RoutingState) (slot : ℕ) (p : Pr
 mark_alike_of conf t u slot p None linked best routes = refl
 mark_alike_of conf t u slot p (Some peer) None best routes = refl
 mark_alike_of conf t u slot p (Some peer) (Some l) best routes =
-    ap (λ e. cond (is_established l.peer.session.state) (owed_for e (held_at l.adj_out p) (asked_at l.adj_out p)) None) (export_alike conf t u (export_peer_of conf slot peer) p best routes)
+    ap (λ e. cond (is_established l.peer.session.state) (mark_for e (held_at l.adj_out p) (asked_at l.adj_out p)) no_mark) (export_alike conf t u (export_peer_of conf slot peer) p best routes)
 
 pub mark_alike : (conf : Configuration) (links : List (ℕ × Linked)) (t u : RoutingState) (slot : ℕ) (p : Prefix) → best_at (rows_of u.book) p ≡ best_at (rows_of t.book) p
     → ((s : ℕ) → route_at u.adj_in s p ≡ route_at t.adj_in s p) → mark_at conf links u slot p ≡ mark_at conf links t slot p
@@ -87,32 +145,55 @@ pub released_alike : (t u : RoutingState) (p : Prefix) → IsReleased t p → ((
     → is_known u.waiting p ≡ is_known t.waiting p → IsReleased u p
 released_alike t u p released routes owed known = record { unknown = λ unrouted idle. known ∙ released.unknown (λ s. sym (routes s) ∙ unrouted s) (λ s few. sym (owed s few) ∙ idle s few) }
 
-routes_of_rest : (t u : RoutingState) (p : Prefix) → u ≡ record t { waiting = u.waiting } → (s : ℕ) → route_at u.adj_in s p ≡ route_at t.adj_in s p
+routes_of_rest : (t u : RoutingState) (p : Prefix) → KeepsTables t u → (s : ℕ) → route_at u.adj_in s p ≡ route_at t.adj_in s p
 routes_of_rest t u p rest s = ap (λ (x : RoutingState). route_at x.adj_in s p) rest
 
 -- one prefix was released, and the others are as they were
-pub all_released : (prefix : Prefix) (t u : RoutingState) → u ≡ record t { waiting = u.waiting } → ((s : ℕ) (p : Prefix) → s < 64 → is_prefix prefix p ≡ false → owed_at u.waiting s p ≡ owed_at t.waiting s p)
+pub all_released : (prefix : Prefix) (t u : RoutingState) → ((s : ℕ) (p : Prefix) → route_at u.adj_in s p ≡ route_at t.adj_in s p) → ((s : ℕ) (p : Prefix) → s < 64 → is_prefix prefix p ≡ false → owed_at u.waiting s p ≡ owed_at t.waiting s p)
     → ((p : Prefix) → is_prefix prefix p ≡ false → is_known u.waiting p ≡ is_known t.waiting p) → IsReleased u prefix → ((p : Prefix) → is_prefix prefix p ≡ false → IsReleased t p)
     → (p : Prefix) → IsReleased u p
-all_released prefix t u rest owed known here others p = by_prefix (is_prefix prefix p) refl
+all_released prefix t u routes owed known here others p = by_prefix (is_prefix prefix p) refl
   where
     by_prefix : (b : Bool) → is_prefix prefix p ≡ b → IsReleased u p
     by_prefix true is = subst (λ q. IsReleased u q) (same_from_is_prefix prefix p is) here
-    by_prefix false is = released_alike t u p (others p is) (routes_of_rest t u p rest) (λ s few. owed s p few is) (known p is)
+    by_prefix false is = released_alike t u p (others p is) (λ s. routes s p) (λ s few. owed s p few is) (known p is)
 
--- the tables change at one prefix
-pub marked_but : (conf : Configuration) (links : List (ℕ × Linked)) (prefix : Prefix) (t u : RoutingState) → AreMarked conf links t → ((s : ℕ) (p : Prefix) → owed_at u.waiting s p ≡ owed_at t.waiting s p)
+-- of all prefixes but one
+pub but_marked : (conf : Configuration) (links : List (ℕ × Linked)) (prefix : Prefix) (t : RoutingState) → AreMarked conf links t → AreMarkedBut prefix conf links t
+but_marked conf links prefix t marked = record {
+  there = marked.there;
+  released = λ p other. marked.released p;
+  marks = λ slot p within other. marked.marks slot p within;
+  none = λ slot within unlinked. none_unlinked conf links t t slot prefix unlinked (marked.marks slot prefix within);
+}
+
+-- which may be listed no more
+pub but_unlisted : (conf : Configuration) (links : List (ℕ × Linked)) (prefix : Prefix) (t : RoutingState) (alike : AlikeState) → AreMarkedBut prefix conf links t
+    → ((s : ℕ) (o : List ℕ) (p : Prefix) → is_prefix prefix p ≡ false → IsListed t.alike s o p → IsListed alike s o p) → AreMarkedBut prefix conf links (record t { alike = alike })
+but_unlisted conf links prefix t alike h kept = record {
+  there = record { within = h.there.within; known = h.there.known };
+  released = λ p other. record { unknown = (h.released p other).unknown };
+  marks = λ slot p within other. record {
+    waits = (h.marks slot p within other).waits;
+    listed = λ announced. kept slot (mark_at conf links t slot p).octets p other ((h.marks slot p within other).listed announced);
+  };
+  none = h.none;
+}
+
+-- the tables change at it
+pub but_changed : (conf : Configuration) (links : List (ℕ × Linked)) (prefix : Prefix) (t u : RoutingState) → AreMarkedBut prefix conf links t → ((s : ℕ) (p : Prefix) → owed_at u.waiting s p ≡ owed_at t.waiting s p) → u.alike ≡ t.alike
     → ((p : Prefix) → is_prefix prefix p ≡ false → best_at (rows_of u.book) p ≡ best_at (rows_of t.book) p) → ((s : ℕ) (p : Prefix) → is_prefix prefix p ≡ false → route_at u.adj_in s p ≡ route_at t.adj_in s p)
     → ((s : ℕ) (p : Prefix) → IsSome (route_at u.adj_in s p) → is_known u.waiting p ≡ true) → ((p : Prefix) → is_prefix prefix p ≡ false → is_known u.waiting p ≡ is_known t.waiting p) → AreMarkedBut prefix conf links u
-marked_but conf links prefix t u marked owed best routes known same = record {
-  there = record { within = marked.there.within; known = known };
-  released = λ p other. released_alike t u p (marked.released p) (λ s. routes s p other) (λ s few. owed s p) (same p other);
-  marks = λ slot p within other. owed slot p ∙ marked.marks slot p within ∙ sym (mark_alike conf links t u slot p (best p other) (λ s. routes s p other));
-  none = λ slot within unlinked. owed slot prefix ∙ marked.marks slot prefix within ∙ mark_unlinked conf links t slot prefix unlinked;
+but_changed conf links prefix t u h owed lists best routes known same = record {
+  there = record { within = h.there.within; known = known };
+  released = λ p other. released_alike t u p (h.released p other) (λ s. routes s p other) (λ s few. owed s p) (same p other);
+  marks = λ slot p within other.
+      marked_still _ _ t u slot p (h.marks slot p within other) (owed slot p) (λ o waits listed. subst (λ a. IsListed a slot o p) (sym lists) listed) (sym (mark_alike conf links t u slot p (best p other) (λ s. routes s p other)));
+  none = λ slot within unlinked. owed slot prefix ∙ h.none slot within unlinked;
 }
 
 -- each prefix with a route is still known
-known_of_rest : (links : List (ℕ × Linked)) (t u : RoutingState) → AreKnown links t → u ≡ record t { waiting = u.waiting } → ((s : ℕ) (p : Prefix) → IsSome (route_at t.adj_in s p) → is_known u.waiting p ≡ is_known t.waiting p)
+known_of_rest : (links : List (ℕ × Linked)) (t u : RoutingState) → AreKnown links t → KeepsTables t u → ((s : ℕ) (p : Prefix) → IsSome (route_at t.adj_in s p) → is_known u.waiting p ≡ is_known t.waiting p)
     → AreKnown links u
 known_of_rest links t u there rest known = record {
   within = there.within;
@@ -125,9 +206,9 @@ known_of_rest links t u there rest known = record {
 pub marked_same : (conf : Configuration) (links : List (ℕ × Linked)) (t u : RoutingState) → AreMarked conf links t → u ≡ record t { waiting = u.waiting } → ((s : ℕ) (p : Prefix) → owed_at u.waiting s p ≡ owed_at t.waiting s p)
     → ((p : Prefix) → is_known u.waiting p ≡ is_known t.waiting p) → AreMarked conf links u
 marked_same conf links t u marked rest owed known = record {
-  there = known_of_rest links t u marked.there rest (λ s p there. known p);
-  released = λ p. released_alike t u p (marked.released p) (routes_of_rest t u p rest) (λ s few. owed s p) (known p);
-  marks = λ slot p within. owed slot p ∙ marked.marks slot p within ∙ ap (λ (x : RoutingState). mark_at conf links x slot p) (sym rest);
+  there = known_of_rest links t u marked.there (tables_stay t u rest) (λ s p there. known p);
+  released = λ p. released_alike t u p (marked.released p) (routes_of_rest t u p (tables_stay t u rest)) (λ s few. owed s p) (known p);
+  marks = λ slot p within. marked_still _ _ t u slot p (marked.marks slot p within) (owed slot p) (λ o waits. lists_stay t u rest slot o p) (ap (λ (x : RoutingState). mark_at conf links x slot p) (sym rest));
 }
 
 -- where there are no slots
@@ -137,80 +218,89 @@ no_links (l ∷ links) s none = absurd (none (omega arith))
 
 -- the slots below this one have been looked at
 pub record MarkedBelow (prefix : Prefix) (conf : Configuration) (links : List (ℕ × Linked)) (first : RoutingState) (n : ℕ) (t : RoutingState) : Type 0 where
-  pub rest : t ≡ record first { waiting = t.waiting }
+  pub rest : KeepsTables first t
   pub but : AreMarkedBut prefix conf links t
   pub known : is_known t.waiting prefix ≡ true
-  pub below : (slot : ℕ) → slot < n → slot < 64 → owed_at t.waiting slot prefix ≡ mark_at conf links t slot prefix
+  pub below : (slot : ℕ) → slot < n → slot < 64 → IsMarked (mark_at conf links t slot prefix) t slot prefix
 
 pub MarkedBelow-none : (prefix : Prefix) (conf : Configuration) (links : List (ℕ × Linked)) (t : RoutingState) → AreMarkedBut prefix conf links t → is_known t.waiting prefix ≡ true → MarkedBelow prefix conf links t 0 t
 MarkedBelow-none prefix conf links t but known = record { rest = refl; but = but; known = known; below = λ slot under. absurd (omega (arith, under)) }
 
--- what is owed of the prefix to one slot's peer is marked
-abbrev pub IsMark : ℕ → Prefix → Configuration → List (ℕ × Linked) → RoutingState → RoutingState → Type 0
-IsMark slot prefix conf links t u =
-    (s : ℕ) (p : Prefix) → s < 64 → (link_at links s ≡ None → owed_at t.waiting s p ≡ None)
-    → owed_at u.waiting s p ≡ cond (s == slot && is_prefix prefix p) (mark_at conf links t s p) (owed_at t.waiting s p)
+-- what is owed of the prefix to one slot's peer is marked, and listed where it is announced
+pub record Marks (slot : ℕ) (prefix : Prefix) (conf : Configuration) (links : List (ℕ × Linked)) (t u : RoutingState) : Type 0 where
+  pub here : (link_at links slot ≡ None → owed_at t.waiting slot prefix ≡ None) → IsMarked (mark_at conf links t slot prefix) u slot prefix
+  pub others : (s : ℕ) (p : Prefix) → (s == slot && is_prefix prefix p) ≡ false → owed_at u.waiting s p ≡ owed_at t.waiting s p
+  pub listed : KeepsLists t u
+  pub known : (p : Prefix) → is_known u.waiting p ≡ is_known t.waiting p
+  pub rest : KeepsTables t u
 
-mark_off_slot : (conf : Configuration) (links : List (ℕ × Linked)) (t : RoutingState) (slot s : ℕ) (prefix p : Prefix) → s ≢ slot
-    → cond (s == slot && is_prefix prefix p) (mark_at conf links t s p) (owed_at t.waiting s p) ≡ owed_at t.waiting s p
-mark_off_slot conf links t slot s prefix p other = ap (λ b. cond (b && is_prefix prefix p) (mark_at conf links t s p) (owed_at t.waiting s p)) (ne_eqb s slot other)
+pub off_slot : (slot s : ℕ) (b : Bool) → s ≢ slot → (s == slot && b) ≡ false
+off_slot slot s b other = ap (λ a. a && b) (ne_eqb s slot other)
 
-mark_off_prefix : (conf : Configuration) (links : List (ℕ × Linked)) (t : RoutingState) (slot s : ℕ) (prefix p : Prefix) → is_prefix prefix p ≡ false
-    → cond (s == slot && is_prefix prefix p) (mark_at conf links t s p) (owed_at t.waiting s p) ≡ owed_at t.waiting s p
-mark_off_prefix conf links t slot s prefix p other = ap (λ b. cond b (mark_at conf links t s p) (owed_at t.waiting s p)) (off_prefix_of (s == slot) (is_prefix prefix p) other)
-
-mark_on : (conf : Configuration) (links : List (ℕ × Linked)) (t : RoutingState) (slot : ℕ) (prefix : Prefix)
-    → cond (slot == slot && is_prefix prefix prefix) (mark_at conf links t slot prefix) (owed_at t.waiting slot prefix) ≡ mark_at conf links t slot prefix
-mark_on conf links t slot prefix = rw (eq-eqb slot slot refl, is_prefix-refl prefix) refl
-
-marks_of_rest : (conf : Configuration) (links : List (ℕ × Linked)) (t u : RoutingState) (slot : ℕ) (p : Prefix) → u ≡ record t { waiting = u.waiting } → mark_at conf links u slot p ≡ mark_at conf links t slot p
+marks_of_rest : (conf : Configuration) (links : List (ℕ × Linked)) (t u : RoutingState) (slot : ℕ) (p : Prefix) → KeepsTables t u → mark_at conf links u slot p ≡ mark_at conf links t slot p
 marks_of_rest conf links t u slot p rest = ap (λ (x : RoutingState). mark_at conf links x slot p) rest
 
--- the next slot
-pub MarkedBelow-more : (prefix : Prefix) (conf : Configuration) (links : List (ℕ × Linked)) (first t u : RoutingState) (n : ℕ) → MarkedBelow prefix conf links first n t → u ≡ record t { waiting = u.waiting }
-    → IsMark n prefix conf links t u → ((p : Prefix) → is_known u.waiting p ≡ is_known t.waiting p) → MarkedBelow prefix conf links first (n + 1) u
-MarkedBelow-more prefix conf links first t u n h rest marks known = record {
-  rest = rest ∙ ap (λ (x : RoutingState). record x { waiting = u.waiting }) h.rest;
-  but = record {
-    there = known_of_rest links t u h.but.there rest (λ s p there. known p);
-    released = λ p other. released_alike t u p (h.but.released p other) (routes_of_rest t u p rest) (λ s few. stays s p few other) (known p);
-    marks = λ slot p within other. stays slot p within other ∙ h.but.marks slot p within other ∙ sym (marks_of_rest conf links t u slot p rest);
-    none = λ slot within unlinked. marks slot prefix within (λ none. h.but.none slot within unlinked) ∙ none_here slot within unlinked (slot == n) (is_prefix prefix prefix);
-  };
-  known = known prefix ∙ h.known;
-  below = λ slot under within. marks slot prefix within (λ none. h.but.none slot within none) ∙ below_here slot under within ∙ sym (marks_of_rest conf links t u slot prefix rest);
-}
+-- another slot or prefix is marked as it was
+marked_off : (slot : ℕ) (prefix : Prefix) (conf : Configuration) (links : List (ℕ × Linked)) (t u : RoutingState) → Marks slot prefix conf links t u → (s : ℕ) (p : Prefix) → (s == slot && is_prefix prefix p) ≡ false
+    → IsMarked (mark_at conf links t s p) t s p → IsMarked (mark_at conf links u s p) u s p
+marked_off slot prefix conf links t u m s p off was = marked_still _ _ t u s p was (m.others s p off) (λ o waits. m.listed s o p) (sym (marks_of_rest conf links t u s p m.rest))
+
+-- this one is marked
+marked_on : (slot : ℕ) (prefix : Prefix) (conf : Configuration) (links : List (ℕ × Linked)) (t u : RoutingState) → Marks slot prefix conf links t u → (link_at links slot ≡ None → owed_at t.waiting slot prefix ≡ None)
+    → IsMarked (mark_at conf links u slot prefix) u slot prefix
+marked_on slot prefix conf links t u m idle = marked_as _ _ u slot prefix (sym (marks_of_rest conf links t u slot prefix m.rest)) (m.here idle)
+
+-- where there is no slot, nothing waits
+none_still : (slot : ℕ) (prefix : Prefix) (conf : Configuration) (links : List (ℕ × Linked)) (t u : RoutingState) → Marks slot prefix conf links t u → (s : ℕ) (p : Prefix) → link_at links s ≡ None → owed_at t.waiting s p ≡ None
+    → owed_at u.waiting s p ≡ None
+none_still slot prefix conf links t u m s p unlinked was = by_test (s == slot) refl (is_prefix prefix p) refl
   where
-    stays : (slot : ℕ) (p : Prefix) → slot < 64 → is_prefix prefix p ≡ false → owed_at u.waiting slot p ≡ owed_at t.waiting slot p
-    stays slot p within other = marks slot p within (λ none. h.but.marks slot p within other ∙ mark_unlinked conf links t slot p none) ∙ mark_off_prefix conf links t n slot prefix p other
+    by_test : (a : Bool) → (s == slot) ≡ a → (b : Bool) → is_prefix prefix p ≡ b → owed_at u.waiting s p ≡ None
+    by_test true slots true prefixes =
+        let same : s ≡ slot = eqb-true s slot slots in
+        let at : prefix ≡ p = same_from_is_prefix prefix p prefixes in
+        let gone : link_at links slot ≡ None = subst (λ x. link_at links x ≡ None) same unlinked in
+        let idle : owed_at t.waiting slot prefix ≡ None = ap (λ x. owed_at t.waiting x prefix) (sym same) ∙ ap (owed_at t.waiting s) at ∙ was in
+        ap (λ x. owed_at u.waiting x p) same ∙ ap (owed_at u.waiting slot) (sym at) ∙ none_unlinked conf links t u slot prefix gone (m.here (λ none. idle))
+    by_test true slots false prefixes = m.others s p (ap (λ a. a && is_prefix prefix p) slots ∙ prefixes) ∙ was
+    by_test false slots b prefixes = m.others s p (ap (λ a. a && is_prefix prefix p) slots) ∙ was
 
-    none_here : (slot : ℕ) → slot < 64 → link_at links slot ≡ None → (a b : Bool) → cond (a && b) (mark_at conf links t slot prefix) (owed_at t.waiting slot prefix) ≡ None
-    none_here slot within unlinked true true = mark_unlinked conf links t slot prefix unlinked
-    none_here slot within unlinked true false = h.but.none slot within unlinked
-    none_here slot within unlinked false b = h.but.none slot within unlinked
-
-    below_here : (slot : ℕ) → slot < n + 1 → slot < 64 → cond (slot == n && is_prefix prefix prefix) (mark_at conf links t slot prefix) (owed_at t.waiting slot prefix) ≡ mark_at conf links t slot prefix
-    below_here slot under within = elim (cases_eq slot n) [
-      | inl same ↦ subst (λ x. cond (slot == x && is_prefix prefix prefix) (mark_at conf links t slot prefix) (owed_at t.waiting slot prefix) ≡ mark_at conf links t slot prefix) same (mark_on conf links t slot prefix)
-      | inr other ↦ mark_off_slot conf links t n slot prefix prefix other ∙ h.below slot (omega (arith, under, other)) within
-    ]
+-- the next slot
+pub MarkedBelow-more : (prefix : Prefix) (conf : Configuration) (links : List (ℕ × Linked)) (first t u : RoutingState) (n : ℕ) → MarkedBelow prefix conf links first n t → Marks n prefix conf links t u → MarkedBelow prefix conf links first (n + 1) u
+MarkedBelow-more prefix conf links first t u n h m = record {
+  rest = m.rest ∙ ap (λ (x : RoutingState). record x { waiting = u.waiting; alike = u.alike }) h.rest;
+  but = record {
+    there = known_of_rest links t u h.but.there m.rest (λ s p there. m.known p);
+    released = λ p other. released_alike t u p (h.but.released p other) (routes_of_rest t u p m.rest) (λ s few. m.others s p (off_prefix_of (s == n) (is_prefix prefix p) other)) (m.known p);
+    marks = λ slot p within other. marked_off n prefix conf links t u m slot p (off_prefix_of (slot == n) (is_prefix prefix p) other) (h.but.marks slot p within other);
+    none = λ slot within unlinked. none_still n prefix conf links t u m slot prefix unlinked (h.but.none slot within unlinked);
+  };
+  known = m.known prefix ∙ h.known;
+  below = λ slot under within. elim (cases_eq slot n) [
+    | inl same ↦
+        subst (λ x. IsMarked (mark_at conf links u x prefix) u x prefix) (sym same) (marked_on n prefix conf links t u m (λ none. h.but.none n (subst (λ x. x < 64) same within) none))
+    | inr other ↦ marked_off n prefix conf links t u m slot prefix (off_slot n slot (is_prefix prefix prefix) other) (h.below slot (omega (arith, under, other)) within)
+  ];
+}
 
 -- all slots have been looked at, and the prefix was released
 pub MarkedBelow-all : (prefix : Prefix) (conf : Configuration) (links : List (ℕ × Linked)) (first t u : RoutingState) (n : ℕ) → ((s : ℕ) → n ≤ s → s < 64 → link_at links s ≡ None) → MarkedBelow prefix conf links first n t → u ≡ record t { waiting = u.waiting }
     → ((s : ℕ) (p : Prefix) → owed_at u.waiting s p ≡ owed_at t.waiting s p) → ((s : ℕ) (p : Prefix) → IsSome (route_at t.adj_in s p) → is_known u.waiting p ≡ is_known t.waiting p)
     → ((p : Prefix) → is_prefix prefix p ≡ false → is_known u.waiting p ≡ is_known t.waiting p) → IsReleased u prefix → AreMarked conf links u
 MarkedBelow-all prefix conf links first t u n all h rest owed known others released = record {
-  there = known_of_rest links t u h.but.there rest known;
-  released = all_released prefix t u rest (λ s p few other. owed s p) others released h.but.released;
-  marks = λ slot p within. owed slot p ∙ marks_here slot p within (is_prefix prefix p) refl ∙ sym (marks_of_rest conf links t u slot p rest);
+  there = known_of_rest links t u h.but.there (tables_stay t u rest) known;
+  released = all_released prefix t u (λ s p. routes_of_rest t u p (tables_stay t u rest) s) (λ s p few other. owed s p) others released h.but.released;
+  marks = λ slot p within.
+      marked_still _ _ t u slot p (marks_here slot p within (is_prefix prefix p) refl) (owed slot p) (λ o waits. lists_stay t u rest slot o p) (sym (marks_of_rest conf links t u slot p (tables_stay t u rest)));
 }
   where
-    marks_here : (slot : ℕ) (p : Prefix) → slot < 64 → (b : Bool) → is_prefix prefix p ≡ b → owed_at t.waiting slot p ≡ mark_at conf links t slot p
+    marks_here : (slot : ℕ) (p : Prefix) → slot < 64 → (b : Bool) → is_prefix prefix p ≡ b → IsMarked (mark_at conf links t slot p) t slot p
     marks_here slot p within true is =
-        subst (λ q. owed_at t.waiting slot q ≡ mark_at conf links t slot q) (same_from_is_prefix prefix p is)
+        subst (λ q. IsMarked (mark_at conf links t slot q) t slot q) (same_from_is_prefix prefix p is)
         (elim (cases_lt slot n) [
           | inl low ↦ h.below slot low within
-          | inr high ↦ h.but.none slot within (all slot high within) ∙ sym (mark_unlinked conf links t slot prefix (all slot high within))
+          | inr high ↦
+              marked_none _ t slot prefix (h.but.none slot within (all slot high within)) (ap (λ (m : Mark). m.owed) (mark_unlinked conf links t slot prefix (all slot high within)))
         ])
     marks_here slot p within false is = h.but.marks slot p within is
 
@@ -261,17 +351,13 @@ released_known adj_in prefix old new none known s p there = by_prefix (is_prefix
 
 -- what is owed to one slot's peer is marked
 pub mark_set : (conf : Configuration) (links : List (ℕ × Linked)) (t u : RoutingState) (slot : ℕ) (prefix : Prefix) (l : Linked) (owed : Option Owed) → link_at links slot ≡ Some l
-    → owed ≡ mark_of conf t.adj_in t.book slot prefix (peer_at conf slot) (Some l) → ((s : ℕ) (p : Prefix) → owed_at u.waiting s p ≡ cond (s == slot && is_prefix prefix p) owed (owed_at t.waiting s p))
-    → IsMark slot prefix conf links t u
-mark_set conf links t u slot prefix l owed linked is set s p within idle = set s p ∙ by_slot (s == slot) refl (is_prefix prefix p) refl
-  where
-    here : owed ≡ mark_at conf links t slot prefix
-    here = is ∙ ap (mark_of conf t.adj_in t.book slot prefix (peer_at conf slot)) (sym linked)
-
-    by_slot : (a : Bool) → (s == slot) ≡ a → (b : Bool) → is_prefix prefix p ≡ b → cond (a && b) owed (owed_at t.waiting s p) ≡ cond (a && b) (mark_at conf links t s p) (owed_at t.waiting s p)
-    by_slot true slots true prefixes = here ∙ ap (λ x. mark_at conf links t x prefix) (sym (eqb-true s slot slots)) ∙ ap (λ q. mark_at conf links t s q) (same_from_is_prefix prefix p prefixes)
-    by_slot true slots false prefixes = refl
-    by_slot false slots b prefixes = refl
+    → owed ≡ (mark_of conf t.adj_in t.book slot prefix (peer_at conf slot) (Some l)).owed → ((s : ℕ) (p : Prefix) → owed_at u.waiting s p ≡ cond (s == slot && is_prefix prefix p) owed (owed_at t.waiting s p))
+    → (owed ≡ Some Announcement → IsListed u.alike slot (mark_of conf t.adj_in t.book slot prefix (peer_at conf slot) (Some l)).octets prefix) → IsMarked (mark_at conf links t slot prefix) u slot prefix
+mark_set conf links t u slot prefix l owed linked is set listed =
+    marked_as _ _ u slot prefix (ap (mark_of conf t.adj_in t.book slot prefix (peer_at conf slot)) (sym linked)) (record {
+      waits = set slot prefix ∙ rw (eq-eqb slot slot refl, is_prefix-refl prefix) is;
+      listed = λ announced. listed (is ∙ announced);
+    })
 
 -- a route that came, or was refused
 pub routes_either : {T F : Type 0} (result : Result T F) (slot : ℕ) (prefix : Prefix) (what : Option PathAttributes) (old new : RouteTable) (P Q : Type 0)
@@ -289,6 +375,14 @@ known_come links prefix t u there known routes s p some = known p ∙ by_prefix 
     by_prefix true is = refl
     by_prefix false is = there.known s p (subst (λ o. IsSome o) (routes s p is) some)
 
+-- so it is where the prefix is known already
+pub known_where : (prefix : Prefix) (known : List (Prefix × Waits)) → is_known known prefix ≡ true → (p : Prefix) → is_known known p ≡ cond (is_prefix prefix p) true (is_known known p)
+known_where prefix known is p = by_prefix (is_prefix prefix p) refl
+  where
+    by_prefix : (b : Bool) → is_prefix prefix p ≡ b → is_known known p ≡ cond b true (is_known known p)
+    by_prefix true same = subst (λ q. is_known known q ≡ true) (same_from_is_prefix prefix p same) is
+    by_prefix false same = refl
+
 -- and the others are known just as they were
 pub known_else : (prefix : Prefix) (old new : List (Prefix × Waits)) → ((p : Prefix) → is_known new p ≡ cond (is_prefix prefix p) true (is_known old p)) → (p : Prefix) → is_prefix prefix p ≡ false → is_known new p ≡ is_known old p
 known_else prefix old new known p other = known p ∙ ap (λ b. cond b true (is_known old p)) other
@@ -296,29 +390,37 @@ known_else prefix old new known p other = known p ∙ ap (λ b. cond b true (is_
 -- the prefixes of one slot, up to this one
 pub record MarkedUpTo (done : ℕ → Bool) (conf : Configuration) (links : List (ℕ × Linked)) (slot : ℕ) (after : Option Prefix) (t : RoutingState) : Type 0 where
   pub released : (p : Prefix) → IsReleased t p
-  pub others : (s : ℕ) (p : Prefix) → s < 64 → s ≢ slot → (done s ≡ true) ⊎ (best_at (rows_of t.book) p ≡ None) → owed_at t.waiting s p ≡ mark_at conf links t s p
+  pub others : (s : ℕ) (p : Prefix) → s < 64 → s ≢ slot → (done s ≡ true) ⊎ (best_at (rows_of t.book) p ≡ None) → IsMarked (mark_at conf links t s p) t s p
   pub none : (s : ℕ) (p : Prefix) → s < 64 → link_at links s ≡ None → owed_at t.waiting s p ≡ None
-  pub below : (q : Prefix) → rank_of q < reached after → owed_at t.waiting slot q ≡ mark_at conf links t slot q
-  pub above : (q : Prefix) → reached after ≤ rank_of q → best_at (rows_of t.book) q ≡ None → owed_at t.waiting slot q ≡ mark_at conf links t slot q
+  pub below : (q : Prefix) → rank_of q < reached after → IsMarked (mark_at conf links t slot q) t slot q
+  pub above : (q : Prefix) → reached after ≤ rank_of q → best_at (rows_of t.book) q ≡ None → IsMarked (mark_at conf links t slot q) t slot q
 
 -- so it is, whatever was marked before
 pub record SlotUpTo (conf : Configuration) (links : List (ℕ × Linked)) (slot : ℕ) (first : RoutingState) (after : Option Prefix) (t : RoutingState) : Type 0 where
   pub place : IsPlace after
-  pub rest : t ≡ record first { waiting = t.waiting }
+  pub rest : KeepsTables first t
   pub there : AreKnown links t
   pub marked : (done : ℕ → Bool) → AreMarkedFor done conf links first → MarkedUpTo done conf links slot after t
 
-pub SlotUpTo-none : (conf : Configuration) (links : List (ℕ × Linked)) (slot : ℕ) (t : RoutingState) → slot < 64 → AreKnown links t → SlotUpTo conf links slot t None t
-SlotUpTo-none conf links slot t within there = record {
+-- the slot's list begins anew
+pub SlotUpTo-none : (conf : Configuration) (links : List (ℕ × Linked)) (slot : ℕ) (first : RoutingState) (alike : AlikeState) → slot < 64 → AreKnown links first
+    → ((s : ℕ) (o : List ℕ) (p : Prefix) → s ≢ slot → IsListed first.alike s o p → IsListed alike s o p) → SlotUpTo conf links slot first None (record first { alike = alike })
+SlotUpTo-none conf links slot first alike within there kept = record {
   place = tt;
   rest = refl;
-  there = there;
+  there = record { within = there.within; known = there.known };
   marked = λ done h. record {
-    released = h.released;
-    others = λ s p few other is. h.marks s p few is;
+    released = λ p. record { unknown = (h.released p).unknown };
+    others = λ s p few other is. record {
+      waits = (h.marks s p few is).waits;
+      listed = λ announced. kept s (mark_at conf links first s p).octets p other ((h.marks s p few is).listed announced);
+    };
     none = h.none;
     below = λ q under. absurd (omega (arith, under));
-    above = λ q over none. h.marks slot q within (inr none);
+    above = λ q over none. record {
+      waits = (h.marks slot q within (inr none)).waits;
+      listed = λ announced. absurd (unrouted_of conf first slot q (peer_at conf slot) (link_at links slot) none announced);
+    };
   };
 }
 
@@ -332,62 +434,53 @@ apart_prefix p q other = by_test (is_prefix p q) refl
 -- the next prefix of Loc-RIB
 MarkedUpTo-more : (done : ℕ → Bool) (conf : Configuration) (links : List (ℕ × Linked)) (slot : ℕ) (t u : RoutingState) (after : Option Prefix) (p : Prefix) → slot < 64
     → MarkedUpTo done conf links slot after t → IsAbove after p → ((q : Prefix) → IsAbove after q → IsSome (best_at (rows_of t.book) q) → is_gt (prefix_cmp p q) ≡ false)
-    → ((s : ℕ) × IsSome (route_at t.adj_in s p)) → u ≡ record t { waiting = u.waiting } → IsMark slot p conf links t u → ((q : Prefix) → is_known u.waiting q ≡ is_known t.waiting q) → MarkedUpTo done conf links slot (Some p) u
-MarkedUpTo-more done conf links slot t u after p within h above least routed rest marks known = record {
-  released = all_released p t u rest stays (λ q other. known q) released_here (λ q other. h.released q);
-  others = λ s q few other is. marks s q few (h.none s q few) ∙ mark_off_slot conf links t slot s p q other ∙ h.others s q few other (still s q is) ∙ sym (marks_of_rest conf links t u s q rest);
-  none = λ s q few unlinked. marks s q few (h.none s q few) ∙ none_here s q few unlinked (s == slot) (is_prefix p q);
-  below = λ q under. here q under ∙ sym (marks_of_rest conf links t u slot q rest);
-  above = λ q over none.
-      marks slot q within (h.none slot q within)
-      ∙ mark_off_prefix conf links t slot slot p q (apart_prefix p q (λ same. let rank : rank_of p ≡ rank_of q = (λ i. rank_of (same i)) in absurd (omega (arith, over, rank))))
-      ∙ h.above q (omega (arith, over, rank_from_above after p above)) (best_still q none) ∙ sym (marks_of_rest conf links t u slot q rest);
+    → ((s : ℕ) × IsSome (route_at t.adj_in s p)) → Marks slot p conf links t u → MarkedUpTo done conf links slot (Some p) u
+MarkedUpTo-more done conf links slot t u after p within h above least routed m = record {
+  released = all_released p t u (λ s q. routes_of_rest t u q m.rest s) (λ s q few other. m.others s q (off_prefix_of (s == slot) (is_prefix p q) other)) (λ q other. m.known q) released_here (λ q other. h.released q);
+  others = λ s q few other is. marked_off slot p conf links t u m s q (off_slot slot s (is_prefix p q) other) (h.others s q few other (still s q is));
+  none = λ s q few unlinked. none_still slot p conf links t u m s q unlinked (h.none s q few unlinked);
+  below = here;
+  above = λ q over none. apart q (λ same. omega (arith, over, same)) (h.above q (omega (arith, over, rank_from_above after p above)) (best_still q none));
 }
   where
     best_still : (q : Prefix) → best_at (rows_of u.book) q ≡ None → best_at (rows_of t.book) q ≡ None
-    best_still q none = ap (λ (x : RoutingState). best_at (rows_of x.book) q) (sym rest) ∙ none
+    best_still q none = ap (λ (x : RoutingState). best_at (rows_of x.book) q) (sym m.rest) ∙ none
 
     still : (s : ℕ) (q : Prefix) → (done s ≡ true) ⊎ (best_at (rows_of u.book) q ≡ None) → (done s ≡ true) ⊎ (best_at (rows_of t.book) q ≡ None)
     still s q (inl is) = inl is
     still s q (inr none) = inr (best_still q none)
 
-    stays : (s : ℕ) (q : Prefix) → s < 64 → is_prefix p q ≡ false → owed_at u.waiting s q ≡ owed_at t.waiting s q
-    stays s q few other = marks s q few (h.none s q few) ∙ mark_off_prefix conf links t slot s p q other
-
-    none_here : (s : ℕ) (q : Prefix) → s < 64 → link_at links s ≡ None → (a b : Bool) → cond (a && b) (mark_at conf links t s q) (owed_at t.waiting s q) ≡ None
-    none_here s q few unlinked true true = mark_unlinked conf links t s q unlinked
-    none_here s q few unlinked true false = h.none s q few unlinked
-    none_here s q few unlinked false b = h.none s q few unlinked
+    -- another prefix is marked as it was
+    apart : (q : Prefix) → (rank_of p ≡ rank_of q → ⊥) → IsMarked (mark_at conf links t slot q) t slot q → IsMarked (mark_at conf links u slot q) u slot q
+    apart q other was = marked_off slot p conf links t u m slot q (off_prefix_of (slot == slot) (is_prefix p q) (apart_prefix p q (λ same. other (ap rank_of same)))) was
 
     -- the prefix has a route
     released_here : IsReleased u p
-    released_here = record { unknown = λ unrouted idle. no_none (route_at t.adj_in routed.0 p) (sym (routes_of_rest t u p rest routed.0) ∙ unrouted routed.0) routed.1 }
+    released_here = record { unknown = λ unrouted idle. no_none (route_at t.adj_in routed.0 p) (sym (routes_of_rest t u p m.rest routed.0) ∙ unrouted routed.0) routed.1 }
 
     -- a prefix between the last one and this has no best route
-    was : (q : Prefix) → rank_of q < rank_of p → owed_at t.waiting slot q ≡ mark_at conf links t slot q
+    was : (q : Prefix) → rank_of q < rank_of p → IsMarked (mark_at conf links t slot q) t slot q
     was q under = elim (cases_lt (rank_of q) (reached after)) [
       | inl already ↦ h.below q already
       | inr over ↦ h.above q over (none_between p q (best_at (rows_of t.book) q) (least q (above_from_rank after q over)) under)
     ]
 
-    here : (q : Prefix) → rank_of q < reached (Some p) → owed_at u.waiting slot q ≡ mark_at conf links t slot q
+    here : (q : Prefix) → rank_of q < reached (Some p) → IsMarked (mark_at conf links u slot q) u slot q
     here q under = elim (cases_lt (rank_of q) (rank_of p)) [
-      | inl before ↦
-          marks slot q within (h.none slot q within)
-          ∙ mark_off_prefix conf links t slot slot p q (apart_prefix p q (λ same. let rank : rank_of p ≡ rank_of q = (λ i. rank_of (same i)) in absurd (omega (arith, before, rank)))) ∙ was q before
+      | inl before ↦ apart q (λ same. omega (arith, before, same)) (was q before)
       | inr not_before ↦
           let at : p ≡ q = same_from_rank p q (omega (arith, under, not_before)) in
-          subst (λ x. owed_at u.waiting slot x ≡ mark_at conf links t slot x) at (marks slot p within (h.none slot p within) ∙ mark_on conf links t slot p)
+          subst (λ x. IsMarked (mark_at conf links u slot x) u slot x) at (marked_on slot p conf links t u m (h.none slot p within))
     ]
 
 pub SlotUpTo-more : (conf : Configuration) (links : List (ℕ × Linked)) (slot : ℕ) (first t u : RoutingState) (after : Option Prefix) (p : Prefix) → slot < 64
     → SlotUpTo conf links slot first after t → IsAbove after p → ((q : Prefix) → IsAbove after q → IsSome (best_at (rows_of t.book) q) → is_gt (prefix_cmp p q) ≡ false) → rank_of p < 2 ^ 38
-    → ((s : ℕ) × IsSome (route_at t.adj_in s p)) → u ≡ record t { waiting = u.waiting } → IsMark slot p conf links t u → ((q : Prefix) → is_known u.waiting q ≡ is_known t.waiting q) → SlotUpTo conf links slot first (Some p) u
-SlotUpTo-more conf links slot first t u after p within h above least place routed rest marks known = record {
+    → ((s : ℕ) × IsSome (route_at t.adj_in s p)) → Marks slot p conf links t u → SlotUpTo conf links slot first (Some p) u
+SlotUpTo-more conf links slot first t u after p within h above least place routed m = record {
   place = place;
-  rest = rest ∙ ap (λ (x : RoutingState). record x { waiting = u.waiting }) h.rest;
-  there = known_of_rest links t u h.there rest (λ s q there. known q);
-  marked = λ done before. MarkedUpTo-more done conf links slot t u after p within (h.marked done before) above least routed rest marks known;
+  rest = m.rest ∙ ap (λ (x : RoutingState). record x { waiting = u.waiting; alike = u.alike }) h.rest;
+  there = known_of_rest links t u h.there m.rest (λ s q there. m.known q);
+  marked = λ done before. MarkedUpTo-more done conf links slot t u after p within (h.marked done before) above least routed m;
 }
 
 -- where no best route is above, the slot's marks are made
@@ -399,13 +492,13 @@ SlotUpTo-all conf links slot first t after h none done before =
       there = h.there;
       released = m.released;
       marks = λ s p within is. elim (cases_eq s slot) [
-        | inl same ↦ subst (λ x. owed_at t.waiting x p ≡ mark_at conf links t x p) (sym same) (here m p)
+        | inl same ↦ subst (λ x. IsMarked (mark_at conf links t x p) t x p) (sym same) (here m p)
         | inr other ↦ m.others s p within other (of_others s p other is)
       ];
       none = m.none;
     }
   where
-    here : MarkedUpTo done conf links slot after t → (p : Prefix) → owed_at t.waiting slot p ≡ mark_at conf links t slot p
+    here : MarkedUpTo done conf links slot after t → (p : Prefix) → IsMarked (mark_at conf links t slot p) t slot p
     here m p = elim (cases_lt (rank_of p) (reached after)) [
       | inl already ↦ m.below p already
       | inr over ↦ m.above p over (none p (above_from_rank after p over))
@@ -436,9 +529,9 @@ all_marked done conf links t all h = record {
   marks = λ s p within. by_slot s p within (all s within);
 }
   where
-    by_slot : (s : ℕ) (p : Prefix) → s < 64 → (done s ≡ true) ⊎ (link_at links s ≡ None) → owed_at t.waiting s p ≡ mark_at conf links t s p
+    by_slot : (s : ℕ) (p : Prefix) → s < 64 → (done s ≡ true) ⊎ (link_at links s ≡ None) → IsMarked (mark_at conf links t s p) t s p
     by_slot s p within (inl is) = h.marks s p within (inl is)
-    by_slot s p within (inr unlinked) = h.none s p within unlinked ∙ sym (mark_unlinked conf links t s p unlinked)
+    by_slot s p within (inr unlinked) = marked_none _ t s p (h.none s p within unlinked) (ap (λ (m : Mark). m.owed) (mark_unlinked conf links t s p unlinked))
 
 -- whether another slot is meant
 abbrev pub is_other : ℕ → ℕ → Bool
@@ -454,19 +547,19 @@ this_or_other slot s = either (s == slot)
 pub other_is : (slot s : ℕ) → is_other slot s ≡ true → s ≢ slot
 other_is slot s is same = absurd (let never = sym (ap not (eq-eqb s slot same)) ∙ is in cc)
 
-none_either : (b : Bool) → cond b (owed_for None None false) None ≡ None
+none_either : (b : Bool) → cond b (mark_for None None false) no_mark ≡ no_mark
 none_either true = refl
 none_either false = refl
 
 -- of a prefix without a best route nothing is owed to a peer that holds nothing
 fresh_none_of : (conf : Configuration) (t : RoutingState) (slot : ℕ) (q : Prefix) (peer : Option ConfiguredPeer) (linked : Option Linked) → ((l : Linked) → linked ≡ Some l → l.adj_out ≡ []) → best_at (rows_of t.book) q ≡ None
-    → mark_of conf t.adj_in t.book slot q peer linked ≡ None
+    → mark_of conf t.adj_in t.book slot q peer linked ≡ no_mark
 fresh_none_of conf t slot q None linked fresh none = refl
 fresh_none_of conf t slot q (Some peer) None fresh none = refl
 fresh_none_of conf t slot q (Some peer) (Some l) fresh none = rw (none, fresh l refl) (none_either (is_established l.peer.session.state))
 
 fresh_none : (conf : Configuration) (links : List (ℕ × Linked)) (t : RoutingState) (slot : ℕ) (q : Prefix) → ((l : Linked) → link_at links slot ≡ Some l → l.adj_out ≡ []) → best_at (rows_of t.book) q ≡ None
-    → mark_at conf links t slot q ≡ None
+    → mark_at conf links t slot q ≡ no_mark
 fresh_none conf links t slot q fresh none = fresh_none_of conf t slot q (peer_at conf slot) (link_at links slot) fresh none
 
 -- a slot whose peer holds nothing, and for which nothing waits
@@ -475,22 +568,22 @@ marked_fresh conf links slot t fresh h = record {
   there = h.there;
   released = h.released;
   marks = λ s p within is. elim (cases_eq s slot) [
-    | inl same ↦ subst (λ x. owed_at t.waiting x p ≡ mark_at conf links t x p) (sym same) (here s p same is)
+    | inl same ↦ subst (λ x. IsMarked (mark_at conf links t x p) t x p) (sym same) (here s p same is)
     | inr other ↦ h.others s p within other
   ];
   none = λ s p within unlinked. elim (cases_eq s slot) [
     | inl same ↦ subst (λ x. owed_at t.waiting x p ≡ None) (sym same) (h.none p)
-    | inr other ↦ h.others s p within other ∙ mark_unlinked conf links t s p unlinked
+    | inr other ↦ none_unlinked conf links t t s p unlinked (h.others s p within other)
   ];
 }
   where
-    here : (s : ℕ) (p : Prefix) → s ≡ slot → (is_other slot s ≡ true) ⊎ (best_at (rows_of t.book) p ≡ None) → owed_at t.waiting slot p ≡ mark_at conf links t slot p
+    here : (s : ℕ) (p : Prefix) → s ≡ slot → (is_other slot s ≡ true) ⊎ (best_at (rows_of t.book) p ≡ None) → IsMarked (mark_at conf links t slot p) t slot p
     here s p same (inl is) = absurd (other_is slot s is same)
-    here s p same (inr none) = h.none p ∙ sym (fresh_none conf links t slot p fresh none)
+    here s p same (inr none) = marked_none _ t slot p (h.none p) (ap (λ (m : Mark). m.owed) (fresh_none conf links t slot p fresh none))
 
 -- the slots below this one are marked, where the others that are told routes by the policy are still to be marked
 pub record ExportersBelow (conf : Configuration) (links : List (ℕ × Linked)) (done : ℕ → Bool) (first : RoutingState) (n : ℕ) (t : RoutingState) : Type 0 where
-  pub rest : t ≡ record first { waiting = t.waiting }
+  pub rest : KeepsTables first t
   pub marked : AreMarkedFor (λ s. nat_lt s n || done s) conf links t
 
 none_below : (s : ℕ) (b : Bool) → (nat_lt s 0 || b) ≡ true → b ≡ true
@@ -504,10 +597,10 @@ none_below s false is = absurd (below_zero s _ refl is)
 pub ExportersBelow-none : (conf : Configuration) (links : List (ℕ × Linked)) (done : ℕ → Bool) (t : RoutingState) → AreMarkedFor done conf links t → ExportersBelow conf links done t 0 t
 ExportersBelow-none conf links done t h = record { rest = refl; marked = marked_less done (λ s. nat_lt s 0 || done s) conf links t (λ s few is. none_below s (done s) is) h }
 
-pub ExportersBelow-more : (conf : Configuration) (links : List (ℕ × Linked)) (done : ℕ → Bool) (first t u : RoutingState) (n : ℕ) → ExportersBelow conf links done first n t → u ≡ record t { waiting = u.waiting }
+pub ExportersBelow-more : (conf : Configuration) (links : List (ℕ × Linked)) (done : ℕ → Bool) (first t u : RoutingState) (n : ℕ) → ExportersBelow conf links done first n t → KeepsTables t u
     → AreMarkedFor (λ s. s == n || (nat_lt s n || done s)) conf links u → ExportersBelow conf links done first (n + 1) u
 ExportersBelow-more conf links done first t u n h rest marked = record {
-  rest = rest ∙ ap (λ (x : RoutingState). record x { waiting = u.waiting }) h.rest;
+  rest = rest ∙ ap (λ (x : RoutingState). record x { waiting = u.waiting; alike = u.alike }) h.rest;
   marked = marked_less (λ s. s == n || (nat_lt s n || done s)) (λ s. nat_lt s (n + 1) || done s) conf links u (λ s few is. one_more s (nat_lt s (n + 1)) (done s) refl is) marked;
 }
   where
@@ -544,6 +637,10 @@ pub ExportersBelow-all : (conf : Configuration) (links : List (ℕ × Linked)) (
 ExportersBelow-all conf links done first t n all h = all_marked (λ s. nat_lt s n || done s) conf links t (λ s few. elim (cases_lt s n) [ inl low ↦ inl (ap (λ b. b || done s) (lt-ltb s n low)) | inr high ↦ inr (all s high few) ]) h.marked
 
 -- what is lent of it is there
+pub none_copied : {X : Type 0} (o : Option (Bor X)) (found : Option X) → is_some o ≡ false → option_copied o ≡ found → found ≡ None
+none_copied None found none is = sym is
+none_copied (Some x) found none is = absurd (cc)
+
 pub some_copied : {X : Type 0} (o : Option (Bor X)) (found : Option X) → is_some o ≡ true → option_copied o ≡ found → IsSome found
 some_copied None found some is = absurd (cc)
 some_copied (Some x) found some is = rw (← is) refl
@@ -571,7 +668,7 @@ bytes_eq-refl : (octets : List ℕ) → bytes_eq octets octets ≡ true
 bytes_eq-refl octets = (bytes_eq-Decides octets octets).1 refl
 
 -- where a peer holds just what is exported, and hasn't asked for it again, nothing is owed
-nothing_owed : (b : Bool) (export : Option (List ℕ)) → cond b (owed_for export export false) None ≡ None
+nothing_owed : (b : Bool) (export : Option (List ℕ)) → (cond b (mark_for export export false) no_mark).owed ≡ None
 nothing_owed false export = refl
 nothing_owed true None = refl
 nothing_owed true (Some octets) = rw (bytes_eq-refl octets) refl
@@ -583,7 +680,7 @@ pub mark_put_of : (conf : Configuration) (adj_in : RouteTable) (book : BookState
 mark_put_of conf adj_in book slot p None l m state held asked = refl
 mark_put_of conf adj_in book slot p (Some peer) l m state held asked = rw (state, held, asked) refl
 
-owed_unasked : (b : Bool) (held : Option (List ℕ)) (asked again : Bool) → cond b (owed_for None held asked) None ≡ cond b (owed_for None held again) None
+owed_unasked : (b : Bool) (held : Option (List ℕ)) (asked again : Bool) → cond b (mark_for None held asked) no_mark ≡ cond b (mark_for None held again) no_mark
 owed_unasked b None asked again = refl
 owed_unasked b (Some held) asked again = refl
 
@@ -620,7 +717,7 @@ pub marked_put : (conf : Configuration) (t : RoutingState) (slot : ℕ) (l m : L
 marked_put conf t slot l m old new marked linked session adj_out put = record {
   there = record { within = within_put slot l m old new linked put marked.there.within; known = marked.there.known };
   released = marked.released;
-  marks = λ s p within. marked.marks s p within ∙ sym (same s p);
+  marks = λ s p within. marked_as _ _ t s p (sym (same s p)) (marked.marks s p within);
 }
   where
     same : (s : ℕ) (p : Prefix) → mark_at conf new t s p ≡ mark_at conf old t s p
@@ -642,12 +739,11 @@ followed now conf t slot l input asks old new marked linked put news = record {
   linked = subst (λ o. IsSome o) (sym (now_on slot (moved now l input) old new put)) refl;
   there = record { within = within_put slot l (moved now l input) old new linked put marked.there.within; known = marked.there.known };
   released = marked.released;
-  others = λ s p within other. marked.marks s p within ∙ sym (mark_off conf t slot (moved now l input) old new put s p other);
+  others = λ s p within other. marked_as _ _ t s p (sym (mark_off conf t slot (moved now l input) old new put s p other)) (marked.marks s p within);
   same = λ stays still p why.
-      marked.marks slot p (marked.there.within slot l linked)
-      ∙ ap (mark_of conf t.adj_in t.book slot p (peer_at conf slot)) linked
-      ∙ sym (put_here stays still p why)
-      ∙ ap (mark_of conf t.adj_in t.book slot p (peer_at conf slot)) (sym (now_on slot (moved now l input) old new put));
+      marked_as _ _ t slot p
+      (ap (mark_of conf t.adj_in t.book slot p (peer_at conf slot)) linked ∙ sym (put_here stays still p why) ∙ ap (mark_of conf t.adj_in t.book slot p (peer_at conf slot)) (sym (now_on slot (moved now l input) old new put)))
+      (marked.marks slot p (marked.there.within slot l linked));
   left = λ left x there. subst (λ (y : Linked). is_established y.peer.session.state ≡ false) (the_link x there) (ended left);
   entered = λ entered x there. subst (λ (y : Linked). y.adj_out ≡ []) (the_link x there) (fresh entered);
 }
@@ -693,16 +789,16 @@ marked_asked conf links slot effects asks t h stays still = record {
   there = h.there;
   released = h.released;
   marks = λ s p within is. elim (cases_eq s slot) [
-    | inl same ↦ subst (λ x. owed_at t.waiting x p ≡ mark_at conf links t x p) (sym same) (here s p same is)
+    | inl same ↦ subst (λ x. IsMarked (mark_at conf links t x p) t x p) (sym same) (here s p same is)
     | inr other ↦ h.others s p within other
   ];
   none = λ s p within unlinked. elim (cases_eq s slot) [
     | inl same ↦ no_none (link_at links slot) (ap (link_at links) (sym same) ∙ unlinked) h.linked
-    | inr other ↦ h.others s p within other ∙ mark_unlinked conf links t s p unlinked
+    | inr other ↦ none_unlinked conf links t t s p unlinked (h.others s p within other)
   ];
 }
   where
-    here : (s : ℕ) (p : Prefix) → s ≡ slot → (is_other slot s ≡ true) ⊎ (best_at (rows_of t.book) p ≡ None) → owed_at t.waiting slot p ≡ mark_at conf links t slot p
+    here : (s : ℕ) (p : Prefix) → s ≡ slot → (is_other slot s ≡ true) ⊎ (best_at (rows_of t.book) p ≡ None) → IsMarked (mark_at conf links t slot p) t slot p
     here s p same (inl is) = absurd (other_is slot s is same)
     here s p same (inr none) = h.same stays still p (inr none)
 
@@ -710,9 +806,9 @@ marked_asked conf links slot effects asks t h stays still = record {
 pub marked_told : (conf : Configuration) (t u : RoutingState) (slot : ℕ) (named : List Prefix) (export : Option (List ℕ)) (l m : Linked) (old new : List (ℕ × Linked)) → AreMarked conf old t → link_at old slot ≡ Some l
     → IsTold named export l m → IsNow slot m old new
     → ((peer : ConfiguredPeer) (p : Prefix) → peer_at conf slot ≡ Some peer → is_among p named ≡ true → export_in conf (best_at (rows_of t.book)) t.adj_in (export_peer_of conf slot peer) p ≡ export)
-    → u ≡ record t { waiting = u.waiting } → ((s : ℕ) (p : Prefix) → owed_at u.waiting s p ≡ cond (s == slot && is_among p named) None (owed_at t.waiting s p))
+    → KeepsTables t u → ((s : ℕ) (p : Prefix) → owed_at u.waiting s p ≡ cond (s == slot && is_among p named) None (owed_at t.waiting s p)) → ((s : ℕ) (o : List ℕ) (p : Prefix) → owed_at u.waiting s p ≡ Some Announcement → IsListed t.alike s o p → IsListed u.alike s o p)
     → ((s : ℕ) (p : Prefix) → IsSome (route_at t.adj_in s p) → is_known u.waiting p ≡ is_known t.waiting p) → (((p : Prefix) → IsReleased t p) → (p : Prefix) → IsReleased u p) → AreMarked conf new u
-marked_told conf t u slot named export l m old new marked linked told put exported rest owed known released = record {
+marked_told conf t u slot named export l m old new marked linked told put exported rest owed listed known released = record {
   there = record {
     within = within_put slot l m old new linked put marked.there.within;
     known = λ s p there.
@@ -720,17 +816,17 @@ marked_told conf t u slot named export l m old new marked linked told put export
         known s p was ∙ marked.there.known s p was;
   };
   released = released marked.released;
-  marks = λ s p within. owed s p ∙ here s p within ∙ ap (λ (x : RoutingState). mark_at conf new x s p) (sym rest);
+  marks = λ s p within. marked_as _ _ u s p (ap (λ (x : RoutingState). mark_at conf new x s p) (sym rest)) (here s p within);
 }
   where
     of_told : (p : Prefix) → is_among p named ≡ true → (peer : Option ConfiguredPeer)
         → ((x : ConfiguredPeer) → peer ≡ Some x → export_in conf (best_at (rows_of t.book)) t.adj_in (export_peer_of conf slot x) p ≡ export)
-        → None ≡ mark_of conf t.adj_in t.book slot p peer (Some m)
+        → (mark_of conf t.adj_in t.book slot p peer (Some m)).owed ≡ None
     of_told p among None is = refl
-    of_told p among (Some x) is = rw (is x refl, told.held p, told.asked p, among) (sym (nothing_owed (is_established m.peer.session.state) export))
+    of_told p among (Some x) is = rw (is x refl, told.held p, told.asked p, among) (nothing_owed (is_established m.peer.session.state) export)
 
-    told_here : (p : Prefix) → is_among p named ≡ true → None ≡ mark_at conf new t slot p
-    told_here p among = of_told p among (peer_at conf slot) (λ x is. exported x p is among) ∙ ap (mark_of conf t.adj_in t.book slot p (peer_at conf slot)) (sym (now_on slot m old new put))
+    told_here : (p : Prefix) → is_among p named ≡ true → (mark_at conf new t slot p).owed ≡ None
+    told_here p among = ap (λ x. (mark_of conf t.adj_in t.book slot p (peer_at conf slot) x).owed) (now_on slot m old new put) ∙ of_told p among (peer_at conf slot) (λ x is. exported x p is among)
 
     same_state_told : is_established m.peer.session.state ≡ is_established l.peer.session.state
     same_state_told = ap (λ (x : Slot). is_established x.session.state) told.peer
@@ -742,14 +838,16 @@ marked_told conf t u slot named export l m old new marked linked told put export
         (told.asked p ∙ ap (λ b. cond b false (asked_at l.adj_out p)) other))
         ∙ ap (mark_of conf t.adj_in t.book slot p (peer_at conf slot)) (sym (now_on slot m old new put))
 
-    by_among : (p : Prefix) → slot < 64 → (b : Bool) → is_among p named ≡ b → cond b None (owed_at t.waiting slot p) ≡ mark_at conf new t slot p
-    by_among p within true is = told_here p is
-    by_among p within false is = marked.marks slot p within ∙ of_other p is
+    owed_here : (p : Prefix) (b : Bool) → is_among p named ≡ b → owed_at u.waiting slot p ≡ cond b None (owed_at t.waiting slot p)
+    owed_here p b is = owed slot p ∙ rw (eq-eqb slot slot refl, is) refl
 
-    here : (s : ℕ) (p : Prefix) → s < 64 → cond (s == slot && is_among p named) None (owed_at t.waiting s p) ≡ mark_at conf new t s p
+    by_among : (p : Prefix) → slot < 64 → (b : Bool) → is_among p named ≡ b → IsMarked (mark_at conf new t slot p) u slot p
+    by_among p within true is = marked_none _ u slot p (owed_here p true is) (told_here p is)
+    by_among p within false is = marked_still _ _ t u slot p (marked.marks slot p within) (owed_here p false is) (λ o waits. listed slot o p waits) (of_other p is)
+
+    here : (s : ℕ) (p : Prefix) → s < 64 → IsMarked (mark_at conf new t s p) u s p
     here s p within = elim (cases_eq s slot) [
-      | inl same ↦
-          subst (λ x. cond (x == slot && is_among p named) None (owed_at t.waiting x p) ≡ mark_at conf new t x p) (sym same)
-          (rw (eq-eqb slot slot refl) (by_among p (subst (λ x. x < 64) same within) (is_among p named) refl))
-      | inr other ↦ rw (ne_eqb s slot other) (marked.marks s p within ∙ sym (mark_off conf t slot m old new put s p other))
+      | inl same ↦ subst (λ x. IsMarked (mark_at conf new t x p) u x p) (sym same) (by_among p (subst (λ x. x < 64) same within) (is_among p named) refl)
+      | inr other ↦
+          marked_still _ _ t u s p (marked.marks s p within) (owed s p ∙ rw (ne_eqb s slot other) refl) (λ o waits. listed s o p waits) (sym (mark_off conf t slot m old new put s p other))
     ]

@@ -1,17 +1,13 @@
 use Rattle.std.proofs.Common.{◌≡◌, ◌≤◌, ◌+◌, ◌==◌, ◌&&◌, ◌||◌, ◌⊎◌, ℕ, suc, Bool, true, false, not, List, [], ◌∷◌, ◌++◌, length, Some, None, Result, Ok, Err, OnErr, cond, refl, sym, ◌∙◌, subst, inl, inr, arith, length-append}
-use Rattle.std.specs.Option.{IsSome}
 use Rattle.std.specs.Ordering.{is_eq}
 use Rattle.bgp_msg.specs.UpdateMeaning.{UpdateBody}
 use Rattle.net_prefix.specs.PrefixOrder.{prefix_cmp}
 use Rattle.net_prefix.specs.declared.prefix.Prefix.{Prefix}
-use Rattle.rib_in.specs.LatestRoutes.{route_at}
 use Rattle.rib_out.proofs.Prefixes.{is_prefix-refl}
 use Rattle.routes.specs.Updates.{is_among, is_only_withdrawn}
-use Rattle.routes.specs.Chosen.{how_many, named_in, AreDifferent, IsPart, OncePerPrefix}
-use Rattle.routes.specs.RoutingState.{RoutingState}
-use Rattle.routes.proofs.Counting.{among_all, different_as, there_case}
+use Rattle.routes.specs.Chosen.{how_many, named_in, AreDifferent, OncePerPrefix}
+use Rattle.routes.proofs.Counting.{among_all, different_as}
 use Rattle.routes.proofs.Places.{same_from_is_prefix}
-use Rattle.routes.proofs.RouteChanges.{IsSet}
 
 -- How often a best route may be chosen, by a history: different prefixes with a route are as many at most as are counted.
 
@@ -152,24 +148,3 @@ most_named update a b c gone come =
 -- where only the withdrawn ones are taken
 pub most_withdrawn : (update : UpdateBody) (a b : ℕ) → OncePerPrefix (λ p. is_only_withdrawn update.withdrawn update.announced p ≡ true) a b → b ≤ a + named_in update
 most_withdrawn update a b gone = most_named update a b b gone ([], tt, omega arith)
-
--- where an UPDATE was taken in part, what the slot has it had, or the UPDATE announces it
-pub part_withdrawn : (slot : ℕ) (update : UpdateBody) (old mid : RoutingState) → IsSet slot (is_only_withdrawn update.withdrawn update.announced) (λ q. None) (route_at old.adj_in) (route_at mid.adj_in)
-    → mid.chosen ≤ old.chosen + named_in update → IsPart slot (Some update) old.adj_in mid.adj_in old.chosen mid.chosen
-part_withdrawn slot update old mid gone few = record {
-  routes = λ p there. inl (there_case (slot == slot && is_only_withdrawn update.withdrawn update.announced p) (route_at old.adj_in slot p) (subst (λ o. IsSome o) (gone slot p) there));
-  chosen = few;
-}
-
-pub part_announced : {T F : Type 0} (result : Result T F) (slot : ℕ) (update : UpdateBody) (old mid new : RoutingState)
-    → IsSet slot (is_only_withdrawn update.withdrawn update.announced) (λ q. None) (route_at old.adj_in) (route_at mid.adj_in)
-    → OnErr result ((p : Prefix) → IsSome (route_at new.adj_in slot p) → IsSome (route_at mid.adj_in slot p) ⊎ (is_among p update.announced ≡ true))
-    → new.chosen ≤ old.chosen + named_in update → OnErr result (IsPart slot (Some update) old.adj_in new.adj_in old.chosen new.chosen)
-part_announced (Ok done) slot update old mid new gone come few = tt
-part_announced (Err why) slot update old mid new gone come few = record {
-  routes = λ p there. elim (come p there) [
-    | inl before ↦ inl (there_case (slot == slot && is_only_withdrawn update.withdrawn update.announced p) (route_at old.adj_in slot p) (subst (λ o. IsSome o) (gone slot p) before))
-    | inr named ↦ inr named
-  ];
-  chosen = few;
-}

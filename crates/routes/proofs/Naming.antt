@@ -1,4 +1,4 @@
-use Rattle.std.proofs.Common.{◌≡◌, ◌≢◌, ◌⊎◌, ◌≤◌, ◌<◌, ◌+◌, ◌^◌, ◌||◌, ℕ, Bool, true, false, List, [], ◌∷◌, ◌++◌, length, length-append, Option, Some, None, MatchOption, refl, sym, ap, ◌∙◌, subst, arith, inl, inr}
+use Rattle.std.proofs.Common.{◌≡◌, ◌⊎◌, ◌≤◌, ◌<◌, ◌+◌, ◌^◌, ◌||◌, ℕ, Bool, true, false, List, [], ◌∷◌, ◌++◌, length, length-append, Option, Some, None, MatchOption, refl, sym, ap, ◌∙◌, subst, arith, inl, inr}
 use Rattle.std.specs.Prelude.{All}
 use Rattle.std.specs.List.{AllByRecursion}
 use Rattle.std.proofs.lemmas.List.Elements.{All-push}
@@ -34,29 +34,29 @@ IsLeftFrom There named next = (q : Prefix) → There q → is_among q named ≡ 
 abbrev pub IsBegun : Prefix → List Prefix → Option Prefix → Type 0
 IsBegun least named next = ((named ≡ []) × (next ≡ Some least)) ⊎ (is_among least named ≡ true)
 
--- prefixes are named in rising order, and there is so much room left; that none is left out may want a premise
-pub record Names (Premise : Type 0) (There : Prefix → Type 0) (most : ℕ) (least : Prefix) (named : List Prefix) (room : ℕ) (next : Option Prefix) : Type 0 where
+-- prefixes are named in rising order, and there is so much room left
+pub record Names (There : Prefix → Type 0) (most : ℕ) (least : Prefix) (named : List Prefix) (room : ℕ) (next : Option Prefix) : Type 0 where
   pub each : (q : Prefix) → is_among q named ≡ true → There q
   pub rising : IsStrictlySortedBy prefix_cmp named
   pub taken : room + length (wire_form named) ≡ most
   pub places : All (λ q. rank_of q < 2 ^ 38) named
   pub coming : IsComing There named next
   pub begun : IsBegun least named next
-  pub rest : Premise → IsLeftFrom There named next
+  pub rest : IsLeftFrom There named next
 
 nothing_sorted : IsStrictlySortedBy prefix_cmp []
 unfolding IsStrictlySortedBy
 nothing_sorted = tt
 
-pub Names-start : (Premise : Type 0) (There : Prefix → Type 0) (most : ℕ) (least : Prefix) → There least → ((q : Prefix) → There q → rank_of least ≤ rank_of q) → Names Premise There most least [] most (Some least)
-Names-start Premise There most least here lowest = record {
+pub Names-start : (There : Prefix → Type 0) (most : ℕ) (least : Prefix) → There least → ((q : Prefix) → There q → rank_of least ≤ rank_of q) → Names There most least [] most (Some least)
+Names-start There most least here lowest = record {
   each = λ q never. absurd (cc);
   rising = nothing_sorted;
   taken = omega arith;
   places = λ k d h. absurd (omega (arith, h));
   coming = (here, λ q never. absurd (cc));
   begun = inl (refl, refl);
-  rest = λ premise q there out. lowest q there;
+  rest = λ q there out. lowest q there;
 }
 
 wire_push : (named : List Prefix) (p : Prefix) → length (wire_form (named ++ p ∷ [])) ≡ length (wire_form named) + taken_by p
@@ -146,10 +146,10 @@ left_of There named p next rest behind q there out = by_next next behind
     by_next (Some x) behind = behind q there above
 
 -- one more is named
-pub Names-more : (Premise : Type 0) (There : Prefix → Type 0) (most : ℕ) (least : Prefix) (named : List Prefix) (room : ℕ) (p : Prefix) (next : Option Prefix)
-    → Names Premise There most least named room (Some p) → taken_by p ≤ room → MatchOption next (Unit {0}) (λ n. There n × (rank_of p < rank_of n)) → (Premise → IsBehind There p next)
-    → (left : ℕ) → left + taken_by p ≡ room → rank_of p < 2 ^ 38 → Names Premise There most least (named ++ p ∷ []) left next
-Names-more Premise There most least named room p next h fits coming behind left is place = record {
+pub Names-more : (There : Prefix → Type 0) (most : ℕ) (least : Prefix) (named : List Prefix) (room : ℕ) (p : Prefix) (next : Option Prefix)
+    → Names There most least named room (Some p) → taken_by p ≤ room → MatchOption next (Unit {0}) (λ n. There n × (rank_of p < rank_of n)) → IsBehind There p next
+    → (left : ℕ) → left + taken_by p ≡ room → rank_of p < 2 ^ 38 → Names There most least (named ++ p ∷ []) left next
+Names-more There most least named room p next h fits coming behind left is place = record {
   each = λ q among.
       elim (among_either q named p among) [
         | inl before ↦ h.each q before
@@ -163,7 +163,7 @@ Names-more Premise There most least named room p next h fits coming behind left 
     | inl first ↦ subst (λ x. is_among x (named ++ p ∷ []) ≡ true) (the_least p least first.1) (among_last named p)
     | inr among ↦ among_still least named p among
   ]);
-  rest = λ premise. left_of There named p next (h.rest premise) (behind premise);
+  rest = left_of There named p next h.rest behind;
 }
   where
     the_least : (a b : Prefix) → Some a ≡ Some b → a ≡ b
@@ -174,14 +174,14 @@ some_among least [] is = absurd (cc)
 some_among least (d ∷ named) is = omega arith
 
 -- there is no other
-pub Names-end : (Premise : Type 0) (There : Prefix → Type 0) (most : ℕ) (least : Prefix) (named : List Prefix) (room : ℕ) → Names Premise There most least named room None → Premise → IsPack There most named
-Names-end Premise There most least named room h premise = record {
+pub Names-end : (There : Prefix → Type 0) (most : ℕ) (least : Prefix) (named : List Prefix) (room : ℕ) → Names There most least named room None → IsPack There most named
+Names-end There most least named room h = record {
   some = some_among least named (least_named h.begun);
   each = h.each;
   rising = h.rising;
   fits = omega (arith, h.taken);
-  behind = λ q there out. absurd (h.rest premise q there out);
-  full = λ q there out. absurd (h.rest premise q there out);
+  behind = λ q there out. absurd (h.rest q there out);
+  full = λ q there out. absurd (h.rest q there out);
 }
   where
     least_named : IsBegun least named None → is_among least named ≡ true
@@ -189,16 +189,16 @@ Names-end Premise There most least named room h premise = record {
     least_named (inr among) = among
 
 -- the next one is too long
-pub Names-full : (Premise : Type 0) (There : Prefix → Type 0) (most : ℕ) (least : Prefix) (named : List Prefix) (room : ℕ) (p : Prefix) → Names Premise There most least named room (Some p) → 5 ≤ most → taken_by p ≤ 5 → room < taken_by p → Premise
+pub Names-full : (There : Prefix → Type 0) (most : ℕ) (least : Prefix) (named : List Prefix) (room : ℕ) (p : Prefix) → Names There most least named room (Some p) → 5 ≤ most → taken_by p ≤ 5 → room < taken_by p
     → IsPack There most named
-Names-full Premise There most least named room p h wide short full premise = record {
+Names-full There most least named room p h wide short full = record {
   some = some_among least named (least_named h.begun);
   each = h.each;
   rising = h.rising;
   fits = omega (arith, h.taken);
-  behind = λ q there out d among. omega (arith, h.coming.1 d among, h.rest premise q there out);
+  behind = λ q there out d among. omega (arith, h.coming.1 d among, h.rest q there out);
   full = λ q there out lowest.
-      let same : p ≡ q = same_from_rank p q (omega (arith, h.rest premise q there out, lowest p h.coming.0 (not_named (is_among p named) refl))) in
+      let same : p ≡ q = same_from_rank p q (omega (arith, h.rest q there out, lowest p h.coming.0 (not_named (is_among p named) refl))) in
       rw (← same) (omega (arith, h.taken, wire_one p, full));
 }
   where

@@ -18,6 +18,10 @@ pub OnErr-is : {T F : Type 0} (r : Result T F) (P : Type 0) → P → OnErr r P
 OnErr-is (Ok v) P p = tt
 OnErr-is (Err e) P p = p
 
+pub OnOk-never : {T F : Type 0} (r : Result T F) (P : Type 0) → true ≡ is_err r → OnOk r P
+OnOk-never (Ok v) P failed = absurd (cc)
+OnOk-never (Err e) P failed = tt
+
 -- what holds where a test is met
 pub OnTrue-if : (b : Bool) (P : Type 0) → (IsTrue b → P) → OnTrue b P
 OnTrue-if true P p = p refl

@@ -48,7 +48,7 @@ pub among_push : (p : Prefix) (seen : List Prefix) (e : Prefix) → is_among p (
 among_push p [] e = sym (or_false (is_eq (prefix_cmp e p)))
 among_push p (d ∷ seen) e = rw (among_push p seen e) (or_assoc (is_eq (prefix_cmp d p)) (is_among p seen) (is_eq (prefix_cmp e p)))
 
-one_more : {X : Type 0} (at seen now : Bool) (what old : X) → cond (at && now) what (cond (at && seen) what old) ≡ cond (at && (seen || now)) what old
+pub one_more : {X : Type 0} (at seen now : Bool) (what old : X) → cond (at && now) what (cond (at && seen) what old) ≡ cond (at && (seen || now)) what old
 one_more true true true what old = refl
 one_more true true false what old = refl
 one_more true false now what old = refl
@@ -66,7 +66,7 @@ pub record Sets {X : Type 0} (slot : ℕ) (taken : Prefix → Bool) (prefixes se
 pub Sets-start : {X : Type 0} (slot : ℕ) (taken : Prefix → Bool) (prefixes rest : List Prefix) (what : Prefix → Option X) (old : Found X) → rest ≡ prefixes → Sets slot taken prefixes [] rest what old old
 Sets-start slot taken prefixes rest what old all = record { whole = all; set = λ s p. none_set (s == slot) (what p) (old s p) }
 
-seen_next : (prefixes seen rest next : List Prefix) (e : Prefix) → seen ++ rest ≡ prefixes → rest ≡ e ∷ next → (seen ++ e ∷ []) ++ next ≡ prefixes
+pub seen_next : (prefixes seen rest next : List Prefix) (e : Prefix) → seen ++ rest ≡ prefixes → rest ≡ e ∷ next → (seen ++ e ∷ []) ++ next ≡ prefixes
 seen_next prefixes seen rest next e whole is = let here = rw is at whole in append_assoc seen (e ∷ []) next ∙ here
 
 pub second_true : (a b : Bool) → (a && b) ≡ true → b ≡ true

@@ -43,7 +43,7 @@ pub exported_routed : (s : RoutesState) (slot : ℕ) (p : Prefix) (octets : List
 exported_routed s slot p octets is = of_peer s.adj_in p octets s.conf (best_at (rows_of s.book)) slot (peer_at s.conf slot) is
 
 -- behind what a peer was told of routes no prefix is known that needn't be
-pub announced_released : (slot : ℕ) (named : List Prefix) (t u : RoutingState) → u ≡ record t { waiting = u.waiting } → ((p : Prefix) → is_among p named ≡ true → (s : ℕ) × IsSome (route_at t.adj_in s p))
+pub announced_released : (slot : ℕ) (named : List Prefix) (t u : RoutingState) → u ≡ record t { waiting = u.waiting; alike = u.alike } → ((p : Prefix) → is_among p named ≡ true → (s : ℕ) × IsSome (route_at t.adj_in s p))
     → ((s : ℕ) (p : Prefix) → owed_at u.waiting s p ≡ cond (s == slot && is_among p named) None (owed_at t.waiting s p)) → ((p : Prefix) → is_known u.waiting p ≡ is_known t.waiting p)
     → ((p : Prefix) → IsReleased t p) → (p : Prefix) → IsReleased u p
 announced_released slot named t u rest routed set known all p = by_test (is_among p named) refl

@@ -30,12 +30,6 @@ abbrev pub AreDifferent : (Prefix → Type 0) → List Prefix → Type 0
 AreDifferent holds [] = Unit {0}
 AreDifferent holds (p ∷ prefixes) = (is_among p prefixes ≡ false) × holds p × AreDifferent holds prefixes
 
--- where an UPDATE was taken in part, the slot has no route but one that it had or that the UPDATE announces; a best route
--- was chosen at most once for each prefix that it names. One with a fault wasn't taken
-pub record IsPart (slot : ℕ) (update : Option UpdateBody) (had has : RouteTable) (before after : ℕ) : Type 0 where
-  pub routes : (p : Prefix) → IsSome (route_at has slot p) → IsSome (route_at had slot p) ⊎ (is_among p (announced_if update) ≡ true)
-  pub chosen : after ≤ before + named_if update
-
 -- a best route was chosen once at most for each of some prefixes, none of them twice, of each of which this holds
 abbrev pub OncePerPrefix : (Prefix → Type 0) → ℕ → ℕ → Type 0
 OncePerPrefix holds before after = (prefixes : List Prefix) × AreDifferent holds prefixes × (after ≤ before + length prefixes)

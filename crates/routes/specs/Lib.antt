@@ -1,3 +1,4 @@
+pub mod Brought
 pub mod Candidates
 pub mod Chosen
 pub mod Commands

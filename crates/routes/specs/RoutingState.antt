@@ -3,21 +3,24 @@ use Rattle.std.specs.Prelude.{◌≡◌, ◌≢◌, ℕ, List, []}
 use Rattle.decision.specs.BookContents.{offer_at, BookState}
 use Rattle.net_prefix.specs.declared.prefix.Prefix.{Prefix}
 use Rattle.rib_in.specs.LatestRoutes.{RouteTable, route_at}
+use Rattle.rib_out.specs.Alike.{AlikeState}
 use Rattle.rib_out.specs.declared.waits.Waits.{Waits}
 
--- Adj-RIB-In, the candidates that are kept with Loc-RIB, how often a best route was chosen so far, and what waits of each
--- known prefix for each slot
+-- Adj-RIB-In, the candidates that are kept with Loc-RIB, how often a best route was chosen so far, what waits of each
+-- known prefix for each slot, and what is listed of it by the octets that are written
 pub record RoutingState : Type 0 where
   pub adj_in : RouteTable
   pub book : BookState
   pub chosen : ℕ
   pub waiting : List (Prefix × Waits)
+  pub alike : AlikeState
 
 -- no routes, and nothing waits
-abbrev pub started : RoutingState
-started = record { adj_in = []; book = []; chosen = 0; waiting = [] }
+abbrev pub started : AlikeState → RoutingState
+started alike = record { adj_in = []; book = []; chosen = 0; waiting = []; alike = alike }
 
--- the routes and the candidates of all other slots stay
-pub record KeepsOthers (slot : ℕ) (had has : RouteTable) (before after : BookState) : Type 0 where
-  pub routes : (s : ℕ) (prefix : Prefix) → s ≢ slot → route_at has s prefix ≡ route_at had s prefix
-  pub offers : (s : ℕ) (prefix : Prefix) → s ≢ slot → offer_at after s prefix ≡ offer_at before s prefix
+-- no route and no candidate is another, and no best route was chosen
+pub record StayWhole (had has : RouteTable) (before after : BookState) (count now : ℕ) : Type 0 where
+  pub routes : (slot : ℕ) (prefix : Prefix) → route_at has slot prefix ≡ route_at had slot prefix
+  pub offers : (slot : ℕ) (prefix : Prefix) → offer_at after slot prefix ≡ offer_at before slot prefix
+  pub chosen : now ≡ count

@@ -2,9 +2,10 @@
 //!
 //! **Parts.** `Routes` is the one type that others call. It has the configuration, the payloads by which routes are judged, a
 //! `Link` for each slot (its session beside what its peer was sent), `Routing` (Adj-RIB-In with Loc-RIB, and of each prefix
-//! what waits for each Established peer: a withdrawal, an announcement or nothing) and what was announced lately, for peers
-//! to share. Its value (`RoutesState`) has all of these but what waits: that is where what a peer holds and its export differ,
-//! or the peer has asked for what it holds again (RFC 2918).
+//! what waits for each Established peer: a withdrawal, an announcement or nothing; announcements are listed by the octets that
+//! are written, so that those of one UPDATE are found soon) and what was announced lately, for peers to share. Its value
+//! (`RoutesState`) has all of these but what waits: that is where what a peer holds and its export differ, or the peer has
+//! asked for what it holds again (RFC 2918).
 //!
 //! **The way of an event.** A session's input moves its slot, and where it enters or leaves Established, or its peer asks
 //! for all routes again, the routes follow (`input`). A message at the front of a slot's rest is an input to the session,
@@ -15,7 +16,8 @@
 //! asked for in order (`withdrawal_after`, `announcement_after`) and told (`tell_withdrawals`, `tell_announcements`).
 //!
 //! **What holds when.** Between calls: no two peers have one address, each candidate has its own peer's, and of each prefix
-//! there waits for each slot just what its peer is owed (the invariant of `Routes`). No clause outside speaks of marks.
+//! there waits for each slot just what its peer is owed, and an announcement is listed by its octets (the invariant of
+//! `Routes`). No clause outside speaks of marks or lists.
 //! Within a call the functions of `Routing`, `candidates` and `updates` are given this (`AreMarked`, `IsSound`) and give it
 //! back.
 //!

@@ -12,9 +12,9 @@ ghost use Rattle.bgp_peer.specs.SessionInputs.{Terms, expected_of, input_of, ope
 ghost use Rattle.decision.specs.BookContents.{offer_at};
 ghost use Rattle.routes.specs.Updates.{NeedsMemory, sound_update};
 ghost use Rattle.routes.specs.Heard.{AreOf, IsHeard, KeepsUnnamed, TakesMemoryAt, update_heard};
-ghost use Rattle.routes.specs.Chosen.{named_if, IsPart};
+ghost use Rattle.routes.specs.Chosen.{named_if};
+ghost use Rattle.routes.specs.RoutingState.{StayWhole};
 ghost use Rattle.routes.specs.Marks.{AreMarked};
-ghost use Rattle.routes.specs.RoutingState.{KeepsOthers};
 ghost use Rattle.routes.specs.Offers.{IsSound, KeepsHeard};
 
 use crate::exports::Octets;
@@ -40,7 +40,7 @@ pub struct Standard {
 }
 
 /// What stands at the front of a slot's rest is to the session: nothing yet, or an input. The routes of an
-/// UPDATE of an Established session are taken. What a NOTIFICATION shows of a faulty message is written to `room`.
+/// UPDATE of an Established session are taken, all or none. What a NOTIFICATION shows of a faulty message is written to `room`.
 pub fn take_front<'r, A: Allocator + Clone, B: Book<A>>(
     alloc: &A,
     conf: &Conf<A>,
@@ -63,12 +63,11 @@ pub fn take_front<'r, A: Allocator + Clone, B: Book<A>>(
     ensures unnamed { OnOk result ((terms : Terms) → AreOf terms standard
         → KeepsUnnamed sender.slot (option_and_then (update_heard link.now.peer.session.state terms) (meaning link.now.peer.rest)) routing.old.book routing.new.book) }
     ensures kept { OnOk result (KeepsHeard conf.now payloads.now sender link.now.peer.session.state routing.old routing.new) }
-    ensures others { OnErr result (KeepsOthers sender.slot routing.old.adj_in routing.new.adj_in routing.old.book routing.new.book) }
+    ensures refused { OnErr result (StayWhole routing.old.adj_in routing.new.adj_in routing.old.book routing.new.book routing.old.chosen routing.new.chosen) }
     ensures memory { OnErr result (TakesMemoryAt standard.kind link.now) }
     ensures chosen { OnOk result ((terms : Terms) → AreOf terms standard
         → routing.new.chosen ≤ routing.old.chosen + named_if (option_and_then (update_heard link.now.peer.session.state terms) (meaning link.now.peer.rest))) }
     ensures rises { routing.old.chosen ≤ routing.new.chosen }
-    ensures part { OnErr result ((body : List ℕ) → meaning link.now.peer.rest ≡ Some (WholeMessage UpdateMessage body) → IsPart sender.slot (sound_update standard.kind body (update_fault standard.kind body)) routing.old.adj_in routing.new.adj_in routing.old.chosen routing.new.chosen) }
 {
     match link.peer.front() {
         Step::Need => Ok(None),
@@ -107,12 +106,11 @@ fn judge<'r, A: Allocator + Clone, B: Book<A>>(
     ensures unnamed { OnOk result ((terms : Terms) → AreOf terms standard
         → KeepsUnnamed sender.slot (update_heard state terms (WholeMessage frame.entry.kind frame.entry.body.now)) routing.old.book routing.new.book) }
     ensures kept { OnOk result (KeepsHeard conf.now payloads.now sender state routing.old routing.new) }
-    ensures others { OnErr result (KeepsOthers sender.slot routing.old.adj_in routing.new.adj_in routing.old.book routing.new.book) }
+    ensures refused { OnErr result (StayWhole routing.old.adj_in routing.new.adj_in routing.old.book routing.new.book routing.old.chosen routing.new.chosen) }
     ensures memory { OnErr result ((state ≡ Established) × (frame.entry.kind ≡ UpdateMessage) × NeedsMemory standard.kind frame.entry.body.now) }
     ensures chosen { OnOk result ((terms : Terms) → AreOf terms standard
         → routing.new.chosen ≤ routing.old.chosen + named_if (update_heard state terms (WholeMessage frame.entry.kind frame.entry.body.now))) }
     ensures rises { routing.old.chosen ≤ routing.new.chosen }
-    ensures part { OnErr result (IsPart sender.slot (sound_update standard.kind frame.entry.body.now (update_fault standard.kind frame.entry.body.now)) routing.old.adj_in routing.new.adj_in routing.old.chosen routing.new.chosen) }
 {
     match (frame.kind, state) {
         (MessageType::Open, State::OpenSent) => Ok(judge_open(frame.body, standard.expected, room)),
@@ -167,11 +165,10 @@ fn judge_update<'r, A: Allocator + Clone, B: Book<A>>(
     ensures routes { OnOk result (IsHeard sender.slot (sound_update standard.kind body.now (update_fault standard.kind body.now)) routing.old.adj_in routing.new.adj_in) }
     ensures unnamed { OnOk result (KeepsUnnamed sender.slot (sound_update standard.kind body.now (update_fault standard.kind body.now)) routing.old.book routing.new.book) }
     ensures kept { OnOk result (KeepsHeard conf.now payloads.now sender Established routing.old routing.new) }
-    ensures others { OnErr result (KeepsOthers sender.slot routing.old.adj_in routing.new.adj_in routing.old.book routing.new.book) }
+    ensures refused { OnErr result (StayWhole routing.old.adj_in routing.new.adj_in routing.old.book routing.new.book routing.old.chosen routing.new.chosen) }
     ensures memory { OnErr result (NeedsMemory standard.kind body.now) }
     ensures chosen { OnOk result (routing.new.chosen ≤ routing.old.chosen + named_if (sound_update standard.kind body.now (update_fault standard.kind body.now))) }
     ensures rises { routing.old.chosen ≤ routing.new.chosen }
-    ensures part { OnErr result (IsPart sender.slot (sound_update standard.kind body.now (update_fault standard.kind body.now)) routing.old.adj_in routing.new.adj_in routing.old.chosen routing.new.chosen) }
 {
     match read_update(alloc, body, standard.kind) {
         Ok(update) => {

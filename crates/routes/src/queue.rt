@@ -4,7 +4,7 @@ ghost use Rattle.std.specs.Option.{IfSome, IsSome, option_map};
 ghost use Rattle.bgp_conf.specs.Configuration.{peer_at};
 ghost use Rattle.bgp_conf.specs.declared.conf.ConfiguredPeer.{ConfiguredPeer};
 ghost use Rattle.bgp_fsm.specs.declared.state.State.TheVariants.{Established};
-ghost use Rattle.export_rules.specs.Export.{IsSender, most_attributes};
+ghost use Rattle.export_rules.specs.Export.{most_attributes};
 ghost use Rattle.net_prefix.specs.PrefixOrder.{IsAbove};
 ghost use Rattle.net_prefix.specs.declared.prefix.Prefix.{Prefix as ThePrefix};
 ghost use Rattle.rib_out.specs.Held.{asked_at, held_at, is_among};
@@ -94,11 +94,10 @@ impl<A: Allocator + Clone, B: Book<A>> Routes<A, B> {
         ensures told { OnOk result (TellsSlot slot draft.new.named.items (Some octets.now.items) self.old self.new) }
         ensures least { is_among least draft.new.named.items ≡ true }
         ensures each { (q : ThePrefix) → is_among q draft.new.named.items ≡ true → export_of self.old slot q ≡ Some octets.now.items }
-        // The own AS is one and the own address is a host's for each peer that was configured, so none is left out.
-        ensures packed { IsSender peer.now → (l : Linked) → link_at self.old.links slot ≡ Some l → IsPack (IsFrom least (IsDue (export_of self.old slot) (Some octets.now.items) l)) (most_named - length octets.now.items) draft.new.named.items }
+        ensures packed { (l : Linked) → link_at self.old.links slot ≡ Some l → IsPack (IsFrom least (IsDue (export_of self.old slot) (Some octets.now.items) l)) (most_named - length octets.now.items) draft.new.named.items }
         ensures message { OnOk result (draft.new.message.items ≡ update_saying draft.new.named.items (Some octets.now.items)) }
         ensures err { OnErr result ((s : ℕ) → link_at self.new.links s ≡ link_at self.old.links s) }
-        ensures short { OnErr result ((l : Linked) → link_at self.old.links slot ≡ Some l → (q : ThePrefix) × (export_of self.old slot q ≡ Some octets.now.items) × (held_at l.adj_out q ≢ Some octets.now.items)) }
+        ensures short { OnErr result ((l : Linked) → link_at self.old.links slot ≡ Some l → (q : ThePrefix) × (is_among q draft.new.named.items ≡ true) × (export_of self.old slot q ≡ Some octets.now.items) × (held_at l.adj_out q ≢ Some octets.now.items)) }
         ensures rest { self.new ≡ record self.old { links = self.new.links } }
         ensures payloads { self.new.payloads ≡ self.old.payloads }
     {
@@ -121,7 +120,8 @@ impl<A: Allocator + Clone, B: Book<A>> Routes<A, B> {
             octets,
             &mut draft.message,
         )?;
-        self.routing.announced_all(slot, draft.named.as_slice());
+        self.routing
+            .announced_all(slot, octets.as_slice(), draft.named.as_slice());
         Ok(())
     }
 }

@@ -81,7 +81,7 @@ impl<A: Allocator + Clone + Copy, B: Book<A>> Routes<A, B> {
     {
         let recent = RecentOctets::new(alloc)?;
         let conf = Conf::new(alloc, own)?;
-        let routing = Routing::new(alloc, own)?;
+        let routing = Routing::new(alloc)?;
         Ok(Routes {
             conf,
             payloads: PayloadTrie::new(alloc),

@@ -11,12 +11,12 @@ ghost use Rattle.bgp_peer.specs.Slot.{handed, pushed};
 ghost use Rattle.decision.specs.BookContents.{offer_at};
 ghost use Rattle.net_prefix.specs.declared.prefix.Prefix.{Prefix as ThePrefix};
 ghost use Rattle.rib_in.specs.LatestRoutes.{route_at};
-ghost use Rattle.routes.specs.Chosen.{Ends, IsPart, named_if};
+ghost use Rattle.routes.specs.Chosen.{Ends, named_if};
 ghost use Rattle.routes.specs.Heard.{AreOf, IsHeard, KeepsUnnamed, TakesMemoryAt, update_heard};
 ghost use Rattle.routes.specs.Linked.{Linked, taken_of};
+ghost use Rattle.routes.specs.RoutingState.{StayWhole};
 ghost use Rattle.routes.specs.Marks.{AreMarked, IsFollowed};
 ghost use Rattle.routes.specs.RoutesState.{IsSet, StaysKept, TakesInput};
-ghost use Rattle.routes.specs.RoutingState.{KeepsOthers};
 ghost use Rattle.routes.specs.Tables.{link_at};
 ghost use Rattle.routes.specs.Updates.{sound_update};
 
@@ -100,7 +100,7 @@ impl<A: Allocator + Clone, B: Book<A>> Routes<A, B> {
     }
 
     /// What stands at the front of a slot's rest is to the session: nothing yet, or an input. The routes of an UPDATE of an
-    /// Established session are taken. Where memory is refused, part of them may have been. What a NOTIFICATION shows of a
+    /// Established session are taken, all or none. What a NOTIFICATION shows of a
     /// faulty message is written to `room`.
     pub fn judge_front<'r>(
         &mut self,
@@ -120,10 +120,8 @@ impl<A: Allocator + Clone, B: Book<A>> Routes<A, B> {
         ensures kept { OnOk result (StaysKept self.old self.new) }
         ensures chosen { OnOk result ((terms : Terms) (l : Linked) → AreOf terms standard → link_at self.old.links slot ≡ Some l
             → self.new.chosen ≤ self.old.chosen + named_if (option_and_then (update_heard l.peer.session.state terms) (meaning l.peer.rest))) }
-        ensures others { OnErr result (KeepsOthers slot self.old.adj_in self.new.adj_in self.old.book self.new.book) }
+        ensures refused { OnErr result (StayWhole self.old.adj_in self.new.adj_in self.old.book self.new.book self.old.chosen self.new.chosen) }
         ensures memory { OnErr result ((l : Linked) → link_at self.old.links slot ≡ Some l → TakesMemoryAt standard.kind l) }
-        ensures part { OnErr result ((l : Linked) (body : List ℕ) → link_at self.old.links slot ≡ Some l → meaning l.peer.rest ≡ Some (WholeMessage UpdateMessage body)
-            → IsPart slot (sound_update standard.kind body (update_fault standard.kind body)) self.old.adj_in self.new.adj_in self.old.chosen self.new.chosen) }
         ensures within { OnErr result (slot < 64) }
         ensures rest { self.new ≡ record self.old { adj_in = self.new.adj_in; book = self.new.book; chosen = self.new.chosen } }
         ensures payloads { self.new.payloads ≡ self.old.payloads }

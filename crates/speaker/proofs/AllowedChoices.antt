@@ -24,7 +24,7 @@ use Rattle.speaker.specs.AdjRibIn.{brought, route}
 use Rattle.routes.specs.Updates.{is_among, sound_update, word_if}
 use Rattle.bgp_conf.specs.Configuration.{is_network}
 use Rattle.speaker.proofs.KnownPrefixes.{IsKnown, network_among}
-use Rattle.speaker.specs.Choices.{is_known, is_touched, named_to, announced_in, announced_to, choices_by, choices_on, choices_refused, is_routed, routes_held}
+use Rattle.speaker.specs.Choices.{is_known, is_touched, named_to, announced_in, announced_to, choices_by, choices_on, is_routed, routes_held}
 use Rattle.routes.specs.Chosen.{announced_if, how_many, named_if, AreDifferent}
 use Rattle.speaker.specs.Chosen.{Chooses}
 use Rattle.speaker.specs.Runs.{Run, configuration_of, history}
@@ -65,25 +65,6 @@ or_first false b is = absurd (cc)
 or_second : (a b : Bool) → b ≡ true → (a || b) ≡ true
 or_second true b is = refl
 or_second false b is = is
-
--- an UPDATE to which memory is refused
-pub most_refused : (h : List Event) (update : Option UpdateBody) (ps : List Prefix) → AreDifferent (λ p. IsSome (route h p) ⊎ (is_among p (announced_if update) ≡ true)) ps
-    → named_if update + length ps ≤ choices_refused update h
-most_refused h None ps different =
-    let few = most_routes h ps (different_as (λ p. IsSome (route h p) ⊎ (is_among p [] ≡ true)) (λ p. IsSome (route h p)) ps (λ p which. elim which [
-      | inl there ↦ there
-      | inr named ↦ absurd (cc)
-    ]) different) in
-    omega (arith, few)
-most_refused h (Some update) ps different =
-    let holds : Prefix → Bool = λ p. is_some (route h p) || is_among p update.announced in
-    let one : (p : Prefix) → IsSome (route h p) ⊎ (is_among p update.announced ≡ true) → IsOne holds (update.announced ++ announced_in h) p =
-    λ p which. elim which [
-      | inl there ↦ (or_first (is_some (route h p)) (is_among p update.announced) there, among_behind p update.announced (announced_in h) (routed_announced h p there))
-      | inr named ↦ (or_second (is_some (route h p)) (is_among p update.announced) named, among_all p update.announced (announced_in h) named)
-    ] in
-    let few = most_of holds (update.announced ++ announced_in h) ps (different_as (λ p. IsSome (route h p) ⊎ (is_among p update.announced ≡ true)) (IsOne holds (update.announced ++ announced_in h)) ps one different) in
-    omega (arith, few)
 
 -- ---- all slots
 slot_routed : (config : Config) (r : Run) (p : Prefix) (n s : ℕ) → s < n → IsSome (route (history config s r) p) → IsOne (is_routed config r n) (announced_to config r n) p

@@ -404,7 +404,7 @@ holds_retracted config r network old new h conf after routes offers config_same 
     kept_gone_now : AreKept (tables_of new) (offer_at new.book)
     kept_gone_now =
         let before : AreKept (tables_of (record old { conf = new.conf })) (offer_at old.book) = kept_conf old new.conf (ap (λ (c : Configuration). c.own) conf) (ap (λ (c : Configuration). c.reach) conf) (λ s. ap (λ c. option_map taken_by (peer_at c s)) conf) (λ s route. ap (λ c. import_action c s route) conf) h.kept in
-        let gone = kept_gone new.conf old.payloads (λ s. session_at old.links s) old.adj_in new.adj_in (offer_at old.book) (offer_at new.book) (λ s p. is_route 64 network s p) routes offers before in
+        let gone = kept_gone new.conf old.payloads (λ s. session_at old.links s) (λ s p. route_at old.adj_in s p) (λ s p. route_at new.adj_in s p) (offer_at old.book) (offer_at new.book) (λ s p. is_route 64 network s p) routes offers before in
         rw (payloads, links) gone
 
 -- ---- policies

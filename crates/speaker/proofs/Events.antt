@@ -28,9 +28,8 @@ use Rattle.routes.specs.Heard.{TakesMemoryAt, update_heard}
 use Rattle.speaker.specs.AdjRibIn.{brought, route}
 use Rattle.speaker.specs.Agreement.{Agrees, Hears, HearsUntil, CacheAgrees, HoldsBy, IsFair, IsThrifty, MayStarve, SlotAgrees, Holds}
 use Rattle.speaker.proofs.SlotStates.{SlotIs, slot_agrees, slot_from, linked_from}
-use Rattle.routes.specs.Chosen.{announced_if, named_if, AreDifferent}
-use Rattle.speaker.specs.Choices.{choices_by, choices_in, choices_on, choices_refused}
-use Rattle.speaker.specs.Chosen.{ChoosesRefused}
+use Rattle.routes.specs.Chosen.{named_if, AreDifferent, Ends}
+use Rattle.speaker.specs.Choices.{choices_by, choices_in, choices_on, routes_held}
 use Rattle.routes.specs.Linked.{Linked, moved, taken_on, taken_of}
 use Rattle.speaker.specs.Moves.{KeepsKept, KeepsRest, IsPut, Moves, Pushes, TakesItem}
 use Rattle.speaker.specs.Queueing.{Queue, starved_in}
@@ -42,7 +41,7 @@ use Rattle.rtr_session.specs.SessionHistory as cached
 use Rattle.speaker.specs.SpeakerState.{SpeakerState}
 use Rattle.routes.specs.Tables.{network_route, link_at, peer_route_at}
 use Rattle.speaker.specs.declared.config.Config.{Config}
-use Rattle.speaker.proofs.AllowedChoices.{choices_append, choices_last, item_few, most_refused}
+use Rattle.speaker.proofs.AllowedChoices.{choices_append, choices_last, item_few, most_routes}
 use Rattle.speaker.proofs.Calls.{slots_changed}
 use Rattle.speaker.proofs.Coming.{HasCome, Joins}
 use Rattle.routes.proofs.Counting.{different_as}
@@ -324,7 +323,7 @@ slot_starved config peer l old new h part behind here change =
 pub starves_heard : (config : Config) (r : Run) (done : List ℕ) (slot : ℕ) (peer : ConfiguredPeer) (l : Linked) (octets behind : List ℕ) (old mid new : SpeakerState)
     → Holds config (turn (Bytes_call slot done) [] ∷ r) old → peer_at old.conf slot ≡ Some peer → link_at old.links slot ≡ Some l → transport_of l.peer.session ≡ Connected
     → 0 < length octets → length octets ≤ needed_of l.peer.rest → Pushes slot l octets old mid → (takes : TakesMemoryAt (kind_of (terms_in config peer)) (with_peer l (pushed l.peer octets))) → Moves slot (with_peer l (pushed l.peer octets)) NoMemory mid new
-    → ChoosesRefused slot (sound_update (kind_of (terms_in config peer)) takes.body (update_fault (kind_of (terms_in config peer)) takes.body)) mid new
+    → Ends slot mid.adj_in mid.chosen new.chosen
     → (before : List ℕ) × (octet : ℕ) × (after : List ℕ) × (done ++ (octets ++ behind) ≡ before ++ octet ∷ after)
     × MayStarve (onto before (history config slot r)) octet × Holds config (turn (Starved_call slot before octet after) [] ∷ r) new
 starves_heard config r done slot peer l octets behind old mid new h configured linked connected some few pushes takes moves chooses =
@@ -354,24 +353,13 @@ starves_heard config r done slot peer l octets behind old mid new h configured l
       completes = item_of_rest heard.before (holding heard.part l.peer) heard.octet (Some (WholeMessage Update takes.body)) connected heard.whole heard.holds.link.peer;
       needs = subst (λ t. NeedsMemory (kind_of t) takes.body) (sym (ap terms_from heard.holds.terms)) takes.needs;
     } in
-    let terms : terms_of heard.before ≡ terms_in config peer = ap terms_from heard.holds.terms in
-    let update : Option UpdateBody = sound_update (kind_of (terms_in config peer)) takes.body (update_fault (kind_of (terms_in config peer)) takes.body) in
-    let is_brought : brought heard.before (Octet heard.octet) ≡ sound_update (kind_of (terms_in config peer)) takes.body (update_fault (kind_of (terms_in config peer)) takes.body) =
-    ap (λ found. option_and_then (update_heard (session heard.before).state (terms_of heard.before)) found) may.completes
-    ∙ ap (λ state. update_heard state (terms_of heard.before) (WholeMessage Update takes.body)) may.established
-    ∙ ap (λ t. sound_update (kind_of t) takes.body (update_fault (kind_of t) takes.body)) terms in
-    let ended : AreDifferent (λ p. IsSome (route heard.before p) ⊎ (is_among p (announced_if update) ≡ true)) chooses.ended =
-    different_as (λ p. IsSome (route_at mid.adj_in slot p) ⊎ (is_among p (announced_if update) ≡ true)) (λ p. IsSome (route heard.before p) ⊎ (is_among p (announced_if update) ≡ true)) chooses.ended
-    (λ p which. elim which [
-      | inl there ↦ inl (subst (λ o. IsSome o) (ap (λ table. route_at table slot p) pushes.routes ∙ heard.holds.routes_are p) there)
-      | inr named ↦ inr named
-    ]) chooses.routed in
-    let N : List happens.Event → ℕ → Type 0 = λ x octet. named_if update + length chooses.ended ≤ choices_refused (brought x (Octet octet)) x in
-    let allowed : N heard.before heard.octet =
-    subst (λ found. named_if update + length chooses.ended ≤ choices_refused found heard.before) (sym is_brought) (most_refused heard.before update chooses.ended ended) in
-    let there : N (onto (done ++ cut.0) (history config slot r)) cut.1 = subst (λ octet. N (onto (done ++ cut.0) (history config slot r)) octet) (sym same.0) (subst (λ x. N x heard.octet) (sym same.1) allowed) in
+    let ended : AreDifferent (λ p. IsSome (route heard.before p)) chooses.0 =
+    different_as (λ p. IsSome (route_at mid.adj_in slot p)) (λ p. IsSome (route heard.before p)) chooses.0
+    (λ p. subst (λ o. IsSome o) (ap (λ table. route_at table slot p) pushes.routes ∙ heard.holds.routes_are p)) chooses.1 in
+    let N : List happens.Event → Type 0 = λ x. length chooses.0 ≤ routes_held x in
+    let there : N (onto (done ++ cut.0) (history config slot r)) = subst N (sym same.1) (most_routes heard.before chooses.0 ended) in
     let so_far : old.chosen ≤ old.chosen_before + (choices_on done (history config slot r) + 0) = h.chosen in
-    let most = chooses.chosen in
+    let most = chooses.2 in
     let still = pushes.chosen in
     let still_before = pushes.rest.chosen_before in
     let kept_before = moves.rest.chosen_before in (

@@ -11,11 +11,11 @@ use Rattle.bgp_msg.specs.UpdateMeaning.{UpdateBody}
 use Rattle.bgp_peer.specs.SessionInputs.{Terms, input_of}
 use Rattle.decision.specs.BookContents.{offer_at}
 use Rattle.net_prefix.specs.declared.prefix.Prefix.{Prefix}
-use Rattle.rib_in.specs.LatestRoutes.{route_at}
+use Rattle.rib_in.specs.LatestRoutes.{RouteTable, route_at}
 use Rattle.routes.specs.Updates.{is_among, word_if}
 use Rattle.routes.specs.Heard.{IsHeard, update_heard}
-use Rattle.routes.specs.Chosen.{announced_if, named_if}
-use Rattle.speaker.specs.Chosen.{Chooses, ChoosesHeard, ChoosesRefused}
+use Rattle.routes.specs.Chosen.{Ends, named_if}
+use Rattle.speaker.specs.Chosen.{Chooses, ChoosesHeard}
 use Rattle.routes.specs.Linked.{Linked, moved}
 use Rattle.speaker.specs.Moves.{KeepsKept, KeepsRest, Moves, TakesItem}
 use Rattle.speaker.specs.SpeakerState.{SpeakerState}
@@ -113,15 +113,10 @@ starves slot l old mid new up links routes offers rest moves = record {
     gone : {X : Type 0} (b : Bool) → b ≡ true → (s : ℕ) (x y : Option X) → (s ≢ slot → x ≡ y) → cond (b && s == slot) None x ≡ cond (b && s == slot) None y
     gone b is s x y same = elim (cases_eq s slot) [ inl here ↦ rw (is, here, eq-eqb slot slot refl) refl | inr other ↦ rw (same other) refl ]
 
--- how often a best route was chosen for it: for what was taken, and for the routes of its session
-pub refused_chosen : (slot : ℕ) (update : Option UpdateBody) (left : Bool) (old mid new : SpeakerState) → left ≡ true
-    → ((p : Prefix) → IsSome (route_at mid.adj_in slot p) → IsSome (route_at old.adj_in slot p) ⊎ (is_among p (announced_if update) ≡ true)) → mid.chosen ≤ old.chosen + named_if update
-    → Chooses slot left mid new → ChoosesRefused slot update old new
-refused_chosen slot update left old mid new is routes few chooses =
+-- how often a best route was chosen for it: for the routes of its session alone
+pub refused_chosen : (slot : ℕ) (left : Bool) (had : RouteTable) (count : ℕ) (mid new : SpeakerState) → left ≡ true → ((s : ℕ) (p : Prefix) → route_at mid.adj_in s p ≡ route_at had s p) → mid.chosen ≡ count
+    → Chooses slot left mid new → Ends slot had count new.chosen
+refused_chosen slot left had count mid new is routes none chooses =
     let all = chooses.ends is in
     let most = all.2 in
-    record {
-      ended = all.0;
-      routed = different_as (λ p. IsSome (route_at mid.adj_in slot p)) (λ p. IsSome (route_at old.adj_in slot p) ⊎ (is_among p (announced_if update) ≡ true)) all.0 routes all.1;
-      chosen = omega (arith, few, most);
-    }
+    (all.0, different_as (λ p. IsSome (route_at mid.adj_in slot p)) (λ p. IsSome (route_at had slot p)) all.0 (λ p. subst (λ o. IsSome o) (routes slot p)) all.1, omega (arith, none, most))

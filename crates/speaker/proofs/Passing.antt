@@ -192,6 +192,27 @@ alike_first : (p q : Prefix) (export : Option (List ℕ)) → ComesFirst p expor
 alike_first p q None first = first
 alike_first p q (Some octets) first = first
 
+-- what is packed by what the slot's peer holds is packed by what the run has told it, and comes first of all that is owed
+owed_pack : (config : Config) (r : Run) (s : SpeakerState) (slot : ℕ) (named : List Prefix) (least : Prefix) (export : Option (List ℕ)) (peer : ConfiguredPeer) (l : Linked) → Holds config r s
+    → IsLocRib (tables_after config r) s.loc_rib → peer_at s.conf slot ≡ Some peer → LinkAgrees (history config slot r) l
+    → IsPack (IsFrom least (IsDue (export_to s slot) export l)) (room_beside export) named → ((q : Prefix) → IsNewTo l q (export_to s slot q) → ComesFirst least export q (export_to s slot q))
+    → IsPack (λ q. IsNews config r slot peer q export) (room_beside export) named × ((q : Prefix) (e : Option (List ℕ)) → IsNews config r slot peer q e → ComesFirst least export q e)
+owed_pack config r s slot named least export peer l holds loc_rib configured link pack order =
+    let tables : tables_after config r ≡ tables_of s = tables_same config r s.conf s.payloads (link_at s.links) s.adj_in (sym holds.conf) holds.payloads holds.slots holds.networks in
+    let chosen : IsLocRib (tables_of s) s.loc_rib = subst (λ t. IsLocRib t s.loc_rib) tables loc_rib in
+    let kept : (q : Prefix) → IsExport (tables_after config r) (export_peer_of (configuration_of config r) slot peer) q (export_to s slot q) =
+    λ q. export_of_run config r s slot peer q tables (sym holds.conf) chosen configured in
+    let first : (q : Prefix) (e : Option (List ℕ)) → IsNews config r slot peer q e → (e ≡ export_to s slot q) × ComesFirst least export q e = λ q e other.
+    let same : e ≡ export_to s slot q = same_export (tables_after config r) (export_peer_of (configuration_of config r) slot peer) q e (export_to s slot q) other.is_export (kept q) in
+    (same, subst (λ x. ComesFirst least export q x) (sym same) (order q (news_to (history config slot r) l q (export_to s slot q) e link (sym same) other.news))) in
+    let on : (q : Prefix) → IsFrom least (IsDue (export_to s slot) export l) q → IsNews config r slot peer q export = λ q due. record {
+      is_export = subst (λ e. IsExport (tables_after config r) (export_peer_of (configuration_of config r) slot peer) q e) due.1.0 (kept q);
+      news = news_by (history config slot r) l q export export link refl due.1.1;
+    } in
+    let back : (q : Prefix) → IsNews config r slot peer q export → IsFrom least (IsDue (export_to s slot) export l) q = λ q news.
+    let is = first q export news in (alike_first least q export is.1, (sym is.0, news_to (history config slot r) l q export export link refl news.news)) in
+    (pack_as (IsFrom least (IsDue (export_to s slot) export l)) (λ q. IsNews config r slot peer q export) (room_beside export) named on back pack, λ q e other. (first q e other).1)
+
 -- an UPDATE that says of prefixes what the export has and what is new to the peer is owed
 is_owed : (config : Config) (r : Run) (s : SpeakerState) (slot : ℕ) (named : List Prefix) (least : Prefix) (export : Option (List ℕ)) (peer : ConfiguredPeer) (l : Linked) → Holds config r s
     → IsLocRib (tables_after config r) s.loc_rib → peer_at s.conf slot ≡ Some peer → SlotIs config peer l (route_at s.adj_in slot) (history config slot r) → CanBeSaid named export
@@ -200,17 +221,7 @@ is_owed : (config : Config) (r : Run) (s : SpeakerState) (slot : ℕ) (named : L
 is_owed config r s slot named least export peer l holds loc_rib configured here can among pack accepts order below =
     let tables : tables_after config r ≡ tables_of s = tables_same config r s.conf s.payloads (link_at s.links) s.adj_in (sym holds.conf) holds.payloads holds.slots holds.networks in
     let chosen : IsLocRib (tables_of s) s.loc_rib = subst (λ t. IsLocRib t s.loc_rib) tables loc_rib in
-    let kept : (q : Prefix) → IsExport (tables_after config r) (export_peer_of (configuration_of config r) slot peer) q (export_to s slot q) =
-    λ q. export_of_run config r s slot peer q tables (sym holds.conf) chosen configured in
-    let first : (q : Prefix) (e : Option (List ℕ)) → IsNews config r slot peer q e → (e ≡ export_to s slot q) × ComesFirst least export q e = λ q e other.
-    let same : e ≡ export_to s slot q = same_export (tables_after config r) (export_peer_of (configuration_of config r) slot peer) q e (export_to s slot q) other.is_export (kept q) in
-    (same, subst (λ x. ComesFirst least export q x) (sym same) (order q (news_to (history config slot r) l q (export_to s slot q) e here.link (sym same) other.news))) in
-    let on : (q : Prefix) → IsFrom least (IsDue (export_to s slot) export l) q → IsNews config r slot peer q export = λ q due. record {
-      is_export = subst (λ e. IsExport (tables_after config r) (export_peer_of (configuration_of config r) slot peer) q e) due.1.0 (kept q);
-      news = news_by (history config slot r) l q export export here.link refl due.1.1;
-    } in
-    let back : (q : Prefix) → IsNews config r slot peer q export → IsFrom least (IsDue (export_to s slot) export l) q = λ q news.
-    let is = first q export news in (alike_first least q export is.1, (sym is.0, news_to (history config slot r) l q export export here.link refl news.news)) in
+    let owed = owed_pack config r s slot named least export peer l holds loc_rib configured here.link pack order in
     record {
       peer = peer;
       configured = ap (λ c. peer_at c slot) (sym holds.conf) ∙ configured;
@@ -220,9 +231,9 @@ is_owed config r s slot named least export peer l holds loc_rib configured here 
       some = (least, saying_names named export least can among);
       each = λ q names.
           let there = named_is named export q can names in
-          subst (λ e. IsNews config r slot peer q e) (sym (saying_says named export q can there)) (on q (pack.each q there));
-      packed = pack_as (IsFrom least (IsDue (export_to s slot) export l)) (λ q. IsNews config r slot peer q export) (room_beside export) named on back pack;
-      first = (least, among, λ q e other. (first q e other).1);
+          subst (λ e. IsNews config r slot peer q e) (sym (saying_says named export q can there)) (owed.0.each q there);
+      packed = owed.0;
+      first = (least, among, owed.1);
       lowest = settled_below config r s slot holds loc_rib below;
     }
 
@@ -237,12 +248,11 @@ told_few config call r queue slot u now new rest few =
 -- a peer is told what it is owed
 pub queues_told : (slot : ℕ) (named : List Prefix) (least : Prefix) (export : Option (List ℕ)) (now new : SpeakerState) → (told : IsToldAt slot named export now new) → told.before.peer.session.state ≡ Established
     → HasRoom told.before → is_among least named ≡ true
-    → ((peer : ConfiguredPeer) → peer_at now.conf slot ≡ Some peer → IsSender (export_peer_of now.conf slot peer) → IsPack (IsFrom least (IsDue (export_to now slot) export told.before)) (room_beside export) named)
+    → IsPack (IsFrom least (IsDue (export_to now slot) export told.before)) (room_beside export) named
     → Accepts now slot least export → ((q : Prefix) → IsNewTo told.before q (export_to now slot q) → ComesFirst least export q (export_to now slot q)) → AreServedBelow now slot → QueuesOn now new
-queues_told slot named least export now new told up room among packed accepts order below config call r queue passes =
+queues_told slot named least export now new told up room among pack accepts order below config call r queue passes =
     let peer = peer_of config (turn call queue ∷ r) slot told.before now passes.holds told.was (rw up refl) in
     let before = slot_is config (turn call queue ∷ r) slot peer.0 told.before now passes.holds peer.1 told.was in
-    let pack = packed peer.0 peer.1 (is_sender config (turn call queue ∷ r) now slot peer.0 passes.holds peer.1) in
     let can : CanBeSaid named export = record {
       places = told.told.places;
       room = pack.fits;
@@ -332,13 +342,18 @@ is_short config r s slot holds loc_rib short =
     let chosen : IsLocRib (tables_of s) s.loc_rib = subst (λ t. IsLocRib t s.loc_rib) tables loc_rib in
     let here = slot_is config r slot short.peer short.linked s holds short.configured short.is in
     let E : Option (List ℕ) → Type 0 = λ e. IsExport (tables_after config r) (export_peer_of (configuration_of config r) slot short.peer) short.prefix e in
+    let owed = owed_pack config r s slot short.named short.least (Some short.octets) short.peer short.linked holds loc_rib short.configured here.link short.packed short.first in
     record {
       peer = short.peer;
-      prefix = short.prefix;
       octets = short.octets;
+      named = short.named;
+      prefix = short.prefix;
       configured = ap (λ c. peer_at c slot) (sym holds.conf) ∙ short.configured;
       established = ap (λ (x : Session). x.state) (sym here.link.peer.session) ∙ short.up;
       room = subst (λ ring. length ring + 8192 ≤ 65536) (sym (ring-is (history config slot r) short.linked.peer here.link.peer)) short.room;
+      packed = owed.0;
+      first = (short.least, short.leads, owed.1);
+      among = short.among;
       is_export = subst E short.exported (export_of_run config r s slot short.peer short.prefix tables (sym holds.conf) chosen short.configured);
       other = λ is. short.other (here.link.held short.prefix ∙ is);
       lowest = settled_below config r s slot holds loc_rib short.below;

@@ -4,7 +4,6 @@ use Rattle.std.proofs.lemmas.Bool.{cases_eq, cases_lt, eq-eqb, ne_eqb}
 use Rattle.bgp_conf.specs.Configuration.{peer_at}
 use Rattle.bgp_conf.specs.declared.conf.ConfiguredPeer.{ConfiguredPeer}
 use Rattle.bgp_fsm.specs.declared.state.State.TheVariants.{Established}
-use Rattle.export_rules.specs.Export.{IsSender}
 use Rattle.export_rules.specs.declared.export.ExportPeer.{ExportPeer}
 use Rattle.net_prefix.specs.declared.prefix.Prefix.{Prefix}
 use Rattle.rib_out.specs.Held.{HeldRoute, asked_at, held_at, is_among}
@@ -173,7 +172,7 @@ pub Walks-told : {X : Type 0} (done : Prefix → Option (List ℕ) → Bool → 
     → (h : Walks done slot first after now) → ((q : Prefix) → there q ≡ None → IsDoneOf done h.serves.after q) → IsNext there after (Some p)
     → rank_of p < 2 ^ 38 → HasRoomAt now slot → is_among p named ≡ true → ((q : Prefix) → is_among q named ≡ true → export_to now slot q ≡ export) → ((q : Prefix) → is_among q named ≡ true → done q export false)
     → Accepts now slot p export → IsToldAt slot named export now new
-    → ((l : Linked) → link_at now.links slot ≡ Some l → (peer : ConfiguredPeer) → peer_at now.conf slot ≡ Some peer → IsSender (export_peer_of now.conf slot peer) → IsPack (IsFrom p (IsDue (export_to now slot) export l)) (room_beside export) named)
+    → ((l : Linked) → link_at now.links slot ≡ Some l → IsPack (IsFrom p (IsDue (export_to now slot) export l)) (room_beside export) named)
     → ((q : Prefix) → IsNewTo h.serves.after q (export_to now slot q) → ComesFirst p export q (export_to now slot q)) → AreServedBelow first slot
     → Walks done slot first (Some p) new
 unfolding Serves-more
@@ -256,7 +255,7 @@ Walks-withdrawn slot first now new after p named h next place room told among pa
     let exports : export_to now slot ≡ export_to first slot = ap (λ e. e slot) (export_kept first now h.serves.only.rest) in
     Walks-told (IsGone (export_to first slot)) (λ q. withdrawn_of (export_to now slot q) (held_at h.serves.after.adj_out q)) slot first now new after p named None h
     (gone_by slot first now h.serves.after exports) next place room among (λ q there. ((packed told.before told.was).each q there).1.0) (λ q there missing. refl) (λ a some. absurd (cc)) told
-    (λ l linked peer configured sender. packed l linked)
+    packed
     (λ q other. first_gone (export_to now slot q) p q h.serves.after other (λ low none.
     done_before (IsDoneOf (IsGone (export_to first slot)) h.serves.after) (λ x. withdrawn_of (export_to now slot x) (held_at h.serves.after.adj_out x)) after p
     (gone_by slot first now h.serves.after exports) h.below next q low (sym (ap (λ e. e q) exports) ∙ none))) below
@@ -283,25 +282,32 @@ pub had_by : (slot : ℕ) (first now : SpeakerState) (l : Linked) → export_to 
     → IsDoneOf (IsHad (export_to first slot)) l q
 had_by slot first now l exports q idle = subst (λ e. IsDoneOf (IsHad e) l q) exports (had_idle (export_to now slot) q (held_at l.adj_out q) (asked_at l.adj_out q) idle)
 
+-- the next announcement comes first of all that is new to the slot's peer
+announced_first : (slot : ℕ) (first now : SpeakerState) (after : Option Prefix) (p : Prefix) (octets : List ℕ) → (h : Walks (IsHad (export_to first slot)) slot first after now)
+    → IsNext (λ q. announced_of (export_to now slot q) (held_at h.serves.after.adj_out q) (asked_at h.serves.after.adj_out q)) after (Some p) → HasRoomAt now slot → IsDoneAt (IsGone (export_to first slot)) first slot
+    → (q : Prefix) → IsNewTo h.serves.after q (export_to now slot q) → ComesFirst p (Some octets) q (export_to now slot q)
+announced_first slot first now after p octets h next room gone q other =
+    let later = room h.serves.after h.serves.is in
+    let earlier : HasRoom h.serves.before = omega (arith, h.serves.grows, later) in
+    let exports : export_to now slot ≡ export_to first slot = ap (λ e. e slot) (export_kept first now h.serves.only.rest) in
+    first_had (export_to now slot q) octets p q h.serves.after other
+    (λ none. let never = sym (ap (λ e. e q) exports) ∙ none in h.serves.gone q never (gone h.serves.before h.serves.was earlier q never))
+    (λ low o have. done_before (IsDoneOf (IsHad (export_to first slot)) h.serves.after) (λ x. announced_of (export_to now slot x) (held_at h.serves.after.adj_out x) (asked_at h.serves.after.adj_out x)) after p
+    (had_by slot first now h.serves.after exports) h.below next q low o (sym (ap (λ e. e q) exports) ∙ have))
+
 -- what is exported and isn't held just so is announced
 pub Walks-announced : (slot : ℕ) (first now new : SpeakerState) (after : Option Prefix) (p : Prefix) (named : List Prefix) (peer : ExportPeer) (octets : List ℕ) → (h : Walks (IsHad (export_to first slot)) slot first after now)
     → Some peer ≡ option_map (export_peer_of first.conf slot) (peer_at first.conf slot) → IsNext (λ q. announced_of (export_to now slot q) (held_at h.serves.after.adj_out q) (asked_at h.serves.after.adj_out q)) after (Some p) → rank_of p < 2 ^ 38 → HasRoomAt now slot
     → IsAccepted now.loc_rib now.adj_in peer p octets → IsToldAt slot named (Some octets) now new → is_among p named ≡ true
     → ((q : Prefix) → is_among q named ≡ true → export_to now slot q ≡ Some octets)
-    → (IsSender peer → (l : Linked) → link_at now.links slot ≡ Some l → IsPack (IsFrom p (IsDue (export_to now slot) (Some octets) l)) (most_named - length octets) named)
+    → ((l : Linked) → link_at now.links slot ≡ Some l → IsPack (IsFrom p (IsDue (export_to now slot) (Some octets) l)) (most_named - length octets) named)
     → IsDoneAt (IsGone (export_to first slot)) first slot → AreServedBelow first slot → Walks (IsHad (export_to first slot)) slot first (Some p) new
 Walks-announced slot first now new after p named peer octets h is next place room accepted told among exported packed gone below =
-    let later = room h.serves.after h.serves.is in
-    let earlier : HasRoom h.serves.before = omega (arith, h.serves.grows, later) in
     let exports : export_to now slot ≡ export_to first slot = ap (λ e. e slot) (export_kept first now h.serves.only.rest) in
     Walks-told (IsHad (export_to first slot)) (λ q. announced_of (export_to now slot q) (held_at h.serves.after.adj_out q) (asked_at h.serves.after.adj_out q)) slot first now new after p named (Some octets) h (had_by slot first now h.serves.after exports) next place room
     among exported (λ q there others some. (sym (exported q there) ∙ ap (λ e. e q) exports ∙ some, refl))
     (accepts_given slot first now p peer octets h.serves.only.rest is accepted) told
-    (λ l linked q configured sender. packed (subst IsSender (sym (peer_given slot first now peer q h.serves.only.rest is configured)) sender) l linked)
-    (λ q other. first_had (export_to now slot q) octets p q h.serves.after other
-    (λ none. let never = sym (ap (λ e. e q) exports) ∙ none in h.serves.gone q never (gone h.serves.before h.serves.was earlier q never))
-    (λ low o have. done_before (IsDoneOf (IsHad (export_to first slot)) h.serves.after) (λ x. announced_of (export_to now slot x) (held_at h.serves.after.adj_out x) (asked_at h.serves.after.adj_out x)) after p
-    (had_by slot first now h.serves.after exports) h.below next q low o (sym (ap (λ e. e q) exports) ∙ have))) below
+    packed (announced_first slot first now after p octets h next room gone) below
 
 -- what is announced is new to the slot's peer
 pub announced_is_new : (slot : ℕ) (first now : SpeakerState) (after : Option Prefix) (p : Prefix) (peer : ExportPeer) (octets : List ℕ) → (h : Serves slot first now)
@@ -337,27 +343,36 @@ Serves-still slot first now new h still =
       queues = queues_still now new still;
     })
 
--- what memory is refused to is exported, and not held just so
-pub short_still : (slot : ℕ) (first now new : SpeakerState) (peer : ExportPeer) (octets : List ℕ) → (h : Serves slot first now) → slot < 64 → HasRoomAt now slot
+-- what memory is refused to is exported, and one prefix of it isn't held just so
+pub short_still : (slot : ℕ) (first now new : SpeakerState) (after : Option Prefix) (p : Prefix) (named : List Prefix) (peer : ExportPeer) (octets : List ℕ) → (h : Walks (IsHad (export_to first slot)) slot first after now) → slot < 64 → HasRoomAt now slot
     → Some peer ≡ option_map (export_peer_of first.conf slot) (peer_at first.conf slot)
-    → ((l : Linked) → link_at now.links slot ≡ Some l → (q : Prefix) × (export_to now slot q ≡ Some octets) × (held_at l.adj_out q ≢ Some octets))
+    → IsNext (λ q. announced_of (export_to now slot q) (held_at h.serves.after.adj_out q) (asked_at h.serves.after.adj_out q)) after (Some p) → IsDoneAt (IsGone (export_to first slot)) first slot → is_among p named ≡ true
+    → ((l : Linked) → link_at now.links slot ≡ Some l → IsPack (IsFrom p (IsDue (export_to now slot) (Some octets) l)) (most_named - length octets) named)
+    → ((l : Linked) → link_at now.links slot ≡ Some l → (q : Prefix) × (is_among q named ≡ true) × (export_to now slot q ≡ Some octets) × (held_at l.adj_out q ≢ Some octets))
     → IsStill now new → AreServedBelow first slot → IsShortAt new slot
-short_still slot first now new peer octets h within room is other still below =
-    let by = served_by slot first now peer h is in
-    let one = other h.after h.is in
+short_still slot first now new after p named peer octets h within room is next gone among packed other still below =
+    let by = served_by slot first now peer h.serves is in
+    let one = other h.serves.after h.serves.is in
+    let kept : export_to new ≡ export_to now = export_kept now new still.rest in
     record {
       peer = by.peer;
-      linked = h.after;
-      prefix = one.0;
+      linked = h.serves.after;
       octets = octets;
+      named = named;
+      least = p;
+      prefix = one.0;
       within = within;
       configured = ap (λ (s : SpeakerState). peer_at s.conf slot) still.rest ∙ by.configured;
-      is = still.links slot ∙ h.is;
-      up = h.up;
-      room = room h.after h.is;
-      exported = ap (λ e. e slot one.0) (export_kept now new still.rest) ∙ one.1;
-      other = one.2;
-      below = below_still slot now new (record { rest = still.rest; others = λ s other. still.links s }) (below_still slot first now h.only below);
+      is = still.links slot ∙ h.serves.is;
+      up = h.serves.up;
+      room = room h.serves.after h.serves.is;
+      packed = subst (λ e. IsPack (IsFrom p (IsDue (e slot) (Some octets) h.serves.after)) (most_named - length octets) named) (sym kept) (packed h.serves.after h.serves.is);
+      leads = among;
+      first = subst (λ e. (q : Prefix) → IsNewTo h.serves.after q (e slot q) → ComesFirst p (Some octets) q (e slot q)) (sym kept) (announced_first slot first now after p octets h next room gone);
+      among = one.1;
+      exported = ap (λ e. e slot one.0) kept ∙ one.2;
+      other = one.3;
+      below = below_still slot now new (record { rest = still.rest; others = λ s other. still.links s }) (below_still slot first now h.serves.only below);
     }
 
 -- the slot's session stood, and it stands

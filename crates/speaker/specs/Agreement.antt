@@ -128,16 +128,20 @@ pub record IsOwedIn (config : Config) (r : Run) (s : ℕ) (update : List ℕ) : 
   pub first : (least : Prefix) × (is_among least says.0 ≡ true) × ((prefix : Prefix) (export : Option (List ℕ)) → IsNews config r s peer prefix export → ComesFirst least says.1.0 prefix export)
   pub lowest : IsLowest config r s
 
--- as the run stands, the slot's session is Established, 8,192 octets of its ring are free, and the export to it has of some
--- prefix what its peer doesn't hold (telling again what it holds takes no memory); of all slots that are owed something and have
--- room for it this is the lowest
+-- as the run stands, the slot's session is Established, 8,192 octets of its ring are free, and of a prefix of the UPDATE of
+-- announcements that comes first of all that it is owed, its peer doesn't hold what the export has (telling again what it holds takes
+-- no memory); of all slots that are owed something and have room for it this is the lowest
 pub record IsShortIn (config : Config) (r : Run) (s : ℕ) : Type 0 where
   pub peer : ConfiguredPeer
-  pub prefix : Prefix
   pub octets : List ℕ
+  pub named : List Prefix
+  pub prefix : Prefix
   pub configured : peer_at (configuration_of config r) s ≡ Some peer
   pub established : (session (history config s r)).state ≡ Established
   pub room : length (ring_of (history config s r)) + room_for_update ≤ ring_octets
+  pub packed : IsPack (λ prefix. IsNews config r s peer prefix (Some octets)) (room_beside (Some octets)) named
+  pub first : (least : Prefix) × (is_among least named ≡ true) × ((prefix : Prefix) (export : Option (List ℕ)) → IsNews config r s peer prefix export → ComesFirst least (Some octets) prefix export)
+  pub among : is_among prefix named ≡ true
   pub is_export : IsExport (tables_after config r) (export_peer_of (configuration_of config r) s peer) prefix (Some octets)
   pub other : held (history config s r) prefix ≢ Some octets
   pub lowest : IsLowest config r s

@@ -22,7 +22,7 @@ use Rattle.speaker.specs.Queueing.{Queue, Service, Tells, Starves}
 use Rattle.speaker.specs.Runs.{Call, Run, turn, Up_call, Fail_call, Bytes_call, Starved_call, Tick_call, Command_call, Take_call, Cache_up_call, Cache_fail_call, Cache_bytes_call, Cache_starved_call, Cache_take_call, cache_history, configuration_of, history}
 use Rattle.vrp_delta.specs.Delta.{lacked}
 use Rattle.speaker.specs.declared.config.Config.{Config}
-use Rattle.routes.specs.Chosen.{how_many, named_in, named_if, announced_if}
+use Rattle.routes.specs.Chosen.{how_many, named_if, announced_if}
 
 -- the prefixes that the slot's peer has announced, each as often as it did
 abbrev pub announced_in : List slot.Event → List Prefix
@@ -42,14 +42,6 @@ choices_by h e = named_if (brought h e) + (if is_established (session (e ∷ h))
 abbrev pub choices_on : List ℕ → List slot.Event → ℕ
 choices_on [] h = 0
 choices_on (octet ∷ octets) h = choices_by h (Octet octet) + choices_on octets (Octet octet ∷ h)
-
--- for want of memory in the place of an UPDATE, which ends the session: once for each prefix to which there was a route.
--- A faultless UPDATE may have been taken in part: once for each prefix that it names, and once for each prefix to which
--- there was a route or that it announces
-abbrev pub choices_refused : Option UpdateBody → List slot.Event → ℕ
-choices_refused None h = routes_held h
-choices_refused (Some update) h =
-    named_in update + how_many (λ p. is_some (route h p) || is_among p update.announced) (update.announced ++ announced_in h)
 
 -- whether one of the first slots, so many of them, has a route to the prefix
 abbrev pub is_routed : Config → Run → ℕ → Prefix → Bool
@@ -111,15 +103,14 @@ choices_commanded config r (NoNetwork prefix) = 1
 choices_commanded config r (Reach prefix cost) = how_many (is_known config r) (named_to config r)
 choices_commanded config r (NoReach prefix) = how_many (is_known config r) (named_to config r)
 
--- for a call, up to its end: none for octets of a slot that are handed out. Those of the cache session leave the choices of the
+-- for a call, up to its end: for want of memory in the place of an UPDATE, which ends the session, once for each prefix to which
+-- there was a route; none for octets of a slot that are handed out. Those of the cache session leave the choices of the
 -- call before, so many, as they are
 abbrev pub choices_called : Config → Run → ℕ → Call → ℕ
 choices_called config r last (Up_call s) = choices_by (history config s r) (Signalled Up)
 choices_called config r last (Fail_call s) = choices_by (history config s r) (Signalled Fail)
 choices_called config r last (Bytes_call s octets) = choices_on octets (history config s r)
-choices_called config r last (Starved_call s before octet behind) =
-    choices_on before (history config s r)
-    + choices_refused (brought (onto before (history config s r)) (Octet octet)) (onto before (history config s r))
+choices_called config r last (Starved_call s before octet behind) = choices_on before (history config s r) + routes_held (onto before (history config s r))
 choices_called config r last (Tick_call now) = choices_cached config r (cache_history r) (cache.Ticked now) + choices_to (λ s. history config s r) now 64
 choices_called config r last (Command_call command) = choices_commanded config r command
 choices_called config r last (Take_call s octets) = 0

@@ -1,11 +1,11 @@
 -- How often a best route was chosen from one state to the next, in the midst of a call (own, for RFC 4271 section 9.1).
-use Rattle.std.specs.Prelude.{◌≡◌, ◌≤◌, ◌+◌, ◌⊎◌, ℕ, Bool, List, [], length, Option, true, false}
+use Rattle.std.specs.Prelude.{◌≡◌, ◌≤◌, ◌+◌, ℕ, Bool, List, [], length, Option, true, false}
 use Rattle.std.specs.Option.{IsSome}
 use Rattle.bgp_msg.specs.UpdateMeaning.{UpdateBody}
 use Rattle.net_prefix.specs.declared.prefix.Prefix.{Prefix}
 use Rattle.rib_in.specs.LatestRoutes.{route_at}
-use Rattle.routes.specs.Updates.{is_among, word_if}
-use Rattle.routes.specs.Chosen.{announced_if, named_if, AreDifferent, Ends}
+use Rattle.routes.specs.Updates.{word_if}
+use Rattle.routes.specs.Chosen.{named_if, AreDifferent, Ends}
 use Rattle.speaker.specs.SpeakerState.{SpeakerState}
 
 -- a session takes an input: where it leaves Established, as above; else none is chosen
@@ -18,11 +18,4 @@ pub record ChoosesHeard (slot : ℕ) (update : Option UpdateBody) (left : Bool) 
   pub ended : List Prefix
   pub routed : AreDifferent (λ p. IsSome (word_if update p (route_at old.adj_in slot p))) ended
   pub none : left ≡ false → ended ≡ []
-  pub chosen : new.chosen ≤ old.chosen + named_if update + length ended
-
--- an UPDATE to which memory is refused, which ends the session: once for each prefix that it names, and once for each route that
--- was there or that it announces
-pub record ChoosesRefused (slot : ℕ) (update : Option UpdateBody) (old new : SpeakerState) : Type 0 where
-  pub ended : List Prefix
-  pub routed : AreDifferent (λ p. IsSome (route_at old.adj_in slot p) ⊎ (is_among p (announced_if update) ≡ true)) ended
   pub chosen : new.chosen ≤ old.chosen + named_if update + length ended

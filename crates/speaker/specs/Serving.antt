@@ -1,12 +1,12 @@
 -- What waits of each prefix for each peer: what it is owed, so that it holds its export (our own, for RFC 4271 section 9.2) and was
 -- told what it asked for again (RFC 2918 section 4).
-use Rattle.std.specs.Prelude.{◌≡◌, ◌≢◌, ◌<◌, ℕ, Bool, List, Option, Some, None, false, ◌≤◌, length}
+use Rattle.std.specs.Prelude.{◌≡◌, ◌≢◌, ◌<◌, ℕ, Bool, List, Option, Some, None, true, false, ◌≤◌, length}
 use Rattle.bgp_conf.specs.Configuration.{peer_at}
 use Rattle.bgp_conf.specs.declared.conf.ConfiguredPeer.{ConfiguredPeer}
 use Rattle.bgp_fsm.specs.StateTests.{is_established}
 use Rattle.bgp_fsm.specs.declared.state.State.TheVariants.{Established}
 use Rattle.net_prefix.specs.declared.prefix.Prefix.{Prefix}
-use Rattle.rib_out.specs.Held.{asked_at, held_at}
+use Rattle.rib_out.specs.Held.{asked_at, held_at, is_among}
 use Rattle.routes.specs.Linked.{Linked}
 use Rattle.speaker.specs.SpeakerState.{SpeakerState}
 use Rattle.routes.specs.Tables.{link_at}
@@ -14,7 +14,8 @@ use Rattle.speaker.specs.Agreement.{QueuesOn}
 use Rattle.speaker.specs.Export.{export_to}
 use Rattle.speaker.specs.Moves.{IsPut}
 use Rattle.routes.specs.Told.{IsTold, HasRoom}
-use Rattle.speaker.specs.Queueing.{IsServed}
+use Rattle.routes.specs.Packing.{IsDue, IsFrom, IsNewTo, IsPack, room_beside}
+use Rattle.speaker.specs.Queueing.{ComesFirst, IsServed}
 
 -- the slot is that of an Established peer
 pub record IsServedBy (s : SpeakerState) (slot : ℕ) (l : Linked) : Type 0 where
@@ -40,18 +41,24 @@ IsUpAt s slot = (l : Linked) × (link_at s.links slot ≡ Some l) × (l.peer.ses
 abbrev pub HasRoomAt : SpeakerState → ℕ → Type 0
 HasRoomAt s slot = (l : Linked) → link_at s.links slot ≡ Some l → HasRoom l
 
--- the slot's session is Established, its ring has room, and of some prefix its peer doesn't hold what is exported to it; all lower
--- slots are served
+-- the slot's session is Established, its ring has room, and of a prefix of the UPDATE that is to be queued its peer doesn't hold what
+-- is exported to it; all lower slots are served
 pub record IsShortAt (s : SpeakerState) (slot : ℕ) : Type 0 where
   pub peer : ConfiguredPeer
   pub linked : Linked
-  pub prefix : Prefix
   pub octets : List ℕ
+  pub named : List Prefix
+  pub least : Prefix
+  pub prefix : Prefix
   pub within : slot < 64
   pub configured : peer_at s.conf slot ≡ Some peer
   pub is : link_at s.links slot ≡ Some linked
   pub up : linked.peer.session.state ≡ Established
   pub room : HasRoom linked
+  pub packed : IsPack (IsFrom least (IsDue (export_to s slot) (Some octets) linked)) (room_beside (Some octets)) named
+  pub leads : is_among least named ≡ true
+  pub first : (q : Prefix) → IsNewTo linked q (export_to s slot q) → ComesFirst least (Some octets) q (export_to s slot q)
+  pub among : is_among prefix named ≡ true
   pub exported : export_to s slot prefix ≡ Some octets
   pub other : held_at linked.adj_out prefix ≢ Some octets
   pub below : AreServedBelow s slot

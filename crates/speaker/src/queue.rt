@@ -5,7 +5,7 @@ ghost use Rattle.std.specs.Bool.{OnTrue};
 ghost use Rattle.std.specs.Option.{IsSome, option_map};
 ghost use Rattle.bgp_conf.specs.Configuration.{peer_at};
 ghost use Rattle.bgp_fsm.specs.declared.state.State.TheVariants.{Established};
-ghost use Rattle.export_rules.specs.Export.{IsSender, most_attributes};
+ghost use Rattle.export_rules.specs.Export.{most_attributes};
 ghost use Rattle.rib_out.specs.Held.{asked_at, held_at, is_among};
 ghost use Rattle.speaker.specs.Agreement.{QueuesAll, QueuesOn, QueuesStarved};
 ghost use Rattle.routes.specs.Export.{export_peer_of};
@@ -225,9 +225,9 @@ impl<A: Allocator + Clone, B: Book<A>> Speaker<A, B> {
         ensures told { OnOk result (IsToldAt slot draft.new.named.items (Some octets.now.items) self.old self.new) }
         ensures least { is_among least draft.new.named.items ≡ true }
         ensures each { (q : ThePrefix) → is_among q draft.new.named.items ≡ true → export_to self.old slot q ≡ Some octets.now.items }
-        ensures packed { IsSender peer.now → (l : Linked) → link_at self.old.links slot ≡ Some l → IsPack (IsFrom least (IsDue (export_to self.old slot) (Some octets.now.items) l)) (most_named - length octets.now.items) draft.new.named.items }
+        ensures packed { (l : Linked) → link_at self.old.links slot ≡ Some l → IsPack (IsFrom least (IsDue (export_to self.old slot) (Some octets.now.items) l)) (most_named - length octets.now.items) draft.new.named.items }
         ensures err { OnErr result (IsStill self.old self.new) }
-        ensures short { OnErr result ((l : Linked) → link_at self.old.links slot ≡ Some l → (q : ThePrefix) × (export_to self.old slot q ≡ Some octets.now.items) × (held_at l.adj_out q ≢ Some octets.now.items)) }
+        ensures short { OnErr result ((l : Linked) → link_at self.old.links slot ≡ Some l → (q : ThePrefix) × (is_among q draft.new.named.items ≡ true) × (export_to self.old slot q ≡ Some octets.now.items) × (held_at l.adj_out q ≢ Some octets.now.items)) }
     {
         self.routes
             .tell_announcements(slot, peer, least, octets, draft)

@@ -6,9 +6,8 @@ ghost use Rattle.bgp_conf.specs.declared.conf.ConfiguredPeer.{ConfiguredPeer as 
 ghost use Rattle.bgp_fsm.specs.SessionTable.{effects_of};
 ghost use Rattle.bgp_fsm.specs.declared.input.Input.TheVariants.{NoMemory};
 ghost use Rattle.bgp_msg.specs.MessageStream.{meaning};
-ghost use Rattle.bgp_msg.specs.UpdateMeaning.{update_fault};
-ghost use Rattle.routes.specs.Updates.{sound_update};
-ghost use Rattle.speaker.specs.Chosen.{Chooses, ChoosesRefused};
+ghost use Rattle.routes.specs.Chosen.{Ends};
+ghost use Rattle.speaker.specs.Chosen.{Chooses};
 ghost use Rattle.routes.specs.Heard.{TakesMemoryAt};
 ghost use Rattle.speaker.specs.Moves.{Moves, Pushes, TakesItem, IsWithout};
 ghost use Rattle.routes.specs.Linked.{taken_of, Linked};
@@ -127,12 +126,12 @@ impl<A: Allocator + Clone, B: Book<A>> Speaker<A, B> {
     }
 
     // Takes the message at the front of the slot's rest, if it is whole or its header is faulty. Where memory is refused
-    // to it, the session is closed. What a NOTIFICATION shows of a faulty one is written to `room`.
+    // to it, nothing of it is taken, and the session is closed. What a NOTIFICATION shows of a faulty one is written to `room`.
     fn take_message(&mut self, slot: u8, room: &mut Octets) -> Result<(), AllocError>
         ensures taken { OnOk result ((l : Linked) (peer : ThePeer) → link_at self.old.links slot ≡ Some l → peer_at self.old.conf slot ≡ Some peer
             → TakesItem slot (terms_in self.old.config peer) l (meaning l.peer.rest) self.old self.new) }
         ensures starved { OnErr result ((l : Linked) (peer : ThePeer) → link_at self.old.links slot ≡ Some l → peer_at self.old.conf slot ≡ Some peer
-            → (takes : TakesMemoryAt (kind_of (terms_in self.old.config peer)) l) × Moves slot l NoMemory self.old self.new × ChoosesRefused slot (sound_update (kind_of (terms_in self.old.config peer)) takes.body (update_fault (kind_of (terms_in self.old.config peer)) takes.body)) self.old self.new) }
+            → TakesMemoryAt (kind_of (terms_in self.old.config peer)) l × Moves slot l NoMemory self.old self.new × Ends slot self.old.adj_in self.old.chosen self.new.chosen) }
         ensures counted { self.new.chosen_before ≡ self.old.chosen_before }
         ensures rises { self.old.chosen ≤ self.new.chosen }
         ensures within { OnErr result (slot < 64) }

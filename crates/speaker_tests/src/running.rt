@@ -23,6 +23,8 @@ enum Ending {
     ClosedFirst,
     // The second peer's session was closed.
     ClosedSecond,
+    // Nothing shows of the request that was refused.
+    Unseen,
     // What should not be.
     Wrong,
 }
@@ -146,11 +148,12 @@ fn nth_ending(alloc: Global, nth: u64, events: &[Event<'_>]) -> Ending
     requires { 1 ≤ nth }
 {
     let heap = Refusing::new(alloc, nth);
-    let ending = play(&heap, events);
-    if heap.has_refused() != (ending != Ending::Whole) {
-        return Ending::Wrong;
+    match (play(&heap, events), heap.has_refused()) {
+        (Ending::Whole, true) => Ending::Unseen,
+        (Ending::Whole, false) => Ending::Whole,
+        (_, false) => Ending::Wrong,
+        (ending, true) => ending,
     }
-    ending
 }
 
 // Which endings there were.

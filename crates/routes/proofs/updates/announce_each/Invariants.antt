@@ -1,19 +1,20 @@
-use Rattle.std.proofs.Common.{◌≤◌, Some, true}
-use Rattle.bgp_msg.specs.MessageSpelling.{front_prefixes}
+use Rattle.std.proofs.Common.{◌≡◌, ◌≤◌, length, Some, true}
+use Rattle.std.specs.Vec.Iter.{into_iter_items, into_iter_len}
 use Rattle.decision.specs.BookContents.{offer_at}
 use Rattle.rib_in.specs.LatestRoutes.{route_at}
 use Rattle.routes.proofs.Counting.{CountsNamed}
-use Rattle.routes.proofs.HeardOffers.{AreSome}
 use Rattle.routes.proofs.RouteChanges.{Sets}
+use Rattle.routes.specs.Brought.{AreReady, prefixes_of}
 use Rattle.routes.specs.Candidates.{judged_at}
 use Rattle.routes.specs.Marks.{AreMarked}
 use Rattle.routes.proofs.updates.announce_each.Given as goal
 
-abbrev pub invariant-loop-prefix : goal.invariant-loop-prefix
-invariant-loop-prefix g l =
-    Sets l.slot (λ p. true) (front_prefixes l.fn.prefixes.octets.now).0 l.yielded (front_prefixes l.prefix-iterator.octets.now).0 (λ p. Some l.attrs.value) (route_at l.initial.routing.adj_in) (route_at l.routing.adj_in)
-    × Sets l.slot (λ p. true) (front_prefixes l.fn.prefixes.octets.now).0 l.yielded (front_prefixes l.prefix-iterator.octets.now).0 (judged_at l.fn.conf l.fn.payloads l.attrs.value l.candidate) (offer_at l.initial.routing.book) (offer_at l.routing.book)
-    × AreSome l.slot (judged_at l.fn.conf l.fn.payloads l.attrs.value l.candidate) (offer_at l.initial.routing.book) (offer_at l.routing.book)
-    × AreMarked l.fn.conf l.fn.links.entries l.routing
-    × CountsNamed (λ p. true) l.yielded l.initial.routing.chosen l.routing.chosen
+abbrev pub invariant-loop-announced : goal.invariant-loop-announced
+invariant-loop-announced g l =
+    Sets l.slot (λ p. true) (prefixes_of l.fn.named.items) (prefixes_of l.yielded) (prefixes_of (into_iter_items l.announced-iterator)) (λ p. Some l.attrs) (route_at l.initial.routing.adj_in) (route_at l.routing.adj_in)
+    × Sets l.slot (λ p. true) (prefixes_of l.fn.named.items) (prefixes_of l.yielded) (prefixes_of (into_iter_items l.announced-iterator)) (judged_at l.conf l.payloads l.attrs l.candidate) (offer_at l.initial.routing.book) (offer_at l.routing.book)
+    × AreReady l.slot l.attrs l.initial.routing.adj_in (into_iter_items l.announced-iterator)
+    × AreMarked l.conf l.links.entries l.routing
+    × CountsNamed (λ p. true) (prefixes_of l.yielded) l.initial.routing.chosen l.routing.chosen
     × (l.initial.routing.chosen ≤ l.routing.chosen)
+    × (into_iter_len l.announced-iterator ≡ length (into_iter_items l.announced-iterator))

@@ -1,6 +1,5 @@
-use Rattle.std.proofs.Common.{◌≡◌, ◌≤◌, ◌<◌, None, Some}
+use Rattle.std.proofs.Common.{◌≡◌, ◌≤◌, ◌<◌, Some}
 use Rattle.bgp_fsm.specs.declared.state.State.TheVariants.{Established}
-use Rattle.export_rules.specs.Export.{IsSender}
 use Rattle.net_prefix.specs.declared.prefix.Prefix.{Prefix}
 use Rattle.routes.specs.Linked.{Linked}
 use Rattle.routes.specs.Packing.{IsDue}
@@ -14,8 +13,7 @@ use Rattle.routes.proofs.routes.Routes.alike_after.Given as goal
 abbrev pub invariant-loop-prefix : goal.invariant-loop-prefix
 invariant-loop-prefix g l =
     (rank_of l.fn.after ≤ rank_of l.last)
-    × (IsSender l.fn.peer
-    → (m : Linked) → link_at l.fn.self.links l.fn.slot ≡ Some m → m.peer.session.state ≡ Established
+    × ((m : Linked) → link_at l.fn.self.links l.fn.slot ≡ Some m → m.peer.session.state ≡ Established
     → (q : Prefix) → IsDue (export_of l.fn.self l.fn.slot) (Some l.fn.octets.items) m q → rank_of l.fn.after < rank_of q → rank_of l.last < rank_of q)
 
 abbrev pub decreases-loop-prefix : goal.decreases-loop-prefix

@@ -8,9 +8,9 @@ returns-clause-next g c = λ peer l configured linked established.
     let linked_here = rw (← c.self.view_is) at linked in
     let state = state_of c.self.inside.conf c.self.inside.payloads c.self.inside.links.entries c.self.inside.routing in
     rw (← c.self.view_is)
-    (next_announced state c.self.inside.routing.waiting c.args.slot peer l c.args.after c.next.result c.self.invariant.1 c.requires configured_here linked_here established c.next.ensures.has c.next.ensures.above c.next.ensures.least c.next.ensures.none)
+    (next_announced state c.self.inside.routing.waiting c.self.inside.routing.alike c.args.slot peer l c.args.after c.next.result c.self.invariant.1 c.requires configured_here linked_here established c.next.ensures.has c.next.ensures.above c.next.ensures.least c.next.ensures.none)
 
 pub returns-clause-none : goal.returns-clause-none
 returns-clause-none g c =
     let state = state_of c.self.inside.conf c.self.inside.payloads c.self.inside.links.entries c.self.inside.routing in
-    rw (← c.self.view_is) (λ unserved. none_next state c.self.inside.routing.waiting c.args.slot Announcement c.next.result c.self.invariant.1 c.requires unserved c.next.ensures.has)
+    rw (← c.self.view_is) (λ unserved. none_next state c.self.inside.routing.waiting c.self.inside.routing.alike c.args.slot Announcement c.next.result c.self.invariant.1 c.requires unserved c.next.ensures.has)

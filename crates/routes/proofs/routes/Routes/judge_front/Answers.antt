@@ -52,17 +52,11 @@ returns-clause-memory g c =
     (λ takes l linked. subst (λ x. TakesMemoryAt c.args.standard.kind x) (some_same _ _ _ c.in-Some.ensures.value linked) takes)
     c.take_front.ensures.memory)
 
-pub returns-clause-part : goal.returns-clause-part
-returns-clause-part g c =
-    rw (← c.self.view_is) (OnErr-as c.take_front.result _ _
-    (λ part l body linked is. part body (ap (λ (x : Linked). meaning x.peer.rest) (some_same _ _ _ c.in-Some.ensures.value linked) ∙ is))
-    c.take_front.ensures.part)
-
 pub returns-clause-within : goal.returns-clause-within
 returns-clause-within g c = OnErr-is _ _ (c.self.invariant.1.there.within c.args.slot c.in-Some.link.now (sym c.in-Some.ensures.value))
 
-pub returns-clause-others : goal.returns-clause-others
-returns-clause-others g c = rw (← c.self.view_is) c.take_front.ensures.others
+pub returns-clause-refused : goal.returns-clause-refused
+returns-clause-refused g c = rw (← c.self.view_is) c.take_front.ensures.refused
 
 pub returns-clause-rest : goal.returns-clause-rest
 returns-clause-rest g c = rw (← c.self.view_is) refl

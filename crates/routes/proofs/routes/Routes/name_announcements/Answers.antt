@@ -1,12 +1,9 @@
-use Rattle.std.proofs.Common.{rules, ◌≡◌, ◌≤◌, ◌<◌, ◌+◌, ◌-◌, ◌^◌, None, Some, List, [], length, arith, sym, ap, subst, ◌∙◌}
+use Rattle.std.proofs.Common.{rules, ◌≡◌, ◌≤◌, ◌<◌, ◌-◌, ◌^◌, None, Some, [], length, arith, sym, subst, ◌∙◌}
 use Rattle.bgp_fsm.specs.declared.state.State.TheVariants.{Established}
-use Rattle.export_rules.specs.Export.{IsSender}
 use Rattle.routes.specs.Linked.{Linked}
 use Rattle.routes.specs.Packing.{IsDue, IsFrom, most_named}
 use Rattle.routes.specs.Places.{rank_of}
 use Rattle.routes.specs.RoutesState.{export_of}
-use Rattle.routes.specs.Tables.{link_at}
-use Rattle.routes.proofs.AlikeRoutes.{selected_made}
 use Rattle.routes.proofs.Due.{behind_from, coming_from, coming_alike}
 use Rattle.routes.proofs.Naming.{Names, Names-end, Names-full, Names-more, Names-start, named_few, taken_by}
 use Rattle.routes.proofs.routes.Routes.name_announcements.Goals as goal
@@ -16,20 +13,20 @@ loop-next-init g c = λ m is.
     let There = IsFrom c.args.least (IsDue (export_of c.args.self.now c.args.slot) (Some c.args.octets.now.items) m) in
     let most = most_named - length c.args.octets.now.items in
     let room : most ≡ 4073 - c.len-room.result = search rules in
-    subst (λ items. Names (IsSender c.args.peer.now) There most c.args.least items (4073 - c.len-room.result) (Some c.args.least)) (sym c.clear.ensures)
-    (subst (λ n. Names (IsSender c.args.peer.now) There most c.args.least [] n (Some c.args.least)) room
-    (Names-start (IsSender c.args.peer.now) There most c.args.least (omega arith, (c.requires.exported, c.requires.news m is)) (λ q there. there.0)))
+    subst (λ items. Names There most c.args.least items (4073 - c.len-room.result) (Some c.args.least)) (sym c.clear.ensures)
+    (subst (λ n. Names There most c.args.least [] n (Some c.args.least)) room
+    (Names-start There most c.args.least (omega arith, (c.requires.exported, c.requires.news m is)) (λ q there. there.0)))
 
 pub returns-then-taken-room-clause-packed : goal.returns-then-taken-room-clause-packed
-returns-then-taken-room-clause-packed g c = λ sender m is.
+returns-then-taken-room-clause-packed g c = λ m is.
     let There = IsFrom c.args.least (IsDue (export_of c.args.self.now c.args.slot) (Some c.args.octets.now.items) m) in
     let most = most_named - length c.args.octets.now.items in
-    let h = subst (λ next. Names (IsSender c.args.peer.now) There most c.args.least c.loop-next.named.items c.loop-next.room next) c.in-Some-next.is (c.loop-next.invariant m is) in
+    let h = subst (λ next. Names There most c.args.least c.loop-next.named.items c.loop-next.room next) c.in-Some.is (c.loop-next.invariant m is) in
     let full : c.loop-next.room < c.len-taken.result = search rules in
-    let taken : taken_by c.in-Some-next.prefix ≡ c.len-taken.result = search rules in
+    let taken : taken_by c.in-Some.prefix ≡ c.len-taken.result = search rules in
     let few : c.len-taken.result ≤ 5 = search rules in
     let small = c.requires.small in
-    Names-full (IsSender c.args.peer.now) There most c.args.least c.loop-next.named.items c.loop-next.room c.in-Some-next.prefix h (omega (arith, small)) (omega (arith, taken, few)) (omega (arith, taken, full)) sender
+    Names-full There most c.args.least c.loop-next.named.items c.loop-next.room c.in-Some.prefix h (omega (arith, small)) (omega (arith, taken, few)) (omega (arith, taken, full))
 
 pub push-requires : goal.push-requires
 push-requires g c =
@@ -38,14 +35,6 @@ push-requires g c =
     let fits : c.len-taken.result ≤ c.loop-next.room = search rules in
     let some : 1 ≤ c.len-taken.result = search rules in
     (omega arith, omega (arith, h.taken, fits, some, named_few c.loop-next.named.items))
-
-pub alike_after-next-requires-clause-made : goal.alike_after-next-requires-clause-made
-alike_after-next-requires-clause-made g c =
-    (selected_made c.args.self.now c.args.slot c.args.peer.now c.args.least c.args.octets.now.items c.in-Some.attrs.now c.requires.peer c.requires.exported c.in-Some.ensures).0
-
-pub alike_after-next-requires-clause-from : goal.alike_after-next-requires-clause-from
-alike_after-next-requires-clause-from g c =
-    (selected_made c.args.self.now c.args.slot c.args.peer.now c.args.least c.args.octets.now.items c.in-Some.attrs.now c.requires.peer c.requires.exported c.in-Some.ensures).1
 
 same_link : (a b : Linked) → Some a ≡ Some b → a ≡ b
 same_link a b is = cc
@@ -56,21 +45,21 @@ loop-next-preserved g c = λ m is.
     let most = most_named - length c.args.octets.now.items in
     let up = c.requires.up in
     let established : m.peer.session.state ≡ Established = subst (λ (x : Linked). x.peer.session.state ≡ Established) (same_link up.0 m (sym up.1 ∙ is)) up.2 in
-    let h = subst (λ next. Names (IsSender c.args.peer.now) (IsFrom c.args.least Due) most c.args.least c.loop-next.named.items c.loop-next.room next) c.in-Some-next.is (c.loop-next.invariant m is) in
+    let h = subst (λ next. Names (IsFrom c.args.least Due) most c.args.least c.loop-next.named.items c.loop-next.room next) c.in-Some.is (c.loop-next.invariant m is) in
     let fits : c.len-taken.result ≤ c.loop-next.room = search rules in
-    let taken : taken_by c.in-Some-next.prefix ≡ c.len-taken.result = search rules in
-    let place : rank_of c.in-Some-next.prefix < 2 ^ 38 = search rules in
-    subst (λ items. Names (IsSender c.args.peer.now) (IsFrom c.args.least Due) most c.args.least items (c.loop-next.room - c.len-taken.result) c.alike_after-next.result) (sym c.push.ensures.items)
-    (Names-more (IsSender c.args.peer.now) (IsFrom c.args.least Due) most c.args.least c.loop-next.named.items c.loop-next.room c.in-Some-next.prefix c.alike_after-next.result h (omega (arith, fits, taken))
-    (coming_from Due c.args.least c.in-Some-next.prefix c.alike_after-next.result h.coming.0.0
-    (coming_alike Due c.in-Some-next.prefix c.alike_after-next.result (c.alike_after-next.ensures.due m is established) c.alike_after-next.ensures.above))
-    (λ premise. behind_from Due c.args.least c.in-Some-next.prefix c.alike_after-next.result (c.alike_after-next.ensures.behind premise m is established))
+    let taken : taken_by c.in-Some.prefix ≡ c.len-taken.result = search rules in
+    let place : rank_of c.in-Some.prefix < 2 ^ 38 = search rules in
+    subst (λ items. Names (IsFrom c.args.least Due) most c.args.least items (c.loop-next.room - c.len-taken.result) c.alike_after-next.result) (sym c.push.ensures.items)
+    (Names-more (IsFrom c.args.least Due) most c.args.least c.loop-next.named.items c.loop-next.room c.in-Some.prefix c.alike_after-next.result h (omega (arith, fits, taken))
+    (coming_from Due c.args.least c.in-Some.prefix c.alike_after-next.result h.coming.0.0
+    (coming_alike Due c.in-Some.prefix c.alike_after-next.result (c.alike_after-next.ensures.due m is established) c.alike_after-next.ensures.above))
+    (behind_from Due c.args.least c.in-Some.prefix c.alike_after-next.result (c.alike_after-next.ensures.behind m is established))
     (c.loop-next.room - c.len-taken.result) (omega (arith, fits, taken)) place)
 
 pub returns-clause-packed : goal.returns-clause-packed
-returns-clause-packed g c = λ sender m is.
+returns-clause-packed g c = λ m is.
     let There = IsFrom c.args.least (IsDue (export_of c.args.self.now c.args.slot) (Some c.args.octets.now.items) m) in
     let most = most_named - length c.args.octets.now.items in
     let none : c.loop-next.next ≡ None = search rules in
-    let h = subst (λ next. Names (IsSender c.args.peer.now) There most c.args.least c.loop-next.named.items c.loop-next.room next) none (c.loop-next.invariant m is) in
-    Names-end (IsSender c.args.peer.now) There most c.args.least c.loop-next.named.items c.loop-next.room h sender
+    let h = subst (λ next. Names There most c.args.least c.loop-next.named.items c.loop-next.room next) none (c.loop-next.invariant m is) in
+    Names-end There most c.args.least c.loop-next.named.items c.loop-next.room h

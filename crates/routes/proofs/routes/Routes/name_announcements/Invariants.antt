@@ -1,5 +1,4 @@
-use Rattle.std.proofs.Common.{◌≡◌, ◌-◌, None, Some, length}
-use Rattle.export_rules.specs.Export.{IsSender}
+use Rattle.std.proofs.Common.{◌≡◌, ◌-◌, Some, length}
 use Rattle.routes.specs.Linked.{Linked}
 use Rattle.routes.specs.Packing.{IsDue, IsFrom, most_named}
 use Rattle.routes.specs.RoutesState.{export_of}
@@ -10,7 +9,7 @@ use Rattle.routes.proofs.routes.Routes.name_announcements.Given as goal
 abbrev pub invariant-loop-next : goal.invariant-loop-next
 invariant-loop-next g l =
     (m : Linked) → link_at l.fn.self.links l.fn.slot ≡ Some m
-    → Names (IsSender l.fn.peer) (IsFrom l.fn.least (IsDue (export_of l.fn.self l.fn.slot) (Some l.fn.octets.items) m)) (most_named - length l.fn.octets.items) l.fn.least l.named.items l.room l.next
+    → Names (IsFrom l.fn.least (IsDue (export_of l.fn.self l.fn.slot) (Some l.fn.octets.items) m)) (most_named - length l.fn.octets.items) l.fn.least l.named.items l.room l.next
 
 abbrev pub decreases-loop-next : goal.decreases-loop-next
 decreases-loop-next g l = l.room

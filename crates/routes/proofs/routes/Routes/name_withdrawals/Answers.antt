@@ -1,26 +1,22 @@
-use Rattle.std.proofs.Common.{rules, ◌≡◌, ◌≤◌, ◌<◌, ◌+◌, ◌-◌, ◌^◌, None, Some, List, length, arith, sym, ap, subst, ◌∙◌}
-use Rattle.std.specs.Option.{IsSome}
+use Rattle.std.proofs.Common.{rules, ◌≡◌, ◌≤◌, ◌<◌, ◌-◌, ◌^◌, None, Some, arith, sym, subst, ◌∙◌}
 use Rattle.bgp_conf.specs.Configuration.{peer_at}
-use Rattle.bgp_conf.specs.declared.conf.ConfiguredPeer.{ConfiguredPeer}
 use Rattle.bgp_fsm.specs.declared.state.State.TheVariants.{Established}
-use Rattle.net_prefix.specs.declared.prefix.Prefix.{Prefix}
 use Rattle.rib_out.specs.Held.{held_at}
 use Rattle.routes.specs.Linked.{Linked}
 use Rattle.routes.specs.Owing.{withdrawn_of}
 use Rattle.routes.specs.Packing.{IsDue, IsFrom, most_named}
 use Rattle.routes.specs.Places.{rank_of}
 use Rattle.routes.specs.RoutesState.{export_of}
-use Rattle.routes.specs.Tables.{link_at}
 use Rattle.routes.proofs.Due.{behind_from, behind_next, coming_from, coming_next, due_gone, due_withdrawn, withdrawn_due}
-use Rattle.routes.proofs.Naming.{Names, Names-end, Names-full, Names-more, Names-start, named_few, taken_by}
+use Rattle.routes.proofs.Naming.{Names, Names-more, Names-start, named_few, taken_by}
 use Rattle.routes.proofs.Owing.{some_of}
 use Rattle.routes.proofs.routes.Routes.name_withdrawals.Goals as goal
 
 pub loop-next-init : goal.loop-next-init
 loop-next-init g c = λ m is.
     let There = IsFrom c.args.least (IsDue (export_of c.args.self.now c.args.slot) None m) in
-    subst (λ items. Names (Unit {0}) There most_named c.args.least items 4073 (Some c.args.least)) (sym c.clear.ensures)
-    (Names-start (Unit {0}) There most_named c.args.least
+    subst (λ items. Names There most_named c.args.least items 4073 (Some c.args.least)) (sym c.clear.ensures)
+    (Names-start There most_named c.args.least
     (omega arith, due_gone (export_of c.args.self.now c.args.slot) m c.args.least c.requires.gone (c.requires.held m is)) (λ q there. there.0))
 
 pub push-requires : goal.push-requires
@@ -41,15 +37,15 @@ loop-next-preserved g c = λ m is.
     let up = c.requires.up in
     let peer = some_of (peer_at c.args.self.now.conf c.args.slot) c.requires.peer in
     let established : m.peer.session.state ≡ Established = subst (λ (x : Linked). x.peer.session.state ≡ Established) (same_link up.0 m (sym up.1 ∙ is)) up.2 in
-    let h = subst (λ next. Names (Unit {0}) There most_named c.args.least c.loop-next.named.items c.loop-next.room next) c.in-Some.is (c.loop-next.invariant m is) in
+    let h = subst (λ next. Names There most_named c.args.least c.loop-next.named.items c.loop-next.room next) c.in-Some.is (c.loop-next.invariant m is) in
     let fits : c.len-octets.result ≤ c.loop-next.room = search rules in
     let taken : taken_by c.in-Some.prefix ≡ c.len-octets.result = search rules in
     let place : rank_of c.in-Some.prefix < 2 ^ 38 = search rules in
     let next = c.withdrawal_after-next.ensures.next peer.0 m peer.1 is established in
-    subst (λ items. Names (Unit {0}) There most_named c.args.least items (c.loop-next.room - c.len-octets.result) c.withdrawal_after-next.result) (sym c.push.ensures.items)
-    (Names-more (Unit {0}) There most_named c.args.least c.loop-next.named.items c.loop-next.room c.in-Some.prefix c.withdrawal_after-next.result h (omega (arith, fits, taken))
+    subst (λ items. Names There most_named c.args.least items (c.loop-next.room - c.len-octets.result) c.withdrawal_after-next.result) (sym c.push.ensures.items)
+    (Names-more There most_named c.args.least c.loop-next.named.items c.loop-next.room c.in-Some.prefix c.withdrawal_after-next.result h (omega (arith, fits, taken))
     (coming_from (IsDue exports None m) c.args.least c.in-Some.prefix c.withdrawal_after-next.result h.coming.0.0
     (coming_next (λ q. withdrawn_of (exports q) (held_at m.adj_out q)) (IsDue exports None m) c.in-Some.prefix c.withdrawal_after-next.result (due_withdrawn exports m) next))
-    (λ premise. behind_from (IsDue exports None m) c.args.least c.in-Some.prefix c.withdrawal_after-next.result
+    (behind_from (IsDue exports None m) c.args.least c.in-Some.prefix c.withdrawal_after-next.result
     (behind_next (λ q. withdrawn_of (exports q) (held_at m.adj_out q)) (IsDue exports None m) c.in-Some.prefix c.withdrawal_after-next.result (withdrawn_due exports m) next))
     (c.loop-next.room - c.len-octets.result) (omega (arith, fits, taken)) place)

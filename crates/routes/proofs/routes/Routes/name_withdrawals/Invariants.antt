@@ -9,7 +9,7 @@ use Rattle.routes.proofs.routes.Routes.name_withdrawals.Given as goal
 abbrev pub invariant-loop-next : goal.invariant-loop-next
 invariant-loop-next g l =
     (m : Linked) → link_at l.fn.self.links l.fn.slot ≡ Some m
-    → Names (Unit {0}) (IsFrom l.fn.least (IsDue (export_of l.fn.self l.fn.slot) None m)) most_named l.fn.least l.named.items l.room l.next
+    → Names (IsFrom l.fn.least (IsDue (export_of l.fn.self l.fn.slot) None m)) most_named l.fn.least l.named.items l.room l.next
 
 abbrev pub decreases-loop-next : goal.decreases-loop-next
 decreases-loop-next g l = l.room

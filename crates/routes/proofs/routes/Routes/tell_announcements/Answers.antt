@@ -1,6 +1,6 @@
-use Rattle.std.proofs.Common.{rules, ◌≡◌, Some, sym, ap, subst, ◌∙◌}
+use Rattle.std.proofs.Common.{rules, ◌≡◌, true, Some, sym, ap, subst, ◌∙◌}
 use Rattle.decision.specs.BookContents.{offer_at}
-use Rattle.rib_out.specs.Held.{held_at}
+use Rattle.rib_out.specs.Held.{held_at, is_among}
 use Rattle.routes.specs.Linked.{Linked}
 use Rattle.routes.specs.Offers.{IsSound}
 use Rattle.routes.specs.RoutingState.{RoutingState}
@@ -29,7 +29,12 @@ returns-in_err-announce-clause-short g c =
     OnErr-is c.from_residual.result _ (λ l is.
     let here = rw (← c.self.view_is) at is in
     let same : l ≡ c.in-Some.link.now = same_link l c.in-Some.link.now (sym here ∙ sym c.in-Some.ensures.value) in
-    (short.0, each short.0 (rw (← c.as_slice.ensures.value) short.1), λ held. short.2 (sym (ap (λ (x : Linked). held_at x.adj_out short.0) same) ∙ held)))
+    let among : is_among short.0 c.name_announcements.new.named.items ≡ true = rw (← c.as_slice.ensures.value) short.1 in (
+      short.0,
+      among,
+      each short.0 among,
+      λ held. short.2 (sym (ap (λ (x : Linked). held_at x.adj_out short.0) same) ∙ held),
+    ))
 
 pub invariant_of-self-2 : goal.invariant_of-self-2
 invariant_of-self-2 g c =
@@ -37,11 +42,11 @@ invariant_of-self-2 g c =
     let state = state_of c.self.inside.conf c.self.inside.payloads c.self.inside.links.entries c.self.inside.routing in
     let named = c.name_announcements.new.named.items in
     let told = c.announced_all.ensures in
-    let owed = rw (c.as_slice-2.ensures.value) at told.owed in
+    let owed = rw (c.as_slice-3.ensures.value) at told.owed in
     let heard = rw (c.as_slice.ensures.value) at c.in_ok-announce.ensures.told in
     let put : IsNow c.args.slot c.announce.new.link c.self.inside.links.entries (c.get_mut.follows.lender c.announce.new.link).entries = search rules in (
       subst (λ b. IsSound c.self.inside.conf (offer_at b)) (sym (ap (λ (t : RoutingState). t.book) told.rest)) c.self.invariant.0,
       marked_told c.self.inside.conf c.self.inside.routing c.announced_all.new.self c.args.slot named (Some c.args.octets.now.items) c.in-Some.link.now c.announce.new.link c.self.inside.links.entries _ c.self.invariant.1
-          (sym c.in-Some.ensures.value) heard put (λ peer p configured among. exported_to state c.args.slot p (Some c.args.octets.now.items) (each p among) peer configured) told.rest owed (λ s p there. told.known p)
+          (sym c.in-Some.ensures.value) heard put (λ peer p configured among. exported_to state c.args.slot p (Some c.args.octets.now.items) (each p among) peer configured) told.rest owed told.listed (λ s p there. told.known p)
           (announced_released c.args.slot named c.self.inside.routing c.announced_all.new.self told.rest (λ p among. exported_routed state c.args.slot p c.args.octets.now.items (each p among)) owed told.known),
     )

@@ -3,7 +3,8 @@ use Rattle.routes.proofs.Marking.{MarkedBelow-all, MarkedBelow-more}
 use Rattle.routes.proofs.routing.Routing.mark_peers.Goals as goal
 
 pub loop-slot-preserved : goal.loop-slot-preserved
-loop-slot-preserved g c = MarkedBelow-more _ _ _ _ _ _ c.loop-slot.slot c.loop-slot.invariant c.mark.ensures.rest c.mark.ensures.owed c.mark.ensures.known
+loop-slot-preserved g c = MarkedBelow-more _ _ _ _ _ _ c.loop-slot.slot c.loop-slot.invariant
+    (record { here = c.mark.ensures.here; others = c.mark.ensures.others; listed = c.mark.ensures.listed; known = c.mark.ensures.known; rest = c.mark.ensures.rest })
 
 pub returns-clause-marked : goal.returns-clause-marked
 returns-clause-marked g c =

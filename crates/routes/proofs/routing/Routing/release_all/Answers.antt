@@ -1,4 +1,4 @@
-use Rattle.std.proofs.Common.{rules, ◌≡◌, ◌<◌, length, ◌∙◌, sym, ap, subst}
+use Rattle.std.proofs.Common.{rules, ◌<◌, length, ◌∙◌, sym, ap, subst}
 use Rattle.std.specs.Option.{IsSome}
 use Rattle.rib_in.specs.LatestRoutes.{route_at}
 use Rattle.routes.specs.RoutingState.{RoutingState}

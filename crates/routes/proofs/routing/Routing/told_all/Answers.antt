@@ -1,7 +1,6 @@
-use Rattle.std.proofs.Common.{rules, ◌≡◌, ◌&&◌, ◌==◌, ℕ, Bool, true, false, None, cond, refl, ap, ◌∙◌}
+use Rattle.std.proofs.Common.{◌≡◌, ◌&&◌, ◌==◌, Bool, true, false, None, cond, refl, ◌∙◌}
 use Rattle.rib_out.specs.Held.{is_among}
 use Rattle.rib_out.specs.Waiting.{owed_at}
-use Rattle.net_prefix.specs.declared.prefix.Prefix.{Prefix}
 use Rattle.routes.proofs.ToldPrefixes.{released_all}
 use Rattle.routes.proofs.routing.Routing.told_all.Goals as goal
 
@@ -12,7 +11,7 @@ neither_so false b what old is = refl
 
 pub returns-clause-released : goal.returns-clause-released
 returns-clause-released g c =
-    let told = c.announced_all.ensures in
+    let told = c.unmark_all.ensures in
     let released = c.release_all.ensures in
-    released_all c.args.prefixes.now c.args.self.now c.announced_all.new.self c.release_all.new.self told.rest released.rest
+    released_all c.args.prefixes.now c.args.self.now c.unmark_all.new.self c.release_all.new.self told.rest released.rest
     (λ s p out. told.owed s p ∙ neither_so (s == c.args.slot) (is_among p c.args.prefixes.now) None (owed_at c.args.self.now.waiting s p) out) told.known released.released released.others released.owed

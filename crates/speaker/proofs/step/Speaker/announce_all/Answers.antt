@@ -29,7 +29,9 @@ pub returns-in_err-announce_from-clause-short : goal.returns-in_err-announce_fro
 returns-in_err-announce_from-clause-short g c =
     let h = c.loop-prefix.invariant in
     let room : HasRoomAt c.loop-prefix.self c.args.slot = λ l is. (c.has_room.ensures l is).0 (let has = c.if-not-has_room.false in (cc)) in
-    OnErr-is _ _ (short_still c.args.slot c.args.self.now c.loop-prefix.self _ c.args.peer.now c.export.new.octets.items h.serves c.requires.slot room c.requires.peer c.in_err-announce_from.ensures.short c.in_err-announce_from.ensures.err c.requires.below)
+    let next = c.in-Some.ensures h.serves.after (served_by _ _ _ _ h.serves c.requires.peer) in
+    let told = c.in_err-announce_from.ensures in
+    OnErr-is _ _ (short_still c.args.slot c.args.self.now c.loop-prefix.self _ c.loop-prefix.after c.in-Some.prefix _ c.args.peer.now c.export.new.octets.items h c.requires.slot room c.requires.peer next c.requires.gone told.least told.packed told.short told.err c.requires.below)
 
 pub loop-prefix-smaller : goal.loop-prefix-smaller
 loop-prefix-smaller g c =

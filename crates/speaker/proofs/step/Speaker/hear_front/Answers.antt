@@ -2,12 +2,9 @@ use Rattle.std.proofs.Common.{◌∙◌, [], ◌∷◌, ◌++◌, take, drop, ap
 use Rattle.std.proofs.lemmas.List.{take-append-drop}
 use Rattle.bgp_conf.specs.Configuration.{peer_at}
 use Rattle.bgp_msg.specs.MessageStream.{meaning}
-use Rattle.bgp_msg.specs.UpdateMeaning.{update_fault}
-use Rattle.routes.specs.Updates.{sound_update}
 use Rattle.bgp_peer.specs.Slot.{pushed}
 use Rattle.speaker.specs.Agreement.{HearsUntil}
 use Rattle.bgp_peer.specs.SessionInputs.{kind_of}
-use Rattle.speaker.specs.Chosen.{ChoosesRefused}
 use Rattle.routes.specs.Heard.{TakesMemoryAt}
 use Rattle.speaker.specs.Moves.{TakesItem}
 use Rattle.speaker.proofs.SlotEvents.{with_peer}
@@ -52,10 +49,9 @@ returns-in_err-take_message-clause-starved g c =
     let starved = c.in_err-take_message.ensures.starved (with_peer found.0 (pushed found.0.peer (take c.push-taken.result c.args.octets.now))) peer
     (put_here c.args.slot (with_peer found.0 (pushed found.0.peer (take c.push-taken.result c.args.octets.now))) c.args.self.now c.push-taken.new.self pushes.links)
     (ap (λ x. peer_at x c.args.slot) pushes.rest.conf ∙ configured) in
-    let K : Config → Type 0 = λ x. (takes : TakesMemoryAt (kind_of (terms_in x peer)) (with_peer found.0 (pushed found.0.peer (take c.push-taken.result c.args.octets.now)))) × ChoosesRefused c.args.slot (sound_update (kind_of (terms_in x peer)) takes.body (update_fault (kind_of (terms_in x peer)) takes.body)) c.push-taken.new.self c.take_message.new.self in
-    let needs = subst K (pushes.rest.config ∙ holds.config_is) (starved.0, starved.2) in
+    let needs = subst (λ (x : Config). TakesMemoryAt (kind_of (terms_in x peer)) (with_peer found.0 (pushed found.0.peer (take c.push-taken.result c.args.octets.now)))) (pushes.rest.config ∙ holds.config_is) starved.0 in
     let until = starves_heard config r done c.args.slot peer found.0 (take c.push-taken.result c.args.octets.now) (drop c.push-taken.result c.args.octets.now) c.args.self.now c.push-taken.new.self c.take_message.new.self
-    holds configured found.1 open_ some few pushes needs.0 starved.1 needs.1 in
+    holds configured found.1 open_ some few pushes needs starved.1 starved.2 in
     (until.0, until.1, until.2, ap (λ x. done ++ x) (sym (take-append-drop c.push-taken.result c.args.octets.now)) ∙ until.3, until.4, until.5) in
     OnErr-is _ _ all
 

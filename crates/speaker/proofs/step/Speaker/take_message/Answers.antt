@@ -2,13 +2,10 @@ use Rattle.std.proofs.Common.{◌≡◌, ◌∙◌, ℕ, refl, sym, ap, subst}
 use Rattle.bgp_conf.specs.Configuration.{peer_at}
 use Rattle.bgp_fsm.specs.SessionTable.{effects_of}
 use Rattle.bgp_fsm.specs.declared.input.Input.TheVariants.{NoMemory}
-use Rattle.bgp_msg.specs.UpdateMeaning.{update_fault}
 use Rattle.bgp_peer.specs.SessionInputs.{kind_of}
-use Rattle.routes.specs.Chosen.{IsPart}
 use Rattle.routes.specs.Heard.{TakesMemoryAt}
 use Rattle.routes.specs.RoutesState.{RoutesState}
 use Rattle.routes.specs.Tables.{link_at}
-use Rattle.routes.specs.Updates.{sound_update}
 use Rattle.speaker.specs.Runs.{terms_in}
 use Rattle.speaker.specs.SpeakerState.{SpeakerState}
 use Rattle.speaker.proofs.Messages.{refused_chosen, rises_once, rises_twice, starves, takes, takes_none, some_same}
@@ -64,12 +61,12 @@ returns-in-Err-clause-starved g c = λ l peer linked configured.
     let linked_now = links c.args.slot ∙ linked_here in
     let kind : c.between.result ≡ kind_of (terms_in c.self.inside.config c.in-Some.peer) = c.between.ensures in
     let takes : TakesMemoryAt (kind_of (terms_in c.self.inside.config c.in-Some.peer)) l = subst (λ k. TakesMemoryAt k l) kind (c.in-Err.ensures.memory l linked_here) in
-    let part = subst (λ k. IsPart c.args.slot (sound_update k takes.body (update_fault k takes.body)) c.self.inside.routes.adj_in c.judge_front.new.self.adj_in c.self.inside.routes.chosen c.judge_front.new.self.chosen) kind (c.in-Err.ensures.part l takes.body linked_here takes.is) in
+    let refused = c.in-Err.ensures.refused in
     rw (← peer_same, ← c.self.view_is) (
       takes,
-      starves c.args.slot l _ _ _ takes.established links c.in-Err.ensures.others.routes c.in-Err.ensures.others.offers
+      starves c.args.slot l _ _ _ takes.established links (λ s p other. refused.routes s p) (λ s p other. refused.offers s p)
           (record { config = refl; moment = refl; conf = ap (λ (r : RoutesState). r.conf) rest; cache = refl; payloads = c.judge_front.ensures.payloads; chosen_before = refl }) (c.input.ensures.moves l linked_now),
-      refused_chosen c.args.slot (sound_update (kind_of (terms_in c.self.inside.config c.in-Some.peer)) takes.body (update_fault (kind_of (terms_in c.self.inside.config c.in-Some.peer)) takes.body)) (effects_of NoMemory l.peer.session).left _ _ _ (rw takes.established refl) part.routes part.chosen (c.input.ensures.chosen l linked_now),
+      refused_chosen c.args.slot (effects_of NoMemory l.peer.session).left _ _ _ _ (rw takes.established refl) refused.routes refused.chosen (c.input.ensures.chosen l linked_now),
     )
 
 pub returns-in-Err-clause-within : goal.returns-in-Err-clause-within

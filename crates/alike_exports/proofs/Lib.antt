@@ -1,3 +1,0 @@
-pub mod PathsBehind
-pub mod ReadBack
-pub mod Alike

@@ -1,3 +1,0 @@
-pub mod ClassNumber
-pub mod Feeding
-pub mod Passed
