@@ -49,9 +49,9 @@ begins text front None is = absurd is.0
 begins text front (Some rest) (read, inl end) = (rest, refl, read, ap format_of (read ∙ ap (λ behind. front ++ behind) end ∙ append-nil front))
 begins text front (Some rest) (read, inr told) = (rest, refl, read, ap format_of read ∙ told_format front rest told)
 
-pub of_format : (text front now rest : List ℕ) (format : ListFormat) (result : Result Loaded PayloadListFault) → text ≡ front ++ rest → now ≡ front → format_of text ≡ format
-    → MatchResult result (IsListIn format (now ++ rest)) (IsRefusedIn format (now ++ rest)) → MatchResult result (IsListOf text) (IsRefusedAs text)
-of_format text front now rest format result whole same told read =
+pub of_format : (second : Option ℕ) (text front now rest : List ℕ) (format : ListFormat) (result : Result Loaded PayloadListFault) → text ≡ front ++ rest → now ≡ front → format_of text ≡ format
+    → MatchResult result (IsListIn second format (now ++ rest)) (IsRefusedIn format (now ++ rest)) → MatchResult result (IsListOf second text) (IsRefusedAs text)
+of_format second text front now rest format result whole same told read =
     let is : text ≡ now ++ rest = whole ∙ ap (λ f. f ++ rest) (sym same) in
-    subst (λ (t : List ℕ). MatchResult result (IsListOf t) (IsRefusedAs t)) (sym is)
-    (subst (λ (f : ListFormat). MatchResult result (IsListIn f (now ++ rest)) (IsRefusedIn f (now ++ rest))) (sym (ap format_of (sym is) ∙ told)) read)
+    subst (λ (t : List ℕ). MatchResult result (IsListOf second t) (IsRefusedAs t)) (sym is)
+    (subst (λ (f : ListFormat). MatchResult result (IsListIn second f (now ++ rest)) (IsRefusedIn f (now ++ rest))) (sym (ap format_of (sym is) ∙ told)) read)

@@ -19,12 +19,12 @@ pub with_file : {L : Type 0} (remaining : L → Option (List ℕ)) (slurm : Opti
 with_file remaining slurm file said listed set is under = subst (λ (o : Option (Option (List ℕ))). IsUnderFile o said listed set) (ap (option_map remaining) (sym is)) under
 
 -- or the SLURM file is refused
-pub refused_behind : {L : Type 0} (remaining : L → Option (List ℕ)) (list : L) (slurm : Option L) (file : L) (listed : List Vrp) (fault : SourceFault) → slurm ≡ Some file → IsSetOfText (remaining list) listed
-    → IsRefusedSlurm (remaining file) fault → IsRefused (texts_of remaining list slurm) fault
-refused_behind remaining list slurm file listed (OfList refused) is of_list h = absurd h
-refused_behind remaining list slurm file listed (Slurm fault) is of_list h =
+pub refused_behind : {L : Type 0} (remaining : L → Option (List ℕ)) (second : Option ℕ) (list : L) (slurm : Option L) (file : L) (listed : List Vrp) (fault : SourceFault) → slurm ≡ Some file → IsSetOfText second (remaining list) listed
+    → IsRefusedSlurm (remaining file) fault → IsRefused (texts_of remaining list slurm second) fault
+refused_behind remaining second list slurm file listed (OfList refused) is of_list h = absurd h
+refused_behind remaining second list slurm file listed (Slurm fault) is of_list h =
     record { listed = listed; of_list = of_list; file = remaining file; there = ap (option_map remaining) is; refused = h }
-refused_behind remaining list slurm file listed SlurmDevice is of_list h =
+refused_behind remaining second list slurm file listed SlurmDevice is of_list h =
     record { listed = listed; of_list = of_list; file = remaining file; there = ap (option_map remaining) is; refused = h }
 
 abbrev fault_or : Result Said SlurmFault → SlurmFault → SlurmFault

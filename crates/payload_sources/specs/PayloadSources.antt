@@ -11,19 +11,21 @@ use Rattle.slurm_files.specs.declared.fault.SlurmFault.TheVariants.{NoMemory}
 use Rattle.payload_sources.specs.declared.fault.SourceFault.{SourceFault}
 use Rattle.payload_sources.specs.declared.fault.SourceFault.TheVariants.{List as OfList, Slurm, SlurmDevice}
 
--- the texts of files that were opened, as far as they are known: of the list, and of the SLURM file where there is one
+-- the texts of files that were opened, as far as they are known: of the list, and of the SLURM file where there is one; and the
+-- second since 1970 at which the list's rows may have expired, where they may
 pub record SourceTexts : Type 0 where
   pub list : Option (List ℕ)
   pub slurm : Option (Option (List ℕ))
+  pub second : Option ℕ
 
-abbrev pub texts_of : {L : Type 0} → (L → Option (List ℕ)) → L → Option L → SourceTexts
-texts_of remaining list slurm = record { list = remaining list; slurm = option_map remaining slurm }
+abbrev pub texts_of : {L : Type 0} → (L → Option (List ℕ)) → L → Option L → Option ℕ → SourceTexts
+texts_of remaining list slurm second = record { list = remaining list; slurm = option_map remaining slurm; second = second }
 
--- the set is that of the list that the text spells; of a file whose text isn't known nothing is said
-abbrev pub IsSetOfText : Option (List ℕ) → List Vrp → Type 0
-IsSetOfText file set =
+-- the set is that of the list that the text spells, at that second; of a file whose text isn't known nothing is said
+abbrev pub IsSetOfText : Option ℕ → Option (List ℕ) → List Vrp → Type 0
+IsSetOfText second file set =
     (text : List ℕ) → file ≡ Some text
-    → (loaded : Loaded) × IsListOf text loaded × (set ≡ loaded.set.keys)
+    → (loaded : Loaded) × IsListOf second text loaded × (set ≡ loaded.set.keys)
 
 -- the list of the text is refused so
 abbrev pub IsRefusedText : Option (List ℕ) → PayloadListFault → Type 0
@@ -43,7 +45,7 @@ IsUnderFile (Some file) (Some said) set after = IsSaidBy file said × IsPayloadS
 -- the set is that of the list, under the exceptions that the SLURM file says
 pub record IsRead (sources : SourceTexts) (said : Option Said) (set : List Vrp) : Type 0 where
   pub listed : List Vrp
-  pub of_list : IsSetOfText sources.list listed
+  pub of_list : IsSetOfText sources.second sources.list listed
   pub under : IsUnderFile sources.slurm said listed set
 
 abbrev pub IsSetOf : SourceTexts → List Vrp → Type 0
@@ -58,7 +60,7 @@ IsRefusedSlurm file SlurmDevice = ⊤
 -- so it is where the list has no fault
 pub record IsRefusedBehind (sources : SourceTexts) (fault : SourceFault) : Type 0 where
   pub listed : List Vrp
-  pub of_list : IsSetOfText sources.list listed
+  pub of_list : IsSetOfText sources.second sources.list listed
   pub file : Option (List ℕ)
   pub there : sources.slurm ≡ Some file
   pub refused : IsRefusedSlurm file fault

@@ -26,9 +26,9 @@ pub fn read_sources<L: Read + Drop>(
     alloc: Global,
     sources: Sources<L>,
 ) -> Result<SourceSet, SourceFault>
-    ensures { MatchResult result (λ read. IsRead (texts_of L.remaining sources.list sources.slurm) read.slurm read.set.keys) (λ fault. IsRefused (texts_of L.remaining sources.list sources.slurm) fault) }
+    ensures { MatchResult result (λ read. IsRead (texts_of L.remaining sources.list sources.slurm sources.second) read.slurm read.set.keys) (λ fault. IsRefused (texts_of L.remaining sources.list sources.slurm sources.second) fault) }
 {
-    let loaded = match read_payloads(alloc, sources.list) {
+    let loaded = match read_payloads(alloc, sources.list, sources.second) {
         Ok(loaded) => loaded,
         Err(refused) => return Err(SourceFault::List(refused)),
     };

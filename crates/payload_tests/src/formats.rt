@@ -15,7 +15,7 @@ const JSON: &[u8] =
 // How many rows a list has whose device ends behind these octets, and how many payloads.
 fn counts(alloc: Global, octets: &[u8]) -> Option<(u64, usize)> {
     let device = Failing { octets }.take(octets.len() as u64);
-    let loaded = read_payloads(alloc, device).ok()?;
+    let loaded = read_payloads(alloc, device, None).ok()?;
     Some((loaded.rows, loaded.set.len()))
 }
 
@@ -63,7 +63,7 @@ const ENDING: [(&[u8], PayloadListFault); 6] = [
 ];
 
 fn refusal<L: Read + Drop>(alloc: Global, list: L) -> Option<PayloadListFault> {
-    read_payloads(alloc, list).err()
+    read_payloads(alloc, list, None).err()
 }
 
 #[test]

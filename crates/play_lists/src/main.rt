@@ -1,10 +1,10 @@
 //! Loads the payload lists of its data, and compares what that answers with what is told.
 //!
-//! The file `lists` names them, one a line; empty lines and lines that begin with `#` are passed over. Each `NAME.in` has
+//! The file `lists` names them, and `expired` those that are read at one second since 1970, one a line; empty lines and lines that begin with `#` are passed over. Each `NAME.in` has
 //! several lists, each behind a line `# case`; `NAME.out` has the answers to each. A list is read as JSON or as
 //! comma-separated values, by `format_of`. It answers how many rows there are and how many are skipped, and then each
-//! payload of its set, a line each; or why it is refused. Each name has a line on standard output, and the last line
-//! counts them.
+//! payload of its set, a line each; or why it is refused. Each name has a line on standard output, and a line
+//! behind each of the two files counts them.
 //!
 //! Exit status 0 where all answer as told; 1 where one doesn't; 2 where a file can't be read or memory is wanting.
 #![tactic(auto)]
@@ -20,10 +20,11 @@ use std::rt::Files;
 use vrp_csv::Loaded;
 use vrp_json::{ListFormat, format_of};
 
-/// The readers of payload lists.
+/// The readers of payload lists, at a second since 1970 where what has expired is left out.
 #[derive(Drop)]
 struct Readers {
     alloc: Global,
+    second: Option<u64>,
 }
 
 impl Player for Readers {
@@ -33,11 +34,11 @@ impl Player for Readers {
     fn play(&self, script: &[u8]) -> Result<Vec<u8>, Unplayed> {
         let mut answer = Vec::new(self.alloc);
         match format_of(script) {
-            ListFormat::Json => match vrp_json::read_list(self.alloc, script) {
+            ListFormat::Json => match vrp_json::read_list_at(self.alloc, script, self.second) {
                 Ok(loaded) => tell(&loaded, &mut answer)?,
                 Err(fault) => writeln!(answer, "refused: {fault}")?,
             },
-            ListFormat::Csv => match vrp_csv::read_list(self.alloc, script) {
+            ListFormat::Csv => match vrp_csv::read_list_at(self.alloc, script, self.second) {
                 Ok(loaded) => tell(&loaded, &mut answer)?,
                 Err(fault) => writeln!(answer, "refused: {fault}")?,
             },
@@ -85,10 +86,15 @@ fn read<R: Files + AllocGlobal>(rt: &R, name: &[u8], ending: &str) -> Result<Vec
     Ok(fs::read(rt, path.as_str())?)
 }
 
-fn run(rt: &HostRuntime) -> Result<Tally, Unplayed> {
+// The second at which the lists of `expired` are read.
+const SECOND: u64 = 1_795_800_300;
+
+// Plays the files that this one names, whose lists are read at this second.
+fn run(rt: &HostRuntime, names: &str, second: Option<u64>) -> Result<Tally, Unplayed> {
     let mut output = LineWriter::new(rt.alloc(), io::writer(rt))?;
-    let list = fs::read(rt, "lists")?;
-    let player = Readers { alloc: rt.alloc() };
+    let list = fs::read(rt, names)?;
+    let alloc = rt.alloc();
+    let player = Readers { alloc, second };
     let shelf = Data { rt };
     let tally = play_listed(rt.alloc(), &player, &shelf, list.as_slice(), &mut output)?;
     let (lists, as_told) = (tally.scripts(), tally.as_told);
@@ -96,9 +102,15 @@ fn run(rt: &HostRuntime) -> Result<Tally, Unplayed> {
     Ok(tally)
 }
 
+fn run_all(rt: &HostRuntime) -> Result<u8, Unplayed> {
+    let lists = run(rt, "lists", None)?;
+    let expired = run(rt, "expired", Some(SECOND))?;
+    Ok(lists.status().max(expired.status()))
+}
+
 fn main(rt: HostRuntime) -> io::Result<ExitCode> {
-    match run(&rt) {
-        Ok(tally) => Ok(ExitCode::from(tally.status())),
+    match run_all(&rt) {
+        Ok(status) => Ok(ExitCode::from(status)),
         Err(Unplayed) => {
             eprintln!(rt; "play_lists: device")?;
             Ok(ExitCode::from(2))

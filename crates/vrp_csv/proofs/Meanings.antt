@@ -7,11 +7,13 @@ use Rattle.net_prefix.proofs.Prefixes.{same_prefix}
 use Rattle.net_prefix.proofs.Unique.{writes_one}
 use Rattle.net_prefix.specs.MaxLengths.{IsMaxLength}
 use Rattle.net_prefix.specs.PrefixText.{Writes}
+use Rattle.vrp_csv.specs.ExpiredRows.{AreRowsAt, IsExpired, IsLeft, IsLoadAt, IsRowAt}
 use Rattle.vrp_csv.specs.PayloadList.{AreRows, HasFaultBehind, IsLoad, IsRefused, IsRefusedBehind, IsStop}
 use Rattle.vrp_csv.specs.PayloadRows.{HasAsn, IsRow, field_of, front_of}
 use Rattle.vrp_csv.specs.declared.fault.RowFault.{RowFault}
 use Rattle.vrp_csv.specs.declared.fault.RowFault.TheVariants as fault
 use Rattle.vrp_csv.specs.declared.list.Loaded.{Loaded}
+use Rattle.vrp_csv.proofs.ReadRows.{left_one, said_by}
 use Rattle.vrp_csv.proofs.Rows.{max_one}
 
 asn_one : (width : ℕ) (fields : List (List ℕ)) (a b : ℕ) → HasAsn width fields a → HasAsn width fields b → a ≡ b
@@ -109,28 +111,39 @@ good_or_faulty : (width : ℕ) (fields : List (List ℕ)) (x : Option Vrp) (f : 
 unfolding is_good
 good_or_faulty width fields x f h k = colon_one true refl (sym (sym (ap is_good (row_one width fields (Ok x) (Err f) h k))))
 
-rows_one : (width : ℕ) (rows : List (List (List ℕ))) (xs ys : List (Option Vrp)) → AreRows width rows xs → AreRows width rows ys → xs ≡ ys
-rows_one width [] [] [] h k = refl
-rows_one width [] [] (y ∷ ys) h k = absurd k
-rows_one width [] (x ∷ xs) ys h k = absurd h
-rows_one width (r ∷ rows) [] ys h k = absurd h
-rows_one width (r ∷ rows) (x ∷ xs) [] h k = absurd k
-rows_one width (r ∷ rows) (x ∷ xs) (y ∷ ys) h k =
-    let head = one_answer width r x y h.0 k.0 in
-    let tail = rows_one width rows xs ys h.1 k.1 in
+one_left : (second : Option ℕ) (width : ℕ) (fields : List (List ℕ)) (x y : Option Vrp) → IsRowAt second width fields x → IsRowAt second width fields y → x ≡ y
+one_left None width fields x y h k = one_answer width fields x y h k
+one_left (Some second) width fields x y (said, is, left) (other, is', left') =
+    let same = one_answer width fields said other is is' in
+    left_one (IsExpired second width fields) other x y (subst (λ (o : Option Vrp). IsLeft (IsExpired second width fields) o x) same left) left'
+
+rows_left : (second : Option ℕ) (width : ℕ) (rows : List (List (List ℕ))) (xs ys : List (Option Vrp)) → AreRowsAt second width rows xs → AreRowsAt second width rows ys → xs ≡ ys
+rows_left second width [] [] [] h k = refl
+rows_left second width [] [] (y ∷ ys) h k = absurd k
+rows_left second width [] (x ∷ xs) ys h k = absurd h
+rows_left second width (r ∷ rows) [] ys h k = absurd h
+rows_left second width (r ∷ rows) (x ∷ xs) [] h k = absurd k
+rows_left second width (r ∷ rows) (x ∷ xs) (y ∷ ys) h k =
+    let head = one_left second width r x y h.0 k.0 in
+    let tail = rows_left second width rows xs ys h.1 k.1 in
     λ i. head i ∷ tail i
 
--- records load one set
-pub load_one : (records : List (List (List ℕ))) (a b : Loaded) → IsLoad records a → IsLoad records b → (a.set.keys ≡ b.set.keys) × (a.rows ≡ b.rows) × (a.skipped ≡ b.skipped)
-load_one [] a b h k = absurd h
-load_one (header ∷ rows) a b (is, (xs, are, set, count, skipped)) (is', (ys, are', set', count', skipped')) =
-    let same = rows_one (length header) rows xs ys are are' in
+-- records load one set at a second
+pub load_one_at : (second : Option ℕ) (records : List (List (List ℕ))) (a b : Loaded) → IsLoadAt second records a → IsLoadAt second records b → (a.set.keys ≡ b.set.keys) × (a.rows ≡ b.rows) × (a.skipped ≡ b.skipped)
+load_one_at second [] a b h k = absurd h
+load_one_at second (header ∷ rows) a b (is, (xs, are, set, count, skipped)) (is', (ys, are', set', count', skipped')) =
+    let same = rows_left second (length header) rows xs ys are are' in
     let set_a = rw same at set in
     let skipped_a = rw same at skipped in (
       same_set a.set.keys b.set.keys set_a.0 set'.0 (λ payload. set_a.1 payload ∙ sym (set'.1 payload)),
       count ∙ sym count',
       skipped_a ∙ sym skipped',
     )
+
+-- records load one set
+pub load_one : (records : List (List (List ℕ))) (a b : Loaded) → IsLoad records a → IsLoad records b → (a.set.keys ≡ b.set.keys) × (a.rows ≡ b.rows) × (a.skipped ≡ b.skipped)
+load_one [] a b h k = absurd h
+load_one (header ∷ rows) a b h k = load_one_at None (header ∷ rows) a b h k
 
 -- the row at a place among good rows is good
 among : (width : ℕ) (before : List (List (List ℕ))) (row : List (List ℕ)) (after : List (List (List ℕ))) (answers : List (Option Vrp)) → AreRows width (before ++ row ∷ after) answers → (x : Option Vrp) × IsRow width row (Ok x)
@@ -155,12 +168,19 @@ stopped width rows answers fault.Io count are h = inl refl
 stopped width rows answers fault.NoMemory count are h = inr refl
 stopped width rows answers fault.Csv count are h = absurd h
 
+-- the same at a second
+pub loads_or_stops_at : (second : Option ℕ) (records : List (List (List ℕ))) (loaded : Loaded) (f : RowFault) (row : ℕ) → IsLoadAt second records loaded → IsRefused records f row → IsStop f
+loads_or_stops_at second [] loaded f row h k = absurd h
+loads_or_stops_at second (header ∷ rows) loaded f row h (inl (place, is, none)) = absurd (none h.0)
+loads_or_stops_at second (header ∷ rows) loaded f row h (inr (inl (place, stop))) = stop
+loads_or_stops_at second (header ∷ rows) loaded f row h (inr (inr (is, count, behind, place))) =
+    let said = said_by second (length header) rows h.1.0 h.1.1 in
+    stopped (length header) rows said.0 f count said.1 behind
+
 -- what loads is refused only where reading stops
 pub loads_or_stops : (records : List (List (List ℕ))) (loaded : Loaded) (f : RowFault) (row : ℕ) → IsLoad records loaded → IsRefused records f row → IsStop f
 loads_or_stops [] loaded f row h k = absurd h
-loads_or_stops (header ∷ rows) loaded f row h (inl (place, is, none)) = absurd (none h.0)
-loads_or_stops (header ∷ rows) loaded f row h (inr (inl (place, stop))) = stop
-loads_or_stops (header ∷ rows) loaded f row h (inr (inr (is, count, behind, place))) = stopped (length header) rows h.1.0 f count h.1.1 behind
+loads_or_stops (header ∷ rows) loaded f row h k = loads_or_stops_at None (header ∷ rows) loaded f row h k
 
 head_of : List (List (List ℕ)) → List (List ℕ)
 head_of [] = []

@@ -8,7 +8,8 @@ use Rattle.std.specs.BTreeMap.{is_at}
 use Rattle.net_prefix.specs.PayloadOrder.{payload_cmp}
 use Rattle.net_prefix.specs.declared.payload.Vrp.{Vrp}
 use Rattle.net_prefix.proofs.PayloadSets.{has-put, put-is_set}
-use Rattle.vrp_csv.specs.PayloadList.{AreRows, IsLoad, IsLoadOf, IsRefused, IsRefusedBehind, IsSetOf, IsStop, gives}
+use Rattle.vrp_csv.specs.ExpiredRows.{AreRowsAt, IsLeft, IsLoadAt, IsLoadOfAt, IsRowAt}
+use Rattle.vrp_csv.specs.PayloadList.{AreRows, IsLoad, IsRefused, IsRefusedBehind, IsSetOf, IsStop, gives}
 use Rattle.vrp_csv.specs.PayloadRows.{IsHeader, IsRow}
 use Rattle.vrp_csv.specs.RecordsLeft.{IsNext}
 use Rattle.vrp_csv.specs.TakenIn.{TakesIn}
@@ -18,21 +19,21 @@ use Rattle.vrp_csv.specs.declared.fault.RowFault.TheVariants as fault
 use Rattle.vrp_csv.specs.declared.list.Loaded.{Loaded}
 
 -- some of the rows were read, and these are left
-abbrev pub HasRead : ℕ → List (List (List ℕ)) → Loaded → Option (List (List (List ℕ))) → Type 0
-HasRead width rows loaded left =
+abbrev pub HasRead : Option ℕ → ℕ → List (List (List ℕ)) → Loaded → Option (List (List (List ℕ))) → Type 0
+HasRead second width rows loaded left =
     (rest : List (List (List ℕ))) × (left ≡ Some rest) × (before : List (List (List ℕ))) × (rows ≡ before ++ rest)
-    × IsLoadOf width before loaded
+    × IsLoadOfAt second width before loaded
 
-pub begins : (width : ℕ) (rows : List (List (List ℕ))) (loaded : Loaded) (left : Option (List (List (List ℕ)))) → left ≡ Some rows → loaded.set.keys ≡ [] → loaded.rows ≡ 0 → loaded.skipped ≡ 0 → HasRead width rows loaded left
+pub begins : (second : Option ℕ) (width : ℕ) (rows : List (List (List ℕ))) (loaded : Loaded) (left : Option (List (List (List ℕ)))) → left ≡ Some rows → loaded.set.keys ≡ [] → loaded.rows ≡ 0 → loaded.skipped ≡ 0 → HasRead second width rows loaded left
 unfolding IsStrictlySortedBy
-begins width rows loaded left is empty none zero =
+begins second width rows loaded left is empty none zero =
     (rows, is, [], refl, ([], tt, rw empty (tt, λ payload. refl), none, zero))
 
-rows_push : (width : ℕ) (rows : List (List (List ℕ))) (answers : List (Option Vrp)) (row : List (List ℕ)) (answer : Option Vrp) → AreRows width rows answers → IsRow width row (Ok answer) → AreRows width (rows ++ row ∷ []) (answers ++ answer ∷ [])
-rows_push width [] [] row answer h k = (k, tt)
-rows_push width [] (a ∷ answers) row answer h k = absurd h
-rows_push width (r ∷ rows) [] row answer h k = absurd h
-rows_push width (r ∷ rows) (a ∷ answers) row answer h k = (h.0, rows_push width rows answers row answer h.1 k)
+rows_push : (second : Option ℕ) (width : ℕ) (rows : List (List (List ℕ))) (answers : List (Option Vrp)) (row : List (List ℕ)) (answer : Option Vrp) → AreRowsAt second width rows answers → IsRowAt second width row answer → AreRowsAt second width (rows ++ row ∷ []) (answers ++ answer ∷ [])
+rows_push second width [] [] row answer h k = (k, tt)
+rows_push second width [] (a ∷ answers) row answer h k = absurd h
+rows_push second width (r ∷ rows) [] row answer h k = absurd h
+rows_push second width (r ∷ rows) (a ∷ answers) row answer h k = (h.0, rows_push second width rows answers row answer h.1 k)
 
 joined : (a b c : Bool) → (a || (b || c)) ≡ (b || (a || c))
 joined true true c = refl
@@ -72,27 +73,27 @@ pub skipped_fits : (answer : Option Vrp) (old new : Loaded) → TakesIn answer o
 skipped_fits None old new t h = omega (arith, t.1, t.2, h)
 skipped_fits (Some payload) old new t h = omega (arith, t.1, t.2, h)
 
-load_push : (width : ℕ) (rows : List (List (List ℕ))) (row : List (List ℕ)) (answer : Option Vrp) (old new : Loaded) → IsLoadOf width rows old → IsRow width row (Ok answer) → TakesIn answer old new → IsLoadOf width (rows ++ row ∷ []) new
-load_push width rows row answer old new (answers, are, set, count, skipped) is t =
+load_push : (second : Option ℕ) (width : ℕ) (rows : List (List (List ℕ))) (row : List (List ℕ)) (answer : Option Vrp) (old new : Loaded) → IsLoadOfAt second width rows old → IsRowAt second width row answer → TakesIn answer old new → IsLoadOfAt second width (rows ++ row ∷ []) new
+load_push second width rows row answer old new (answers, are, set, count, skipped) is t =
     let more = rows_more answer old new t in
     let over = skipped_more answer old new t in (
       answers ++ answer ∷ [],
-      rows_push width rows answers row answer are is,
+      rows_push second width rows answers row answer are is,
       set_push answers answer old new set t,
       omega (arith, more, count, length-append rows (row ∷ [])),
       omega (arith, over, skipped, count_push is_none answers answer),
     )
 
 -- one row more was read
-pub takes_more : (width : ℕ) (rows : List (List (List ℕ))) (row : List (List ℕ)) (answer : Option Vrp) (old new : Loaded) (left after : Option (List (List (List ℕ))))
-    → HasRead width rows old left → ((records : List (List (List ℕ))) → left ≡ Some records → IsNext records true row after) → IsRow width row (Ok answer) → TakesIn answer old new → HasRead width rows new after
-takes_more width rows row answer old new left after (rest, is, before, whole, load) next row_is t =
+pub takes_more : (second : Option ℕ) (width : ℕ) (rows : List (List (List ℕ))) (row : List (List ℕ)) (answer : Option Vrp) (old new : Loaded) (left after : Option (List (List (List ℕ))))
+    → HasRead second width rows old left → ((records : List (List (List ℕ))) → left ≡ Some records → IsNext records true row after) → IsRowAt second width row answer → TakesIn answer old new → HasRead second width rows new after
+takes_more second width rows row answer old new left after (rest, is, before, whole, load) next row_is t =
     let (more, rest_is, after_is) = next rest is in (
       more,
       after_is,
       before ++ row ∷ [],
       whole ∙ ap (λ l. before ++ l) rest_is ∙ sym (append_assoc before (row ∷ []) more),
-      load_push width before row answer old new load row_is t,
+      load_push second width before row answer old new load row_is t,
     )
 
 pub append_nil : {X : Type 0} (xs : List X) → xs ++ [] ≡ xs
@@ -100,39 +101,68 @@ append_nil [] = refl
 append_nil (x ∷ xs) = ap (λ l. x ∷ l) (append_nil xs)
 
 -- all rows were read
-pub takes_all : (width : ℕ) (rows : List (List (List ℕ))) (loaded : Loaded) (left : Option (List (List (List ℕ)))) → HasRead width rows loaded left → ((records : List (List (List ℕ))) → left ≡ Some records → records ≡ []) → IsLoadOf width rows loaded
-takes_all width rows loaded left (rest, is, before, whole, load) none =
+pub takes_all : (second : Option ℕ) (width : ℕ) (rows : List (List (List ℕ))) (loaded : Loaded) (left : Option (List (List (List ℕ)))) → HasRead second width rows loaded left → ((records : List (List (List ℕ))) → left ≡ Some records → records ≡ []) → IsLoadOfAt second width rows loaded
+takes_all second width rows loaded left (rest, is, before, whole, load) none =
     rw (whole ∙ ap (λ l. before ++ l) (none rest is) ∙ append_nil before) load
 
--- reading stopped
-pub stops : (width : ℕ) (rows : List (List (List ℕ))) (loaded : Loaded) (left : Option (List (List (List ℕ)))) (why : RowFault) → HasRead width rows loaded left → IsStop why → IsRefusedBehind width rows why loaded.rows
-stops width rows loaded left why (rest, is, before, whole, (answers, are, set, count, skipped)) (inl stop) =
-    rw stop (rest, (before, answers, whole, are, count))
-stops width rows loaded left why (rest, is, before, whole, (answers, are, set, count, skipped)) (inr stop) =
-    rw stop (rest, (before, answers, whole, are, count))
+-- what rows say that are left at a second
+pub said_by : (second : Option ℕ) (width : ℕ) (rows : List (List (List ℕ))) (answers : List (Option Vrp)) → AreRowsAt second width rows answers → (said : List (Option Vrp)) × AreRows width rows said
+said_by None width rows answers h = (answers, h)
+said_by (Some second) width [] [] h = ([], tt)
+said_by (Some second) width [] (a ∷ answers) h = absurd h
+said_by (Some second) width (r ∷ rows) [] h = absurd h
+said_by (Some second) width (r ∷ rows) (a ∷ answers) h =
+    let more = said_by (Some second) width rows answers h.1 in
+    (h.0.0 ∷ more.0, (h.0.1, more.1))
 
-faulty : (width : ℕ) (rows before : List (List (List ℕ))) (row : List (List ℕ)) (more : List (List (List ℕ))) (loaded : Loaded) (why : RowFault) → rows ≡ before ++ row ∷ more → IsLoadOf width before loaded → IsRow width row (Err why) → IsRefusedBehind width rows why loaded.rows
-faulty width rows before row more loaded fault.Header whole load is = absurd is
-faulty width rows before row more loaded fault.Fields whole (answers, are, set, count, skipped) is = (row, more, (before, answers, whole, are, count), is)
-faulty width rows before row more loaded fault.Asn whole (answers, are, set, count, skipped) is = (row, more, (before, answers, whole, are, count), is)
-faulty width rows before row more loaded fault.Prefix whole (answers, are, set, count, skipped) is = (row, more, (before, answers, whole, are, count), is)
-faulty width rows before row more loaded fault.Max whole (answers, are, set, count, skipped) is = (row, more, (before, answers, whole, are, count), is)
-faulty width rows before row more loaded fault.Io whole load is = absurd is
-faulty width rows before row more loaded fault.NoMemory whole load is = absurd is
-faulty width rows before row more loaded fault.Csv whole load is = absurd is
+-- reading stopped
+pub stops : (second : Option ℕ) (width : ℕ) (rows : List (List (List ℕ))) (loaded : Loaded) (left : Option (List (List (List ℕ)))) (why : RowFault) → HasRead second width rows loaded left → IsStop why → IsRefusedBehind width rows why loaded.rows
+stops second width rows loaded left why (rest, is, before, whole, (answers, are, set, count, skipped)) (inl stop) =
+    let (said, they) = said_by second width before answers are in
+    rw stop (rest, (before, said, whole, they, count))
+stops second width rows loaded left why (rest, is, before, whole, (answers, are, set, count, skipped)) (inr stop) =
+    let (said, they) = said_by second width before answers are in
+    rw stop (rest, (before, said, whole, they, count))
+
+faulty : (second : Option ℕ) (width : ℕ) (rows before : List (List (List ℕ))) (row : List (List ℕ)) (more : List (List (List ℕ))) (loaded : Loaded) (why : RowFault) → rows ≡ before ++ row ∷ more → IsLoadOfAt second width before loaded → IsRow width row (Err why) → IsRefusedBehind width rows why loaded.rows
+faulty second width rows before row more loaded fault.Header whole load is = absurd is
+faulty second width rows before row more loaded fault.Fields whole (answers, are, set, count, skipped) is = let said = said_by second width before answers are in (row, more, (before, said.0, whole, said.1, count), is)
+faulty second width rows before row more loaded fault.Asn whole (answers, are, set, count, skipped) is = let said = said_by second width before answers are in (row, more, (before, said.0, whole, said.1, count), is)
+faulty second width rows before row more loaded fault.Prefix whole (answers, are, set, count, skipped) is = let said = said_by second width before answers are in (row, more, (before, said.0, whole, said.1, count), is)
+faulty second width rows before row more loaded fault.Max whole (answers, are, set, count, skipped) is = let said = said_by second width before answers are in (row, more, (before, said.0, whole, said.1, count), is)
+faulty second width rows before row more loaded fault.Io whole load is = absurd is
+faulty second width rows before row more loaded fault.NoMemory whole load is = absurd is
+faulty second width rows before row more loaded fault.Csv whole load is = absurd is
 
 -- the next row is faulty, or memory ran out
-pub refuses : (width : ℕ) (rows : List (List (List ℕ))) (row : List (List ℕ)) (loaded : Loaded) (left after : Option (List (List (List ℕ)))) (why : RowFault)
-    → HasRead width rows loaded left → ((records : List (List (List ℕ))) → left ≡ Some records → IsNext records true row after) → (IsRow width row (Err why) ⊎ (why ≡ fault.NoMemory)) → IsRefusedBehind width rows why loaded.rows
-refuses width rows row loaded left after why (rest, is, before, whole, load) next (inl row_is) =
+pub refuses : (second : Option ℕ) (width : ℕ) (rows : List (List (List ℕ))) (row : List (List ℕ)) (loaded : Loaded) (left after : Option (List (List (List ℕ)))) (why : RowFault)
+    → HasRead second width rows loaded left → ((records : List (List (List ℕ))) → left ≡ Some records → IsNext records true row after) → (IsRow width row (Err why) ⊎ (why ≡ fault.NoMemory)) → IsRefusedBehind width rows why loaded.rows
+refuses second width rows row loaded left after why (rest, is, before, whole, load) next (inl row_is) =
     let (more, rest_is, after_is) = next rest is in
-    faulty width rows before row more loaded why (whole ∙ ap (λ l. before ++ l) rest_is) load row_is
-refuses width rows row loaded left after why read next (inr memory) = stops width rows loaded left why read (inr memory)
+    faulty second width rows before row more loaded why (whole ∙ ap (λ l. before ++ l) rest_is) load row_is
+refuses second width rows row loaded left after why read next (inr memory) = stops second width rows loaded left why read (inr memory)
 
 -- what the rows behind a header load is what the records load
-pub of_records : (records : List (List (List ℕ))) (header : List (List ℕ)) (rows : List (List (List ℕ))) (width : ℕ) (r : Result Loaded CsvFault)
+pub of_records : (second : Option ℕ) (records : List (List (List ℕ))) (header : List (List ℕ)) (rows : List (List (List ℕ))) (width : ℕ) (r : Result Loaded CsvFault)
     → records ≡ header ∷ rows → IsHeader header → width ≡ length header
-    → MatchResult r (λ loaded. IsLoadOf width rows loaded) (λ refused. (count : ℕ) × IsRefusedBehind width rows refused.fault count × (refused.row ≡ count + 1))
+    → MatchResult r (λ loaded. IsLoadOfAt second width rows loaded) (λ refused. (count : ℕ) × IsRefusedBehind width rows refused.fault count × (refused.row ≡ count + 1))
+    → MatchResult r (λ loaded. IsLoadAt second records loaded) (λ refused. IsRefused records refused.fault refused.row)
+of_records second records header rows width (Ok loaded) whole is wide h = rw whole (is, subst (λ n. IsLoadOfAt second n rows loaded) wide h)
+of_records second records header rows width (Err refused) whole is wide h = rw whole (inr (inr (is, h.0, subst (λ n. IsRefusedBehind n rows refused.fault h.0) wide h.1, h.2)))
+
+-- what is left of one answer is one
+pub left_one : (Expired : Type 0) (said x y : Option Vrp) → IsLeft Expired said x → IsLeft Expired said y → x ≡ y
+left_one Expired said x y (inl (over, is)) (inl (over', is')) = is ∙ sym is'
+left_one Expired said x y (inl (over, is)) (inr (stands, is')) = absurd (stands over)
+left_one Expired said x y (inr (stands, is)) (inl (over, is')) = absurd (stands over)
+left_one Expired said x y (inr (stands, is)) (inr (stands', is')) = is ∙ sym is'
+
+-- without a second nothing expires
+pub at_none : (records : List (List (List ℕ))) (loaded : Loaded) → IsLoadAt None records loaded → IsLoad records loaded
+at_none [] loaded h = h
+at_none (header ∷ rows) loaded h = h
+
+pub read_at_none : (records : List (List (List ℕ))) (r : Result Loaded CsvFault) → MatchResult r (λ loaded. IsLoadAt None records loaded) (λ refused. IsRefused records refused.fault refused.row)
     → MatchResult r (λ loaded. IsLoad records loaded) (λ refused. IsRefused records refused.fault refused.row)
-of_records records header rows width (Ok loaded) whole is wide h = rw whole (is, subst (λ n. IsLoadOf n rows loaded) wide h)
-of_records records header rows width (Err refused) whole is wide h = rw whole (inr (inr (is, h.0, subst (λ n. IsRefusedBehind n rows refused.fault h.0) wide h.1, h.2)))
+read_at_none records (Ok loaded) h = at_none records loaded h
+read_at_none records (Err refused) h = h

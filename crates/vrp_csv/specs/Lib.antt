@@ -1,3 +1,4 @@
+pub mod ExpiredRows
 pub mod ListNumbers
 pub mod PayloadList
 pub mod PayloadRows

@@ -3,14 +3,15 @@ ghost use Rattle.std.specs.Prelude.{◌≡◌, ◌≤◌, ◌<◌, ◌+◌, ◌^
 ghost use Rattle.csv.specs.Reading.{default_config, error_kind, records, strip_bom};
 ghost use Rattle.csv.specs.Records.{fields_of};
 ghost use Rattle.net_prefix.specs.declared.payload.Vrp.{Vrp};
-ghost use Rattle.vrp_csv.specs.PayloadList.{HasNoHeader, IsLoad, IsLoadOf, IsRefused, IsRefusedBehind, IsStop};
+ghost use Rattle.vrp_csv.specs.ExpiredRows.{IsLoadAt, IsLoadOfAt, IsRowAt};
+ghost use Rattle.vrp_csv.specs.PayloadList.{HasNoHeader, IsLoad, IsRefused, IsRefusedBehind, IsStop};
 ghost use Rattle.vrp_csv.specs.PayloadRows.{IsHeader, IsRow};
 ghost use Rattle.vrp_csv.specs.RecordsLeft.{IsNext, IsPlain, read_fault_of, records_left};
 ghost use Rattle.vrp_csv.specs.TakenIn.{TakesIn};
 
 use crate::fault::{CsvFault, RowFault};
 use crate::header::header_width;
-use crate::row::read_row;
+use crate::row::read_row_at;
 use csv::{ByteRecord, Error, ErrorKind, Reader, ReaderBuilder};
 use net_prefix::Vrp;
 use std::alloc::Global;
@@ -24,7 +25,7 @@ pub struct Loaded {
     pub set: BTreeSet<Vrp>,
     /// How many rows there are, the skipped ones among them.
     pub rows: u64,
-    /// How many rows are skipped, since they are of IPv6.
+    /// How many rows are skipped, since they are of IPv6 or have expired.
     pub skipped: u64,
 }
 
@@ -32,6 +33,18 @@ pub struct Loaded {
 /// and so on. A list whose device fails, or for which memory runs out, is refused at the row that was to be read.
 pub fn read_list<R: Read + Drop>(alloc: Global, reader: R) -> Result<Loaded, CsvFault>
     ensures { (text : List ℕ) → R.remaining reader ≡ Some text → MatchResult result (λ loaded. IsLoad (records default_config (strip_bom text)) loaded) (λ refused. IsRefused (records default_config (strip_bom text)) refused.fault refused.row) }
+{
+    read_list_at(alloc, reader, None)
+}
+
+/// The same at this second since 1970: a row whose own `Expires` is before it is skipped, where the header names that column.
+/// Without a second nothing expires. Rows that have expired are checked as all others are.
+pub fn read_list_at<R: Read + Drop>(
+    alloc: Global,
+    reader: R,
+    second: Option<u64>,
+) -> Result<Loaded, CsvFault>
+    ensures { (text : List ℕ) → R.remaining reader ≡ Some text → MatchResult result (λ loaded. IsLoadAt second (records default_config (strip_bom text)) loaded) (λ refused. IsRefused (records default_config (strip_bom text)) refused.fault refused.row) }
 {
     let mut reader = ReaderBuilder::new()
         .has_headers(false)
@@ -42,7 +55,7 @@ pub fn read_list<R: Read + Drop>(alloc: Global, reader: R) -> Result<Loaded, Csv
         Ok(width) => width,
         Err(fault) => return Err(CsvFault { fault, row: 0 }),
     };
-    read_rows(alloc, &mut reader, &mut fields, width)
+    read_rows(alloc, &mut reader, &mut fields, width, second)
 }
 
 // How many fields each row has under the header that comes next.
@@ -68,10 +81,11 @@ fn read_rows<R: Read>(
     reader: &mut Reader<R>,
     fields: &mut ByteRecord,
     width: usize,
+    second: Option<u64>,
 ) -> Result<Loaded, CsvFault>
     requires width { 4 ≤ width }
     requires plain { IsPlain reader.old }
-    ensures { (rows : List (List (List ℕ))) → records_left R.remaining reader.old ≡ Some rows → MatchResult result (λ loaded. IsLoadOf width rows loaded) (λ refused. (count : ℕ) × IsRefusedBehind width rows refused.fault count × (refused.row ≡ count + 1)) }
+    ensures { (rows : List (List (List ℕ))) → records_left R.remaining reader.old ≡ Some rows → MatchResult result (λ loaded. IsLoadOfAt second width rows loaded) (λ refused. (count : ℕ) × IsRefusedBehind width rows refused.fault count × (refused.row ≡ count + 1)) }
 {
     let mut loaded = Loaded {
         set: BTreeSet::new(alloc),
@@ -86,7 +100,7 @@ fn read_rows<R: Read>(
         if !found {
             return Ok(loaded);
         }
-        if let Err(fault) = loaded.add(fields, width) {
+        if let Err(fault) = loaded.add(fields, width, second) {
             return Err(CsvFault { fault, row });
         }
     }
@@ -98,15 +112,20 @@ fn read_rows<R: Read>(
 }
 
 impl Loaded {
-    // Takes in what the next row says.
-    fn add(&mut self, fields: &ByteRecord, width: usize) -> Result<(), RowFault>
+    // Takes in what the next row says at this second.
+    fn add(
+        &mut self,
+        fields: &ByteRecord,
+        width: usize,
+        second: Option<u64>,
+    ) -> Result<(), RowFault>
         requires width { 4 ≤ width }
         requires room { self.old.rows + 1 < 2 ^ 64 }
         requires skipped { self.old.skipped ≤ self.old.rows }
-        ensures ok { OnOk result ((answer : Option Vrp) × IsRow width (fields_of fields.now) (Ok answer) × TakesIn answer self.old self.new) }
+        ensures ok { OnOk result ((answer : Option Vrp) × IsRowAt second width (fields_of fields.now) answer × TakesIn answer self.old self.new) }
         ensures err { IfErr result (λ fault. IsRow width (fields_of fields.now) (Err fault) ⊎ (fault ≡ RowFault.NoMemory)) }
     {
-        match read_row(fields, width)? {
+        match read_row_at(fields, width, second)? {
             Some(payload) => {
                 if self.set.insert(payload).is_err() {
                     return Err(RowFault::NoMemory);

@@ -1,8 +1,9 @@
 //! The rows of a payload list.
-ghost use Rattle.std.specs.Prelude.{◌≡◌, ◌≢◌, ◌≤◌, ◌<◌, ◌+◌, ◌^◌, ℕ, MatchOption, length};
+ghost use Rattle.std.specs.Prelude.{◌≡◌, ◌≢◌, ◌≤◌, ◌<◌, ◌+◌, ◌^◌, ◌↔◌, ℕ, Err, IsTrue, MatchOption, MatchResult, length};
 ghost use Rattle.csv.specs.Records.{fields_of};
 ghost use Rattle.net_prefix.specs.PrefixText.{Writes};
 ghost use Rattle.net_prefix.specs.declared.prefix.Prefix.{Prefix};
+ghost use Rattle.vrp_csv.specs.ExpiredRows.{IsExpired, IsOver, IsRowAt};
 ghost use Rattle.vrp_csv.specs.PayloadRows.{IsRow, WritesAsn, WritesMax, WritesNumber, field_of, front_of, without_letters};
 
 use crate::fault::RowFault;
@@ -14,6 +15,74 @@ use std::str;
 const ASN_DIGITS: usize = 10;
 
 const MAX_DIGITS: usize = 2;
+
+// The most digits of a second since 1970.
+const SECOND_DIGITS: usize = 20;
+
+// How many fields a row has under a header that names `Expires`, and which of them that is.
+const EXPIRING_WIDTH: usize = 5;
+
+const EXPIRES: usize = 4;
+
+/// What a row under a header of this width says at this second since 1970: its payload, or none where it is skipped or has
+/// expired; without a second nothing expires. A row that has expired may be at fault too.
+pub(crate) fn read_row_at(
+    fields: &ByteRecord,
+    width: usize,
+    second: Option<u64>,
+) -> Result<Option<Vrp>, RowFault>
+    requires { 4 ≤ width }
+    ensures { MatchResult result (λ answer. IsRowAt second width (fields_of fields.now) answer) (λ fault. IsRow width (fields_of fields.now) (Err fault)) }
+{
+    let said = read_row(fields, width)?;
+    let Some(second) = second else {
+        return Ok(said);
+    };
+    if is_expired(fields, width, second) {
+        return Ok(None);
+    }
+    Ok(said)
+}
+
+// Whether the row has expired at this second.
+fn is_expired(fields: &ByteRecord, width: usize, second: u64) -> bool
+    ensures { IsTrue result ↔ IsExpired second width (fields_of fields.now) }
+{
+    if width != EXPIRING_WIDTH {
+        return false;
+    }
+    match fields.get(EXPIRES) {
+        Some(text) => is_over(text, second),
+        None => false,
+    }
+}
+
+/// Whether the text writes a second since 1970, in up to 20 digits, that is before this one.
+pub fn is_over(text: &[u8], second: u64) -> bool
+    ensures { IsTrue result ↔ IsOver second text.now }
+{
+    match read_second(text) {
+        Some(last) => last < second,
+        None => false,
+    }
+}
+
+// The second that the text writes.
+fn read_second(text: &[u8]) -> Option<u64>
+    ensures { MatchOption result ((number : ℕ) → number < 2 ^ 64 → ¬ (WritesNumber 20 text.now number)) (λ number. WritesNumber 20 text.now number) }
+{
+    // `parse` passes over a plus.
+    if text.len() > SECOND_DIGITS || text.first() == Some(&b'+') {
+        return None;
+    }
+    let Ok(text) = str::from_utf8(text) else {
+        return None;
+    };
+    match text.parse::<u64>() {
+        Ok(number) => Some(number),
+        Err(_) => None,
+    }
+}
 
 /// What a row under a header of this width says: its payload, or none where it is skipped. The first fault of:
 /// another number of fields; the AS; the prefix; the maximum length. A skipped row's maximum length isn't looked at.

@@ -11,13 +11,18 @@ use Rattle.net_prefix.proofs.Prefixes.{same_prefix}
 use Rattle.net_prefix.proofs.Unique.{writes_one}
 use Rattle.vrp_csv.specs.PayloadRows.{has_colon}
 use Rattle.vrp_csv.specs.declared.list.Loaded.{Loaded}
-use Rattle.vrp_json.specs.PayloadDocument.{AreEntries, AreRefused, AreTexts, HasFaultBehind, HasRoas, IsLoad, IsLoadOf, IsLoadOfValue, IsNoJson, IsRefused, IsRefusedValue, Loads, entries_of, first_roas, is_array}
+use Rattle.vrp_csv.specs.ExpiredRows.{IsLeft}
+use Rattle.vrp_csv.proofs.ReadRows.{left_one}
+use Rattle.vrp_json.specs.ExpiredEntries.{AreEntriesAt, IsEntryAt, IsExpired, IsLoadAt, IsLoadOfAt, IsLoadOfValueAt, LoadsAt}
+use Rattle.vrp_json.specs.PayloadDocument.{AreEntries, AreRefused, AreTexts, HasFaultBehind, HasRoas, IsLoad, IsNoJson, IsRefused, IsRefusedValue, entries_of, first_roas, is_array}
 use Rattle.vrp_json.specs.PayloadEntries.{GivesAsn, HasPrefix, HasPrefixWord, IsEntry, is_object}
 use Rattle.vrp_json.specs.declared.fault.EntryFault.{EntryFault}
 use Rattle.vrp_json.specs.declared.fault.EntryFault.TheVariants as entry_fault
 use Rattle.vrp_json.specs.declared.fault.JsonFault.{JsonFault}
 use Rattle.vrp_json.specs.declared.fault.JsonFault.TheVariants as fault
+use Rattle.vrp_json.proofs.Documents.{none_at_value}
 use Rattle.vrp_json.proofs.Entries.{max_one}
+use Rattle.vrp_json.proofs.ReadEntries.{said_by}
 
 not_both : (b : Bool) → b ≡ true → b ≡ false → ⊥
 not_both true h k = cc k
@@ -124,24 +129,30 @@ good_or_faulty : (entry : Json) (x : Option Vrp) (f : EntryFault) → IsEntry en
 unfolding is_good
 good_or_faulty entry x f h k = not_both true refl (sym (sym (ap is_good (entry_one entry (Ok x) (Err f) h k))))
 
-entries_one : (entries : List Json) (xs ys : List (Option Vrp)) → AreEntries entries xs → AreEntries entries ys → xs ≡ ys
-entries_one [] [] [] h k = refl
-entries_one [] [] (y ∷ ys) h k = absurd k
-entries_one [] (x ∷ xs) ys h k = absurd h
-entries_one (e ∷ entries) [] ys h k = absurd h
-entries_one (e ∷ entries) (x ∷ xs) [] h k = absurd k
-entries_one (e ∷ entries) (x ∷ xs) (y ∷ ys) h k =
-    let head = one_answer e x y h.0 k.0 in
-    let tail = entries_one entries xs ys h.1 k.1 in
+one_left : (second : Option ℕ) (entry : Json) (x y : Option Vrp) → IsEntryAt second entry x → IsEntryAt second entry y → x ≡ y
+one_left None entry x y h k = one_answer entry x y h k
+one_left (Some second) entry x y (said, is, left) (other, also, left') =
+    let same = one_answer entry said other is also in
+    left_one (IsExpired second entry) other x y (subst (λ (o : Option Vrp). IsLeft (IsExpired second entry) o x) same left) left'
+
+entries_one : (second : Option ℕ) (entries : List Json) (xs ys : List (Option Vrp)) → AreEntriesAt second entries xs → AreEntriesAt second entries ys → xs ≡ ys
+entries_one second [] [] [] h k = refl
+entries_one second [] [] (y ∷ ys) h k = absurd k
+entries_one second [] (x ∷ xs) ys h k = absurd h
+entries_one second (e ∷ entries) [] ys h k = absurd h
+entries_one second (e ∷ entries) (x ∷ xs) [] h k = absurd k
+entries_one second (e ∷ entries) (x ∷ xs) (y ∷ ys) h k =
+    let head = one_left second e x y h.0 k.0 in
+    let tail = entries_one second entries xs ys h.1 k.1 in
     λ i. head i ∷ tail i
 
 -- two that are loaded are alike
 abbrev pub AreAlike : Loaded → Loaded → Type 0
 AreAlike a b = (a.set.keys ≡ b.set.keys) × (a.rows ≡ b.rows) × (a.skipped ≡ b.skipped)
 
-load_one : (entries : List Json) (a b : Loaded) → IsLoadOf entries a → IsLoadOf entries b → AreAlike a b
-load_one entries a b (xs, are, set, count, skipped) (ys, also, other, as_many, as_skipped) =
-    let same = entries_one entries xs ys are also in
+load_one : (second : Option ℕ) (entries : List Json) (a b : Loaded) → IsLoadOfAt second entries a → IsLoadOfAt second entries b → AreAlike a b
+load_one second entries a b (xs, are, set, count, skipped) (ys, also, other, as_many, as_skipped) =
+    let same = entries_one second entries xs ys are also in
     let set_a = rw same at set in
     let skipped_a = rw same at skipped in (
       same_set a.set.keys b.set.keys set_a.0 other.0 (λ payload. set_a.1 payload ∙ sym (other.1 payload)),
@@ -155,8 +166,8 @@ among [] entry after (x ∷ xs) h = (x, h.0)
 among (e ∷ before) entry after [] h = absurd h
 among (e ∷ before) entry after (x ∷ xs) h = among before entry after xs h.1
 
-good_entries : (entries : List Json) (loaded : Loaded) (f : EntryFault) (count : ℕ) → IsLoadOf entries loaded → HasFaultBehind entries f count → ⊥
-good_entries entries loaded f count (answers, are, set, many, skipped) (before, faulty, after, earlier, whole, good, len, is) =
+good_entries : (entries : List Json) (answers : List (Option Vrp)) (f : EntryFault) (count : ℕ) → AreEntries entries answers → HasFaultBehind entries f count → ⊥
+good_entries entries answers f count are (before, faulty, after, earlier, whole, good, len, is) =
     let here = among before faulty after answers (rw whole at are) in
     good_or_faulty faulty here.0 f here.1 is
 
@@ -215,24 +226,25 @@ no_array ms js behind h (j, after, k, kind) =
     let same = Some_inj (array js, behind) (j, after) (sym h ∙ k) in
     not_both (is_array j) (ap (λ p. is_array p.0) (sym same)) kind
 
-members_load_one : (ms : Members) (a b : Loaded) → Loads ms a → Loads ms b → AreAlike a b
-members_load_one ms a b (js, behind, h, once, load) (ks, after, k, also, other) =
+members_load_one : (second : Option ℕ) (ms : Members) (a b : Loaded) → LoadsAt second ms a → LoadsAt second ms b → AreAlike a b
+members_load_one second ms a b (js, behind, h, once, load) (ks, after, k, also, other) =
     let same = sym (roas_one ms js ks behind after h k).0 in
-    load_one (entries_of js) a b load (subst (λ l. IsLoadOf (entries_of l) b) same other)
+    load_one second (entries_of js) a b load (subst (λ l. IsLoadOfAt second (entries_of l) b) same other)
 
 -- members that load are refused only for want of memory
-members_load_or_not : (ms : Members) (a : Loaded) (f : JsonFault) → Loads ms a → AreRefused ms f → f ≡ fault.NoMemory
-members_load_or_not ms a (fault.Text octet) h k = absurd k
-members_load_or_not ms a fault.NotObject h k = absurd k
-members_load_or_not ms a fault.NoRoas (js, behind, h, once, load) k = absurd (not_found (array js, behind) (sym k ∙ h))
-members_load_or_not ms a fault.NotArray (js, behind, h, once, load) k = absurd (no_array ms js behind h k)
-members_load_or_not ms a (fault.Entry place why) (js, behind, h, once, load) (ks, after, k, faulty) =
+members_load_or_not : (second : Option ℕ) (ms : Members) (a : Loaded) (f : JsonFault) → LoadsAt second ms a → AreRefused ms f → f ≡ fault.NoMemory
+members_load_or_not second ms a (fault.Text octet) h k = absurd k
+members_load_or_not second ms a fault.NotObject h k = absurd k
+members_load_or_not second ms a fault.NoRoas (js, behind, h, once, load) k = absurd (not_found (array js, behind) (sym k ∙ h))
+members_load_or_not second ms a fault.NotArray (js, behind, h, once, load) k = absurd (no_array ms js behind h k)
+members_load_or_not second ms a (fault.Entry place why) (js, behind, h, once, load) (ks, after, k, faulty) =
     let same = sym (roas_one ms js ks behind after h k).0 in
-    absurd (good_entries (entries_of js) a why place load (subst (λ l. HasFaultBehind (entries_of l) why place) same faulty))
-members_load_or_not ms a fault.SecondRoas (js, behind, h, once, load) (ks, after, k, second, is, other, load') =
+    let said = said_by second (entries_of js) load.0 load.1 in
+    absurd (good_entries (entries_of js) said.0 why place said.1 (subst (λ l. HasFaultBehind (entries_of l) why place) same faulty))
+members_load_or_not second ms a fault.SecondRoas (js, behind, h, once, load) (ks, after, k, found, is, answers, are) =
     let same = sym (roas_one ms js ks behind after h k).1 in
-    absurd (not_found second (sym once ∙ subst (λ m. first_roas m ≡ Some second) same is))
-members_load_or_not ms a fault.NoMemory h k = refl
+    absurd (not_found found (sym once ∙ subst (λ m. first_roas m ≡ Some found) same is))
+members_load_or_not second ms a fault.NoMemory h k = refl
 
 -- why members are refused is one thing, but for want of memory
 members_refused_one : (ms : Members) (f g : JsonFault) → AreRefused ms f → AreRefused ms g → (f ≡ fault.NoMemory) ⊎ (g ≡ fault.NoMemory) ⊎ (f ≡ g)
@@ -245,14 +257,14 @@ members_refused_one ms fault.NoRoas fault.NotObject h k = absurd k
 members_refused_one ms fault.NoRoas fault.NoRoas h k = inr (inr refl)
 members_refused_one ms fault.NoRoas fault.NotArray h (j, after, k, kind) = absurd (not_found (j, after) (sym h ∙ k))
 members_refused_one ms fault.NoRoas (fault.Entry place why) h (js, after, k, faulty) = absurd (not_found (array js, after) (sym h ∙ k))
-members_refused_one ms fault.NoRoas fault.SecondRoas h (js, after, k, second, is, loaded, load) = absurd (not_found (array js, after) (sym h ∙ k))
+members_refused_one ms fault.NoRoas fault.SecondRoas h (js, after, k, second, is, answers, are) = absurd (not_found (array js, after) (sym h ∙ k))
 members_refused_one ms fault.NotArray fault.NoMemory h k = inr (inl refl)
 members_refused_one ms fault.NotArray (fault.Text x) h k = absurd k
 members_refused_one ms fault.NotArray fault.NotObject h k = absurd k
 members_refused_one ms fault.NotArray fault.NoRoas (j, after, h, kind) k = absurd (not_found (j, after) (sym k ∙ h))
 members_refused_one ms fault.NotArray fault.NotArray h k = inr (inr refl)
 members_refused_one ms fault.NotArray (fault.Entry place why) h (js, after, k, faulty) = absurd (no_array ms js after k h)
-members_refused_one ms fault.NotArray fault.SecondRoas h (js, after, k, second, is, loaded, load) = absurd (no_array ms js after k h)
+members_refused_one ms fault.NotArray fault.SecondRoas h (js, after, k, second, is, answers, are) = absurd (no_array ms js after k h)
 members_refused_one ms (fault.Entry place why) fault.NoMemory h k = inr (inl refl)
 members_refused_one ms (fault.Entry place why) (fault.Text x) h k = absurd k
 members_refused_one ms (fault.Entry place why) fault.NotObject h k = absurd k
@@ -262,36 +274,36 @@ members_refused_one ms (fault.Entry place why) (fault.Entry other also) (js, beh
     let same = sym (roas_one ms js ks behind after h k).0 in
     let one = behind_one (entries_of js) why also place other faulty (subst (λ l. HasFaultBehind (entries_of l) also other) same bad) in
     inr (inr (λ i. fault.Entry (one.1 i) (one.0 i)))
-members_refused_one ms (fault.Entry place why) fault.SecondRoas (js, behind, h, faulty) (ks, after, k, second, is, loaded, load) =
+members_refused_one ms (fault.Entry place why) fault.SecondRoas (js, behind, h, faulty) (ks, after, k, second, is, answers, are) =
     let same = sym (roas_one ms js ks behind after h k).0 in
-    absurd (good_entries (entries_of js) loaded why place (subst (λ l. IsLoadOf (entries_of l) loaded) same load) faulty)
+    absurd (good_entries (entries_of js) answers why place (subst (λ l. AreEntries (entries_of l) answers) same are) faulty)
 members_refused_one ms fault.SecondRoas fault.NoMemory h k = inr (inl refl)
 members_refused_one ms fault.SecondRoas (fault.Text x) h k = absurd k
 members_refused_one ms fault.SecondRoas fault.NotObject h k = absurd k
-members_refused_one ms fault.SecondRoas fault.NoRoas (js, behind, h, second, is, loaded, load) k = absurd (not_found (array js, behind) (sym k ∙ h))
-members_refused_one ms fault.SecondRoas fault.NotArray (js, behind, h, second, is, loaded, load) k = absurd (no_array ms js behind h k)
-members_refused_one ms fault.SecondRoas (fault.Entry place why) (js, behind, h, second, is, loaded, load) (ks, after, k, faulty) =
+members_refused_one ms fault.SecondRoas fault.NoRoas (js, behind, h, second, is, answers, are) k = absurd (not_found (array js, behind) (sym k ∙ h))
+members_refused_one ms fault.SecondRoas fault.NotArray (js, behind, h, second, is, answers, are) k = absurd (no_array ms js behind h k)
+members_refused_one ms fault.SecondRoas (fault.Entry place why) (js, behind, h, second, is, answers, are) (ks, after, k, faulty) =
     let same = sym (roas_one ms js ks behind after h k).0 in
-    absurd (good_entries (entries_of js) loaded why place load (subst (λ l. HasFaultBehind (entries_of l) why place) same faulty))
+    absurd (good_entries (entries_of js) answers why place are (subst (λ l. HasFaultBehind (entries_of l) why place) same faulty))
 members_refused_one ms fault.SecondRoas fault.SecondRoas h k = inr (inr refl)
 
 -- ---- values and octets
 
-value_loads_one : (j : Json) (a b : Loaded) → IsLoadOfValue j a → IsLoadOfValue j b → AreAlike a b
-value_loads_one null a b h k = absurd h
-value_loads_one (boolean x) a b h k = absurd h
-value_loads_one (number s) a b h k = absurd h
-value_loads_one (string s) a b h k = absurd h
-value_loads_one (array js) a b h k = absurd h
-value_loads_one (object ms) a b h k = members_load_one ms a b h k
+value_loads_one : (second : Option ℕ) (j : Json) (a b : Loaded) → IsLoadOfValueAt second j a → IsLoadOfValueAt second j b → AreAlike a b
+value_loads_one second null a b h k = absurd h
+value_loads_one second (boolean x) a b h k = absurd h
+value_loads_one second (number s) a b h k = absurd h
+value_loads_one second (string s) a b h k = absurd h
+value_loads_one second (array js) a b h k = absurd h
+value_loads_one second (object ms) a b h k = members_load_one second ms a b h k
 
-value_loads_or_not : (j : Json) (a : Loaded) (f : JsonFault) → IsLoadOfValue j a → IsRefusedValue j f → f ≡ fault.NoMemory
-value_loads_or_not null a f h k = absurd h
-value_loads_or_not (boolean x) a f h k = absurd h
-value_loads_or_not (number s) a f h k = absurd h
-value_loads_or_not (string s) a f h k = absurd h
-value_loads_or_not (array js) a f h k = absurd h
-value_loads_or_not (object ms) a f h k = members_load_or_not ms a f h k
+value_loads_or_not : (second : Option ℕ) (j : Json) (a : Loaded) (f : JsonFault) → IsLoadOfValueAt second j a → IsRefusedValue j f → f ≡ fault.NoMemory
+value_loads_or_not second null a f h k = absurd h
+value_loads_or_not second (boolean x) a f h k = absurd h
+value_loads_or_not second (number s) a f h k = absurd h
+value_loads_or_not second (string s) a f h k = absurd h
+value_loads_or_not second (array js) a f h k = absurd h
+value_loads_or_not second (object ms) a f h k = members_load_or_not second ms a f h k
 
 value_refused_one : (j : Json) (f g : JsonFault) → IsRefusedValue j f → IsRefusedValue j g → (f ≡ fault.NoMemory) ⊎ (g ≡ fault.NoMemory) ⊎ (f ≡ g)
 value_refused_one null f g h k = inr (inr (h ∙ sym k))
@@ -306,19 +318,29 @@ no_value : (octets : List ℕ) (octet : ℕ) (j : Json) → IsUtf8 octets → do
 no_value octets octet j utf8 is (inl (never, place)) = never utf8
 no_value octets octet j utf8 is (inr (also, none)) = not_found j (sym none ∙ is)
 
+-- octets load one set at a second
+pub loads_one_at : (second : Option ℕ) (octets : List ℕ) (a b : Loaded) → IsLoadAt second octets a → IsLoadAt second octets b → AreAlike a b
+loads_one_at second octets a b (utf8, j, is, h) (also, i, same, k) =
+    let one = Some_inj i j (sym same ∙ is) in
+    value_loads_one second j a b h (subst (λ v. IsLoadOfValueAt second v b) one k)
+
+at_none : (octets : List ℕ) (loaded : Loaded) → IsLoad octets loaded → IsLoadAt None octets loaded
+at_none octets loaded (utf8, j, is, h) = (utf8, j, is, none_at_value j loaded h)
+
 -- octets load one set
 pub loads_one : (octets : List ℕ) (a b : Loaded) → IsLoad octets a → IsLoad octets b → AreAlike a b
-loads_one octets a b (utf8, j, is, h) (also, i, same, k) =
-    let one = Some_inj i j (sym same ∙ is) in
-    value_loads_one j a b h (subst (λ v. IsLoadOfValue v b) one k)
+loads_one octets a b h k = loads_one_at None octets a b (at_none octets a h) (at_none octets b k)
 
 -- octets that load are refused only for want of memory
-pub loads_or_not : (octets : List ℕ) (a : Loaded) (f : JsonFault) → IsLoad octets a → IsRefused octets f → f ≡ fault.NoMemory
-loads_or_not octets a f h (inl memory) = memory
-loads_or_not octets a f (utf8, j, is, h) (inr (inl (octet, text, none))) = absurd (no_value octets octet j utf8 is none)
-loads_or_not octets a f (utf8, j, is, h) (inr (inr (also, i, same, k))) =
+pub loads_or_not_at : (second : Option ℕ) (octets : List ℕ) (a : Loaded) (f : JsonFault) → IsLoadAt second octets a → IsRefused octets f → f ≡ fault.NoMemory
+loads_or_not_at second octets a f h (inl memory) = memory
+loads_or_not_at second octets a f (utf8, j, is, h) (inr (inl (octet, text, none))) = absurd (no_value octets octet j utf8 is none)
+loads_or_not_at second octets a f (utf8, j, is, h) (inr (inr (also, i, same, k))) =
     let one = Some_inj i j (sym same ∙ is) in
-    value_loads_or_not j a f h (subst (λ v. IsRefusedValue v f) one k)
+    value_loads_or_not second j a f h (subst (λ v. IsRefusedValue v f) one k)
+
+pub loads_or_not : (octets : List ℕ) (a : Loaded) (f : JsonFault) → IsLoad octets a → IsRefused octets f → f ≡ fault.NoMemory
+loads_or_not octets a f h k = loads_or_not_at None octets a f (at_none octets a h) k
 
 -- why octets are refused is one thing, but for want of memory and the octet of a text that is no JSON
 pub refused_one : (octets : List ℕ) (f g : JsonFault) → IsRefused octets f → IsRefused octets g → (f ≡ fault.NoMemory) ⊎ (g ≡ fault.NoMemory) ⊎ (f ≡ g) ⊎ AreTexts f g

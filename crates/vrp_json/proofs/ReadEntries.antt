@@ -8,7 +8,8 @@ use Rattle.net_prefix.specs.declared.payload.Vrp.{Vrp}
 use Rattle.vrp_csv.specs.TakenIn.{TakesIn}
 use Rattle.vrp_csv.specs.declared.list.Loaded.{Loaded}
 use Rattle.vrp_csv.proofs.ReadRows.{append_nil, count_push, rows_more, set_push, skipped_more}
-use Rattle.vrp_json.specs.PayloadDocument.{AreEntries, IsLoadOf, entries_of}
+use Rattle.vrp_json.specs.ExpiredEntries.{AreEntriesAt, IsEntryAt, IsLoadOfAt}
+use Rattle.vrp_json.specs.PayloadDocument.{AreEntries, entries_of}
 use Rattle.vrp_json.specs.PayloadEntries.{IsEntry}
 use Rattle.vrp_json.specs.Places.{AreRefusedItems, IsAtItems, ReadsItems}
 use Rattle.vrp_json.specs.declared.fault.EntryFault.{EntryFault}
@@ -17,35 +18,45 @@ use Rattle.vrp_json.specs.declared.fault.JsonFault.TheVariants.{Entry, NoMemory}
 use Rattle.vrp_json.proofs.Steps.{close_items, next_item}
 
 -- some of the items were read, and the reader stands before the others
-abbrev pub HasRead : Items → Members → Loaded → List Token → Type 0
-HasRead js behind loaded ts =
+abbrev pub HasRead : Option ℕ → Items → Members → Loaded → List Token → Type 0
+HasRead second js behind loaded ts =
     (before : List Json) × (left : Items) × (entries_of js ≡ before ++ entries_of left) × IsAtItems left behind ts
-    × IsLoadOf before loaded
+    × IsLoadOfAt second before loaded
 
-pub begins : (js : Items) (behind : Members) (loaded : Loaded) (ts : List Token) → IsAtItems js behind ts → loaded.set.keys ≡ [] → loaded.rows ≡ 0 → loaded.skipped ≡ 0 → HasRead js behind loaded ts
+pub begins : (second : Option ℕ) (js : Items) (behind : Members) (loaded : Loaded) (ts : List Token) → IsAtItems js behind ts → loaded.set.keys ≡ [] → loaded.rows ≡ 0 → loaded.skipped ≡ 0 → HasRead second js behind loaded ts
 unfolding IsStrictlySortedBy
-begins js behind loaded ts at empty none zero = ([], js, refl, at, ([], tt, rw empty (tt, λ payload. refl), none, zero))
+begins second js behind loaded ts at empty none zero = ([], js, refl, at, ([], tt, rw empty (tt, λ payload. refl), none, zero))
 
-entries_push : (entries : List Json) (answers : List (Option Vrp)) (entry : Json) (answer : Option Vrp) → AreEntries entries answers → IsEntry entry (Ok answer) → AreEntries (entries ++ entry ∷ []) (answers ++ answer ∷ [])
-entries_push [] [] entry answer h k = (k, tt)
-entries_push [] (a ∷ answers) entry answer h k = absurd h
-entries_push (e ∷ entries) [] entry answer h k = absurd h
-entries_push (e ∷ entries) (a ∷ answers) entry answer h k = (h.0, entries_push entries answers entry answer h.1 k)
+entries_push : (second : Option ℕ) (entries : List Json) (answers : List (Option Vrp)) (entry : Json) (answer : Option Vrp) → AreEntriesAt second entries answers → IsEntryAt second entry answer → AreEntriesAt second (entries ++ entry ∷ []) (answers ++ answer ∷ [])
+entries_push second [] [] entry answer h k = (k, tt)
+entries_push second [] (a ∷ answers) entry answer h k = absurd h
+entries_push second (e ∷ entries) [] entry answer h k = absurd h
+entries_push second (e ∷ entries) (a ∷ answers) entry answer h k = (h.0, entries_push second entries answers entry answer h.1 k)
 
-load_push : (entries : List Json) (entry : Json) (answer : Option Vrp) (old new : Loaded) → IsLoadOf entries old → IsEntry entry (Ok answer) → TakesIn answer old new → IsLoadOf (entries ++ entry ∷ []) new
-load_push entries entry answer old new (answers, are, set, count, skipped) is t =
+load_push : (second : Option ℕ) (entries : List Json) (entry : Json) (answer : Option Vrp) (old new : Loaded) → IsLoadOfAt second entries old → IsEntryAt second entry answer → TakesIn answer old new → IsLoadOfAt second (entries ++ entry ∷ []) new
+load_push second entries entry answer old new (answers, are, set, count, skipped) is t =
     let more = rows_more answer old new t in
     let over = skipped_more answer old new t in (
       answers ++ answer ∷ [],
-      entries_push entries answers entry answer are is,
+      entries_push second entries answers entry answer are is,
       set_push answers answer old new set t,
       omega (arith, more, count, length-append entries (entry ∷ [])),
       omega (arith, over, skipped, count_push is_none answers answer),
     )
 
-module _ (js : Items) (behind : Members) (old : Loaded) (ts : List Token) (read : HasRead js behind old ts) where
+-- what entries say that are left at a second
+pub said_by : (second : Option ℕ) (entries : List Json) (answers : List (Option Vrp)) → AreEntriesAt second entries answers → (said : List (Option Vrp)) × AreEntries entries said
+said_by None entries answers h = (answers, h)
+said_by (Some second) [] [] h = ([], tt)
+said_by (Some second) [] (a ∷ answers) h = absurd h
+said_by (Some second) (e ∷ entries) [] h = absurd h
+said_by (Some second) (e ∷ entries) (a ∷ answers) h =
+    let more = said_by (Some second) entries answers h.1 in
+    (h.0.0 ∷ more.0, (h.0.1, more.1))
+
+module _ (second : Option ℕ) (js : Items) (behind : Members) (old : Loaded) (ts : List Token) (read : HasRead second js behind old ts) where
   -- one entry more was read
-  pub takes_more : (entry : Json) (answer : Option Vrp) (new : Loaded) (t : List Token) → after_end_array ts ≡ None → value 126 ts ≡ Some (entry, t) → IsEntry entry (Ok answer) → TakesIn answer old new → HasRead js behind new t
+  pub takes_more : (entry : Json) (answer : Option Vrp) (new : Loaded) (t : List Token) → after_end_array ts ≡ None → value 126 ts ≡ Some (entry, t) → IsEntryAt second entry answer → TakesIn answer old new → HasRead second js behind new t
   takes_more entry answer new t unclosed is entry_is taken =
       let (before, left, whole, at, load) = read in
       let (more, left_is, there) = next_item left behind ts t entry at unclosed is in (
@@ -53,11 +64,11 @@ module _ (js : Items) (behind : Members) (old : Loaded) (ts : List Token) (read 
         more,
         whole ∙ ap (λ l. before ++ entries_of l) left_is ∙ sym (append_assoc before (entry ∷ []) (entries_of more)),
         there,
-        load_push before entry answer old new load entry_is taken,
+        load_push second before entry answer old new load entry_is taken,
       )
 
   -- all were read
-  pub takes_all : (s : List Token) → after_end_array ts ≡ Some s → ReadsItems js behind (Ok old) s
+  pub takes_all : (s : List Token) → after_end_array ts ≡ Some s → ReadsItems second js behind (Ok old) s
   takes_all s end =
       let (before, left, whole, at, load) = read in
       let (none, there) = close_items left behind ts s at end in
@@ -67,7 +78,8 @@ module _ (js : Items) (behind : Members) (old : Loaded) (ts : List Token) (read 
   refuses entry why place t unclosed is entry_is here =
       let (before, left, whole, at, (answers, are, set, count, skipped)) = read in
       let (more, left_is, there) = next_item left behind ts t entry at unclosed is in
-      (before, entry, entries_of more, answers, whole ∙ ap (λ l. before ++ entries_of l) left_is, are, here ∙ count, entry_is)
+      let (said, they) = said_by second before answers are in
+      (before, entry, entries_of more, said, whole ∙ ap (λ l. before ++ entries_of l) left_is, they, here ∙ count, entry_is)
 
   -- the next entry is faulty, or memory ran out
   pub stops : (entry : Json) (fault : JsonFault) (place : ℕ) (t : List Token) → after_end_array ts ≡ None → value 126 ts ≡ Some (entry, t) → place ≡ old.rows

@@ -1,3 +1,4 @@
+pub mod ExpiredEntries
 pub mod ListFormats
 pub mod PayloadDocument
 pub mod PayloadEntries

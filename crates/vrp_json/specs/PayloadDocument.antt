@@ -71,7 +71,7 @@ AreRefused ms (Entry place fault) =
 AreRefused ms SecondRoas =
     (entries : Items) × (behind : Members) × HasRoas ms entries behind
     × (second : Json × Members) × (first_roas behind ≡ Some second)
-    × (loaded : Loaded) × IsLoadOf (entries_of entries) loaded
+    × (answers : List (Option Vrp)) × AreEntries (entries_of entries) answers
 AreRefused ms NoMemory = ⊤
 
 -- the value is a list that loads this

@@ -1,9 +1,10 @@
 -- Where a reader stands in a list, as the tokens that it has left (over the grammar of `json`).
-use Rattle.std.specs.Prelude.{◌≡◌, ℕ, Bool, true, false, List, [], ◌∷◌, ◌⊎◌, ⊤, None, Some, Result, Ok, Err}
+use Rattle.std.specs.Prelude.{◌≡◌, ℕ, Bool, true, false, List, [], ◌∷◌, ◌⊎◌, ⊤, Option, None, Some, Result, Ok, Err}
 use Rattle.json.specs.Json.{Json, Items, Members, array, items, members, read_key, value}
 use Rattle.json.specs.Token.{Token}
 use Rattle.vrp_csv.specs.declared.list.Loaded.{Loaded}
-use Rattle.vrp_json.specs.PayloadDocument.{HasFaultBehind, IsLoadOf, entries_of, first_roas, is_array}
+use Rattle.vrp_json.specs.ExpiredEntries.{IsLoadOfAt}
+use Rattle.vrp_json.specs.PayloadDocument.{HasFaultBehind, entries_of, first_roas, is_array}
 use Rattle.vrp_json.specs.declared.fault.JsonFault.{JsonFault}
 use Rattle.vrp_json.specs.declared.fault.JsonFault.TheVariants.{Text, NotObject, NoRoas, NotArray, Entry, SecondRoas, NoMemory}
 
@@ -72,14 +73,14 @@ AreRefusedItems entries (Entry place fault) = HasFaultBehind entries fault place
 AreRefusedItems entries SecondRoas = ⊥
 AreRefusedItems entries NoMemory = ⊤
 
--- what reading the items leads to
-abbrev pub ReadsItems : Items → Members → Result Loaded JsonFault → List Token → Type 0
-ReadsItems js behind (Ok loaded) ts = IsLoadOf (entries_of js) loaded × IsAtMembers behind ts
-ReadsItems js behind (Err fault) ts = AreRefusedItems (entries_of js) fault
+-- what reading the items at a second leads to
+abbrev pub ReadsItems : Option ℕ → Items → Members → Result Loaded JsonFault → List Token → Type 0
+ReadsItems second js behind (Ok loaded) ts = IsLoadOfAt second (entries_of js) loaded × IsAtMembers behind ts
+ReadsItems second js behind (Err fault) ts = AreRefusedItems (entries_of js) fault
 
--- what reading a member's value leads to
-abbrev pub ReadsValue : Json → Members → Result Loaded JsonFault → List Token → Type 0
-ReadsValue j behind (Ok loaded) ts =
-    (js : Items) × (j ≡ array js) × IsLoadOf (entries_of js) loaded × IsAtMembers behind ts
-ReadsValue j behind (Err fault) ts =
+-- what reading a member's value at a second leads to
+abbrev pub ReadsValue : Option ℕ → Json → Members → Result Loaded JsonFault → List Token → Type 0
+ReadsValue second j behind (Ok loaded) ts =
+    (js : Items) × (j ≡ array js) × IsLoadOfAt second (entries_of js) loaded × IsAtMembers behind ts
+ReadsValue second j behind (Err fault) ts =
     ((fault ≡ NotArray) × (is_array j ≡ false)) ⊎ ((js : Items) × (j ≡ array js) × AreRefusedItems (entries_of js) fault)

@@ -1,6 +1,7 @@
 //! The entries of a payload list.
-ghost use Rattle.std.specs.Prelude.{◌≡◌, ℕ, MatchOption, option_map};
+ghost use Rattle.std.specs.Prelude.{◌≡◌, ◌↔◌, ℕ, Err, IsTrue, MatchOption, MatchResult, option_map};
 ghost use Rattle.json.specs.Value.{value_view};
+ghost use Rattle.vrp_json.specs.ExpiredEntries.{IsEntryAt, IsExpired, expires_word};
 ghost use Rattle.vrp_json.specs.PayloadEntries.{GivesAsn, GivesMax, IsEntry, asn_word, is_object, max_word, prefix_word};
 
 use crate::fault::EntryFault;
@@ -10,9 +11,47 @@ use net_prefix::{Asn, Prefix, Vrp};
 // The most digits of a maximum length.
 const MAX_DIGITS: usize = 2;
 
-/// What an entry says: its payload, or none where it is skipped. The first fault of: it is no object; the AS; the prefix;
-/// the maximum length. A skipped entry's maximum length isn't looked at.
-pub(crate) fn read_entry(entry: &Value<'_>) -> Result<Option<Vrp>, EntryFault>
+/// What an entry says at this second since 1970: its payload, or none where it is skipped or has expired; without a second
+/// nothing expires. An entry that has expired may be at fault too.
+pub(crate) fn read_entry_at(
+    entry: &Value<'_>,
+    second: Option<u64>,
+) -> Result<Option<Vrp>, EntryFault>
+    ensures { MatchResult result (λ answer. IsEntryAt second (value_view entry.now) answer) (λ fault. IsEntry (value_view entry.now) (Err fault)) }
+{
+    let said = read_entry(entry)?;
+    let Some(second) = second else {
+        return Ok(said);
+    };
+    if is_expired(entry, second) {
+        return Ok(None);
+    }
+    Ok(said)
+}
+
+// Whether the entry has expired at this second.
+fn is_expired(entry: &Value<'_>, second: u64) -> bool
+    ensures { IsTrue result ↔ IsExpired second (value_view entry.now) }
+{
+    match expires_word(entry) {
+        Some(word) => vrp_csv::is_over(word.as_bytes(), second),
+        None => false,
+    }
+}
+
+// What the member `expires` has, which is a number.
+fn expires_word<'a>(entry: &Value<'a>) -> Option<&'a str>
+    ensures { option_map (λ s. s.now) result ≡ expires_word (value_view entry.now) }
+{
+    match entry.get("expires") {
+        Some(value) => value.as_number(),
+        None => None,
+    }
+}
+
+// What an entry says: its payload, or none where it is skipped. The first fault of: it is no object; the AS; the prefix;
+// the maximum length. A skipped entry's maximum length isn't looked at.
+fn read_entry(entry: &Value<'_>) -> Result<Option<Vrp>, EntryFault>
     ensures { IsEntry (value_view entry.now) result }
 {
     if !is_object(entry) {

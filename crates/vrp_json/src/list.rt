@@ -5,11 +5,12 @@ ghost use Rattle.json.specs.Json.{Items, Json, Members, document};
 ghost use Rattle.json.specs.Value.{value_view};
 ghost use Rattle.net_prefix.specs.declared.payload.Vrp.{Vrp};
 ghost use Rattle.vrp_csv.specs.TakenIn.{TakesIn};
-ghost use Rattle.vrp_json.specs.PayloadDocument.{AreRefused, IsLoad, IsLoadOfValue, IsNoJson, IsRefused, IsRefusedValue, Loads};
+ghost use Rattle.vrp_json.specs.ExpiredEntries.{IsEntryAt, IsLoadAt, IsLoadOfValueAt, LoadsAt};
+ghost use Rattle.vrp_json.specs.PayloadDocument.{AreRefused, IsLoad, IsNoJson, IsRefused, IsRefusedValue};
 ghost use Rattle.vrp_json.specs.PayloadEntries.{IsEntry};
 ghost use Rattle.vrp_json.specs.Places.{IsAtItems, IsAtMemberValue, IsAtMembers, IsAtValue, ReadsItems, ReadsValue};
 
-use crate::entry::read_entry;
+use crate::entry::read_entry_at;
 use crate::fault::{EntryFault, JsonFault};
 use crate::walk::{MEMBER_DEPTH, find_roas, open_array, open_object};
 use json::{MAX_DEPTH, Reader, Scratch, Value};
@@ -26,12 +27,20 @@ const ENTRY_DEPTH: usize = MEMBER_DEPTH - 1;
 pub fn read_list(alloc: Global, octets: &[u8]) -> Result<Loaded, JsonFault>
     ensures { MatchResult result (λ loaded. IsLoad octets.now loaded) (λ fault. IsRefused octets.now fault) }
 {
+    read_list_at(alloc, octets, None)
+}
+
+/// The same at this second since 1970: an entry whose `expires` is before it is skipped. Without a second nothing expires.
+/// Entries that have expired are checked as all others are.
+pub fn read_list_at(alloc: Global, octets: &[u8], second: Option<u64>) -> Result<Loaded, JsonFault>
+    ensures { MatchResult result (λ loaded. IsLoadAt second octets.now loaded) (λ fault. IsRefused octets.now fault) }
+{
     let mut scratch = Scratch::new(alloc);
     let text = checked_text(octets, &mut scratch)?;
     let Ok(mut reader) = Reader::new(text, &mut scratch) else {
         return Err(JsonFault::NoMemory);
     };
-    read_value(alloc, &mut reader)
+    read_value(alloc, &mut reader, second)
 }
 
 // The octets as a text that is one value of JSON.
@@ -62,23 +71,31 @@ fn json_end(text: &str, scratch: &mut Scratch) -> Result<Option<usize>, AllocErr
 }
 
 // The list that the value of a checked text is.
-fn read_value(alloc: Global, reader: &mut Reader<'_>) -> Result<Loaded, JsonFault>
-    ensures { (j : Json) → IsAtValue j reader.old → MatchResult result (λ loaded. IsLoadOfValue j loaded) (λ fault. IsRefusedValue j fault) }
+fn read_value(
+    alloc: Global,
+    reader: &mut Reader<'_>,
+    second: Option<u64>,
+) -> Result<Loaded, JsonFault>
+    ensures { (j : Json) → IsAtValue j reader.old → MatchResult result (λ loaded. IsLoadOfValueAt second j loaded) (λ fault. IsRefusedValue j fault) }
 {
     if !open_object(reader) {
         return Err(JsonFault::NotObject);
     }
-    read_members(alloc, reader)
+    read_members(alloc, reader, second)
 }
 
 // The list that the members of its object are.
-fn read_members(alloc: Global, reader: &mut Reader<'_>) -> Result<Loaded, JsonFault>
-    ensures { (ms : Members) → IsAtMembers ms reader.old → MatchResult result (λ loaded. Loads ms loaded) (λ fault. AreRefused ms fault) }
+fn read_members(
+    alloc: Global,
+    reader: &mut Reader<'_>,
+    second: Option<u64>,
+) -> Result<Loaded, JsonFault>
+    ensures { (ms : Members) → IsAtMembers ms reader.old → MatchResult result (λ loaded. LoadsAt second ms loaded) (λ fault. AreRefused ms fault) }
 {
     if !find_roas(reader) {
         return Err(JsonFault::NoRoas);
     }
-    let loaded = match read_roas(alloc, reader) {
+    let loaded = match read_roas(alloc, reader, second) {
         Ok(loaded) => loaded,
         Err(fault) => return Err(fault),
     };
@@ -89,18 +106,26 @@ fn read_members(alloc: Global, reader: &mut Reader<'_>) -> Result<Loaded, JsonFa
 }
 
 // The list that the value of the member `roas` is.
-fn read_roas(alloc: Global, reader: &mut Reader<'_>) -> Result<Loaded, JsonFault>
-    ensures { (j : Json) (behind : Members) → IsAtMemberValue j behind reader.old → ReadsValue j behind result reader.new }
+fn read_roas(
+    alloc: Global,
+    reader: &mut Reader<'_>,
+    second: Option<u64>,
+) -> Result<Loaded, JsonFault>
+    ensures { (j : Json) (behind : Members) → IsAtMemberValue j behind reader.old → ReadsValue second j behind result reader.new }
 {
     if !open_array(reader) {
         return Err(JsonFault::NotArray);
     }
-    read_entries(alloc, reader)
+    read_entries(alloc, reader, second)
 }
 
 // The list that the items of its array are.
-fn read_entries(alloc: Global, reader: &mut Reader<'_>) -> Result<Loaded, JsonFault>
-    ensures { (js : Items) (behind : Members) → IsAtItems js behind reader.old → ReadsItems js behind result reader.new }
+fn read_entries(
+    alloc: Global,
+    reader: &mut Reader<'_>,
+    second: Option<u64>,
+) -> Result<Loaded, JsonFault>
+    ensures { (js : Items) (behind : Members) → IsAtItems js behind reader.old → ReadsItems second js behind result reader.new }
 {
     let mut loaded = Loaded {
         set: BTreeSet::new(alloc),
@@ -115,7 +140,7 @@ fn read_entries(alloc: Global, reader: &mut Reader<'_>) -> Result<Loaded, JsonFa
         let Ok(entry) = Value::read(alloc, reader, ENTRY_DEPTH) else {
             return Err(JsonFault::NoMemory);
         };
-        if let Err(fault) = add(&mut loaded, &entry, place) {
+        if let Err(fault) = add(&mut loaded, &entry, place, second) {
             return Err(fault);
         }
     }
@@ -123,14 +148,19 @@ fn read_entries(alloc: Global, reader: &mut Reader<'_>) -> Result<Loaded, JsonFa
     Err(JsonFault::NoMemory)
 }
 
-// Takes in what the entry at this place says.
-fn add(loaded: &mut Loaded, entry: &Value<'_>, place: u64) -> Result<(), JsonFault>
+// Takes in what the entry at this place says at this second.
+fn add(
+    loaded: &mut Loaded,
+    entry: &Value<'_>,
+    place: u64,
+    second: Option<u64>,
+) -> Result<(), JsonFault>
     requires room { loaded.old.rows + 1 < 2 ^ 64 }
     requires skipped { loaded.old.skipped ≤ loaded.old.rows }
-    ensures ok { OnOk result ((answer : Option Vrp) × IsEntry (value_view entry.now) (Ok answer) × TakesIn answer loaded.old loaded.new) }
+    ensures ok { OnOk result ((answer : Option Vrp) × IsEntryAt second (value_view entry.now) answer × TakesIn answer loaded.old loaded.new) }
     ensures err { IfErr result (λ fault. ((why : EntryFault) × (fault ≡ JsonFault.Entry place why) × IsEntry (value_view entry.now) (Err why)) ⊎ (fault ≡ JsonFault.NoMemory)) }
 {
-    match read_entry(entry) {
+    match read_entry_at(entry, second) {
         Ok(Some(payload)) => {
             if loaded.set.insert(payload).is_err() {
                 return Err(JsonFault::NoMemory);

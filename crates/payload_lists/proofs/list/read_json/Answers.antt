@@ -7,4 +7,4 @@ returns-in-Err g c = λ rest left. c.fault_of.ensures _
 
 pub returns : goal.returns
 returns g c = λ rest left.
-    subst (λ (octets : List ℕ). IsRefused octets c.in-Err-read_list.fault) (c.as_slice.ensures.value ∙ (rw left at c.in_default.ensures.bytes)) c.in-Err-read_list.ensures
+    subst (λ (octets : List ℕ). IsRefused octets c.in-Err-read_list_at.fault) (c.as_slice.ensures.value ∙ (rw left at c.in_default.ensures.bytes)) c.in-Err-read_list_at.ensures

@@ -18,4 +18,4 @@ returns-in-Ok-read_under g c = record {
 
 pub returns-in-Err-read_under : goal.returns-in-Err-read_under
 returns-in-Err-read_under g c =
-    refused_behind g.L.Read.remaining c.args.sources.list c.args.sources.slurm _ c.in-Ok.loaded.set.keys c.in-Err-read_under.fault (c.in-Some.is ∙ ap (λ file. Some file) (sym c.in-Some.file-is)) (λ text is. (c.in-Ok.loaded, c.in-Ok.ensures text is, refl)) c.in-Err-read_under.ensures
+    refused_behind g.L.Read.remaining c.args.sources.second c.args.sources.list c.args.sources.slurm _ c.in-Ok.loaded.set.keys c.in-Err-read_under.fault (c.in-Some.is ∙ ap (λ file. Some file) (sym c.in-Some.file-is)) (λ text is. (c.in-Ok.loaded, c.in-Ok.ensures text is, refl)) c.in-Err-read_under.ensures

@@ -1,10 +1,5 @@
-use Rattle.vrp_csv.proofs.ReadRows.{of_records}
-use Rattle.vrp_csv.proofs.RecordLists.{all_left}
+use Rattle.vrp_csv.proofs.ReadRows.{read_at_none}
 use Rattle.vrp_csv.proofs.list.read_list.Goals as goal
 
 pub returns : goal.returns
-returns g c = λ text is.
-    let fresh = c.from_reader-reader.ensures in
-    let left = all_left g.R.Read.remaining c.from_reader-reader.result c.args.reader text fresh.source fresh.state is in
-    let (header, rows, whole, is_header, width, after) = c.in-Ok.ensures.header _ left in
-    of_records _ header rows c.in-Ok.width c.read_rows.result whole is_header width (c.read_rows.ensures rows after)
+returns g c = λ text is. read_at_none _ c.read_list_at.result (c.read_list_at.ensures text is)

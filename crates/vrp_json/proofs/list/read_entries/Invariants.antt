@@ -7,4 +7,4 @@ use Rattle.vrp_json.proofs.list.read_entries.Given as goal
 abbrev pub invariant-loop-place : goal.invariant-loop-place
 invariant-loop-place l =
     (l.loaded.rows ≡ l.place) × (l.loaded.skipped ≤ l.loaded.rows)
-    × ((js : Items) (behind : Members) → IsAtItems js behind l.fn.reader → HasRead js behind l.loaded l.reader)
+    × ((js : Items) (behind : Members) → IsAtItems js behind l.fn.reader → HasRead l.fn.second js behind l.loaded l.reader)

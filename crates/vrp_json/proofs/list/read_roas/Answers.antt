@@ -11,4 +11,4 @@ returns-then-not-open_array c = λ j behind at.
 pub returns : goal.returns
 returns c = λ j behind at.
     let (js, is, items) = enter_array j behind c.args.reader.now c.open_array.new.reader at (c.open_array.ensures.passed c.if-not-open_array.false) in
-    of_items j js behind c.read_entries.result c.read_entries.new.reader is (c.read_entries.ensures js behind items)
+    of_items c.args.second j js behind c.read_entries.result c.read_entries.new.reader is (c.read_entries.ensures js behind items)

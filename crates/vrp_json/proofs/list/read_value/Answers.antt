@@ -10,4 +10,4 @@ returns-then-not-open_object c = λ j at.
 pub returns : goal.returns
 returns c = λ j at.
     let (ms, is, members) = enter_object j c.args.reader.now c.open_object.new.reader at (c.open_object.ensures.passed c.if-not-open_object.false) in
-    of_object j ms c.read_members.result is (c.read_members.ensures ms members)
+    of_object c.args.second j ms c.read_members.result is (c.read_members.ensures ms members)
