@@ -5,6 +5,7 @@ use std::alloc::{AllocError, AllocGlobal, Global};
 use std::fs;
 use std::io::{self, ErrorKind};
 use std::net::Net;
+use std::os::unix::fs::FileTypeExt;
 use std::os::unix::net::{UnixListener, UnixStream};
 use std::rt::Files;
 
@@ -124,10 +125,21 @@ fn bound<R: Net + Files + AllocGlobal>(rt: &R, path: &str) -> io::Result<UnixLis
     }
 }
 
-// Whether the socket at the path is one at which nobody listens.
-fn is_left<R: Net>(rt: &R, path: &str) -> bool {
+// Whether there is a socket at the path, at which nobody listens.
+fn is_left<R: Net + Files + AllocGlobal>(rt: &R, path: &str) -> bool {
+    if !is_socket(rt, path) {
+        return false;
+    }
     match UnixStream::connect(rt, path) {
         Ok(_) => false,
         Err(error) => error.kind() == ErrorKind::ConnectionRefused,
+    }
+}
+
+// Whether what stands at the path is a socket, and no file of another kind.
+fn is_socket<R: Files + AllocGlobal>(rt: &R, path: &str) -> bool {
+    match fs::symlink_metadata(rt, path) {
+        Ok(metadata) => metadata.file_type().is_socket(),
+        Err(_) => false,
     }
 }

@@ -1,9 +1,9 @@
 //! Operators at a Unix socket.
 //!
 //! `ControlSocket` listens at a path of the file system, and has a place for each of 16 operators. Nothing in it waits. Where
-//! the path has the socket of a program that is gone, that is taken away first; where one listens there, it isn't. Who may
-//! connect is said by the permissions of the path and its folders. What is read and written on the system's sockets is shown
-//! by tests.
+//! the path has the socket of a program that is gone, that is taken away first; where one listens there, or a file of another
+//! kind stands there, it isn't. Who may connect is said by the permissions of the path and its folders. What is read and
+//! written on the system's sockets is looked at by `bench/operators.py`.
 #![tactic(auto)]
 
 mod control_socket;
