@@ -1,5 +1,5 @@
 -- A served list before its first turn, and one that was served.
-use Rattle.std.proofs.Common.{◌≡◌, ℕ, Bool, true, false, List, [], ◌∷◌, Option, Result, Ok, if◌then◌else◌, length, sym, subst, ap, ◌∙◌}
+use Rattle.std.proofs.Common.{◌≡◌, ℕ, Bool, true, false, List, [], ◌∷◌, Option, Result, Ok, if◌then◌else◌, is_some, length, sym, subst, ap, ◌∙◌}
 use Rattle.std.specs.declared.net.socket_addr.SocketAddr.{SocketAddr}
 use Rattle.cache_turns.proofs.Listening.{listens_on}
 use Rattle.cache_turns.specs.Turns.{Turns}
@@ -7,6 +7,7 @@ use Rattle.list_guards.specs.declared.Guards.{Guards}
 use Rattle.net_prefix.specs.declared.payload.Vrp.{Vrp}
 use Rattle.vrp_delta.specs.Versions.{Version}
 use Rattle.wires.specs.Wires.{WireState, nothing_told}
+use Rattle.cache_desk.specs.declared.reading.Reading.{Reading}
 use Rattle.cache_settings.specs.declared.settings.CacheSettings.{CacheSettings}
 use Rattle.payload_sources.specs.PayloadSources.{SourceTexts}
 use Rattle.payload_sources.specs.declared.fault.SourceFile.{SourceFile}
@@ -15,7 +16,7 @@ use Rattle.cache_program.proofs.ServedTurns.{served_are_steps}
 use Rattle.cache_program.specs.FirstList.{IsFirst}
 use Rattle.cache_program.specs.Passing.{have_passed}
 use Rattle.cache_program.specs.Rereads.{IsNewest, RereadsWhenDue, Served, newest_set}
-use Rattle.cache_program.specs.ServedTurns.{IsBegun, IsServed, ServesAll, ServesOnce, ServesSoMany}
+use Rattle.cache_program.specs.ServedTurns.{IsBegun, IsServed, Moment, ServesAll, ServesOnce, ServesSoMany, is_accepted, is_read}
 use Rattle.cache_watch.specs.declared.reread.Reread.{Reread}
 
 -- the set that is published first is that of the newest version
@@ -29,32 +30,32 @@ first_is_newest Lists guards kept serial set first = record {
 }
 
 -- it began, and then so many turns were taken
-pub is_served : (Lists : Result SourceTexts SourceFile → Type 0) (Wires : WireState → Type 0) (Seconds : ℕ → Type 0) (settings : CacheSettings) (count start : ℕ) (before mid behind : List ℕ) (begun served : Served)
-    → mid ≡ start ∷ before → IsBegun Lists Wires Seconds settings begun → ServesSoMany Lists settings.reread count mid behind begun served → IsServed Lists Wires Seconds settings count before behind served
-is_served Lists Wires Seconds settings count start before mid behind begun served read begins takes = record {
+pub is_served : (Lists : Result SourceTexts SourceFile → Type 0) (Wires : WireState → Type 0) (Seconds : ℕ → Type 0) (settings : CacheSettings) (may_ask : Bool) (count start : ℕ) (before mid behind : List ℕ) (begun served : Served)
+    → mid ≡ start ∷ before → may_ask ≡ is_some settings.control → IsBegun Lists Wires Seconds settings begun → ServesSoMany Lists settings.reread may_ask count mid behind begun served → IsServed Lists Wires Seconds settings count before behind served
+is_served Lists Wires Seconds settings may_ask count start before mid behind begun served read is begins takes = record {
   begun = begun;
   start = start;
   begins = begins;
-  takes = subst (λ (b : List ℕ). ServesSoMany Lists settings.reread count b behind begun served) read takes;
+  takes = subst (λ (may : Bool). ServesSoMany Lists settings.reread may count (start ∷ before) behind begun served) is (subst (λ (b : List ℕ). ServesSoMany Lists settings.reread may_ask count b behind begun served) read takes);
 }
 
 -- the same, as others say what the system has answered
-due_as : (Lists Others : Result SourceTexts SourceFile → Type 0) → ((sources : Result SourceTexts SourceFile) → Lists sources → Others sources) → (is_due : Bool) (now : ℕ) (old : Served) (answer : Option Reread) (new : Served) → RereadsWhenDue Lists is_due now old answer new → RereadsWhenDue Others is_due now old answer new
-due_as Lists Others so false now old answer new none = none
-due_as Lists Others so true now old answer new rereads = (rereads.0, rereads.1, rereads.2, so rereads.2 rereads.3, rereads.4)
+due_as : (Lists Others : Result SourceTexts SourceFile → Type 0) → ((sources : Result SourceTexts SourceFile) → Lists sources → Others sources) → (accepts is_due : Bool) (now : ℕ) (old : Served) (answer : Option Reread) (new : Served) → RereadsWhenDue Lists accepts is_due now old answer new → RereadsWhenDue Others accepts is_due now old answer new
+due_as Lists Others so accepts false now old answer new none = none
+due_as Lists Others so accepts true now old answer new rereads = (rereads.0, rereads.1, rereads.2, so rereads.2 rereads.3, rereads.4)
 
-once_as : (Lists Others : Result SourceTexts SourceFile → Type 0) → ((sources : Result SourceTexts SourceFile) → Lists sources → Others sources) → (is_due : Bool) (now : ℕ) (old new : Served) → ServesOnce Lists is_due now old new → ServesOnce Others is_due now old new
-once_as Lists Others so is_due now old new once = record {
+once_as : (Lists Others : Result SourceTexts SourceFile → Type 0) → ((sources : Result SourceTexts SourceFile) → Lists sources → Others sources) → (asked : Option Reading) (is_due : Bool) (now : ℕ) (old new : Served) → ServesOnce Lists asked is_due now old new → ServesOnce Others asked is_due now old new
+once_as Lists Others so asked is_due now old new once = record {
   between = once.between;
-  rereads = (once.rereads.0, due_as Lists Others so is_due now old once.rereads.0 once.between once.rereads.1);
+  rereads = (once.rereads.0, due_as Lists Others so (is_accepted asked) (is_read asked is_due) now old once.rereads.0 once.between once.rereads.1);
   takes = once.takes;
   same = once.same;
 }
 
-all_as : (Lists Others : Result SourceTexts SourceFile → Type 0) → ((sources : Result SourceTexts SourceFile) → Lists sources → Others sources) → (seconds : Option ℕ) (last : ℕ) (moments : List ℕ) (old new : Served) → ServesAll Lists seconds last moments old new → ServesAll Others seconds last moments old new
+all_as : (Lists Others : Result SourceTexts SourceFile → Type 0) → ((sources : Result SourceTexts SourceFile) → Lists sources → Others sources) → (seconds : Option ℕ) (last : ℕ) (moments : List Moment) (old new : Served) → ServesAll Lists seconds last moments old new → ServesAll Others seconds last moments old new
 all_as Lists Others so seconds last [] old new same = same
-all_as Lists Others so seconds last (now ∷ moments) old new all =
-    (all.0, once_as Lists Others so (have_passed seconds last now) now old all.0 all.1, all_as Lists Others so seconds (if have_passed seconds last now then now else last) moments all.0 new all.2)
+all_as Lists Others so seconds last (at ∷ moments) old new all =
+    (all.0, once_as Lists Others so at.asked (have_passed seconds last at.now) at.now old all.0 all.1, all_as Lists Others so seconds (if have_passed seconds last at.now then at.now else last) moments all.0 new all.2)
 
 pub served_as : (Lists Others : Result SourceTexts SourceFile → Type 0) (Wires Opened : WireState → Type 0) (Seconds Told : ℕ → Type 0) (settings : CacheSettings) (count : ℕ) (before behind : List ℕ) (served : Served)
     → IsServed Lists Wires Seconds settings count before behind served
@@ -75,6 +76,7 @@ served_as Lists Others Wires Opened Seconds Told settings count before behind se
         first = record { sources = begun.first.sources; given = lists (Ok begun.first.sources) begun.first.given; passes = begun.first.passes; kept_is = begun.first.kept_is; serial_is = begun.first.serial_is };
         payloads = begun.payloads;
         guards = begun.guards;
+        accepted = begun.accepted;
         listens = wires begun.wire begun.listens;
         turns = begun.turns;
       };
@@ -83,7 +85,8 @@ served_as Lists Others Wires Opened Seconds Told settings count before behind se
         serves = all_as Lists Others lists settings.reread 0 is.takes.moments is.begun served is.takes.serves;
         told = is.takes.told;
         forward = is.takes.forward;
-        counted = is.takes.counted;
+        few = is.takes.few;
+        all = is.takes.all;
       };
     }
 

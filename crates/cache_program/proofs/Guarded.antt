@@ -1,5 +1,6 @@
 -- What is served behind each moment is guarded.
-use Rattle.std.proofs.Common.{◌≡◌, ℕ, Bool, true, false, List, [], ◌∷◌, Option, Result, Ok, Err, if◌then◌else◌, sym, ap, subst, ◌∙◌}
+use Rattle.std.proofs.Common.{◌≡◌, ◌⊎◌, inl, inr, ℕ, Bool, true, false, List, [], ◌∷◌, Option, None, Result, Ok, Err, if◌then◌else◌, is_some, refl, sym, ap, subst, ◌∙◌}
+use Rattle.std.proofs.lemmas.Bool.{false≢true}
 use Rattle.cache_turns.proofs.Keeping.{turn_keeps}
 use Rattle.list_guards.proofs.Passing.{passes}
 use Rattle.list_guards.specs.Guarding.{HasEnough}
@@ -7,6 +8,7 @@ use Rattle.list_guards.specs.declared.Guards.{Guards}
 use Rattle.net_prefix.specs.declared.payload.Vrp.{Vrp}
 use Rattle.rtr_cache.specs.CacheTable.{Shared}
 use Rattle.wires.specs.Wires.{WireState}
+use Rattle.cache_desk.specs.declared.reading.Reading.{Reading}
 use Rattle.cache_settings.specs.declared.settings.CacheSettings.{CacheSettings}
 use Rattle.cache_turns.specs.Turns.{Turns}
 use Rattle.payload_sources.specs.PayloadSources.{SourceTexts}
@@ -15,67 +17,83 @@ use Rattle.cache_program.proofs.Begun.{first_is_newest_set}
 use Rattle.cache_program.proofs.Newest.{newest_set-kept_after}
 use Rattle.cache_program.specs.Passing.{have_passed}
 use Rattle.cache_program.specs.Rereads.{HandsIn, Publishes, Rereads, RereadsFile, RereadsWhenDue, Served, newest_set, served_set, versions}
-use Rattle.cache_program.specs.ServedTurns.{IsBegun, IsServed, ServesAll, ServesOnce}
+use Rattle.cache_program.specs.ServedTurns.{IsBegun, IsServed, Moment, NobodyAsks, ServesAll, ServesOnce, is_accepted, is_read}
 use Rattle.cache_watch.specs.declared.reread.Reread.{Reread}
 use Rattle.cache_watch.specs.declared.reread.Reread.TheVariants.{Refused, Same, Published}
 
--- the guards stay, and what is served has enough if it had
-record Stays (old new : Served) : Type 0 where
-  pub guards : new.guards ≡ old.guards
-  pub enough : HasEnough old.guards (served_set old) → HasEnough old.guards (served_set new)
+-- what is served has enough, or an operator has accepted it, where one may
+abbrev pub IsWell : Bool → Guards → Served → Type 0
+IsWell may guards s = ((may ≡ true) × (s.accepted ≡ true)) ⊎ HasEnough guards (served_set s)
 
-stays_same : (old new : Served) → new ≡ old → Stays old new
-stays_same old new same = record {
+-- the guards stay, and what is served is well if it was
+record Stays (may : Bool) (old new : Served) : Type 0 where
+  pub guards : new.guards ≡ old.guards
+  pub well : IsWell may old.guards old → IsWell may old.guards new
+
+stays_same : (may : Bool) (old new : Served) → new ≡ old → Stays may old new
+stays_same may old new same = record {
   guards = ap (λ (s : Served). s.guards) same;
-  enough = λ enough. subst (λ (s : Served). HasEnough old.guards (served_set s)) (sym same) enough;
+  well = λ well. subst (λ (s : Served). IsWell may old.guards s) (sym same) well;
 }
 
-handed_set : (now : ℕ) (set : List Vrp) (old : Served) (under : ℕ) (new : Served) → HandsIn now set old under new → served_set new ≡ set
-handed_set now set old under new handed =
+handed_set : (accepts : Bool) (now : ℕ) (set : List Vrp) (old : Served) (under : ℕ) (new : Served) → HandsIn accepts now set old under new → served_set new ≡ set
+handed_set accepts now set old under new handed =
     ap (λ (shared : Shared). newest_set shared.kept) handed.makes.0.0 ∙ newest_set-kept_after (versions old) set
 
-stays_handed : (now : ℕ) (set : List Vrp) (old : Served) (under : ℕ) (new : Served) → HandsIn now set old under new → Stays old new
-stays_handed now set old under new handed = record {
-  guards = handed.guards;
-  enough = λ before. subst (λ (s : List Vrp). HasEnough old.guards s) (sym (handed_set now set old under new handed)) (passes old.guards (served_set old) set handed.passes).0;
-}
+well_handed : (may accepts : Bool) (now : ℕ) (set : List Vrp) (old : Served) (under : ℕ) (new : Served) → (accepts ≡ true → may ≡ true) → HandsIn accepts now set old under new → IsWell may old.guards new
+well_handed may true now set old under new allowed handed = inl (allowed refl, handed.accepted)
+well_handed may false now set old under new allowed handed =
+    inr (subst (λ (s : List Vrp). HasEnough old.guards s) (sym (handed_set false now set old under new handed)) (passes old.guards (served_set old) set handed.passes).0)
 
-stays_published : (now : ℕ) (set : List Vrp) (old : Served) (led : Reread) (new : Served) → Publishes now set old led new → Stays old new
-stays_published now set old (Refused why) new refused = stays_same old new refused.1
-stays_published now set old Same new same = stays_handed now set old _ new same.2
-stays_published now set old (Published serial) new published = stays_handed now set old serial new published.2
+stays_handed : (may accepts : Bool) (now : ℕ) (set : List Vrp) (old : Served) (under : ℕ) (new : Served) → (accepts ≡ true → may ≡ true) → HandsIn accepts now set old under new → Stays may old new
+stays_handed may accepts now set old under new allowed handed = record { guards = handed.guards; well = λ before. well_handed may accepts now set old under new allowed handed }
 
-stays_by_file : (now : ℕ) (file : SourceTexts) (old : Served) (led : Reread) (new : Served) → RereadsFile now file old led new → Stays old new
-stays_by_file now file old (Refused why) new refused = stays_same old new refused.1
-stays_by_file now file old Same new same = stays_published now same.0 old Same new same.2
-stays_by_file now file old (Published serial) new published = stays_published now published.0 old (Published serial) new published.2
+stays_published : (may accepts : Bool) (now : ℕ) (set : List Vrp) (old : Served) (led : Reread) (new : Served) → (accepts ≡ true → may ≡ true) → Publishes accepts now set old led new → Stays may old new
+stays_published may accepts now set old (Refused why) new allowed refused = stays_same may old new refused.1
+stays_published may accepts now set old Same new allowed same = stays_handed may accepts now set old _ new allowed same.2
+stays_published may accepts now set old (Published serial) new allowed published = stays_handed may accepts now set old serial new allowed published.2
 
-stays_reread : (now : ℕ) (sources : Result SourceTexts SourceFile) (old : Served) (led : Reread) (new : Served) → Rereads now sources old led new → Stays old new
-stays_reread now (Err file) old led new none = stays_same old new none.1
-stays_reread now (Ok file) old led new rereads = stays_by_file now file old led new rereads
+stays_by_file : (may accepts : Bool) (now : ℕ) (file : SourceTexts) (old : Served) (led : Reread) (new : Served) → (accepts ≡ true → may ≡ true) → RereadsFile accepts now file old led new → Stays may old new
+stays_by_file may accepts now file old (Refused why) new allowed refused = stays_same may old new refused.1
+stays_by_file may accepts now file old Same new allowed same = stays_published may accepts now same.0 old Same new allowed same.2
+stays_by_file may accepts now file old (Published serial) new allowed published = stays_published may accepts now published.0 old (Published serial) new allowed published.2
 
-stays_due : (Lists : Result SourceTexts SourceFile → Type 0) (is_due : Bool) (now : ℕ) (old : Served) (answer : Option Reread) (new : Served) → RereadsWhenDue Lists is_due now old answer new → Stays old new
-stays_due Lists false now old answer new none = stays_same old new none.1
-stays_due Lists true now old answer new rereads = stays_reread now rereads.2 old rereads.0 new rereads.4
+stays_reread : (may accepts : Bool) (now : ℕ) (sources : Result SourceTexts SourceFile) (old : Served) (led : Reread) (new : Served) → (accepts ≡ true → may ≡ true) → Rereads accepts now sources old led new → Stays may old new
+stays_reread may accepts now (Err file) old led new allowed none = stays_same may old new none.1
+stays_reread may accepts now (Ok file) old led new allowed rereads = stays_by_file may accepts now file old led new allowed rereads
+
+stays_due : (Lists : Result SourceTexts SourceFile → Type 0) (may accepts is_due : Bool) (now : ℕ) (old : Served) (answer : Option Reread) (new : Served) → (accepts ≡ true → may ≡ true) → RereadsWhenDue Lists accepts is_due now old answer new → Stays may old new
+stays_due Lists may accepts false now old answer new allowed none = stays_same may old new none.1
+stays_due Lists may accepts true now old answer new allowed rereads = stays_reread may accepts now rereads.2 old rereads.0 new allowed rereads.4
+
+-- it is so as long as the set stays, and who accepted it
+well_behind : (may : Bool) (guards : Guards) (old new : Served) → served_set new ≡ served_set old → new.accepted ≡ old.accepted → IsWell may guards old → IsWell may guards new
+well_behind may guards old new set accepted (inl is) = inl (is.0, accepted ∙ is.1)
+well_behind may guards old new set accepted (inr enough) = inr (subst (λ (s : List Vrp). HasEnough guards s) (sym set) enough)
 
 -- a turn publishes nothing
-stays_once : (Lists : Result SourceTexts SourceFile → Type 0) (is_due : Bool) (now : ℕ) (old new : Served) → ServesOnce Lists is_due now old new → Stays old new
-stays_once Lists is_due now old new once =
-    let between = stays_due Lists is_due now old once.rereads.0 once.between once.rereads.1 in
+stays_once : (Lists : Result SourceTexts SourceFile → Type 0) (may : Bool) (asked : Option Reading) (is_due : Bool) (now : ℕ) (old new : Served) → (is_accepted asked ≡ true → may ≡ true) → ServesOnce Lists asked is_due now old new → Stays may old new
+stays_once Lists may asked is_due now old new allowed once =
+    let between = stays_due Lists may (is_accepted asked) (is_read asked is_due) now old once.rereads.0 once.between allowed once.rereads.1 in
     let kept = turn_keeps now once.between.turns new.turns (Ok tt) once.takes in
     record {
       guards = ap (λ (s : Served). s.guards) once.same ∙ between.guards;
-      enough = λ enough. subst (λ (set : List Vrp). HasEnough old.guards set) (sym (ap newest_set kept)) (between.enough enough);
+      well = λ before. well_behind may old.guards once.between new (ap newest_set kept) (ap (λ (s : Served). s.accepted) once.same) (between.well before);
     }
 
+-- where nobody may ask for a reading nobody accepts one
+only_where_one_may : (may : Bool) (asked : Option Reading) → (may ≡ false → asked ≡ None) → is_accepted asked ≡ true → may ≡ true
+only_where_one_may true asked none accepted = refl
+only_where_one_may false asked none accepted = absurd (false≢true (sym (ap is_accepted (none refl)) ∙ accepted))
+
 -- behind all moments
-all_enough : (Lists : Result SourceTexts SourceFile → Type 0) (seconds : Option ℕ) (last : ℕ) (moments : List ℕ) (guards : Guards) (old new : Served) → ServesAll Lists seconds last moments old new
-    → old.guards ≡ guards → HasEnough guards (served_set old) → HasEnough guards (served_set new)
-all_enough Lists seconds last [] guards old new same is enough = subst (λ (s : Served). HasEnough guards (served_set s)) (sym same) enough
-all_enough Lists seconds last (now ∷ moments) guards old new all is enough =
-    let stays = stays_once Lists (have_passed seconds last now) now old all.0 all.1 in
-    all_enough Lists seconds (if have_passed seconds last now then now else last) moments guards all.0 new all.2 (stays.guards ∙ is)
-    (subst (λ (g : Guards). HasEnough g (served_set all.0)) is (stays.enough (subst (λ (g : Guards). HasEnough g (served_set old)) (sym is) enough)))
+all_well : (Lists : Result SourceTexts SourceFile → Type 0) (seconds : Option ℕ) (may : Bool) (last : ℕ) (moments : List Moment) (guards : Guards) (old new : Served) → ServesAll Lists seconds last moments old new
+    → (may ≡ false → NobodyAsks moments) → old.guards ≡ guards → IsWell may guards old → IsWell may guards new
+all_well Lists seconds may last [] guards old new same nobody is well = subst (λ (s : Served). IsWell may guards s) (sym same) well
+all_well Lists seconds may last (at ∷ moments) guards old new all nobody is well =
+    let stays = stays_once Lists may at.asked (have_passed seconds last at.now) at.now old all.0 (only_where_one_may may at.asked (λ off. (nobody off).0)) all.1 in
+    all_well Lists seconds may (if have_passed seconds last at.now then at.now else last) moments guards all.0 new all.2 (λ off. (nobody off).1) (stays.guards ∙ is)
+    (subst (λ (g : Guards). IsWell may g all.0) is (stays.well (subst (λ (g : Guards). IsWell may g old) (sym is) well)))
 
 first_enough : (Lists : Result SourceTexts SourceFile → Type 0) (Wires : WireState → Type 0) (Seconds : ℕ → Type 0) (settings : CacheSettings) (served : Served) → IsBegun Lists Wires Seconds settings served → HasEnough settings.guards (served_set served)
 first_enough Lists Wires Seconds settings served begun =
@@ -84,7 +102,7 @@ first_enough Lists Wires Seconds settings served begun =
     (newest ∙ sym (ap (λ (turns : Turns). newest_set turns.cache.shared.kept) begun.turns))
     (passes settings.guards [] begun.set begun.first.passes.1).0
 
-pub served_enough : (Lists : Result SourceTexts SourceFile → Type 0) (Wires : WireState → Type 0) (Seconds : ℕ → Type 0) (settings : CacheSettings) (count : ℕ) (before behind : List ℕ) (served : Served)
-    → IsServed Lists Wires Seconds settings count before behind served → HasEnough settings.guards (served_set served)
-served_enough Lists Wires Seconds settings count before behind served is =
-    all_enough Lists settings.reread 0 is.takes.moments settings.guards is.begun served is.takes.serves is.begins.guards (first_enough Lists Wires Seconds settings is.begun is.begins)
+pub served_well : (Lists : Result SourceTexts SourceFile → Type 0) (Wires : WireState → Type 0) (Seconds : ℕ → Type 0) (settings : CacheSettings) (count : ℕ) (before behind : List ℕ) (served : Served)
+    → IsServed Lists Wires Seconds settings count before behind served → IsWell (is_some settings.control) settings.guards served
+served_well Lists Wires Seconds settings count before behind served is =
+    all_well Lists settings.reread (is_some settings.control) 0 is.takes.moments settings.guards is.begun served is.takes.serves (λ off. (is.takes.all off).1) is.begins.guards (inr (first_enough Lists Wires Seconds settings is.begun is.begins))

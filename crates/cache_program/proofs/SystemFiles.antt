@@ -1,10 +1,11 @@
 -- Files that are opened at their paths, as the system's.
-use Rattle.std.proofs.Common.{◌≡◌, ℕ, List, Option, Some, None, Result, Ok, Err, refl, sym, ap, ◌∙◌}
+use Rattle.std.proofs.Common.{◌≡◌, ℕ, List, Option, Some, None, Result, Ok, Err, MatchResult, option_map, string_bytes}
 use Rattle.file_paths.specs.OpenedFiles.{OpenedFile}
 use Rattle.payload_sources.specs.OpenedSources.{Gives, Opens, OpensBehind, OpensThen, opened}
 use Rattle.payload_sources.specs.PayloadSources.{SourceTexts}
 use Rattle.payload_sources.specs.declared.fault.SourceFile.{SourceFile}
-use Rattle.cache_program.specs.Opened.{IsOpenedAt}
+use Rattle.cache_settings.specs.declared.settings.CacheSettings.{CacheSettings}
+use Rattle.cache_program.specs.Opened.{Gives as GivesFiles, IsOpenedAt, SystemGives, expiring_at}
 
 abbrev text_of : OpenedFile → Option (List ℕ)
 text_of file = file.text
@@ -17,18 +18,25 @@ module _ {E : Type 0} (Answers : List ℕ → Result OpenedFile E → Type 0) (t
       by_file (Ok file) answers is = (Ok file, there path file answers, is)
       by_file (Err why) answers is = (Err tt, tt, is)
 
-  behind_so : (slurm : Option (List ℕ)) (list : Option (List ℕ)) (sources : Result SourceTexts SourceFile) → OpensBehind Answers text_of slurm list sources → OpensBehind IsOpenedAt text_of slurm list sources
-  behind_so None list sources is = is
-  behind_so (Some path) list sources opens = (opens.0, given_so path opens.0 opens.1, opens.2)
+  behind_so : (second : Option ℕ) (slurm : Option (List ℕ)) (list : Option (List ℕ)) (sources : Result SourceTexts SourceFile) → OpensBehind Answers text_of second slurm list sources → OpensBehind IsOpenedAt text_of second slurm list sources
+  behind_so second None list sources is = is
+  behind_so second (Some path) list sources opens = (opens.0, given_so path opens.0 opens.1, opens.2)
 
-  then_so : (slurm : Option (List ℕ)) (list : Option (Option (List ℕ))) (sources : Result SourceTexts SourceFile) → OpensThen Answers text_of slurm list sources → OpensThen IsOpenedAt text_of slurm list sources
-  then_so slurm None sources is = is
-  then_so slurm (Some list) sources opens = behind_so slurm list sources opens
+  then_so : (second : Option ℕ) (slurm : Option (List ℕ)) (list : Option (Option (List ℕ))) (sources : Result SourceTexts SourceFile) → OpensThen Answers text_of second slurm list sources → OpensThen IsOpenedAt text_of second slurm list sources
+  then_so second slurm None sources is = is
+  then_so second slurm (Some list) sources opens = behind_so second slurm list sources opens
 
-  opens_so : (csv : List ℕ) (slurm : Option (List ℕ)) (sources : Result SourceTexts SourceFile) → Opens Answers text_of csv slurm sources → Opens IsOpenedAt text_of csv slurm sources
-  opens_so csv slurm sources opens = (opens.0, given_so csv opens.0 opens.1, then_so slurm opens.0 sources opens.2)
+  opens_so : (second : Option ℕ) (csv : List ℕ) (slurm : Option (List ℕ)) (sources : Result SourceTexts SourceFile) → Opens Answers text_of second csv slurm sources → Opens IsOpenedAt text_of second csv slurm sources
+  opens_so second csv slurm sources opens = (opens.0, given_so csv opens.0 opens.1, then_so second slurm opens.0 sources opens.2)
 
 -- so are files that a call of a closure opens, if it opens each where it is asked to
-pub opens_as : {E : Type 0} (Answers : List ℕ → Result OpenedFile E → Type 0) (csv : List ℕ) (slurm : Option (List ℕ)) (sources : Result SourceTexts SourceFile) → Opens Answers text_of csv slurm sources
-    → ((path : List ℕ) (file : OpenedFile) → Answers path (Ok file) → file.path ≡ path) → Opens IsOpenedAt text_of csv slurm sources
-opens_as Answers csv slurm sources opens there = opens_so Answers there csv slurm sources opens
+pub opens_as : {E : Type 0} (Answers : List ℕ → Result OpenedFile E → Type 0) (settings : CacheSettings) (sources : Result SourceTexts SourceFile) → GivesFiles Answers text_of settings sources
+    → ((path : List ℕ) (file : OpenedFile) → Answers path (Ok file) → file.path ≡ path) → SystemGives settings sources
+opens_as Answers settings sources (second, opens) there = (second, opens_so Answers there (expiring_at settings second) (string_bytes settings.csv) (option_map string_bytes settings.slurm) sources opens)
+
+-- files that are opened to be read at a second are read at some second
+pub at_second : {L E S U : Type 0} (Answers : List ℕ → Result L E → Type 0) (remaining : L → Option (List ℕ)) (settings : CacheSettings) (second : ℕ) (r : Result S U) (texts : S → SourceTexts) (which : U → SourceFile)
+    → MatchResult r (λ s. Opens Answers remaining (expiring_at settings second) (string_bytes settings.csv) (option_map string_bytes settings.slurm) (Ok (texts s))) (λ u. Opens Answers remaining (expiring_at settings second) (string_bytes settings.csv) (option_map string_bytes settings.slurm) (Err (which u)))
+    → MatchResult r (λ s. GivesFiles Answers remaining settings (Ok (texts s))) (λ u. GivesFiles Answers remaining settings (Err (which u)))
+at_second Answers remaining settings second (Ok s) texts which h = (second, h)
+at_second Answers remaining settings second (Err u) texts which h = (second, h)

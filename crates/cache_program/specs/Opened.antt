@@ -1,6 +1,6 @@
 -- What the system answers: what paths lead to, what listens, and which second it is. What it has to do with the system's
 -- files, sockets and clock is trusted.
-use Rattle.std.specs.Prelude.{◌≡◌, ℕ, List, Option, Result, Ok, Err, option_map, string_bytes, ⊤}
+use Rattle.std.specs.Prelude.{◌≡◌, ℕ, List, Option, None, Some, Result, Ok, Err, option_map, string_bytes, ⊤, if◌then◌else◌}
 use Rattle.toml.specs.Data.{Members}
 use Rattle.file_paths.specs.OpenedFiles.{AreOctetsOf, OpenedFile}
 use Rattle.settings_keys.specs.Keys.{IsTableOf}
@@ -11,10 +11,14 @@ use Rattle.payload_sources.specs.declared.fault.SourceFile.{SourceFile}
 use Rattle.cache_settings.specs.ToldSettings.{IsToldBy}
 use Rattle.cache_settings.specs.declared.settings.CacheSettings.{CacheSettings}
 
+-- the second at which what has expired is left out of a list, where the settings say so
+abbrev pub expiring_at : CacheSettings → ℕ → Option ℕ
+expiring_at settings second = if settings.expires then Some second else None
+
 -- the texts of the settings' files, the list and the SLURM file where there is one, or which of them couldn't be opened, as
--- answers to their paths have it
+-- answers to their paths have it; they are read at some second
 abbrev pub Gives : {L E : Type 0} → (List ℕ → Result L E → Type 0) → (L → Option (List ℕ)) → CacheSettings → Result SourceTexts SourceFile → Type 0
-Gives Answers remaining settings sources = Opens Answers remaining (string_bytes settings.csv) (option_map string_bytes settings.slurm) sources
+Gives Answers remaining settings sources = (second : ℕ) × Opens Answers remaining (expiring_at settings second) (string_bytes settings.csv) (option_map string_bytes settings.slurm) sources
 
 -- a file that was opened at the path, or none
 abbrev pub IsOpenedAt : List ℕ → Result OpenedFile (Unit {0}) → Type 0

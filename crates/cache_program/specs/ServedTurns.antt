@@ -1,5 +1,5 @@
 -- What settings make of a served list, and turns of it.
-use Rattle.std.specs.Prelude.{◌≡◌, ℕ, Bool, List, [], ◌∷◌, Option, Result, Ok, length, if◌then◌else◌}
+use Rattle.std.specs.Prelude.{◌≡◌, ◌≤◌, ℕ, ⊤, Bool, true, false, List, [], ◌∷◌, Option, None, Some, Result, Ok, is_some, length, if◌then◌else◌}
 use Rattle.clocks.specs.Moments.{NeverGoBack, told_behind}
 use Rattle.cache_turns.specs.Turns.{TakesTurn, idle}
 use Rattle.net_prefix.specs.declared.payload.Vrp.{Vrp}
@@ -7,6 +7,8 @@ use Rattle.payload_sources.specs.PayloadSources.{SourceTexts}
 use Rattle.payload_sources.specs.declared.fault.SourceFile.{SourceFile}
 use Rattle.rtr_cache.specs.CacheState.{CacheState}
 use Rattle.wires.specs.Wires.{WireState}
+use Rattle.cache_desk.specs.declared.reading.Reading.{Reading}
+use Rattle.cache_desk.specs.declared.reading.Reading.TheVariants as readings
 use Rattle.cache_settings.specs.declared.settings.CacheSettings.{CacheSettings}
 use Rattle.cache_program.specs.CacheOfSettings.{IsCacheOf}
 use Rattle.cache_program.specs.FirstList.{IsFirst}
@@ -14,31 +16,58 @@ use Rattle.cache_program.specs.Passing.{have_passed}
 use Rattle.cache_program.specs.Rereads.{RereadsWhenDue, Served}
 use Rattle.cache_watch.specs.declared.reread.Reread.{Reread}
 
--- the list is read again where it is due, whatever that leads to
-abbrev pub HandsInWhereDue : (Result SourceTexts SourceFile → Type 0) → Bool → ℕ → Served → Served → Type 0
-HandsInWhereDue Lists is_due now old new = (answer : Option Reread) × RereadsWhenDue Lists is_due now old answer new
+-- a moment, and the reading that an operator asks for at it
+pub record Moment : Type 0 where
+  pub now : ℕ
+  pub asked : Option Reading
 
--- what is done at a moment: the list is read again where it is due, and then a turn is taken, which goes well
-pub record ServesOnce (Lists : Result SourceTexts SourceFile → Type 0) (is_due : Bool) (now : ℕ) (old new : Served) : Type 0 where
+-- the list is read where it is due, and where an operator asks for it
+abbrev pub is_read : Option Reading → Bool → Bool
+is_read None is_due = is_due
+is_read (Some reading) is_due = true
+
+-- an operator accepts what guards refuse
+abbrev pub is_accepted : Option Reading → Bool
+is_accepted None = false
+is_accepted (Some readings.Reread) = false
+is_accepted (Some readings.Accept) = true
+
+-- the list is read again where it is due or asked for, whatever that leads to
+abbrev pub HandsInWhereDue : (Result SourceTexts SourceFile → Type 0) → Option Reading → Bool → ℕ → Served → Served → Type 0
+HandsInWhereDue Lists asked is_due now old new = (answer : Option Reread) × RereadsWhenDue Lists (is_accepted asked) (is_read asked is_due) now old answer new
+
+-- what is done at a moment: the list is read again where it is due or asked for, and then a turn is taken, which goes well
+pub record ServesOnce (Lists : Result SourceTexts SourceFile → Type 0) (asked : Option Reading) (is_due : Bool) (now : ℕ) (old new : Served) : Type 0 where
   pub between : Served
-  pub rereads : HandsInWhereDue Lists is_due now old between
+  pub rereads : HandsInWhereDue Lists asked is_due now old between
   pub takes : TakesTurn now between.turns (Ok tt) new.turns
   pub same : new ≡ record between { turns = new.turns }
 
--- the same at each of these moments, one after another; the list was read last at one before them
-abbrev pub ServesAll : (Result SourceTexts SourceFile → Type 0) → Option ℕ → ℕ → List ℕ → Served → Served → Type 0
+-- the same at each of these moments, one after another; the list was due last at one before them
+abbrev pub ServesAll : (Result SourceTexts SourceFile → Type 0) → Option ℕ → ℕ → List Moment → Served → Served → Type 0
 ServesAll Lists seconds last [] old new = new ≡ old
-ServesAll Lists seconds last (now ∷ moments) old new =
-    (mid : Served) × ServesOnce Lists (have_passed seconds last now) now old mid
-    × ServesAll Lists seconds (if have_passed seconds last now then now else last) moments mid new
+ServesAll Lists seconds last (at ∷ moments) old new =
+    (mid : Served) × ServesOnce Lists at.asked (have_passed seconds last at.now) at.now old mid
+    × ServesAll Lists seconds (if have_passed seconds last at.now then at.now else last) moments mid new
 
--- so many turns were taken, each at the moment that the clock told for it
-pub record ServesSoMany (Lists : Result SourceTexts SourceFile → Type 0) (reread : Option ℕ) (count : ℕ) (before behind : List ℕ) (old new : Served) : Type 0 where
-  pub moments : List ℕ
+abbrev pub nows : List Moment → List ℕ
+nows [] = []
+nows (at ∷ moments) = at.now ∷ nows moments
+
+-- nobody asks for a reading
+abbrev pub NobodyAsks : List Moment → Type 0
+NobodyAsks [] = ⊤
+NobodyAsks (at ∷ moments) = (at.asked ≡ None) × NobodyAsks moments
+
+-- turns were taken, each at the moment that the clock told for it: just so many, at which nobody asks for a reading; or where
+-- operators may ask, so many or fewer
+pub record ServesSoMany (Lists : Result SourceTexts SourceFile → Type 0) (reread : Option ℕ) (may_ask : Bool) (count : ℕ) (before behind : List ℕ) (old new : Served) : Type 0 where
+  pub moments : List Moment
   pub serves : ServesAll Lists reread 0 moments old new
-  pub told : behind ≡ told_behind moments before
+  pub told : behind ≡ told_behind (nows moments) before
   pub forward : NeverGoBack before → NeverGoBack behind
-  pub counted : length moments ≡ count
+  pub few : length moments ≤ count
+  pub all : may_ask ≡ false → (length moments ≡ count) × NobodyAsks moments
 
 -- a served list before its first turn: its cache is of the settings, begun in a second that was told, and has published the
 -- set of the files that the system gave; it listens by a wire that the system gave, and its guards and its patience are those of the
@@ -53,12 +82,13 @@ pub record IsBegun (Lists : Result SourceTexts SourceFile → Type 0) (Wires : W
   pub first : IsFirst Lists settings.guards cache.shared.kept served.serial set
   pub payloads : served.payloads ≡ length set
   pub guards : served.guards ≡ settings.guards
+  pub accepted : served.accepted ≡ false
   pub listens : Wires wire
   pub turns : served.turns ≡ idle settings.patience cache wire
 
--- from there the clock was read, and so many turns were taken
+-- from there the clock was read, and so many turns were taken; operators may ask where the settings have a path for them
 pub record IsServed (Lists : Result SourceTexts SourceFile → Type 0) (Wires : WireState → Type 0) (Seconds : ℕ → Type 0) (settings : CacheSettings) (count : ℕ) (before behind : List ℕ) (served : Served) : Type 0 where
   pub begun : Served
   pub start : ℕ
   pub begins : IsBegun Lists Wires Seconds settings begun
-  pub takes : ServesSoMany Lists settings.reread count (start ∷ before) behind begun served
+  pub takes : ServesSoMany Lists settings.reread (is_some settings.control) count (start ∷ before) behind begun served

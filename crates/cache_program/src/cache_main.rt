@@ -1,5 +1,5 @@
 //! What the main of `ovcache` does.
-ghost use Rattle.std.specs.Prelude.{◌≡◌, ◌≤◌, [], ◌∷◌, ℕ, List, Ok, Some, IfErr, IfOk, MatchResult, OnErr, OnOk, false, if◌then◌else◌};
+ghost use Rattle.std.specs.Prelude.{◌≡◌, ◌≤◌, [], ◌∷◌, ℕ, List, Ok, Some, IfErr, IfOk, MatchResult, OnErr, OnOk, None, false, if◌then◌else◌, is_some};
 ghost use Rattle.clocks.specs.Moments.{IsNotBefore};
 ghost use Rattle.std.specs.Fn.{FnReturnsAt};
 ghost use Rattle.std.specs.Result.{IsErrAnd};
@@ -25,6 +25,7 @@ use crate::help::{HELP, VERSION};
 use crate::loading::{first_set, load_cache, opened_files, session_id};
 use crate::served_list::ServedList;
 use crate::settings_file::read_settings;
+use cache_desk::{Desk, ListState, Reading, Scene};
 use cache_settings::CacheSettings;
 use cache_turns::CacheLoop;
 use cache_watch::{
@@ -32,6 +33,9 @@ use cache_watch::{
     tell_status,
 };
 use clocks::{MonotonicClock, SecondsClock, SecondsSince1970, SystemSeconds};
+use control_lines::Operators;
+use control_sockets::ControlSocket;
+use list_guards::ListAge;
 use log_limits::LineLimit;
 use metrics_sockets::MetricsSocket;
 use net_wires::{NetWire, REST_MILLISECONDS};
@@ -132,6 +136,7 @@ where
         |path: &str| open_at(rt, path),
         |listen: SocketAddr| NetWire::listening(rt, listen),
         |address: SocketAddr| MetricsSocket::open(rt, address),
+        |path: &str| ControlSocket::open(rt, path),
         &mut SystemSeconds::new(rt),
     )
 }
@@ -151,7 +156,7 @@ fn ending<E: Write>(ended: Result<(), CacheFault>, errors: &mut E) -> u8
 // Answers what is asked besides serving.
 fn answer<R, O: Write>(rt: &R, aside: Aside<'_>, output: &mut O) -> Result<(), CacheFault>
 where
-    R: Files + AllocGlobal,
+    R: Files + Clock + AllocGlobal,
     ensures { OnOk result (IsCheckedBy aside.entry) }
 {
     match aside {
@@ -164,7 +169,7 @@ where
 // Reads the settings of this path and their files, and tells what they are.
 fn check<R, O: Write>(rt: &R, path: &str, output: &mut O) -> Result<(), CacheFault>
 where
-    R: Files + AllocGlobal,
+    R: Files + Clock + AllocGlobal,
     ensures { OnOk result (IsChecked path.now) }
 {
     let settings = settings_at(rt, path)?;
@@ -190,10 +195,16 @@ where
 // The set of the settings' files, which may be served first.
 fn checked_files<R>(rt: &R, settings: &CacheSettings) -> Result<SourceSet, CacheFault>
 where
-    R: Files + AllocGlobal,
+    R: Files + Clock + AllocGlobal,
     ensures { IfOk result (λ read. (sources : SourceTexts) × SystemGives settings.now (Ok sources) × Passes settings.now.guards sources read.set.keys) }
 {
-    let files = opened_files(rt.alloc(), settings, &|path: &str| open_at(rt, path))?;
+    let second = expiring_second(rt, settings)?;
+    let files = opened_files(
+        rt.alloc(),
+        settings,
+        second,
+        &|path: &str| open_at(rt, path),
+    )?;
     match first_set(rt.alloc(), &settings.guards, files) {
         Ok(read) => Ok(read),
         Err(why) => {
@@ -212,9 +223,11 @@ fn run_cache<
     L: Read + Drop,
     W: Wire + Watched + Drop,
     P: Scrapers + Drop,
+    Q: Operators + Drop,
     F,
     G,
     D,
+    K,
     S: SecondsSince1970,
 >(
     rt: &R,
@@ -224,6 +237,7 @@ fn run_cache<
     opens: F,
     listens: G,
     scrapes: D,
+    controls: K,
     seconds: &mut S,
 ) -> Result<ServedList<W>, CacheFault>
 where
@@ -231,9 +245,11 @@ where
     F: Fn(&str) -> io::Result<L>,
     G: FnOnce(SocketAddr) -> io::Result<W>,
     D: FnOnce(SocketAddr) -> io::Result<P>,
+    K: FnOnce(&str) -> io::Result<Q>,
     requires opens { F.IsAlwaysCallable opens }
     requires listens { G.IsAlwaysCallable listens }
     requires scrapes { D.IsAlwaysCallable scrapes }
+    requires controls { K.IsAlwaysCallable controls }
     ensures wrong { ((path : List ℕ) (turns : ℕ) → ¬ (IsCall words.now path turns)) → IsErrAnd result IsOfWords }
     ensures right { (path : List ℕ) (turns : ℕ) → IsCall words.now path turns → ¬ (IsErrAnd result IsOfWords) }
     ensures output { IsErrAnd result IsOfWords → output.new ≡ output.old }
@@ -245,7 +261,7 @@ where
     let (path, turns) = call_of(words)?;
     let settings = read_settings(rt.alloc(), path, &opens)?;
     serve_cache(
-        rt, &settings, turns, output, clock, opens, listens, scrapes, seconds,
+        rt, &settings, turns, output, clock, opens, listens, scrapes, controls, seconds,
     )
 }
 
@@ -277,7 +293,9 @@ fn read_clock<C: SecondsClock>(clock: &mut C) -> Result<u64, CacheFault>
 /// file where there is one. The files are what `opens` answers at their paths; the wire is what `listens` answers at the
 /// address where the settings listen, and `seconds` tells the second of the start. Scrapers are what `scrapes` answers at the
 /// address where the settings have them ask for figures, if they do: they are attended to between turns, and change nothing
-/// of what is served. Answers what is served behind the last turn. Nothing is written to the output where the settings ask
+/// of what is served. Operators are what `controls` answers at the path where the settings have them ask, if they do: between
+/// turns they have the list read, under the guards of the settings or, where one accepts what these refuse, without, or the
+/// program stopped, and change nothing else. Answers what is served behind the last turn. Nothing is written to the output where the settings ask
 /// for no log.
 pub fn serve_cache<
     R,
@@ -286,9 +304,11 @@ pub fn serve_cache<
     L: Read + Drop,
     W: Wire + Watched + Drop,
     P: Scrapers + Drop,
+    Q: Operators + Drop,
     F,
     G,
     D,
+    K,
     S: SecondsSince1970,
 >(
     rt: &R,
@@ -299,6 +319,7 @@ pub fn serve_cache<
     opens: F,
     listens: G,
     scrapes: D,
+    controls: K,
     seconds: &mut S,
 ) -> Result<ServedList<W>, CacheFault>
 where
@@ -306,9 +327,11 @@ where
     F: Fn(&str) -> io::Result<L>,
     G: FnOnce(SocketAddr) -> io::Result<W>,
     D: FnOnce(SocketAddr) -> io::Result<P>,
+    K: FnOnce(&str) -> io::Result<Q>,
     requires opens { F.IsAlwaysCallable opens }
     requires listens { G.IsAlwaysCallable listens }
     requires scrapes { D.IsAlwaysCallable scrapes }
+    requires controls { K.IsAlwaysCallable controls }
     ensures fault { IfErr result (λ fault. ¬ (IsOfWords fault)) }
     ensures quiet { settings.now.log ≡ false → output.new ≡ output.old }
     ensures serves { IfOk result (IsServed (Gives (FnReturnsAt F.Fn opens) L.remaining settings.now) (Listens (G.post listens settings.now.listen) W.state) (λ second. S.told seconds.new ≡ Some second) settings.now turns (C.readings clock.old) (C.readings clock.new)) }
@@ -317,6 +340,7 @@ where
     let mut served = begin(rt, settings, second, output, &opens, listens)?;
     let session = session_id(settings.session, second);
     let mut watch = watch_of(rt, settings, session, output, scrapes)?;
+    let mut desk = desk_of(rt.alloc(), settings, controls)?;
     // The moment 0, from which the list is read again.
     let _start = read_clock(clock)?;
     take_turns(
@@ -328,6 +352,7 @@ where
         clock,
         &opens,
         &mut watch,
+        &mut desk,
     )?;
     Ok(served)
 }
@@ -355,6 +380,28 @@ where
     };
     tell_metrics(rt, settings.log, &scrapers, output);
     Ok(Watch::new(session, Some(scrapers)))
+}
+
+// Where operators ask: where the settings say so, or nowhere.
+fn desk_of<Q: Operators + Drop, K>(
+    alloc: Global,
+    settings: &CacheSettings,
+    controls: K,
+) -> Result<Desk<Q>, CacheFault>
+where
+    K: FnOnce(&str) -> io::Result<Q>,
+    requires { K.IsAlwaysCallable controls }
+    ensures fault { IfErr result (λ fault. ¬ (IsOfWords fault)) }
+    ensures open { IfOk result (λ desk. desk ≡ is_some settings.now.control) }
+{
+    let Some(path) = &settings.control else {
+        return Ok(Desk::closed());
+    };
+    let path = path.as_str();
+    match controls(path) {
+        Ok(operators) => Ok(Desk::open(alloc, operators)?),
+        Err(error) => Err(CacheFault::unread(alloc, path, error)),
+    }
 }
 
 // The list of the settings, begun in this second, before its first turn.
@@ -393,6 +440,16 @@ fn second_of<S: SecondsSince1970>(seconds: &mut S) -> Result<u64, CacheFault>
     }
 }
 
+// The second since 1970, where what has expired is left out of a list; else 0.
+fn expiring_second<R: Clock>(rt: &R, settings: &CacheSettings) -> Result<u64, CacheFault>
+    ensures { IfErr result (λ fault. ¬ (IsOfWords fault)) }
+{
+    if !settings.expires {
+        return Ok(0);
+    }
+    second_of(&mut SystemSeconds::new(rt))
+}
+
 // The turns of a cache where the settings say that it listens.
 fn over_wire<W: Wire + Drop, G>(
     alloc: Global,
@@ -414,7 +471,7 @@ where
     Ok(CacheLoop::with_patience(alloc, wire, cache, settings.patience)?)
 }
 
-// So many turns, each at the moment that is read for it.
+// So many turns, each at the moment that is read for it, or fewer where an operator stops them.
 fn take_turns<
     R,
     O: Write,
@@ -422,6 +479,7 @@ fn take_turns<
     L: Read + Drop,
     W: Wire + Watched + Drop,
     P: Scrapers + Drop,
+    Q: Operators + Drop,
     F,
 >(
     rt: &R,
@@ -432,6 +490,7 @@ fn take_turns<
     clock: &mut C,
     opens: &F,
     watch: &mut Watch<P>,
+    desk: &mut Desk<Q>,
 ) -> Result<(), CacheFault>
 where
     R: Files + Clock + AllocGlobal,
@@ -439,40 +498,93 @@ where
     requires { F.IsAlwaysCallable opens.now }
     ensures fault { IfErr result (λ fault. ¬ (IsOfWords fault)) }
     ensures quiet { settings.now.log ≡ false → output.new ≡ output.old }
-    ensures turns { OnOk result (ServesSoMany (Gives (FnReturnsAt F.Fn opens.now) L.remaining settings.now) settings.now.reread turns (C.readings clock.old) (C.readings clock.new) served.old served.new) }
+    ensures turns { OnOk result (ServesSoMany (Gives (FnReturnsAt F.Fn opens.now) L.remaining settings.now) settings.now.reread desk.old turns (C.readings clock.old) (C.readings clock.new) served.old served.new) }
 {
     let mut reread = Every::new(settings.reread);
     let mut status = Every::new(settings.status);
     let mut limit = LineLimit::new(ROUTER_LINES);
     for _ in 0..turns {
         let now = read_clock(clock)?;
-        serve_once(rt, settings, served, now, &mut reread, watch, output, opens)?;
+        let second = expiring_second(rt, settings)?;
+        let asked = hear(rt, settings, served, now, desk);
+        serve_once(
+            rt,
+            settings,
+            served,
+            now,
+            asked,
+            second,
+            &mut reread,
+            watch,
+            desk,
+            output,
+            opens,
+        )?;
         let wire = served.turns().wire();
         tell_routers(rt, settings.log, wire, now, &mut limit, output);
         attend(rt, settings, served, now, watch);
-        rest(rt, settings, served, now, status.is_due(now), output);
+        if desk.has_stopped(now) {
+            return Ok(());
+        }
+        tell_if_due(rt, settings, served, now, status.is_due(now), output);
+        served.wait(rest_of(desk));
     }
     Ok(())
 }
 
-// The end of what is done at a moment: the status is told where it is due, and then the sockets rest.
-fn rest<R: Files + Clock, W: Wire + Drop, O: Write>(
+// The operators' turn: those who wait are answered by what is there to see. Answers which reading of the list one asks for.
+fn hear<R: Files + Clock, W: Wire + Drop, Q: Operators + Drop>(
     rt: &R,
     settings: &CacheSettings,
-    served: &mut ServedList<W>,
+    served: &ServedList<W>,
+    now: u64,
+    desk: &mut Desk<Q>,
+) -> Option<Reading>
+    ensures same { desk.new ≡ desk.old }
+    ensures nobody { desk.old ≡ false → result ≡ None }
+{
+    if !desk.visit(now) {
+        return None;
+    }
+    let path = settings.csv.as_str();
+    let list = ListState {
+        path,
+        figures: served.figures(now),
+        age: ListAge(age_of(rt, path)),
+        accepted: served.accepted(),
+    };
+    let scene = Scene {
+        turns: served.turns(),
+        list,
+        now,
+    };
+    desk.attend(&scene)
+}
+
+// For how long the sockets may rest behind a turn: not where operators move anything.
+fn rest_of<Q: Operators + Drop>(desk: &Desk<Q>) -> Duration {
+    match desk.is_busy() {
+        true => Duration::ZERO,
+        false => Duration::from_millis(REST_MILLISECONDS),
+    }
+}
+
+// The status is told where it is due.
+fn tell_if_due<R: Files + Clock, W: Wire + Drop, O: Write>(
+    rt: &R,
+    settings: &CacheSettings,
+    served: &ServedList<W>,
     now: u64,
     is_due: bool,
     output: &mut O,
 )
-    ensures same { served.new ≡ served.old }
-    ensures quiet { settings.now.log ≡ false → output.new ≡ output.old }
+    ensures { settings.now.log ≡ false → output.new ≡ output.old }
 {
     if is_due {
         let figures = served.figures(now);
         let age = age_of(rt, settings.csv.as_str());
         tell_status(rt, settings.log, figures, age, settings.max_age, output);
     }
-    served.wait(Duration::from_millis(REST_MILLISECONDS));
 }
 
 // The turn of the scrapers: those who wait for the figures are told what is served now.
@@ -490,13 +602,16 @@ fn attend<R: Files + Clock + AllocGlobal, W: Wire + Drop, P: Scrapers>(
 }
 
 // What is done at a moment, and what the log says of it.
-fn serve_once<R, O: Write, L: Read + Drop, W: Wire + Drop, P: Scrapers, F>(
+fn serve_once<R, O: Write, L: Read + Drop, W: Wire + Drop, P: Scrapers, Q: Operators + Drop, F>(
     rt: &R,
     settings: &CacheSettings,
     served: &mut ServedList<W>,
     now: u64,
+    asked: Option<Reading>,
+    second: u64,
     reread: &mut Every,
     watch: &mut Watch<P>,
+    desk: &mut Desk<Q>,
     output: &mut O,
     opens: &F,
 ) -> Result<(), CacheFault>
@@ -506,11 +621,13 @@ where
     requires { F.IsAlwaysCallable opens.now }
     ensures fault { IfErr result (λ fault. ¬ (IsOfWords fault)) }
     ensures quiet { settings.now.log ≡ false → output.new ≡ output.old }
+    ensures desk { desk.new ≡ desk.old }
     ensures due { reread.new ≡ record reread.old { last = if have_passed reread.old.seconds reread.old.last now then now else reread.old.last } }
-    ensures serves { OnOk result (ServesOnce (Gives (FnReturnsAt F.Fn opens.now) L.remaining settings.now) (have_passed reread.old.seconds reread.old.last now) now served.old served.new) }
+    ensures serves { OnOk result (ServesOnce (Gives (FnReturnsAt F.Fn opens.now) L.remaining settings.now) asked (have_passed reread.old.seconds reread.old.last now) now served.old served.new) }
 {
-    let (led, turned) = served.serve(rt.alloc(), now, reread, settings, opens);
+    let (led, turned) = served.serve(rt.alloc(), now, asked, reread, settings, second, opens);
     watch.count(led);
+    desk.tell(led, served.payloads());
     if let Some(led) = led {
         tell_list(rt, settings.log, led, served.payloads(), output);
     }

@@ -1,25 +1,35 @@
 //! The files of settings.
-ghost use Rattle.std.specs.Prelude.{◌≡◌, Err, MatchResult, Ok, option_map, string_bytes};
+ghost use Rattle.std.specs.Prelude.{◌≡◌, Err, IfOk, MatchResult, Ok, option_map, string_bytes};
 ghost use Rattle.std.specs.Fn.{FnReturnsAt};
 ghost use Rattle.payload_sources.specs.PayloadSources.{texts_of};
-ghost use Rattle.cache_program.specs.Opened.{Gives};
+ghost use Rattle.cache_program.specs.Opened.{Gives, expiring_at};
 
 use cache_settings::CacheSettings;
 pub(crate) use file_paths::open_at;
 use payload_sources::{SourceFile, Sources, Unopened, open_sources};
 use std::io::{self, Read};
 
-/// Opens the list of the settings, and their SLURM file where there is one.
+/// Opens the list of the settings, and their SLURM file where there is one, to be read at this second since 1970.
 pub(crate) fn open_files<L: Read + Drop, F>(
     settings: &CacheSettings,
+    second: u64,
     opens: &F,
 ) -> Result<Sources<L>, Unopened>
 where
     F: Fn(&str) -> io::Result<L>,
     requires { F.IsAlwaysCallable opens.now }
-    ensures { MatchResult result (λ files. Gives (FnReturnsAt F.Fn opens.now) L.remaining settings.now (Ok (texts_of L.remaining files.list files.slurm))) (λ unopened. Gives (FnReturnsAt F.Fn opens.now) L.remaining settings.now (Err unopened.file)) }
+    ensures second { IfOk result (λ files. files.second ≡ expiring_at settings.now second) }
+    ensures gives { MatchResult result (λ files. Gives (FnReturnsAt F.Fn opens.now) L.remaining settings.now (Ok (texts_of L.remaining files.list files.slurm files.second))) (λ unopened. Gives (FnReturnsAt F.Fn opens.now) L.remaining settings.now (Err unopened.file)) }
 {
-    open_sources(settings.csv.as_str(), slurm_path(settings), opens)
+    let second = expiring_at(settings, second);
+    open_sources(settings.csv.as_str(), slurm_path(settings), second, opens)
+}
+
+// The second at which what has expired is left out of a list, where the settings say so.
+fn expiring_at(settings: &CacheSettings, second: u64) -> Option<u64>
+    ensures { result ≡ expiring_at settings.now second }
+{
+    if settings.expires { Some(second) } else { None }
 }
 
 /// The path of the SLURM file, where there is one.

@@ -39,7 +39,7 @@ where
     ensures quiet { settings.now.log ≡ false → output.new ≡ output.old }
 {
     let mut cache = made_cache(rt.alloc(), settings, second)?;
-    let (serial, set) = load_list(rt, settings, &mut cache, output, opens)?;
+    let (serial, set) = load_list(rt, settings, second, &mut cache, output, opens)?;
     Ok((cache, serial, set))
 }
 
@@ -71,10 +71,11 @@ pub(crate) fn session_id(session: SessionSource, second: u64) -> u16
     }
 }
 
-// Has the cache serve the list of the settings.
+// Has the cache serve the list of the settings, read at this second.
 fn load_list<R: Clock + AllocGlobal, O: Write, L: Read + Drop, F>(
     rt: &R,
     settings: &CacheSettings,
+    second: u64,
     cache: &mut Cache,
     output: &mut O,
     opens: &F,
@@ -88,7 +89,7 @@ where
     ensures first { IfOk result (λ loaded. IsFirst (Gives (FnReturnsAt F.Fn opens.now) L.remaining settings.now) settings.now.guards cache.new.shared.kept loaded.0 loaded.1.keys) }
     ensures quiet { settings.now.log ≡ false → output.new ≡ output.old }
 {
-    let files = opened_files(rt.alloc(), settings, opens)?;
+    let files = opened_files(rt.alloc(), settings, second, opens)?;
     let set = read_told(rt, settings, files, output)?;
     let serial = publish(cache, &set)?;
     let payloads = set.len();
@@ -101,19 +102,20 @@ where
     Ok((serial, set))
 }
 
-/// The files that are opened at the paths of the settings.
+/// The files that are opened at the paths of the settings, to be read at this second since 1970.
 pub(crate) fn opened_files<L: Read + Drop, F>(
     alloc: Global,
     settings: &CacheSettings,
+    second: u64,
     opens: &F,
 ) -> Result<Sources<L>, CacheFault>
 where
     F: Fn(&str) -> io::Result<L>,
     requires { F.IsAlwaysCallable opens.now }
     ensures fault { IfErr result (λ fault. ¬ (IsOfWords fault)) }
-    ensures given { IfOk result (λ files. Gives (FnReturnsAt F.Fn opens.now) L.remaining settings.now (Ok (texts_of L.remaining files.list files.slurm))) }
+    ensures given { IfOk result (λ files. Gives (FnReturnsAt F.Fn opens.now) L.remaining settings.now (Ok (texts_of L.remaining files.list files.slurm files.second))) }
 {
-    match open_files(settings, opens) {
+    match open_files(settings, second, opens) {
         Ok(files) => Ok(files),
         Err(unopened) => {
             let path = path_of(settings, unopened.file);
@@ -130,7 +132,7 @@ fn read_told<R: Clock + AllocGlobal, L: Read + Drop, O: Write>(
     output: &mut O,
 ) -> Result<BTreeSet<Vrp>, CacheFault>
     ensures fault { IfErr result (λ fault. ¬ (IsOfWords fault)) }
-    ensures set { IfOk result (λ set. Passes settings.now.guards (texts_of L.remaining files.list files.slurm) set.keys) }
+    ensures set { IfOk result (λ set. Passes settings.now.guards (texts_of L.remaining files.list files.slurm files.second) set.keys) }
     ensures quiet { settings.now.log ≡ false → output.new ≡ output.old }
 {
     match first_set(rt.alloc(), &settings.guards, files) {
@@ -149,7 +151,7 @@ pub(crate) fn first_set<L: Read + Drop>(
     guards: &Guards,
     files: Sources<L>,
 ) -> Result<SourceSet, ListFault>
-    ensures { MatchResult result (λ read. Passes guards.now (texts_of L.remaining files.list files.slurm) read.set.keys) (λ why. IsNoFirst guards.now (texts_of L.remaining files.list files.slurm) why) }
+    ensures { MatchResult result (λ read. Passes guards.now (texts_of L.remaining files.list files.slurm files.second) read.set.keys) (λ why. IsNoFirst guards.now (texts_of L.remaining files.list files.slurm files.second) why) }
 {
     let read = match read_sources(alloc, files) {
         Ok(read) => read,

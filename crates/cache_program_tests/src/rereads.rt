@@ -86,7 +86,16 @@ pub(crate) fn reread<W: Wire + Drop>(
     text: &str,
 ) -> Reread {
     let list = text.as_bytes();
-    served.reread(alloc, 0, Ok(Sources { list, slurm: None }))
+    served.reread(
+        alloc,
+        0,
+        false,
+        Ok(Sources {
+            list,
+            slurm: None,
+            second: None,
+        }),
+    )
 }
 
 // Whether the list is published under the serial when it is read again.
@@ -127,7 +136,7 @@ fn is_missing<W: Wire + Drop>(alloc: Global, served: &mut ServedList<W>) -> bool
         error: io::Error::from(ErrorKind::NotFound),
     });
     matches!(
-        served.reread(alloc, 0, missing),
+        served.reread(alloc, 0, false, missing),
         Reread::Refused(ListFault::NoFile(SourceFile::List))
     )
 }

@@ -48,8 +48,9 @@ fn reread<W: Wire + Drop>(alloc: Global, served: &mut ServedList<W>, slurm: &str
     let sources = Sources {
         list: LIST.as_bytes(),
         slurm: Some(slurm.as_bytes()),
+        second: None,
     };
-    served.reread(alloc, 0, Ok(sources))
+    served.reread(alloc, 0, false, Ok(sources))
 }
 
 // Whether a SLURM file that isn't there is refused.
@@ -58,7 +59,7 @@ fn is_missing<W: Wire + Drop>(alloc: Global, served: &mut ServedList<W>) -> bool
         file: SourceFile::Slurm,
         error: io::Error::from(ErrorKind::NotFound),
     });
-    let led = served.reread(alloc, 0, missing);
+    let led = served.reread(alloc, 0, false, missing);
     led == Reread::Refused(ListFault::NoFile(SourceFile::Slurm))
 }
 

@@ -58,6 +58,7 @@ pub record AreTerms (table : Members) (terms : Terms) : Type 0 where
   pub intervals : AreIntervals table terms.intervals
   pub patience : IsPatience table terms.intervals terms.patience
   pub guards : AreGuards table terms.guards
+  pub expires : IsToldOrUsual IsYesOrNo false (get_member (codes "expires") table) terms.expires
   pub reread : IsToldIfThere IsSeconds (get_member (codes "reread") table) terms.reread
   pub max_age : IsToldIfThere IsSeconds (get_member (codes "max_age") table) terms.max_age
   pub log : IsToldOrUsual IsYesOrNo false (get_member (codes "log") table) terms.log
@@ -71,6 +72,7 @@ terms_of settings = record {
   intervals = settings.intervals;
   patience = settings.patience;
   guards = settings.guards;
+  expires = settings.expires;
   reread = settings.reread;
   max_age = settings.max_age;
   log = settings.log;
@@ -81,7 +83,7 @@ terms_of settings = record {
 abbrev pub keys_of_a_cache : List (List ℕ)
 keys_of_a_cache =
     codes "listen" ∷ codes "csv" ∷ codes "slurm" ∷ codes "session" ∷ codes "other_session" ∷ codes "refresh" ∷ codes "retry" ∷ codes "expire" ∷ codes "first" ∷ codes "idle" ∷ codes "min_payloads"
-    ∷ codes "max_shrink" ∷ codes "reread" ∷ codes "max_age" ∷ codes "log" ∷ codes "status" ∷ codes "metrics" ∷ []
+    ∷ codes "max_shrink" ∷ codes "expires" ∷ codes "reread" ∷ codes "max_age" ∷ codes "log" ∷ codes "status" ∷ codes "metrics" ∷ codes "control" ∷ []
 
 -- the settings are what stands at their keys, and there are no others
 pub record IsToldBy (table : Members) (settings : CacheSettings) : Type 0 where
@@ -90,4 +92,5 @@ pub record IsToldBy (table : Members) (settings : CacheSettings) : Type 0 where
   pub csv : IsTold IsText (get_member (codes "csv") table) (string_bytes settings.csv)
   pub slurm : IsToldIfThere IsText (get_member (codes "slurm") table) (option_map string_bytes settings.slurm)
   pub metrics : IsToldIfThere IsAddress (get_member (codes "metrics") table) settings.metrics
+  pub control : IsToldIfThere IsText (get_member (codes "control") table) (option_map string_bytes settings.control)
   pub terms : AreTerms table (terms_of settings)

@@ -40,6 +40,8 @@ pub struct CacheSettings {
     pub slurm: Option<String>,
     /// Where scrapers ask for its figures, if they may.
     pub metrics: Option<SocketAddr>,
+    /// The path of the Unix socket at which operators ask, if they may.
+    pub control: Option<String>,
     /// Where its session id comes from.
     pub session: SessionSource,
     /// What it answers a Serial Query of another session with.
@@ -50,6 +52,8 @@ pub struct CacheSettings {
     pub patience: Patience,
     /// What a list has to keep to.
     pub guards: Guards,
+    /// Whether what has expired is left out of a list.
+    pub expires: bool,
     /// After how many seconds the list is read again, if it is.
     pub reread: Option<u32>,
     /// How many seconds ago its file was written at most, else the log warns.
@@ -65,7 +69,8 @@ impl CacheSettings {
     /// `session`, a number of 16 bits or `"clock"`; and, where they are there, `other_session`, `"report"` or `"reset"`,
     /// `refresh`, `retry` and `expire`, in place of the usual intervals and lawful together, `first`, 1 at least, `idle`,
     /// above `refresh`, `reread`, `max_age` and `status`, 1 at least, and `min_payloads`, each a number of 32 bits, `max_shrink`,
-    /// up to 100, `log`, a boolean, `slurm`, a text, and `metrics`, as `listen`. There are no keys of other names. Anything else is `Settings`.
+    /// up to 100, `expires` and `log`, booleans, `slurm` and `control`, texts, and `metrics`, as `listen`. There are no keys of
+    /// other names. Anything else is `Settings`.
     pub fn read(alloc: Global, octets: &[u8]) -> Result<CacheSettings, SettingsFault>
         ensures told { AnswersInMemory (λ settings. (table : Members) × IsTableOf octets.now table × IsToldBy table settings) result }
         ensures intervals { IfOk result (λ settings. are_lawful settings.intervals ≡ true) }
@@ -91,17 +96,20 @@ impl CacheSettings {
         let csv = String::from_str(alloc, path)?;
         let metrics = address_if_told(alloc, table, "metrics")?;
         let slurm = path_if_told(alloc, table, "slurm")?;
+        let control = path_if_told(alloc, table, "control")?;
         let terms = terms_of(alloc, table)?;
         Ok(CacheSettings {
             listen,
             csv,
             slurm,
             metrics,
+            control,
             session: terms.session,
             other_session: terms.other_session,
             intervals: terms.intervals,
             patience: terms.patience,
             guards: terms.guards,
+            expires: terms.expires,
             reread: terms.reread,
             max_age: terms.max_age,
             log: terms.log,
@@ -111,7 +119,7 @@ impl CacheSettings {
 }
 
 // The keys of the settings.
-const KEYS: [&str; 17] = [
+const KEYS: [&str; 19] = [
     "listen",
     "csv",
     "slurm",
@@ -124,11 +132,13 @@ const KEYS: [&str; 17] = [
     "idle",
     "min_payloads",
     "max_shrink",
+    "expires",
     "reread",
     "max_age",
     "log",
     "status",
     "metrics",
+    "control",
 ];
 
 // The path at a key, if the key is there.
@@ -153,6 +163,7 @@ struct Terms {
     intervals: Intervals,
     patience: Patience,
     guards: Guards,
+    expires: bool,
     reread: Option<u32>,
     max_age: Option<u32>,
     log: bool,
@@ -171,6 +182,7 @@ fn terms_of(alloc: Global, table: &Table) -> Result<Terms, SettingsFault>
     let intervals = intervals_of(alloc, table)?;
     let patience = patience_of(alloc, table, intervals)?;
     let guards = guards_of(alloc, table)?;
+    let expires = yes_or_no_of(alloc, table, "expires")?;
     let reread = seconds_of(alloc, table, "reread")?;
     let max_age = seconds_of(alloc, table, "max_age")?;
     let log = yes_or_no_of(alloc, table, "log")?;
@@ -181,6 +193,7 @@ fn terms_of(alloc: Global, table: &Table) -> Result<Terms, SettingsFault>
         intervals,
         patience,
         guards,
+        expires,
         reread,
         max_age,
         log,

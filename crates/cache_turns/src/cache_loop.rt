@@ -1,5 +1,6 @@
 //! The turns of a cache: routers connect, ask and are answered.
 ghost use Rattle.std.specs.Prelude.{◌≡◌, ◌<◌, ◌+◌, ℕ, [], Err, None, Ok, OnOk, IfOk, IsSome, MatchResult, Some, count_by, is_some, length, slice_index_or, slice_set};
+ghost use Rattle.std.specs.Option.{option_map};
 ghost use Rattle.rtr_cache.specs.CacheState.{OthersStay, client_at, tells_client};
 ghost use Rattle.rtr_cache.specs.ClientHistory.{CameUp, Loaded, Makes};
 ghost use Rattle.rtr_cache.specs.declared.refusal.CacheRefusal.{CacheRefusal};
@@ -11,7 +12,7 @@ ghost use Rattle.wires.specs.Wires.{closing};
 ghost use Rattle.wires.specs.declared.wire.Parting.TheVariants.{NoMemory};
 
 use crate::holding::{Holding, holding_of};
-use crate::link::{Link, Visit};
+use crate::link::{Arrival, Link, Visit};
 use crate::patience::Patience;
 use net_prefix::Vrp;
 use rtr_cache::{Cache, CacheEvent, CacheRefusal, CacheReport};
@@ -141,12 +142,29 @@ impl<W: Wire + Drop, A: Allocator + Clone> CacheLoop<W, A> {
         &self.wire
     }
 
+    /// The cache.
+    pub fn cache(&self) -> &Cache<A>
+        ensures { result.now ≡ self.now.cache }
+    {
+        &self.cache
+    }
+
+    /// Where the client of this key came from, and when, where its connection stands.
+    pub fn arrival(&self, client: usize) -> Option<Arrival>
+        ensures came { option_map (λ arrival. arrival.moment) result ≡ option_map (λ link. link.moments.came) (link_at self.now client) }
+    {
+        match self.links.get(client) {
+            Some(Some(link)) => Some(link.arrival()),
+            _ => None,
+        }
+    }
+
     // Accepts a connection that waits. One whose client the cache refuses, or for which there is no memory, is closed.
     fn admit(&mut self, now: u64) -> Result<(), LoopFault>
         ensures { Admits now self.old result self.new }
     {
-        let socket = match self.wire.accept() {
-            Accepted::Connection(socket, _) => socket,
+        let (socket, address) = match self.wire.accept() {
+            Accepted::Connection(socket, address) => (socket, address),
             Accepted::Nothing => return Ok(()),
             Accepted::Fault => return Err(LoopFault::Accept),
         };
@@ -158,7 +176,7 @@ impl<W: Wire + Drop, A: Allocator + Clone> CacheLoop<W, A> {
             }
         };
         match self.room_for(client) {
-            Ok(outgoing) => self.seat(client, Link::new(socket, outgoing, now)),
+            Ok(outgoing) => self.seat(client, Link::new(socket, address, outgoing, now)),
             Err(_) => self.send_away(client, socket),
         }
         Ok(())

@@ -25,6 +25,7 @@ pub use laws::{
     connections_carry_whole_versions, no_more_are_lost_than_are_counted,
     turns_are_calls_of_the_cache, turns_publish_nothing, wires_listen_where_they_did,
 };
+pub use link::Arrival;
 pub use patience::{CLOSING_SECONDS, Patience};
 pub use wires::{
     Accepted, Attempt, Log, LoopFault, Note, Parting, Received, Sent, TURN_OCTETS, Wire,

@@ -14,6 +14,7 @@ use net_prefix::Transport;
 use rtr_cache::{Cache, CacheEvent};
 use std::alloc::{Allocator, Global};
 use std::marker::Model;
+use std::net::SocketAddr;
 use wires::{Outgoing, Parting, Received, Sent, Wire};
 
 /// What a visit to a connection found.
@@ -31,10 +32,19 @@ pub(crate) enum Visit {
     Overdue,
 }
 
+/// Where a client came from, and when.
+#[derive(Clone, Copy, Debug, PartialEq, Eq)]
+pub struct Arrival {
+    pub address: SocketAddr,
+    pub moment: u64,
+}
+
 /// A client's connection.
 #[derive(Drop)]
 pub(crate) struct Link<W: Wire, A: Allocator = Global> {
     socket: W::Socket,
+    // Where the client is. It is no part of what a turn makes of a connection.
+    address: SocketAddr,
     outgoing: Outgoing<A>,
     moments: Moments,
 }
@@ -49,13 +59,24 @@ impl<W: Wire, A: Allocator> Model for Link<W, A> {
 
 impl<W: Wire, A: Allocator + Clone> Link<W, A> {
     /// The connection of a client that comes now, on this socket, with room for what will wait.
-    pub fn new(socket: W::Socket, outgoing: Outgoing<A>, now: u64) -> Self
+    pub fn new(socket: W::Socket, address: SocketAddr, outgoing: Outgoing<A>, now: u64) -> Self
         ensures { result ≡ record { number = W.number socket; waiting = outgoing; moments = arriving_at now } }
     {
         Link {
             socket,
+            address,
             outgoing,
             moments: Moments::new(now),
+        }
+    }
+
+    /// Where its client is, and since when.
+    pub fn arrival(&self) -> Arrival
+        ensures { result.moment ≡ self.now.moments.came }
+    {
+        Arrival {
+            address: self.address,
+            moment: self.moments.came,
         }
     }
 

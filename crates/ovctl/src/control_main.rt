@@ -13,13 +13,16 @@ use thiserror::Error;
 const VERSION: &str = "ovctl (Kenyodla) 1.0\n";
 
 const HELP: &str = "\
-ovctl SOCKET WORDS..       sends the words as a line to the ovbgpd whose settings name the socket, and prints its answer
+ovctl SOCKET WORDS..       sends the words as a line to the ovbgpd or ovcache whose settings name the socket, and prints its answer
 ovctl --help, --version
 
-The words are a command, as in a file of commands, or one of these:
+The words are to ovbgpd a command, as in a file of commands, or one of these:
 show sessions, show peers, show cache, show rib, show payloads, show in SLOT, show held SLOT, show waiting SLOT
+To ovcache: show clients, show versions, show list, show payloads, show payloads PREFIX, reread, accept
+To both:
 stop           ends all sessions and the program
-help           lists the lines that ovbgpd knows
+help           lists the lines that are known
+Put a line that has ; in quotes, or the shell ends it there.
 
 Exit status: 0 where the answer is ok or a table, 1 where words or the line are refused, 2 where the system fails.
 docs/GUIDE.md tells more.

@@ -1,7 +1,7 @@
 //! The cache.
 
-ghost use Rattle.std.specs.Prelude.{◌≡◌, OnErr, length};
-ghost use Rattle.std.specs.Option.{option_map};
+ghost use Rattle.std.specs.Prelude.{◌≡◌, OnErr, length, slice_get};
+ghost use Rattle.std.specs.Option.{option_copied, option_map};
 ghost use Rattle.net_prefix.specs.PayloadSets.{IsPayloadSet};
 ghost use Rattle.rtr_cache.specs.CacheTable.{notified, pumped};
 ghost use Rattle.rtr_cache.specs.CacheState.{AllAreAtRest, AllAreNotified, ComesUp, GoesDown, HearsOctets, IsNew, Loads, OthersStay, Ticks, awaits_first_pdu, client_at, held_serial, transport_of};
@@ -20,6 +20,7 @@ use slab::Slab;
 use std::alloc::{Allocator, Global};
 use std::collections::BTreeSet;
 use std::marker::Model;
+use vrp_delta::Snapshot;
 
 /// How many clients a cache serves at most.
 pub const CACHE_CLIENTS: usize = 256;
@@ -128,6 +129,13 @@ impl<A: Allocator + Clone> Cache<A> {
         ensures { result ≡ held_serial (client_at self.now key) }
     {
         self.clients.get(key as usize)?.held_serial()
+    }
+
+    /// The newest version that was published, if any was.
+    pub fn newest(&self) -> Option<&Snapshot<A>>
+        ensures { option_copied result ≡ slice_get self.now.shared.kept 0 }
+    {
+        self.publisher.newest()
     }
 
     fn load<B: Allocator>(&mut self, set: &BTreeSet<Vrp, B>) -> Result<CacheReport, CacheRefusal>

@@ -1,5 +1,6 @@
 //! What all clients of a cache share.
-ghost use Rattle.std.specs.Prelude.{◌≡◌, [], IfOk, IfSome, OnOk, OnErr, IsSome, Some, true, false};
+ghost use Rattle.std.specs.Prelude.{◌≡◌, [], IfOk, IfSome, OnOk, OnErr, IsSome, Some, true, false, slice_get};
+ghost use Rattle.std.specs.Option.{option_copied};
 ghost use Rattle.net_prefix.specs.PayloadSets.{IsPayloadSet};
 ghost use Rattle.rtr_cache.specs.CacheTable.{Shared};
 ghost use Rattle.rtr_codec.specs.PduSpelling.{Serial_notify, content_of};
@@ -14,7 +15,7 @@ use rtr_codec::Pdu;
 use std::alloc::{AllocError, Allocator, Global};
 use std::collections::BTreeSet;
 use std::marker::Model;
-use vrp_delta::{Delta, Versions};
+use vrp_delta::{Delta, Snapshot, Versions};
 
 /// The session, what a Serial Query of another one is answered with, the versions that were published in it, and the
 /// moment.
@@ -82,6 +83,13 @@ impl<A: Allocator + Clone> Publisher<A> {
         ensures { result ≡ is_published self.now.kept }
     {
         self.versions.current().is_some()
+    }
+
+    /// The newest version.
+    pub fn newest(&self) -> Option<&Snapshot<A>>
+        ensures { option_copied result ≡ slice_get self.now.kept 0 }
+    {
+        self.versions.current()
     }
 
     /// The serial of the newest version, and 0 before the first.

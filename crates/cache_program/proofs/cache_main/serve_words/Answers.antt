@@ -12,7 +12,7 @@ returns-clause-serves g c =
     let path : is.4.0.path ≡ is.4.1.shown.now = (let gives = is.4.1.says.met in search rules) in
     let so =
     served_as _ _ _ _ _ _ is.2 is.1 _ _ served is.5
-    (λ sources given. opens_as _ _ _ sources given (λ path file at. let is : file.path ≡ at.shown.now = (let gives = at.says.met in search rules) in is ∙ at.shows))
+    (λ sources given. opens_as _ is.2 sources given (λ path file at. let is : file.path ≡ at.shown.now = (let gives = at.says.met in search rules) in is ∙ at.shows))
     (λ wire opened. let listens : opened.0 ≡ nothing_told (Some (is.2).listen) = (let gives = opened.1 in search rules) in opened.2 ∙ listens)
     (λ second told. tt) in
     (is.0, is.1, is.2, is.3, (is.4.0, path ∙ is.4.1.shows, is.4.2), so, listens_there _ _ is.2 is.1 _ _ served _ so))

@@ -1,0 +1,188 @@
+//! Who answers operators.
+
+use crate::line::{Line, line_of};
+use crate::reading::Reading;
+use crate::tables::{Rest, Scene, Shown, write_piece};
+use cache_watch::{ListFault, Reread};
+use control_lines::{OPERATORS, Operators, Wish};
+use std::alloc::{AllocError, Global};
+use std::io::{self, Write};
+use wires::Wire;
+
+/// For how many seconds at most the program goes on behind `stop`, so that operators take what was said to them (own choice).
+pub(crate) const STOPPING_SECONDS: u64 = 5;
+
+// What is still to be said to an operator behind a piece.
+type Left = Option<Rest>;
+
+// Who asks for a reading of the list.
+#[derive(Clone, Copy)]
+struct Asking {
+    key: usize,
+    reading: Reading,
+}
+
+/// The operators, and what is kept of their lines between turns.
+#[derive(Drop)]
+pub(crate) struct Clerk<P> {
+    operators: P,
+    // What is being said, and what is left of the table of each operator.
+    page: Vec<u8>,
+    left: Vec<Left>,
+    // Who is told what the next reading leads to.
+    asking: Option<Asking>,
+    // What the last reading led to.
+    last: Option<Reread>,
+    // When `stop` was said.
+    stopped: Option<u64>,
+}
+
+impl<P: Operators> Clerk<P> {
+    /// Nothing was asked yet.
+    pub(crate) fn new(alloc: Global, operators: P) -> Result<Clerk<P>, AllocError>
+    where
+        P: Drop,
+    {
+        let left = nothing_left(alloc)?;
+        Ok(Clerk {
+            operators,
+            page: Vec::new(alloc),
+            left,
+            asking: None,
+            last: None,
+            stopped: None,
+        })
+    }
+
+    /// Lets in an operator who has come, and visits each. Answers whether one waits for something.
+    pub(crate) fn visit(&mut self, now: u64) -> bool {
+        self.operators.turn(now);
+        for key in 0..OPERATORS {
+            if self.operators.wish(key) != Wish::Nothing {
+                return true;
+            }
+        }
+        false
+    }
+
+    /// Answers each operator that waits for something, but for readings, of which the first is answered here.
+    pub(crate) fn attend<W: Wire + Drop>(&mut self, scene: &Scene<'_, W>) -> Option<Reading> {
+        for key in 0..OPERATORS {
+            match self.operators.wish(key) {
+                Wish::Nothing => {}
+                Wish::Answer => self.answer(scene, key),
+                Wish::More => self.go_on(scene, key),
+            }
+        }
+        let asking = self.asking?;
+        Some(asking.reading)
+    }
+
+    /// Notes what reading the list has led to, and tells it to who asked for it.
+    pub(crate) fn tell(&mut self, led: Reread, payloads: usize) {
+        self.last = Some(led);
+        if let Some(asking) = self.asking.take() {
+            self.page.clear();
+            let _said = write_outcome(led, payloads, &mut self.page);
+            self.hand_out(asking.key, None);
+        }
+    }
+
+    /// Whether octets of operators came or went, or something was said, since the last visit.
+    pub(crate) fn is_busy(&self) -> bool {
+        self.operators.is_busy()
+    }
+
+    /// Whether `stop` was said, and no operator moves anything any more, or so much time has passed.
+    pub(crate) fn has_stopped(&self, now: u64) -> bool {
+        let Some(since) = self.stopped else {
+            return false;
+        };
+        now.saturating_sub(since) >= STOPPING_SECONDS || !self.is_busy()
+    }
+
+    fn answer<W: Wire + Drop>(&mut self, scene: &Scene<'_, W>, key: usize) {
+        match line_of(self.operators.line(key)) {
+            Line::Show(shown) => self.begin(scene, key, shown),
+            Line::Read(reading) => self.ask(key, reading),
+            Line::Stop => {
+                self.stopped = Some(scene.now);
+                self.say(key, "ok");
+            }
+            Line::Bad => self.say(key, "bad line"),
+        }
+    }
+
+    // Notes a reading that is asked for. Where one is already, the operator waits for the next moment.
+    fn ask(&mut self, key: usize, reading: Reading) {
+        if reading == Reading::Accept && !is_guarded(self.last) {
+            self.say(
+                key,
+                "refused: no guard refused the list when it was read last",
+            );
+            return;
+        }
+        if self.asking.is_none() {
+            self.asking = Some(Asking { key, reading });
+        }
+    }
+
+    fn begin<W: Wire + Drop>(&mut self, scene: &Scene<'_, W>, key: usize, shown: Shown) {
+        let rest = Rest {
+            shown,
+            behind: None,
+        };
+        self.show(scene, key, rest);
+    }
+
+    // Shows an operator the next piece of its table.
+    fn go_on<W: Wire + Drop>(&mut self, scene: &Scene<'_, W>, key: usize) {
+        match self.left.get(key).copied() {
+            Some(Some(rest)) => self.show(scene, key, rest),
+            _ => self.say(key, "end"),
+        }
+    }
+
+    // What memory refused is cut.
+    fn show<W: Wire + Drop>(&mut self, scene: &Scene<'_, W>, key: usize, rest: Rest) {
+        self.page.clear();
+        let left = write_piece(scene, self.last, rest, &mut self.page);
+        self.hand_out(key, left.unwrap_or(None));
+    }
+
+    fn say(&mut self, key: usize, text: &str) {
+        self.page.clear();
+        let _said = writeln!(self.page, "{text}");
+        self.hand_out(key, None);
+    }
+
+    // Hands what stands on the page to the operator, of whose table this is left.
+    fn hand_out(&mut self, key: usize, rest: Left) {
+        self.operators
+            .say(key, self.page.as_slice(), rest.is_some());
+        if let Some(left) = self.left.get_mut(key) {
+            *left = rest;
+        }
+    }
+}
+
+// Whether a guard refused the list.
+fn is_guarded(last: Option<Reread>) -> bool {
+    matches!(last, Some(Reread::Refused(ListFault::Guard(_))))
+}
+
+fn write_outcome(led: Reread, payloads: usize, page: &mut Vec<u8>) -> io::Result<()> {
+    match led {
+        Reread::Refused(why) => writeln!(page, "refused: {why}"),
+        Reread::Same => writeln!(page, "ok the same {payloads} payloads"),
+        Reread::Published(serial) => writeln!(page, "ok serial {serial} payloads {payloads}"),
+    }
+}
+
+fn nothing_left(alloc: Global) -> Result<Vec<Left>, AllocError> {
+    let mut left = Vec::new(alloc);
+    for _ in 0..OPERATORS {
+        left.push(None)?;
+    }
+    Ok(left)
+}
