@@ -124,7 +124,8 @@ def samples():
     with tempfile.TemporaryDirectory() as folder:
         for name in ["ovcache.toml", "ovbgpd.toml"]:
             told = text(f"packaging/{name}").replace("/var/lib/kenyodla/", "")
-            pathlib.Path(folder, name).write_text(re.sub(r"(?m)^listen = .*", 'listen = "127.0.0.1:0"', told))
+            told = re.sub(r"(?m)^listen = .*", 'listen = "127.0.0.1:0"', told)
+            pathlib.Path(folder, name).write_text(re.sub(r"(?m)^control = .*", 'control = "socket"', told))
         shutil.copy("packaging/ovbgpd.commands", folder)
         shutil.copy("crates/ovcache/data/payloads.csv", folder)
         cache, _ = tried("ovcache", "--data", f"ovcache.toml={folder}/ovcache.toml", "--data", f"payloads.csv={folder}/payloads.csv", "--", "ovcache.toml", "3")

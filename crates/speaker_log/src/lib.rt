@@ -3,7 +3,7 @@
 //! `Journal` is shown a speaker behind each turn, tells in what it differs from the turn before, and what its wire saw: the steps
 //! of sessions, why connections end, NOTIFICATIONs, those that are refused, the session with the cache, and each so many seconds
 //! how all stands. Lines about strangers are bounded, and so are those about peers and the cache: what is left out in a minute is
-//! counted and told behind it. Nothing is written where the log is off. What the lines say is shown by tests.
+//! counted and told behind it. Nothing is written where the log is off. What the lines say is looked at by hand.
 #![tactic(auto)]
 
 mod journal;
