@@ -1,5 +1,5 @@
 -- What settings make of a loop, and turns of that.
-use Rattle.std.specs.Prelude.{◌≡◌, ℕ, List, [], ◌∷◌, Option, None, Some, String, Ok, is_some}
+use Rattle.std.specs.Prelude.{◌≡◌, ℕ, List, [], ◌∷◌, Option, None, Some, String, Ok}
 use Rattle.std.specs.declared.alloc.Global.{Global}
 use Rattle.std.specs.declared.net.socket_addr.SocketAddr.{SocketAddr as Address}
 use Rattle.speaker.specs.SpeakerState.{SpeakerState}
@@ -10,6 +10,7 @@ use Rattle.wires.specs.Wires.{WireState}
 use Rattle.speaker_program.specs.Commanded.{IsCommanded, TakesSoMany}
 use Rattle.speaker_program.specs.declared.fault.SpeakerFault.{SpeakerFault}
 use Rattle.speaker_program.specs.Slots.{HasJust}
+use Rattle.speaker_program.specs.ToldConfig.{config_of}
 use Rattle.speaker_desk.specs.Attended.{AttendsTurns}
 use Rattle.speaker_desk.specs.declared.attending.AttendFault.{AttendFault}
 use Rattle.speaker_settings.specs.declared.settings.SpeakerSettings.{SpeakerSettings}
@@ -40,7 +41,7 @@ abbrev pub StateFrom : {W : Type 0} → (W → Type 0) → (W → WireState) →
 StateFrom {W} gives state_of state = (wire : W) × gives wire × (state ≡ state_of wire)
 
 -- a loop before its first turn: its speaker is as the commands of the settings, of such a text, leave one of their AS, Identifier,
--- cache and capabilities, its slots are just those of the settings, it is as patient as they tell, and over such a wire it knows
+-- cache, capabilities and timers, its slots are just those of the settings, it is as patient as they tell, and over such a wire it knows
 -- where each peer of the settings is, and their cache
 pub record IsBegun (Told : Option (List ℕ) → Type 0) (Opened : WireState → Type 0) (settings : SpeakerSettings) (turns : Turns) : Type 0 where
   pub speaker : SpeakerState
@@ -48,7 +49,7 @@ pub record IsBegun (Told : Option (List ℕ) → Type 0) (Opened : WireState →
   pub wire : WireState
   pub told : Told text
   pub opened : Opened wire
-  pub commanded : IsCommanded text (record { asn = settings.asn; identifier = settings.identifier; cache = is_some settings.cache; multiprotocol = settings.multiprotocol }) speaker
+  pub commanded : IsCommanded text (config_of settings) speaker
   pub slots : HasJust settings.peers.items speaker
   pub remotes : turns ≡ with_remotes settings.peers.items settings.cache (with_patience (patience_of settings) (idle speaker wire))
 

@@ -5,3 +5,4 @@ pub mod Endings
 pub mod Exits
 pub mod Files
 pub mod Slots
+pub mod ToldConfig

@@ -1,5 +1,5 @@
 //! What the main of `ovbgpd` does.
-ghost use Rattle.std.specs.Prelude.{◌≡◌, [], ◌∷◌, ◌≤◌, ℕ, List, Vec, Option, Ok, Some, IfErr, IfOk, MatchOption, MatchResult, OnErr, OnOk, false, is_some, string_bytes};
+ghost use Rattle.std.specs.Prelude.{◌≡◌, [], ◌∷◌, ◌≤◌, ℕ, List, Vec, Option, Ok, Some, IfErr, IfOk, MatchOption, MatchResult, OnErr, OnOk, false, string_bytes};
 ghost use Rattle.clocks.specs.Moments.{IsNotBefore};
 ghost use Rattle.std.specs.Fn.{FnOnceReturnsAt};
 ghost use Rattle.std.specs.Global.{Global as TheGlobal};
@@ -12,7 +12,9 @@ ghost use Rattle.program_endings.specs.declared.aside.Aside.{Aside};
 ghost use Rattle.std.specs.Result.{IsErrAnd};
 ghost use Rattle.speaker_program.specs.Begun.{IsBegun, IsServed, StateFrom, TakesTurnsOf, TextFrom, patience_of, with_remotes};
 ghost use Rattle.speaker_settings.specs.declared.settings.SpeakerSettings.{SpeakerSettings};
+ghost use Rattle.speaker.specs.SlotTimes.{usual_timers};
 ghost use Rattle.speaker_program.specs.Slots.{HasJust, is_configured};
+ghost use Rattle.speaker_program.specs.ToldConfig.{config_of, with_all_times};
 ghost use Rattle.speaker_settings.specs.ToldSettings.{IsToldBy};
 ghost use Rattle.settings_keys.specs.Keys.{IsTableOf};
 ghost use Rattle.speaker_desk.specs.Attended.{AttendsTurns};
@@ -37,7 +39,7 @@ use log_lines::Onlooker;
 use net_wires::{NetWire, REST_MILLISECONDS};
 use program_endings::{Aside, aside_of, end, print, read_words};
 use scenario::{Table, obey_lines, show};
-use speaker::{Config, Speaker};
+use speaker::{Config, PeerTimers, SlotTimers, Speaker};
 use speaker_desk::{AttendFault, Desk, attended_turns};
 use speaker_settings::{SpeakerSettings, has_slot};
 use speaker_turns::{End, Patience, SpeakerLoop};
@@ -164,7 +166,7 @@ where
     R: Files + AllocGlobal,
     ensures slots { IfOk result (HasJust settings.now.peers.items) }
     ensures commands { IfOk result (λ speaker. (text : Option (List ℕ)) × IsTextAt (string_bytes settings.now.commands) text
-        × IsCommanded text (record { asn = settings.now.asn; identifier = settings.now.identifier; cache = is_some settings.now.cache; multiprotocol = settings.now.multiprotocol }) speaker) }
+        × IsCommanded text (config_of settings.now) speaker) }
 {
     commanded(rt.alloc(), settings, |path: &str| lines_of(rt, path))
 }
@@ -461,7 +463,7 @@ where
     ensures fault { IfErr result (λ fault. ¬ (IsOfWords fault)) }
     ensures slots { IfOk result (HasJust settings.now.peers.items) }
     ensures commands { IfOk result (λ speaker. (lines : L) × FnOnceReturnsAt M.FnOnce commands (string_bytes settings.now.commands) (Ok lines)
-        × IsCommanded (L.remaining lines) (record { asn = settings.now.asn; identifier = settings.now.identifier; cache = is_some settings.now.cache; multiprotocol = settings.now.multiprotocol }) speaker) }
+        × IsCommanded (L.remaining lines) (config_of settings.now) speaker) }
 {
     let mut speaker = made(alloc, config_of(settings))?;
     command(alloc, settings, &mut speaker, commands)?;
@@ -470,14 +472,26 @@ where
 
 // What the speaker of the settings is made with.
 fn config_of(settings: &SpeakerSettings) -> Config
-    ensures { result ≡ record { asn = settings.now.asn; identifier = settings.now.identifier; cache = is_some settings.now.cache; multiprotocol = settings.now.multiprotocol } }
+    ensures { result ≡ config_of settings.now }
 {
     Config {
         asn: settings.asn,
         identifier: settings.identifier,
         cache: settings.cache.is_some(),
         multiprotocol: settings.multiprotocol,
+        timers: timers_of(settings.timers.as_slice()),
     }
+}
+
+// The timers of each slot's peer.
+fn timers_of(told: &[(u8, PeerTimers)]) -> SlotTimers
+    ensures { result ≡ with_all_times told.now usual_timers }
+{
+    let mut timers = SlotTimers::USUAL;
+    for (slot, times) in told {
+        timers = timers.with_slot(*slot, *times);
+    }
+    timers
 }
 
 // A speaker that has obeyed no command.

@@ -73,3 +73,8 @@ pub returns-in_err-peers-clause-told : goal.returns-in_err-peers-clause-told
 returns-in_err-peers-clause-told c =
     let needs = IsToldBy (table_view c.args.table.now) in
     passes_on_in_memory _ needs c.from_residual-in_err-peers.result _ c.from_residual-in_err-peers.ensures.1 c.in_err-peers.ensures.told (λ none s told. none s.peers told.peers)
+
+pub returns-in_err-timers-clause-told : goal.returns-in_err-timers-clause-told
+returns-in_err-timers-clause-told c =
+    let needs = IsToldBy (table_view c.args.table.now) in
+    passes_on_in_memory _ needs c.from_residual-in_err-timers.result _ c.from_residual-in_err-timers.ensures.1 c.in_err-timers.ensures (λ none s told. none s.timers told.timers)
