@@ -5,4 +5,3 @@ pub mod Endings
 pub mod Exits
 pub mod Files
 pub mod Slots
-pub mod ToldConfig

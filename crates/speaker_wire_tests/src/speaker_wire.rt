@@ -6,7 +6,7 @@ ghost use Rattle.wires.specs.Wires.{FitsIn, FitsInSent, calling, failing, told_b
 use crate::made::made;
 use bgp_attr::Mode;
 use net_prefix::{Asn, Prefix};
-use speaker::{ClientState, Command, Config, Event, PeerConf, SlotTimers, Speaker, State};
+use speaker::{ClientState, Command, Config, Event, PeerConf, Speaker, State};
 use speaker_turns::{End, SpeakerLoop};
 use std::alloc::AllocGlobal;
 use std::cmp::min;
@@ -393,7 +393,6 @@ fn prepared(rt: &(impl AllocGlobal + Abort)) -> Speaker {
         identifier: 0xC000_0201,
         cache: true,
         multiprotocol: false,
-        timers: SlotTimers::USUAL,
     };
     let mut speaker = made(rt, Speaker::new(rt.alloc(), config));
     assert!(rt; has_peers(&mut speaker));
