@@ -2,7 +2,7 @@
 ghost use Rattle.std.specs.Prelude.{◌≡◌, Ok, Some, IfErr, IfOk, string_bytes};
 ghost use Rattle.std.specs.Fn.{FnOnceReturnsAt};
 ghost use Rattle.speaker_program.specs.Endings.{IsOfWords};
-ghost use Rattle.speaker_program.specs.Begun.{IsBegun, StateFrom, TextFrom, is_watched, patience_of, with_remotes};
+ghost use Rattle.speaker_program.specs.Begun.{IsBegun, StateFrom, TextFrom, patience_of, with_remotes};
 
 use crate::commanded_speaker::commanded;
 use crate::fault::SpeakerFault;
@@ -28,10 +28,10 @@ where
     requires opens { F.IsAlwaysCallable opens }
     ensures fault { IfErr result (λ fault. ¬ (IsOfWords fault)) }
     ensures begins { IfOk result (λ served. IsBegun (TextFrom (λ lines. FnOnceReturnsAt M.FnOnce commands (string_bytes settings.now.commands) (Ok lines)) L.remaining)
-        (StateFrom (λ wire. F.post opens settings.now.listen (is_watched settings.now) (Ok wire)) W.state) settings.now served) }
+        (StateFrom (λ wire. F.post opens settings.now.listen settings.now.log (Ok wire)) W.state) settings.now served) }
 {
     let speaker = commanded(alloc, settings, commands)?;
-    let wire = opened(settings.listen, is_watched(settings), opens)?;
+    let wire = opened(settings.listen, settings.log, opens)?;
     let mut served = SpeakerLoop::new(alloc, wire, speaker)?;
     served.set_patience(patience_of(settings));
     tell_remotes(settings, &mut served);
@@ -46,13 +46,6 @@ fn patience_of(settings: &SpeakerSettings) -> Patience
         send_hold: Some(settings.send_hold),
         open_wait: settings.open_wait,
     }
-}
-
-// Whether what is seen on the wire is kept.
-fn is_watched(settings: &SpeakerSettings) -> bool
-    ensures { result ≡ is_watched settings.now }
-{
-    settings.log || settings.metrics.is_some()
 }
 
 // The wire that is opened there, for a log or for none.

@@ -8,7 +8,7 @@ ghost use Rattle.speaker_program.specs.Endings.{EndsSo, IsOfWords, status_at_end
 ghost use Rattle.program_endings.specs.Asides.{Asks};
 ghost use Rattle.program_endings.specs.declared.aside.Aside.{Aside};
 ghost use Rattle.std.specs.Result.{IsErrAnd};
-ghost use Rattle.speaker_program.specs.Begun.{IsServed, StateFrom, TextFrom, is_watched};
+ghost use Rattle.speaker_program.specs.Begun.{IsServed, StateFrom, TextFrom};
 ghost use Rattle.speaker_settings.specs.declared.settings.SpeakerSettings.{SpeakerSettings};
 ghost use Rattle.speaker_settings.specs.ToldSettings.{IsToldBy};
 ghost use Rattle.settings_keys.specs.Keys.{IsTableOf};
@@ -26,10 +26,8 @@ use clocks::{MonotonicClock, SecondsClock};
 use control_lines::Operators;
 use control_sockets::ControlSocket;
 use decision::Book;
-use metrics_sockets::MetricsSocket;
 use net_wires::NetWire;
 use program_endings::{Aside, aside_of, end, read_words};
-use scrapers::Scrapers;
 use speaker_settings::SpeakerSettings;
 use speaker_turns::SpeakerLoop;
 use std::alloc::{AllocGlobal, Global};
@@ -128,7 +126,6 @@ where
         |path: &str| lines_of(rt, path),
         |listen, log| open_wire(rt, listen, log),
         |path: &str| ControlSocket::open(rt, path),
-        |address| MetricsSocket::open(rt, address),
     )
 }
 
@@ -166,12 +163,10 @@ fn run_bgp<
     L: BufRead + Drop,
     W: Wire + Watched + Drop,
     P: Operators + Drop,
-    Q: Scrapers + Drop,
     S,
     M,
     F,
     D,
-    E,
 >(
     rt: &R,
     words: &[String],
@@ -181,19 +176,16 @@ fn run_bgp<
     commands: M,
     opens: F,
     controls: D,
-    scrapes: E,
 ) -> Result<SpeakerLoop<W, Global, B>, SpeakerFault>
 where
     S: FnOnce(&str) -> io::Result<Vec<u8>>,
     M: FnOnce(&str) -> io::Result<L>,
     F: FnOnce(Option<SocketAddr>, bool) -> io::Result<W>,
     D: FnOnce(&str) -> io::Result<P>,
-    E: FnOnce(SocketAddr) -> io::Result<Q>,
     requires reads { S.IsAlwaysCallable reads }
     requires commands { M.IsAlwaysCallable commands }
     requires opens { F.IsAlwaysCallable opens }
     requires controls { D.IsAlwaysCallable controls }
-    requires scrapes { E.IsAlwaysCallable scrapes }
     ensures wrong { ((path : List ℕ) (turns : ℕ) → ¬ (IsCall words.now path turns)) → IsErrAnd result IsOfWords }
     ensures right { (path : List ℕ) (turns : ℕ) → IsCall words.now path turns → ¬ (IsErrAnd result IsOfWords) }
     ensures output { IsErrAnd result IsOfWords → output.new ≡ output.old }
@@ -202,12 +194,12 @@ where
     ensures serves { IfOk result (λ served. (path : List ℕ) × (turns : ℕ) × (octets : Vec ℕ TheGlobal) × (table : Members) × (settings : SpeakerSettings)
         × IsCall words.now path turns × FnOnceReturnsAt S.FnOnce reads path (Ok octets) × IsTableOf octets.items table × IsToldBy table settings
         × IsServed (TextFrom (λ lines. FnOnceReturnsAt M.FnOnce commands (string_bytes settings.commands) (Ok lines)) L.remaining)
-        (StateFrom (λ wire. F.post opens settings.listen (is_watched settings) (Ok wire)) W.state) settings turns (C.readings clock.old) (C.readings clock.new) served) }
+        (StateFrom (λ wire. F.post opens settings.listen settings.log (Ok wire)) W.state) settings turns (C.readings clock.old) (C.readings clock.new) served) }
 {
     let (path, turns) = call_of(words)?;
     let settings = read_settings(rt.alloc(), path, reads)?;
     serve(
-        rt, &settings, turns, output, clock, commands, opens, controls, scrapes,
+        rt, &settings, turns, output, clock, commands, opens, controls,
     )
 }
 

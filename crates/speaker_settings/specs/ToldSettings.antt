@@ -31,7 +31,7 @@ IsSlot found slot = IsNumber found slot × (slot < 64)
 
 -- the keys of the settings, and of each peer's table
 abbrev pub keys_of_a_speaker : List (List ℕ)
-keys_of_a_speaker = codes "as" ∷ codes "identifier" ∷ codes "commands" ∷ codes "cache" ∷ codes "multiprotocol" ∷ codes "listen" ∷ codes "control" ∷ codes "send_hold" ∷ codes "open_wait" ∷ codes "log" ∷ codes "status" ∷ codes "metrics" ∷ codes "wait_for_cache" ∷ codes "peer" ∷ []
+keys_of_a_speaker = codes "as" ∷ codes "identifier" ∷ codes "commands" ∷ codes "cache" ∷ codes "multiprotocol" ∷ codes "listen" ∷ codes "control" ∷ codes "send_hold" ∷ codes "open_wait" ∷ codes "log" ∷ codes "status" ∷ codes "peer" ∷ []
 
 abbrev pub keys_of_a_peer : List (List ℕ)
 keys_of_a_peer = codes "slot" ∷ codes "remote" ∷ []
@@ -72,6 +72,4 @@ pub record IsToldBy (table : Members) (settings : SpeakerSettings) : Type 0 wher
   pub open_wait : IsToldIfThere IsSeconds (get_member (codes "open_wait") table) settings.open_wait
   pub log : IsToldOrUsual IsYesOrNo false (get_member (codes "log") table) settings.log
   pub status : IsToldIfThere IsSeconds (get_member (codes "status") table) settings.status
-  pub metrics : IsToldIfThere IsAddress (get_member (codes "metrics") table) settings.metrics
-  pub wait_for_cache : IsToldIfThere IsSeconds (get_member (codes "wait_for_cache") table) settings.wait_for_cache
   pub peers : ArePeersAt (get_member (codes "peer") table) settings.peers.items

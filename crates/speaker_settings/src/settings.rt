@@ -43,10 +43,6 @@ pub struct SpeakerSettings {
     pub log: bool,
     /// After how many seconds the log gets a status line, if it does.
     pub status: Option<u32>,
-    /// Where scrapers ask for figures, if they do.
-    pub metrics: Option<SocketAddr>,
-    /// For how many seconds at most peers are enabled only once payloads were loaded, if they wait for that.
-    pub wait_for_cache: Option<u32>,
     /// The slot of each peer, and where the peer is.
     pub peers: Vec<(u8, SocketAddr)>,
 }
@@ -54,9 +50,9 @@ pub struct SpeakerSettings {
 impl SpeakerSettings {
     /// The settings that the octets of a file tell in TOML: `as`, a number from 1 to 4294967295, `identifier`, the text of
     /// an IPv4 address other than 0.0.0.0, and `commands`, a text; and, where they are there, `multiprotocol` and `log`,
-    /// `true` or `false`, `cache`, `listen` and `metrics`, each the text of an address and a port, `control`, a text, `send_hold`, in
-    /// the place of `SEND_HOLD_SECONDS`, `open_wait`, `status` and `wait_for_cache`, each a number from 1 to 4294967295, and the
-    /// tables `peer`, each with `slot`, from 0 to 63 and none twice, and `remote`, the text of an address and a port. There are no keys of other names. Anything else is
+    /// `true` or `false`, `cache` and `listen`, each the text of an address and a port, `control`, a text, `send_hold`, in the
+    /// place of `SEND_HOLD_SECONDS`, `open_wait` and `status`, each a number from 1 to 4294967295, and the tables `peer`, each with
+    /// `slot`, from 0 to 63 and none twice, and `remote`, the text of an address and a port. There are no keys of other names. Anything else is
     /// `Settings`.
     pub fn read(alloc: Global, octets: &[u8]) -> Result<SpeakerSettings, SettingsFault>
         ensures told { AnswersInMemory (λ settings. (table : Members) × IsTableOf octets.now table × IsToldBy table settings) result }
@@ -90,8 +86,6 @@ impl SpeakerSettings {
         let open_wait = seconds_of(alloc, table, "open_wait")?;
         let log = yes_or_no_of(alloc, table, "log")?;
         let status = seconds_of(alloc, table, "status")?;
-        let metrics = address_if_told(alloc, table, "metrics")?;
-        let wait_for_cache = seconds_of(alloc, table, "wait_for_cache")?;
         let peers = peers_of(alloc, table)?;
         Ok(SpeakerSettings {
             asn,
@@ -105,15 +99,13 @@ impl SpeakerSettings {
             open_wait,
             log,
             status,
-            metrics,
-            wait_for_cache,
             peers,
         })
     }
 }
 
 // The keys of the settings, and of each peer's table.
-const KEYS: [&str; 14] = [
+const KEYS: [&str; 12] = [
     "as",
     "identifier",
     "commands",
@@ -125,8 +117,6 @@ const KEYS: [&str; 14] = [
     "open_wait",
     "log",
     "status",
-    "metrics",
-    "wait_for_cache",
     "peer",
 ];
 
