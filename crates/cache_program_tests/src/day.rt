@@ -88,8 +88,8 @@ pub(crate) fn are_removed(rt: &HostRuntime, paths: &[String]) -> bool {
     true
 }
 
-fn write_settings(rt: &HostRuntime, day: &str) -> io::Result<String> {
-    let text = format!(in rt.alloc(); "{SETTINGS}\"{LIST_PATH}\"\n")?;
+fn write_settings(rt: &HostRuntime, day: &str, more: &str) -> io::Result<String> {
+    let text = format!(in rt.alloc(); "{more}{SETTINGS}\"{LIST_PATH}\"\n")?;
     let name = format!(in rt.alloc(); "{day}.toml")?;
     write(rt, name.as_str(), text.as_str())
 }
@@ -133,9 +133,15 @@ fn is_told(stage: &Stage<'_>, settings_path: &str, log: &str) -> bool {
     }) == Ok(true)
 }
 
-// The same on settings in a file.
-pub(crate) fn is_told_on_a_file(rt: &HostRuntime, day: &str, stage: &Stage<'_>, log: &str) -> bool {
-    match write_settings(rt, day) {
+// The same on settings in a file, which have these lines too.
+pub(crate) fn is_told_on_a_file(
+    rt: &HostRuntime,
+    day: &str,
+    more: &str,
+    stage: &Stage<'_>,
+    log: &str,
+) -> bool {
+    match write_settings(rt, day, more) {
         Ok(path) => is_told(stage, path.as_str(), log) && remove(rt, path.as_str()).is_ok(),
         Err(_) => false,
     }
@@ -150,7 +156,7 @@ fn is_logged(
 ) -> bool {
     let [before, between, behind] = LOG;
     match format!(in rt.alloc(); "{before}{listener}{between}{address}{behind}") {
-        Ok(log) => is_told_on_a_file(rt, "day", stage, log.as_str()),
+        Ok(log) => is_told_on_a_file(rt, "day", "", stage, log.as_str()),
         Err(_) => false,
     }
 }

@@ -1,10 +1,11 @@
-//! The call of the system's clock of the day, and a note of what it answered.
+//! The call of the system's clock of the day, and a note of each second that it answered.
 //!
 //! This module does nothing else, and no other one writes such a note. That a note is what the system answered is trusted,
 //! beside the toolchain.
-ghost use Rattle.std.specs.Prelude.{◌≡◌, None};
+ghost use Rattle.std.specs.Prelude.{◌≡◌, []};
 
 use crate::seconds_since_1970::SecondsSince1970;
+use crate::tellings::{Telling, Tellings};
 use std::io;
 use std::marker::Model;
 use std::rt::Clock;
@@ -14,33 +15,35 @@ use std::time::SystemTime;
 #[derive(Drop)]
 pub struct SystemSeconds<'a, R> {
     rt: &'a R,
-    // The second that it told last.
-    told: Option<u64>,
+    tellings: Tellings,
 }
 
 impl<'a, R> Model for SystemSeconds<'a, R> {
-    ghost use Rattle.std.specs.Prelude.{ℕ, Option};
+    ghost use Rattle.std.specs.Prelude.{ℕ, List};
 
-    ghost Value = { Option ℕ };
+    ghost Value = { List ℕ };
 
-    ghost view = { λ clock. clock.told };
+    ghost view = { λ clock. clock.tellings.seconds };
 }
 
 impl<'a, R: Clock> SystemSeconds<'a, R> {
     /// A clock that hasn't been asked.
     pub fn new(rt: &'a R) -> Self
-        ensures { result ≡ None }
+        ensures { result ≡ [] }
     {
-        SystemSeconds { rt, told: None }
+        SystemSeconds {
+            rt,
+            tellings: Tellings::new(),
+        }
     }
 }
 
 impl<'a, R: Clock> SecondsSince1970 for SystemSeconds<'a, R> {
-    ghost told = { λ clock. clock };
+    ghost tellings = { λ clock. clock };
 
     fn second(&mut self) -> io::Result<u64> {
         let second = SystemTime::UNIX_EPOCH.elapsed(self.rt)?.as_secs();
-        self.told = Some(second);
+        self.tellings = self.tellings.then(&Telling(second));
         Ok(second)
     }
 }

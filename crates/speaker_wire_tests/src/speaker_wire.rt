@@ -69,7 +69,7 @@ struct Side {
 
 // Three sides, and a call of the wire that fails.
 #[derive(Drop)]
-pub(crate) struct MemoryWire {
+struct MemoryWire {
     sides: [Side; 3],
     has_come: bool,
     calls: u64,
@@ -115,7 +115,7 @@ fn address_of(side: usize) -> SocketAddr {
 }
 
 impl MemoryWire {
-    pub(crate) fn failing_at(fails_at: u64) -> MemoryWire {
+    fn failing_at(fails_at: u64) -> MemoryWire {
         let side = Side {
             said: 0,
             asked: 0,
@@ -337,7 +337,7 @@ impl Wire for MemoryWire {
 
 // What twenty turns have led to.
 #[derive(Clone, Copy)]
-pub(crate) struct Turned {
+struct Turned {
     sides: [Side; 3],
     failed: Option<Call>,
     fault: Option<LoopFault>,
@@ -346,18 +346,6 @@ pub(crate) struct Turned {
     // The sessions of the slots 0 and 1.
     sessions: [Option<State>; 2],
     cache: Option<ClientState>,
-}
-
-impl Turned {
-    // Whether no call of the wire has failed.
-    pub(crate) fn is_whole(&self) -> bool {
-        self.failed.is_none()
-    }
-
-    // Whether a fault has ended the turns.
-    pub(crate) fn is_ended(&self) -> bool {
-        self.fault.is_some()
-    }
 }
 
 fn peer(asn: u32, host: u32, mode: Mode) -> PeerConf<'static> {
@@ -399,7 +387,7 @@ fn has_peers(speaker: &mut Speaker) -> bool {
 }
 
 // A speaker with both peers, enabled, and a cache.
-pub(crate) fn prepared(rt: &(impl AllocGlobal + Abort)) -> Speaker {
+fn prepared(rt: &(impl AllocGlobal + Abort)) -> Speaker {
     let config = Config {
         asn: Asn(65_000),
         identifier: 0xC000_0201,
@@ -422,7 +410,7 @@ fn fault_of_turns(turns: &mut SpeakerLoop<MemoryWire>) -> Option<LoopFault> {
 }
 
 // What they have led to.
-pub(crate) fn told_of(turns: &SpeakerLoop<MemoryWire>, fault: Option<LoopFault>) -> Turned {
+fn told_of(turns: &SpeakerLoop<MemoryWire>, fault: Option<LoopFault>) -> Turned {
     let wire = turns.wire();
     let speaker = turns.speaker();
     let told = wire.faults.saturating_add(wire.ends);
@@ -436,16 +424,11 @@ pub(crate) fn told_of(turns: &SpeakerLoop<MemoryWire>, fault: Option<LoopFault>)
     }
 }
 
-// Tells the address of each side.
-pub(crate) fn with_addresses(turns: &mut SpeakerLoop<MemoryWire>) {
+// What twenty turns lead to, once each side has its address.
+fn after_turns(turns: &mut SpeakerLoop<MemoryWire>) -> Turned {
     turns.set_remote(End::Peer(0), address_of(0));
     turns.set_remote(End::Peer(1), address_of(1));
     turns.set_remote(End::Cache, address_of(2));
-}
-
-// What twenty turns lead to, once each side has its address.
-fn after_turns(turns: &mut SpeakerLoop<MemoryWire>) -> Turned {
-    with_addresses(turns);
     let fault = fault_of_turns(turns);
     told_of(turns, fault)
 }
@@ -485,7 +468,7 @@ fn goes_on(turned: &Turned) -> bool {
 }
 
 // Whether the call that has failed, if one has, has led to what it should.
-pub(crate) fn is_well_led(turned: &Turned) -> bool {
+fn is_well_led(turned: &Turned) -> bool {
     match turned.failed {
         Some(Call::Accept) => turned.fault == Some(LoopFault::Accept),
         Some(Call::OfSide(_)) | None => goes_on(turned),
