@@ -8,7 +8,7 @@ use crate::figures::{CacheFigures, RunFigures};
 use prometheus_text::{Label, Metric, Sample, write_metric, write_sample};
 use std::alloc::{AllocError, Allocator};
 
-/// Writes the figures of a cache and of its run, with how many seconds ago the list was written, if that can be told,
+/// Writes the figures of a cache and of its run, with how many seconds ago the list's file was written, if that can be told,
 /// behind what the text has. Where memory is refused the text is of no use.
 #[tactic(auto, unfolding(crate::specs::FiguresText::figures_text))]
 pub fn write_figures<A: Allocator>(

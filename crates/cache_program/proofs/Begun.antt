@@ -6,7 +6,6 @@ use Rattle.cache_turns.specs.Turns.{Turns}
 use Rattle.list_guards.specs.declared.Guards.{Guards}
 use Rattle.net_prefix.specs.declared.payload.Vrp.{Vrp}
 use Rattle.vrp_delta.specs.Versions.{Version}
-use Rattle.vrp_json.specs.declared.written.Written.{Written}
 use Rattle.wires.specs.Wires.{WireState, nothing_told}
 use Rattle.cache_desk.specs.declared.reading.Reading.{Reading}
 use Rattle.cache_settings.specs.declared.settings.CacheSettings.{CacheSettings}
@@ -21,43 +20,23 @@ use Rattle.cache_program.specs.ServedTurns.{IsBegun, IsServed, Moment, ServesAll
 use Rattle.cache_watch.specs.declared.reread.Reread.{Reread}
 
 -- the set that is published first is that of the newest version
-pub first_is_newest_set : (Lists : Result SourceTexts SourceFile → Type 0) (guards : Guards) (kept : List Version) (serial : ℕ) (set : List Vrp) (written : Written) → IsFirst Lists guards kept serial set written → set ≡ newest_set kept
-first_is_newest_set Lists guards kept serial set written first = sym (ap newest_set first.kept_is ∙ newest_set-kept_after [] set)
+pub first_is_newest_set : (Lists : Result SourceTexts SourceFile → Type 0) (guards : Guards) (kept : List Version) (serial : ℕ) (set : List Vrp) → IsFirst Lists guards kept serial set → set ≡ newest_set kept
+first_is_newest_set Lists guards kept serial set first = sym (ap newest_set first.kept_is ∙ newest_set-kept_after [] set)
 
-pub first_is_newest : (Lists : Result SourceTexts SourceFile → Type 0) (guards : Guards) (kept : List Version) (serial : ℕ) (set : List Vrp) (written : Written) → IsFirst Lists guards kept serial set written → IsNewest kept serial (length set)
-first_is_newest Lists guards kept serial set written first = record {
+pub first_is_newest : (Lists : Result SourceTexts SourceFile → Type 0) (guards : Guards) (kept : List Version) (serial : ℕ) (set : List Vrp) → IsFirst Lists guards kept serial set → IsNewest kept serial (length set)
+first_is_newest Lists guards kept serial set first = record {
   serial_is = first.serial_is;
-  payloads_are = ap (λ (payloads : List Vrp). length payloads) (first_is_newest_set Lists guards kept serial set written first);
+  payloads_are = ap (λ (payloads : List Vrp). length payloads) (first_is_newest_set Lists guards kept serial set first);
 }
 
 -- it began, and then so many turns were taken
-pub is_served : (Lists : ℕ → Result SourceTexts SourceFile → Type 0) (Wires : WireState → Type 0) (settings : CacheSettings) (may_ask : Bool) (count start : ℕ) (before mid behind dated middle redated : List ℕ) (begun served : Served)
-    → mid ≡ start ∷ before → may_ask ≡ is_some settings.control → IsBegun Lists Wires (λ second. middle ≡ second ∷ dated) settings begun → ServesSoMany Lists settings.reread settings.expires may_ask count mid behind middle redated begun served → IsServed Lists Wires settings count before behind dated redated served
-is_served Lists Wires settings may_ask count start before mid behind dated middle redated begun served read is begins takes = record {
+pub is_served : (Lists : Result SourceTexts SourceFile → Type 0) (Wires : WireState → Type 0) (Seconds : ℕ → Type 0) (settings : CacheSettings) (may_ask : Bool) (count start : ℕ) (before mid behind : List ℕ) (begun served : Served)
+    → mid ≡ start ∷ before → may_ask ≡ is_some settings.control → IsBegun Lists Wires Seconds settings begun → ServesSoMany Lists settings.reread may_ask count mid behind begun served → IsServed Lists Wires Seconds settings count before behind served
+is_served Lists Wires Seconds settings may_ask count start before mid behind begun served read is begins takes = record {
   begun = begun;
   start = start;
-  middle = middle;
   begins = begins;
-  takes =
-      subst (λ (may : Bool). ServesSoMany Lists settings.reread settings.expires may count (start ∷ before) behind middle redated begun served) is
-      (subst (λ (b : List ℕ). ServesSoMany Lists settings.reread settings.expires may_ask count b behind middle redated begun served) read takes);
-}
-
--- it began in the second that was told
-pub begun_in : (Lists : ℕ → Result SourceTexts SourceFile → Type 0) (Wires : WireState → Type 0) (Seconds Told : ℕ → Type 0) (settings : CacheSettings) (begun : Served) → IsBegun Lists Wires Seconds settings begun → ((second : ℕ) → Seconds second → Told second) → IsBegun Lists Wires Told settings begun
-begun_in Lists Wires Seconds Told settings served begun so = record {
-  cache = begun.cache;
-  wire = begun.wire;
-  second = begun.second;
-  set = begun.set;
-  told = so begun.second begun.told;
-  of_settings = begun.of_settings;
-  first = begun.first;
-  payloads = begun.payloads;
-  guards = begun.guards;
-  accepted = begun.accepted;
-  listens = begun.listens;
-  turns = begun.turns;
+  takes = subst (λ (may : Bool). ServesSoMany Lists settings.reread may count (start ∷ before) behind begun served) is (subst (λ (b : List ℕ). ServesSoMany Lists settings.reread may_ask count b behind begun served) read takes);
 }
 
 -- the same, as others say what the system has answered
@@ -73,29 +52,28 @@ once_as Lists Others so asked is_due now old new once = record {
   same = once.same;
 }
 
-all_as : (Lists Others : ℕ → Result SourceTexts SourceFile → Type 0) → ((second : ℕ) (sources : Result SourceTexts SourceFile) → Lists second sources → Others second sources) → (seconds : Option ℕ) (last : ℕ) (moments : List Moment) (old new : Served) → ServesAll Lists seconds last moments old new → ServesAll Others seconds last moments old new
+all_as : (Lists Others : Result SourceTexts SourceFile → Type 0) → ((sources : Result SourceTexts SourceFile) → Lists sources → Others sources) → (seconds : Option ℕ) (last : ℕ) (moments : List Moment) (old new : Served) → ServesAll Lists seconds last moments old new → ServesAll Others seconds last moments old new
 all_as Lists Others so seconds last [] old new same = same
 all_as Lists Others so seconds last (at ∷ moments) old new all =
-    (all.0, once_as (Lists at.second) (Others at.second) (so at.second) at.asked (have_passed seconds last at.now) at.now old all.0 all.1, all_as Lists Others so seconds (if have_passed seconds last at.now then at.now else last) moments all.0 new all.2)
+    (all.0, once_as Lists Others so at.asked (have_passed seconds last at.now) at.now old all.0 all.1, all_as Lists Others so seconds (if have_passed seconds last at.now then at.now else last) moments all.0 new all.2)
 
-pub served_as : (Lists Others : ℕ → Result SourceTexts SourceFile → Type 0) (Wires Opened : WireState → Type 0) (settings : CacheSettings) (count : ℕ) (before behind dated redated : List ℕ) (served : Served)
-    → IsServed Lists Wires settings count before behind dated redated served
-    → ((second : ℕ) (sources : Result SourceTexts SourceFile) → Lists second sources → Others second sources) → ((wire : WireState) → Wires wire → Opened wire)
-    → IsServed Others Opened settings count before behind dated redated served
-served_as Lists Others Wires Opened settings count before behind dated redated served is lists wires =
+pub served_as : (Lists Others : Result SourceTexts SourceFile → Type 0) (Wires Opened : WireState → Type 0) (Seconds Told : ℕ → Type 0) (settings : CacheSettings) (count : ℕ) (before behind : List ℕ) (served : Served)
+    → IsServed Lists Wires Seconds settings count before behind served
+    → ((sources : Result SourceTexts SourceFile) → Lists sources → Others sources) → ((wire : WireState) → Wires wire → Opened wire) → ((second : ℕ) → Seconds second → Told second)
+    → IsServed Others Opened Told settings count before behind served
+served_as Lists Others Wires Opened Seconds Told settings count before behind served is lists wires seconds =
     let begun = is.begins in
     record {
       begun = is.begun;
       start = is.start;
-      middle = is.middle;
       begins = record {
         cache = begun.cache;
         wire = begun.wire;
         second = begun.second;
         set = begun.set;
-        told = begun.told;
+        told = seconds begun.second begun.told;
         of_settings = begun.of_settings;
-        first = record { sources = begun.first.sources; given = lists begun.second (Ok begun.first.sources) begun.first.given; passes = begun.first.passes; says = begun.first.says; kept_is = begun.first.kept_is; serial_is = begun.first.serial_is };
+        first = record { sources = begun.first.sources; given = lists (Ok begun.first.sources) begun.first.given; passes = begun.first.passes; kept_is = begun.first.kept_is; serial_is = begun.first.serial_is };
         payloads = begun.payloads;
         guards = begun.guards;
         accepted = begun.accepted;
@@ -106,7 +84,6 @@ served_as Lists Others Wires Opened settings count before behind dated redated s
         moments = is.takes.moments;
         serves = all_as Lists Others lists settings.reread 0 is.takes.moments is.begun served is.takes.serves;
         told = is.takes.told;
-        dates = is.takes.dates;
         forward = is.takes.forward;
         few = is.takes.few;
         all = is.takes.all;
@@ -114,8 +91,8 @@ served_as Lists Others Wires Opened settings count before behind dated redated s
     }
 
 -- it listens where it was opened
-pub listens_there : (Lists : ℕ → Result SourceTexts SourceFile → Type 0) (settings : CacheSettings) (count : ℕ) (before behind dated redated : List ℕ) (served : Served) (listens : Option SocketAddr)
-    → IsServed Lists (λ wire. wire ≡ nothing_told listens) settings count before behind dated redated served → served.turns.counts.wire.listens ≡ listens
-listens_there Lists settings count before behind dated redated served listens is =
+pub listens_there : (Lists : Result SourceTexts SourceFile → Type 0) (Seconds : ℕ → Type 0) (settings : CacheSettings) (count : ℕ) (before behind : List ℕ) (served : Served) (listens : Option SocketAddr)
+    → IsServed Lists (λ wire. wire ≡ nothing_told listens) Seconds settings count before behind served → served.turns.counts.wire.listens ≡ listens
+listens_there Lists Seconds settings count before behind served listens is =
     let steps = served_are_steps Lists settings.reread 0 is.takes.moments is.begun served is.takes.serves in
     listens_on steps.0 is.begun.turns served.turns steps.1 ∙ (ap (λ (t : Turns). t.counts.wire.listens) is.begins.turns ∙ ap (λ (w : WireState). w.listens) is.begins.listens)

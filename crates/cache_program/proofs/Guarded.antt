@@ -87,22 +87,22 @@ only_where_one_may true asked none accepted = refl
 only_where_one_may false asked none accepted = absurd (false≢true (sym (ap is_accepted (none refl)) ∙ accepted))
 
 -- behind all moments
-all_well : (Lists : ℕ → Result SourceTexts SourceFile → Type 0) (seconds : Option ℕ) (may : Bool) (last : ℕ) (moments : List Moment) (guards : Guards) (old new : Served) → ServesAll Lists seconds last moments old new
+all_well : (Lists : Result SourceTexts SourceFile → Type 0) (seconds : Option ℕ) (may : Bool) (last : ℕ) (moments : List Moment) (guards : Guards) (old new : Served) → ServesAll Lists seconds last moments old new
     → (may ≡ false → NobodyAsks moments) → old.guards ≡ guards → IsWell may guards old → IsWell may guards new
 all_well Lists seconds may last [] guards old new same nobody is well = subst (λ (s : Served). IsWell may guards s) (sym same) well
 all_well Lists seconds may last (at ∷ moments) guards old new all nobody is well =
-    let stays = stays_once (Lists at.second) may at.asked (have_passed seconds last at.now) at.now old all.0 (only_where_one_may may at.asked (λ off. (nobody off).0)) all.1 in
+    let stays = stays_once Lists may at.asked (have_passed seconds last at.now) at.now old all.0 (only_where_one_may may at.asked (λ off. (nobody off).0)) all.1 in
     all_well Lists seconds may (if have_passed seconds last at.now then at.now else last) moments guards all.0 new all.2 (λ off. (nobody off).1) (stays.guards ∙ is)
     (subst (λ (g : Guards). IsWell may g all.0) is (stays.well (subst (λ (g : Guards). IsWell may g old) (sym is) well)))
 
-first_enough : (Lists : ℕ → Result SourceTexts SourceFile → Type 0) (Wires : WireState → Type 0) (Seconds : ℕ → Type 0) (settings : CacheSettings) (served : Served) → IsBegun Lists Wires Seconds settings served → HasEnough settings.guards (served_set served)
+first_enough : (Lists : Result SourceTexts SourceFile → Type 0) (Wires : WireState → Type 0) (Seconds : ℕ → Type 0) (settings : CacheSettings) (served : Served) → IsBegun Lists Wires Seconds settings served → HasEnough settings.guards (served_set served)
 first_enough Lists Wires Seconds settings served begun =
-    let newest = first_is_newest_set (Lists begun.second) settings.guards begun.cache.shared.kept served.serial begun.set served.written begun.first in
+    let newest = first_is_newest_set Lists settings.guards begun.cache.shared.kept served.serial begun.set begun.first in
     subst (λ (set : List Vrp). HasEnough settings.guards set)
     (newest ∙ sym (ap (λ (turns : Turns). newest_set turns.cache.shared.kept) begun.turns))
     (passes settings.guards [] begun.set begun.first.passes.1).0
 
-pub served_well : (Lists : ℕ → Result SourceTexts SourceFile → Type 0) (Wires : WireState → Type 0) (settings : CacheSettings) (count : ℕ) (before behind dated redated : List ℕ) (served : Served)
-    → IsServed Lists Wires settings count before behind dated redated served → IsWell (is_some settings.control) settings.guards served
-served_well Lists Wires settings count before behind dated redated served is =
-    all_well Lists settings.reread (is_some settings.control) 0 is.takes.moments settings.guards is.begun served is.takes.serves (λ off. (is.takes.all off).1) is.begins.guards (inr (first_enough Lists Wires (λ second. is.middle ≡ second ∷ dated) settings is.begun is.begins))
+pub served_well : (Lists : Result SourceTexts SourceFile → Type 0) (Wires : WireState → Type 0) (Seconds : ℕ → Type 0) (settings : CacheSettings) (count : ℕ) (before behind : List ℕ) (served : Served)
+    → IsServed Lists Wires Seconds settings count before behind served → IsWell (is_some settings.control) settings.guards served
+served_well Lists Wires Seconds settings count before behind served is =
+    all_well Lists settings.reread (is_some settings.control) 0 is.takes.moments settings.guards is.begun served is.takes.serves (λ off. (is.takes.all off).1) is.begins.guards (inr (first_enough Lists Wires Seconds settings is.begun is.begins))

@@ -11,7 +11,7 @@ use Rattle.cache_program.specs.Passing.{have_passed}
 use Rattle.cache_program.specs.declared.every.Every.{Every}
 use Rattle.cache_program.specs.Rereads.{HandsIn, Publishes, Rereads, RereadsFile, RereadsWhenDue, Served}
 use Rattle.cache_desk.specs.declared.reading.Reading.{Reading}
-use Rattle.cache_program.specs.ServedTurns.{Moment, NobodyAsks, ServesAll, ServesOnce, ServesSoMany, is_accepted, is_read, nows, seconds_of}
+use Rattle.cache_program.specs.ServedTurns.{Moment, NobodyAsks, ServesAll, ServesOnce, ServesSoMany, is_accepted, is_read, nows}
 use Rattle.cache_watch.specs.declared.reread.Reread.{Reread}
 use Rattle.cache_watch.specs.declared.reread.Reread.TheVariants.{Refused, Same, Published}
 
@@ -28,81 +28,72 @@ nows_more : (moments : List Moment) (at : Moment) → nows (moments ++ at ∷ []
 nows_more [] at = refl
 nows_more (moment ∷ moments) at = ap (λ (rest : List ℕ). moment.now ∷ rest) (nows_more moments at)
 
-seconds_more : (moments : List Moment) (at : Moment) → seconds_of (moments ++ at ∷ []) ≡ seconds_of moments ++ at.second ∷ []
-seconds_more [] at = refl
-seconds_more (moment ∷ moments) at = ap (λ (rest : List ℕ). moment.second ∷ rest) (seconds_more moments at)
-
 nobody_more : (moments : List Moment) (at : Moment) → NobodyAsks moments → at.asked ≡ None → NobodyAsks (moments ++ at ∷ [])
 nobody_more [] at nobody none = (none, tt)
 nobody_more (moment ∷ moments) at nobody none = (nobody.0, nobody_more moments at nobody.1 none)
 
-serves_more : (Lists : ℕ → Result SourceTexts SourceFile → Type 0) (seconds : Option ℕ) (last : ℕ) (moments : List Moment) (at : Moment) (old mid new : Served) → ServesAll Lists seconds last moments old mid → ServesOnce (Lists at.second) at.asked (have_passed seconds (last_after seconds last moments) at.now) at.now mid new → ServesAll Lists seconds last (moments ++ at ∷ []) old new
-serves_more Lists seconds last [] at old mid new same once = (new, subst (λ (s : Served). ServesOnce (Lists at.second) at.asked (have_passed seconds last at.now) at.now s new) same once, refl)
+serves_more : (Lists : Result SourceTexts SourceFile → Type 0) (seconds : Option ℕ) (last : ℕ) (moments : List Moment) (at : Moment) (old mid new : Served) → ServesAll Lists seconds last moments old mid → ServesOnce Lists at.asked (have_passed seconds (last_after seconds last moments) at.now) at.now mid new → ServesAll Lists seconds last (moments ++ at ∷ []) old new
+serves_more Lists seconds last [] at old mid new same once = (new, subst (λ (s : Served). ServesOnce Lists at.asked (have_passed seconds last at.now) at.now s new) same once, refl)
 serves_more Lists seconds last (moment ∷ moments) at old mid new all once =
     (all.0, all.1, serves_more Lists seconds (if have_passed seconds last moment.now then moment.now else last) moments at all.0 mid new all.2 once)
 
 -- so many turns were taken, the list was due last at this moment, and where nobody may ask for a reading nobody did
-pub record AreServed (Lists : ℕ → Result SourceTexts SourceFile → Type 0) (seconds : Option ℕ) (expires may_ask : Bool) (last count : ℕ) (before behind dated redated : List ℕ) (old new : Served) : Type 0 where
+pub record AreServed (Lists : Result SourceTexts SourceFile → Type 0) (seconds : Option ℕ) (may_ask : Bool) (last count : ℕ) (before behind : List ℕ) (old new : Served) : Type 0 where
   pub moments : List Moment
   pub serves : ServesAll Lists seconds 0 moments old new
   pub last_is : last ≡ last_after seconds 0 moments
   pub told : behind ≡ told_behind (nows moments) before
-  pub dates : expires ≡ true → redated ≡ told_behind (seconds_of moments) dated
   pub forward : NeverGoBack before → NeverGoBack behind
   pub counted : length moments ≡ count
   pub nobody : may_ask ≡ false → NobodyAsks moments
 
-pub none_served : (Lists : ℕ → Result SourceTexts SourceFile → Type 0) (seconds : Option ℕ) (expires may_ask : Bool) (before dated : List ℕ) (s : Served) → AreServed Lists seconds expires may_ask 0 0 before before dated dated s s
-none_served Lists seconds expires may_ask before dated s = record { moments = []; serves = refl; last_is = refl; told = refl; dates = λ on. refl; forward = λ all. all; counted = refl; nobody = λ off. tt }
+pub none_served : (Lists : Result SourceTexts SourceFile → Type 0) (seconds : Option ℕ) (may_ask : Bool) (before : List ℕ) (s : Served) → AreServed Lists seconds may_ask 0 0 before before s s
+none_served Lists seconds may_ask before s = record { moments = []; serves = refl; last_is = refl; told = refl; forward = λ all. all; counted = refl; nobody = λ off. tt }
 
-pub one_more : (Lists : ℕ → Result SourceTexts SourceFile → Type 0) (seconds : Option ℕ) (expires may_ask : Bool) (last count now second : ℕ) (asked : Option Reading) (before mid behind dated middle redated : List ℕ) (old between new : Served) → AreServed Lists seconds expires may_ask last count before mid dated middle old between
-    → behind ≡ now ∷ mid → IsNotBefore now mid → (expires ≡ true → redated ≡ second ∷ middle) → (may_ask ≡ false → asked ≡ None) → ServesOnce (Lists second) asked (have_passed seconds last now) now between new
-    → AreServed Lists seconds expires may_ask (if have_passed seconds last now then now else last) (count + 1) before behind dated redated old new
-one_more Lists seconds expires may_ask last count now second asked before mid behind dated middle redated old between new so_far reads later dates none once =
+pub one_more : (Lists : Result SourceTexts SourceFile → Type 0) (seconds : Option ℕ) (may_ask : Bool) (last count now : ℕ) (asked : Option Reading) (before mid behind : List ℕ) (old between new : Served) → AreServed Lists seconds may_ask last count before mid old between
+    → behind ≡ now ∷ mid → IsNotBefore now mid → (may_ask ≡ false → asked ≡ None) → ServesOnce Lists asked (have_passed seconds last now) now between new → AreServed Lists seconds may_ask (if have_passed seconds last now then now else last) (count + 1) before behind old new
+one_more Lists seconds may_ask last count now asked before mid behind old between new so_far reads later none once =
     let counted = so_far.counted in
-    let at : Moment = record { now = now; second = second; asked = asked } in
+    let at : Moment = record { now = now; asked = asked } in
     record {
       moments = so_far.moments ++ at ∷ [];
-      serves = serves_more Lists seconds 0 so_far.moments at old between new so_far.serves (subst (λ (l : ℕ). ServesOnce (Lists second) asked (have_passed seconds l now) now between new) so_far.last_is once);
+      serves = serves_more Lists seconds 0 so_far.moments at old between new so_far.serves (subst (λ (l : ℕ). ServesOnce Lists asked (have_passed seconds l now) now between new) so_far.last_is once);
       last_is = ap (λ (l : ℕ). if have_passed seconds l now then now else l) so_far.last_is ∙ sym (last_more seconds 0 so_far.moments at);
       told = reads ∙ ap (λ moments. now ∷ moments) so_far.told ∙ sym (told_one_more (nows so_far.moments) now before) ∙ ap (λ (m : List ℕ). told_behind m before) (sym (nows_more so_far.moments at));
-      dates = λ on. dates on ∙ ap (λ told. second ∷ told) (so_far.dates on) ∙ sym (told_one_more (seconds_of so_far.moments) second dated) ∙ ap (λ (m : List ℕ). told_behind m dated) (sym (seconds_more so_far.moments at));
       forward = λ all. subst (λ moments. NeverGoBack moments) (sym reads) (later, so_far.forward all);
       counted = omega (arith, length-append so_far.moments (at ∷ []), counted);
       nobody = λ off. nobody_more so_far.moments at (so_far.nobody off) (none off);
     }
 
 -- a turn, behind which nothing changes
-pub turn_served : (Lists : ℕ → Result SourceTexts SourceFile → Type 0) (seconds : Option ℕ) (expires may_ask : Bool) (due after : Every) (count now second : ℕ) (asked : Option Reading) (before mid behind dated middle redated : List ℕ) (start between new left : Served) → due.seconds ≡ seconds
-    → after ≡ record due { last = if have_passed due.seconds due.last now then now else due.last } → AreServed Lists seconds expires may_ask due.last count before mid dated middle start between → behind ≡ now ∷ mid → IsNotBefore now mid → (expires ≡ true → redated ≡ second ∷ middle) → (may_ask ≡ false → asked ≡ None)
-    → ServesOnce (Lists second) asked (have_passed due.seconds due.last now) now between new → left ≡ new → AreServed Lists seconds expires may_ask after.last (count + 1) before behind dated redated start left
-turn_served Lists seconds expires may_ask due after count now second asked before mid behind dated middle redated start between new left told is so_far reads later dates none once same =
+pub turn_served : (Lists : Result SourceTexts SourceFile → Type 0) (seconds : Option ℕ) (may_ask : Bool) (due after : Every) (count now : ℕ) (asked : Option Reading) (before mid behind : List ℕ) (start between new left : Served) → due.seconds ≡ seconds
+    → after ≡ record due { last = if have_passed due.seconds due.last now then now else due.last } → AreServed Lists seconds may_ask due.last count before mid start between → behind ≡ now ∷ mid → IsNotBefore now mid → (may_ask ≡ false → asked ≡ None)
+    → ServesOnce Lists asked (have_passed due.seconds due.last now) now between new → left ≡ new → AreServed Lists seconds may_ask after.last (count + 1) before behind start left
+turn_served Lists seconds may_ask due after count now asked before mid behind start between new left told is so_far reads later none once same =
     let last_is : after.last ≡ (if have_passed seconds due.last now then now else due.last) =
     ap (λ (e : Every). e.last) is ∙ ap (λ (s : Option ℕ). if have_passed s due.last now then now else due.last) told in
-    let served = subst (λ (s : Option ℕ). ServesOnce (Lists second) asked (have_passed s due.last now) now between new) told once in
-    let more = one_more Lists seconds expires may_ask due.last count now second asked before mid behind dated middle redated start between new so_far reads later dates none served in
-    subst (λ (s : Served). AreServed Lists seconds expires may_ask after.last (count + 1) before behind dated redated start s) (sym same)
-    (subst (λ (l : ℕ). AreServed Lists seconds expires may_ask l (count + 1) before behind dated redated start new) (sym last_is) more)
+    let served = subst (λ (s : Option ℕ). ServesOnce Lists asked (have_passed s due.last now) now between new) told once in
+    let more = one_more Lists seconds may_ask due.last count now asked before mid behind start between new so_far reads later none served in
+    subst (λ (s : Served). AreServed Lists seconds may_ask after.last (count + 1) before behind start s) (sym same)
+    (subst (λ (l : ℕ). AreServed Lists seconds may_ask l (count + 1) before behind start new) (sym last_is) more)
 
 -- just so many turns were taken
-pub all_served : (Lists : ℕ → Result SourceTexts SourceFile → Type 0) (seconds : Option ℕ) (expires may_ask : Bool) (last taken count : ℕ) (before behind dated redated : List ℕ) (old new : Served) → AreServed Lists seconds expires may_ask last taken before behind dated redated old new → taken ≡ count → ServesSoMany Lists seconds expires may_ask count before behind dated redated old new
-all_served Lists seconds expires may_ask last taken count before behind dated redated old new served is = record {
+pub all_served : (Lists : Result SourceTexts SourceFile → Type 0) (seconds : Option ℕ) (may_ask : Bool) (last taken count : ℕ) (before behind : List ℕ) (old new : Served) → AreServed Lists seconds may_ask last taken before behind old new → taken ≡ count → ServesSoMany Lists seconds may_ask count before behind old new
+all_served Lists seconds may_ask last taken count before behind old new served is = record {
   moments = served.moments;
   serves = served.serves;
   told = served.told;
-  dates = served.dates;
   forward = served.forward;
   few = (let counted = served.counted in omega (arith, counted, is));
   all = λ off. (served.counted ∙ is, served.nobody off);
 }
 
 -- where operators may ask, no more were
-pub fewer_served : (Lists : ℕ → Result SourceTexts SourceFile → Type 0) (seconds : Option ℕ) (expires may_ask : Bool) (last count most : ℕ) (before behind dated redated : List ℕ) (old new : Served) → AreServed Lists seconds expires may_ask last count before behind dated redated old new → (may_ask ≡ false → ⊥) → count ≤ most → ServesSoMany Lists seconds expires may_ask most before behind dated redated old new
-fewer_served Lists seconds expires may_ask last count most before behind dated redated old new served some_may bound = record {
+pub fewer_served : (Lists : Result SourceTexts SourceFile → Type 0) (seconds : Option ℕ) (may_ask : Bool) (last count most : ℕ) (before behind : List ℕ) (old new : Served) → AreServed Lists seconds may_ask last count before behind old new → (may_ask ≡ false → ⊥) → count ≤ most → ServesSoMany Lists seconds may_ask most before behind old new
+fewer_served Lists seconds may_ask last count most before behind old new served some_may bound = record {
   moments = served.moments;
   serves = served.serves;
   told = served.told;
-  dates = served.dates;
   forward = served.forward;
   few = (let counted = served.counted in omega (arith, counted, bound));
   all = λ off. absurd (some_may off);
@@ -135,10 +126,10 @@ steps_then [] second old mid new same taken = subst (λ (t : Turns). TakesSteps 
 steps_then (step ∷ first) second old mid new takes taken = (takes.0, takes.1, steps_then first second takes.0 mid new takes.2 taken)
 
 -- turns of a served list are turns of its loop, with sets that are loaded between them
-pub served_are_steps : (Lists : ℕ → Result SourceTexts SourceFile → Type 0) (seconds : Option ℕ) (last : ℕ) (moments : List Moment) (old new : Served) → ServesAll Lists seconds last moments old new → (steps : List Step) × TakesSteps steps old.turns new.turns
+pub served_are_steps : (Lists : Result SourceTexts SourceFile → Type 0) (seconds : Option ℕ) (last : ℕ) (moments : List Moment) (old new : Served) → ServesAll Lists seconds last moments old new → (steps : List Step) × TakesSteps steps old.turns new.turns
 served_are_steps Lists seconds last [] old new same = ([], ap (λ (s : Served). s.turns) same)
 served_are_steps Lists seconds last (at ∷ moments) old new all =
     let once = all.1 in
-    let before = steps_due (Lists at.second) (is_accepted at.asked) (is_read at.asked (have_passed seconds last at.now)) at.now old once.rereads.0 once.between once.rereads.1 in
+    let before = steps_due Lists (is_accepted at.asked) (is_read at.asked (have_passed seconds last at.now)) at.now old once.rereads.0 once.between once.rereads.1 in
     let more = served_are_steps Lists seconds (if have_passed seconds last at.now then at.now else last) moments all.0 new all.2 in
     (before.0 ++ TurnAt at.now ∷ more.0, steps_then before.0 (TurnAt at.now ∷ more.0) old.turns once.between.turns new.turns before.1 (all.0.turns, (Ok tt, once.takes), more.1))

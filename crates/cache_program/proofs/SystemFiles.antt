@@ -1,5 +1,5 @@
 -- Files that are opened at their paths, as the system's.
-use Rattle.std.proofs.Common.{◌≡◌, ℕ, List, Option, Some, None, Result, Ok, Err, option_map, string_bytes}
+use Rattle.std.proofs.Common.{◌≡◌, ℕ, List, Option, Some, None, Result, Ok, Err, MatchResult, option_map, string_bytes}
 use Rattle.file_paths.specs.OpenedFiles.{OpenedFile}
 use Rattle.payload_sources.specs.OpenedSources.{Gives, Opens, OpensBehind, OpensThen, opened}
 use Rattle.payload_sources.specs.PayloadSources.{SourceTexts}
@@ -30,6 +30,13 @@ module _ {E : Type 0} (Answers : List ℕ → Result OpenedFile E → Type 0) (t
   opens_so second csv slurm sources opens = (opens.0, given_so csv opens.0 opens.1, then_so second slurm opens.0 sources opens.2)
 
 -- so are files that a call of a closure opens, if it opens each where it is asked to
-pub opens_as : {E : Type 0} (Answers : List ℕ → Result OpenedFile E → Type 0) (settings : CacheSettings) (second : ℕ) (sources : Result SourceTexts SourceFile) → GivesFiles Answers text_of settings second sources
-    → ((path : List ℕ) (file : OpenedFile) → Answers path (Ok file) → file.path ≡ path) → SystemGives settings second sources
-opens_as Answers settings second sources opens there = opens_so Answers there (expiring_at settings second) (string_bytes settings.csv) (option_map string_bytes settings.slurm) sources opens
+pub opens_as : {E : Type 0} (Answers : List ℕ → Result OpenedFile E → Type 0) (settings : CacheSettings) (sources : Result SourceTexts SourceFile) → GivesFiles Answers text_of settings sources
+    → ((path : List ℕ) (file : OpenedFile) → Answers path (Ok file) → file.path ≡ path) → SystemGives settings sources
+opens_as Answers settings sources (second, opens) there = (second, opens_so Answers there (expiring_at settings second) (string_bytes settings.csv) (option_map string_bytes settings.slurm) sources opens)
+
+-- files that are opened to be read at a second are read at some second
+pub at_second : {L E S U : Type 0} (Answers : List ℕ → Result L E → Type 0) (remaining : L → Option (List ℕ)) (settings : CacheSettings) (second : ℕ) (r : Result S U) (texts : S → SourceTexts) (which : U → SourceFile)
+    → MatchResult r (λ s. Opens Answers remaining (expiring_at settings second) (string_bytes settings.csv) (option_map string_bytes settings.slurm) (Ok (texts s))) (λ u. Opens Answers remaining (expiring_at settings second) (string_bytes settings.csv) (option_map string_bytes settings.slurm) (Err (which u)))
+    → MatchResult r (λ s. GivesFiles Answers remaining settings (Ok (texts s))) (λ u. GivesFiles Answers remaining settings (Err (which u)))
+at_second Answers remaining settings second (Ok s) texts which h = (second, h)
+at_second Answers remaining settings second (Err u) texts which h = (second, h)

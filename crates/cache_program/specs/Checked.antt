@@ -14,8 +14,7 @@ pub record IsChecked (path : List ℕ) : Type 0 where
   pub settings : CacheSettings
   pub read : AreSettingsAt (IsOpenedAt path) (λ file. file.text) settings
   pub sources : SourceTexts
-  pub second : ℕ
-  pub given : SystemGives settings second (Ok sources)
+  pub given : SystemGives settings (Ok sources)
   pub set : List Vrp
   pub passes : Passes settings.guards sources set
 

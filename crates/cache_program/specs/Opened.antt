@@ -16,18 +16,18 @@ abbrev pub expiring_at : CacheSettings → ℕ → Option ℕ
 expiring_at settings second = if settings.expires then Some second else None
 
 -- the texts of the settings' files, the list and the SLURM file where there is one, or which of them couldn't be opened, as
--- answers to their paths have it; they are read at this second
-abbrev pub Gives : {L E : Type 0} → (List ℕ → Result L E → Type 0) → (L → Option (List ℕ)) → CacheSettings → ℕ → Result SourceTexts SourceFile → Type 0
-Gives Answers remaining settings second sources = Opens Answers remaining (expiring_at settings second) (string_bytes settings.csv) (option_map string_bytes settings.slurm) sources
+-- answers to their paths have it; they are read at some second
+abbrev pub Gives : {L E : Type 0} → (List ℕ → Result L E → Type 0) → (L → Option (List ℕ)) → CacheSettings → Result SourceTexts SourceFile → Type 0
+Gives Answers remaining settings sources = (second : ℕ) × Opens Answers remaining (expiring_at settings second) (string_bytes settings.csv) (option_map string_bytes settings.slurm) sources
 
 -- a file that was opened at the path, or none
 abbrev pub IsOpenedAt : List ℕ → Result OpenedFile (Unit {0}) → Type 0
 IsOpenedAt path (Ok file) = file.path ≡ path
 IsOpenedAt path (Err none) = ⊤
 
--- the texts of the settings' files, as the system opens them at their paths, to be read at this second
-abbrev pub SystemGives : CacheSettings → ℕ → Result SourceTexts SourceFile → Type 0
-SystemGives settings second sources = Gives IsOpenedAt (λ file. file.text) settings second sources
+-- the texts of the settings' files, as the system opens them at their paths
+abbrev pub SystemGives : CacheSettings → Result SourceTexts SourceFile → Type 0
+SystemGives settings sources = Gives IsOpenedAt (λ file. file.text) settings sources
 
 -- the settings are those that octets tell, which are those of the text, where that is known
 pub record AreSettingsOf (text : Option (List ℕ)) (settings : CacheSettings) : Type 0 where
@@ -46,8 +46,11 @@ abbrev pub Listens : {W E : Type 0} → (Result W E → Type 0) → (W → WireS
 Listens {W} {E} Answers state wire = (listening : W) × Answers (Ok listening) × (wire ≡ state listening)
 
 -- whatever the system answers
-abbrev pub AnyList : ℕ → Result SourceTexts SourceFile → Type 0
-AnyList second sources = Unit {0}
+abbrev pub AnyList : Result SourceTexts SourceFile → Type 0
+AnyList sources = Unit {0}
 
 abbrev pub AnyWire : WireState → Type 0
 AnyWire wire = Unit {0}
+
+abbrev pub AnySecond : ℕ → Type 0
+AnySecond second = Unit {0}

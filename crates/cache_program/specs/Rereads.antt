@@ -1,17 +1,16 @@
 -- Reading the list again (own): a list that can't be had, or that a guard refuses, leaves everything as it is, and any other
 -- is published, unless it is the one that is served.
-use Rattle.std.specs.Prelude.{◌≡◌, ℕ, Bool, true, false, List, [], ◌∷◌, Option, Some, None, Result, Ok, Err, is_some, length, ⊤}
+use Rattle.std.specs.Prelude.{◌≡◌, ℕ, Bool, true, false, List, [], ◌∷◌, Option, Some, None, Result, Ok, Err, is_some, length}
 use Rattle.list_guards.specs.Guarding.{guard_fault}
 use Rattle.list_guards.specs.declared.GuardFault.{GuardFault}
 use Rattle.list_guards.specs.declared.Guards.{Guards}
 use Rattle.net_prefix.specs.declared.payload.Vrp.{Vrp}
-use Rattle.payload_sources.specs.PayloadSources.{IsRefused, IsSetOf, SaysWritten, SourceTexts}
+use Rattle.payload_sources.specs.PayloadSources.{IsRefused, IsSetOf, SourceTexts}
 use Rattle.payload_sources.specs.declared.fault.SourceFile.{SourceFile}
 use Rattle.rtr_cache.specs.CacheState.{tells_serial}
 use Rattle.rtr_cache.specs.ClientHistory.{Loaded as Loads, Makes}
 use Rattle.vrp_delta.specs.Versions.{Version, is_newest_set, newest_serial, serial_after}
 use Rattle.cache_turns.specs.Turns.{TakesTurn, Turns}
-use Rattle.vrp_json.specs.declared.written.Written.{Written}
 use Rattle.wires.specs.declared.fault.LoopFault.{LoopFault}
 use Rattle.cache_watch.specs.declared.reread.ListFault.{ListFault}
 use Rattle.cache_watch.specs.declared.reread.ListFault.TheVariants.{NoFile, Source, Guard, NoMemory}
@@ -24,8 +23,7 @@ newest_set [] = []
 newest_set (version ∷ older) = version.set
 
 -- a loop and what its cache serves: the newest serial, and how many payloads that version has. Lists have to keep to the
--- guards, and one that could be had was read last at this moment; whether an operator had the guards set aside for it, and
--- when it says that it was written
+-- guards, and one that could be had was read last at this moment; whether an operator had the guards set aside for it
 pub record Served : Type 0 where
   pub turns : Turns
   pub guards : Guards
@@ -33,7 +31,6 @@ pub record Served : Type 0 where
   pub payloads : ℕ
   pub read : ℕ
   pub accepted : Bool
-  pub written : Written
 
 -- they are those of the newest version that is kept
 pub record IsNewest (kept : List Version) (serial payloads : ℕ) : Type 0 where
@@ -103,19 +100,11 @@ Publishes accepts now set old Same new =
 Publishes accepts now set old (Published serial) new =
     (is_newest_set (versions old) set ≡ false) × (serial ≡ serial_after (newest_serial (versions old))) × HandsIn accepts now set old serial new
 
--- of a set that was handed in it is kept when its list says that it was written
-abbrev pub Notes : Written → Reread → Served → Type 0
-Notes written (Refused why) new = ⊤
-Notes written Same new = new.written ≡ written
-Notes written (Published serial) new = new.written ≡ written
-
 -- what reading files that were opened has led to: nothing, since their set can't be had, or it was handed in
 abbrev pub RereadsFile : Bool → ℕ → SourceTexts → Served → Reread → Served → Type 0
 RereadsFile accepts now sources old (Refused why) new = IsNoList accepts sources old why × (new ≡ old)
-RereadsFile accepts now sources old Same new =
-    (set : List Vrp) × IsSetOf sources set × Publishes accepts now set old Same new × SaysWritten sources new.written
-RereadsFile accepts now sources old (Published serial) new =
-    (set : List Vrp) × IsSetOf sources set × Publishes accepts now set old (Published serial) new × SaysWritten sources new.written
+RereadsFile accepts now sources old Same new = (set : List Vrp) × IsSetOf sources set × Publishes accepts now set old Same new
+RereadsFile accepts now sources old (Published serial) new = (set : List Vrp) × IsSetOf sources set × Publishes accepts now set old (Published serial) new
 
 -- what reading the list again has led to: nothing, where a file couldn't be opened, or what reading the files has
 abbrev pub Rereads : Bool → ℕ → Result SourceTexts SourceFile → Served → Reread → Served → Type 0

@@ -16,10 +16,9 @@ use Rattle.cache_program.specs.Passing.{have_passed}
 use Rattle.cache_program.specs.Rereads.{RereadsWhenDue, Served}
 use Rattle.cache_watch.specs.declared.reread.Reread.{Reread}
 
--- a moment, the second since 1970 of it, and the reading that an operator asks for at it
+-- a moment, and the reading that an operator asks for at it
 pub record Moment : Type 0 where
   pub now : ℕ
-  pub second : ℕ
   pub asked : Option Reading
 
 -- the list is read where it is due, and where an operator asks for it
@@ -44,60 +43,52 @@ pub record ServesOnce (Lists : Result SourceTexts SourceFile → Type 0) (asked 
   pub takes : TakesTurn now between.turns (Ok tt) new.turns
   pub same : new ≡ record between { turns = new.turns }
 
--- the same at each of these moments, one after another, the list read at the second of its moment; it was due last at one
--- before them
-abbrev pub ServesAll : (ℕ → Result SourceTexts SourceFile → Type 0) → Option ℕ → ℕ → List Moment → Served → Served → Type 0
+-- the same at each of these moments, one after another; the list was due last at one before them
+abbrev pub ServesAll : (Result SourceTexts SourceFile → Type 0) → Option ℕ → ℕ → List Moment → Served → Served → Type 0
 ServesAll Lists seconds last [] old new = new ≡ old
 ServesAll Lists seconds last (at ∷ moments) old new =
-    (mid : Served) × ServesOnce (Lists at.second) at.asked (have_passed seconds last at.now) at.now old mid
+    (mid : Served) × ServesOnce Lists at.asked (have_passed seconds last at.now) at.now old mid
     × ServesAll Lists seconds (if have_passed seconds last at.now then at.now else last) moments mid new
 
 abbrev pub nows : List Moment → List ℕ
 nows [] = []
 nows (at ∷ moments) = at.now ∷ nows moments
 
-abbrev pub seconds_of : List Moment → List ℕ
-seconds_of [] = []
-seconds_of (at ∷ moments) = at.second ∷ seconds_of moments
-
 -- nobody asks for a reading
 abbrev pub NobodyAsks : List Moment → Type 0
 NobodyAsks [] = ⊤
 NobodyAsks (at ∷ moments) = (at.asked ≡ None) × NobodyAsks moments
 
--- turns were taken, each at the moment that the clock told for it, and where payloads expire at the second that the clock of the
--- day told for it: just so many, at which nobody asks for a reading; or where operators may ask, so many or fewer
-pub record ServesSoMany (Lists : ℕ → Result SourceTexts SourceFile → Type 0) (reread : Option ℕ) (expires may_ask : Bool) (count : ℕ) (before behind dated redated : List ℕ) (old new : Served) : Type 0 where
+-- turns were taken, each at the moment that the clock told for it: just so many, at which nobody asks for a reading; or where
+-- operators may ask, so many or fewer
+pub record ServesSoMany (Lists : Result SourceTexts SourceFile → Type 0) (reread : Option ℕ) (may_ask : Bool) (count : ℕ) (before behind : List ℕ) (old new : Served) : Type 0 where
   pub moments : List Moment
   pub serves : ServesAll Lists reread 0 moments old new
   pub told : behind ≡ told_behind (nows moments) before
-  pub dates : expires ≡ true → redated ≡ told_behind (seconds_of moments) dated
   pub forward : NeverGoBack before → NeverGoBack behind
   pub few : length moments ≤ count
   pub all : may_ask ≡ false → (length moments ≡ count) × NobodyAsks moments
 
 -- a served list before its first turn: its cache is of the settings, begun in a second that was told, and has published the
--- set of the files that the system gave, read at that second; it listens by a wire that the system gave, and its guards and its patience are those of the
+-- set of the files that the system gave; it listens by a wire that the system gave, and its guards and its patience are those of the
 -- settings
-pub record IsBegun (Lists : ℕ → Result SourceTexts SourceFile → Type 0) (Wires : WireState → Type 0) (Seconds : ℕ → Type 0) (settings : CacheSettings) (served : Served) : Type 0 where
+pub record IsBegun (Lists : Result SourceTexts SourceFile → Type 0) (Wires : WireState → Type 0) (Seconds : ℕ → Type 0) (settings : CacheSettings) (served : Served) : Type 0 where
   pub cache : CacheState
   pub wire : WireState
   pub second : ℕ
   pub set : List Vrp
   pub told : Seconds second
   pub of_settings : IsCacheOf settings second cache
-  pub first : IsFirst (Lists second) settings.guards cache.shared.kept served.serial set served.written
+  pub first : IsFirst Lists settings.guards cache.shared.kept served.serial set
   pub payloads : served.payloads ≡ length set
   pub guards : served.guards ≡ settings.guards
   pub accepted : served.accepted ≡ false
   pub listens : Wires wire
   pub turns : served.turns ≡ idle settings.patience cache wire
 
--- it began in the second that the clock of the day told; from there the clock was read, and so many turns were taken; operators
--- may ask where the settings have a path for them
-pub record IsServed (Lists : ℕ → Result SourceTexts SourceFile → Type 0) (Wires : WireState → Type 0) (settings : CacheSettings) (count : ℕ) (before behind dated redated : List ℕ) (served : Served) : Type 0 where
+-- from there the clock was read, and so many turns were taken; operators may ask where the settings have a path for them
+pub record IsServed (Lists : Result SourceTexts SourceFile → Type 0) (Wires : WireState → Type 0) (Seconds : ℕ → Type 0) (settings : CacheSettings) (count : ℕ) (before behind : List ℕ) (served : Served) : Type 0 where
   pub begun : Served
   pub start : ℕ
-  pub middle : List ℕ
-  pub begins : IsBegun Lists Wires (λ second. middle ≡ second ∷ dated) settings begun
-  pub takes : ServesSoMany Lists settings.reread settings.expires (is_some settings.control) count (start ∷ before) behind middle redated begun served
+  pub begins : IsBegun Lists Wires Seconds settings begun
+  pub takes : ServesSoMany Lists settings.reread (is_some settings.control) count (start ∷ before) behind begun served

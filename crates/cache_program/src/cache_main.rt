@@ -1,5 +1,5 @@
 //! What the main of `ovcache` does.
-ghost use Rattle.std.specs.Prelude.{◌≡◌, ◌≤◌, [], ◌∷◌, ℕ, List, Ok, Some, IfErr, IfOk, MatchResult, OnErr, OnOk, None, false, true, if◌then◌else◌, is_some};
+ghost use Rattle.std.specs.Prelude.{◌≡◌, ◌≤◌, [], ◌∷◌, ℕ, List, Ok, Some, IfErr, IfOk, MatchResult, OnErr, OnOk, None, false, if◌then◌else◌, is_some};
 ghost use Rattle.clocks.specs.Moments.{IsNotBefore};
 ghost use Rattle.std.specs.Fn.{FnReturnsAt};
 ghost use Rattle.std.specs.Result.{IsErrAnd};
@@ -9,7 +9,7 @@ ghost use Rattle.payload_sources.specs.PayloadSources.{SourceTexts};
 ghost use Rattle.cache_program.specs.Endings.{EndsSo, IsOfWords, status_at_end};
 ghost use Rattle.cache_program.specs.Checked.{IsChecked, IsCheckedBy};
 ghost use Rattle.cache_program.specs.FirstList.{Passes};
-ghost use Rattle.cache_program.specs.Opened.{AreSettingsAt, Gives, IsOpenedAt, Listens, SystemGives};
+ghost use Rattle.cache_program.specs.Opened.{AnySecond, AreSettingsAt, Gives, IsOpenedAt, Listens, SystemGives};
 ghost use Rattle.cache_program.specs.Passing.{have_passed};
 ghost use Rattle.cache_program.specs.Rereads.{Served};
 ghost use Rattle.cache_program.specs.ServedTurns.{IsBegun, IsServed, ServesOnce, ServesSoMany};
@@ -68,9 +68,9 @@ where
     // The status is 0 only where the settings that a file tells were served for just the turns of the words, a file that was opened
     // at the path of the words: with the lists of files that were opened at their paths, over a wire that was opened where they
     // listen, and that listens there still.
-    ensures serves { ((aside : Aside) → ¬ (Asks words.now aside)) → result ≡ 0 → (path : List ℕ) × (turns : ℕ) × (settings : CacheSettings) × (behind seconds : List ℕ) × (served : Served)
+    ensures serves { ((aside : Aside) → ¬ (Asks words.now aside)) → result ≡ 0 → (path : List ℕ) × (turns : ℕ) × (settings : CacheSettings) × (behind : List ℕ) × (served : Served)
         × IsCall words.now path turns × AreSettingsAt (IsOpenedAt path) (λ file. file.text) settings
-        × IsServed (SystemGives settings) (λ wire. wire ≡ nothing_told (Some settings.listen)) settings turns [] behind [] seconds served × (served.turns.counts.wire.listens ≡ Some settings.listen) }
+        × IsServed (SystemGives settings) (λ wire. wire ≡ nothing_told (Some settings.listen)) AnySecond settings turns [] behind served × (served.turns.counts.wire.listens ≡ Some settings.listen) }
     // Where they are to be checked, it is 0 only where a file that was opened at their path tells settings whose guards let the list
     // of the files that were opened at theirs be served.
     ensures checks { (aside : Aside) → Asks words.now aside → result ≡ 0 → IsCheckedBy aside }
@@ -94,9 +94,9 @@ where
     ensures range { result ≤ 2 }
     ensures output { ((path : List ℕ) (turns : ℕ) → ¬ (IsCall words.now path turns)) → output.new ≡ output.old }
     ensures silent { result ≡ 0 → errors.new ≡ errors.old }
-    ensures serves { result ≡ 0 → (path : List ℕ) × (turns : ℕ) × (settings : CacheSettings) × (behind seconds : List ℕ) × (served : Served)
+    ensures serves { result ≡ 0 → (path : List ℕ) × (turns : ℕ) × (settings : CacheSettings) × (behind : List ℕ) × (served : Served)
         × IsCall words.now path turns × AreSettingsAt (IsOpenedAt path) (λ file. file.text) settings
-        × IsServed (SystemGives settings) (λ wire. wire ≡ nothing_told (Some settings.listen)) settings turns [] behind [] seconds served × (served.turns.counts.wire.listens ≡ Some settings.listen) }
+        × IsServed (SystemGives settings) (λ wire. wire ≡ nothing_told (Some settings.listen)) AnySecond settings turns [] behind served × (served.turns.counts.wire.listens ≡ Some settings.listen) }
 {
     let mut clock = MonotonicClock::new(rt);
     let served = serve_words(rt, words, output, &mut clock);
@@ -124,9 +124,9 @@ where
     R: Net<Listener = TcpListener, Stream = TcpStream> + Files + Clock + AllocGlobal,
     ensures wrong { ((path : List ℕ) (turns : ℕ) → ¬ (IsCall words.now path turns)) → IsErrAnd result IsOfWords }
     ensures output { IsErrAnd result IsOfWords → output.new ≡ output.old }
-    ensures serves { IfOk result (λ served. (path : List ℕ) × (turns : ℕ) × (settings : CacheSettings) × (seconds : List ℕ)
+    ensures serves { IfOk result (λ served. (path : List ℕ) × (turns : ℕ) × (settings : CacheSettings)
         × IsCall words.now path turns × AreSettingsAt (IsOpenedAt path) (λ file. file.text) settings
-        × IsServed (SystemGives settings) (λ wire. wire ≡ nothing_told (Some settings.listen)) settings turns (C.readings clock.old) (C.readings clock.new) [] seconds served × (served.turns.counts.wire.listens ≡ Some settings.listen)) }
+        × IsServed (SystemGives settings) (λ wire. wire ≡ nothing_told (Some settings.listen)) AnySecond settings turns (C.readings clock.old) (C.readings clock.new) served × (served.turns.counts.wire.listens ≡ Some settings.listen)) }
 {
     run_cache(
         rt,
@@ -196,9 +196,9 @@ where
 fn checked_files<R>(rt: &R, settings: &CacheSettings) -> Result<SourceSet, CacheFault>
 where
     R: Files + Clock + AllocGlobal,
-    ensures { IfOk result (λ read. (second : ℕ) × (sources : SourceTexts) × SystemGives settings.now second (Ok sources) × Passes settings.now.guards sources read.set.keys) }
+    ensures { IfOk result (λ read. (sources : SourceTexts) × SystemGives settings.now (Ok sources) × Passes settings.now.guards sources read.set.keys) }
 {
-    let second = expiring_second(settings, &mut SystemSeconds::new(rt))?;
+    let second = expiring_second(rt, settings)?;
     let files = opened_files(
         rt.alloc(),
         settings,
@@ -256,7 +256,7 @@ where
     // The settings of the file that opening the path of the words gave were served for just the turns of the words.
     ensures serves { IfOk result (λ served. (path : List ℕ) × (turns : ℕ) × (settings : CacheSettings)
         × IsCall words.now path turns × AreSettingsAt (FnReturnsAt F.Fn opens path) L.remaining settings
-        × IsServed (Gives (FnReturnsAt F.Fn opens) L.remaining settings) (Listens (G.post listens settings.listen) W.state) settings turns (C.readings clock.old) (C.readings clock.new) (S.tellings seconds.old) (S.tellings seconds.new) served) }
+        × IsServed (Gives (FnReturnsAt F.Fn opens) L.remaining settings) (Listens (G.post listens settings.listen) W.state) (λ second. S.told seconds.new ≡ Some second) settings turns (C.readings clock.old) (C.readings clock.new) served) }
 {
     let (path, turns) = call_of(words)?;
     let settings = read_settings(rt.alloc(), path, &opens)?;
@@ -291,7 +291,7 @@ fn read_clock<C: SecondsClock>(clock: &mut C) -> Result<u64, CacheFault>
 /// Serves the list of these settings for so many turns, each at the moment that the clock tells for it: the list is read
 /// before the first, and again between two of them, as `ServedList::serve` says of each, under the exceptions of the SLURM
 /// file where there is one. The files are what `opens` answers at their paths; the wire is what `listens` answers at the
-/// address where the settings listen, and `seconds` tells the second of the start, and, where payloads expire, that of each turn. Scrapers are what `scrapes` answers at the
+/// address where the settings listen, and `seconds` tells the second of the start. Scrapers are what `scrapes` answers at the
 /// address where the settings have them ask for figures, if they do: they are attended to between turns, and change nothing
 /// of what is served. Operators are what `controls` answers at the path where the settings have them ask, if they do: between
 /// turns they have the list read, under the guards of the settings or, where one accepts what these refuse, without, or the
@@ -334,7 +334,7 @@ where
     requires controls { K.IsAlwaysCallable controls }
     ensures fault { IfErr result (λ fault. ¬ (IsOfWords fault)) }
     ensures quiet { settings.now.log ≡ false → output.new ≡ output.old }
-    ensures serves { IfOk result (IsServed (Gives (FnReturnsAt F.Fn opens) L.remaining settings.now) (Listens (G.post listens settings.now.listen) W.state) settings.now turns (C.readings clock.old) (C.readings clock.new) (S.tellings seconds.old) (S.tellings seconds.new)) }
+    ensures serves { IfOk result (IsServed (Gives (FnReturnsAt F.Fn opens) L.remaining settings.now) (Listens (G.post listens settings.now.listen) W.state) (λ second. S.told seconds.new ≡ Some second) settings.now turns (C.readings clock.old) (C.readings clock.new)) }
 {
     let second = second_of(seconds)?;
     let mut served = begin(rt, settings, second, output, &opens, listens)?;
@@ -351,7 +351,6 @@ where
         output,
         clock,
         &opens,
-        seconds,
         &mut watch,
         &mut desk,
     )?;
@@ -424,16 +423,16 @@ where
     ensures begins { IfOk result (IsBegun (Gives (FnReturnsAt F.Fn opens.now) L.remaining settings.now) (Listens (G.post listens settings.now.listen) W.state) (λ told. told ≡ second) settings.now) }
     ensures quiet { settings.now.log ≡ false → output.new ≡ output.old }
 {
-    let (cache, serial, read) = load_cache(rt, settings, second, output, opens)?;
+    let (cache, serial, set) = load_cache(rt, settings, second, output, opens)?;
     let turns = over_wire(rt.alloc(), settings, cache, listens)?;
     tell_listening(rt, settings.log, turns.wire(), output);
-    Ok(ServedList::new(turns, settings.guards, serial, read.set, read.written))
+    Ok(ServedList::new(turns, settings.guards, serial, set))
 }
 
-// The second.
+// The second of the start.
 fn second_of<S: SecondsSince1970>(seconds: &mut S) -> Result<u64, CacheFault>
     ensures fault { IfErr result (λ fault. ¬ (IsOfWords fault)) }
-    ensures told { IfOk result (λ second. S.tellings seconds.new ≡ second ∷ S.tellings seconds.old) }
+    ensures told { IfOk result (λ second. S.told seconds.new ≡ Some second) }
 {
     match seconds.second() {
         Ok(second) => Ok(second),
@@ -442,17 +441,13 @@ fn second_of<S: SecondsSince1970>(seconds: &mut S) -> Result<u64, CacheFault>
 }
 
 // The second since 1970, where what has expired is left out of a list; else 0.
-fn expiring_second<S: SecondsSince1970>(
-    settings: &CacheSettings,
-    seconds: &mut S,
-) -> Result<u64, CacheFault>
-    ensures fault { IfErr result (λ fault. ¬ (IsOfWords fault)) }
-    ensures told { IfOk result (λ second. settings.now.expires ≡ true → S.tellings seconds.new ≡ second ∷ S.tellings seconds.old) }
+fn expiring_second<R: Clock>(rt: &R, settings: &CacheSettings) -> Result<u64, CacheFault>
+    ensures { IfErr result (λ fault. ¬ (IsOfWords fault)) }
 {
     if !settings.expires {
         return Ok(0);
     }
-    second_of(seconds)
+    second_of(&mut SystemSeconds::new(rt))
 }
 
 // The turns of a cache where the settings say that it listens.
@@ -486,7 +481,6 @@ fn take_turns<
     P: Scrapers + Drop,
     Q: Operators + Drop,
     F,
-    S: SecondsSince1970,
 >(
     rt: &R,
     settings: &CacheSettings,
@@ -495,7 +489,6 @@ fn take_turns<
     output: &mut O,
     clock: &mut C,
     opens: &F,
-    seconds: &mut S,
     watch: &mut Watch<P>,
     desk: &mut Desk<Q>,
 ) -> Result<(), CacheFault>
@@ -505,14 +498,14 @@ where
     requires { F.IsAlwaysCallable opens.now }
     ensures fault { IfErr result (λ fault. ¬ (IsOfWords fault)) }
     ensures quiet { settings.now.log ≡ false → output.new ≡ output.old }
-    ensures turns { OnOk result (ServesSoMany (Gives (FnReturnsAt F.Fn opens.now) L.remaining settings.now) settings.now.reread settings.now.expires desk.old turns (C.readings clock.old) (C.readings clock.new) (S.tellings seconds.old) (S.tellings seconds.new) served.old served.new) }
+    ensures turns { OnOk result (ServesSoMany (Gives (FnReturnsAt F.Fn opens.now) L.remaining settings.now) settings.now.reread desk.old turns (C.readings clock.old) (C.readings clock.new) served.old served.new) }
 {
     let mut reread = Every::new(settings.reread);
     let mut status = Every::new(settings.status);
     let mut limit = LineLimit::new(ROUTER_LINES);
     for _ in 0..turns {
         let now = read_clock(clock)?;
-        let second = expiring_second(settings, seconds)?;
+        let second = expiring_second(rt, settings)?;
         let asked = hear(rt, settings, served, now, desk);
         serve_once(
             rt,
@@ -557,7 +550,7 @@ fn hear<R: Files + Clock, W: Wire + Drop, Q: Operators + Drop>(
     let list = ListState {
         path,
         figures: served.figures(now),
-        age: ListAge(age_of(rt, path, served.written())),
+        age: ListAge(age_of(rt, path)),
         accepted: served.accepted(),
     };
     let scene = Scene {
@@ -589,7 +582,7 @@ fn tell_if_due<R: Files + Clock, W: Wire + Drop, O: Write>(
 {
     if is_due {
         let figures = served.figures(now);
-        let age = age_of(rt, settings.csv.as_str(), served.written());
+        let age = age_of(rt, settings.csv.as_str());
         tell_status(rt, settings.log, figures, age, settings.max_age, output);
     }
 }
@@ -603,7 +596,7 @@ fn attend<R: Files + Clock + AllocGlobal, W: Wire + Drop, P: Scrapers>(
     watch: &mut Watch<P>,
 ) {
     if watch.attend(now) {
-        let age = age_of(rt, settings.csv.as_str(), served.written());
+        let age = age_of(rt, settings.csv.as_str());
         watch.tell(rt.alloc(), &served.figures(now), age);
     }
 }
@@ -630,7 +623,7 @@ where
     ensures quiet { settings.now.log ≡ false → output.new ≡ output.old }
     ensures desk { desk.new ≡ desk.old }
     ensures due { reread.new ≡ record reread.old { last = if have_passed reread.old.seconds reread.old.last now then now else reread.old.last } }
-    ensures serves { OnOk result (ServesOnce (Gives (FnReturnsAt F.Fn opens.now) L.remaining settings.now second) asked (have_passed reread.old.seconds reread.old.last now) now served.old served.new) }
+    ensures serves { OnOk result (ServesOnce (Gives (FnReturnsAt F.Fn opens.now) L.remaining settings.now) asked (have_passed reread.old.seconds reread.old.last now) now served.old served.new) }
 {
     let (led, turned) = served.serve(rt.alloc(), now, asked, reread, settings, second, opens);
     watch.count(led);

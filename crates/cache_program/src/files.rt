@@ -19,7 +19,7 @@ where
     F: Fn(&str) -> io::Result<L>,
     requires { F.IsAlwaysCallable opens.now }
     ensures second { IfOk result (λ files. files.second ≡ expiring_at settings.now second) }
-    ensures gives { MatchResult result (λ files. Gives (FnReturnsAt F.Fn opens.now) L.remaining settings.now second (Ok (texts_of L.remaining files.list files.slurm files.second))) (λ unopened. Gives (FnReturnsAt F.Fn opens.now) L.remaining settings.now second (Err unopened.file)) }
+    ensures gives { MatchResult result (λ files. Gives (FnReturnsAt F.Fn opens.now) L.remaining settings.now (Ok (texts_of L.remaining files.list files.slurm files.second))) (λ unopened. Gives (FnReturnsAt F.Fn opens.now) L.remaining settings.now (Err unopened.file)) }
 {
     let second = expiring_at(settings, second);
     open_sources(settings.csv.as_str(), slurm_path(settings), second, opens)

@@ -2,7 +2,7 @@
 ghost use Rattle.std.specs.Prelude.{◌≡◌, ◌⊎◌, ℕ, List, Option, is_some, true};
 ghost use Rattle.cache_turns.specs.Turns.{Step, TakesSteps};
 ghost use Rattle.list_guards.specs.Guarding.{HasEnough};
-ghost use Rattle.cache_program.specs.Opened.{AnyList, AnyWire};
+ghost use Rattle.cache_program.specs.Opened.{AnyList, AnySecond, AnyWire};
 ghost use Rattle.cache_program.specs.Rereads.{Served, served_set};
 ghost use Rattle.cache_program.specs.ServedTurns.{IsServed, Moment, ServesAll};
 ghost use Rattle.cache_settings.specs.declared.settings.CacheSettings.{CacheSettings};
@@ -17,5 +17,5 @@ pub fn served_turns_are_steps()
 /// payloads as the settings want. The one exception is a list that an operator has accepted, where the settings have a path for
 /// operators.
 pub fn no_fewer_are_served_than_are_wanted()
-    ensures { (settings : CacheSettings) (count : ℕ) (before behind dated redated : List ℕ) (served : Served) → IsServed AnyList AnyWire settings count before behind dated redated served → ((is_some settings.control ≡ true) × (served.accepted ≡ true)) ⊎ HasEnough settings.guards (served_set served) }
+    ensures { (settings : CacheSettings) (count : ℕ) (before behind : List ℕ) (served : Served) → IsServed AnyList AnyWire AnySecond settings count before behind served → ((is_some settings.control ≡ true) × (served.accepted ≡ true)) ⊎ HasEnough settings.guards (served_set served) }
 {}

@@ -7,7 +7,7 @@ ghost use Rattle.payload_sources.specs.PayloadSources.{texts_of};
 ghost use Rattle.cache_program.specs.Figures.{figures_of};
 ghost use Rattle.cache_program.specs.Opened.{Gives};
 ghost use Rattle.cache_program.specs.Passing.{have_passed};
-ghost use Rattle.cache_program.specs.Rereads.{IsNewest, Notes, Publishes, Rereads, RereadsFile, RereadsWhenDue, ServesAt, fault_of_guards, newest_set, served_set};
+ghost use Rattle.cache_program.specs.Rereads.{IsNewest, Publishes, Rereads, RereadsFile, RereadsWhenDue, ServesAt, fault_of_guards, newest_set, served_set};
 ghost use Rattle.cache_program.specs.ServedTurns.{is_accepted, is_read};
 
 use crate::every::Every;
@@ -25,7 +25,6 @@ use std::collections::BTreeSet;
 use std::io::{self, Read};
 use std::marker::Model;
 use std::time::Duration;
-use vrp_json::Written;
 use wires::{LoopFault, Wire};
 
 /// The turns of a cache, and what it serves.
@@ -44,8 +43,6 @@ pub struct ServedList<W: Wire> {
     read: u64,
     // Whether an operator had the guards set aside for the list that is served.
     accepted: bool,
-    // When it says that it was written.
-    written: Written,
 }
 
 impl<W: Wire> Model for ServedList<W> {
@@ -53,24 +50,17 @@ impl<W: Wire> Model for ServedList<W> {
 
     ghost Value = { Served };
 
-    ghost view = { λ s. record { turns = s.turns; guards = s.guards; serial = s.serial; payloads = s.payloads; read = s.read; accepted = s.accepted; written = s.written } };
+    ghost view = { λ s. record { turns = s.turns; guards = s.guards; serial = s.serial; payloads = s.payloads; read = s.read; accepted = s.accepted } };
 
     ghost invariant = { λ s. IsServing s.guards s.turns.cache.shared.kept s.serial s.payloads s.looked_at.keys };
 }
 
 impl<W: Wire + Drop> ServedList<W> {
-    /// The turns of a cache that serves this set under this serial, at the moment 0, of a list that says that it was written
-    /// then. Lists have to keep to these guards.
-    pub fn new(
-        turns: CacheLoop<W>,
-        guards: Guards,
-        serial: u32,
-        set: BTreeSet<Vrp>,
-        written: Written,
-    ) -> Self
+    /// The turns of a cache that serves this set under this serial, at the moment 0. Lists have to keep to these guards.
+    pub fn new(turns: CacheLoop<W>, guards: Guards, serial: u32, set: BTreeSet<Vrp>) -> Self
         requires newest { IsNewest turns.cache.shared.kept serial (length set.keys) }
         requires set { set.keys ≡ newest_set turns.cache.shared.kept }
-        ensures { result ≡ record { turns = turns; guards = guards; serial = serial; payloads = length set.keys; read = 0; accepted = false; written = written } }
+        ensures { result ≡ record { turns = turns; guards = guards; serial = serial; payloads = length set.keys; read = 0; accepted = false } }
     {
         let payloads = set.len();
         ServedList {
@@ -81,7 +71,6 @@ impl<W: Wire + Drop> ServedList<W> {
             looked_at: kept_for(&guards, set),
             read: 0,
             accepted: false,
-            written,
         }
     }
 
@@ -107,7 +96,7 @@ impl<W: Wire + Drop> ServedList<W> {
         opens: &F,
     ) -> (Option<Reread>, Result<(), LoopFault>)
         requires { F.IsAlwaysCallable opens.now }
-        ensures serves { ServesAt (Gives (FnReturnsAt F.Fn opens.now) L.remaining settings.now second) (is_accepted asked) (is_read asked (have_passed due.old.seconds due.old.last now)) now self.old result.0 result.1 self.new }
+        ensures serves { ServesAt (Gives (FnReturnsAt F.Fn opens.now) L.remaining settings.now) (is_accepted asked) (is_read asked (have_passed due.old.seconds due.old.last now)) now self.old result.0 result.1 self.new }
         ensures due { due.new ≡ record due.old { last = if have_passed due.old.seconds due.old.last now then now else due.old.last } }
     {
         let is_read = is_read(asked, due.is_due(now));
@@ -127,7 +116,7 @@ impl<W: Wire + Drop> ServedList<W> {
         opens: &F,
     ) -> Option<Reread>
         requires { F.IsAlwaysCallable opens.now }
-        ensures { RereadsWhenDue (Gives (FnReturnsAt F.Fn opens.now) L.remaining settings.now second) accepts is_read now self.old result self.new }
+        ensures { RereadsWhenDue (Gives (FnReturnsAt F.Fn opens.now) L.remaining settings.now) accepts is_read now self.old result self.new }
     {
         if is_read {
             Some(self.reread(alloc, now, accepts, open_files(settings, second, opens)))
@@ -170,18 +159,17 @@ impl<W: Wire + Drop> ServedList<W> {
         ensures { RereadsFile accepts now (texts_of L.remaining files.list files.slurm files.second) self.old result self.new }
     {
         match read_sources(alloc, files) {
-            Ok(read) => self.publish(now, accepts, read.set, read.written),
+            Ok(read) => self.publish(now, accepts, read.set),
             Err(refused) => Reread::Refused(ListFault::Source(refused)),
         }
     }
 
     // Hands a set to the cache that the guards let pass, or that an operator accepts.
-    fn publish(&mut self, now: u64, accepts: bool, set: BTreeSet<Vrp>, written: Written) -> Reread
-        ensures publishes { Publishes accepts now set.keys self.old result self.new }
-        ensures notes { Notes written result self.new }
+    fn publish(&mut self, now: u64, accepts: bool, set: BTreeSet<Vrp>) -> Reread
+        ensures { Publishes accepts now set.keys self.old result self.new }
     {
         match self.judge_unless(accepts, &set) {
-            Ok(()) => self.hand_in(now, accepts, set, written),
+            Ok(()) => self.hand_in(now, accepts, set),
             Err(why) => Reread::Refused(ListFault::Guard(why)),
         }
     }
@@ -204,10 +192,9 @@ impl<W: Wire + Drop> ServedList<W> {
     }
 
     // Hands a set to the cache.
-    fn hand_in(&mut self, now: u64, accepts: bool, set: BTreeSet<Vrp>, written: Written) -> Reread
+    fn hand_in(&mut self, now: u64, accepts: bool, set: BTreeSet<Vrp>) -> Reread
         requires { fault_of_guards accepts self.old set.keys ≡ None }
-        ensures publishes { Publishes accepts now set.keys self.old result self.new }
-        ensures notes { Notes written result self.new }
+        ensures { Publishes accepts now set.keys self.old result self.new }
     {
         let Ok(report) = self.turns.load(&set) else {
             return Reread::Refused(ListFault::NoMemory);
@@ -218,7 +205,6 @@ impl<W: Wire + Drop> ServedList<W> {
         self.looked_at = kept_for(&self.guards, set);
         self.read = now;
         self.accepted = accepts;
-        self.written = written;
         if self.serial == before {
             return Reread::Same;
         }
@@ -273,13 +259,6 @@ impl<W: Wire + Drop> ServedList<W> {
         ensures { result ≡ self.now.read }
     {
         self.read
-    }
-
-    /// When the list that is served says that it was written.
-    pub fn written(&self) -> Written
-        ensures { result ≡ self.now.written }
-    {
-        self.written
     }
 
     /// Whether an operator had the guards set aside for the list that is served.

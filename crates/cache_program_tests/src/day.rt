@@ -88,8 +88,8 @@ pub(crate) fn are_removed(rt: &HostRuntime, paths: &[String]) -> bool {
     true
 }
 
-fn write_settings(rt: &HostRuntime, day: &str, more: &str) -> io::Result<String> {
-    let text = format!(in rt.alloc(); "{more}{SETTINGS}\"{LIST_PATH}\"\n")?;
+fn write_settings(rt: &HostRuntime, day: &str) -> io::Result<String> {
+    let text = format!(in rt.alloc(); "{SETTINGS}\"{LIST_PATH}\"\n")?;
     let name = format!(in rt.alloc(); "{day}.toml")?;
     write(rt, name.as_str(), text.as_str())
 }
@@ -133,15 +133,9 @@ fn is_told(stage: &Stage<'_>, settings_path: &str, log: &str) -> bool {
     }) == Ok(true)
 }
 
-// The same on settings in a file, which have these lines too.
-pub(crate) fn is_told_on_a_file(
-    rt: &HostRuntime,
-    day: &str,
-    more: &str,
-    stage: &Stage<'_>,
-    log: &str,
-) -> bool {
-    match write_settings(rt, day, more) {
+// The same on settings in a file.
+pub(crate) fn is_told_on_a_file(rt: &HostRuntime, day: &str, stage: &Stage<'_>, log: &str) -> bool {
+    match write_settings(rt, day) {
         Ok(path) => is_told(stage, path.as_str(), log) && remove(rt, path.as_str()).is_ok(),
         Err(_) => false,
     }
@@ -156,7 +150,7 @@ fn is_logged(
 ) -> bool {
     let [before, between, behind] = LOG;
     match format!(in rt.alloc(); "{before}{listener}{between}{address}{behind}") {
-        Ok(log) => is_told_on_a_file(rt, "day", "", stage, log.as_str()),
+        Ok(log) => is_told_on_a_file(rt, "day", stage, log.as_str()),
         Err(_) => false,
     }
 }

@@ -1,13 +1,11 @@
 //! Tests alone: a list that is read again while routers are served, and guarded, lists in either format and under the
-//! exceptions of SLURM files, a day of `ovcache`, payloads that expire, its texts and statuses, figures, and operators.
+//! exceptions of SLURM files, a day of `ovcache`, its texts and statuses, figures, and operators.
 #![tactic(auto)]
 
 #[cfg(test)]
 mod day;
 #[cfg(test)]
 mod desk;
-#[cfg(test)]
-mod expiring;
 #[cfg(test)]
 mod figures;
 #[cfg(test)]

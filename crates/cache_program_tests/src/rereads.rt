@@ -13,7 +13,6 @@ use std::collections::BTreeSet;
 use std::io::{self, ErrorKind, Read, Write};
 use std::net::{Net, SocketAddr, TcpListener, TcpStream};
 use std::test::Fail;
-use vrp_json::Written;
 use wires::Wire;
 
 const RESET_QUERY: [u8; 8] = [1, 2, 0, 0, 0, 0, 0, 8];
@@ -210,7 +209,7 @@ pub(crate) fn serving_none<W: Wire + Drop>(
 ) -> Result<ServedList<W>, Fail> {
     let cache = Cache::new(alloc, 7, Intervals::USUAL)?;
     let turns = CacheLoop::new(alloc, wire, cache)?;
-    Ok(ServedList::new(turns, guards, 0, BTreeSet::new(alloc), Written::Untold))
+    Ok(ServedList::new(turns, guards, 0, BTreeSet::new(alloc)))
 }
 
 #[test]

@@ -56,7 +56,7 @@ pub struct CacheSettings {
     pub expires: bool,
     /// After how many seconds the list is read again, if it is.
     pub reread: Option<u32>,
-    /// How many seconds ago it was written at most, else the log warns.
+    /// How many seconds ago its file was written at most, else the log warns.
     pub max_age: Option<u32>,
     /// Whether it writes a log.
     pub log: bool,

@@ -3,7 +3,7 @@
 //! A program's turns have a moment each. `SecondsClock` is what they ask for it; for proofs it keeps in mind what it told, so
 //! that a contract can say that each turn had the reading made for it, and that readings never go back.
 //! `MonotonicClock` is the system's: the moments that it tells are those of the instants that the system's clock answered, one
-//! at a time (`moments_of`). `SystemSeconds` is the system's clock of the day, a `SecondsSince1970`, which keeps in mind what it told too. The two modules that ask the system, and note what
+//! at a time (`moments_of`). `SystemSeconds` is the system's clock of the day. The two modules that ask the system, and note what
 //! it answered, are trusted (`system_clock`, `system_seconds`).
 #![tactic(auto)]
 
@@ -13,7 +13,6 @@ mod seconds_clock;
 mod seconds_since_1970;
 mod system_clock;
 mod system_seconds;
-mod tellings;
 
 pub use monotonic::MonotonicClock;
 pub use seconds_clock::SecondsClock;

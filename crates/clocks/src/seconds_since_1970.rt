@@ -1,14 +1,14 @@
 //! What tells the second.
-ghost use Rattle.std.specs.Prelude.{◌≡◌, ℕ, List, ◌∷◌, IfOk, OnErr};
+ghost use Rattle.std.specs.Prelude.{◌≡◌, ℕ, Option, Some, IfOk};
 
 use std::io;
 
-/// A clock that tells the whole seconds since 1970 began. For proofs it keeps in mind what it told, the last one first.
+/// A clock that tells the whole seconds since 1970 began.
 pub trait SecondsSince1970 {
-    ghost tellings: { Self → List ℕ };
+    // The second that it told last, if it told one.
+    ghost told: { Self → Option ℕ };
 
     /// The second now.
     fn second(&mut self) -> io::Result<u64>
-        ensures told { IfOk result (λ second. tellings self.new ≡ second ∷ tellings self.old) }
-        ensures failed { OnErr result (tellings self.new ≡ tellings self.old) };
+        ensures { IfOk result (λ second. told self.new ≡ Some second) };
 }

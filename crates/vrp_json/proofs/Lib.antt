@@ -3,4 +3,3 @@ mod Entries
 mod Meanings
 mod ReadEntries
 mod Steps
-mod WrittenTold

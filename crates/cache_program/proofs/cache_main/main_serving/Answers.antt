@@ -1,8 +1,8 @@
-use Rattle.std.proofs.Common.{◌≡◌, [], Some, sym, subst, ◌∙◌}
+use Rattle.std.proofs.Common.{◌≡◌, Some, sym, subst, ◌∙◌}
 use Rattle.clocks.specs.Moments.{Clocked}
 use Rattle.wires.specs.Wires.{WireState, nothing_told}
 use Rattle.cache_program.proofs.EndedWell.{served_so}
-use Rattle.cache_program.specs.Opened.{SystemGives}
+use Rattle.cache_program.specs.Opened.{AnySecond, SystemGives}
 use Rattle.cache_program.specs.ServedTurns.{IsServed}
 use Rattle.cache_program.proofs.cache_main.main_serving.Goals as goal
 
@@ -14,10 +14,9 @@ returns-clause-serves g c = λ zero.
       is.1,
       is.2,
       c.serve_words-served.new.clock.moments,
-      is.3,
       so.0,
+      is.3,
       is.4,
-      is.5,
-      subst (λ (clock : Clocked). IsServed (SystemGives is.2) (λ (wire : WireState). wire ≡ nothing_told (Some (is.2).listen)) is.2 is.1 clock.moments c.serve_words-served.new.clock.moments [] is.3 so.0) c.new-clock.ensures is.6,
-      is.7,
+      subst (λ (clock : Clocked). IsServed (SystemGives is.2) (λ (wire : WireState). wire ≡ nothing_told (Some (is.2).listen)) AnySecond is.2 is.1 clock.moments c.serve_words-served.new.clock.moments so.0) c.new-clock.ensures is.5,
+      is.6,
     )

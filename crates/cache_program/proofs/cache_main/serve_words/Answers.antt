@@ -1,7 +1,5 @@
-use Rattle.std.proofs.Common.{◌≡◌, ◌∙◌, ℕ, List, Some, rules, subst}
-use Rattle.wires.specs.Wires.{WireState, nothing_told}
-use Rattle.cache_program.specs.Opened.{SystemGives}
-use Rattle.cache_program.specs.ServedTurns.{IsServed}
+use Rattle.std.proofs.Common.{◌≡◌, ◌∙◌, Some, rules}
+use Rattle.wires.specs.Wires.{nothing_told}
 use Rattle.cache_program.proofs.Begun.{listens_there, served_as}
 use Rattle.cache_program.proofs.EndedWell.{if_ok_as}
 use Rattle.cache_program.proofs.SystemFiles.{opens_as}
@@ -12,9 +10,9 @@ returns-clause-serves g c =
     if_ok_as c.run_cache.result c.run_cache.ensures.serves
     (λ served is.
     let path : is.4.0.path ≡ is.4.1.shown.now = (let gives = is.4.1.says.met in search rules) in
-    let opened =
-    served_as _ _ _ _ is.2 is.1 _ _ _ _ served is.5
-    (λ second sources given. opens_as _ is.2 second sources given (λ path file at. let is : file.path ≡ at.shown.now = (let gives = at.says.met in search rules) in is ∙ at.shows))
-    (λ wire opened. let listens : opened.0 ≡ nothing_told (Some (is.2).listen) = (let gives = opened.1 in search rules) in opened.2 ∙ listens) in
-    let so = subst (λ (told : List ℕ). IsServed (SystemGives is.2) (λ (wire : WireState). wire ≡ nothing_told (Some (is.2).listen)) is.2 is.1 _ _ told _ served) c.new.ensures opened in
-    (is.0, is.1, is.2, _, is.3, (is.4.0, path ∙ is.4.1.shows, is.4.2), so, listens_there _ is.2 is.1 _ _ _ _ served _ so))
+    let so =
+    served_as _ _ _ _ _ _ is.2 is.1 _ _ served is.5
+    (λ sources given. opens_as _ is.2 sources given (λ path file at. let is : file.path ≡ at.shown.now = (let gives = at.says.met in search rules) in is ∙ at.shows))
+    (λ wire opened. let listens : opened.0 ≡ nothing_told (Some (is.2).listen) = (let gives = opened.1 in search rules) in opened.2 ∙ listens)
+    (λ second told. tt) in
+    (is.0, is.1, is.2, is.3, (is.4.0, path ∙ is.4.1.shows, is.4.2), so, listens_there _ _ is.2 is.1 _ _ served _ so))

@@ -10,4 +10,4 @@ invariant-loop g l =
     (l.fn.settings.log ≡ false → l.output ≡ l.fn.output)
     × (l.desk ≡ l.fn.desk)
     × (l.reread.seconds ≡ l.fn.settings.reread)
-    × AreServed (Gives (FnReturnsAt g.F.Fn l.fn.opens) g.L.Read.remaining l.fn.settings) l.fn.settings.reread l.fn.settings.expires l.fn.desk l.reread.last l.counter (g.C.SecondsClock.readings l.fn.clock) (g.C.SecondsClock.readings l.clock) (g.S.SecondsSince1970.tellings l.fn.seconds) (g.S.SecondsSince1970.tellings l.seconds) l.fn.served l.served
+    × AreServed (Gives (FnReturnsAt g.F.Fn l.fn.opens) g.L.Read.remaining l.fn.settings) l.fn.settings.reread l.fn.desk l.reread.last l.counter (g.C.SecondsClock.readings l.fn.clock) (g.C.SecondsClock.readings l.clock) l.fn.served l.served
