@@ -166,9 +166,12 @@ impl<P: Operators> Clerk<P> {
     }
 }
 
-// Whether a guard refused the list.
+// Whether a guard refused the list, or its age.
 fn is_guarded(last: Option<Reread>) -> bool {
-    matches!(last, Some(Reread::Refused(ListFault::Guard(_))))
+    matches!(
+        last,
+        Some(Reread::Refused(ListFault::Guard(_) | ListFault::Old { .. }))
+    )
 }
 
 fn write_outcome(led: Reread, payloads: usize, page: &mut Vec<u8>) -> io::Result<()> {

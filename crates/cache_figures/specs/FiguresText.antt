@@ -1,11 +1,11 @@
 -- The figures of a cache in Prometheus' text format: of each its help, its kind, and its values.
-use Rattle.std.specs.Prelude.{ℕ, List, [], ◌∷◌, ◌++◌, Option, None, Some, codes, decimal}
+use Rattle.std.specs.Prelude.{ℕ, Bool, true, false, List, [], ◌∷◌, ◌++◌, Option, None, Some, codes, decimal}
 use Rattle.std.specs.List.{flat_map}
 use Rattle.prometheus_text.specs.MetricText.{escaped_in_help, escaped_in_value, name_text, word_of}
 use Rattle.prometheus_text.specs.declared.metric.MetricKind.{MetricKind}
 use Rattle.prometheus_text.specs.declared.metric.MetricKind.TheVariants.{Counter, Gauge}
 use Rattle.cache_figures.specs.declared.figure.Figure.{Figure}
-use Rattle.cache_figures.specs.declared.figure.Figure.TheVariants.{Vrps, Clients, Routers, Serial, Session, Written, Read, Rereads, Octets, Lost, Closed, Turns}
+use Rattle.cache_figures.specs.declared.figure.Figure.TheVariants.{Vrps, Clients, Routers, Serial, Withdrawn, Session, Written, Read, Rereads, Octets, Lost, Closed, Turns}
 use Rattle.cache_figures.specs.declared.figures.CacheFigures.{CacheFigures}
 use Rattle.cache_figures.specs.declared.figures.RunFigures.{RunFigures}
 
@@ -15,6 +15,7 @@ name_of Vrps = codes "rpki_vrps"
 name_of Clients = codes "rtr_clients"
 name_of Routers = codes "kenyodla_routers"
 name_of Serial = codes "kenyodla_serial"
+name_of Withdrawn = codes "kenyodla_list_withdrawn"
 name_of Session = codes "kenyodla_session_id"
 name_of Written = codes "kenyodla_list_written_seconds"
 name_of Read = codes "kenyodla_list_read_seconds"
@@ -29,6 +30,7 @@ help_of Vrps = codes "Payloads that are served."
 help_of Clients = codes "Routers that are connected."
 help_of Routers = codes "Routers by the list that was handed out whole for each last."
 help_of Serial = codes "Serial that is served."
+help_of Withdrawn = codes "Whether the list is withdrawn since it is stale."
 help_of Session = codes "Session id of this run."
 help_of Written = codes "Seconds since the file of the list was written."
 help_of Read = codes "Seconds since a list was read that could be had."
@@ -43,6 +45,7 @@ kind_of Vrps = Gauge
 kind_of Clients = Gauge
 kind_of Routers = Gauge
 kind_of Serial = Gauge
+kind_of Withdrawn = Gauge
 kind_of Session = Gauge
 kind_of Written = Gauge
 kind_of Read = Gauge
@@ -83,10 +86,15 @@ unfoldable pub served_text : CacheFigures → RunFigures → List ℕ
 served_text cache run =
     labelled_text Vrps (codes "ip_version") ((codes "ipv4", cache.payloads) ∷ []) ++ figure_text Serial cache.serial ++ figure_text Session run.session
 
+-- 1 where it is so
+abbrev pub as_number : Bool → ℕ
+as_number true = 1
+as_number false = 0
+
 -- the list that it came from
 unfoldable pub list_text : CacheFigures → RunFigures → Option ℕ → List ℕ
 list_text cache run age =
-    if_told_text Written age ++ figure_text Read cache.read
+    if_told_text Written age ++ figure_text Read cache.read ++ figure_text Withdrawn (as_number cache.withdrawn)
     ++ labelled_text Rereads (codes "outcome") ((codes "taken", run.taken) ∷ (codes "same", run.same) ∷ (codes "refused", run.refused) ∷ [])
 
 -- the routers

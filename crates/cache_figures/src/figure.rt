@@ -11,6 +11,7 @@ pub enum Figure {
     Clients,
     Routers,
     Serial,
+    Withdrawn,
     Session,
     Written,
     Read,
@@ -31,6 +32,7 @@ impl Figure {
             Figure::Clients => "rtr_clients",
             Figure::Routers => "kenyodla_routers",
             Figure::Serial => "kenyodla_serial",
+            Figure::Withdrawn => "kenyodla_list_withdrawn",
             Figure::Session => "kenyodla_session_id",
             Figure::Written => "kenyodla_list_written_seconds",
             Figure::Read => "kenyodla_list_read_seconds",
@@ -51,6 +53,7 @@ impl Figure {
             Figure::Clients => "Routers that are connected.",
             Figure::Routers => "Routers by the list that was handed out whole for each last.",
             Figure::Serial => "Serial that is served.",
+            Figure::Withdrawn => "Whether the list is withdrawn since it is stale.",
             Figure::Session => "Session id of this run.",
             Figure::Written => "Seconds since the file of the list was written.",
             Figure::Read => "Seconds since a list was read that could be had.",
@@ -68,7 +71,7 @@ impl Figure {
     {
         match self {
             Figure::Vrps | Figure::Clients | Figure::Routers => MetricKind::Gauge,
-            Figure::Serial | Figure::Session => MetricKind::Gauge,
+            Figure::Serial | Figure::Session | Figure::Withdrawn => MetricKind::Gauge,
             Figure::Written | Figure::Read => MetricKind::Gauge,
             Figure::Rereads | Figure::Octets => MetricKind::Counter,
             Figure::Lost | Figure::Closed | Figure::Turns => MetricKind::Counter,

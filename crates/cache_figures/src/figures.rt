@@ -5,7 +5,8 @@ ghost use Rattle.cache_figures.specs.RunCounts.{counting, none_counted};
 use std::fmt::{self, Display, Formatter, Write};
 
 /// What a cache serves at a moment, to how many routers, and how many of them hold it, another list, and none; how many octets
-/// came and went and how many connections ended since the start; and how many seconds ago a list was read that could be had.
+/// came and went and how many connections ended since the start; how many seconds ago a list was read that could be had; and
+/// whether it is withdrawn.
 #[derive(Clone, Copy, Debug, PartialEq, Eq)]
 pub struct CacheFigures {
     pub serial: u32,
@@ -19,6 +20,7 @@ pub struct CacheFigures {
     pub lost: u64,
     pub closed: u64,
     pub read: u64,
+    pub withdrawn: bool,
 }
 
 impl Display for CacheFigures {
@@ -39,9 +41,14 @@ fn write_served<W: Write>(figures: &CacheFigures, f: &mut Formatter<W>) -> fmt::
         serial,
         payloads,
         routers,
+        withdrawn,
         ..
     } = figures;
-    write!(f, "serial {serial}, payloads {payloads}, routers {routers}")
+    write!(f, "serial {serial}, payloads {payloads}")?;
+    if *withdrawn {
+        f.write_str(" withdrawn")?;
+    }
+    write!(f, ", routers {routers}")
 }
 
 fn write_held<W: Write>(figures: &CacheFigures, f: &mut Formatter<W>) -> fmt::Result {

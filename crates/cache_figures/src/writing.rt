@@ -1,14 +1,14 @@
 //! Figures as scrapers are told them.
 ghost use Rattle.std.specs.Prelude.{◌≡◌, ◌++◌, OnOk};
 ghost use Rattle.std.specs.List.{flat_map};
-ghost use Rattle.cache_figures.specs.FiguresText.{figure_text, figures_text, head_text, if_told_text, list_text, routers_text, run_text, served_text, value_text};
+ghost use Rattle.cache_figures.specs.FiguresText.{as_number, figure_text, figures_text, head_text, if_told_text, list_text, routers_text, run_text, served_text, value_text};
 
 use crate::figure::Figure;
 use crate::figures::{CacheFigures, RunFigures};
 use prometheus_text::{Label, Metric, Sample, write_metric, write_sample};
 use std::alloc::{AllocError, Allocator};
 
-/// Writes the figures of a cache and of its run, with how many seconds ago the list's file was written, if that can be told,
+/// Writes the figures of a cache and of its run, with how many seconds ago the list was written, if that can be told,
 /// behind what the text has. Where memory is refused the text is of no use.
 #[tactic(auto, unfolding(crate::specs::FiguresText::figures_text))]
 pub fn write_figures<A: Allocator>(
@@ -52,12 +52,22 @@ fn write_list<A: Allocator>(
 {
     write_if_told(text, Figure::Written, age)?;
     write_figure(text, Figure::Read, cache.read)?;
+    write_figure(text, Figure::Withdrawn, as_number(cache.withdrawn))?;
     let rereads = [
         ("taken", run.taken),
         ("same", run.same),
         ("refused", run.refused),
     ];
     write_labelled(text, Figure::Rereads, "outcome", &rereads)
+}
+
+fn as_number(is_so: bool) -> u64
+    ensures { result ≡ as_number is_so }
+{
+    match is_so {
+        true => 1,
+        false => 0,
+    }
 }
 
 // The routers.

@@ -1,7 +1,7 @@
 -- What is served behind each moment is guarded.
 use Rattle.std.proofs.Common.{◌≡◌, ◌⊎◌, inl, inr, ℕ, Bool, true, false, List, [], ◌∷◌, Option, None, Result, Ok, Err, if◌then◌else◌, is_some, refl, sym, ap, subst, ◌∙◌}
 use Rattle.std.proofs.lemmas.Bool.{false≢true}
-use Rattle.cache_turns.proofs.Keeping.{turn_keeps}
+use Rattle.cache_turns.proofs.Keeping.{turn_keeps, withdrawing_keeps}
 use Rattle.list_guards.proofs.Passing.{passes}
 use Rattle.list_guards.specs.Guarding.{HasEnough}
 use Rattle.list_guards.specs.declared.Guards.{Guards}
@@ -16,10 +16,11 @@ use Rattle.payload_sources.specs.declared.fault.SourceFile.{SourceFile}
 use Rattle.cache_program.proofs.Begun.{first_is_newest_set}
 use Rattle.cache_program.proofs.Newest.{newest_set-kept_after}
 use Rattle.cache_program.specs.Passing.{have_passed}
-use Rattle.cache_program.specs.Rereads.{HandsIn, Publishes, Rereads, RereadsFile, RereadsWhenDue, Served, newest_set, served_set, versions}
+use Rattle.cache_program.specs.Rereads.{age_told, HandsIn, Publishes, Rereads, RereadsFile, RereadsWhenDue, Served, WithdrawsWhere, is_stale, newest_set, served_set, versions}
 use Rattle.cache_program.specs.ServedTurns.{IsBegun, IsServed, Moment, NobodyAsks, ServesAll, ServesOnce, is_accepted, is_read}
 use Rattle.cache_watch.specs.declared.reread.Reread.{Reread}
 use Rattle.cache_watch.specs.declared.reread.Reread.TheVariants.{Refused, Same, Published}
+use Rattle.cache_watch.specs.declared.telling.FileAge.{FileAge}
 
 -- what is served has enough, or an operator has accepted it, where one may
 abbrev pub IsWell : Bool → Guards → Served → Type 0
@@ -36,49 +37,64 @@ stays_same may old new same = record {
   well = λ well. subst (λ (s : Served). IsWell may old.guards s) (sym same) well;
 }
 
-handed_set : (accepts : Bool) (now : ℕ) (set : List Vrp) (old : Served) (under : ℕ) (new : Served) → HandsIn accepts now set old under new → served_set new ≡ set
-handed_set accepts now set old under new handed =
+handed_set : (accepts : Bool) (now age : ℕ) (set : List Vrp) (old : Served) (under : ℕ) (new : Served) → HandsIn accepts now age set old under new → served_set new ≡ set
+handed_set accepts now age set old under new handed =
     ap (λ (shared : Shared). newest_set shared.kept) handed.makes.0.0 ∙ newest_set-kept_after (versions old) set
 
-well_handed : (may accepts : Bool) (now : ℕ) (set : List Vrp) (old : Served) (under : ℕ) (new : Served) → (accepts ≡ true → may ≡ true) → HandsIn accepts now set old under new → IsWell may old.guards new
-well_handed may true now set old under new allowed handed = inl (allowed refl, handed.accepted)
-well_handed may false now set old under new allowed handed =
-    inr (subst (λ (s : List Vrp). HasEnough old.guards s) (sym (handed_set false now set old under new handed)) (passes old.guards (served_set old) set handed.passes).0)
+well_handed : (may accepts : Bool) (now age : ℕ) (set : List Vrp) (old : Served) (under : ℕ) (new : Served) → (accepts ≡ true → may ≡ true) → HandsIn accepts now age set old under new → IsWell may old.guards new
+well_handed may true now age set old under new allowed handed = inl (allowed refl, handed.accepted)
+well_handed may false now age set old under new allowed handed =
+    inr (subst (λ (s : List Vrp). HasEnough old.guards s) (sym (handed_set false now age set old under new handed)) (passes old.guards (served_set old) set handed.passes).0)
 
-stays_handed : (may accepts : Bool) (now : ℕ) (set : List Vrp) (old : Served) (under : ℕ) (new : Served) → (accepts ≡ true → may ≡ true) → HandsIn accepts now set old under new → Stays may old new
-stays_handed may accepts now set old under new allowed handed = record { guards = handed.guards; well = λ before. well_handed may accepts now set old under new allowed handed }
+stays_handed : (may accepts : Bool) (now age : ℕ) (set : List Vrp) (old : Served) (under : ℕ) (new : Served) → (accepts ≡ true → may ≡ true) → HandsIn accepts now age set old under new → Stays may old new
+stays_handed may accepts now age set old under new allowed handed = record { guards = handed.guards; well = λ before. well_handed may accepts now age set old under new allowed handed }
 
-stays_published : (may accepts : Bool) (now : ℕ) (set : List Vrp) (old : Served) (led : Reread) (new : Served) → (accepts ≡ true → may ≡ true) → Publishes accepts now set old led new → Stays may old new
-stays_published may accepts now set old (Refused why) new allowed refused = stays_same may old new refused.1
-stays_published may accepts now set old Same new allowed same = stays_handed may accepts now set old _ new allowed same.2
-stays_published may accepts now set old (Published serial) new allowed published = stays_handed may accepts now set old serial new allowed published.2
+stays_published : (may accepts : Bool) (now age : ℕ) (set : List Vrp) (old : Served) (led : Reread) (new : Served) → (accepts ≡ true → may ≡ true) → Publishes accepts now age set old led new → Stays may old new
+stays_published may accepts now age set old (Refused why) new allowed refused = stays_same may old new refused.1
+stays_published may accepts now age set old Same new allowed same = stays_handed may accepts now age set old _ new allowed same.2
+stays_published may accepts now age set old (Published serial) new allowed published = stays_handed may accepts now age set old serial new allowed published.2
 
-stays_by_file : (may accepts : Bool) (now : ℕ) (file : SourceTexts) (old : Served) (led : Reread) (new : Served) → (accepts ≡ true → may ≡ true) → RereadsFile accepts now file old led new → Stays may old new
-stays_by_file may accepts now file old (Refused why) new allowed refused = stays_same may old new refused.1
-stays_by_file may accepts now file old Same new allowed same = stays_published may accepts now same.0 old Same new allowed same.2
-stays_by_file may accepts now file old (Published serial) new allowed published = stays_published may accepts now published.0 old (Published serial) new allowed published.2
+stays_by_file : (may accepts : Bool) (now : ℕ) (age : FileAge) (file : SourceTexts) (old : Served) (led : Reread) (new : Served) → (accepts ≡ true → may ≡ true) → RereadsFile accepts now age file old led new → Stays may old new
+stays_by_file may accepts now age file old (Refused why) new allowed refused = stays_same may old new refused.1
+stays_by_file may accepts now age file old Same new allowed same = stays_published may accepts now (age_told new.written age) same.0 old Same new allowed same.2
+stays_by_file may accepts now age file old (Published serial) new allowed published = stays_published may accepts now (age_told new.written age) published.0 old (Published serial) new allowed published.2
 
-stays_reread : (may accepts : Bool) (now : ℕ) (sources : Result SourceTexts SourceFile) (old : Served) (led : Reread) (new : Served) → (accepts ≡ true → may ≡ true) → Rereads accepts now sources old led new → Stays may old new
-stays_reread may accepts now (Err file) old led new allowed none = stays_same may old new none.1
-stays_reread may accepts now (Ok file) old led new allowed rereads = stays_by_file may accepts now file old led new allowed rereads
+stays_reread : (may accepts : Bool) (now : ℕ) (age : FileAge) (sources : Result SourceTexts SourceFile) (old : Served) (led : Reread) (new : Served) → (accepts ≡ true → may ≡ true) → Rereads accepts now age sources old led new → Stays may old new
+stays_reread may accepts now age (Err file) old led new allowed none = stays_same may old new none.1
+stays_reread may accepts now age (Ok file) old led new allowed rereads = stays_by_file may accepts now age file old led new allowed rereads
 
-stays_due : (Lists : Result SourceTexts SourceFile → Type 0) (may accepts is_due : Bool) (now : ℕ) (old : Served) (answer : Option Reread) (new : Served) → (accepts ≡ true → may ≡ true) → RereadsWhenDue Lists accepts is_due now old answer new → Stays may old new
-stays_due Lists may accepts false now old answer new allowed none = stays_same may old new none.1
-stays_due Lists may accepts true now old answer new allowed rereads = stays_reread may accepts now rereads.2 old rereads.0 new allowed rereads.4
+stays_due : (Lists : Result SourceTexts SourceFile → Type 0) (may accepts is_due : Bool) (now : ℕ) (age : FileAge) (old : Served) (answer : Option Reread) (new : Served) → (accepts ≡ true → may ≡ true) → RereadsWhenDue Lists accepts is_due now age old answer new → Stays may old new
+stays_due Lists may accepts false now age old answer new allowed none = stays_same may old new none.1
+stays_due Lists may accepts true now age old answer new allowed rereads = stays_reread may accepts now age rereads.2 old rereads.0 new allowed rereads.4
 
 -- it is so as long as the set stays, and who accepted it
 well_behind : (may : Bool) (guards : Guards) (old new : Served) → served_set new ≡ served_set old → new.accepted ≡ old.accepted → IsWell may guards old → IsWell may guards new
 well_behind may guards old new set accepted (inl is) = inl (is.0, accepted ∙ is.1)
 well_behind may guards old new set accepted (inr enough) = inr (subst (λ (s : List Vrp). HasEnough guards s) (sym set) enough)
 
+-- a set that is withdrawn is kept
+record Keeps (old new : Served) : Type 0 where
+  pub guards : new.guards ≡ old.guards
+  pub set : served_set new ≡ served_set old
+  pub accepted : new.accepted ≡ old.accepted
+
+withdrawn_keeps : (is : Bool) (old new : Served) → WithdrawsWhere is old new → Keeps old new
+withdrawn_keeps false old new same = record { guards = ap (λ (s : Served). s.guards) same; set = ap served_set same; accepted = ap (λ (s : Served). s.accepted) same }
+withdrawn_keeps true old new withdraws = record {
+  guards = ap (λ (s : Served). s.guards) withdraws.1;
+  set = ap newest_set (withdrawing_keeps old.turns new.turns withdraws.0);
+  accepted = ap (λ (s : Served). s.accepted) withdraws.1;
+}
+
 -- a turn publishes nothing
-stays_once : (Lists : Result SourceTexts SourceFile → Type 0) (may : Bool) (asked : Option Reading) (is_due : Bool) (now : ℕ) (old new : Served) → (is_accepted asked ≡ true → may ≡ true) → ServesOnce Lists asked is_due now old new → Stays may old new
-stays_once Lists may asked is_due now old new allowed once =
-    let between = stays_due Lists may (is_accepted asked) (is_read asked is_due) now old once.rereads.0 once.between allowed once.rereads.1 in
-    let kept = turn_keeps now once.between.turns new.turns (Ok tt) once.takes in
+stays_once : (Lists : Result SourceTexts SourceFile → Type 0) (may : Bool) (asked : Option Reading) (is_due : Bool) (now : ℕ) (age : FileAge) (old new : Served) → (is_accepted asked ≡ true → may ≡ true) → ServesOnce Lists asked is_due now age old new → Stays may old new
+stays_once Lists may asked is_due now age old new allowed once =
+    let between = stays_due Lists may (is_accepted asked) (is_read asked is_due) now age old once.rereads.0 once.between allowed once.rereads.1 in
+    let left = withdrawn_keeps (is_stale now once.between) once.between once.left once.withdraws in
+    let kept = (turn_keeps now once.left.turns new.turns (Ok tt) once.takes).0 in
     record {
-      guards = ap (λ (s : Served). s.guards) once.same ∙ between.guards;
-      well = λ before. well_behind may old.guards once.between new (ap newest_set kept) (ap (λ (s : Served). s.accepted) once.same) (between.well before);
+      guards = ap (λ (s : Served). s.guards) once.same ∙ left.guards ∙ between.guards;
+      well = λ before. well_behind may old.guards once.between new (ap newest_set kept ∙ left.set) (ap (λ (s : Served). s.accepted) once.same ∙ left.accepted) (between.well before);
     }
 
 -- where nobody may ask for a reading nobody accepts one
@@ -91,13 +107,13 @@ all_well : (Lists : Result SourceTexts SourceFile → Type 0) (seconds : Option 
     → (may ≡ false → NobodyAsks moments) → old.guards ≡ guards → IsWell may guards old → IsWell may guards new
 all_well Lists seconds may last [] guards old new same nobody is well = subst (λ (s : Served). IsWell may guards s) (sym same) well
 all_well Lists seconds may last (at ∷ moments) guards old new all nobody is well =
-    let stays = stays_once Lists may at.asked (have_passed seconds last at.now) at.now old all.0 (only_where_one_may may at.asked (λ off. (nobody off).0)) all.1 in
+    let stays = stays_once Lists may at.asked (have_passed seconds last at.now) at.now at.age old all.0 (only_where_one_may may at.asked (λ off. (nobody off).0)) all.1 in
     all_well Lists seconds may (if have_passed seconds last at.now then at.now else last) moments guards all.0 new all.2 (λ off. (nobody off).1) (stays.guards ∙ is)
     (subst (λ (g : Guards). IsWell may g all.0) is (stays.well (subst (λ (g : Guards). IsWell may g old) (sym is) well)))
 
 first_enough : (Lists : Result SourceTexts SourceFile → Type 0) (Wires : WireState → Type 0) (Seconds : ℕ → Type 0) (settings : CacheSettings) (served : Served) → IsBegun Lists Wires Seconds settings served → HasEnough settings.guards (served_set served)
 first_enough Lists Wires Seconds settings served begun =
-    let newest = first_is_newest_set Lists settings.guards begun.cache.shared.kept served.serial begun.set begun.first in
+    let newest = first_is_newest_set Lists settings.guards begun.cache.shared.kept served.serial begun.set served.written begun.first in
     subst (λ (set : List Vrp). HasEnough settings.guards set)
     (newest ∙ sym (ap (λ (turns : Turns). newest_set turns.cache.shared.kept) begun.turns))
     (passes settings.guards [] begun.set begun.first.passes.1).0

@@ -2,18 +2,19 @@
 use Rattle.std.proofs.Common.{◌≡◌, ◌≤◌, ◌+◌, ◌++◌, ℕ, Bool, true, false, List, [], ◌∷◌, Option, None, Result, Ok, Err, if◌then◌else◌, length, length-append, refl, sym, ap, ◌∙◌, subst, arith}
 use Rattle.clocks.proofs.ToldMoments.{told_one_more}
 use Rattle.clocks.specs.Moments.{IsNotBefore, NeverGoBack, told_behind}
-use Rattle.cache_turns.specs.Turns.{Load, LoadsSet, Step, TakesSteps, TurnAt, Turns}
+use Rattle.cache_turns.specs.Turns.{Load, LoadsSet, Step, TakesSteps, TurnAt, Turns, Withdraw}
 use Rattle.net_prefix.specs.declared.payload.Vrp.{Vrp}
 use Rattle.rtr_cache.specs.CacheState.{tells_serial}
 use Rattle.payload_sources.specs.PayloadSources.{SourceTexts}
 use Rattle.payload_sources.specs.declared.fault.SourceFile.{SourceFile}
 use Rattle.cache_program.specs.Passing.{have_passed}
 use Rattle.cache_program.specs.declared.every.Every.{Every}
-use Rattle.cache_program.specs.Rereads.{HandsIn, Publishes, Rereads, RereadsFile, RereadsWhenDue, Served}
+use Rattle.cache_program.specs.Rereads.{age_told, HandsIn, Publishes, Rereads, RereadsFile, RereadsWhenDue, Served, WithdrawsWhere, is_stale}
 use Rattle.cache_desk.specs.declared.reading.Reading.{Reading}
 use Rattle.cache_program.specs.ServedTurns.{Moment, NobodyAsks, ServesAll, ServesOnce, ServesSoMany, is_accepted, is_read, nows}
 use Rattle.cache_watch.specs.declared.reread.Reread.{Reread}
 use Rattle.cache_watch.specs.declared.reread.Reread.TheVariants.{Refused, Same, Published}
+use Rattle.cache_watch.specs.declared.telling.FileAge.{FileAge}
 
 -- when the list was due last, behind turns at these moments
 abbrev pub last_after : Option ℕ → ℕ → List Moment → ℕ
@@ -32,8 +33,8 @@ nobody_more : (moments : List Moment) (at : Moment) → NobodyAsks moments → a
 nobody_more [] at nobody none = (none, tt)
 nobody_more (moment ∷ moments) at nobody none = (nobody.0, nobody_more moments at nobody.1 none)
 
-serves_more : (Lists : Result SourceTexts SourceFile → Type 0) (seconds : Option ℕ) (last : ℕ) (moments : List Moment) (at : Moment) (old mid new : Served) → ServesAll Lists seconds last moments old mid → ServesOnce Lists at.asked (have_passed seconds (last_after seconds last moments) at.now) at.now mid new → ServesAll Lists seconds last (moments ++ at ∷ []) old new
-serves_more Lists seconds last [] at old mid new same once = (new, subst (λ (s : Served). ServesOnce Lists at.asked (have_passed seconds last at.now) at.now s new) same once, refl)
+serves_more : (Lists : Result SourceTexts SourceFile → Type 0) (seconds : Option ℕ) (last : ℕ) (moments : List Moment) (at : Moment) (old mid new : Served) → ServesAll Lists seconds last moments old mid → ServesOnce Lists at.asked (have_passed seconds (last_after seconds last moments) at.now) at.now at.age mid new → ServesAll Lists seconds last (moments ++ at ∷ []) old new
+serves_more Lists seconds last [] at old mid new same once = (new, subst (λ (s : Served). ServesOnce Lists at.asked (have_passed seconds last at.now) at.now at.age s new) same once, refl)
 serves_more Lists seconds last (moment ∷ moments) at old mid new all once =
     (all.0, all.1, serves_more Lists seconds (if have_passed seconds last moment.now then moment.now else last) moments at all.0 mid new all.2 once)
 
@@ -50,14 +51,14 @@ pub record AreServed (Lists : Result SourceTexts SourceFile → Type 0) (seconds
 pub none_served : (Lists : Result SourceTexts SourceFile → Type 0) (seconds : Option ℕ) (may_ask : Bool) (before : List ℕ) (s : Served) → AreServed Lists seconds may_ask 0 0 before before s s
 none_served Lists seconds may_ask before s = record { moments = []; serves = refl; last_is = refl; told = refl; forward = λ all. all; counted = refl; nobody = λ off. tt }
 
-pub one_more : (Lists : Result SourceTexts SourceFile → Type 0) (seconds : Option ℕ) (may_ask : Bool) (last count now : ℕ) (asked : Option Reading) (before mid behind : List ℕ) (old between new : Served) → AreServed Lists seconds may_ask last count before mid old between
-    → behind ≡ now ∷ mid → IsNotBefore now mid → (may_ask ≡ false → asked ≡ None) → ServesOnce Lists asked (have_passed seconds last now) now between new → AreServed Lists seconds may_ask (if have_passed seconds last now then now else last) (count + 1) before behind old new
-one_more Lists seconds may_ask last count now asked before mid behind old between new so_far reads later none once =
+pub one_more : (Lists : Result SourceTexts SourceFile → Type 0) (seconds : Option ℕ) (may_ask : Bool) (last count now : ℕ) (age : FileAge) (asked : Option Reading) (before mid behind : List ℕ) (old between new : Served) → AreServed Lists seconds may_ask last count before mid old between
+    → behind ≡ now ∷ mid → IsNotBefore now mid → (may_ask ≡ false → asked ≡ None) → ServesOnce Lists asked (have_passed seconds last now) now age between new → AreServed Lists seconds may_ask (if have_passed seconds last now then now else last) (count + 1) before behind old new
+one_more Lists seconds may_ask last count now age asked before mid behind old between new so_far reads later none once =
     let counted = so_far.counted in
-    let at : Moment = record { now = now; asked = asked } in
+    let at : Moment = record { now = now; age = age; asked = asked } in
     record {
       moments = so_far.moments ++ at ∷ [];
-      serves = serves_more Lists seconds 0 so_far.moments at old between new so_far.serves (subst (λ (l : ℕ). ServesOnce Lists asked (have_passed seconds l now) now between new) so_far.last_is once);
+      serves = serves_more Lists seconds 0 so_far.moments at old between new so_far.serves (subst (λ (l : ℕ). ServesOnce Lists asked (have_passed seconds l now) now age between new) so_far.last_is once);
       last_is = ap (λ (l : ℕ). if have_passed seconds l now then now else l) so_far.last_is ∙ sym (last_more seconds 0 so_far.moments at);
       told = reads ∙ ap (λ moments. now ∷ moments) so_far.told ∙ sym (told_one_more (nows so_far.moments) now before) ∙ ap (λ (m : List ℕ). told_behind m before) (sym (nows_more so_far.moments at));
       forward = λ all. subst (λ moments. NeverGoBack moments) (sym reads) (later, so_far.forward all);
@@ -68,12 +69,12 @@ one_more Lists seconds may_ask last count now asked before mid behind old betwee
 -- a turn, behind which nothing changes
 pub turn_served : (Lists : Result SourceTexts SourceFile → Type 0) (seconds : Option ℕ) (may_ask : Bool) (due after : Every) (count now : ℕ) (asked : Option Reading) (before mid behind : List ℕ) (start between new left : Served) → due.seconds ≡ seconds
     → after ≡ record due { last = if have_passed due.seconds due.last now then now else due.last } → AreServed Lists seconds may_ask due.last count before mid start between → behind ≡ now ∷ mid → IsNotBefore now mid → (may_ask ≡ false → asked ≡ None)
-    → ServesOnce Lists asked (have_passed due.seconds due.last now) now between new → left ≡ new → AreServed Lists seconds may_ask after.last (count + 1) before behind start left
+    → ((age : FileAge) × ServesOnce Lists asked (have_passed due.seconds due.last now) now age between new) → left ≡ new → AreServed Lists seconds may_ask after.last (count + 1) before behind start left
 turn_served Lists seconds may_ask due after count now asked before mid behind start between new left told is so_far reads later none once same =
     let last_is : after.last ≡ (if have_passed seconds due.last now then now else due.last) =
     ap (λ (e : Every). e.last) is ∙ ap (λ (s : Option ℕ). if have_passed s due.last now then now else due.last) told in
-    let served = subst (λ (s : Option ℕ). ServesOnce Lists asked (have_passed s due.last now) now between new) told once in
-    let more = one_more Lists seconds may_ask due.last count now asked before mid behind start between new so_far reads later none served in
+    let served = subst (λ (s : Option ℕ). ServesOnce Lists asked (have_passed s due.last now) now once.0 between new) told once.1 in
+    let more = one_more Lists seconds may_ask due.last count now once.0 asked before mid behind start between new so_far reads later none served in
     subst (λ (s : Served). AreServed Lists seconds may_ask after.last (count + 1) before behind start s) (sym same)
     (subst (λ (l : ℕ). AreServed Lists seconds may_ask l (count + 1) before behind start new) (sym last_is) more)
 
@@ -100,36 +101,43 @@ fewer_served Lists seconds may_ask last count most before behind old new served 
 }
 
 -- a set that is handed in is loaded into the loop
-loads : (accepts : Bool) (now : ℕ) (set : List Vrp) (old : Served) (under : ℕ) (new : Served) → HandsIn accepts now set old under new → LoadsSet set old.turns new.turns
-loads accepts now set old under new handed = record { result = Ok (tells_serial under); loads = handed.makes; same = handed.same }
+loads : (accepts : Bool) (now age : ℕ) (set : List Vrp) (old : Served) (under : ℕ) (new : Served) → HandsIn accepts now age set old under new → LoadsSet set old.turns new.turns
+loads accepts now age set old under new handed = record { result = Ok (tells_serial under); loads = handed.makes; same = handed.same }
 
-steps_between : (accepts : Bool) (now : ℕ) (set : List Vrp) (old : Served) (led : Reread) (new : Served) → Publishes accepts now set old led new → (steps : List Step) × TakesSteps steps old.turns new.turns
-steps_between accepts now set old (Refused why) new refused = ([], ap (λ (s : Served). s.turns) refused.1)
-steps_between accepts now set old Same new same = (Load set ∷ [], (new.turns, loads accepts now set old _ new same.2, refl))
-steps_between accepts now set old (Published serial) new published = (Load set ∷ [], (new.turns, loads accepts now set old serial new published.2, refl))
+steps_between : (accepts : Bool) (now age : ℕ) (set : List Vrp) (old : Served) (led : Reread) (new : Served) → Publishes accepts now age set old led new → (steps : List Step) × TakesSteps steps old.turns new.turns
+steps_between accepts now age set old (Refused why) new refused = ([], ap (λ (s : Served). s.turns) refused.1)
+steps_between accepts now age set old Same new same = (Load set ∷ [], (new.turns, loads accepts now age set old _ new same.2, refl))
+steps_between accepts now age set old (Published serial) new published = (Load set ∷ [], (new.turns, loads accepts now age set old serial new published.2, refl))
 
-steps_of_file : (accepts : Bool) (now : ℕ) (file : SourceTexts) (old : Served) (led : Reread) (new : Served) → RereadsFile accepts now file old led new → (steps : List Step) × TakesSteps steps old.turns new.turns
-steps_of_file accepts now file old (Refused why) new refused = ([], ap (λ (s : Served). s.turns) refused.1)
-steps_of_file accepts now file old Same new same = steps_between accepts now same.0 old Same new same.2
-steps_of_file accepts now file old (Published serial) new published = steps_between accepts now published.0 old (Published serial) new published.2
+steps_of_file : (accepts : Bool) (now : ℕ) (age : FileAge) (file : SourceTexts) (old : Served) (led : Reread) (new : Served) → RereadsFile accepts now age file old led new → (steps : List Step) × TakesSteps steps old.turns new.turns
+steps_of_file accepts now age file old (Refused why) new refused = ([], ap (λ (s : Served). s.turns) refused.1)
+steps_of_file accepts now age file old Same new same = steps_between accepts now (age_told new.written age) same.0 old Same new same.2
+steps_of_file accepts now age file old (Published serial) new published = steps_between accepts now (age_told new.written age) published.0 old (Published serial) new published.2
 
-steps_reread : (accepts : Bool) (now : ℕ) (sources : Result SourceTexts SourceFile) (old : Served) (led : Reread) (new : Served) → Rereads accepts now sources old led new → (steps : List Step) × TakesSteps steps old.turns new.turns
-steps_reread accepts now (Err file) old led new none = ([], ap (λ (s : Served). s.turns) none.1)
-steps_reread accepts now (Ok file) old led new rereads = steps_of_file accepts now file old led new rereads
+steps_reread : (accepts : Bool) (now : ℕ) (age : FileAge) (sources : Result SourceTexts SourceFile) (old : Served) (led : Reread) (new : Served) → Rereads accepts now age sources old led new → (steps : List Step) × TakesSteps steps old.turns new.turns
+steps_reread accepts now age (Err file) old led new none = ([], ap (λ (s : Served). s.turns) none.1)
+steps_reread accepts now age (Ok file) old led new rereads = steps_of_file accepts now age file old led new rereads
 
-steps_due : (Lists : Result SourceTexts SourceFile → Type 0) (accepts is_due : Bool) (now : ℕ) (old : Served) (answer : Option Reread) (new : Served) → RereadsWhenDue Lists accepts is_due now old answer new → (steps : List Step) × TakesSteps steps old.turns new.turns
-steps_due Lists accepts false now old answer new none = ([], ap (λ (s : Served). s.turns) none.1)
-steps_due Lists accepts true now old answer new rereads = steps_reread accepts now rereads.2 old rereads.0 new rereads.4
+steps_due : (Lists : Result SourceTexts SourceFile → Type 0) (accepts is_due : Bool) (now : ℕ) (age : FileAge) (old : Served) (answer : Option Reread) (new : Served) → RereadsWhenDue Lists accepts is_due now age old answer new → (steps : List Step) × TakesSteps steps old.turns new.turns
+steps_due Lists accepts false now age old answer new none = ([], ap (λ (s : Served). s.turns) none.1)
+steps_due Lists accepts true now age old answer new rereads = steps_reread accepts now age rereads.2 old rereads.0 new rereads.4
 
 steps_then : (first second : List Step) (old mid new : Turns) → TakesSteps first old mid → TakesSteps second mid new → TakesSteps (first ++ second) old new
 steps_then [] second old mid new same taken = subst (λ (t : Turns). TakesSteps second t new) same taken
 steps_then (step ∷ first) second old mid new takes taken = (takes.0, takes.1, steps_then first second takes.0 mid new takes.2 taken)
 
--- turns of a served list are turns of its loop, with sets that are loaded between them
+-- what is too old is withdrawn
+steps_withdrawn : (is : Bool) (old new : Served) → WithdrawsWhere is old new → (steps : List Step) × TakesSteps steps old.turns new.turns
+steps_withdrawn false old new same = ([], ap (λ (s : Served). s.turns) same)
+steps_withdrawn true old new withdraws = (Withdraw ∷ [], (new.turns, withdraws.0, refl))
+
+-- turns of a served list are turns of its loop, with sets that are loaded and withdrawn between them
 pub served_are_steps : (Lists : Result SourceTexts SourceFile → Type 0) (seconds : Option ℕ) (last : ℕ) (moments : List Moment) (old new : Served) → ServesAll Lists seconds last moments old new → (steps : List Step) × TakesSteps steps old.turns new.turns
 served_are_steps Lists seconds last [] old new same = ([], ap (λ (s : Served). s.turns) same)
 served_are_steps Lists seconds last (at ∷ moments) old new all =
     let once = all.1 in
-    let before = steps_due Lists (is_accepted at.asked) (is_read at.asked (have_passed seconds last at.now)) at.now old once.rereads.0 once.between once.rereads.1 in
+    let read = steps_due Lists (is_accepted at.asked) (is_read at.asked (have_passed seconds last at.now)) at.now at.age old once.rereads.0 once.between once.rereads.1 in
+    let withdrawn = steps_withdrawn (is_stale at.now once.between) once.between once.left once.withdraws in
+    let before = steps_then read.0 withdrawn.0 old.turns once.between.turns once.left.turns read.1 withdrawn.1 in
     let more = served_are_steps Lists seconds (if have_passed seconds last at.now then at.now else last) moments all.0 new all.2 in
-    (before.0 ++ TurnAt at.now ∷ more.0, steps_then before.0 (TurnAt at.now ∷ more.0) old.turns once.between.turns new.turns before.1 (all.0.turns, (Ok tt, once.takes), more.1))
+    ((read.0 ++ withdrawn.0) ++ TurnAt at.now ∷ more.0, steps_then (read.0 ++ withdrawn.0) (TurnAt at.now ∷ more.0) old.turns once.left.turns new.turns before (all.0.turns, (Ok tt, once.takes), more.1))

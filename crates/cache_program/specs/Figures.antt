@@ -22,4 +22,5 @@ figures_of now served = record {
   lost = served.turns.counts.lost;
   closed = served.turns.counts.closed;
   read = now - served.read;
+  withdrawn = served.turns.cache.shared.withdrawn;
 }

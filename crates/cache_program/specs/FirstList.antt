@@ -3,11 +3,12 @@ use Rattle.std.specs.Prelude.{◌≡◌, ℕ, List, [], Some, None, Result, Ok}
 use Rattle.list_guards.specs.Guarding.{guard_fault}
 use Rattle.list_guards.specs.declared.Guards.{Guards}
 use Rattle.net_prefix.specs.declared.payload.Vrp.{Vrp}
-use Rattle.payload_sources.specs.PayloadSources.{IsRefused, IsSetOf, SourceTexts}
+use Rattle.payload_sources.specs.PayloadSources.{IsRefused, IsSetOf, SaysWritten, SourceTexts}
 use Rattle.payload_sources.specs.declared.fault.SourceFile.{SourceFile}
+use Rattle.vrp_json.specs.declared.written.Written.{Written}
 use Rattle.vrp_delta.specs.Versions.{Version, kept_after, newest_serial}
 use Rattle.cache_watch.specs.declared.reread.ListFault.{ListFault}
-use Rattle.cache_watch.specs.declared.reread.ListFault.TheVariants.{NoFile, Source, Guard, NoMemory}
+use Rattle.cache_watch.specs.declared.reread.ListFault.TheVariants.{NoFile, Source, Guard, Old, NoMemory}
 
 -- the set is that of the list that the text spells, under the exceptions of the SLURM file where there is one, and the
 -- guards let it be served first
@@ -19,12 +20,15 @@ abbrev pub IsNoFirst : Guards → SourceTexts → ListFault → Type 0
 IsNoFirst guards sources (NoFile file) = ⊥
 IsNoFirst guards sources (Source refused) = IsRefused sources refused
 IsNoFirst guards sources (Guard why) = (set : List Vrp) × IsSetOf sources set × (guard_fault guards [] set ≡ Some why)
+IsNoFirst guards sources (Old seconds most) = ⊥
 IsNoFirst guards sources NoMemory = ⊥
 
--- what a cache has published then: the set of files that the system gave, which the guards let pass
-pub record IsFirst (Lists : Result SourceTexts SourceFile → Type 0) (guards : Guards) (kept : List Version) (serial : ℕ) (set : List Vrp) : Type 0 where
+-- what a cache has published then: the set of files that the system gave, which the guards let pass, of a list that says that
+-- it was written then
+pub record IsFirst (Lists : Result SourceTexts SourceFile → Type 0) (guards : Guards) (kept : List Version) (serial : ℕ) (set : List Vrp) (written : Written) : Type 0 where
   pub sources : SourceTexts
   pub given : Lists (Ok sources)
   pub passes : Passes guards sources set
+  pub says : SaysWritten sources written
   pub kept_is : kept ≡ kept_after [] set
   pub serial_is : serial ≡ newest_serial kept

@@ -10,15 +10,19 @@ use Rattle.wires.specs.Wires.{WireState}
 use Rattle.cache_desk.specs.declared.reading.Reading.{Reading}
 use Rattle.cache_desk.specs.declared.reading.Reading.TheVariants as readings
 use Rattle.cache_settings.specs.declared.settings.CacheSettings.{CacheSettings}
+use Rattle.cache_settings.specs.declared.settings.Stale.{Stale}
+use Rattle.cache_settings.specs.declared.settings.Stale.TheVariants.{Serve, Withdraw}
 use Rattle.cache_program.specs.CacheOfSettings.{IsCacheOf}
 use Rattle.cache_program.specs.FirstList.{IsFirst}
 use Rattle.cache_program.specs.Passing.{have_passed}
-use Rattle.cache_program.specs.Rereads.{RereadsWhenDue, Served}
+use Rattle.cache_program.specs.Rereads.{RereadsWhenDue, Served, WithdrawsWhere, is_stale}
 use Rattle.cache_watch.specs.declared.reread.Reread.{Reread}
+use Rattle.cache_watch.specs.declared.telling.FileAge.{FileAge}
 
--- a moment, and the reading that an operator asks for at it
+-- a moment, how old the list's file is then, and the reading that an operator asks for at it
 pub record Moment : Type 0 where
   pub now : ℕ
+  pub age : FileAge
   pub asked : Option Reading
 
 -- the list is read where it is due, and where an operator asks for it
@@ -33,21 +37,24 @@ is_accepted (Some readings.Reread) = false
 is_accepted (Some readings.Accept) = true
 
 -- the list is read again where it is due or asked for, whatever that leads to
-abbrev pub HandsInWhereDue : (Result SourceTexts SourceFile → Type 0) → Option Reading → Bool → ℕ → Served → Served → Type 0
-HandsInWhereDue Lists asked is_due now old new = (answer : Option Reread) × RereadsWhenDue Lists (is_accepted asked) (is_read asked is_due) now old answer new
+abbrev pub HandsInWhereDue : (Result SourceTexts SourceFile → Type 0) → Option Reading → Bool → ℕ → FileAge → Served → Served → Type 0
+HandsInWhereDue Lists asked is_due now age old new = (answer : Option Reread) × RereadsWhenDue Lists (is_accepted asked) (is_read asked is_due) now age old answer new
 
--- what is done at a moment: the list is read again where it is due or asked for, and then a turn is taken, which goes well
-pub record ServesOnce (Lists : Result SourceTexts SourceFile → Type 0) (asked : Option Reading) (is_due : Bool) (now : ℕ) (old new : Served) : Type 0 where
+-- what is done at a moment: the list is read again where it is due or asked for, what is too old is withdrawn, and then a turn is
+-- taken, which goes well
+pub record ServesOnce (Lists : Result SourceTexts SourceFile → Type 0) (asked : Option Reading) (is_due : Bool) (now : ℕ) (age : FileAge) (old new : Served) : Type 0 where
   pub between : Served
-  pub rereads : HandsInWhereDue Lists asked is_due now old between
-  pub takes : TakesTurn now between.turns (Ok tt) new.turns
-  pub same : new ≡ record between { turns = new.turns }
+  pub left : Served
+  pub rereads : HandsInWhereDue Lists asked is_due now age old between
+  pub withdraws : WithdrawsWhere (is_stale now between) between left
+  pub takes : TakesTurn now left.turns (Ok tt) new.turns
+  pub same : new ≡ record left { turns = new.turns }
 
 -- the same at each of these moments, one after another; the list was due last at one before them
 abbrev pub ServesAll : (Result SourceTexts SourceFile → Type 0) → Option ℕ → ℕ → List Moment → Served → Served → Type 0
 ServesAll Lists seconds last [] old new = new ≡ old
 ServesAll Lists seconds last (at ∷ moments) old new =
-    (mid : Served) × ServesOnce Lists at.asked (have_passed seconds last at.now) at.now old mid
+    (mid : Served) × ServesOnce Lists at.asked (have_passed seconds last at.now) at.now at.age old mid
     × ServesAll Lists seconds (if have_passed seconds last at.now then at.now else last) moments mid new
 
 abbrev pub nows : List Moment → List ℕ
@@ -69,9 +76,17 @@ pub record ServesSoMany (Lists : Result SourceTexts SourceFile → Type 0) (rere
   pub few : length moments ≤ count
   pub all : may_ask ≡ false → (length moments ≡ count) × NobodyAsks moments
 
+-- how old a list may be to be served: as old as it is, unless the settings have one that is too old withdrawn
+abbrev pub oldest_by : Stale → Option ℕ → Option ℕ
+oldest_by Serve max_age = None
+oldest_by Withdraw max_age = max_age
+
+abbrev pub oldest_of : CacheSettings → Option ℕ
+oldest_of settings = oldest_by settings.stale settings.max_age
+
 -- a served list before its first turn: its cache is of the settings, begun in a second that was told, and has published the
--- set of the files that the system gave; it listens by a wire that the system gave, and its guards and its patience are those of the
--- settings
+-- set of the files that the system gave; it listens by a wire that the system gave, and its guards, its patience and how old a list may
+-- be are those of the settings
 pub record IsBegun (Lists : Result SourceTexts SourceFile → Type 0) (Wires : WireState → Type 0) (Seconds : ℕ → Type 0) (settings : CacheSettings) (served : Served) : Type 0 where
   pub cache : CacheState
   pub wire : WireState
@@ -79,10 +94,11 @@ pub record IsBegun (Lists : Result SourceTexts SourceFile → Type 0) (Wires : W
   pub set : List Vrp
   pub told : Seconds second
   pub of_settings : IsCacheOf settings second cache
-  pub first : IsFirst Lists settings.guards cache.shared.kept served.serial set
+  pub first : IsFirst Lists settings.guards cache.shared.kept served.serial set served.written
   pub payloads : served.payloads ≡ length set
   pub guards : served.guards ≡ settings.guards
   pub accepted : served.accepted ≡ false
+  pub most : served.most ≡ oldest_of settings
   pub listens : Wires wire
   pub turns : served.turns ≡ idle settings.patience cache wire
 

@@ -12,8 +12,9 @@ ghost use Rattle.cache_program.specs.FirstList.{Passes};
 ghost use Rattle.cache_program.specs.Opened.{AnySecond, AreSettingsAt, Gives, IsOpenedAt, Listens, SystemGives};
 ghost use Rattle.cache_program.specs.Passing.{have_passed};
 ghost use Rattle.cache_program.specs.Rereads.{Served};
-ghost use Rattle.cache_program.specs.ServedTurns.{IsBegun, IsServed, ServesOnce, ServesSoMany};
+ghost use Rattle.cache_program.specs.ServedTurns.{IsBegun, IsServed, ServesOnce, ServesSoMany, oldest_of};
 ghost use Rattle.cache_settings.specs.declared.settings.CacheSettings.{CacheSettings};
+ghost use Rattle.cache_watch.specs.declared.telling.FileAge.{FileAge};
 ghost use Rattle.cache_turns.specs.Turns.{idle};
 ghost use Rattle.program_endings.specs.Words.{IsCall};
 ghost use Rattle.wires.specs.Wires.{WireState, nothing_told};
@@ -23,14 +24,14 @@ use crate::fault::CacheFault;
 use crate::files::{open_at, path_of, slurm_path};
 use crate::help::{HELP, VERSION};
 use crate::loading::{first_set, load_cache, opened_files, session_id};
-use crate::served_list::ServedList;
+use crate::served_list::{ServedList, age_told};
 use crate::settings_file::read_settings;
 use cache_desk::{Desk, ListState, Reading, Scene};
-use cache_settings::CacheSettings;
+use cache_settings::{CacheSettings, Stale};
 use cache_turns::CacheLoop;
 use cache_watch::{
-    ROUTER_LINES, Watch, Watched, age_of, tell_list, tell_listening, tell_metrics, tell_routers,
-    tell_status,
+    FileAge, LogLine, ROUTER_LINES, Reread, Watch, Watched, age_of, file_age, log, tell_list,
+    tell_listening, tell_metrics, tell_routers, tell_status,
 };
 use clocks::{MonotonicClock, SecondsClock, SecondsSince1970, SystemSeconds};
 use control_lines::Operators;
@@ -414,7 +415,7 @@ fn begin<R, O: Write, L: Read + Drop, W: Wire + Watched + Drop, F, G>(
     listens: G,
 ) -> Result<ServedList<W>, CacheFault>
 where
-    R: Clock + AllocGlobal,
+    R: Files + Clock + AllocGlobal,
     F: Fn(&str) -> io::Result<L>,
     G: FnOnce(SocketAddr) -> io::Result<W>,
     requires opens { F.IsAlwaysCallable opens.now }
@@ -423,10 +424,31 @@ where
     ensures begins { IfOk result (IsBegun (Gives (FnReturnsAt F.Fn opens.now) L.remaining settings.now) (Listens (G.post listens settings.now.listen) W.state) (λ told. told ≡ second) settings.now) }
     ensures quiet { settings.now.log ≡ false → output.new ≡ output.old }
 {
-    let (cache, serial, set) = load_cache(rt, settings, second, output, opens)?;
+    let file = list_age(rt, settings);
+    let (cache, serial, read) = load_cache(rt, settings, second, output, opens)?;
+    let age = age_told(read.written, file);
     let turns = over_wire(rt.alloc(), settings, cache, listens)?;
     tell_listening(rt, settings.log, turns.wire(), output);
-    Ok(ServedList::new(turns, settings.guards, serial, set))
+    let served = ServedList::new(turns, settings.guards, serial, read.set, read.written);
+    Ok(served.aged(age, oldest_of(settings)))
+}
+
+// How old a list may be to be served: as old as it is, unless the settings have one that is too old withdrawn.
+fn oldest_of(settings: &CacheSettings) -> Option<u32>
+    ensures { result ≡ oldest_of settings.now }
+{
+    match settings.stale {
+        Stale::Serve => None,
+        Stale::Withdraw => settings.max_age,
+    }
+}
+
+// How old the file of the list is, where that matters.
+fn list_age<R: Files + Clock>(rt: &R, settings: &CacheSettings) -> FileAge {
+    match settings.stale {
+        Stale::Serve => FileAge::NEW,
+        Stale::Withdraw => file_age(rt, settings.csv.as_str()),
+    }
 }
 
 // The second of the start.
@@ -550,7 +572,7 @@ fn hear<R: Files + Clock, W: Wire + Drop, Q: Operators + Drop>(
     let list = ListState {
         path,
         figures: served.figures(now),
-        age: ListAge(age_of(rt, path)),
+        age: ListAge(age_of(rt, path, served.written())),
         accepted: served.accepted(),
     };
     let scene = Scene {
@@ -582,7 +604,7 @@ fn tell_if_due<R: Files + Clock, W: Wire + Drop, O: Write>(
 {
     if is_due {
         let figures = served.figures(now);
-        let age = age_of(rt, settings.csv.as_str());
+        let age = age_of(rt, settings.csv.as_str(), served.written());
         tell_status(rt, settings.log, figures, age, settings.max_age, output);
     }
 }
@@ -596,7 +618,7 @@ fn attend<R: Files + Clock + AllocGlobal, W: Wire + Drop, P: Scrapers>(
     watch: &mut Watch<P>,
 ) {
     if watch.attend(now) {
-        let age = age_of(rt, settings.csv.as_str());
+        let age = age_of(rt, settings.csv.as_str(), served.written());
         watch.tell(rt.alloc(), &served.figures(now), age);
     }
 }
@@ -616,21 +638,50 @@ fn serve_once<R, O: Write, L: Read + Drop, W: Wire + Drop, P: Scrapers, Q: Opera
     opens: &F,
 ) -> Result<(), CacheFault>
 where
-    R: Clock + AllocGlobal,
+    R: Files + Clock + AllocGlobal,
     F: Fn(&str) -> io::Result<L>,
     requires { F.IsAlwaysCallable opens.now }
     ensures fault { IfErr result (λ fault. ¬ (IsOfWords fault)) }
     ensures quiet { settings.now.log ≡ false → output.new ≡ output.old }
     ensures desk { desk.new ≡ desk.old }
     ensures due { reread.new ≡ record reread.old { last = if have_passed reread.old.seconds reread.old.last now then now else reread.old.last } }
-    ensures serves { OnOk result (ServesOnce (Gives (FnReturnsAt F.Fn opens.now) L.remaining settings.now) asked (have_passed reread.old.seconds reread.old.last now) now served.old served.new) }
+    ensures serves { OnOk result ((age : FileAge) × ServesOnce (Gives (FnReturnsAt F.Fn opens.now) L.remaining settings.now) asked (have_passed reread.old.seconds reread.old.last now) now age served.old served.new) }
 {
-    let (led, turned) = served.serve(rt.alloc(), now, asked, reread, settings, second, opens);
+    let age = list_age(rt, settings);
+    let was_withdrawn = served.is_withdrawn();
+    let (led, turned) = served.serve(rt.alloc(), now, age, asked, reread, settings, second, opens);
     watch.count(led);
     desk.tell(led, served.payloads());
     if let Some(led) = led {
         tell_list(rt, settings.log, led, served.payloads(), output);
     }
+    tell_withdrawal(rt, settings, served, now, was_withdrawn, led, output);
     turned?;
     Ok(())
+}
+
+// The log tells where the list was withdrawn, and where it is served again as it was.
+fn tell_withdrawal<R: Clock, W: Wire + Drop, O: Write>(
+    rt: &R,
+    settings: &CacheSettings,
+    served: &ServedList<W>,
+    now: u64,
+    was_withdrawn: bool,
+    led: Option<Reread>,
+    output: &mut O,
+)
+    ensures { settings.now.log ≡ false → output.new ≡ output.old }
+{
+    let line = match (was_withdrawn, served.is_withdrawn()) {
+        (false, true) => LogLine::Withdrawn {
+            seconds: served.age_at(now),
+            most: settings.max_age.unwrap_or(0),
+        },
+        (true, false) if led == Some(Reread::Same) => LogLine::Loaded {
+            serial: served.serial(),
+            payloads: served.payloads(),
+        },
+        _ => return,
+    };
+    log(rt, settings.log, output, line);
 }

@@ -13,7 +13,7 @@ pub fn of_first_list(why: ListFault) -> ExitFault
 {
     match why {
         ListFault::Source(why) => why.exit(),
-        ListFault::Guard(_) => ExitFault::Settings,
+        ListFault::Guard(_) | ListFault::Old { .. } => ExitFault::Settings,
         ListFault::NoFile(_) | ListFault::NoMemory => ExitFault::Device,
     }
 }

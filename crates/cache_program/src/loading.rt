@@ -4,7 +4,7 @@ ghost use Rattle.std.specs.Fn.{FnReturnsAt};
 ghost use Rattle.cache_program.specs.CacheOfSettings.{IsCacheOf, IsSessionOf};
 ghost use Rattle.cache_program.specs.FirstList.{IsFirst, IsNoFirst, Passes};
 ghost use Rattle.cache_program.specs.Endings.{IsOfWords};
-ghost use Rattle.payload_sources.specs.PayloadSources.{texts_of};
+ghost use Rattle.payload_sources.specs.PayloadSources.{SaysWritten, texts_of};
 ghost use Rattle.cache_program.specs.Opened.{Gives};
 ghost use Rattle.vrp_delta.specs.Versions.{kept_after, newest_serial};
 
@@ -22,25 +22,25 @@ use std::io::{self, Read, Write};
 use std::rt::Clock;
 
 /// The cache of the settings, begun in this second since 1970, with the set of the files that are opened at their paths: its
-/// serial, and its payloads.
+/// serial, and what was read.
 pub(crate) fn load_cache<R: Clock + AllocGlobal, O: Write, L: Read + Drop, F>(
     rt: &R,
     settings: &CacheSettings,
     second: u64,
     output: &mut O,
     opens: &F,
-) -> Result<(Cache, u32, BTreeSet<Vrp>), CacheFault>
+) -> Result<(Cache, u32, SourceSet), CacheFault>
 where
     F: Fn(&str) -> io::Result<L>,
     requires { F.IsAlwaysCallable opens.now }
     ensures fault { IfErr result (λ fault. ¬ (IsOfWords fault)) }
     ensures cache { IfOk result (λ loaded. IsCacheOf settings.now second loaded.0) }
-    ensures first { IfOk result (λ loaded. IsFirst (Gives (FnReturnsAt F.Fn opens.now) L.remaining settings.now) settings.now.guards loaded.0.shared.kept loaded.1 loaded.2.keys) }
+    ensures first { IfOk result (λ loaded. IsFirst (Gives (FnReturnsAt F.Fn opens.now) L.remaining settings.now) settings.now.guards loaded.0.shared.kept loaded.1 loaded.2.set.keys loaded.2.written) }
     ensures quiet { settings.now.log ≡ false → output.new ≡ output.old }
 {
     let mut cache = made_cache(rt.alloc(), settings, second)?;
-    let (serial, set) = load_list(rt, settings, second, &mut cache, output, opens)?;
-    Ok((cache, serial, set))
+    let (serial, read) = load_list(rt, settings, second, &mut cache, output, opens)?;
+    Ok((cache, serial, read))
 }
 
 // The cache of the settings, without a list.
@@ -79,27 +79,27 @@ fn load_list<R: Clock + AllocGlobal, O: Write, L: Read + Drop, F>(
     cache: &mut Cache,
     output: &mut O,
     opens: &F,
-) -> Result<(u32, BTreeSet<Vrp>), CacheFault>
+) -> Result<(u32, SourceSet), CacheFault>
 where
     F: Fn(&str) -> io::Result<L>,
     requires opens { F.IsAlwaysCallable opens.now }
     requires none { cache.old.shared.kept ≡ [] }
     ensures fault { IfErr result (λ fault. ¬ (IsOfWords fault)) }
-    ensures terms { IfOk result (λ loaded. cache.new.shared ≡ record cache.old.shared { kept = cache.new.shared.kept }) }
-    ensures first { IfOk result (λ loaded. IsFirst (Gives (FnReturnsAt F.Fn opens.now) L.remaining settings.now) settings.now.guards cache.new.shared.kept loaded.0 loaded.1.keys) }
+    ensures terms { IfOk result (λ loaded. cache.new.shared ≡ record cache.old.shared { kept = cache.new.shared.kept; withdrawn = false }) }
+    ensures first { IfOk result (λ loaded. IsFirst (Gives (FnReturnsAt F.Fn opens.now) L.remaining settings.now) settings.now.guards cache.new.shared.kept loaded.0 loaded.1.set.keys loaded.1.written) }
     ensures quiet { settings.now.log ≡ false → output.new ≡ output.old }
 {
     let files = opened_files(rt.alloc(), settings, second, opens)?;
-    let set = read_told(rt, settings, files, output)?;
-    let serial = publish(cache, &set)?;
-    let payloads = set.len();
+    let read = read_told(rt, settings, files, output)?;
+    let serial = publish(cache, &read.set)?;
+    let payloads = read.set.len();
     log(
         rt,
         settings.log,
         output,
         LogLine::Loaded { serial, payloads },
     );
-    Ok((serial, set))
+    Ok((serial, read))
 }
 
 /// The files that are opened at the paths of the settings, to be read at this second since 1970.
@@ -124,19 +124,20 @@ where
     }
 }
 
-// The set of files; where it can't be had, the log tells why.
+// What is read of files; where no set can be had, the log tells why.
 fn read_told<R: Clock + AllocGlobal, L: Read + Drop, O: Write>(
     rt: &R,
     settings: &CacheSettings,
     files: Sources<L>,
     output: &mut O,
-) -> Result<BTreeSet<Vrp>, CacheFault>
+) -> Result<SourceSet, CacheFault>
     ensures fault { IfErr result (λ fault. ¬ (IsOfWords fault)) }
-    ensures set { IfOk result (λ set. Passes settings.now.guards (texts_of L.remaining files.list files.slurm files.second) set.keys) }
+    ensures set { IfOk result (λ read. Passes settings.now.guards (texts_of L.remaining files.list files.slurm files.second) read.set.keys) }
+    ensures written { IfOk result (λ read. SaysWritten (texts_of L.remaining files.list files.slurm files.second) read.written) }
     ensures quiet { settings.now.log ≡ false → output.new ≡ output.old }
 {
     match first_set(rt.alloc(), &settings.guards, files) {
-        Ok(read) => Ok(read.set),
+        Ok(read) => Ok(read),
         Err(why) => {
             let file = why.file();
             log(rt, settings.log, output, LogLine::Refused { file, why });
@@ -151,7 +152,7 @@ pub(crate) fn first_set<L: Read + Drop>(
     guards: &Guards,
     files: Sources<L>,
 ) -> Result<SourceSet, ListFault>
-    ensures { MatchResult result (λ read. Passes guards.now (texts_of L.remaining files.list files.slurm files.second) read.set.keys) (λ why. IsNoFirst guards.now (texts_of L.remaining files.list files.slurm files.second) why) }
+    ensures { MatchResult result (λ read. Passes guards.now (texts_of L.remaining files.list files.slurm files.second) read.set.keys × SaysWritten (texts_of L.remaining files.list files.slurm files.second) read.written) (λ why. IsNoFirst guards.now (texts_of L.remaining files.list files.slurm files.second) why) }
 {
     let read = match read_sources(alloc, files) {
         Ok(read) => read,
@@ -166,7 +167,7 @@ pub(crate) fn first_set<L: Read + Drop>(
 // Hands the set to the cache, which serves it under this serial.
 fn publish(cache: &mut Cache, set: &BTreeSet<Vrp>) -> Result<u32, CacheFault>
     ensures fault { IfErr result (λ fault. ¬ (IsOfWords fault)) }
-    ensures terms { IfOk result (λ serial. cache.new.shared ≡ record cache.old.shared { kept = kept_after cache.old.shared.kept set.now.keys }) }
+    ensures terms { IfOk result (λ serial. cache.new.shared ≡ record cache.old.shared { kept = kept_after cache.old.shared.kept set.now.keys; withdrawn = false }) }
     ensures serial { IfOk result (λ serial. serial ≡ newest_serial cache.new.shared.kept) }
 {
     match cache.step(CacheEvent::Load(set)) {

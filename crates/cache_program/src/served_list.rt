@@ -1,13 +1,13 @@
 //! A payload list that is served while its file changes.
-ghost use Rattle.std.specs.Prelude.{◌≡◌, Ok, Err, None, Some, MatchResult, false, if◌then◌else◌, is_some, length, true};
+ghost use Rattle.std.specs.Prelude.{◌≡◌, ◌+◌, Ok, Err, None, Some, IfNone, IfSome, MatchResult, false, if◌then◌else◌, is_some, length, true};
 ghost use Rattle.std.specs.Fn.{FnReturnsAt};
-ghost use Rattle.cache_turns.specs.Turns.{TakesTurn};
+ghost use Rattle.cache_turns.specs.Turns.{TakesTurn, WithdrawsSet};
 ghost use Rattle.list_guards.specs.Guarding.{guard_fault};
 ghost use Rattle.payload_sources.specs.PayloadSources.{texts_of};
 ghost use Rattle.cache_program.specs.Figures.{figures_of};
 ghost use Rattle.cache_program.specs.Opened.{Gives};
 ghost use Rattle.cache_program.specs.Passing.{have_passed};
-ghost use Rattle.cache_program.specs.Rereads.{IsNewest, Publishes, Rereads, RereadsFile, RereadsWhenDue, ServesAt, fault_of_guards, newest_set, served_set};
+ghost use Rattle.cache_program.specs.Rereads.{IsNewest, Notes, Publishes, Rereads, RereadsFile, RereadsWhenDue, ServesAt, WithdrawsWhere, age_told, fault_of_guards, is_older, is_stale, is_too_old, newest_set, served_set};
 ghost use Rattle.cache_program.specs.ServedTurns.{is_accepted, is_read};
 
 use crate::every::Every;
@@ -16,7 +16,7 @@ use cache_desk::Reading;
 use cache_figures::CacheFigures;
 use cache_settings::CacheSettings;
 use cache_turns::CacheLoop;
-use cache_watch::{ListFault, Reread};
+use cache_watch::{FileAge, ListFault, Reread};
 use list_guards::{GuardFault, Guards};
 use net_prefix::Vrp;
 use payload_sources::{Sources, Unopened, read_sources};
@@ -25,6 +25,7 @@ use std::collections::BTreeSet;
 use std::io::{self, Read};
 use std::marker::Model;
 use std::time::Duration;
+use vrp_json::Written;
 use wires::{LoopFault, Wire};
 
 /// The turns of a cache, and what it serves.
@@ -43,6 +44,12 @@ pub struct ServedList<W: Wire> {
     read: u64,
     // Whether an operator had the guards set aside for the list that is served.
     accepted: bool,
+    // How many seconds old that list was when it was read.
+    age: u64,
+    // How many seconds old one may be, else it is withdrawn.
+    most: Option<u32>,
+    // When it says that it was written.
+    written: Written,
 }
 
 impl<W: Wire> Model for ServedList<W> {
@@ -50,17 +57,24 @@ impl<W: Wire> Model for ServedList<W> {
 
     ghost Value = { Served };
 
-    ghost view = { λ s. record { turns = s.turns; guards = s.guards; serial = s.serial; payloads = s.payloads; read = s.read; accepted = s.accepted } };
+    ghost view = { λ s. record { turns = s.turns; guards = s.guards; serial = s.serial; payloads = s.payloads; read = s.read; accepted = s.accepted; age = s.age; most = s.most; written = s.written } };
 
     ghost invariant = { λ s. IsServing s.guards s.turns.cache.shared.kept s.serial s.payloads s.looked_at.keys };
 }
 
 impl<W: Wire + Drop> ServedList<W> {
-    /// The turns of a cache that serves this set under this serial, at the moment 0. Lists have to keep to these guards.
-    pub fn new(turns: CacheLoop<W>, guards: Guards, serial: u32, set: BTreeSet<Vrp>) -> Self
+    /// The turns of a cache that serves this set under this serial, at the moment 0, of a list that says that it was written
+    /// then. Lists have to keep to these guards.
+    pub fn new(
+        turns: CacheLoop<W>,
+        guards: Guards,
+        serial: u32,
+        set: BTreeSet<Vrp>,
+        written: Written,
+    ) -> Self
         requires newest { IsNewest turns.cache.shared.kept serial (length set.keys) }
         requires set { set.keys ≡ newest_set turns.cache.shared.kept }
-        ensures { result ≡ record { turns = turns; guards = guards; serial = serial; payloads = length set.keys; read = 0; accepted = false } }
+        ensures { result ≡ record { turns = turns; guards = guards; serial = serial; payloads = length set.keys; read = 0; accepted = false; age = 0; most = None; written = written } }
     {
         let payloads = set.len();
         ServedList {
@@ -71,7 +85,20 @@ impl<W: Wire + Drop> ServedList<W> {
             looked_at: kept_for(&guards, set),
             read: 0,
             accepted: false,
+            age: 0,
+            most: None,
+            written,
         }
+    }
+
+    /// The same, with the list as old as this, and how old one may be, else it is withdrawn.
+    pub fn aged(self, age: u64, most: Option<u32>) -> Self
+        ensures { result ≡ record self { age = age; most = most } }
+    {
+        let mut served = self;
+        served.age = age;
+        served.most = most;
+        served
     }
 
     /// A turn, which publishes nothing.
@@ -83,12 +110,13 @@ impl<W: Wire + Drop> ServedList<W> {
     }
 
     /// What is done at a moment: where the list is due, or an operator asks for it, the files of the settings are opened and it is
-    /// read again, at this second since 1970; then a turn is taken. Answers what reading the list again has led to, where it was
-    /// read, and what the turn has.
+    /// read again, at this second since 1970, as old as it is then; what is too old is withdrawn; then a turn is taken. Answers what
+    /// reading the list again has led to, where it was read, and what the turn has.
     pub fn serve<L: Read + Drop, F: Fn(&str) -> io::Result<L>>(
         &mut self,
         alloc: Global,
         now: u64,
+        age: FileAge,
         asked: Option<Reading>,
         due: &mut Every,
         settings: &CacheSettings,
@@ -96,12 +124,13 @@ impl<W: Wire + Drop> ServedList<W> {
         opens: &F,
     ) -> (Option<Reread>, Result<(), LoopFault>)
         requires { F.IsAlwaysCallable opens.now }
-        ensures serves { ServesAt (Gives (FnReturnsAt F.Fn opens.now) L.remaining settings.now) (is_accepted asked) (is_read asked (have_passed due.old.seconds due.old.last now)) now self.old result.0 result.1 self.new }
+        ensures serves { ServesAt (Gives (FnReturnsAt F.Fn opens.now) L.remaining settings.now) (is_accepted asked) (is_read asked (have_passed due.old.seconds due.old.last now)) now age self.old result.0 result.1 self.new }
         ensures due { due.new ≡ record due.old { last = if have_passed due.old.seconds due.old.last now then now else due.old.last } }
     {
         let is_read = is_read(asked, due.is_due(now));
         let accepts = is_accepted(asked);
-        let reread = self.reread_if(is_read, alloc, now, accepts, settings, second, opens);
+        let reread = self.reread_if(is_read, alloc, now, age, accepts, settings, second, opens);
+        self.withdraw_stale(now);
         (reread, self.turn(now))
     }
 
@@ -110,16 +139,18 @@ impl<W: Wire + Drop> ServedList<W> {
         is_read: bool,
         alloc: Global,
         now: u64,
+        age: FileAge,
         accepts: bool,
         settings: &CacheSettings,
         second: u64,
         opens: &F,
     ) -> Option<Reread>
         requires { F.IsAlwaysCallable opens.now }
-        ensures { RereadsWhenDue (Gives (FnReturnsAt F.Fn opens.now) L.remaining settings.now) accepts is_read now self.old result self.new }
+        ensures { RereadsWhenDue (Gives (FnReturnsAt F.Fn opens.now) L.remaining settings.now) accepts is_read now age self.old result self.new }
     {
         if is_read {
-            Some(self.reread(alloc, now, accepts, open_files(settings, second, opens)))
+            let files = open_files(settings, second, opens);
+            Some(self.reread(alloc, now, age, accepts, files))
         } else {
             None
         }
@@ -132,19 +163,21 @@ impl<W: Wire + Drop> ServedList<W> {
         self.turns.wait(most);
     }
 
-    /// Takes the set of files that were opened again at this moment. One that can't be had, or that a guard refuses, changes
-    /// nothing, and one that is served already publishes nothing. Where an operator accepts what guards refuse, they aren't asked.
+    /// Takes the set of files that were opened again at this moment, with a list as old as this. One that can't be had, or that a
+    /// guard refuses, or that is too old, changes nothing, and one that is served already publishes nothing. Where an operator
+    /// accepts what is refused so, it isn't.
     pub fn reread<L: Read + Drop>(
         &mut self,
         alloc: Global,
         now: u64,
+        age: FileAge,
         accepts: bool,
         sources: Result<Sources<L>, Unopened>,
     ) -> Reread
-        ensures { MatchResult sources (λ files. Rereads accepts now (Ok (texts_of L.remaining files.list files.slurm files.second)) self.old result self.new) (λ unopened. Rereads accepts now (Err unopened.file) self.old result self.new) }
+        ensures { MatchResult sources (λ files. Rereads accepts now age (Ok (texts_of L.remaining files.list files.slurm files.second)) self.old result self.new) (λ unopened. Rereads accepts now age (Err unopened.file) self.old result self.new) }
     {
         match sources {
-            Ok(files) => self.reread_files(alloc, now, accepts, files),
+            Ok(files) => self.reread_files(alloc, now, age, accepts, files),
             Err(unopened) => Reread::Refused(ListFault::NoFile(unopened.file)),
         }
     }
@@ -153,25 +186,51 @@ impl<W: Wire + Drop> ServedList<W> {
         &mut self,
         alloc: Global,
         now: u64,
+        age: FileAge,
         accepts: bool,
         files: Sources<L>,
     ) -> Reread
-        ensures { RereadsFile accepts now (texts_of L.remaining files.list files.slurm files.second) self.old result self.new }
+        ensures { RereadsFile accepts now age (texts_of L.remaining files.list files.slurm files.second) self.old result self.new }
     {
         match read_sources(alloc, files) {
-            Ok(read) => self.publish(now, accepts, read.set),
+            Ok(read) => {
+                let age = age_told(read.written, age);
+                self.publish(now, age, accepts, read.set, read.written)
+            }
             Err(refused) => Reread::Refused(ListFault::Source(refused)),
         }
     }
 
-    // Hands a set to the cache that the guards let pass, or that an operator accepts.
-    fn publish(&mut self, now: u64, accepts: bool, set: BTreeSet<Vrp>) -> Reread
-        ensures { Publishes accepts now set.keys self.old result self.new }
+    // Hands a set of this age to the cache that isn't too old and that the guards let pass, or that an operator accepts.
+    fn publish(
+        &mut self,
+        now: u64,
+        age: u64,
+        accepts: bool,
+        set: BTreeSet<Vrp>,
+        written: Written,
+    ) -> Reread
+        ensures publishes { Publishes accepts now age set.keys self.old result self.new }
+        ensures notes { Notes written result self.new }
     {
+        if let Some(most) = self.too_old(accepts, age) {
+            return Reread::Refused(ListFault::Old { seconds: age, most });
+        }
         match self.judge_unless(accepts, &set) {
-            Ok(()) => self.hand_in(now, accepts, set),
+            Ok(()) => self.hand_in(now, age, accepts, set, written),
             Err(why) => Reread::Refused(ListFault::Guard(why)),
         }
+    }
+
+    // How old a list may be, where one of this age is too old to be taken.
+    fn too_old(&self, accepts: bool, age: u64) -> Option<u32>
+        ensures old { IfSome result (λ most. (is_too_old accepts age self.now ≡ true) × (self.now.most ≡ Some most)) }
+        ensures young { IfNone result (is_too_old accepts age self.now ≡ false) }
+    {
+        if !accepts && is_older(self.most, age) {
+            return self.most;
+        }
+        None
     }
 
     // Whether the guards let a set be served in the place of this one, where they are asked.
@@ -192,9 +251,18 @@ impl<W: Wire + Drop> ServedList<W> {
     }
 
     // Hands a set to the cache.
-    fn hand_in(&mut self, now: u64, accepts: bool, set: BTreeSet<Vrp>) -> Reread
-        requires { fault_of_guards accepts self.old set.keys ≡ None }
-        ensures { Publishes accepts now set.keys self.old result self.new }
+    fn hand_in(
+        &mut self,
+        now: u64,
+        age: u64,
+        accepts: bool,
+        set: BTreeSet<Vrp>,
+        written: Written,
+    ) -> Reread
+        requires young { is_too_old accepts age self.old ≡ false }
+        requires passes { fault_of_guards accepts self.old set.keys ≡ None }
+        ensures publishes { Publishes accepts now age set.keys self.old result self.new }
+        ensures notes { Notes written result self.new }
     {
         let Ok(report) = self.turns.load(&set) else {
             return Reread::Refused(ListFault::NoMemory);
@@ -205,10 +273,46 @@ impl<W: Wire + Drop> ServedList<W> {
         self.looked_at = kept_for(&self.guards, set);
         self.read = now;
         self.accepted = accepts;
+        self.age = age;
+        self.written = written;
         if self.serial == before {
             return Reread::Same;
         }
         Reread::Published(self.serial)
+    }
+
+    // Withdraws what is too old.
+    fn withdraw_stale(&mut self, now: u64)
+        ensures { WithdrawsWhere (is_stale now self.old) self.old self.new }
+    {
+        if self.is_stale(now) {
+            self.withdraw();
+        }
+    }
+
+    fn withdraw(&mut self)
+        ensures withdraws { WithdrawsSet self.old.turns self.new.turns }
+        ensures same { self.new ≡ record self.old { turns = self.new.turns } }
+    {
+        self.turns.withdraw();
+    }
+
+    fn is_stale(&self, now: u64) -> bool
+        ensures { result ≡ is_stale now self.now }
+    {
+        !self.accepted && will_be_older(self.most, self.age, now.saturating_sub(self.read))
+    }
+
+    /// Whether what is served is withdrawn, since it is too old.
+    pub fn is_withdrawn(&self) -> bool
+        ensures { result ≡ self.now.turns.cache.shared.withdrawn }
+    {
+        self.turns.cache().is_withdrawn()
+    }
+
+    /// How many seconds old the list is that is served, up to the greatest u64.
+    pub fn age_at(&self, now: u64) -> u64 {
+        self.age.saturating_add(now.saturating_sub(self.read))
     }
 
     /// What is served and what routers hold at this moment.
@@ -230,6 +334,7 @@ impl<W: Wire + Drop> ServedList<W> {
             lost: turns.lost(),
             closed: turns.closed(),
             read: now.saturating_sub(self.read),
+            withdrawn: turns.cache().is_withdrawn(),
         }
     }
 
@@ -261,12 +366,55 @@ impl<W: Wire + Drop> ServedList<W> {
         self.read
     }
 
+    /// When the list that is served says that it was written.
+    pub fn written(&self) -> Written
+        ensures { result ≡ self.now.written }
+    {
+        self.written
+    }
+
     /// Whether an operator had the guards set aside for the list that is served.
     pub fn accepted(&self) -> bool
         ensures { result ≡ self.now.accepted }
     {
         self.accepted
     }
+}
+
+/// How old a list is whose file is so old: as old as it says, if it does. One that has something for a time that is none
+/// counts from its reading.
+pub(crate) fn age_told(written: Written, file: FileAge) -> u64
+    ensures { result ≡ age_told written file }
+{
+    match written {
+        Written::Untold => file.seconds,
+        Written::At(second) => file.second.saturating_sub(second),
+        Written::Unread => 0,
+    }
+}
+
+// Whether a list of this age is older than it may be.
+fn is_older(most: Option<u32>, age: u64) -> bool
+    ensures { result ≡ is_older most age }
+{
+    match most {
+        Some(most) => age > most as u64,
+        None => false,
+    }
+}
+
+// Whether one of this age is, so many seconds later.
+fn will_be_older(most: Option<u32>, age: u64, since: u64) -> bool
+    ensures { result ≡ is_older most (age + since) }
+{
+    let Some(most) = most else {
+        return false;
+    };
+    let most = most as u64;
+    if age > most {
+        return true;
+    }
+    since > most - age
 }
 
 // Whether the list is read at a moment at which it is due, or isn't.

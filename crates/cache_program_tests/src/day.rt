@@ -54,6 +54,17 @@ const LOG: [&str; 3] = [
 ",
 ];
 
+/// A day of the program: its settings, what the list's path leads to, one opening after another, what the log says before the
+/// listener's address, before the router's and behind it, and what the router hears.
+#[derive(Clone, Copy)]
+pub(crate) struct Day<'a> {
+    pub name: &'a str,
+    pub settings: &'a str,
+    pub lists: &'a [&'a str],
+    pub log: [&'a str; 3],
+    pub heard: &'a [u8],
+}
+
 // Writes a list to a file, and answers its path.
 fn write_list(rt: &HostRuntime, day: &str, index: usize, list: &str) -> io::Result<String> {
     let name = format!(in rt.alloc(); "{day}-{index}")?;
@@ -88,8 +99,8 @@ pub(crate) fn are_removed(rt: &HostRuntime, paths: &[String]) -> bool {
     true
 }
 
-fn write_settings(rt: &HostRuntime, day: &str) -> io::Result<String> {
-    let text = format!(in rt.alloc(); "{SETTINGS}\"{LIST_PATH}\"\n")?;
+fn write_settings(rt: &HostRuntime, day: &str, more: &str, settings: &str) -> io::Result<String> {
+    let text = format!(in rt.alloc(); "{more}{settings}\"{LIST_PATH}\"\n")?;
     let name = format!(in rt.alloc(); "{day}.toml")?;
     write(rt, name.as_str(), text.as_str())
 }
@@ -115,9 +126,9 @@ fn hears(router: &mut TcpStream, heard: &mut Vec<u8>, octets: &[u8]) -> bool {
 }
 
 // Whether the router has heard its day.
-fn is_heard(alloc: Global, router: &mut TcpStream) -> bool {
+fn is_heard(alloc: Global, router: &mut TcpStream, octets: &[u8]) -> bool {
     let mut heard = Vec::new(alloc);
-    hears(router, &mut heard, &HEARD)
+    hears(router, &mut heard, octets)
 }
 
 // Whether 75 turns, a second each, are told by this log.
@@ -133,9 +144,26 @@ fn is_told(stage: &Stage<'_>, settings_path: &str, log: &str) -> bool {
     }) == Ok(true)
 }
 
-// The same on settings in a file.
-pub(crate) fn is_told_on_a_file(rt: &HostRuntime, day: &str, stage: &Stage<'_>, log: &str) -> bool {
-    match write_settings(rt, day) {
+// The same on the settings of a day in a file, which have these lines too.
+pub(crate) fn is_told_on_a_file(
+    rt: &HostRuntime,
+    day: &str,
+    more: &str,
+    stage: &Stage<'_>,
+    log: &str,
+) -> bool {
+    is_told_on(rt, day, more, SETTINGS, stage, log)
+}
+
+fn is_told_on(
+    rt: &HostRuntime,
+    day: &str,
+    more: &str,
+    settings: &str,
+    stage: &Stage<'_>,
+    log: &str,
+) -> bool {
+    match write_settings(rt, day, more, settings) {
         Ok(path) => is_told(stage, path.as_str(), log) && remove(rt, path.as_str()).is_ok(),
         Err(_) => false,
     }
@@ -144,50 +172,58 @@ pub(crate) fn is_told_on_a_file(rt: &HostRuntime, day: &str, stage: &Stage<'_>, 
 // Whether the day of a router at this address is told so, by a cache that listens at that one.
 fn is_logged(
     rt: &HostRuntime,
+    day: &Day<'_>,
     stage: &Stage<'_>,
     listener: SocketAddr,
     address: SocketAddr,
 ) -> bool {
-    let [before, between, behind] = LOG;
+    let [before, between, behind] = day.log;
     match format!(in rt.alloc(); "{before}{listener}{between}{address}{behind}") {
-        Ok(log) => is_told_on_a_file(rt, "day", stage, log.as_str()),
+        Ok(log) => is_told_on(rt, day.name, "", day.settings, stage, log.as_str()),
         Err(_) => false,
     }
 }
 
 // Whether a router's day on this stage is told, and heard.
-fn goes_by(rt: &HostRuntime, stage: &Stage<'_>, router: &mut TcpStream) -> bool {
+fn goes_by(rt: &HostRuntime, day: &Day<'_>, stage: &Stage<'_>, router: &mut TcpStream) -> bool {
     match (router.peer_addr(), router.local_addr()) {
         (Ok(listener), Ok(address)) => {
-            is_logged(rt, stage, listener, address) && is_heard(rt.alloc(), router)
+            is_logged(rt, day, stage, listener, address) && is_heard(rt.alloc(), router, day.heard)
         }
         _ => false,
     }
 }
 
 // The same of a router that has come to a listener, with these lists.
-fn goes_by_at(rt: &HostRuntime, listener: &TcpListener, lists: &[String]) -> bool {
+fn goes_by_at(rt: &HostRuntime, day: &Day<'_>, listener: &TcpListener, lists: &[String]) -> bool {
     let router = match listener.local_addr() {
         Ok(address) => asking(rt, address),
         Err(error) => Err(error),
     };
     match router {
-        Ok(mut router) => goes_by(rt, &Stage::new(rt, listener, lists), &mut router),
+        Ok(mut router) => goes_by(rt, day, &Stage::new(rt, listener, lists), &mut router),
         Err(_) => false,
     }
 }
 
-// The same of lists in files.
-fn goes_by_on_files(rt: &HostRuntime, listener: &TcpListener) -> bool {
+/// The same of lists in files.
+pub(crate) fn goes_by_on_files(rt: &HostRuntime, day: &Day<'_>, listener: &TcpListener) -> bool {
     let mut paths = Vec::new(rt.alloc());
-    writes_lists(rt, "day", &LISTS, &mut paths)
-        && goes_by_at(rt, listener, paths.as_slice())
+    writes_lists(rt, day.name, day.lists, &mut paths)
+        && goes_by_at(rt, day, listener, paths.as_slice())
         && are_removed(rt, paths.as_slice())
 }
 
 #[test]
 fn a_day_is_told_by_the_log(rt: HostRuntime) -> Result<(), Fail> {
     let listener = TcpListener::bind(&rt, "127.0.0.1:0")?;
-    assert!(rt; goes_by_on_files(&rt, &listener));
+    let day = Day {
+        name: "day",
+        settings: SETTINGS,
+        lists: &LISTS,
+        log: LOG,
+        heard: &HEARD,
+    };
+    assert!(rt; goes_by_on_files(&rt, &day, &listener));
     Ok(())
 }

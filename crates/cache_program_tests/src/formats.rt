@@ -35,7 +35,11 @@ const FAULTY: &str = "{\"roas\": [
 const SECOND_IN_JSON: &str =
     "{\"roas\": [{\"asn\": \"AS65002\", \"prefix\": \"10.1.0.0/16\", \"maxLength\": 24, \"ta\": \"ta\"}]}";
 
-const SECOND: &str = "ASN,IP Prefix,Max Length,Trust Anchor\nAS65002,10.1.0.0/16,24,ta\n";
+// The same, generated in the last second before 2026.
+const TELLING_ITS_TIME: &str = "{
+  \"metadata\": {\"generated\": 1767225599, \"generatedTime\": \"2025-12-31T23:59:59Z\"},
+  \"roas\": [{\"asn\": \"AS65002\", \"prefix\": \"10.1.0.0/16\", \"maxLength\": 24, \"ta\": \"ta\"}]
+}";
 
 // Whether a list in JSON is served, and stays in force where a broken one comes behind it, or its payloads in the other format.
 fn follows<R, W: Wire + Drop>(
@@ -76,7 +80,7 @@ const LISTS: [&str; 7] = [
     FAULTY,
     "{}",
     SECOND_IN_JSON,
-    SECOND,
+    TELLING_ITS_TIME,
 ];
 
 // The log before the listener's address and behind it.
@@ -87,8 +91,8 @@ const LOG: [&str; 2] = [
 2026-01-01T00:00:30Z list refused: roas[1]: the member prefix is missing or no IPv4 prefix
 2026-01-01T00:00:40Z list refused: the list has no member roas
 2026-01-01T00:00:50Z list loaded: serial 2, payloads 1
-2026-01-01T00:01:00Z status: serial 2, payloads 1, routers 0 (0 current, 0 behind, 0 without), octets 0 in, 0 out, list written at a time that can't be told, read 0 seconds ago
-2026-01-01T00:01:00Z list old: when it was written can't be told
+2026-01-01T00:01:00Z status: serial 2, payloads 1, routers 0 (0 current, 0 behind, 0 without), octets 0 in, 0 out, list written 61 seconds ago, read 0 seconds ago
+2026-01-01T00:01:00Z list old: written 61 seconds ago, and 60 may be
 2026-01-01T00:01:10Z list refused: the file can't be opened
 ",
 ];
@@ -100,6 +104,7 @@ fn is_told_on_files(rt: &HostRuntime, listener: &TcpListener, log: &str) -> bool
         && is_told_on_a_file(
             rt,
             "formats",
+            "",
             &Stage::new(rt, listener, paths.as_slice()),
             log,
         )

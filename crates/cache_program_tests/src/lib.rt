@@ -1,11 +1,14 @@
 //! Tests alone: a list that is read again while routers are served, and guarded, lists in either format and under the
-//! exceptions of SLURM files, a day of `ovcache`, its texts and statuses, figures, and operators.
+//! exceptions of SLURM files, a day of `ovcache`, one on which its list is withdrawn, payloads that expire, its texts and statuses,
+//! figures, and operators.
 #![tactic(auto)]
 
 #[cfg(test)]
 mod day;
 #[cfg(test)]
 mod desk;
+#[cfg(test)]
+mod expiring;
 #[cfg(test)]
 mod figures;
 #[cfg(test)]
@@ -16,5 +19,7 @@ mod guards;
 mod rereads;
 #[cfg(test)]
 mod slurm;
+#[cfg(test)]
+mod stale;
 #[cfg(test)]
 mod statuses;

@@ -2,6 +2,7 @@
 
 use cache_program::{ListFault, Reread, ServedList};
 use cache_turns::CacheLoop;
+use cache_watch::FileAge;
 use list_guards::Guards;
 use net_wires::NetWire;
 use payload_sources::{SourceFault, SourceFile, Sources, Unopened};
@@ -13,6 +14,7 @@ use std::collections::BTreeSet;
 use std::io::{self, ErrorKind, Read, Write};
 use std::net::{Net, SocketAddr, TcpListener, TcpStream};
 use std::test::Fail;
+use vrp_json::Written;
 use wires::Wire;
 
 const RESET_QUERY: [u8; 8] = [1, 2, 0, 0, 0, 0, 0, 8];
@@ -89,6 +91,7 @@ pub(crate) fn reread<W: Wire + Drop>(
     served.reread(
         alloc,
         0,
+        FileAge::NEW,
         false,
         Ok(Sources {
             list,
@@ -136,7 +139,7 @@ fn is_missing<W: Wire + Drop>(alloc: Global, served: &mut ServedList<W>) -> bool
         error: io::Error::from(ErrorKind::NotFound),
     });
     matches!(
-        served.reread(alloc, 0, false, missing),
+        served.reread(alloc, 0, FileAge::NEW, false, missing),
         Reread::Refused(ListFault::NoFile(SourceFile::List))
     )
 }
@@ -209,7 +212,7 @@ pub(crate) fn serving_none<W: Wire + Drop>(
 ) -> Result<ServedList<W>, Fail> {
     let cache = Cache::new(alloc, 7, Intervals::USUAL)?;
     let turns = CacheLoop::new(alloc, wire, cache)?;
-    Ok(ServedList::new(turns, guards, 0, BTreeSet::new(alloc)))
+    Ok(ServedList::new(turns, guards, 0, BTreeSet::new(alloc), Written::Untold))
 }
 
 #[test]

@@ -2,6 +2,7 @@
 
 use crate::rereads::{asking, hears, list, serving_none};
 use cache_program::{ListFault, Reread, ServedList, main_cache};
+use cache_watch::FileAge;
 use list_guards::{GuardFault, Guards};
 use net_wires::NetWire;
 use payload_sources::{SourceFault, SourceFile, Sources, Unopened};
@@ -50,7 +51,7 @@ fn reread<W: Wire + Drop>(alloc: Global, served: &mut ServedList<W>, slurm: &str
         slurm: Some(slurm.as_bytes()),
         second: None,
     };
-    served.reread(alloc, 0, false, Ok(sources))
+    served.reread(alloc, 0, FileAge::NEW, false, Ok(sources))
 }
 
 // Whether a SLURM file that isn't there is refused.
@@ -59,7 +60,7 @@ fn is_missing<W: Wire + Drop>(alloc: Global, served: &mut ServedList<W>) -> bool
         file: SourceFile::Slurm,
         error: io::Error::from(ErrorKind::NotFound),
     });
-    let led = served.reread(alloc, 0, false, missing);
+    let led = served.reread(alloc, 0, FileAge::NEW, false, missing);
     led == Reread::Refused(ListFault::NoFile(SourceFile::Slurm))
 }
 

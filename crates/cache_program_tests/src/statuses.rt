@@ -178,7 +178,7 @@ const GOOD_SETTINGS: [&str; 10] = [
 ];
 
 #[rattlefmt::skip]
-const BAD_SETTINGS: [(&str, &str); 41] = [
+const BAD_SETTINGS: [(&str, &str); 44] = [
     ("listen = \"127.0.0.1:0\"\nsession = 7\nno toml", "line 4: key with no value, expected `=`"),
     ("listen = \"127.0.0.1:0\"\n", "'session' isn't there"),
     ("session = 7\n", "'listen' isn't there"),
@@ -215,10 +215,13 @@ const BAD_SETTINGS: [(&str, &str); 41] = [
     ("listen = \"127.0.0.1:0\"\nsession = 7\nmax_shrink = \"50\"\n", "max_shrink: '50' is no number from 0 to 100"),
     ("listen = \"127.0.0.1:0\"\nsession = 7\nmax_age = 0\n", "max_age: 0 is no number from 1 to 4294967295"),
     ("listen = \"127.0.0.1:0\"\nsession = 7\nmax_age = 1.5\n", "max_age: a number with a point is no number from 1 to 4294967295"),
+    ("listen = \"127.0.0.1:0\"\nsession = 7\nmax_age = 1\nstale = \"withdrawn\"\n", "stale: 'withdrawn' is neither 'serve' nor 'withdraw'"),
+    ("listen = \"127.0.0.1:0\"\nsession = 7\nmax_age = 1\nstale = true\n", "stale: true is neither 'serve' nor 'withdraw'"),
+    ("listen = \"127.0.0.1:0\"\nsession = 7\nstale = \"withdraw\"\n", "'max_age' isn't there"),
     ("listen = \"127.0.0.1:0\"\nsession = 7\nrefesh = 60\n", "'refesh' is no key of ovcache; the nearest is 'refresh'"),
     ("listen = \"127.0.0.1:0\"\nsession = 7\nother = [1]\n", "'other' is no key of ovcache; the nearest is 'idle'"),
     ("listen = \"127.0.0.1:0\"\nsession = 7\nLog = true\nlgo = 1\n", "'Log' is no key of ovcache; the nearest is 'log'"),
-    ("listen = \"127.0.0.1:0\"\nsession = 7\n[table]\nlog = true\n", "'table' is no key of ovcache; the nearest is 'idle'"),
+    ("listen = \"127.0.0.1:0\"\nsession = 7\n[table]\nlog = true\n", "'table' is no key of ovcache; the nearest is 'stale'"),
     ("listen = \"127.0.0.1:0\"\nsession = 7\n\"a\\nb\" = 1\n", "'a\\nb' is no key of ovcache; the nearest is 'csv'"),
 ];
 

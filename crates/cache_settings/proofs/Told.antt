@@ -1,5 +1,5 @@
 -- What settings tell, they tell in one way.
-use Rattle.std.proofs.Common.{◌≡◌, ◌≤◌, ◌<◌, ℕ, false, Option, None, Some, nat_abs, unwrap_or, refl, ap, sym, subst, ◌∙◌, arith, true≢false}
+use Rattle.std.proofs.Common.{◌≡◌, ◌≤◌, ◌<◌, ℕ, false, List, length, Option, None, Some, nat_abs, unwrap_or, refl, ap, sym, subst, ◌∙◌, arith, true≢false}
 use Rattle.std.proofs.lemmas.Option.{same_Some}
 use Rattle.toml.specs.Data.{Data, Members, get_member}
 use Rattle.std.specs.Prelude.{codes}
@@ -7,7 +7,9 @@ use Rattle.rtr_codec.specs.Intervals.{are_lawful}
 use Rattle.rtr_codec.specs.declared.intervals.Intervals.{Intervals}
 use Rattle.settings_keys.proofs.Faults.{TellsNothing}
 use Rattle.settings_keys.specs.Keys.{IsNumber, IsToldIfThere, IsToldOrUsual}
-use Rattle.cache_settings.specs.ToldSettings.{AreIntervals, AreTerms, IsPatience, IsPerCent, IsSeconds}
+use Rattle.cache_settings.specs.declared.settings.Stale.{Stale}
+use Rattle.cache_settings.specs.declared.settings.Stale.TheVariants.{Serve, Withdraw}
+use Rattle.cache_settings.specs.ToldSettings.{AreIntervals, AreTerms, IsPatience, IsPerCent, IsSeconds, IsStale, IsStaleWord}
 
 same_number : (found : Data) (a b : ℕ) → IsNumber found a → IsNumber found b → a ≡ b
 same_number found a b x y = ap nat_abs (same_Some _ _ (sym x.0 ∙ y.0))
@@ -77,3 +79,29 @@ pub no_patience : (table : Members) (a : Intervals) → AreIntervals table a →
 no_patience table a is none b told =
     let same = same_intervals table a b.intervals (record { refresh = is.refresh; retry = is.retry; expire = is.expire }) told.intervals in
     none b.patience (subst (λ (i : Intervals). IsPatience table i b.patience) same told.patience)
+
+-- how old a list may be is told in one way
+same_if_there : (o : Option Data) (a b : Option ℕ) → IsToldIfThere IsSeconds o a → IsToldIfThere IsSeconds o b → a ≡ b
+same_if_there None a b x y = x ∙ sym y
+same_if_there (Some found) None b x y = absurd x
+same_if_there (Some found) (Some a) None x y = absurd y
+same_if_there (Some found) (Some a) (Some b) x y = ap (λ (n : ℕ). Some n) (same_seconds found a b x y)
+
+pub no_stale : (table : Members) (max_age : Option ℕ) → IsToldIfThere IsSeconds (get_member (codes "max_age") table) max_age → TellsNothing (IsStale table max_age) → TellsNothing (AreTerms table)
+no_stale table max_age is none b told =
+    none b.stale (subst (λ (age : Option ℕ). IsStale table age b.stale) (same_if_there _ b.max_age max_age told.max_age is) told.stale)
+
+-- a list that is to be withdrawn isn't to be served too
+one_word : (o : Option Data) → IsToldOrUsual IsStaleWord Serve o Withdraw → (b : Stale) → IsToldOrUsual IsStaleWord Serve o b → b ≡ Withdraw
+one_word None told b is = absurd cc
+one_word (Some found) told Withdraw is = refl
+one_word (Some found) told Serve is =
+    let wrong : 8 ≡ 5 = ap (λ (text : List ℕ). length text) (same_Some _ _ (sym told ∙ is)) in absurd (omega (arith, wrong))
+
+-- where no age is told none is
+pub no_age : (table : Members) (max_age : Option ℕ) → IsToldOrUsual IsStaleWord Serve (get_member (codes "stale") table) Withdraw → max_age ≡ None → TellsNothing (IsStale table max_age)
+no_age table max_age told none b is = is.aged (one_word _ told b is.told) none
+
+-- nor where no word is
+pub no_word : (table : Members) (max_age : Option ℕ) → TellsNothing (IsToldOrUsual IsStaleWord Serve (get_member (codes "stale") table)) → TellsNothing (IsStale table max_age)
+no_word table max_age none b told = none b told.told

@@ -1,5 +1,5 @@
 -- What a cache's settings are, key by key (own).
-use Rattle.std.specs.Prelude.{◌≡◌, ◌<◌, ◌≤◌, ◌^◌, ℕ, pos, true, false, List, [], ◌∷◌, Some, codes, option_map, string_bytes}
+use Rattle.std.specs.Prelude.{◌≡◌, ◌≢◌, ◌<◌, ◌≤◌, ◌^◌, ℕ, pos, true, false, List, [], ◌∷◌, Option, None, Some, codes, option_map, string_bytes}
 use Rattle.toml.specs.Data.{Data, Members, as_integer, get_member}
 use Rattle.cache_turns.specs.declared.patience.Patience.{Patience}
 use Rattle.list_guards.specs.declared.Guards.{Guards}
@@ -12,6 +12,8 @@ use Rattle.settings_keys.specs.KnownKeys.{HasNoKeyBut}
 use Rattle.cache_settings.specs.declared.settings.CacheSettings.{CacheSettings}
 use Rattle.cache_settings.specs.declared.settings.SessionSource.{SessionSource}
 use Rattle.cache_settings.specs.declared.settings.SessionSource.TheVariants.{Id, Clock}
+use Rattle.cache_settings.specs.declared.settings.Stale.{Stale}
+use Rattle.cache_settings.specs.declared.settings.Stale.TheVariants.{Serve, Withdraw}
 use Rattle.cache_settings.specs.declared.settings.Terms.{Terms}
 
 -- seconds: a number of 32 bits that is not 0
@@ -27,6 +29,16 @@ IsSession found Clock = IsText found (codes "clock")
 abbrev pub IsOtherSession : Data → OtherSession → Type 0
 IsOtherSession found Report = IsText found (codes "report")
 IsOtherSession found Reset = IsText found (codes "reset")
+
+-- the word for what becomes of a stale list
+abbrev pub IsStaleWord : Data → Stale → Type 0
+IsStaleWord found Serve = IsText found (codes "serve")
+IsStaleWord found Withdraw = IsText found (codes "withdraw")
+
+-- what becomes of a list that is older than it may be: as at the key, or it is served; none is withdrawn where no age is told
+pub record IsStale (table : Members) (max_age : Option ℕ) (stale : Stale) : Type 0 where
+  pub told : IsToldOrUsual IsStaleWord Serve (get_member (codes "stale") table) stale
+  pub aged : stale ≡ Withdraw → max_age ≢ None
 
 -- the intervals are those at their keys, or the usual ones, and lawful
 pub record AreIntervals (table : Members) (intervals : Intervals) : Type 0 where
@@ -61,6 +73,7 @@ pub record AreTerms (table : Members) (terms : Terms) : Type 0 where
   pub expires : IsToldOrUsual IsYesOrNo false (get_member (codes "expires") table) terms.expires
   pub reread : IsToldIfThere IsSeconds (get_member (codes "reread") table) terms.reread
   pub max_age : IsToldIfThere IsSeconds (get_member (codes "max_age") table) terms.max_age
+  pub stale : IsStale table terms.max_age terms.stale
   pub log : IsToldOrUsual IsYesOrNo false (get_member (codes "log") table) terms.log
   pub status : IsToldIfThere IsSeconds (get_member (codes "status") table) terms.status
 
@@ -75,6 +88,7 @@ terms_of settings = record {
   expires = settings.expires;
   reread = settings.reread;
   max_age = settings.max_age;
+  stale = settings.stale;
   log = settings.log;
   status = settings.status;
 }
@@ -83,7 +97,7 @@ terms_of settings = record {
 abbrev pub keys_of_a_cache : List (List ℕ)
 keys_of_a_cache =
     codes "listen" ∷ codes "csv" ∷ codes "slurm" ∷ codes "session" ∷ codes "other_session" ∷ codes "refresh" ∷ codes "retry" ∷ codes "expire" ∷ codes "first" ∷ codes "idle" ∷ codes "min_payloads"
-    ∷ codes "max_shrink" ∷ codes "expires" ∷ codes "reread" ∷ codes "max_age" ∷ codes "log" ∷ codes "status" ∷ codes "metrics" ∷ codes "control" ∷ []
+    ∷ codes "max_shrink" ∷ codes "expires" ∷ codes "reread" ∷ codes "max_age" ∷ codes "stale" ∷ codes "log" ∷ codes "status" ∷ codes "metrics" ∷ codes "control" ∷ []
 
 -- the settings are what stands at their keys, and there are no others
 pub record IsToldBy (table : Members) (settings : CacheSettings) : Type 0 where

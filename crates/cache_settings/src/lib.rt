@@ -7,4 +7,4 @@
 
 mod settings;
 
-pub use settings::{CacheSettings, SessionSource};
+pub use settings::{CacheSettings, SessionSource, Stale};

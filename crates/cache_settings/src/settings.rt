@@ -1,12 +1,13 @@
 //! The settings of a cache.
-ghost use Rattle.std.specs.Prelude.{◌≡◌, ◌≤◌, ◌<◌, IfOk, IfSome, codes, option_map, string_bytes, true};
+ghost use Rattle.std.specs.Prelude.{◌≡◌, ◌≢◌, ◌≤◌, ◌<◌, IfOk, IfSome, MatchResult, None, codes, option_map, string_bytes, true};
 ghost use Rattle.toml.specs.Data.{Members, get_member};
 ghost use Rattle.toml.specs.View.{table_view};
 ghost use Rattle.rtr_cache.specs.declared.other_session.OtherSession.TheVariants.{Report};
+ghost use Rattle.cache_settings.specs.declared.settings.Stale.TheVariants.{Serve, Withdraw};
 ghost use Rattle.rtr_codec.specs.Intervals.{are_lawful};
 ghost use Rattle.settings_keys.specs.Causes.{IsBad};
 ghost use Rattle.settings_keys.specs.Keys.{Answers, AnswersInMemory, IsNumber, IsTableOf, IsText, IsTold, IsToldIfThere, IsToldOrUsual};
-ghost use Rattle.cache_settings.specs.ToldSettings.{AreGuards, AreIntervals, AreTerms, IsOtherSession, IsPatience, IsPerCent, IsSeconds, IsSession, IsToldBy};
+ghost use Rattle.cache_settings.specs.ToldSettings.{AreGuards, AreIntervals, AreTerms, IsOtherSession, IsPatience, IsPerCent, IsSeconds, IsSession, IsStale, IsStaleWord, IsToldBy};
 
 use cache_turns::Patience;
 use list_guards::Guards;
@@ -27,6 +28,15 @@ pub enum SessionSource {
     Id(u16),
     /// The clock at the start, so that a restart has another one.
     Clock,
+}
+
+/// What becomes of a list that is older than it may be.
+#[derive(Clone, Copy, Debug, PartialEq, Eq)]
+pub enum Stale {
+    /// It is served on, and the log warns.
+    Serve,
+    /// It is withdrawn, until one is read that isn't. Own choice: DECISIONS.md, "A stale list may be withdrawn".
+    Withdraw,
 }
 
 /// What `ovcache` is told by its settings.
@@ -56,8 +66,10 @@ pub struct CacheSettings {
     pub expires: bool,
     /// After how many seconds the list is read again, if it is.
     pub reread: Option<u32>,
-    /// How many seconds ago its file was written at most, else the log warns.
+    /// How many seconds ago it was written at most, else the log warns.
     pub max_age: Option<u32>,
+    /// What becomes of a list that is older.
+    pub stale: Stale,
     /// Whether it writes a log.
     pub log: bool,
     /// After how many seconds the log gets a status line, if it does.
@@ -67,6 +79,7 @@ pub struct CacheSettings {
 impl CacheSettings {
     /// The settings that the octets of a file tell in TOML: `listen`, the text of an address and a port, `csv`, a text, and
     /// `session`, a number of 16 bits or `"clock"`; and, where they are there, `other_session`, `"report"` or `"reset"`,
+    /// `stale`, `"serve"` or, where `max_age` is there, `"withdraw"`,
     /// `refresh`, `retry` and `expire`, in place of the usual intervals and lawful together, `first`, 1 at least, `idle`,
     /// above `refresh`, `reread`, `max_age` and `status`, 1 at least, and `min_payloads`, each a number of 32 bits, `max_shrink`,
     /// up to 100, `expires` and `log`, booleans, `slurm` and `control`, texts, and `metrics`, as `listen`. There are no keys of
@@ -112,6 +125,7 @@ impl CacheSettings {
             expires: terms.expires,
             reread: terms.reread,
             max_age: terms.max_age,
+            stale: terms.stale,
             log: terms.log,
             status: terms.status,
         })
@@ -119,7 +133,7 @@ impl CacheSettings {
 }
 
 // The keys of the settings.
-const KEYS: [&str; 19] = [
+const KEYS: [&str; 20] = [
     "listen",
     "csv",
     "slurm",
@@ -135,6 +149,7 @@ const KEYS: [&str; 19] = [
     "expires",
     "reread",
     "max_age",
+    "stale",
     "log",
     "status",
     "metrics",
@@ -166,6 +181,7 @@ struct Terms {
     expires: bool,
     reread: Option<u32>,
     max_age: Option<u32>,
+    stale: Stale,
     log: bool,
     status: Option<u32>,
 }
@@ -185,6 +201,7 @@ fn terms_of(alloc: Global, table: &Table) -> Result<Terms, SettingsFault>
     let expires = yes_or_no_of(alloc, table, "expires")?;
     let reread = seconds_of(alloc, table, "reread")?;
     let max_age = seconds_of(alloc, table, "max_age")?;
+    let stale = stale_of(alloc, table, max_age)?;
     let log = yes_or_no_of(alloc, table, "log")?;
     let status = seconds_of(alloc, table, "status")?;
     Ok(Terms {
@@ -196,6 +213,7 @@ fn terms_of(alloc: Global, table: &Table) -> Result<Terms, SettingsFault>
         expires,
         reread,
         max_age,
+        stale,
         log,
         status,
     })
@@ -232,6 +250,39 @@ fn other_session_of(alloc: Global, table: &Table) -> Result<OtherSession, Settin
         Some("report") => Ok(OtherSession::Report),
         Some("reset") => Ok(OtherSession::Reset),
         _ => Err(bad_value(alloc, "other_session", value, Wanted::OtherSession)),
+    }
+}
+
+// What becomes of a list that is older than it may be: it is served on where the key isn't there. None is withdrawn where the
+// settings don't say how old one may be.
+fn stale_of(alloc: Global, table: &Table, max_age: Option<u32>) -> Result<Stale, SettingsFault>
+    ensures { Answers (IsStale (table_view table.now) max_age) result }
+{
+    let stale = stale_word(alloc, table)?;
+    needs_age(alloc, stale, max_age)?;
+    Ok(stale)
+}
+
+fn needs_age(alloc: Global, stale: Stale, max_age: Option<u32>) -> Result<(), SettingsFault>
+    ensures { MatchResult result (λ done. stale ≡ Withdraw → max_age ≢ None) (λ fault. IsBad fault × (stale ≡ Withdraw) × (max_age ≡ None)) }
+{
+    match (stale, max_age) {
+        (Stale::Serve, _) => Ok(()),
+        (Stale::Withdraw, Some(_)) => Ok(()),
+        (Stale::Withdraw, None) => Err(lacks(alloc, "max_age")),
+    }
+}
+
+fn stale_word(alloc: Global, table: &Table) -> Result<Stale, SettingsFault>
+    ensures { Answers (IsToldOrUsual IsStaleWord Serve (get_member (codes "stale") (table_view table.now))) result }
+{
+    let Some(value) = value_at(table, "stale") else {
+        return Ok(Stale::Serve);
+    };
+    match value.as_str() {
+        Some("serve") => Ok(Stale::Serve),
+        Some("withdraw") => Ok(Stale::Withdraw),
+        _ => Err(bad_value(alloc, "stale", value, Wanted::Stale)),
     }
 }
 

@@ -7,14 +7,14 @@ use Rattle.net_prefix.specs.declared.payload.Vrp.{Vrp}
 use Rattle.rtr_cache.specs.declared.other_session.OtherSession.{OtherSession}
 use Rattle.rtr_cache.specs.CacheState.{CacheState, ComesUp as CacheComesUp, client_at, empty_cache, tells_client}
 use Rattle.rtr_cache.specs.CacheTable.{fresh_conn}
-use Rattle.rtr_cache.specs.ClientHistory.{CameUp, IsRun, Loaded, StaysUp, Ticked, Turn, WentDown, handed_out, turn_of}
+use Rattle.rtr_cache.specs.ClientHistory.{CameUp, IsRun, Loaded, StaysUp, Ticked, Turn, WentDown, Withdrew, handed_out, turn_of}
 use Rattle.rtr_cache.specs.declared.event.CacheReport.{CacheReport}
 use Rattle.rtr_cache.proofs.TellingHistories.{told_from_empty}
 use Rattle.rtr_codec.specs.declared.intervals.Intervals.{Intervals}
 use Rattle.cache_turns.specs.Carrying.{CarriesWhole, heard}
 use Rattle.cache_turns.specs.Patience.{arriving_at}
 use Rattle.cache_turns.specs.Serving.{Connection, Sides, judged}
-use Rattle.cache_turns.specs.Turns.{Accepts, ComesUp, GoesDown, IsTold, LacksMemory, LinksStay, Load, LoadsSet, OtherLinksStay, Step, Stops, TakesStep, TakesSteps, TakesTurn, TellsCache, TurnAt, Turns, VisitsBelow, VisitsConnection, VisitsLink, idle, link_at, link_left, parting_for, settled, sides}
+use Rattle.cache_turns.specs.Turns.{Accepts, ComesUp, GoesDown, IsTold, LacksMemory, LinksStay, Load, LoadsSet, OtherLinksStay, Step, Stops, TakesStep, TakesSteps, TakesTurn, TellsCache, TurnAt, Turns, VisitsBelow, VisitsConnection, VisitsLink, idle, link_at, link_left, parting_for, settled, sides, Withdraw, WithdrawsSet}
 use Rattle.cache_turns.specs.declared.link.Visit.{Visit}
 use Rattle.cache_turns.specs.declared.link.Visit.TheVariants.{Stays, Faulty, Ended, Closed, Overdue}
 use Rattle.cache_turns.specs.declared.patience.Moments.{Moments}
@@ -455,9 +455,24 @@ load_passes set old new loads =
       links = λ key. ap (λ (t : Turns). link_at t key) loads.same;
     }
 
+-- and so does one that is withdrawn
+pub withdraw_passes : (old new : Turns) → WithdrawsSet old new → Passes old new
+withdraw_passes old new withdraws =
+    record {
+      history = turn_of old.cache (Withdrew withdraws.result) ∷ [];
+      calls = [];
+      run = (refl, withdraws.withdraws);
+      asks = ap (λ (t : Turns). t.counts.wire.calls) withdraws.same;
+      sockets = omega (arith, ap (λ (t : Turns). t.counts.wire.sockets) withdraws.same);
+      quiet = λ other another is. record { hears = refl; hands = refl; up = (tt, tt) };
+      rests = λ number. record { gives = refl; takes = refl };
+      links = λ key. ap (λ (t : Turns). link_at t key) withdraws.same;
+    }
+
 step_arrives : (step : Step) (old new : Turns) → TakesStep step old new → old.counts.wire.sockets ≤ new.counts.wire.sockets
 step_arrives (TurnAt now) old new turn = turn_arrives now old new turn.0 turn.1
 step_arrives (Load set) old new loads = (load_passes set old new loads).sockets
+step_arrives Withdraw old new withdraws = (withdraw_passes old new withdraws).sockets
 
 steps_arrive : (steps : List Step) (old new : Turns) → TakesSteps steps old new → old.counts.wire.sockets ≤ new.counts.wire.sockets
 steps_arrive [] old new same = omega (arith, ap (λ (t : Turns). t.counts.wire.sockets) same)
@@ -467,6 +482,7 @@ steps_arrive (step ∷ steps) old new taken =
 step_carries : (first : CacheState) (step : Step) (old new : Turns) → AreCarried first old → TakesStep step old new → new.counts.wire.sockets < 2 ^ 64 - 1 → AreCarried first new
 step_carries first (TurnAt now) old new are turn below = turn_carries first now old new turn.0 are turn.1 below
 step_carries first (Load set) old new are loads below = passed first old new are (load_passes set old new loads)
+step_carries first Withdraw old new are withdraws below = passed first old new are (withdraw_passes old new withdraws)
 
 steps_carry : (first : CacheState) (steps : List Step) (old new : Turns) → AreCarried first old → TakesSteps steps old new → new.counts.wire.sockets < 2 ^ 64 - 1 → AreCarried first new
 steps_carry first [] old new are same below = subst (λ (t : Turns). AreCarried first t) (sym same) are

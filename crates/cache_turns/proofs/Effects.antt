@@ -2,13 +2,14 @@
 use Rattle.std.proofs.Common.{◌≡◌, ◌≢◌, ◌==◌, ℕ, List, [], ◌∷◌, ◌++◌, refl, sym, ap, ◌∙◌, append_assoc, append-nil, Ok, Err, take}
 use Rattle.std.proofs.lemmas.Bool.{ne_eqb}
 use Rattle.rtr_cache.specs.CacheState.{CacheState}
-use Rattle.rtr_cache.specs.ClientHistory.{Call, CameUp, Heard, Loaded, StaysUp, Ticked, Took, Turn, WentDown, handed_by, handed_out}
+use Rattle.rtr_cache.specs.ClientHistory.{Call, CameUp, Heard, Loaded, StaysUp, Ticked, Took, Turn, WentDown, Withdrew, handed_by, handed_out}
 use Rattle.cache_turns.specs.Carrying.{heard, heard_by}
 use Rattle.wires.proofs.Sockets.{both_none, passed_over}
 
 -- a call that is of one client, or of none
 abbrev pub IsOf : ℕ → Call → Type 0
 IsOf key (Loaded set result) = Unit {0}
+IsOf key (Withdrew result) = Unit {0}
 IsOf key (CameUp result) = Unit {0}
 IsOf key (Heard heard octets result) = heard ≡ key
 IsOf key (WentDown lost result) = lost ≡ key
@@ -27,6 +28,7 @@ pub record Silent (key : ℕ) (history : List Turn) : Type 0 where
 
 silent_call : (key other : ℕ) (call : Call) (found : CacheState) → IsOf key call → other ≢ key → Silent other (record { found = found; call = call } ∷ [])
 silent_call key other (Loaded set result) found is differs = record { hears = refl; hands = refl; up = (tt, tt) }
+silent_call key other (Withdrew result) found is differs = record { hears = refl; hands = refl; up = (tt, tt) }
 silent_call key other (CameUp result) found is differs = record { hears = refl; hands = refl; up = (tt, tt) }
 silent_call key other (Heard k octets result) found is differs =
     record { hears = passed_over (k == other) octets [] (ne_eqb k other (λ same. differs (sym same ∙ is))); hands = refl; up = (tt, tt) }

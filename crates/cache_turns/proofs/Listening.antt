@@ -1,7 +1,7 @@
 -- A wire listens where it did, whatever turns are taken and sets are loaded.
 use Rattle.std.proofs.Common.{◌≡◌, ℕ, zero, suc, List, [], ◌∷◌, refl, sym, ap, ◌∙◌, inl, inr, Option, Some, None, Result, Ok, Err}
 use Rattle.cache_turns.specs.Serving.{Answers, Connection, GoesOn, Serves, Sides}
-use Rattle.cache_turns.specs.Turns.{Accepts, Load, Step, TakesStep, TakesSteps, TakesTurn, Turned, TurnAt, Turns, VisitsBelow, VisitsLink, link_at, settled, sides}
+use Rattle.cache_turns.specs.Turns.{Accepts, Load, Step, TakesStep, TakesSteps, TakesTurn, Turned, TurnAt, Turns, VisitsBelow, VisitsLink, Withdraw, link_at, settled, sides}
 use Rattle.cache_turns.specs.declared.link.Visit.{Visit}
 use Rattle.cache_turns.specs.declared.link.Visit.TheVariants.{Stays, Faulty, Ended, Closed, Overdue}
 use Rattle.wires.specs.Counts.{Counts}
@@ -76,6 +76,7 @@ listens_turned now old new (Err Accept) stops = ap (λ (t : Turns). t.counts.wir
 listens_stepped : (step : Step) (old new : Turns) → TakesStep step old new → new.counts.wire.listens ≡ old.counts.wire.listens
 listens_stepped (TurnAt now) old new takes = listens_turned now old new takes.0 takes.1
 listens_stepped (Load set) old new loads = ap (λ (t : Turns). t.counts.wire.listens) loads.same
+listens_stepped Withdraw old new withdraws = ap (λ (t : Turns). t.counts.wire.listens) withdraws.same
 
 pub listens_on : (steps : List Step) (old new : Turns) → TakesSteps steps old new → new.counts.wire.listens ≡ old.counts.wire.listens
 listens_on [] old new same = ap (λ (t : Turns). t.counts.wire.listens) same

@@ -3,10 +3,10 @@ use Rattle.std.proofs.Common.{ℕ, zero, suc, List, [], ◌∷◌, ◌++◌, ref
 use Rattle.rtr_cache.specs.CacheState.{CacheState, tells_client}
 use Rattle.rtr_cache.specs.ClientHistory.{Call, CameUp, IsRun, Makes, Turn, WentDown, turn_of}
 use Rattle.cache_turns.specs.Serving.{Connection}
-use Rattle.cache_turns.specs.Turns.{ComesUp, Load, Step, TakesStep, TakesSteps, TakesTurn, TellsCache, TurnAt, Turns, VisitsBelow, VisitsLink, link_at, sides}
+use Rattle.cache_turns.specs.Turns.{ComesUp, Load, Step, TakesStep, TakesSteps, TakesTurn, TellsCache, TurnAt, Turns, VisitsBelow, VisitsLink, Withdraw, link_at, sides}
 use Rattle.cache_turns.specs.declared.link.Visit.{Visit}
 use Rattle.cache_turns.specs.declared.link.Visit.TheVariants.{Stays, Faulty, Ended, Closed, Overdue}
-use Rattle.cache_turns.proofs.Carrying.{Passes, accepts_passes, load_passes, stops_passes, tick_passes}
+use Rattle.cache_turns.proofs.Carrying.{Passes, accepts_passes, load_passes, stops_passes, tick_passes, withdraw_passes}
 use Rattle.cache_turns.proofs.Exchanges.{run_on, serves_carries}
 use Rattle.wires.specs.declared.fault.LoopFault.{LoopFault}
 use Rattle.wires.specs.declared.fault.LoopFault.TheVariants.{Accept}
@@ -55,6 +55,7 @@ turn_leads now old new (Err Accept) stops = passes_lead old new (stops_passes ol
 step_leads : (step : Step) (old new : Turns) → TakesStep step old new → Leads old.cache new.cache
 step_leads (TurnAt now) old new turn = turn_leads now old new turn.0 turn.1
 step_leads (Load set) old new loads = passes_lead old new (load_passes set old new loads)
+step_leads Withdraw old new withdraws = passes_lead old new (withdraw_passes old new withdraws)
 
 -- any steps lead on from a run
 pub steps_lead : (steps : List Step) (start : CacheState) (before : List Turn) (old new : Turns) → IsRun start before old.cache → TakesSteps steps old new → (after : List Turn) × IsRun start (after ++ before) new.cache

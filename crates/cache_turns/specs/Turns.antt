@@ -3,7 +3,7 @@ use Rattle.std.specs.Prelude.{◌≡◌, ◌≢◌, ◌⊎◌, ℕ, zero, suc, L
 use Rattle.std.specs.declared.net.socket_addr.SocketAddr.{SocketAddr}
 use Rattle.rtr_cache.specs.CacheState.{CacheState, client_at, tells_client}
 use Rattle.net_prefix.specs.declared.payload.Vrp.{Vrp}
-use Rattle.rtr_cache.specs.ClientHistory.{CameUp, Loaded, Makes, Ticked, WentDown}
+use Rattle.rtr_cache.specs.ClientHistory.{CameUp, Loaded, Makes, Ticked, WentDown, Withdrew}
 use Rattle.rtr_cache.specs.declared.event.CacheReport.{CacheReport}
 use Rattle.rtr_cache.specs.declared.refusal.CacheRefusal.{CacheRefusal}
 use Rattle.rtr_cache.specs.declared.refusal.CacheRefusal.TheVariants.{Full}
@@ -186,10 +186,11 @@ TakesTurns [] old new = new ≡ old
 TakesTurns (now ∷ moments) old new =
     (mid : Turns) × (result : Result (Unit {0}) LoopFault) × TakesTurn now old result mid × TakesTurns moments mid new
 
--- what is done to a loop: a turn at a moment, or, between two turns, a set is loaded
+-- what is done to a loop: a turn at a moment, or, between two turns, a set is loaded, or withdrawn
 pub data Step : Type 0 where
   TurnAt : (now : ℕ) → Step
   Load : (set : List Vrp) → Step
+  Withdraw : Step
 
 -- a set is handed to the cache, whatever it answers; no connection changes
 pub record LoadsSet (set : List Vrp) (old new : Turns) : Type 0 where
@@ -197,9 +198,16 @@ pub record LoadsSet (set : List Vrp) (old new : Turns) : Type 0 where
   pub loads : Makes old.cache (Loaded set result) new.cache
   pub same : new ≡ record old { cache = new.cache }
 
+-- the cache is told to withdraw its set; no connection changes
+pub record WithdrawsSet (old new : Turns) : Type 0 where
+  pub result : Result CacheReport CacheRefusal
+  pub withdraws : Makes old.cache (Withdrew result) new.cache
+  pub same : new ≡ record old { cache = new.cache }
+
 abbrev pub TakesStep : Step → Turns → Turns → Type 0
 TakesStep (TurnAt now) old new = (result : Result (Unit {0}) LoopFault) × TakesTurn now old result new
 TakesStep (Load set) old new = LoadsSet set old new
+TakesStep Withdraw old new = WithdrawsSet old new
 
 -- such steps, one after another
 abbrev pub TakesSteps : List Step → Turns → Turns → Type 0

@@ -5,7 +5,7 @@ ghost use Rattle.rtr_cache.specs.CacheState.{OthersStay, client_at, tells_client
 ghost use Rattle.rtr_cache.specs.ClientHistory.{CameUp, Loaded, Makes};
 ghost use Rattle.rtr_cache.specs.declared.refusal.CacheRefusal.{CacheRefusal};
 ghost use Rattle.cache_turns.specs.Holding.{held, holding_of};
-ghost use Rattle.cache_turns.specs.Turns.{Admits, GoesDown, IsTold, LinksStay, OtherLinksStay, TakesTurn, TellsCache, Visits, VisitsAll, idle, link_at, link_left, parting_for, settled};
+ghost use Rattle.cache_turns.specs.Turns.{Admits, GoesDown, IsTold, LinksStay, OtherLinksStay, TakesTurn, TellsCache, Visits, VisitsAll, WithdrawsSet, idle, link_at, link_left, parting_for, settled};
 ghost use Rattle.wires.specs.Counts.{closing_it, counts_of_wire, losing};
 ghost use Rattle.wires.specs.TurnOctets.{turn_octets};
 ghost use Rattle.wires.specs.Wires.{closing};
@@ -95,6 +95,13 @@ impl<W: Wire + Drop, A: Allocator + Clone> CacheLoop<W, A> {
         ensures same { self.new ≡ record self.old { cache = self.new.cache } }
     {
         self.cache.step(CacheEvent::Load(set))
+    }
+
+    /// Has the cache withdraw its set, between two turns, until one is loaded. No connection changes.
+    pub fn withdraw(&mut self)
+        ensures { WithdrawsSet self.old self.new }
+    {
+        let _never_refused = self.cache.step(CacheEvent::<Global>::Withdraw);
     }
 
     /// How many connections there are.

@@ -31,13 +31,19 @@ pub enum LogLine {
         file: SourceFile,
         why: ListFault,
     },
-    /// The list's file was written longer ago than it may be.
+    /// The list was written longer ago than it may be.
     #[error("list old: written {seconds} seconds ago, and {most} may be")]
     Old {
         seconds: u64,
         most: u32,
     },
-    /// When the list's file was written can't be told.
+    /// The list is withdrawn, since it was written longer ago than it may be.
+    #[error("list withdrawn: written {seconds} seconds ago, and {most} may be")]
+    Withdrawn {
+        seconds: u64,
+        most: u32,
+    },
+    /// When the list was written can't be told.
     #[error("list old: when it was written can't be told")]
     NoAge,
     /// A router came or went.
@@ -49,7 +55,7 @@ pub enum LogLine {
         lines: u64,
         most: u32,
     },
-    /// What is served and held, when the list's file was written, and how many seconds ago a list was read that could be had.
+    /// What is served and held, when the list was written, and how many seconds ago a list was read that could be had.
     #[error("status: {figures}, list {age}, read {seconds} seconds ago")]
     Status {
         figures: CacheFigures,

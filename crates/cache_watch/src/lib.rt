@@ -14,7 +14,8 @@ mod watched;
 pub use journal::{LogLine, log};
 pub use reread::{ListFault, Reread};
 pub use telling::{
-    ROUTER_LINES, age_of, tell_list, tell_listening, tell_metrics, tell_routers, tell_status,
+    FileAge, ROUTER_LINES, age_of, file_age, tell_list, tell_listening, tell_metrics, tell_routers,
+    tell_status,
 };
 pub use watch::Watch;
 pub use watched::Watched;

@@ -19,6 +19,9 @@ pub enum ListFault {
     /// A guard of the settings refuses it.
     #[error("{0}")]
     Guard(GuardFault),
+    /// It is older than it may be.
+    #[error("written {seconds} seconds ago, and {most} may be")]
+    Old { seconds: u64, most: u32 },
     /// The cache has no memory for it.
     #[error("there is no memory to publish it")]
     NoMemory,
@@ -31,6 +34,7 @@ impl ListFault {
             ListFault::NoFile(file) => file,
             ListFault::Source(why) => why.file(),
             ListFault::Guard(_) | ListFault::NoMemory => SourceFile::List,
+            ListFault::Old { .. } => SourceFile::List,
         }
     }
 }

@@ -1,5 +1,6 @@
 //! What the log says when, and what scrapers are told.
-ghost use Rattle.std.specs.Prelude.{◌≡◌, false};
+ghost use Rattle.std.specs.Prelude.{◌≡◌, ◌-◌, None, false};
+ghost use Rattle.vrp_json.specs.declared.written.Written.TheVariants.{Unread};
 
 use crate::journal::{LogLine, log};
 use crate::reread::Reread;
@@ -12,6 +13,8 @@ use scrapers::Scrapers;
 use std::fs;
 use std::io::{self, Write};
 use std::rt::{Clock, Files};
+use std::time::SystemTime;
+use vrp_json::Written;
 
 /// Writes to the log where the cache listens: of port 0 the one that it was given.
 pub fn tell_listening<R: Clock, W: Watched, O: Write>(rt: &R, is_on: bool, wire: &W, output: &mut O)
@@ -86,7 +89,7 @@ pub fn tell_routers<R: Clock, W: Watched, O: Write>(
     }
 }
 
-/// Writes what is served, and what routers hold, to the log, with how many seconds ago the list's file was written, if that
+/// Writes what is served, and what routers hold, to the log, with how many seconds ago the list was written, if that
 /// can be told; and warns where that is more than this.
 pub fn tell_status<R: Clock, O: Write>(
     rt: &R,
@@ -110,7 +113,7 @@ pub fn tell_status<R: Clock, O: Write>(
     }
 }
 
-// Warns in the log where the list's file was written too long ago, or its time can't be told.
+// Warns in the log where the list was written too long ago, or its time can't be told.
 fn tell_age<R: Clock, O: Write>(rt: &R, is_on: bool, age: Option<u64>, most: u32, output: &mut O)
     ensures { is_on ≡ false → output.new ≡ output.old }
 {
@@ -122,9 +125,53 @@ fn tell_age<R: Clock, O: Write>(rt: &R, is_on: bool, age: Option<u64>, most: u32
     log(rt, is_on, output, line);
 }
 
-/// How many seconds ago a file was written, if that can be told.
-pub fn age_of<R: Files + Clock>(rt: &R, path: &str) -> Option<u64> {
-    seconds_since_written(rt, path).ok()
+/// How many seconds ago a list was written, if that can be told: since the second that it tells; where it tells none, since
+/// its file at this path was.
+pub fn age_of<R: Files + Clock>(rt: &R, path: &str, written: Written) -> Option<u64>
+    ensures { written ≡ Unread → result ≡ None }
+{
+    match written {
+        Written::Untold => seconds_since_written(rt, path).ok(),
+        Written::At(second) => seconds_since(rt, second).ok(),
+        Written::Unread => None,
+    }
+}
+
+/// How old a file is.
+#[derive(Clone, Copy, Debug, PartialEq, Eq)]
+pub struct FileAge {
+    /// In which second since 1970 that is so.
+    pub second: u64,
+    /// How many seconds ago it was written.
+    pub seconds: u64,
+}
+
+impl FileAge {
+    /// One whose age doesn't matter.
+    pub const NEW: FileAge = FileAge {
+        second: 0,
+        seconds: 0,
+    };
+}
+
+/// How old the file at this path is now. One of which that can't be told counts as new.
+pub fn file_age<R: Files + Clock>(rt: &R, path: &str) -> FileAge {
+    FileAge {
+        second: seconds_since(rt, 0).unwrap_or(0),
+        seconds: seconds_since_written(rt, path).unwrap_or(0),
+    }
+}
+
+fn seconds_since<R: Clock>(rt: &R, second: u64) -> io::Result<u64> {
+    let now = SystemTime::UNIX_EPOCH.elapsed(rt)?.as_secs();
+    Ok(age_at(now, second))
+}
+
+// The age of what was written in a second: 0 where that is still to come.
+fn age_at(now: u64, written: u64) -> u64
+    ensures { result ≡ now - written }
+{
+    now.saturating_sub(written)
 }
 
 fn seconds_since_written<R: Files + Clock>(rt: &R, path: &str) -> io::Result<u64> {

@@ -57,7 +57,7 @@ impl<P: Scrapers> Watch<P> {
         }
     }
 
-    /// Tells the figures to the scrapers who wait for them, with how many seconds ago the list's file was written, if that can
+    /// Tells the figures to the scrapers who wait for them, with how many seconds ago the list was written, if that can
     /// be told. Where there is no memory for them they wait on.
     pub fn tell(&mut self, alloc: Global, cache: &CacheFigures, age: Option<u64>)
         ensures { self.new.run ≡ self.old.run }

@@ -6,7 +6,7 @@ ghost use Rattle.std.specs.Prelude.{◌≡◌, IfOk};
 
 use std::alloc::AllocGlobal;
 use std::fs;
-use std::io::{self, Read};
+use std::io::{self, ErrorKind, Read};
 use std::marker::Model;
 use std::rt::Files;
 
@@ -26,15 +26,26 @@ impl<F: Read> Model for FileAt<F> {
     ghost view = { λ opened. record { path = string_bytes opened.path; text = F.remaining opened.file } };
 }
 
-/// The file at the path.
+/// The file at the path. What is neither a file nor a folder isn't opened (`InvalidInput`): a pipe would wait for one who writes.
 pub fn open_at<R: Files + AllocGlobal>(rt: &R, path: &str) -> io::Result<FileAt<R::File>>
     ensures { IfOk result (λ opened. opened.path ≡ path.now) }
 {
+    if may_wait(rt, path) {
+        return Err(io::Error::from(ErrorKind::InvalidInput));
+    }
     let file = fs::open(rt, path)?;
     Ok(FileAt {
         path: String::from_str(rt.alloc(), path)?,
         file,
     })
+}
+
+// Whether a pipe, a socket or a device is at the path.
+fn may_wait<R: Files>(rt: &R, path: &str) -> bool {
+    match fs::metadata(rt, path) {
+        Ok(metadata) => !metadata.is_file() && !metadata.is_dir(),
+        Err(_) => false,
+    }
 }
 
 impl<F: Read> Read for FileAt<F> {

@@ -1,7 +1,7 @@
 //! When a list was written.
 use std::fmt::{self, Display, Formatter, Write};
 
-/// How many seconds ago a list's file was written, if that can be told.
+/// How many seconds ago a list was written, if that can be told.
 #[derive(Clone, Copy, Debug, PartialEq, Eq)]
 pub struct ListAge(pub Option<u64>);
 

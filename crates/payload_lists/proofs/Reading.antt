@@ -1,11 +1,19 @@
 -- Lists that are read piece by piece.
-use Rattle.std.proofs.Common.{◌≡◌, ◌∙◌, ◌++◌, ◌⊎◌, inl, inr, ℕ, Bool, true, false, if◌then◌else◌, List, [], ◌∷◌, Option, None, Some, Result, append_assoc, append-nil, refl, sym, ap, subst}
+use Rattle.std.proofs.Common.{◌≡◌, ◌∙◌, ◌++◌, ◌⊎◌, inl, inr, ℕ, Bool, true, false, if◌then◌else◌, List, [], ◌∷◌, Option, None, Some, Result, Ok, Err, append_assoc, append-nil, refl, sym, ap, subst}
 use Rattle.std.specs.Io.KnownBytes.{Consumes, IsAtEnd}
 use Rattle.std.specs.Result.{MatchResult}
 use Rattle.payload_lists.specs.Fronts.{IsFront, tells_format}
-use Rattle.payload_lists.specs.PayloadLists.{IsListIn, IsListOf, IsRefusedAs, IsRefusedIn}
+use Rattle.payload_lists.specs.PayloadLists.{IsListOf, IsListedIn, IsRefusedAs, IsRefusedIn}
 use Rattle.payload_lists.specs.declared.fault.PayloadListFault.{PayloadListFault}
+use Rattle.std.specs.Str.{IsUtf8}
+use Rattle.json.specs.Json.{Json as Value, document}
+use Rattle.payload_lists.specs.declared.list.Listed.{Listed}
+use Rattle.payload_lists.specs.declared.fault.PayloadListFault.TheVariants.{Json}
 use Rattle.vrp_csv.specs.declared.list.Loaded.{Loaded}
+use Rattle.vrp_json.specs.ExpiredEntries.{IsLoadAt}
+use Rattle.vrp_json.specs.WrittenTimes.{IsWritten}
+use Rattle.vrp_json.specs.declared.fault.JsonFault.TheVariants.{NoMemory}
+use Rattle.vrp_json.specs.declared.format.ListFormat.TheVariants.{Json as InJson}
 use Rattle.vrp_json.specs.ListFormats.{format_of, is_space, of_first}
 use Rattle.vrp_json.specs.declared.format.ListFormat.{ListFormat}
 
@@ -49,9 +57,19 @@ begins text front None is = absurd is.0
 begins text front (Some rest) (read, inl end) = (rest, refl, read, ap format_of (read ∙ ap (λ behind. front ++ behind) end ∙ append-nil front))
 begins text front (Some rest) (read, inr told) = (rest, refl, read, ap format_of read ∙ told_format front rest told)
 
-pub of_format : (second : Option ℕ) (text front now rest : List ℕ) (format : ListFormat) (result : Result Loaded PayloadListFault) → text ≡ front ++ rest → now ≡ front → format_of text ≡ format
-    → MatchResult result (IsListIn second format (now ++ rest)) (IsRefusedIn format (now ++ rest)) → MatchResult result (IsListOf second text) (IsRefusedAs text)
+pub of_format : (second : Option ℕ) (text front now rest : List ℕ) (format : ListFormat) (result : Result Listed PayloadListFault) → text ≡ front ++ rest → now ≡ front → format_of text ≡ format
+    → MatchResult result (IsListedIn second format (now ++ rest)) (IsRefusedIn format (now ++ rest)) → MatchResult result (IsListOf second text) (IsRefusedAs text)
 of_format second text front now rest format result whole same told read =
     let is : text ≡ now ++ rest = whole ∙ ap (λ f. f ++ rest) (sym same) in
     subst (λ (t : List ℕ). MatchResult result (IsListOf second t) (IsRefusedAs t)) (sym is)
-    (subst (λ (f : ListFormat). MatchResult result (IsListIn second f (now ++ rest)) (IsRefusedIn f (now ++ rest))) (sym (ap format_of (sym is) ∙ told)) read)
+    (subst (λ (f : ListFormat). MatchResult result (IsListedIn second f (now ++ rest)) (IsRefusedIn f (now ++ rest))) (sym (ap format_of (sym is) ∙ told)) read)
+
+-- the time that a text in JSON tells stands beside what it loads
+pub timed : (second : Option ℕ) (octets text : List ℕ) (loaded : Loaded) (result : Result Listed PayloadListFault) → octets ≡ text → IsLoadAt second octets loaded
+    → MatchResult result (λ listed. (listed.loaded ≡ loaded) × (IsUtf8 octets → (value : Value) → document octets ≡ Some value → IsWritten value listed.written)) (λ fault. fault ≡ Json NoMemory)
+    → MatchResult result (λ listed. IsListedIn second InJson text listed) (λ fault. IsRefusedIn InJson text fault)
+timed second octets text loaded (Ok listed) same (utf8, value, is, loads) (whole, tells) =
+    let load : IsLoadAt second octets loaded = (utf8, value, is, loads) in
+    subst (λ (o : List ℕ). IsListedIn second InJson o listed) same (subst (λ (l : Loaded). IsLoadAt second octets l) (sym whole) load, (value, is, tells utf8 value is))
+timed second octets text loaded (Err fault) same load is =
+    subst (λ (f : PayloadListFault). IsRefusedIn InJson text f) (sym is) (inl refl)

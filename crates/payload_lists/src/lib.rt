@@ -2,7 +2,7 @@
 //!
 //! `read_payloads` reads a list on to its first octet that is no white space of JSON, which tells the format
 //! (`vrp_json::format_of`), and then takes it as a list of that format is taken. Comma-separated values are read row by
-//! row; a list in JSON is read whole first.
+//! row; a list in JSON is read whole first, and may say when it was written.
 #![tactic(auto)]
 
 mod fault;
@@ -10,4 +10,4 @@ mod front;
 mod list;
 
 pub use fault::PayloadListFault;
-pub use list::read_payloads;
+pub use list::{Listed, read_payloads};

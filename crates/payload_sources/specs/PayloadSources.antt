@@ -2,9 +2,10 @@
 use Rattle.std.specs.Prelude.{◌≡◌, ◌⊎◌, ℕ, List, Option, None, Some, Ok, Err, option_map, ⊤}
 use Rattle.net_prefix.specs.PayloadSets.{IsPayloadSet}
 use Rattle.net_prefix.specs.declared.payload.Vrp.{Vrp}
-use Rattle.payload_lists.specs.PayloadLists.{IsListOf, IsRefusedAs}
+use Rattle.payload_lists.specs.PayloadLists.{IsListOf, IsRefusedAs, IsWrittenBy}
 use Rattle.payload_lists.specs.declared.fault.PayloadListFault.{PayloadListFault}
-use Rattle.vrp_csv.specs.declared.list.Loaded.{Loaded}
+use Rattle.payload_lists.specs.declared.list.Listed.{Listed}
+use Rattle.vrp_json.specs.declared.written.Written.{Written}
 use Rattle.local_exceptions.specs.ExceptionSets.{IsUnder}
 use Rattle.slurm_files.specs.SlurmDocument.{IsSlurm, Said}
 use Rattle.slurm_files.specs.declared.fault.SlurmFault.TheVariants.{NoMemory}
@@ -25,7 +26,7 @@ texts_of remaining list slurm second = record { list = remaining list; slurm = o
 abbrev pub IsSetOfText : Option ℕ → Option (List ℕ) → List Vrp → Type 0
 IsSetOfText second file set =
     (text : List ℕ) → file ≡ Some text
-    → (loaded : Loaded) × IsListOf second text loaded × (set ≡ loaded.set.keys)
+    → (listed : Listed) × IsListOf second text listed × (set ≡ listed.loaded.set.keys)
 
 -- the list of the text is refused so
 abbrev pub IsRefusedText : Option (List ℕ) → PayloadListFault → Type 0
@@ -47,6 +48,10 @@ pub record IsRead (sources : SourceTexts) (said : Option Said) (set : List Vrp) 
   pub listed : List Vrp
   pub of_list : IsSetOfText sources.second sources.list listed
   pub under : IsUnderFile sources.slurm said listed set
+
+-- the list says that it was written then
+abbrev pub SaysWritten : SourceTexts → Written → Type 0
+SaysWritten sources written = (text : List ℕ) → sources.list ≡ Some text → IsWrittenBy text written
 
 abbrev pub IsSetOf : SourceTexts → List Vrp → Type 0
 IsSetOf sources set = (said : Option Said) × IsRead sources said set

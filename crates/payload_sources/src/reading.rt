@@ -1,6 +1,6 @@
 //! The set of a list, under the exceptions of a SLURM file where there is one.
 ghost use Rattle.std.specs.Prelude.{◌≡◌, ℕ, List, MatchResult, Option, Some};
-ghost use Rattle.payload_sources.specs.PayloadSources.{IsRead, IsRefused, IsRefusedSlurm, IsSaidBy, IsUnderFile, texts_of};
+ghost use Rattle.payload_sources.specs.PayloadSources.{IsRead, IsRefused, IsRefusedSlurm, IsSaidBy, IsUnderFile, SaysWritten, texts_of};
 
 use crate::fault::SourceFault;
 use crate::opening::Sources;
@@ -10,6 +10,7 @@ use slurm_files::{SlurmFault, SlurmFile, read_slurm};
 use std::alloc::Global;
 use std::collections::BTreeSet;
 use std::io::{ErrorKind, Read};
+use vrp_json::Written;
 
 /// What was read.
 #[derive(Drop)]
@@ -18,6 +19,8 @@ pub struct SourceSet {
     pub set: BTreeSet<Vrp>,
     /// What the SLURM file says, where there is one.
     pub slurm: Option<SlurmFile>,
+    /// When the list says that it was written.
+    pub written: Written,
 }
 
 /// The set of the list, under the exceptions of the SLURM file where there is one, or the first fault: that of the list, if
@@ -26,21 +29,24 @@ pub fn read_sources<L: Read + Drop>(
     alloc: Global,
     sources: Sources<L>,
 ) -> Result<SourceSet, SourceFault>
-    ensures { MatchResult result (λ read. IsRead (texts_of L.remaining sources.list sources.slurm sources.second) read.slurm read.set.keys) (λ fault. IsRefused (texts_of L.remaining sources.list sources.slurm sources.second) fault) }
+    ensures { MatchResult result (λ read. IsRead (texts_of L.remaining sources.list sources.slurm sources.second) read.slurm read.set.keys × SaysWritten (texts_of L.remaining sources.list sources.slurm sources.second) read.written) (λ fault. IsRefused (texts_of L.remaining sources.list sources.slurm sources.second) fault) }
 {
-    let loaded = match read_payloads(alloc, sources.list, sources.second) {
-        Ok(loaded) => loaded,
+    let listed = match read_payloads(alloc, sources.list, sources.second) {
+        Ok(listed) => listed,
         Err(refused) => return Err(SourceFault::List(refused)),
     };
+    let written = listed.written;
     match sources.slurm {
         None => Ok(SourceSet {
-            set: loaded.set,
+            set: listed.loaded.set,
             slurm: None,
+            written,
         }),
-        Some(file) => match read_under(alloc, loaded.set, file) {
+        Some(file) => match read_under(alloc, listed.loaded.set, file) {
             Ok((set, said)) => Ok(SourceSet {
                 set,
                 slurm: Some(said),
+                written,
             }),
             Err(fault) => Err(fault),
         },

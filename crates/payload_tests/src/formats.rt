@@ -1,7 +1,7 @@
 //! Lists in either format, of a device that gives its octets one by one.
 
 use crate::lists::Failing;
-use payload_lists::{PayloadListFault, read_payloads};
+use payload_lists::{Listed, PayloadListFault, read_payloads};
 use std::alloc::Global;
 use std::io::Read;
 use vrp_csv::{CsvFault, RowFault};
@@ -15,7 +15,7 @@ const JSON: &[u8] =
 // How many rows a list has whose device ends behind these octets, and how many payloads.
 fn counts(alloc: Global, octets: &[u8]) -> Option<(u64, usize)> {
     let device = Failing { octets }.take(octets.len() as u64);
-    let loaded = read_payloads(alloc, device, None).ok()?;
+    let Listed { loaded, .. } = read_payloads(alloc, device, None).ok()?;
     Some((loaded.rows, loaded.set.len()))
 }
 

@@ -2,8 +2,8 @@
 //!
 //! The file `lists` names them, and `expired` those that are read at one second since 1970, one a line; empty lines and lines that begin with `#` are passed over. Each `NAME.in` has
 //! several lists, each behind a line `# case`; `NAME.out` has the answers to each. A list is read as JSON or as
-//! comma-separated values, by `format_of`. It answers how many rows there are and how many are skipped, and then each
-//! payload of its set, a line each; or why it is refused. Each name has a line on standard output, and a line
+//! comma-separated values, by `format_of`. It answers how many rows there are and how many are skipped, with the second
+//! at which it says that it was written, if it does, and then each payload of its set, a line each; or why it is refused. Each name has a line on standard output, and a line
 //! behind each of the two files counts them.
 //!
 //! Exit status 0 where all answer as told; 1 where one doesn't; 2 where a file can't be read or memory is wanting.
@@ -18,7 +18,7 @@ use std::io::{self, LineWriter, Write};
 use std::process::ExitCode;
 use std::rt::Files;
 use vrp_csv::Loaded;
-use vrp_json::{ListFormat, format_of};
+use vrp_json::{ListFormat, Written, format_of, read_written};
 
 /// The readers of payload lists, at a second since 1970 where what has expired is left out.
 #[derive(Drop)]
@@ -35,11 +35,11 @@ impl Player for Readers {
         let mut answer = Vec::new(self.alloc);
         match format_of(script) {
             ListFormat::Json => match vrp_json::read_list_at(self.alloc, script, self.second) {
-                Ok(loaded) => tell(&loaded, &mut answer)?,
+                Ok(loaded) => tell(&loaded, read_written(self.alloc, script)?, &mut answer)?,
                 Err(fault) => writeln!(answer, "refused: {fault}")?,
             },
             ListFormat::Csv => match vrp_csv::read_list_at(self.alloc, script, self.second) {
-                Ok(loaded) => tell(&loaded, &mut answer)?,
+                Ok(loaded) => tell(&loaded, Written::Untold, &mut answer)?,
                 Err(fault) => writeln!(answer, "refused: {fault}")?,
             },
         }
@@ -47,10 +47,15 @@ impl Player for Readers {
     }
 }
 
-// Tells what was loaded.
-fn tell<W: Write>(loaded: &Loaded, answer: &mut W) -> io::Result<()> {
+// Tells what was loaded, and when it was written, where it says so.
+fn tell<W: Write>(loaded: &Loaded, written: Written, answer: &mut W) -> io::Result<()> {
     let (rows, skipped) = (loaded.rows, loaded.skipped);
-    writeln!(answer, "rows {rows} skipped {skipped}")?;
+    write!(answer, "rows {rows} skipped {skipped}")?;
+    match written {
+        Written::Untold => writeln!(answer)?,
+        Written::At(second) => writeln!(answer, " written {second}")?,
+        Written::Unread => writeln!(answer, " written at no time")?,
+    }
     for payload in loaded.set.iter() {
         writeln!(answer, "{payload}")?;
     }

@@ -2,7 +2,7 @@ use Rattle.std.proofs.Common.{◌≡◌, ◌≤◌, ◌<◌, ◌==◌, ℕ, Bool
 use Rattle.rtr_codec.specs.declared.fault.PduFault.TheVariants.{Unanswered}
 use Rattle.rtr_codec.specs.declared.place.End.TheVariants.{Cache}
 use Rattle.rtr_codec.specs.declared.place.Place.{Place}
-use Rattle.rtr_cache.specs.CacheTable.{Shared, Conn, place_of, has_room, serial_answer, serial_query, reset_query, other_session_answer, unless_busy, hears_pdu, hears_item, hears, first_refused, hears_all, hears_from, hears_open, hears_octets}
+use Rattle.rtr_cache.specs.CacheTable.{Shared, Conn, place_of, has_room, serial_answer, serial_query, reset_query, other_session_answer, unless_busy, hears_pdu, hears_item, hears, first_refused, hears_all, hears_from, hears_open, hears_octets, offered}
 use Rattle.rtr_cache.specs.declared.other_session.OtherSession.{OtherSession}
 use Rattle.rtr_cache.specs.declared.other_session.OtherSession.TheVariants.{Report, Reset}
 use Rattle.rtr_codec.specs.PduSpelling.{Content, Serial_query, Reset_query, Cache_response}
@@ -63,9 +63,9 @@ pdu_rejoins :
     (shared : Shared) (refused : Bool) (conn : Conn) (here there octets : List ℕ) (content : Content)
     → hears_pdu shared refused (heard_open conn there) octets content ≡ rejoined there (hears_pdu shared refused (heard_open conn here) octets content)
 pdu_rejoins shared refused conn here there octets (Serial_query session serial) =
-    busy_rejoins conn.left there _ _ _ _ refl (serial_rejoins shared refused conn here there octets session serial shared.kept)
+    busy_rejoins conn.left there _ _ _ _ refl (serial_rejoins shared refused conn here there octets session serial (offered shared))
 pdu_rejoins shared refused conn here there octets Reset_query =
-    busy_rejoins conn.left there _ _ _ _ refl (reset_rejoins shared refused conn here there octets shared.kept)
+    busy_rejoins conn.left there _ _ _ _ refl (reset_rejoins shared refused conn here there octets (offered shared))
 pdu_rejoins shared refused conn here there octets content = refl
 
 item_rejoins :

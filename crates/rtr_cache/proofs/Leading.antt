@@ -8,8 +8,8 @@ use Rattle.rtr_codec.specs.PduSpelling.{Serial_query, Reset_query}
 use Rattle.rtr_codec.specs.PduStream.{Item, WholePdu, FaultyPdu, pdus_from}
 use Rattle.rtr_codec.proofs.ReadResponses.{response-gives}
 use Rattle.rtr_cache.specs.CacheState.{CacheState, client_at}
-use Rattle.rtr_cache.specs.CacheTable.{Conn, Shared, place_of}
-use Rattle.rtr_cache.specs.ClientHistory.{AnswersOctets, Call, CameUp, Heard, IsRun, IsToldBy, Loaded, Makes, Ticked, Took, Turn, WentDown}
+use Rattle.rtr_cache.specs.CacheTable.{Conn, Shared, offered, place_of}
+use Rattle.rtr_cache.specs.ClientHistory.{AnswersOctets, Call, CameUp, Heard, IsRun, IsToldBy, Loaded, Makes, Ticked, Took, Turn, WentDown, Withdrew}
 use Rattle.rtr_cache.specs.Telling.{AllLeadToVersions, Alone, AnswersItem, AnswersItems, AnswersReset, AnswersSerial, AreAside, IsNotified, Told, Whole}
 use Rattle.vrp_delta.specs.Versions.{Version, is_newest_set, kept_after, kept_versions, next_version, version_of}
 
@@ -40,8 +40,10 @@ sets_stay old new same sets = subst (λ (cache : CacheState). AreOfSets cache.sh
 
 sets-made : (old : CacheState) (call : Call) (new : CacheState) → AreOfSets old.shared.kept → Makes old call new → AreOfSets new.shared.kept
 sets-made old (Loaded set (Ok report)) new sets made =
-    sets_as (record old.shared { kept = kept_after old.shared.kept set }) new.shared made.0.0 (sets-kept_after old.shared.kept set sets made.2)
+    sets_as (record old.shared { kept = kept_after old.shared.kept set; withdrawn = false }) new.shared made.0.0 (sets-kept_after old.shared.kept set sets made.2)
 sets-made old (Loaded set (Err why)) new sets made = sets_stay old new made.1 sets
+sets-made old (Withdrew (Ok report)) new sets made = sets_stay (record old { shared = record old.shared { withdrawn = true } }) new made.0.0 sets
+sets-made old (Withdrew (Err why)) new sets made = sets_stay old new made.1 sets
 sets-made old (CameUp (Ok report)) new sets made = sets_as old.shared new.shared made.0.7 sets
 sets-made old (CameUp (Err why)) new sets made = sets_stay old new made.1 sets
 sets-made old (Heard key octets (Ok report)) new sets made = sets_as old.shared new.shared made.0.4 sets
@@ -95,9 +97,12 @@ leads-reset shared (newest ∷ older) now sets (inl aside) = leads-aside now asi
 leads-reset shared (newest ∷ older) now sets (inr whole) =
     leads_as now (Whole shared.session shared.intervals newest [] ∷ []) whole (response-gives shared.session shared.intervals newest [] empty_set sets.0, tt)
 
+sets-offered : (shared : Shared) → AreOfSets shared.kept → AreOfSets (offered shared)
+sets-offered shared sets = sets_if shared.withdrawn [] shared.kept tt sets
+
 leads-item : (shared : Shared) (item : Item) (now : List Told) → AreOfSets shared.kept → AnswersItem shared item now → AllLeadToVersions now
-leads-item shared (WholePdu (Serial_query session serial) octets) now sets answers = leads-serial shared serial shared.kept now sets answers
-leads-item shared (WholePdu Reset_query octets) now sets answers = leads-reset shared shared.kept now sets answers
+leads-item shared (WholePdu (Serial_query session serial) octets) now sets answers = leads-serial shared serial (offered shared) now (sets-offered shared sets) answers
+leads-item shared (WholePdu Reset_query octets) now sets answers = leads-reset shared (offered shared) now (sets-offered shared sets) answers
 leads-item shared (WholePdu content octets) now sets none = leads_as now [] none tt
 leads-item shared (FaultyPdu fault octets) now sets none = leads_as now [] none tt
 
@@ -117,7 +122,7 @@ leads-octets shared (Some conn) octets now sets answers = leads-items shared (pd
 
 leads-notified : (shared : Shared) (now : List Told) → IsNotified shared now → AllLeadToVersions now
 leads-notified shared now (inl none) = leads_as now [] none tt
-leads-notified shared now (inr one) = leads_as now _ one (tt, tt)
+leads-notified shared now (inr one) = leads_as now _ one.1 (tt, tt)
 
 leads-heard :
     (key : ℕ) (found : CacheState) (heard : ℕ) (octets : List ℕ) (now : List Told) → AreOfSets found.shared.kept
@@ -127,8 +132,9 @@ leads-heard key found heard octets now sets (inr other) = leads_as now [] other.
 
 -- by one call
 pub leads-call : (key : ℕ) (found : CacheState) (call : Call) (now : List Told) → AreOfSets found.shared.kept → IsToldBy key found call now → AllLeadToVersions now
-leads-call key found (Loaded set (Ok report)) now sets told = leads-notified (record found.shared { kept = kept_after found.shared.kept set }) now told
+leads-call key found (Loaded set (Ok report)) now sets told = leads-notified (record found.shared { kept = kept_after found.shared.kept set; withdrawn = false }) now told
 leads-call key found (Loaded set (Err why)) now sets none = leads_as now [] none tt
+leads-call key found (Withdrew result) now sets none = leads_as now [] none tt
 leads-call key found (CameUp result) now sets none = leads_as now [] none tt
 leads-call key found (Heard heard octets (Ok report)) now sets told = leads-heard key found heard octets now sets told
 leads-call key found (Heard heard octets (Err why)) now sets none = leads_as now [] none tt

@@ -11,3 +11,4 @@ pub mod SharedChanges
 pub mod Telling
 pub mod TellingHistories
 pub mod WholeVersions
+pub mod Withdrawals

@@ -1,5 +1,5 @@
 -- What a client is told is said whole, PDU by PDU.
-use Rattle.std.proofs.Common.{◌≡◌, ℕ, Bool, true, false, ◌==◌, ◌&&◌, if◌then◌else◌, List, [], ◌∷◌, ◌++◌, drop, take, Option, Some, None, ◌⊎◌, inl, inr, refl, ap, sym, subst, ◌∙◌, append_assoc, append-nil}
+use Rattle.std.proofs.Common.{◌≡◌, ℕ, Bool, true, false, not, ◌==◌, ◌&&◌, if◌then◌else◌, List, [], ◌∷◌, ◌++◌, drop, take, Option, Some, None, ◌⊎◌, inl, inr, refl, ap, sym, subst, ◌∙◌, append_assoc, append-nil}
 use Rattle.std.proofs.lemmas.Bool.{and_parts}
 use Rattle.std.proofs.lemmas.Grind.{flat_map-append}
 use Rattle.std.proofs.lemmas.List.{take-append-drop}
@@ -13,7 +13,7 @@ use Rattle.rtr_codec.specs.PduFaults.{number_of}
 use Rattle.rtr_codec.specs.PduSpelling.{Content, Serial_notify, Serial_query, Reset_query, Cache_response, Announce, Withdraw, Ipv6_prefix, End_of_data, Cache_reset, Router_key, Error_report, spelling}
 use Rattle.rtr_codec.specs.PduStream.{Item, WholePdu, FaultyPdu, pdus_from, unread_from}
 use Rattle.rtr_codec.specs.Responses.{response, spellings}
-use Rattle.rtr_cache.specs.CacheTable.{Conn, Shared, begins, closed, fails, first_refused, fresh_conn, hands_out, has_room, hears, hears_all, hears_fault, hears_item, hears_octets, hears_pdu, is_due, is_idle, is_news, notified, other_session_answer, place_of, pumped, queued, queues, quoted_of, reset_query, serial_answer, serial_query, unless_busy, wants_notify}
+use Rattle.rtr_cache.specs.CacheTable.{Conn, Shared, begins, closed, fails, first_refused, fresh_conn, hands_out, has_room, hears, hears_all, hears_fault, hears_item, hears_octets, hears_pdu, is_due, is_idle, is_news, notified, offered, other_session_answer, place_of, pumped, queued, queues, quoted_of, reset_query, serial_answer, serial_query, unless_busy, wants_notify}
 use Rattle.rtr_cache.specs.declared.other_session.OtherSession.{OtherSession}
 use Rattle.rtr_cache.specs.declared.other_session.OtherSession.TheVariants.{Report, Reset}
 use Rattle.rtr_cache.specs.HandedOut.{handing, nothing_handed}
@@ -271,8 +271,8 @@ no_reset shared (newest ∷ older) = inl aside_none
 
 -- nothing is told to no PDU
 nothing_to_pdu : (shared : Shared) (octets : List ℕ) (content : Content) → AnswersItem shared (WholePdu content octets) []
-nothing_to_pdu shared octets (Serial_query session serial) = no_serial shared serial shared.kept
-nothing_to_pdu shared octets Reset_query = no_reset shared shared.kept
+nothing_to_pdu shared octets (Serial_query session serial) = no_serial shared serial (offered shared)
+nothing_to_pdu shared octets Reset_query = no_reset shared (offered shared)
 nothing_to_pdu shared octets content = refl
 
 pub nothing_to : (shared : Shared) (item : Item) → AnswersItem shared item []
@@ -291,13 +291,13 @@ tells_pdu :
 tells_pdu shared refused gone told conn octets (Error_report code quoted) is_open h =
     tells_nothing (AnswersItem shared (WholePdu (Error_report code quoted) octets)) gone told (closed conn) refl (says_closed gone told conn h)
 tells_pdu shared refused gone told conn octets (Serial_query session serial) is_open h =
-    tells_unless_busy (AnswersSerial shared serial shared.kept) gone told conn.left _ _
+    tells_unless_busy (AnswersSerial shared serial (offered shared)) gone told conn.left _ _
     (fails_pdu shared gone told conn InvalidRequest octets (quoted_of octets) (Serial_query session serial) is_open h)
-    (λ idle. tells_serial shared refused gone told conn octets session serial shared.kept is_open idle h)
+    (λ idle. tells_serial shared refused gone told conn octets session serial (offered shared) is_open idle h)
 tells_pdu shared refused gone told conn octets Reset_query is_open h =
-    tells_unless_busy (AnswersReset shared shared.kept) gone told conn.left _ _
+    tells_unless_busy (AnswersReset shared (offered shared)) gone told conn.left _ _
     (fails_pdu shared gone told conn InvalidRequest octets (quoted_of octets) Reset_query is_open h)
-    (λ idle. tells_reset shared refused gone told conn octets shared.kept is_open idle h)
+    (λ idle. tells_reset shared refused gone told conn octets (offered shared) is_open idle h)
 tells_pdu shared refused gone told conn octets (Serial_notify session serial) is_open h = fails_pdu shared gone told conn InvalidRequest octets (quoted_of octets) (Serial_notify session serial) is_open h
 tells_pdu shared refused gone told conn octets (Cache_response session) is_open h = fails_pdu shared gone told conn InvalidRequest octets (quoted_of octets) (Cache_response session) is_open h
 tells_pdu shared refused gone told conn octets (Announce payload) is_open h = fails_pdu shared gone told conn InvalidRequest octets (quoted_of octets) (Announce payload) is_open h
@@ -368,18 +368,22 @@ tells_octets shared refused gone told conn octets h =
     record { now = heard.now; is_allowed = heard.is_allowed; says = says_pumped gone (told ++ heard.now) (hears_octets shared refused conn octets) heard.says }
 
 -- a Serial Notify
+not_true : (b : Bool) → not b ≡ true → b ≡ false
+not_true true h = absurd cc
+not_true false h = refl
+
 idle_is : (left : List Content) → is_idle left ≡ true → left ≡ []
 idle_is [] h = refl
 idle_is (content ∷ contents) h = absurd cc
 
 tells_notify_if :
-    (shared : Shared) (gone : List ℕ) (told : List Told) (conn : Conn) (b : Bool) → (b ≡ true → (conn.is_open ≡ true) × (conn.left ≡ [])) → SaysWhole gone told conn
+    (shared : Shared) (gone : List ℕ) (told : List Told) (conn : Conn) (b : Bool) → (b ≡ true → (conn.is_open ≡ true) × (conn.left ≡ []) × (shared.withdrawn ≡ false)) → SaysWhole gone told conn
     → Tells (IsNotified shared) gone told (if b then record (queued conn (Serial_notify shared.session (newest_serial shared.kept))) { notified = Some shared.now } else conn)
 tells_notify_if shared gone told conn true may h =
     let content = Serial_notify shared.session (newest_serial shared.kept) in
     record {
       now = Alone content ∷ [];
-      is_allowed = inr refl;
+      is_allowed = inr ((may refl).2, refl);
       says = same_says gone (told ++ Alone content ∷ []) (record conn { ring = conn.ring ++ spelling content }) (record (queued conn content) { notified = Some shared.now }) refl refl refl refl (queued_alone gone told conn content (may refl).0 (may refl).1 h);
     }
 tells_notify_if shared gone told conn false may h = tells_nothing (IsNotified shared) gone told conn (inl refl) h
@@ -388,8 +392,9 @@ pub tells_notify : (shared : Shared) (gone : List ℕ) (told : List Told) (conn 
 tells_notify shared gone told conn h =
     let heard = tells_notify_if shared gone told conn (wants_notify shared conn)
     (λ wants.
-    let first = and_parts conn.is_open (is_news shared.kept conn.told && (is_idle conn.left && (is_due shared.now conn.notified && has_room conn.ring))) wants in
-    let second = and_parts (is_news shared.kept conn.told) (is_idle conn.left && (is_due shared.now conn.notified && has_room conn.ring)) first.1 in
+    let first = and_parts conn.is_open (not shared.withdrawn && (is_news shared.kept conn.told && (is_idle conn.left && (is_due shared.now conn.notified && has_room conn.ring)))) wants in
+    let served = and_parts (not shared.withdrawn) (is_news shared.kept conn.told && (is_idle conn.left && (is_due shared.now conn.notified && has_room conn.ring))) first.1 in
+    let second = and_parts (is_news shared.kept conn.told) (is_idle conn.left && (is_due shared.now conn.notified && has_room conn.ring)) served.1 in
     let third = and_parts (is_idle conn.left) (is_due shared.now conn.notified && has_room conn.ring) second.1 in
-    (first.0, idle_is conn.left third.0)) h in
+    (first.0, idle_is conn.left third.0, not_true shared.withdrawn served.0)) h in
     record { now = heard.now; is_allowed = heard.is_allowed; says = says_pumped gone (told ++ heard.now) (notified shared conn) heard.says }

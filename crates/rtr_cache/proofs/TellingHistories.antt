@@ -8,7 +8,7 @@ use Rattle.net_prefix.specs.declared.payload.Vrp.{Vrp}
 use Rattle.rtr_codec.specs.declared.intervals.Intervals.{Intervals}
 use Rattle.rtr_cache.specs.CacheState.{CacheState, AllAreNotified, HandsOut, HearsOctets, client_at, empty_cache, held_serial}
 use Rattle.rtr_cache.specs.CacheTable.{Conn, Shared, fresh_conn, hands_out, hears_octets, notified, pumped}
-use Rattle.rtr_cache.specs.ClientHistory.{AnswersOctets, Call, CameUp, Heard, IsRun, IsToldBy, IsToldWhole, KeepsClient, Loaded, Makes, StaysUp, Ticked, Took, Turn, WentDown, handed_by, handed_out}
+use Rattle.rtr_cache.specs.ClientHistory.{AnswersOctets, Call, CameUp, Heard, IsRun, IsToldBy, IsToldWhole, KeepsClient, Loaded, Makes, StaysUp, Ticked, Took, Turn, WentDown, Withdrew, handed_by, handed_out}
 use Rattle.rtr_cache.specs.HandedOut.{Handed, serial_in}
 use Rattle.rtr_cache.specs.Telling.{IsNotified, SaysWhole, Told}
 use Rattle.rtr_cache.specs.declared.event.CacheReport.{CacheReport}
@@ -77,6 +77,14 @@ goes_ticked key found now (Ok report) gone told after conn there made h =
     (subst (λ (shared : Shared). Tells (IsNotified shared) gone told (pumped (notified after.shared conn))) made.0.1 (tells_notify after.shared gone told conn h))
 goes_ticked key found now (Err why) gone told after conn there made h =
     refused_stays key found (Ticked now (Err why)) gone told after conn there made.1 refl refl h
+
+goes_withdrawn :
+    (key : ℕ) (found : CacheState) (result : Result CacheReport CacheRefusal) (gone : List ℕ) (told : List Told) (after : CacheState) (conn : Conn)
+    → client_at found key ≡ Some conn → Makes found (Withdrew result) after → SaysWhole gone told conn → Goes key found (Withdrew result) gone told after
+goes_withdrawn key found (Ok report) gone told after conn there made h =
+    stays key found (Withdrew (Ok report)) gone told after conn there (ap (λ (cache : CacheState). client_at cache key) made.0.0) refl refl h
+goes_withdrawn key found (Err why) gone told after conn there made h =
+    refused_stays key found (Withdrew (Err why)) gone told after conn there made.1 refl refl h
 
 goes_up :
     (key : ℕ) (found : CacheState) (result : Result CacheReport CacheRefusal) (gone : List ℕ) (told : List Told) (after : CacheState) (conn : Conn)
@@ -164,6 +172,7 @@ goes :
     (key : ℕ) (found : CacheState) (call : Call) (gone : List ℕ) (told : List Told) (after : CacheState) (conn : Conn) → KeepsClient key call
     → client_at found key ≡ Some conn → Makes found call after → SaysWhole gone told conn → Goes key found call gone told after
 goes key found (Loaded set result) gone told after conn keeps there made h = goes_loaded key found set result gone told after conn there made h
+goes key found (Withdrew result) gone told after conn keeps there made h = goes_withdrawn key found result gone told after conn there made h
 goes key found (CameUp result) gone told after conn keeps there made h = goes_up key found result gone told after conn there made h
 goes key found (Heard heard octets result) gone told after conn keeps there made h = goes_heard key found heard octets result gone told after conn there made h
 goes key found (WentDown lost result) gone told after conn keeps there made h = goes_down key found lost result gone told after conn keeps there made h

@@ -34,7 +34,7 @@ OthersStay old key new = (other : ℕ) → other ≢ key → client_at new other
 -- a cache that has published nothing and has no clients, at the moment 0
 abbrev pub empty_cache : ℕ → Intervals → OtherSession → CacheState
 empty_cache session intervals other_session =
-    record { shared = record { session = session; intervals = intervals; other_session = other_session; kept = []; now = 0 }; clients = [] }
+    record { shared = record { session = session; intervals = intervals; other_session = other_session; kept = []; withdrawn = false; now = 0 }; clients = [] }
 
 -- a new cache: it is refused where its intervals aren't lawful, or by want of memory
 abbrev pub IsNew : ℕ → Intervals → OtherSession → Result CacheState CacheRefusal → Type 0
@@ -56,12 +56,17 @@ tells_serial serial = record { client = None; serial = Some serial }
 abbrev pub AllAreNotified : CacheState → CacheState → Type 0
 AllAreNotified old new = (key : ℕ) → client_at new key ≡ option_map (λ conn. pumped (notified new.shared conn)) (client_at old key)
 
--- a set is published, and each client notified; memory may be refused where the set is news
+-- a set is published, which no longer is withdrawn, and each client notified; memory may be refused where the set is news
 abbrev pub Loads : CacheState → List Vrp → Result CacheReport CacheRefusal → CacheState → Type 0
 Loads old set (Ok report) new =
-    (new.shared ≡ record old.shared { kept = kept_after old.shared.kept set })
+    (new.shared ≡ record old.shared { kept = kept_after old.shared.kept set; withdrawn = false })
     × AllAreNotified old new × (report ≡ tells_serial (newest_serial new.shared.kept))
 Loads old set (Err why) new = (why ≡ NoMemory) × (is_newest_set old.shared.kept set ≡ false)
+
+-- the set is withdrawn until one is loaded (our own): no client changes, and a response that has begun goes on; it is never refused
+abbrev pub Withdraws : CacheState → Result CacheReport CacheRefusal → CacheState → Type 0
+Withdraws old (Ok report) new = (new ≡ record old { shared = record old.shared { withdrawn = true } }) × (report ≡ tells_nothing)
+Withdraws old (Err why) new = ⊥
 
 -- a client comes up under a free key, which is below 256; where there are 256 clients none comes up
 abbrev pub ComesUp : CacheState → Result CacheReport CacheRefusal → CacheState → Type 0

@@ -3,7 +3,7 @@
 --   a fault: its Error Report, closed
 --   other than a query: error 3, closed
 --   a query while a response isn't wholly queued: error 3, closed
---   a query before the first load: error 2; the connection stays
+--   a query before the first load, or while the set is withdrawn (our own): error 2; the connection stays
 --   a Serial Query of another session: error 0, closed; where the cache was made so (our own), a Cache Reset
 --   a Serial Query, the serial is kept: a response, with what changed since
 --   a Serial Query, the serial isn't kept: a Cache Reset
@@ -26,13 +26,18 @@ use Rattle.rtr_cache.specs.declared.other_session.OtherSession.{OtherSession}
 use Rattle.rtr_cache.specs.declared.other_session.OtherSession.TheVariants.{Report, Reset}
 use Rattle.vrp_delta.specs.Versions.{Version, newest_serial, version_of}
 
--- what all connections of a cache share: its session, what each End of Data tells, what a Serial Query of another session is answered with, the kept versions with the newest first, and the moment
+-- what all connections of a cache share: its session, what each End of Data tells, what a Serial Query of another session is answered with, the kept versions with the newest first, whether the set is withdrawn, and the moment
 pub record Shared : Type 0 where
   pub session : ℕ
   pub intervals : Intervals
   pub other_session : OtherSession
   pub kept : List Version
+  pub withdrawn : Bool
   pub now : ℕ
+
+-- the versions by which queries are answered: none while the set is withdrawn (our own). They are kept: serials go on behind the next load
+abbrev pub offered : Shared → List Version
+offered shared = if shared.withdrawn then [] else shared.kept
 
 -- the cache's end of one connection
 pub record Conn : Type 0 where
@@ -87,14 +92,14 @@ abbrev pub other_session_answer : OtherSession → Conn → List ℕ → Conn
 other_session_answer Report conn octets = fails conn CorruptData (quoted_of octets)
 other_session_answer Reset conn octets = answers conn Cache_reset
 
--- a Serial Query before the first load: error 2; behind it by its session
+-- a Serial Query where no version is offered: error 2; else by its session
 abbrev pub serial_query : Shared → Bool → Conn → List ℕ → ℕ → ℕ → List Version → Conn
 serial_query shared refused conn octets session serial [] = answers conn (Error_report (number_of NoDataAvailable) (quoted_of octets))
 serial_query shared refused conn octets session serial (newest ∷ older) =
     if session == shared.session then serial_answer shared refused conn newest (version_of (newest ∷ older) serial)
     else other_session_answer shared.other_session conn octets
 
--- a Reset Query before the first load: error 2; behind it: a response, with all payloads
+-- a Reset Query where no version is offered: error 2; else a response, with all payloads
 abbrev pub reset_query : Shared → Bool → Conn → List ℕ → List Version → Conn
 reset_query shared refused conn octets [] = answers conn (Error_report (number_of NoDataAvailable) (quoted_of octets))
 reset_query shared refused conn octets (newest ∷ older) = begins refused conn (response shared.session shared.intervals newest [])
@@ -108,9 +113,9 @@ unless_busy (content ∷ contents) busy idle = busy
 abbrev pub hears_pdu : Shared → Bool → Conn → List ℕ → Content → Conn
 hears_pdu shared refused conn octets (Error_report code quoted) = closed conn
 hears_pdu shared refused conn octets (Serial_query session serial) =
-    unless_busy conn.left (fails conn InvalidRequest (quoted_of octets)) (serial_query shared refused conn octets session serial shared.kept)
+    unless_busy conn.left (fails conn InvalidRequest (quoted_of octets)) (serial_query shared refused conn octets session serial (offered shared))
 hears_pdu shared refused conn octets Reset_query =
-    unless_busy conn.left (fails conn InvalidRequest (quoted_of octets)) (reset_query shared refused conn octets shared.kept)
+    unless_busy conn.left (fails conn InvalidRequest (quoted_of octets)) (reset_query shared refused conn octets (offered shared))
 hears_pdu shared refused conn octets (Serial_notify session serial) = fails conn InvalidRequest (quoted_of octets)
 hears_pdu shared refused conn octets (Cache_response session) = fails conn InvalidRequest (quoted_of octets)
 hears_pdu shared refused conn octets (Announce payload) = fails conn InvalidRequest (quoted_of octets)
@@ -203,10 +208,10 @@ abbrev pub is_idle : List Content → Bool
 is_idle [] = true
 is_idle (content ∷ contents) = false
 
--- whether the client gets a Notify
+-- whether the client gets a Notify: none while the set is withdrawn
 abbrev pub wants_notify : Shared → Conn → Bool
 wants_notify shared conn =
-    conn.is_open && (is_news shared.kept conn.told && (is_idle conn.left && (is_due shared.now conn.notified && has_room conn.ring)))
+    conn.is_open && (not shared.withdrawn && (is_news shared.kept conn.told && (is_idle conn.left && (is_due shared.now conn.notified && has_room conn.ring))))
 
 -- at a Load and at a Tick: a Serial Notify, where the client is to get one
 abbrev pub notified : Shared → Conn → Conn

@@ -1,9 +1,9 @@
 -- The calls of a cache, one after another, and what of them one client sees.
-use Rattle.std.specs.Prelude.{◌≡◌, ◌≢◌, ◌⊎◌, ◌==◌, ℕ, if◌then◌else◌, List, [], ◌∷◌, ◌++◌, Option, Some, None, OnErr, Result, Ok, take}
+use Rattle.std.specs.Prelude.{◌≡◌, ◌≢◌, ◌⊎◌, ◌==◌, ℕ, false, if◌then◌else◌, List, [], ◌∷◌, ◌++◌, Option, Some, None, OnErr, Result, Ok, take}
 use Rattle.net_prefix.specs.PayloadSets.{IsPayloadSet}
 use Rattle.net_prefix.specs.declared.payload.Vrp.{Vrp}
 use Rattle.rtr_codec.specs.PduStream.{pdus_from}
-use Rattle.rtr_cache.specs.CacheState.{CacheState, ComesUp, GoesDown, HandsOut, HearsOctets, Loads, Ticks, client_at}
+use Rattle.rtr_cache.specs.CacheState.{CacheState, ComesUp, GoesDown, HandsOut, HearsOctets, Loads, Ticks, Withdraws, client_at}
 use Rattle.rtr_cache.specs.CacheTable.{Conn, Shared, place_of}
 use Rattle.rtr_cache.specs.Telling.{AllLeadToVersions, AnswersItems, IsNotified, SaysWhole, Told}
 use Rattle.rtr_cache.specs.declared.event.CacheEvent.{CacheEvent}
@@ -15,6 +15,7 @@ use Rattle.vrp_delta.specs.Versions.{kept_after}
 -- a call: what was asked of the cache, and what it answered
 pub data Call : Type 0 where
   Loaded : (set : List Vrp) (result : Result CacheReport CacheRefusal) → Call
+  Withdrew : (result : Result CacheReport CacheRefusal) → Call
   CameUp : (result : Result CacheReport CacheRefusal) → Call
   Heard : (key : ℕ) (octets : List ℕ) (result : Result CacheReport CacheRefusal) → Call
   WentDown : (key : ℕ) (result : Result CacheReport CacheRefusal) → Call
@@ -24,6 +25,7 @@ pub data Call : Type 0 where
 -- the call of an event
 abbrev pub call_of : {B : Type 0} → CacheEvent B → Result CacheReport CacheRefusal → Call
 call_of (event.Load set) result = Loaded set.now.keys result
+call_of event.Withdraw result = Withdrew result
 call_of event.Up result = CameUp result
 call_of (event.Bytes key octets) result = Heard key octets.now result
 call_of (event.Down key) result = WentDown key result
@@ -32,6 +34,7 @@ call_of (event.Tick now) result = Ticked now result
 -- what a call makes of a cache: a refused one makes nothing; the payloads of a set that is handed in rise
 abbrev pub Makes : CacheState → Call → CacheState → Type 0
 Makes old (Loaded set result) new = Loads old set result new × OnErr result (new ≡ old) × IsPayloadSet set
+Makes old (Withdrew result) new = Withdraws old result new × OnErr result (new ≡ old)
 Makes old (CameUp result) new = ComesUp old result new × OnErr result (new ≡ old)
 Makes old (Heard key octets result) new = HearsOctets old key octets result new × OnErr result (new ≡ old)
 Makes old (WentDown key result) new = GoesDown old key result new × OnErr result (new ≡ old)
@@ -68,7 +71,7 @@ AnswersOctets shared (Some conn) octets now = AnswersItems shared (pdus_from (pl
 
 -- what a call tells the client of the key. The cache is the one that the call finds; a set that is loaded is published in it
 abbrev pub IsToldBy : ℕ → CacheState → Call → List Told → Type 0
-IsToldBy key found (Loaded set (Ok report)) now = IsNotified (record found.shared { kept = kept_after found.shared.kept set }) now
+IsToldBy key found (Loaded set (Ok report)) now = IsNotified (record found.shared { kept = kept_after found.shared.kept set; withdrawn = false }) now
 IsToldBy key found (Ticked moment (Ok report)) now = IsNotified found.shared now
 IsToldBy key found (Heard heard octets (Ok report)) now =
     ((heard ≡ key) × AnswersOctets found.shared (client_at found key) octets now) ⊎ ((heard ≢ key) × (now ≡ []))

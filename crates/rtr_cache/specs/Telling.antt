@@ -6,7 +6,7 @@ use Rattle.rtr_codec.specs.declared.intervals.Intervals.{Intervals}
 use Rattle.rtr_codec.specs.PduSpelling.{Content, Serial_notify, Serial_query, Reset_query, Cache_reset, Error_report}
 use Rattle.rtr_codec.specs.PduStream.{Item, WholePdu, FaultyPdu}
 use Rattle.rtr_codec.specs.Responses.{changed_by, response, spellings}
-use Rattle.rtr_cache.specs.CacheTable.{Conn, Shared}
+use Rattle.rtr_cache.specs.CacheTable.{Conn, Shared, offered}
 use Rattle.rtr_cache.specs.HandedOut.{handing, nothing_handed}
 use Rattle.vrp_delta.specs.Versions.{Version, newest_serial, version_of}
 
@@ -45,7 +45,7 @@ IsAside content = ⊥
 abbrev pub AreAside : List Told → Type 0
 AreAside now = (now ≡ []) ⊎ ((content : Content) × IsAside content × (now ≡ Alone content ∷ []))
 
--- what answers a Serial Query, by the kept versions: a response with the newest of them, from the set of the query's serial; or none
+-- what answers a Serial Query, by the versions that are offered: a response with the newest of them, from the set of the query's serial; or none
 abbrev pub AnswersSerial : Shared → ℕ → List Version → List Told → Type 0
 AnswersSerial shared serial [] now = AreAside now
 AnswersSerial shared serial (newest ∷ older) now =
@@ -61,8 +61,8 @@ AnswersReset shared (newest ∷ older) now =
 
 -- what answers one PDU of the client, or its fault: a response answers a query alone
 abbrev pub AnswersItem : Shared → Item → List Told → Type 0
-AnswersItem shared (WholePdu (Serial_query session serial) octets) now = AnswersSerial shared serial shared.kept now
-AnswersItem shared (WholePdu Reset_query octets) now = AnswersReset shared shared.kept now
+AnswersItem shared (WholePdu (Serial_query session serial) octets) now = AnswersSerial shared serial (offered shared) now
+AnswersItem shared (WholePdu Reset_query octets) now = AnswersReset shared (offered shared) now
 AnswersItem shared (WholePdu content octets) now = now ≡ []
 AnswersItem shared (FaultyPdu fault octets) now = now ≡ []
 
@@ -72,9 +72,9 @@ AnswersItems shared [] now = now ≡ []
 AnswersItems shared (item ∷ items) now =
     (here later : List Told) × (now ≡ here ++ later) × AnswersItem shared item here × AnswersItems shared items later
 
--- a Serial Notify of the newest version, or nothing
+-- a Serial Notify of the newest version, unless the set is withdrawn, or nothing
 abbrev pub IsNotified : Shared → List Told → Type 0
-IsNotified shared now = (now ≡ []) ⊎ (now ≡ Alone (Serial_notify shared.session (newest_serial shared.kept)) ∷ [])
+IsNotified shared now = (now ≡ []) ⊎ ((shared.withdrawn ≡ false) × (now ≡ Alone (Serial_notify shared.session (newest_serial shared.kept)) ∷ []))
 
 -- nothing, or one Error Report
 abbrev pub IsLastWord : List Content → Type 0

@@ -4,7 +4,7 @@ ghost use Rattle.std.specs.Prelude.{◌≡◌, OnErr, length, slice_get};
 ghost use Rattle.std.specs.Option.{option_copied, option_map};
 ghost use Rattle.net_prefix.specs.PayloadSets.{IsPayloadSet};
 ghost use Rattle.rtr_cache.specs.CacheTable.{notified, pumped};
-ghost use Rattle.rtr_cache.specs.CacheState.{AllAreAtRest, AllAreNotified, ComesUp, GoesDown, HearsOctets, IsNew, Loads, OthersStay, Ticks, awaits_first_pdu, client_at, held_serial, transport_of};
+ghost use Rattle.rtr_cache.specs.CacheState.{AllAreAtRest, AllAreNotified, ComesUp, GoesDown, HearsOctets, IsNew, Loads, OthersStay, Ticks, Withdraws, awaits_first_pdu, client_at, held_serial, transport_of};
 ghost use Rattle.rtr_cache.specs.ClientHistory.{Makes, Took, call_of};
 ghost use Rattle.rtr_cache.specs.declared.other_session.OtherSession.TheVariants.{Report};
 
@@ -81,6 +81,7 @@ impl<A: Allocator + Clone> Cache<A> {
     {
         let result = match event {
             CacheEvent::Load(set) => self.load(set),
+            CacheEvent::Withdraw => self.withdraw(),
             CacheEvent::Up => self.come_up(),
             CacheEvent::Bytes(key, octets) => self.hear(key, octets),
             CacheEvent::Down(key) => self.go_down(key),
@@ -138,6 +139,13 @@ impl<A: Allocator + Clone> Cache<A> {
         self.publisher.newest()
     }
 
+    /// Whether the set is withdrawn, until one is loaded.
+    pub fn is_withdrawn(&self) -> bool
+        ensures { result ≡ self.now.shared.withdrawn }
+    {
+        self.publisher.is_withdrawn()
+    }
+
     fn load<B: Allocator>(&mut self, set: &BTreeSet<Vrp, B>) -> Result<CacheReport, CacheRefusal>
         ensures does { Loads self.old set.now.keys result self.new }
         ensures err { OnErr result (self.new ≡ self.old) }
@@ -146,6 +154,14 @@ impl<A: Allocator + Clone> Cache<A> {
         let serial = self.publisher.publish(set)?;
         self.notify_clients();
         Ok(CacheReport::of_serial(serial))
+    }
+
+    fn withdraw(&mut self) -> Result<CacheReport, CacheRefusal>
+        ensures does { Withdraws self.old result self.new }
+        ensures err { OnErr result (self.new ≡ self.old) }
+    {
+        self.publisher.withdraw();
+        Ok(CacheReport::NOTHING)
     }
 
     fn come_up(&mut self) -> Result<CacheReport, CacheRefusal>

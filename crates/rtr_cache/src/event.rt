@@ -10,6 +10,9 @@ use std::collections::BTreeSet;
 pub enum CacheEvent<'a, B: Allocator = Global> {
     /// The operator's set of payloads is this one from now on.
     Load(&'a BTreeSet<Vrp, B>),
+    /// The set of payloads is withdrawn: until one is loaded, be it the same, queries are answered as where there is none,
+    /// and nobody is notified. A response that has begun goes on.
+    Withdraw,
     /// A router has connected.
     Up,
     /// Octets of the client of this key.

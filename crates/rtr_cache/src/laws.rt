@@ -1,17 +1,23 @@
 //! The laws of the cache: of its table, of queueing, and of what a client is told over all calls (RFC 8210 sections 5
 //! to 8).
-ghost use Rattle.std.specs.Prelude.{◌≡◌, ◌≢◌, ◌<◌, ◌≤◌, ◌+◌, ◌++◌, Bool, List, [], None, Some, drop, false, if◌then◌else◌, length, true, ℕ};
+ghost use Rattle.std.specs.Prelude.{◌≡◌, ◌≢◌, ◌<◌, ◌≤◌, ◌+◌, ◌++◌, Bool, List, [], None, Ok, Result, Some, drop, false, if◌then◌else◌, length, true, ℕ};
 ghost use Rattle.rtr_cache.specs.CacheLimits.{ring_octets, room_for_pdu};
 ghost use Rattle.rtr_cache.specs.CacheState.{CacheState, client_at, empty_cache, held_serial};
-ghost use Rattle.rtr_cache.specs.CacheTable.{Conn, Shared, first_refused, fresh_conn, hears, hears_all, hears_from, pumped, queues};
-ghost use Rattle.rtr_cache.specs.ClientHistory.{IsRun, IsToldWhole, StaysUp, Turn, handed_out};
+ghost use Rattle.rtr_cache.specs.CacheTable.{Conn, Shared, answers, first_refused, fresh_conn, hears, hears_all, hears_from, hears_pdu, notified, pumped, queues, quoted_of};
+ghost use Rattle.rtr_cache.specs.ClientHistory.{IsRun, IsToldWhole, Loaded, Makes, StaysUp, Turn, Withdrew, handed_out};
 ghost use Rattle.rtr_cache.specs.HandedOut.{serial_in};
 ghost use Rattle.rtr_cache.specs.declared.other_session.OtherSession.{OtherSession};
-ghost use Rattle.rtr_codec.specs.PduSpelling.{Content};
+ghost use Rattle.net_prefix.specs.declared.payload.Vrp.{Vrp};
+ghost use Rattle.rtr_cache.specs.declared.event.CacheReport.{CacheReport};
+ghost use Rattle.rtr_cache.specs.declared.refusal.CacheRefusal.{CacheRefusal};
+ghost use Rattle.rtr_codec.specs.PduFaults.{number_of};
+ghost use Rattle.rtr_codec.specs.PduSpelling.{Content, Error_report, Reset_query, Serial_query};
+ghost use Rattle.rtr_codec.specs.declared.fault.ErrorCode.TheVariants.{NoDataAvailable};
 ghost use Rattle.rtr_codec.specs.PduStream.{Item, Wants, meaning, needed_of, place_after};
 ghost use Rattle.rtr_codec.specs.Responses.{are_short, spellings};
 ghost use Rattle.rtr_codec.specs.declared.intervals.Intervals.{Intervals};
 ghost use Rattle.rtr_codec.specs.declared.place.Place.{Place};
+ghost use Rattle.vrp_delta.specs.Versions.{kept_after};
 
 /// Over any calls of a cache from its beginning on: from a client's Up on, the octets that were handed out to it and
 /// those that wait are whole PDUs. Each response among them that is ended is that of one published version, the newest
@@ -24,6 +30,21 @@ pub fn clients_are_told_whole_versions()
 /// for the client since its Up.
 pub fn held_serials_are_handed_out()
     ensures { (session : ℕ) (intervals : Intervals) (other_session : OtherSession) (before : List Turn) (start end : CacheState) (key : ℕ) (history : List Turn) → IsRun (empty_cache session intervals other_session) before start → client_at start key ≡ Some fresh_conn → IsRun start history end → StaysUp key history → held_serial (client_at end key) ≡ serial_in (handed_out key history) }
+{}
+
+/// While the set is withdrawn a query is answered by error 2, after which the connection stays, and nobody is notified.
+pub fn withdrawn_sets_are_not_told()
+    ensures serial { (shared : Shared) (refused : Bool) (conn : Conn) (octets : List ℕ) (session serial : ℕ) → shared.withdrawn ≡ true → conn.left ≡ [] → hears_pdu shared refused conn octets (Serial_query session serial) ≡ answers conn (Error_report (number_of NoDataAvailable) (quoted_of octets)) }
+    ensures reset { (shared : Shared) (refused : Bool) (conn : Conn) (octets : List ℕ) → shared.withdrawn ≡ true → conn.left ≡ [] → hears_pdu shared refused conn octets Reset_query ≡ answers conn (Error_report (number_of NoDataAvailable) (quoted_of octets)) }
+    ensures notify { (shared : Shared) (conn : Conn) → shared.withdrawn ≡ true → notified shared conn ≡ conn }
+{}
+
+/// A set that is withdrawn changes no client, so a response goes on to its end, and takes no version away: a load behind it
+/// leaves the versions that it would have left, so serials go on where they were, and the set is no longer withdrawn, be it
+/// the same one.
+pub fn versions_outlast_a_withdrawal()
+    ensures clients { (old new : CacheState) (result : Result CacheReport CacheRefusal) → Makes old (Withdrew result) new → (key : ℕ) → client_at new key ≡ client_at old key }
+    ensures load { (old mid new : CacheState) (result : Result CacheReport CacheRefusal) (set : List Vrp) (report : CacheReport) → Makes old (Withdrew result) mid → Makes mid (Loaded set (Ok report)) new → new.shared ≡ record old.shared { kept = kept_after old.shared.kept set; withdrawn = false } }
 {}
 
 /// No more octets than are wanted are one row, where they complete a PDU or a fault, and none where they don't. What

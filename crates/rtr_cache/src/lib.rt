@@ -4,7 +4,7 @@
 //! What happens is handed in, one event a call, and what goes out is taken from each client's ring. A call makes of
 //! each client what the rows of the cache's table say, and at its end what a response has left is queued while the
 //! ring has room (`specs/CacheTable.antt`). A response belongs to the version that was the newest when
-//! its query was read, to its end. A load, a client that comes up and the beginning of a response take memory; where
+//! its query was read, to its end. While the set is withdrawn queries are answered as where there is none. A load, a client that comes up and the beginning of a response take memory; where
 //! it is refused a load and a new client change nothing, and of the rest only the client that asked is closed.
 #![tactic(auto)]
 
@@ -27,7 +27,8 @@ pub use event::{CacheEvent, CacheReport};
 pub use laws::{
     clients_are_told_whole_versions, closed_connection_hears_nothing, held_serials_are_handed_out,
     octets_are_heard_piece_by_piece, queueing_changes_no_more, queueing_keeps_what_is_said,
-    queueing_leaves_room, queueing_stops_at_a_full_ring,
+    queueing_leaves_room, queueing_stops_at_a_full_ring, versions_outlast_a_withdrawal,
+    withdrawn_sets_are_not_told,
 };
 pub use other_session::OtherSession;
 pub use refusal::CacheRefusal;

@@ -2,7 +2,7 @@
 ghost use Rattle.std.specs.Prelude.{◌≡◌, [], IfOk, IfSome, OnOk, OnErr, IsSome, Some, true, false, slice_get};
 ghost use Rattle.std.specs.Option.{option_copied};
 ghost use Rattle.net_prefix.specs.PayloadSets.{IsPayloadSet};
-ghost use Rattle.rtr_cache.specs.CacheTable.{Shared};
+ghost use Rattle.rtr_cache.specs.CacheTable.{Shared, offered};
 ghost use Rattle.rtr_codec.specs.PduSpelling.{Serial_notify, content_of};
 ghost use Rattle.rtr_cache.specs.Unsaid.{change_response, is_published, kept_response, whole_response};
 ghost use Rattle.vrp_delta.specs.Versions.{change_from, is_newest_set, kept_after, newest_serial, version_of};
@@ -17,8 +17,8 @@ use std::collections::BTreeSet;
 use std::marker::Model;
 use vrp_delta::{Delta, Snapshot, Versions};
 
-/// The session, what a Serial Query of another one is answered with, the versions that were published in it, and the
-/// moment.
+/// The session, what a Serial Query of another one is answered with, the versions that were published in it, whether the
+/// set is withdrawn, and the moment.
 #[derive(Drop)]
 pub struct Publisher<A: Allocator = Global> {
     alloc: A,
@@ -27,6 +27,7 @@ pub struct Publisher<A: Allocator = Global> {
     versions: Versions<A>,
     // What changed up to the newest version, since each serial that was asked about behind the last load.
     changes: Vec<SharedChange<A>, A>,
+    withdrawn: bool,
     moment: u64,
 }
 
@@ -37,7 +38,7 @@ impl<A: Allocator> Model for Publisher<A> {
 
     ghost Value = { Shared };
 
-    ghost view = { λ p. record { session = p.terms.session; intervals = p.terms.intervals; other_session = p.other_session; kept = p.versions; now = p.moment } };
+    ghost view = { λ p. record { session = p.terms.session; intervals = p.terms.intervals; other_session = p.other_session; kept = p.versions; withdrawn = p.withdrawn; now = p.moment } };
 
     ghost invariant = { λ p. AllByRecursion (LeadsToNewest p.versions) p.changes.items };
 }
@@ -45,7 +46,7 @@ impl<A: Allocator> Model for Publisher<A> {
 impl<A: Allocator + Clone> Publisher<A> {
     /// Nothing is published, and the moment is 0.
     pub fn new(alloc: A, terms: Terms, other_session: OtherSession) -> Result<Self, AllocError>
-        ensures { IfOk result (λ p. p ≡ record { session = terms.session; intervals = terms.intervals; other_session = other_session; kept = []; now = 0 }) }
+        ensures { IfOk result (λ p. p ≡ record { session = terms.session; intervals = terms.intervals; other_session = other_session; kept = []; withdrawn = false; now = 0 }) }
     {
         let versions = Versions::new(alloc.clone()?);
         let changes = Vec::new(alloc.clone()?);
@@ -55,6 +56,7 @@ impl<A: Allocator + Clone> Publisher<A> {
             other_session,
             versions,
             changes,
+            withdrawn: false,
             moment: 0,
         })
     }
@@ -64,9 +66,9 @@ impl<A: Allocator + Clone> Publisher<A> {
         self.alloc.clone()
     }
 
-    /// Publishes the set and answers its serial.
+    /// Publishes the set, which no longer is withdrawn, and answers its serial.
     pub fn publish<B: Allocator>(&mut self, set: &BTreeSet<Vrp, B>) -> Result<u32, AllocError>
-        ensures kept { OnOk result (self.new ≡ record self.old { kept = kept_after self.old.kept set.now.keys }) }
+        ensures kept { OnOk result (self.new ≡ record self.old { kept = kept_after self.old.kept set.now.keys; withdrawn = false }) }
         ensures serial { IfOk result (λ serial. serial ≡ newest_serial self.new.kept) }
         ensures err { OnErr result (self.new ≡ self.old) }
         ensures news { OnErr result (is_newest_set self.old.kept set.now.keys ≡ false) }
@@ -75,14 +77,30 @@ impl<A: Allocator + Clone> Publisher<A> {
         // The members of a set rise: any walk through them says so.
         let _members = set.iter();
         self.changes.clear();
-        self.versions.publish(set)
+        let serial = self.versions.publish(set)?;
+        self.withdrawn = false;
+        Ok(serial)
     }
 
-    /// Whether a set was published.
-    pub fn has_version(&self) -> bool
-        ensures { result ≡ is_published self.now.kept }
+    /// The set is withdrawn. What was published is kept.
+    pub fn withdraw(&mut self)
+        ensures { self.new ≡ record self.old { withdrawn = true } }
     {
-        self.versions.current().is_some()
+        self.withdrawn = true;
+    }
+
+    /// Whether the set is withdrawn.
+    pub fn is_withdrawn(&self) -> bool
+        ensures { result ≡ self.now.withdrawn }
+    {
+        self.withdrawn
+    }
+
+    /// Whether there is a version by which queries are answered: one was published, and isn't withdrawn.
+    pub fn offers_version(&self) -> bool
+        ensures { result ≡ is_published (offered self.now) }
+    {
+        !self.withdrawn && self.versions.current().is_some()
     }
 
     /// The newest version.

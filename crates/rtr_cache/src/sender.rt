@@ -195,7 +195,7 @@ impl<A: Allocator + Clone> Sender<A> {
         }
     }
 
-    /// There is no version yet. The connection stays where there is room for it.
+    /// There is no version to tell. The connection stays where there is room for it.
     pub fn answer_no_data(&mut self, octets: &[u8])
         ensures { behind_pdu self.new ≡ answers (behind_pdu self.old) (Error_report (number_of NoDataAvailable) (quoted_of octets.now)) }
     {
@@ -208,6 +208,7 @@ impl<A: Allocator + Clone> Sender<A> {
         ensures { result ≡ wants_notify publisher.now (behind_pdu self.now) }
     {
         self.is_open
+            && !publisher.is_withdrawn()
             && self.is_news(publisher.newest_serial())
             && self.response.is_none()
             && self.is_due(publisher.now())

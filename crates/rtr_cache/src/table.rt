@@ -43,9 +43,9 @@ impl<A: Allocator + Clone> Sender<A> {
             Pdu::ResetQuery if self.response.is_some() => {
                 self.fail(ErrorCode::InvalidRequest, octets);
             }
-            // A query before the first load: error 2; the connection stays.
-            Pdu::SerialQuery { .. } if !publisher.has_version() => self.answer_no_data(octets),
-            Pdu::ResetQuery if !publisher.has_version() => self.answer_no_data(octets),
+            // A query before the first load, or while the set is withdrawn: error 2; the connection stays.
+            Pdu::SerialQuery { .. } if !publisher.offers_version() => self.answer_no_data(octets),
+            Pdu::ResetQuery if !publisher.offers_version() => self.answer_no_data(octets),
             // A Serial Query of another session: error 0, closed; or a Cache Reset.
             Pdu::SerialQuery { session, .. } if *session != publisher.session() => {
                 self.answer_other_session(publisher.other_session(), octets);
@@ -71,7 +71,7 @@ impl<A: Allocator + Clone> Sender<A> {
         }
     }
 
-    // A Serial Query of another session, behind the first load.
+    // A Serial Query of another session, where a version is offered.
     fn answer_other_session(&mut self, other_session: OtherSession, octets: &[u8])
         requires { self.old.is_open ≡ true }
         ensures { behind_pdu self.new ≡ other_session_answer other_session (behind_pdu self.old) octets.now }
@@ -82,7 +82,7 @@ impl<A: Allocator + Clone> Sender<A> {
         }
     }
 
-    // A Serial Query of this session, behind the first load (RFC 8210 section 5.3).
+    // A Serial Query of this session, where a version is offered (RFC 8210 section 5.3).
     fn answer_serial(&mut self, publisher: &mut Publisher<A>, serial: u32)
         requires open { self.old.is_open ≡ true }
         requires loaded { is_published publisher.old.kept ≡ true }
@@ -99,7 +99,7 @@ impl<A: Allocator + Clone> Sender<A> {
         }
     }
 
-    // A Reset Query behind the first load (RFC 8210 section 5.4).
+    // A Reset Query, where a version is offered (RFC 8210 section 5.4).
     fn answer_reset(&mut self, publisher: &Publisher<A>)
         requires open { self.old.is_open ≡ true }
         requires loaded { is_published publisher.now.kept ≡ true }

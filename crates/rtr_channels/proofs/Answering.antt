@@ -8,7 +8,7 @@ use Rattle.std.specs.List.Sorted.{IsStrictlySortedBy}
 use Rattle.std.proofs.lemmas.List.{length-take}
 use Rattle.net_prefix.specs.declared.payload.Vrp.{Vrp}
 use Rattle.net_prefix.specs.PayloadSets.{IsPayloadSet, has}
-use Rattle.rtr_cache.specs.CacheTable.{Conn, Shared, answers, begins, closed, fails, has_room, hears_pdu, other_session_answer, quoted_of, reset_query, serial_answer, serial_query, unless_busy}
+use Rattle.rtr_cache.specs.CacheTable.{Conn, Shared, answers, begins, closed, fails, has_room, hears_pdu, offered, other_session_answer, quoted_of, reset_query, serial_answer, serial_query, unless_busy}
 use Rattle.rtr_cache.specs.declared.other_session.OtherSession.{OtherSession}
 use Rattle.rtr_cache.specs.declared.other_session.OtherSession.TheVariants.{Report, Reset}
 use Rattle.rtr_codec.specs.Intervals.{are_lawful}
@@ -273,12 +273,17 @@ idle_answers : (vs : List Publication) (s : List Vrp) (c d : Conn) (octets : Lis
 idle_answers vs s c d octets [] is h = h is
 idle_answers vs s c d octets (p ∷ ps) is h = fails_answers vs s c InvalidRequest octets
 
+-- those that are offered too
+kept_if : (vs : List Publication) (session : ℕ) (withdrawn : Bool) (kept : List Version) → AreKept vs session kept → AreKept vs session (cond withdrawn [] kept)
+kept_if vs session true kept is_kept = λ v h. absurd h
+kept_if vs session false kept is_kept = is_kept
+
 pub hears_serial : (vs : List Publication) (s : List Vrp) (shared : Shared) (c : Conn) (octets : List ℕ) (n k : ℕ) (refused : Bool)
     → IsSession shared.session shared.intervals → AreTellable vs → AreKept vs shared.session shared.kept → IsOnly vs n k s → Answers vs s c (hears_pdu shared refused c octets (Serial_query n k))
 hears_serial vs s shared c octets n k refused fits tell is_kept only =
-    idle_answers vs s c (serial_query shared refused c octets n k shared.kept) octets c.left refl (λ idle. serial_answers vs shared.kept s shared c octets n k refused fits tell is_kept only idle)
+    idle_answers vs s c (serial_query shared refused c octets n k (offered shared)) octets c.left refl (λ idle. serial_answers vs (offered shared) s shared c octets n k refused fits tell (kept_if vs shared.session shared.withdrawn shared.kept is_kept) only idle)
 
 pub hears_reset : (vs : List Publication) (shared : Shared) (c : Conn) (octets : List ℕ) (refused : Bool)
     → IsSession shared.session shared.intervals → AreTellable vs → AreKept vs shared.session shared.kept → Answers vs [] c (hears_pdu shared refused c octets Reset_query)
 hears_reset vs shared c octets refused fits tell is_kept =
-    idle_answers vs [] c (reset_query shared refused c octets shared.kept) octets c.left refl (λ idle. reset_answers vs shared.kept shared c octets refused fits tell is_kept idle)
+    idle_answers vs [] c (reset_query shared refused c octets (offered shared)) octets c.left refl (λ idle. reset_answers vs (offered shared) shared c octets refused fits tell (kept_if vs shared.session shared.withdrawn shared.kept is_kept) idle)

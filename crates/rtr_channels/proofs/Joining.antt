@@ -1,5 +1,5 @@
 -- The connection between a cache and a client: what is on the way, as octets, fits the client's stage, and each end keeps it so.
-use Rattle.std.proofs.Common.{◌≡◌, ◌≢◌, ◌≤◌, ℕ, List, [], ◌∷◌, ◌++◌, length, take, drop, Bool, true, false, ◌&&◌, cond, Option, Some, None, inl, inr, refl, ap, sym, subst, ◌∙◌, append_assoc, append-nil, arith}
+use Rattle.std.proofs.Common.{◌≡◌, ◌≢◌, ◌≤◌, ℕ, List, [], ◌∷◌, ◌++◌, length, take, drop, Bool, true, false, ◌&&◌, not, cond, Option, Some, None, inl, inr, refl, ap, sym, subst, ◌∙◌, append_assoc, append-nil, arith}
 use Rattle.std.proofs.lemmas.Bool.{and_parts}
 use Rattle.std.proofs.lemmas.List.{take-append-drop}
 use Rattle.net_prefix.specs.declared.payload.Vrp.{Vrp}
@@ -94,14 +94,14 @@ notified_case vs shared conn client up down true idle fits j =
       fits = subst (λ f. Fits vs client.base j.asked f client.stage) all (fits_append vs client.base j.asked (j.sent ++ conn.left) (notify ∷ []) client.stage j.fits (tt, tt));
     }
 
-wants_idle : (a b c d e : Bool) → (a && (b && (c && (d && e)))) ≡ true → c ≡ true
-wants_idle a b c d e h = (and_parts c (d && e) (and_parts b (c && (d && e)) (and_parts a (b && (c && (d && e))) h).1).1).0
+wants_idle : (a w b c d e : Bool) → (a && (w && (b && (c && (d && e))))) ≡ true → c ≡ true
+wants_idle a w b c d e h = (and_parts c (d && e) (and_parts b (c && (d && e)) (and_parts w (b && (c && (d && e))) (and_parts a (w && (b && (c && (d && e)))) h).1).1).1).0
 
 pub notified_joined : (vs : List Publication) (shared : Shared) (conn : Conn) (client : Client) (up down : List ℕ) → IsLawful (Serial_notify shared.session (newest_serial shared.kept))
     → JoinedTo vs conn client up down → JoinedTo vs (notified shared conn) client up down
 notified_joined vs shared conn client up down fits j =
     notified_case vs shared conn client up down (wants_notify shared conn)
-    (λ h. wants_idle conn.is_open (is_news shared.kept conn.told) (is_idle conn.left) (is_due shared.now conn.notified) (has_room conn.ring) h) fits j
+    (λ h. wants_idle conn.is_open (not shared.withdrawn) (is_news shared.kept conn.told) (is_idle conn.left) (is_due shared.now conn.notified) (has_room conn.ring) h) fits j
 
 -- ---- octets are handed out
 

@@ -24,6 +24,7 @@ use Rattle.rtr_channels.proofs.TwoEnds.{brought_none, contains, handed_none, lin
 can_load : (call : Call) → ((set : List Vrp) (report : CacheReport) → call ≡ calls.Loaded set (Ok report) → CanBeTold set) → LoadsPublishable call
 can_load (calls.Loaded set (Ok report)) can = can set report refl
 can_load (calls.Loaded set (Err why)) can = tt
+can_load (calls.Withdrew result) can = tt
 can_load (calls.CameUp result) can = tt
 can_load (calls.Heard key octets result) can = tt
 can_load (calls.WentDown key result) can = tt
@@ -41,6 +42,7 @@ link_same Gone call apart = refl
 link_same (Under key) (calls.WentDown lost (Ok report)) apart = kept_case lost key report (lost == key) refl (apart key report refl)
 link_same (Under key) (calls.WentDown lost (Err why)) apart = refl
 link_same (Under key) (calls.Loaded set result) apart = refl
+link_same (Under key) (calls.Withdrew result) apart = refl
 link_same (Under key) (calls.CameUp result) apart = refl
 link_same (Under key) (calls.Heard heard octets result) apart = refl
 link_same (Under key) (calls.Ticked now result) apart = refl
@@ -50,6 +52,7 @@ link_same (Under key) (calls.Took taken buf result out) apart = refl
 published_same : (w : TwoEnds) (call : Call) → ((set : List Vrp) (report : CacheReport) → call ≢ calls.Loaded set (Ok report)) → published_by w call ≡ w.published
 published_same w (calls.Loaded set (Ok report)) apart = absurd (apart set report refl)
 published_same w (calls.Loaded set (Err why)) apart = refl
+published_same w (calls.Withdrew result) apart = refl
 published_same w (calls.CameUp result) apart = refl
 published_same w (calls.Heard heard octets result) apart = refl
 published_same w (calls.WentDown lost result) apart = refl
@@ -97,6 +100,7 @@ others_brought (Under key) (calls.Heard heard octets (Ok report)) apart = brough
 others_brought (Under key) (calls.Heard heard octets (Err why)) apart = refl
 others_brought (Under key) (calls.WentDown lost result) apart = refl
 others_brought (Under key) (calls.Loaded set result) apart = refl
+others_brought (Under key) (calls.Withdrew result) apart = refl
 others_brought (Under key) (calls.CameUp result) apart = refl
 others_brought (Under key) (calls.Ticked now result) apart = refl
 others_brought (Under key) (calls.Took taken buf result out) apart = refl
@@ -113,6 +117,7 @@ others_handed (Under key) (calls.Took taken buf (Err why) out) apart = refl
 others_handed (Under key) (calls.Heard heard octets result) apart = refl
 others_handed (Under key) (calls.WentDown lost result) apart = refl
 others_handed (Under key) (calls.Loaded set result) apart = refl
+others_handed (Under key) (calls.Withdrew result) apart = refl
 others_handed (Under key) (calls.CameUp result) apart = refl
 others_handed (Under key) (calls.Ticked now result) apart = refl
 

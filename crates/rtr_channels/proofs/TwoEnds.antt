@@ -270,6 +270,9 @@ refused_same vs old new key client up rest down same is j = apart vs old new key
 called_joined : (vs : List Publication) (old new : CacheState) (key : ℕ) (call : Call) (client : Client) (up rest down : List ℕ) → IsTold vs old.shared → IsBase vs client.base → Makes old call new → IsNoLoad call → KeepsKey key call
     → up ≡ brought_by key call ++ rest → JoinedAt vs old key client up down → JoinedAt vs new key client rest (down ++ handed_by key call)
 called_joined vs old new key (calls.Loaded set result) client up rest down told base m free keeps is j = absurd free
+called_joined vs old new key (calls.Withdrew (Ok report)) client up rest down told base m free keeps is j =
+    apart vs old new key client up rest down is (ap (λ (c : CacheState). client_at c key) m.0.0) j
+called_joined vs old new key (calls.Withdrew (Err why)) client up rest down told base m free keeps is j = refused_same vs old new key client up rest down m.1 is j
 called_joined vs old new key (calls.CameUp (Ok report)) client up rest down told base m free keeps is j =
     apart vs old new key client up rest down is (m.0.6 key (λ e. some_none j.0 (sym j.1 ∙ ap (λ k. client_at old k) e ∙ m.0.4))) j
 called_joined vs old new key (calls.CameUp (Err why)) client up rest down told base m free keeps is j = refused_same vs old new key client up rest down m.1 is j
@@ -290,9 +293,14 @@ told_same vs a b e t = subst (IsTold vs) (sym e) t
 told_later : (vs : List Publication) (a : Shared) (now : ℕ) → IsTold vs a → IsTold vs (record a { now = now })
 told_later vs a now t = record { session = t.session; tellable = t.tellable; kept = t.kept; numbered = t.numbered; counted = t.counted; unique = t.unique }
 
+told_marked : (vs : List Publication) (a : Shared) (withdrawn : Bool) → IsTold vs a → IsTold vs (record a { withdrawn = withdrawn })
+told_marked vs a withdrawn t = record { session = t.session; tellable = t.tellable; kept = t.kept; numbered = t.numbered; counted = t.counted; unique = t.unique }
+
 -- what a call other than a load leaves of what all clients share
 called_told : (vs : List Publication) (old new : CacheState) (call : Call) → IsNoLoad call → Makes old call new → IsTold vs old.shared → IsTold vs new.shared
 called_told vs old new (calls.Loaded set result) free m t = absurd free
+called_told vs old new (calls.Withdrew (Ok report)) free m t = told_same vs (record old.shared { withdrawn = true }) new.shared (ap (λ (c : CacheState). c.shared) m.0.0) (told_marked vs old.shared true t)
+called_told vs old new (calls.Withdrew (Err why)) free m t = told_same vs old.shared new.shared (ap (λ (c : CacheState). c.shared) m.1) t
 called_told vs old new (calls.CameUp (Ok report)) free m t = told_same vs old.shared new.shared m.0.7 t
 called_told vs old new (calls.CameUp (Err why)) free m t = told_same vs old.shared new.shared (ap (λ (c : CacheState). c.shared) m.1) t
 called_told vs old new (calls.Heard heard octets (Ok report)) free m t = told_same vs old.shared new.shared m.0.4 t
@@ -311,6 +319,7 @@ loss_linked vs old new key call false at client up rest down told base m free is
 loss_linked vs old new key (calls.WentDown lost (Ok report)) true at client up rest down told base m free is j = left_behind vs j.0 client up rest down is j.2
 loss_linked vs old new key (calls.WentDown lost (Err why)) true at client up rest down told base m free is j = cc
 loss_linked vs old new key (calls.Loaded set result) true at client up rest down told base m free is j = cc
+loss_linked vs old new key (calls.Withdrew result) true at client up rest down told base m free is j = cc
 loss_linked vs old new key (calls.CameUp result) true at client up rest down told base m free is j = cc
 loss_linked vs old new key (calls.Heard heard octets result) true at client up rest down told base m free is j = cc
 loss_linked vs old new key (calls.Ticked now result) true at client up rest down told base m free is j = cc
@@ -381,7 +390,7 @@ loaded old set report cache rest few can m brings h =
     let shared = old.cache.shared in
     let t = is_newest_set shared.kept set in
     let vs = published_after shared set old.published in
-    let told : IsTold vs cache.shared = subst (IsTold vs) (sym m.0.0) (load_case old.published shared set t can few h.told) in
+    let told : IsTold vs cache.shared = subst (IsTold vs) (sym m.0.0) (told_marked vs _ false (load_case old.published shared set t can few h.told)) in
     record {
       told = told;
       base = base_after old.published (publication shared set) old.client.base t h.base;
@@ -407,6 +416,7 @@ load_refused old set why cache rest m brings h = record {
 call_holds : (old : TwoEnds) (call : Call) (cache : CacheState) (rest : List ℕ) → AreFew (published_by old call) → LoadsPublishable call → Makes old.cache call cache → old.up ≡ brought old.link call ++ rest → Holds old → Holds (called old call cache rest)
 call_holds old (calls.Loaded set (Ok report)) cache rest few can m brings h = loaded old set report cache rest few can m brings h
 call_holds old (calls.Loaded set (Err why)) cache rest few can m brings h = load_refused old set why cache rest m brings h
+call_holds old (calls.Withdrew result) cache rest few can m brings h = unloaded old (calls.Withdrew result) cache rest tt refl m brings h
 call_holds old (calls.CameUp result) cache rest few can m brings h = unloaded old (calls.CameUp result) cache rest tt refl m brings h
 call_holds old (calls.Heard key octets result) cache rest few can m brings h = unloaded old (calls.Heard key octets result) cache rest tt refl m brings h
 call_holds old (calls.WentDown key result) cache rest few can m brings h = unloaded old (calls.WentDown key result) cache rest tt refl m brings h
@@ -545,6 +555,7 @@ few_load one vs false h = few_tail one vs h
 few_called : (old : TwoEnds) (call : Call) → AreFew (published_by old call) → AreFew old.published
 few_called old (calls.Loaded set (Ok report)) h = few_load (publication old.cache.shared set) old.published (is_newest_set old.cache.shared.kept set) h
 few_called old (calls.Loaded set (Err why)) h = h
+few_called old (calls.Withdrew result) h = h
 few_called old (calls.CameUp result) h = h
 few_called old (calls.Heard key octets result) h = h
 few_called old (calls.WentDown key result) h = h

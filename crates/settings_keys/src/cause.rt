@@ -25,6 +25,8 @@ pub enum Wanted {
     Session,
     #[error("neither 'report' nor 'reset'")]
     OtherSession,
+    #[error("neither 'serve' nor 'withdraw'")]
+    Stale,
     #[error("neither true nor false")]
     YesOrNo,
     #[error("no IPv4 address other than 0.0.0.0")]

@@ -20,10 +20,15 @@ abbrev pub extended_names : List (List ℕ)
 extended_names =
     codes "URI" ∷ codes "ASN" ∷ codes "IP Prefix" ∷ codes "Max Length" ∷ codes "Not Before" ∷ codes "Not After" ∷ []
 
+-- the names of the fields of a row without a trust anchor (fort)
+abbrev pub short_names : List (List ℕ)
+short_names = codes "ASN" ∷ codes "Prefix" ∷ codes "Max prefix length" ∷ []
+
 -- the first record of a list
 abbrev pub IsHeader : List (List ℕ) → Type 0
 IsHeader fields =
     (fields ≡ payload_names) ⊎ (fields ≡ payload_names ++ codes "Expires" ∷ []) ⊎ (fields ≡ extended_names)
+    ⊎ (fields ≡ short_names)
 
 -- the first four fields are those of a payload
 abbrev pub NamesPayloads : List (List ℕ) → Type 0
@@ -31,7 +36,13 @@ NamesPayloads fields =
     (field_at fields 0 ≡ Some (codes "ASN")) × (field_at fields 1 ≡ Some (codes "IP Prefix"))
     × (field_at fields 2 ≡ Some (codes "Max Length")) × (field_at fields 3 ≡ Some (codes "Trust Anchor"))
 
--- the six fields are those of such a row
+-- the three fields are those of a row without a trust anchor
+abbrev pub NamesShort : List (List ℕ) → Type 0
+NamesShort fields =
+    (field_at fields 0 ≡ Some (codes "ASN")) × (field_at fields 1 ≡ Some (codes "Prefix"))
+    × (field_at fields 2 ≡ Some (codes "Max prefix length"))
+
+-- the six fields are those of a row that tells its object's place and time
 abbrev pub NamesExtended : List (List ℕ) → Type 0
 NamesExtended fields =
     (field_at fields 0 ≡ Some (codes "URI")) × (field_at fields 1 ≡ Some (codes "ASN"))

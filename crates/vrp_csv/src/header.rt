@@ -1,30 +1,33 @@
 //! The first record of a payload list.
 ghost use Rattle.std.specs.Prelude.{◌≡◌, ◌↔◌, IsTrue, MatchOption, Some, length};
 ghost use Rattle.csv.specs.Records.{field_at, fields_of};
-ghost use Rattle.vrp_csv.specs.PayloadRows.{IsHeader, NamesExtended, NamesPayloads};
+ghost use Rattle.vrp_csv.specs.PayloadRows.{IsHeader, NamesExtended, NamesPayloads, NamesShort};
 
 use csv::ByteRecord;
 
 /// How many fields each row has under this header, where these fields are one.
-#[tactic(auto, using(crate::proofs::Headers::four, crate::proofs::Headers::five, crate::proofs::Headers::six, crate::proofs::Headers::kind_from_header))]
+#[tactic(auto, using(crate::proofs::Headers::three, crate::proofs::Headers::four, crate::proofs::Headers::five, crate::proofs::Headers::six, crate::proofs::Headers::kind_from_header))]
 pub(crate) fn header_width(fields: &ByteRecord) -> Option<usize>
     ensures { MatchOption result (¬ (IsHeader (fields_of fields.now))) (λ width. IsHeader (fields_of fields.now) × (width ≡ length (fields_of fields.now))) }
 {
     let width = fields.len();
-    if width == 6 {
-        return if names_extended(fields) {
-            Some(width)
-        } else {
-            None
-        };
-    }
-    if !names_payloads(fields) {
-        return None;
-    }
-    if width == 4 || width == 5 && is_field(fields, 4, b"Expires") {
-        return Some(width);
-    }
-    None
+    let is_header = match width {
+        3 => names_short(fields),
+        4 => names_payloads(fields),
+        5 => names_payloads(fields) && is_field(fields, 4, b"Expires"),
+        6 => names_extended(fields),
+        _ => false,
+    };
+    if is_header { Some(width) } else { None }
+}
+
+// Whether the first three fields are those of a payload in a list without trust anchors.
+fn names_short(fields: &ByteRecord) -> bool
+    ensures { IsTrue result ↔ NamesShort (fields_of fields.now) }
+{
+    is_field(fields, 0, b"ASN")
+        && is_field(fields, 1, b"Prefix")
+        && is_field(fields, 2, b"Max prefix length")
 }
 
 // Whether the first four fields are those of a payload.

@@ -15,4 +15,4 @@ mod row;
 pub use fault::{CsvFault, RowFault};
 pub use list::{Loaded, read_list, read_list_at};
 pub use meaning::records_mean_one_thing;
-pub use row::{is_over, read_asn, read_number};
+pub use row::{is_over, read_asn, read_number, read_second};

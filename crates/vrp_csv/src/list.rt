@@ -63,7 +63,7 @@ pub fn read_list_at<R: Read + Drop>(
 fn read_header<R: Read>(reader: &mut Reader<R>, fields: &mut ByteRecord) -> Result<usize, RowFault>
     requires { IsPlain reader.old }
     ensures plain { OnOk result (IsPlain reader.new) }
-    ensures wide { IfOk result (λ width. 4 ≤ width) }
+    ensures wide { IfOk result (λ width. 3 ≤ width) }
     ensures header { (rows : List (List (List ℕ))) → records_left R.remaining reader.old ≡ Some rows → MatchResult result (λ width. (header : List (List ℕ)) × (rest : List (List (List ℕ))) × (rows ≡ header ∷ rest) × IsHeader header × (width ≡ length header) × (records_left R.remaining reader.new ≡ Some rest)) (λ fault. IsStop fault ⊎ ((fault ≡ RowFault.Header) × HasNoHeader rows)) }
 {
     if !next_record(reader, fields)? {
@@ -83,7 +83,7 @@ fn read_rows<R: Read>(
     width: usize,
     second: Option<u64>,
 ) -> Result<Loaded, CsvFault>
-    requires width { 4 ≤ width }
+    requires width { 3 ≤ width }
     requires plain { IsPlain reader.old }
     ensures { (rows : List (List (List ℕ))) → records_left R.remaining reader.old ≡ Some rows → MatchResult result (λ loaded. IsLoadOfAt second width rows loaded) (λ refused. (count : ℕ) × IsRefusedBehind width rows refused.fault count × (refused.row ≡ count + 1)) }
 {
@@ -119,7 +119,7 @@ impl Loaded {
         width: usize,
         second: Option<u64>,
     ) -> Result<(), RowFault>
-        requires width { 4 ≤ width }
+        requires width { 3 ≤ width }
         requires room { self.old.rows + 1 < 2 ^ 64 }
         requires skipped { self.old.skipped ≤ self.old.rows }
         ensures ok { OnOk result ((answer : Option Vrp) × IsRowAt second width (fields_of fields.now) answer × TakesIn answer self.old self.new) }

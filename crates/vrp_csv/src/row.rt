@@ -31,7 +31,7 @@ pub(crate) fn read_row_at(
     width: usize,
     second: Option<u64>,
 ) -> Result<Option<Vrp>, RowFault>
-    requires { 4 ≤ width }
+    requires { 3 ≤ width }
     ensures { MatchResult result (λ answer. IsRowAt second width (fields_of fields.now) answer) (λ fault. IsRow width (fields_of fields.now) (Err fault)) }
 {
     let said = read_row(fields, width)?;
@@ -67,8 +67,8 @@ pub fn is_over(text: &[u8], second: u64) -> bool
     }
 }
 
-// The second that the text writes.
-fn read_second(text: &[u8]) -> Option<u64>
+/// The second since 1970 that the text writes, in up to 20 digits.
+pub fn read_second(text: &[u8]) -> Option<u64>
     ensures { MatchOption result ((number : ℕ) → number < 2 ^ 64 → ¬ (WritesNumber 20 text.now number)) (λ number. WritesNumber 20 text.now number) }
 {
     // `parse` passes over a plus.
@@ -87,7 +87,7 @@ fn read_second(text: &[u8]) -> Option<u64>
 /// What a row under a header of this width says: its payload, or none where it is skipped. The first fault of:
 /// another number of fields; the AS; the prefix; the maximum length. A skipped row's maximum length isn't looked at.
 pub(crate) fn read_row(fields: &ByteRecord, width: usize) -> Result<Option<Vrp>, RowFault>
-    requires { 4 ≤ width }
+    requires { 3 ≤ width }
     ensures { IsRow width (fields_of fields.now) result }
 {
     let Some((asn, prefix, max_len)) = first_fields(fields, width) else {
@@ -114,7 +114,7 @@ pub(crate) fn read_row(fields: &ByteRecord, width: usize) -> Result<Option<Vrp>,
 // The AS, the prefix and the maximum length of a row of so many fields.
 #[tactic(auto, using(crate::proofs::Rows::no_field))]
 fn first_fields(fields: &ByteRecord, width: usize) -> Option<(&[u8], &[u8], &[u8])>
-    requires { 4 ≤ width }
+    requires { 3 ≤ width }
     ensures { MatchOption result (length (fields_of fields.now) ≢ width) (λ first. (length (fields_of fields.now) ≡ width) × (first.0.now ≡ field_of (fields_of fields.now) (front_of width)) × (first.1.now ≡ field_of (fields_of fields.now) (front_of width + 1)) × (first.2.now ≡ field_of (fields_of fields.now) (front_of width + 2))) }
 {
     if fields.len() != width {

@@ -3,3 +3,4 @@ mod Entries
 mod Meanings
 mod ReadEntries
 mod Steps
+mod WrittenTold

@@ -1,14 +1,14 @@
 -- The steps of a reader through a list, over the grammar of `json`.
-use Rattle.std.proofs.Common.{◌≡◌, ◌<◌, ◌∙◌, ◌-◌, ℕ, zero, suc, true, false, List, [], ◌∷◌, length, codes, if◌then◌else◌, Option, None, Some, option_and_then, option_map, inl, inr, refl, sym, ap, arith}
+use Rattle.std.proofs.Common.{◌≡◌, ◌<◌, ◌∙◌, ◌-◌, ℕ, zero, suc, true, false, List, [], ◌∷◌, length, if◌then◌else◌, Option, None, Some, option_and_then, option_map, inl, inr, refl, sym, ap, arith}
 use Rattle.std.specs.Str.{bytes_eq}
 use Rattle.json.specs.Json.{Json, null, boolean, number, string, array, object, Items, no_items, item, Members, no_members, member, after_end_array, document, if_last, items, items_step, members, members_step, parse_map, read_key, skip_value, value}
 use Rattle.json.specs.Lex.{tokens}
 use Rattle.json.specs.Token.{Token}
 use Rattle.json.proofs.Found.{Some_inj, not_found}
 use Rattle.json.proofs.Grammar.{value-begin_array, value-begin_object, value_is}
-use Rattle.vrp_json.specs.PayloadDocument.{first_roas, is_array}
+use Rattle.vrp_json.specs.PayloadDocument.{first_named, is_array}
 use Rattle.vrp_json.specs.PayloadEntries.{is_object}
-use Rattle.vrp_json.specs.Places.{FindsRoas, IsAtItems, IsAtMemberValue, IsAtMembers, IsAtValue, NoNameComes, opens_array, opens_object}
+use Rattle.vrp_json.specs.Places.{FindsMember, IsAtItems, IsAtMemberValue, IsAtMembers, IsAtValue, NoNameComes, opens_array, opens_object}
 
 last : (o : Option (Json × List Token)) (j : Json) → option_and_then (λ p. if_last p.0 p.1) o ≡ Some j → o ≡ Some (j, [])
 last None j e = not_found j e
@@ -96,33 +96,33 @@ no_fault ms ts (suc n, after, e) key =
 
 -- ---- the member that is looked for
 
--- of these members the first that is named roas is the first of those
-abbrev pub IsPast : Members → List Token → Type 0
-IsPast ms ts = (rest : Members) × (first_roas ms ≡ first_roas rest) × IsAtMembers rest ts
+-- of these members the first of a name is the first of those
+abbrev pub IsPast : List ℕ → Members → List Token → Type 0
+IsPast wanted ms ts = (rest : Members) × (first_named wanted ms ≡ first_named wanted rest) × IsAtMembers rest ts
 
 -- a member of another name was passed over
-pub pass_other : (ms : Members) (ts s t : List Token) (name : List ℕ) → IsPast ms ts → read_key ts ≡ Some (Some name, s) → bytes_eq name (codes "roas") ≡ false → skip_value 127 s ≡ Some t → IsPast ms t
-pass_other ms ts s t name (rest, same, at) key other skip =
+pub pass_other : (wanted : List ℕ) (ms : Members) (ts s t : List Token) (name : List ℕ) → IsPast wanted ms ts → read_key ts ≡ Some (Some name, s) → bytes_eq name wanted ≡ false → skip_value 127 s ≡ Some t → IsPast wanted ms t
+pass_other wanted ms ts s t name (rest, same, at) key other skip =
     let (j, behind, whole, (after, is, there)) = next_member rest ts s name at key in
     let here : t ≡ after = Some_inj t after (sym skip ∙ ap (option_map (λ p. p.1)) is) in
-    (behind, same ∙ ap first_roas whole ∙ ap (λ b. if b then Some (j, behind) else first_roas behind) other, rw here there)
+    (behind, same ∙ ap (first_named wanted) whole ∙ ap (λ b. if b then Some (j, behind) else first_named wanted behind) other, rw here there)
 
 -- the value of a member can be passed over
-pub can_skip : (ms : Members) (ts s : List Token) (name : List ℕ) → IsPast ms ts → read_key ts ≡ Some (Some name, s) → skip_value 127 s ≡ None → ⊥
-can_skip ms ts s name (rest, same, at) key none =
+pub can_skip : (wanted : List ℕ) (ms : Members) (ts s : List Token) (name : List ℕ) → IsPast wanted ms ts → read_key ts ≡ Some (Some name, s) → skip_value 127 s ≡ None → ⊥
+can_skip wanted ms ts s name (rest, same, at) key none =
     let (j, behind, whole, (after, is, there)) = next_member rest ts s name at key in
     not_found after (sym none ∙ ap (option_map (λ p. p.1)) is)
 
 -- the member was found
-pub found : (ms : Members) (ts s : List Token) (name : List ℕ) → IsPast ms ts → read_key ts ≡ Some (Some name, s) → bytes_eq name (codes "roas") ≡ true → FindsRoas ms true s
-found ms ts s name (rest, same, at) key is =
+pub found : (wanted : List ℕ) (ms : Members) (ts s : List Token) (name : List ℕ) → IsPast wanted ms ts → read_key ts ≡ Some (Some name, s) → bytes_eq name wanted ≡ true → FindsMember wanted ms true s
+found wanted ms ts s name (rest, same, at) key is =
     let (j, behind, whole, there) = next_member rest ts s name at key in
-    (j, behind, same ∙ ap first_roas whole ∙ ap (λ b. if b then Some (j, behind) else first_roas behind) is, there)
+    (j, behind, same ∙ ap (first_named wanted) whole ∙ ap (λ b. if b then Some (j, behind) else first_named wanted behind) is, there)
 
 -- there is none
-pub not_there : (ms : Members) (ts s : List Token) → IsPast ms ts → NoNameComes ts s → first_roas ms ≡ None
-not_there ms ts s (rest, same, at) (inl key) = same ∙ ap first_roas (no_member rest ts s at key)
-not_there ms ts s (rest, same, at) (inr key) = absurd (no_fault rest ts at key)
+pub not_there : (wanted : List ℕ) (ms : Members) (ts s : List Token) → IsPast wanted ms ts → NoNameComes ts s → first_named wanted ms ≡ None
+not_there wanted ms ts s (rest, same, at) (inl key) = same ∙ ap (first_named wanted) (no_member rest ts s at key)
+not_there wanted ms ts s (rest, same, at) (inr key) = absurd (no_fault rest ts at key)
 
 -- ---- items
 

@@ -3,3 +3,4 @@ pub mod ListFormats
 pub mod PayloadDocument
 pub mod PayloadEntries
 pub mod Places
+pub mod WrittenTimes

@@ -43,10 +43,14 @@ HasFaultBehind entries fault count =
     × (entries ≡ before ++ faulty ∷ after) × AreEntries before answers × (count ≡ length before)
     × IsEntry faulty (Err fault)
 
+-- the first member of a name, and the members behind it
+abbrev pub first_named : List ℕ → Members → Option (Json × Members)
+first_named wanted no_members = None
+first_named wanted (member name value rest) = if bytes_eq name wanted then Some (value, rest) else first_named wanted rest
+
 -- the first member that is named roas, and the members behind it
 abbrev pub first_roas : Members → Option (Json × Members)
-first_roas no_members = None
-first_roas (member name value rest) = if bytes_eq name (codes "roas") then Some (value, rest) else first_roas rest
+first_roas ms = first_named (codes "roas") ms
 
 -- the first member that is named roas has these entries, and these members stand behind it
 abbrev pub HasRoas : Members → Items → Members → Type 0

@@ -1,10 +1,10 @@
 -- Where a reader stands in a list, as the tokens that it has left (over the grammar of `json`).
-use Rattle.std.specs.Prelude.{◌≡◌, ℕ, Bool, true, false, List, [], ◌∷◌, ◌⊎◌, ⊤, Option, None, Some, Result, Ok, Err}
+use Rattle.std.specs.Prelude.{◌≡◌, ℕ, Bool, true, false, List, [], ◌∷◌, codes, ◌⊎◌, ⊤, Option, None, Some, Result, Ok, Err}
 use Rattle.json.specs.Json.{Json, Items, Members, array, items, members, read_key, value}
 use Rattle.json.specs.Token.{Token}
 use Rattle.vrp_csv.specs.declared.list.Loaded.{Loaded}
 use Rattle.vrp_json.specs.ExpiredEntries.{IsLoadOfAt}
-use Rattle.vrp_json.specs.PayloadDocument.{HasFaultBehind, entries_of, first_roas, is_array}
+use Rattle.vrp_json.specs.PayloadDocument.{HasFaultBehind, entries_of, first_named, is_array}
 use Rattle.vrp_json.specs.declared.fault.JsonFault.{JsonFault}
 use Rattle.vrp_json.specs.declared.fault.JsonFault.TheVariants.{Text, NotObject, NoRoas, NotArray, Entry, SecondRoas, NoMemory}
 
@@ -57,11 +57,15 @@ IsAtItems js behind ts =
 abbrev pub NoNameComes : List Token → List Token → Type 0
 NoNameComes old new = (read_key old ≡ Some (None, new)) ⊎ (read_key old ≡ None)
 
--- before the value of the first member that is named roas, or behind all where none is
+-- before the value of the first member of a name, or behind all where none has it
+abbrev pub FindsMember : List ℕ → Members → Bool → List Token → Type 0
+FindsMember wanted ms true ts =
+    (j : Json) × (behind : Members) × (first_named wanted ms ≡ Some (j, behind)) × IsAtMemberValue j behind ts
+FindsMember wanted ms false ts = first_named wanted ms ≡ None
+
+-- the same of the name roas
 abbrev pub FindsRoas : Members → Bool → List Token → Type 0
-FindsRoas ms true ts =
-    (j : Json) × (behind : Members) × (first_roas ms ≡ Some (j, behind)) × IsAtMemberValue j behind ts
-FindsRoas ms false ts = first_roas ms ≡ None
+FindsRoas ms found ts = FindsMember (codes "roas") ms found ts
 
 -- why the items of an array aren't loaded
 abbrev pub AreRefusedItems : List Json → JsonFault → Type 0

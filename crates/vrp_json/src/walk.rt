@@ -2,7 +2,7 @@
 ghost use Rattle.std.specs.Prelude.{◌≡◌, ◌∷◌, true, Some, MatchOption};
 ghost use Rattle.json.specs.Json.{Members, read_key};
 ghost use Rattle.json.specs.Token.{Token as SpecToken};
-ghost use Rattle.vrp_json.specs.Places.{FindsRoas, IsAtMembers, NoNameComes, opens_array, opens_object};
+ghost use Rattle.vrp_json.specs.Places.{FindsMember, FindsRoas, IsAtMembers, NoNameComes, opens_array, opens_object};
 
 use json::{MAX_DEPTH, Reader, Token};
 
@@ -30,8 +30,15 @@ pub(crate) fn open_array(reader: &mut Reader<'_>) -> bool
 pub(crate) fn find_roas(reader: &mut Reader<'_>) -> bool
     ensures { (ms : Members) → IsAtMembers ms reader.old → FindsRoas ms result reader.new }
 {
+    find_member(reader, "roas")
+}
+
+/// The same for the first member of this name.
+pub(crate) fn find_member(reader: &mut Reader<'_>, wanted: &str) -> bool
+    ensures { (ms : Members) → IsAtMembers ms reader.old → FindsMember wanted.now ms result reader.new }
+{
     while let Some(name) = next_name(reader) {
-        if name == "roas" {
+        if name == wanted {
             return true;
         }
         if let Err(_fault) = reader.skip_value(MEMBER_DEPTH) {

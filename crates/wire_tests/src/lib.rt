@@ -1,5 +1,5 @@
 //! Tests alone: what the system's sockets tell and what faults of `accept` mean, a cache over them and over a wire in memory,
-//! what routers hold and those that are silent, and a cache that resets another session.
+//! what routers hold and those that are silent, a cache that resets another session, and a set that is withdrawn.
 #![tactic(auto)]
 
 #[cfg(test)]
@@ -20,3 +20,5 @@ mod over_loopback;
 mod patience;
 #[cfg(test)]
 mod ready_sockets;
+#[cfg(test)]
+mod withdrawal;

@@ -1,6 +1,6 @@
 use Rattle.toml.specs.View.{table_view}
 use Rattle.settings_keys.proofs.Faults.{passes_on}
-use Rattle.cache_settings.proofs.Told.{no_patience}
+use Rattle.cache_settings.proofs.Told.{no_patience, no_stale}
 use Rattle.cache_settings.specs.ToldSettings.{AreTerms}
 use Rattle.cache_settings.proofs.settings.terms_of.Goals as goal
 
@@ -31,6 +31,10 @@ returns-in_err-reread-clause-told c =
 pub returns-in_err-max_age-clause-told : goal.returns-in_err-max_age-clause-told
 returns-in_err-max_age-clause-told c =
     passes_on _ (AreTerms (table_view c.args.table.now)) c.from_residual-in_err-max_age.result _ c.from_residual-in_err-max_age.ensures.1 c.in_err-max_age.ensures.told (λ none b told. none b.max_age told.max_age)
+
+pub returns-in_err-stale-clause-told : goal.returns-in_err-stale-clause-told
+returns-in_err-stale-clause-told c =
+    passes_on _ (AreTerms (table_view c.args.table.now)) c.from_residual-in_err-stale.result _ c.from_residual-in_err-stale.ensures.1 c.in_err-stale.ensures (no_stale _ c.in_ok-max_age.max_age c.in_ok-max_age.ensures.told)
 
 pub returns-in_err-log-clause-told : goal.returns-in_err-log-clause-told
 returns-in_err-log-clause-told c =

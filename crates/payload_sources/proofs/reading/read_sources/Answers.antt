@@ -3,19 +3,25 @@ use Rattle.payload_sources.proofs.UnderFile.{alone, refused_behind, with_file}
 use Rattle.payload_sources.proofs.reading.read_sources.Goals as goal
 
 pub returns-in-None : goal.returns-in-None
-returns-in-None g c = record {
-  listed = c.in-Ok.loaded.set.keys;
-  of_list = λ text is. (c.in-Ok.loaded, c.in-Ok.ensures text is, refl);
-  under = alone g.L.Read.remaining c.args.sources.slurm c.in-Ok.loaded.set.keys c.in-None.is;
-}
+returns-in-None g c = (
+  record {
+    listed = c.in-Ok.listed.loaded.set.keys;
+    of_list = λ text is. (c.in-Ok.listed, c.in-Ok.ensures text is, refl);
+    under = alone g.L.Read.remaining c.args.sources.slurm c.in-Ok.listed.loaded.set.keys c.in-None.is;
+  },
+  λ text is. (c.in-Ok.ensures text is).1,
+)
 
 pub returns-in-Ok-read_under : goal.returns-in-Ok-read_under
-returns-in-Ok-read_under g c = record {
-  listed = c.in-Ok.loaded.set.keys;
-  of_list = λ text is. (c.in-Ok.loaded, c.in-Ok.ensures text is, refl);
-  under = with_file g.L.Read.remaining c.args.sources.slurm _ (Some c.in-Ok-read_under.said) c.in-Ok.loaded.set.keys c.in-Ok-read_under.set.keys (c.in-Some.is ∙ ap (λ file. Some file) (sym c.in-Some.file-is)) c.in-Ok-read_under.ensures;
-}
+returns-in-Ok-read_under g c = (
+  record {
+    listed = c.in-Ok.listed.loaded.set.keys;
+    of_list = λ text is. (c.in-Ok.listed, c.in-Ok.ensures text is, refl);
+    under = with_file g.L.Read.remaining c.args.sources.slurm _ (Some c.in-Ok-read_under.said) c.in-Ok.listed.loaded.set.keys c.in-Ok-read_under.set.keys (c.in-Some.is ∙ ap (λ file. Some file) (sym c.in-Some.file-is)) c.in-Ok-read_under.ensures;
+  },
+  λ text is. (c.in-Ok.ensures text is).1,
+)
 
 pub returns-in-Err-read_under : goal.returns-in-Err-read_under
 returns-in-Err-read_under g c =
-    refused_behind g.L.Read.remaining c.args.sources.second c.args.sources.list c.args.sources.slurm _ c.in-Ok.loaded.set.keys c.in-Err-read_under.fault (c.in-Some.is ∙ ap (λ file. Some file) (sym c.in-Some.file-is)) (λ text is. (c.in-Ok.loaded, c.in-Ok.ensures text is, refl)) c.in-Err-read_under.ensures
+    refused_behind g.L.Read.remaining c.args.sources.second c.args.sources.list c.args.sources.slurm _ c.in-Ok.listed.loaded.set.keys c.in-Err-read_under.fault (c.in-Some.is ∙ ap (λ file. Some file) (sym c.in-Some.file-is)) (λ text is. (c.in-Ok.listed, c.in-Ok.ensures text is, refl)) c.in-Err-read_under.ensures
