@@ -21,6 +21,4 @@ pub use laws::{
 };
 pub use session::{Effects, Outgoing, Session};
 pub use state::State;
-pub use timers::{
-    CONNECT_RETRY_SECONDS, IDLE_HOLD_SECONDS, OPEN_HOLD_SECONDS, PeerTimers, Timer, Timers,
-};
+pub use timers::{CONNECT_RETRY_SECONDS, IDLE_HOLD_SECONDS, OPEN_HOLD_SECONDS, Timer, Timers};

@@ -1,4 +1,3 @@
-pub mod Admitting
 pub mod Begun
 pub mod EndedWell
 pub mod Guarded

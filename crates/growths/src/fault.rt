@@ -24,7 +24,6 @@ pub enum Wrong {
     OtherwiseWhereCacheClosed,
     CacheUntold,
     ClientAway,
-    Asks,
 }
 
 impl Wrong {
@@ -57,7 +56,6 @@ impl Wrong {
             }
             Wrong::CacheUntold => "doesn't tell the cache why",
             Wrong::ClientAway => "doesn't let the closed client come again",
-            Wrong::Asks => "asks for memory, which it is to do without",
         }
     }
 }

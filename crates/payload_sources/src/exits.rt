@@ -18,7 +18,7 @@ impl SourceFault {
         match self {
             SourceFault::List(refused) => of_list(refused),
             SourceFault::Slurm(fault) => of_slurm(fault),
-            SourceFault::SlurmDevice | SourceFault::Changed(_) => ExitFault::Device,
+            SourceFault::SlurmDevice => ExitFault::Device,
         }
     }
 }

@@ -1,4 +1,3 @@
-pub mod ListedPolicies
 pub mod NameTexts
 pub mod FirstRule
 pub mod TableLaws

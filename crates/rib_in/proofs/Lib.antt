@@ -1,4 +1,3 @@
-pub mod Behind
 pub mod Ordered
 pub mod RouteLists
 pub mod SlotWalks

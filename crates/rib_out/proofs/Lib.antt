@@ -1,8 +1,6 @@
 pub mod AlikeLists
-pub mod HeldRows
 pub mod HeldTables
 pub mod OwedMarks
-pub mod PrefixRows
 pub mod Prefixes
 pub mod Records
 pub mod SlotBits

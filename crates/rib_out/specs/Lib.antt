@@ -1,6 +1,5 @@
 pub mod Alike
 pub mod Held
-pub mod PrefixRows
 pub mod Slots
 pub mod Undo
 pub mod Waiting

@@ -1,5 +1,4 @@
 pub mod AddedMarks
-pub mod AskedRoutes
 pub mod BroughtPrefixes
 pub mod BroughtRoutes
 pub mod CandidateLists
@@ -22,7 +21,6 @@ pub mod PutSlots
 pub mod RemadeOffers
 pub mod Results
 pub mod RouteChanges
-pub mod SlotMarks
 pub mod SoundOffers
 pub mod Stretching
 pub mod ToldDegrees
@@ -30,4 +28,3 @@ pub mod ToldPrefixes
 pub mod ToldRoutes
 pub mod TouchedStretches
 pub mod WaitingLists
-pub mod WaitingRows

@@ -18,4 +18,3 @@ pub mod Tables
 pub mod Told
 pub mod Updates
 pub mod Waiting
-pub mod WaitingRows

@@ -24,10 +24,9 @@
 //! Nothing here speaks of a run or of a session's history: the speaker above does. To read first: the definitions
 //! `RoutesState` and `Marks`, then `routes`, `sessions`, `commands`, `queue` (the calls), `routing` (the tables and their
 //! marks), `candidates` (what makes a route a candidate), `message`, `updates`, `exports`, `packing` (which prefixes one
-//! UPDATE names), `told`, `waiting`, `waiting_after`.
+//! UPDATE names), `told`, `waiting`.
 #![tactic(auto)]
 
-mod asked;
 mod candidates;
 mod commands;
 mod exports;
@@ -41,7 +40,6 @@ mod sessions;
 mod told;
 mod updates;
 mod waiting;
-mod waiting_after;
 
 pub use exports::{Octets, place};
 pub use link::Link;
@@ -49,4 +47,3 @@ pub use message::Standard;
 pub use packing::Draft;
 pub use routes::Routes;
 pub use waiting::WaitingPrefixes;
-pub use waiting_after::WaitingAfter;

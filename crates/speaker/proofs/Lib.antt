@@ -31,5 +31,3 @@ pub mod Revalidating
 pub mod CacheSteps
 pub mod Touches
 pub mod RoutesSeen
-pub mod ViewsBehind
-pub mod AskedRoutes

@@ -245,9 +245,7 @@ impl<A: Allocator + Clone, B: Book<A>> Speaker<A, B> {
             identifier: self.config.identifier,
             multiprotocol: self.config.multiprotocol,
         };
-        let times = self.config.timers.of(slot);
-        self.routes
-            .add_peer(&self.alloc, command, slot, conf, own, times)?;
+        self.routes.add_peer(&self.alloc, command, slot, conf, own)?;
         self.begin_count();
         Ok(0)
     }

@@ -1,4 +1,3 @@
-pub mod AskedBefore
 pub mod Commanding
 pub mod EndedWell
 pub mod OpenedLines

@@ -1,3 +1,2 @@
 pub mod TakenSlots
 pub mod Told
-pub mod Timers

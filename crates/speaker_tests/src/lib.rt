@@ -9,5 +9,3 @@ mod bare;
 mod events;
 #[cfg(test)]
 mod running;
-#[cfg(test)]
-mod timers;

@@ -5,7 +5,6 @@ pub mod Effects
 mod Ending
 mod Exchanges
 pub mod Listening
-pub mod Outlasting
 pub mod Patient
 pub mod Places
 mod Stepping

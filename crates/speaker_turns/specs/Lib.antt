@@ -5,4 +5,3 @@ pub mod Obeying
 pub mod Serving
 pub mod Sessions
 pub mod Turns
-pub mod Outlasting

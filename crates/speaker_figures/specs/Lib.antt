@@ -1,2 +1,0 @@
-pub mod FiguresText
-pub mod NoticeCounts
