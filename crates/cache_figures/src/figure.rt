@@ -55,7 +55,8 @@ impl Figure {
             Figure::Serial => "Serial that is served.",
             Figure::Withdrawn => "Whether the list is withdrawn since it is stale.",
             Figure::Session => "Session id of this run.",
-            Figure::Written => "Seconds since the file of the list was written.",
+            Figure::Written =>
+                "Seconds since the list was written, by its metadata or else its file.",
             Figure::Read => "Seconds since a list was read that could be had.",
             Figure::Rereads => "Readings of the list behind the first by what each led to.",
             Figure::Octets => "Octets that came from routers and that went to them.",

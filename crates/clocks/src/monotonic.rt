@@ -2,6 +2,7 @@
 ghost use Rattle.std.specs.Prelude.{◌≡◌, [], None};
 ghost use Rattle.clocks.specs.Moments.{Clocked};
 
+use crate::pace::paced;
 use crate::seconds_clock::SecondsClock;
 use crate::system_clock::SystemClock;
 use std::io;
@@ -9,12 +10,14 @@ use std::marker::Model;
 use std::rt::Clock;
 use std::time::Instant;
 
-/// Whole seconds by the system's monotonic clock, since it was first read.
+/// Whole seconds by the system's monotonic clock, since it was first read, at the pace of `paced`.
 #[derive(Drop)]
 pub struct MonotonicClock<'a, R> {
     system: SystemClock<'a, R>,
     // When it was first read.
     start: Option<Instant>,
+    // The seconds from there to the last reading, 0 before any.
+    seconds: u64,
     // The last moment that was told, 0 before any.
     last: u64,
 }
@@ -27,7 +30,7 @@ impl<'a, R> Model for MonotonicClock<'a, R> {
     ghost view = { λ clock. record { instants = clock.system.readings.instants; moments = moments_of clock.system.readings.instants } };
 
     // The start is the first instant, and the last moment that of the last one.
-    ghost invariant = { λ clock. IsKept clock.start clock.last clock.system.readings.instants };
+    ghost invariant = { λ clock. IsKept clock.start clock.seconds clock.last clock.system.readings.instants };
 }
 
 impl<'a, R: Clock> MonotonicClock<'a, R> {
@@ -38,6 +41,7 @@ impl<'a, R: Clock> MonotonicClock<'a, R> {
         MonotonicClock {
             system: SystemClock::new(rt),
             start: None,
+            seconds: 0,
             last: 0,
         }
     }
@@ -50,8 +54,10 @@ impl<'a, R: Clock> SecondsClock for MonotonicClock<'a, R> {
     fn read(&mut self) -> io::Result<u64> {
         let now = self.system.read()?;
         let start = self.start.unwrap_or(now);
-        let moment = now.duration_since(start).as_secs().max(self.last);
+        let seconds = now.duration_since(start).as_secs();
+        let moment = paced(self.seconds, seconds, self.last);
         self.start = Some(start);
+        self.seconds = seconds;
         self.last = moment;
         Ok(moment)
     }

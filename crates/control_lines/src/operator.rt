@@ -1,12 +1,12 @@
 //! One operator's connection.
-ghost use Rattle.std.specs.Prelude.{◌≤◌, length};
+ghost use Rattle.std.specs.Prelude.{◌≡◌, ◌-◌, nat_le};
 
 use crate::line_buffer::{Heard, LineBuffer};
 use std::alloc::{AllocError, Global};
 use std::io::{ErrorKind, Read, Write};
 
-/// For how many seconds an operator may move nothing: no octet of a line comes, and none of what is said is taken
-/// (own choice).
+/// For how many seconds an operator may move nothing: no line begins, one that has begun isn't whole, or none of what is said
+/// is taken (own choice).
 pub const SILENT_SECONDS: u64 = 60;
 
 // How many octets are read at once.
@@ -51,7 +51,7 @@ pub struct Operator<S> {
     written: usize,
     // Whether the connection ends behind what was said.
     is_leaving: bool,
-    // When octets last came or went.
+    // When octets last came or went, but for those with which a line goes on.
     moved: u64,
 }
 
@@ -99,21 +99,32 @@ impl<S: Read + Write + Drop> Operator<S> {
     }
 
     /// Writes what was said as far as it is taken, or else reads where a line is still to come. Answers whether octets came or
-    /// went, and nothing where the operator is gone, or has moved nothing for too long.
+    /// went, and nothing where the operator is gone, or has moved nothing for too long: a line has to be whole so many seconds
+    /// after its first octet, however many come.
     pub fn visit(&mut self, now: u64) -> Option<bool> {
+        let had_begun = self.has_begun();
         match self.exchange() {
+            Exchange::Over => None,
+            Exchange::Still => self.unless_late(now, false),
+            Exchange::Moved if had_begun && self.has_begun() => self.unless_late(now, true),
             Exchange::Moved => {
                 self.moved = now;
                 Some(true)
             }
-            Exchange::Still if self.is_silent(now) => None,
-            Exchange::Still => Some(false),
-            Exchange::Over => None,
         }
     }
 
-    fn is_silent(&self, now: u64) -> bool {
-        now.saturating_sub(self.moved) >= SILENT_SECONDS
+    // Whether octets came or went, of one who isn't too late.
+    fn unless_late(&self, now: u64, has_moved: bool) -> Option<bool> {
+        if is_late(self.moved, now) {
+            return None;
+        }
+        Some(has_moved)
+    }
+
+    // Whether a line has begun that isn't whole.
+    fn has_begun(&self) -> bool {
+        self.wish == Wish::Nothing && !self.is_leaving && !self.line.octets().is_empty()
     }
 
     fn is_written(&self) -> bool {
@@ -193,6 +204,13 @@ impl<S: Read + Write + Drop> Operator<S> {
             }
         }
     }
+}
+
+// Whether so long ago is too long.
+fn is_late(moved: u64, now: u64) -> bool
+    ensures { result ≡ nat_le 60 (now - moved) }
+{
+    now.saturating_sub(moved) >= SILENT_SECONDS
 }
 
 // What an error of a stream that doesn't wait is to it.

@@ -5,6 +5,7 @@ pub mod Effects
 mod Ending
 mod Exchanges
 pub mod Listening
+pub mod Outlasting
 pub mod Patient
 pub mod Places
 mod Stepping

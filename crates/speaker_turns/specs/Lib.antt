@@ -5,3 +5,4 @@ pub mod Obeying
 pub mod Serving
 pub mod Sessions
 pub mod Turns
+pub mod Outlasting

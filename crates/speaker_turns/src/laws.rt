@@ -12,6 +12,7 @@ ghost use Rattle.bgp_conf.specs.declared.command.Command.{Command};
 ghost use Rattle.bgp_conf.specs.declared.refusal.Refusal.{Refusal};
 ghost use Rattle.speaker.specs.declared.event.Report.{Report};
 ghost use Rattle.speaker_turns.specs.Obeying.{Obeys};
+ghost use Rattle.speaker_turns.specs.Outlasting.{OutlastsAStep};
 ghost use Rattle.speaker_turns.specs.Serving.{Connection, is_over, is_overdue};
 ghost use Rattle.speaker_turns.specs.Turns.{IsNearer, TakesTurn, TakesTurns, Turns, VisitsAll, endless, is_off, moment_of, place_at};
 
@@ -57,4 +58,10 @@ pub fn loops_stay_as_patient()
 /// Where patience is endless no connection falls but with a closed session.
 pub fn endless_patience_ends_nothing()
     ensures { (turns : Turns) (line : Connection) (now : ℕ) → turns.patience ≡ endless → is_over line (moment_of turns now) ≡ is_overdue line.closing now }
+{}
+
+/// In a turn what has come is heard before the speaker is told the turn's moment. Where that is two seconds at most behind the
+/// last one, no session of whose peer a message was heard is ended by its hold timer.
+pub fn what_is_heard_outlasts_a_step()
+    ensures { OutlastsAStep }
 {}

@@ -30,7 +30,7 @@ pub use end::End;
 pub use laws::{
     as_many_are_lost_as_are_counted, endless_patience_ends_nothing, loops_stay_as_patient,
     sessions_carry_their_own_octets, those_that_end_have_their_turn,
-    turns_are_calls_of_the_speaker, wires_listen_where_they_did,
+    turns_are_calls_of_the_speaker, what_is_heard_outlasts_a_step, wires_listen_where_they_did,
 };
 pub use line::CLOSING_SECONDS;
 pub use patience::Patience;

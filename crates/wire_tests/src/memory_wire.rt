@@ -136,7 +136,7 @@ enum Call {
 
 // Three routers that connect one after another; one call of the wire fails.
 #[derive(Drop)]
-struct MemoryWire {
+pub(crate) struct MemoryWire {
     routers: [Router; 3],
     accepted: usize,
     calls: u64,
@@ -153,7 +153,7 @@ struct MemoryWire {
 
 // The socket of one router.
 #[derive(Drop)]
-struct Plug {
+pub(crate) struct Plug {
     router: usize,
     number: u64,
     address: SocketAddr,
@@ -338,7 +338,7 @@ impl Wire for MemoryWire {
 
 // What twenty turns have led to.
 #[derive(Clone, Copy)]
-struct Served {
+pub(crate) struct Served {
     routers: [Router; 3],
     failed: Option<Call>,
     // How many faults and ends the wire told.
@@ -361,7 +361,7 @@ const LISTED: Vrp = Vrp {
 };
 
 // The list.
-fn listed(rt: &impl Abort, alloc: Global) -> BTreeSet<Vrp> {
+pub(crate) fn listed(rt: &impl Abort, alloc: Global) -> BTreeSet<Vrp> {
     made(rt, [LISTED].iter().copied().collect(alloc))
 }
 
@@ -397,7 +397,7 @@ fn filled<A: Allocator + Clone>(
 }
 
 // Its turns, before the first, where they could be made.
-fn prepared<A: Allocator + Clone + Copy>(
+pub(crate) fn prepared<A: Allocator + Clone + Copy>(
     alloc: A,
     set: &BTreeSet<Vrp>,
     silent: u64,
@@ -418,7 +418,7 @@ fn fault_of_turns<A: Allocator + Clone>(turns: &mut CacheLoop<MemoryWire, A>) ->
 }
 
 // What they have led to.
-fn told_of<A: Allocator + Clone>(
+pub(crate) fn told_of<A: Allocator + Clone>(
     turns: &CacheLoop<MemoryWire, A>,
     fault: Option<LoopFault>,
 ) -> Served {
@@ -495,8 +495,18 @@ impl Served {
             && self.holding == [holding(1, 0), holding(0, 1)]
     }
 
+    // Whether no call of the wire has failed.
+    pub(crate) fn is_whole(&self) -> bool {
+        self.failed.is_none()
+    }
+
+    // Whether a fault has ended the turns.
+    pub(crate) fn is_ended(&self) -> bool {
+        self.fault.is_some()
+    }
+
     // Whether the call that has failed, if one has, has cost its client alone.
-    fn is_as_expected(&self) -> bool {
+    pub(crate) fn is_as_expected(&self) -> bool {
         match self.failed {
             Some(Call::OfRouter(failed)) => self.loses_one(failed),
             Some(Call::Accept) => self.fault == Some(LoopFault::Accept),
