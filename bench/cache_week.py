@@ -317,7 +317,7 @@ class Model:
         if len(listed) < self.least:
             return f"it has {len(listed)} payloads, and {self.least} are wanted"
         if going * 100 > MOST_GO * len(self.served):
-            return f"{going} of the {len(self.served)} payloads that are served would go, and {MOST_GO} per cent may"
+            return f"it has {len(listed)} payloads: {going} of the {len(self.served)} that are served would go, and {MOST_GO} per cent may"
         return None
 
     def read(self):

@@ -1,5 +1,5 @@
 //! The tables that commands fill.
-ghost use Rattle.std.specs.Prelude.{◌≡◌, ℕ, ◌==◌, ◌≤◌, [], true, None, IfOk, OnOk, OnErr, if◌then◌else◌};
+ghost use Rattle.std.specs.Prelude.{slice_get, ◌≡◌, ℕ, ◌==◌, ◌≤◌, [], true, None, IfOk, OnOk, OnErr, if◌then◌else◌};
 ghost use Rattle.std.specs.Option.{option_map};
 ghost use Rattle.net_prefix.specs.declared.prefix.Prefix.{Prefix};
 ghost use Rattle.prefix_trie.specs.TrieMap.{IsRising};
@@ -16,7 +16,7 @@ use crate::command::{Command, PeerConf};
 use crate::cost::Cost;
 use bgp_attr::Mode;
 use net_prefix::{Asn, Prefix};
-use policy::{Action, Policies, PolicyName, SeenRoute};
+use policy::{Action, Policies, PolicyName, Rule, SeenRoute};
 use prefix_trie::Trie;
 use std::alloc::{AllocError, Allocator, Global};
 use std::collections::{BTreeMap, BTreeSet};
@@ -123,6 +123,13 @@ impl<A: Allocator + Clone> Conf<A> {
             Some(peer) => self.policies.export(peer.export, route),
             None => Action::Reject,
         }
+    }
+
+    /// The name and the rules of the policy that was set behind so many others.
+    pub fn policy(&self, index: usize) -> Option<(PolicyName, &[Rule])>
+        ensures { option_map (λ policy. (policy.0, policy.1.now)) result ≡ slice_get self.now.policies index }
+    {
+        self.policies.nth(index)
     }
 
     /// Whether the routes that a slot's peer is told go by the policy of this name.

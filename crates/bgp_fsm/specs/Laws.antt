@@ -75,18 +75,22 @@ OpenIsAwaited =
     (now : ℕ) (input : Input) (s : Session) → s.state ≢ OpenSent → (session_after now input s).state ≡ OpenSent
     → (session_after now input s).timers ≡ only_hold now 240
 
--- a connection attempt begins the ConnectRetryTimer, and so does its failure
+-- for how long a session's timers run stays as its peer was configured
+abbrev pub TimesStay : Type 0
+TimesStay = (now : ℕ) (input : Input) (s : Session) → (session_after now input s).times ≡ s.times
+
+-- a connection attempt begins the ConnectRetryTimer, with the time of the session's peer, and so does its failure
 abbrev pub AttemptsAreRetried : Type 0
 AttemptsAreRetried =
     (now : ℕ) (input : Input) (s : Session)
-    → ((effects_of input s).opened ≡ true → (session_after now input s).timers ≡ only_connect_retry now)
-    × (s.mode ≡ Opener → s.state ≢ Active → (session_after now input s).state ≡ Active → (session_after now input s).timers ≡ only_connect_retry now)
+    → ((effects_of input s).opened ≡ true → (session_after now input s).timers ≡ only_connect_retry now s.times.connect_retry)
+    × (s.mode ≡ Opener → s.state ≢ Active → (session_after now input s).state ≡ Active → (session_after now input s).timers ≡ only_connect_retry now s.times.connect_retry)
 
--- where an enabled peer falls to Idle, the IdleHoldTimer begins, so that its session begins again
+-- where an enabled peer falls to Idle, the IdleHoldTimer begins, with the time of that peer, so that its session begins again
 abbrev pub FallsAndRises : Type 0
 FallsAndRises =
     (now : ℕ) (input : Input) (s : Session) → s.state ≢ Idle → (session_after now input s).state ≡ Idle → (session_after now input s).enabled ≡ true
-    → (session_after now input s).timers ≡ only_idle_hold now
+    → (session_after now input s).timers ≡ only_idle_hold now s.times.idle_hold
 
 -- a good OPEN agrees on the smaller hold time (section 4.2), and both timers begin by it
 abbrev pub HoldTimeIsAgreed : Type 0

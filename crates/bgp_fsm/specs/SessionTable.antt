@@ -16,6 +16,7 @@ use Rattle.bgp_fsm.specs.declared.session.Outgoing.{Outgoing}
 use Rattle.bgp_fsm.specs.declared.session.Outgoing.TheVariants.{Open as OwnOpen, Keepalive as OwnKeepalive, Notification as Notify}
 use Rattle.bgp_fsm.specs.declared.session.Effects.{Effects}
 use Rattle.bgp_fsm.specs.declared.session.Session.{Session}
+use Rattle.bgp_fsm.specs.declared.timers.PeerTimers.{PeerTimers}
 use Rattle.bgp_fsm.specs.declared.timers.Timer.TheVariants.{Hold, ConnectRetry, IdleHold, Keepalive as KeepaliveTimer}
 use Rattle.bgp_fsm.specs.TimerMoments.{falling, hold_again, keepalive_again, only_connect_retry, only_hold, only_idle_hold, open_hold, opened_timers, stopped}
 use Rattle.bgp_fsm.specs.StateTests.{is_established}
@@ -59,9 +60,9 @@ leaves_receiving told = record leaves { received = Some told }
 abbrev pub error : SessionError → Outgoing
 error why = Notify (error_notification why)
 
--- a session with no connection, of a peer that isn't enabled yet
-abbrev pub fresh : OwnOpenMessage → Mode → Session
-fresh own mode = record { state = Idle; enabled = false; closing = false; identifier = 0; hold_time = 0; timers = stopped; own = own; mode = mode }
+-- a session with no connection, of a peer that isn't enabled yet, whose timers run for these times
+abbrev pub fresh : OwnOpenMessage → Mode → PeerTimers → Session
+fresh own mode times = record { state = Idle; enabled = false; closing = false; identifier = 0; hold_time = 0; timers = stopped; own = own; mode = mode; times = times }
 
 -- What a row leaves of the session. Where it starts a timer, this is by the moment at which its input comes.
 
@@ -75,7 +76,7 @@ marked s = record s { enabled = true }
 
 -- the peer is enabled, and its session begins after a while, since the last connection is still closing
 abbrev pub resting : Session → ℕ → Session
-resting s now = record s { enabled = true; timers = only_idle_hold now }
+resting s now = record s { enabled = true; timers = only_idle_hold now s.times.idle_hold }
 
 -- the peer is disabled: no timer runs
 abbrev pub disabled : Session → Session
@@ -87,7 +88,7 @@ shut s = record s { closing = false }
 
 -- the peer is enabled, and its connection is opened
 abbrev pub connecting : Session → ℕ → Session
-connecting s now = record s { state = Connect; enabled = true; timers = only_connect_retry now }
+connecting s now = record s { state = Connect; enabled = true; timers = only_connect_retry now s.times.connect_retry }
 
 -- the peer is enabled, and its connection is awaited
 abbrev pub listening : Session → Session
@@ -95,7 +96,7 @@ listening s = record s { state = Active; enabled = true; timers = stopped }
 
 -- the connection failed before the peer's OPEN came: it is opened again after a while, or awaited
 abbrev pub failed : Mode → Session → ℕ → Session
-failed Opener s now = record s { state = Active; timers = only_connect_retry now }
+failed Opener s now = record s { state = Active; timers = only_connect_retry now s.times.connect_retry }
 failed Passive s now = record s { state = Active; timers = stopped }
 
 -- the attempt ends with the peer's
@@ -129,11 +130,11 @@ kept_alive s now = record s { timers = keepalive_again s.hold_time now s.timers 
 
 -- the connection failed behind the peer's OPEN
 abbrev pub fallen : Session → ℕ → Session
-fallen s now = record s { state = Idle; closing = false; identifier = 0; hold_time = 0; timers = falling s.enabled now }
+fallen s now = record s { state = Idle; closing = false; identifier = 0; hold_time = 0; timers = falling s.enabled now s.times.idle_hold }
 
 -- the session goes to Idle, and its connection has still to be closed
 abbrev pub closed : Session → ℕ → Session
-closed s now = record s { state = Idle; closing = true; identifier = 0; hold_time = 0; timers = falling s.enabled now }
+closed s now = record s { state = Idle; closing = true; identifier = 0; hold_time = 0; timers = falling s.enabled now s.times.idle_hold }
 
 -- the same, and the peer is disabled
 abbrev pub ended : Session → Session

@@ -1,20 +1,22 @@
 -- The timers of a session (RFC 4271 sections 8.1.3 and 10): when each ends, in seconds.
-use Rattle.std.specs.Prelude.{◌/◌, ◌==◌, ℕ, Bool, Option, None, if◌then◌else◌}
+use Rattle.std.specs.Prelude.{◌/◌, ◌==◌, ◌&&◌, not, ℕ, Bool, Option, None, if◌then◌else◌}
 use Rattle.moments.specs.Moments.{from_now, has_come}
 use Rattle.bgp_fsm.specs.declared.timers.Timer.{Timer}
 use Rattle.bgp_fsm.specs.declared.timers.Timer.TheVariants.{Hold, ConnectRetry, IdleHold, Keepalive}
 use Rattle.bgp_fsm.specs.declared.timers.Timers.{Timers}
+use Rattle.bgp_fsm.specs.declared.timers.PeerTimers.{PeerTimers}
 
--- how long a session waits for the peer's OPEN (section 8.2.2), for a connection (section 10), and before it begins again
--- (own)
+-- how long a session waits for the peer's OPEN (section 8.2.2)
 abbrev pub open_hold : ℕ
 open_hold = 240
 
-abbrev pub connect_retry_time : ℕ
-connect_retry_time = 120
+-- how long a session waits for a connection (section 10), and before it begins again (own), where nothing else is wanted of it
+abbrev pub usual : PeerTimers
+usual = record { connect_retry = 120; idle_hold = 30 }
 
-abbrev pub idle_hold_time : ℕ
-idle_hold_time = 30
+-- each of a peer's timers runs for a second at least
+abbrev pub are_lawful : PeerTimers → Bool
+are_lawful times = not (times.connect_retry == 0) && not (times.idle_hold == 0)
 
 -- no timer runs
 abbrev pub stopped : Timers
@@ -24,15 +26,15 @@ stopped = record { hold = None; connect_retry = None; idle_hold = None; keepaliv
 abbrev pub only_hold : ℕ → ℕ → Timers
 only_hold now seconds = record { hold = from_now now seconds; connect_retry = None; idle_hold = None; keepalive = None }
 
-abbrev pub only_connect_retry : ℕ → Timers
-only_connect_retry now = record { hold = None; connect_retry = from_now now connect_retry_time; idle_hold = None; keepalive = None }
+abbrev pub only_connect_retry : ℕ → ℕ → Timers
+only_connect_retry now seconds = record { hold = None; connect_retry = from_now now seconds; idle_hold = None; keepalive = None }
 
-abbrev pub only_idle_hold : ℕ → Timers
-only_idle_hold now = record { hold = None; connect_retry = None; idle_hold = from_now now idle_hold_time; keepalive = None }
+abbrev pub only_idle_hold : ℕ → ℕ → Timers
+only_idle_hold now seconds = record { hold = None; connect_retry = None; idle_hold = from_now now seconds; keepalive = None }
 
--- where an enabled peer's session falls to Idle, it begins again after a while
-abbrev pub falling : Bool → ℕ → Timers
-falling enabled now = if enabled then only_idle_hold now else stopped
+-- where an enabled peer's session falls to Idle, it begins again so many seconds from now
+abbrev pub falling : Bool → ℕ → ℕ → Timers
+falling enabled now seconds = if enabled then only_idle_hold now seconds else stopped
 
 -- the hold time and a third of it from now; a hold time of 0 runs no timer (sections 4.2 and 4.4)
 abbrev pub hold_end : ℕ → ℕ → Option ℕ

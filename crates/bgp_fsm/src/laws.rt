@@ -1,9 +1,10 @@
 //! Laws of the session table, in the words of RFC 4271 section 8.2.2. Each is the contract of an empty function.
-ghost use Rattle.bgp_fsm.specs.Laws.{EstablishedBegins, EnteredTells, LeftTells, RefreshedTells, OpenAnswersUp, ClosesWhatIsOpen, ClosingIsTold, NotificationsClose, NotificationIsReceived, NotificationIsUnanswered, OpenedTells, ReceivedTells, TimersFit, fit, OpenIsAwaited, AttemptsAreRetried, FallsAndRises, HoldTimeIsAgreed, MessagesHold};
+ghost use Rattle.bgp_fsm.specs.Laws.{EstablishedBegins, EnteredTells, LeftTells, RefreshedTells, OpenAnswersUp, ClosesWhatIsOpen, ClosingIsTold, NotificationsClose, NotificationIsReceived, NotificationIsUnanswered, OpenedTells, ReceivedTells, TimersFit, fit, OpenIsAwaited, TimesStay, AttemptsAreRetried, FallsAndRises, HoldTimeIsAgreed, MessagesHold};
 ghost use Rattle.std.specs.Prelude.{◌≡◌, true};
 ghost use Rattle.bgp_fsm.specs.SessionTable.{fresh};
 ghost use Rattle.bgp_msg.specs.declared.open_message.OwnOpen.{OwnOpen};
 ghost use Rattle.bgp_attr.specs.declared.peer.Mode.{Mode};
+ghost use Rattle.bgp_fsm.specs.declared.timers.PeerTimers.{PeerTimers};
 
 /// Established is entered only from OpenConfirm, by a KEEPALIVE.
 pub fn established_begins()
@@ -32,13 +33,15 @@ pub fn opened_tells()
 
 /// Each timer runs only in the states in which its end means something.
 pub fn timers_fit()
-    ensures first { (own : OwnOpen) (mode : Mode) → fit (fresh own mode).state (fresh own mode).enabled (fresh own mode).timers ≡ true }
+    ensures first { (own : OwnOpen) (mode : Mode) (times : PeerTimers) → fit (fresh own mode times).state (fresh own mode times).enabled (fresh own mode times).timers ≡ true }
     ensures stays { TimersFit }
 {}
 
 /// Each timer begins where its end will mean something: the peer's OPEN is awaited, a connection attempt is retried, an
-/// enabled peer begins again, a session is kept alive by the hold time that both sides agreed on.
+/// enabled peer begins again, both after the time that its peer has, a session is kept alive by the hold time that both sides
+/// agreed on.
 pub fn timers_begin()
+    ensures stay { TimesStay }
     ensures awaited { OpenIsAwaited }
     ensures retried { AttemptsAreRetried }
     ensures rises { FallsAndRises }

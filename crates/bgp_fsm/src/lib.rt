@@ -21,4 +21,6 @@ pub use laws::{
 };
 pub use session::{Effects, Outgoing, Session};
 pub use state::State;
-pub use timers::{CONNECT_RETRY_SECONDS, IDLE_HOLD_SECONDS, OPEN_HOLD_SECONDS, Timer, Timers};
+pub use timers::{
+    CONNECT_RETRY_SECONDS, IDLE_HOLD_SECONDS, OPEN_HOLD_SECONDS, PeerTimers, Timer, Timers,
+};

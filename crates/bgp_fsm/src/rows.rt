@@ -33,7 +33,7 @@ impl Session {
         ensures { self.new ≡ resting self.old now }
     {
         self.enabled = true;
-        self.timers = Timers::falling(true, now);
+        self.timers = Timers::falling(true, now, self.times.idle_hold);
     }
 
     /// The connection is opened.
@@ -43,7 +43,7 @@ impl Session {
     {
         self.enabled = true;
         self.state = State::Connect;
-        self.timers = Timers::awaiting_connection(now);
+        self.timers = Timers::awaiting_connection(now, self.times.connect_retry);
         Effects {
             opened: true,
             ..Effects::NONE
@@ -141,7 +141,7 @@ impl Session {
     {
         self.state = State::Active;
         self.timers = match mode {
-            Mode::Active => Timers::awaiting_connection(now),
+            Mode::Active => Timers::awaiting_connection(now, self.times.connect_retry),
             Mode::Passive => Timers::STOPPED,
         };
         Effects::NONE
@@ -285,6 +285,6 @@ impl Session {
         self.closing = closing;
         self.identifier = 0;
         self.hold_time = 0;
-        self.timers = Timers::falling(self.enabled, now);
+        self.timers = Timers::falling(self.enabled, now, self.times.idle_hold);
     }
 }

@@ -7,7 +7,7 @@ ghost use Rattle.bgp_fsm.specs.Transports.{transport_of};
 use crate::input::Input;
 use crate::state::State;
 use crate::state::State::{Active, Connect, Established, Idle, OpenConfirm, OpenSent};
-use crate::timers::{Timer, Timers};
+use crate::timers::{PeerTimers, Timer, Timers};
 use bgp_attr::Mode;
 use bgp_msg::SessionError::{
     AdministrativeShutdown, HoldTimerExpired, OutOfResources, PeerDeconfigured, UnexpectedMessage,
@@ -60,6 +60,8 @@ pub struct Session {
     pub own: OwnOpen,
     /// Which side opens the connection.
     pub mode: Mode,
+    /// For how long the timers run that its operator may set.
+    pub times: PeerTimers,
 }
 
 impl Effects<'_> {
@@ -76,8 +78,8 @@ impl Effects<'_> {
 
 impl Session {
     /// A session in Idle, with no connection, of a peer that isn't enabled yet.
-    pub fn new(own: OwnOpen, mode: Mode) -> Session
-        ensures { result ≡ fresh own mode }
+    pub fn new(own: OwnOpen, mode: Mode, times: PeerTimers) -> Session
+        ensures { result ≡ fresh own mode times }
     {
         Session {
             state: Idle,
@@ -88,6 +90,7 @@ impl Session {
             timers: Timers::STOPPED,
             own,
             mode,
+            times,
         }
     }
 

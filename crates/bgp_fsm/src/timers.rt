@@ -1,17 +1,44 @@
 //! The timers of a session.
 ghost use Rattle.std.specs.Prelude.{◌≡◌};
-ghost use Rattle.bgp_fsm.specs.TimerMoments.{end_of, falling, has_ended, hold_end, keepalive_end, only_connect_retry, only_hold, opened_timers};
+ghost use Rattle.bgp_fsm.specs.TimerMoments.{are_lawful, end_of, falling, has_ended, hold_end, keepalive_end, only_connect_retry, only_hold, opened_timers};
 
 use moments::{from_now, has_come};
 
 /// How long a session waits for the peer's OPEN, in seconds (RFC 4271 section 8.2.2).
 pub const OPEN_HOLD_SECONDS: u16 = 240;
 
-/// How long an active peer waits for a connection before it tries again, in seconds (RFC 4271 section 10).
+/// How long an active peer waits for a connection before it tries again, in seconds, where nothing else is wanted of it
+/// (RFC 4271 section 10).
 pub const CONNECT_RETRY_SECONDS: u16 = 120;
 
-/// How long the session of an enabled peer stays in Idle before it begins again, in seconds (own).
+/// How long the session of an enabled peer stays in Idle before it begins again, in seconds, where nothing else is wanted of it
+/// (own).
 pub const IDLE_HOLD_SECONDS: u16 = 30;
+
+/// For how long those timers of a peer run that its operator may set, in seconds (RFC 4271 section 8, ConnectRetryTime and
+/// IdleHoldTime).
+#[derive(Clone, Copy, Debug, PartialEq, Eq)]
+pub struct PeerTimers {
+    /// How long an active peer waits for a connection before it tries again.
+    pub connect_retry: u16,
+    /// How long the session of an enabled peer stays in Idle before it begins again.
+    pub idle_hold: u16,
+}
+
+impl PeerTimers {
+    /// Those of a peer of which nothing else is wanted.
+    pub const USUAL: PeerTimers = PeerTimers {
+        connect_retry: CONNECT_RETRY_SECONDS,
+        idle_hold: IDLE_HOLD_SECONDS,
+    };
+
+    /// Whether each runs for a second at least.
+    pub fn are_lawful(&self) -> bool
+        ensures { result ≡ are_lawful self.now }
+    {
+        self.connect_retry != 0 && self.idle_hold != 0
+    }
+}
 
 /// A timer of a session (RFC 4271 section 8.1.3).
 #[derive(Clone, Copy, Debug, PartialEq, Eq)]
@@ -70,24 +97,24 @@ impl Timers {
     }
 
     // A connection is awaited.
-    pub(crate) fn awaiting_connection(now: u64) -> Timers
-        ensures { result ≡ only_connect_retry now }
+    pub(crate) fn awaiting_connection(now: u64, seconds: u16) -> Timers
+        ensures { result ≡ only_connect_retry now seconds }
     {
         Timers {
-            connect_retry: from_now(now, u32::from(CONNECT_RETRY_SECONDS)),
+            connect_retry: from_now(now, u32::from(seconds)),
             ..Timers::STOPPED
         }
     }
 
     // The session has fallen to Idle.
-    pub(crate) fn falling(enabled: bool, now: u64) -> Timers
-        ensures { result ≡ falling enabled now }
+    pub(crate) fn falling(enabled: bool, now: u64, seconds: u16) -> Timers
+        ensures { result ≡ falling enabled now seconds }
     {
         if !enabled {
             return Timers::STOPPED;
         }
         Timers {
-            idle_hold: from_now(now, u32::from(IDLE_HOLD_SECONDS)),
+            idle_hold: from_now(now, u32::from(seconds)),
             ..Timers::STOPPED
         }
     }

@@ -15,6 +15,7 @@ use Rattle.bgp_fsm.specs.declared.input.Input.{Input}
 use Rattle.bgp_fsm.specs.declared.input.Input.TheVariants.{Start, Disable, Remove, Up, Fail, NoMemory, Expires}
 use Rattle.bgp_fsm.specs.declared.session.Session.{Session}
 use Rattle.bgp_fsm.specs.declared.session.Effects.{Effects}
+use Rattle.bgp_fsm.specs.declared.timers.PeerTimers.{PeerTimers}
 use Rattle.bgp_fsm.specs.SessionTable.{session_after, effects_of}
 use Rattle.bgp_fsm.specs.StateTests.{is_message}
 use Rattle.bgp_fsm.specs.Transports.{transport_of}
@@ -26,8 +27,9 @@ use Rattle.bgp_peer.specs.Agreement.{IsUpdateMessage, PeerAgrees, holding}
 use Rattle.bgp_peer.proofs.Rows.{ignored, input_is_message, taken_message, kept_joins, kept_whole, said_joins, says_nothing, said_whole}
 
 -- a peer is configured
-pub agrees-new : (h : List Event) (own : OwnOpenMessage) (mode : Mode) (peer_asn : Asn) → PeerAgrees (Configured record { own = own; mode = mode; peer_asn = peer_asn } ∷ h) (configured own mode)
-agrees-new h own mode peer_asn = record {
+pub agrees-new : (h : List Event) (own : OwnOpenMessage) (mode : Mode) (peer_asn : Asn) (times : PeerTimers)
+    → PeerAgrees (Configured (record { own = own; mode = mode; peer_asn = peer_asn }) times ∷ h) (configured own mode times)
+agrees-new h own mode peer_asn times = record {
   session = refl;
   rest = λ e. sym unread-nil;
   ring = refl;

@@ -48,7 +48,7 @@ after_signal h input stands before = before (stood_before (moment_of h) input (s
 -- while the connection stands, nothing whole stands at the front of what is unread
 pub connected_wants : (h : List Event) → transport_of (session h) ≡ Connected → Wants (unread (stream h))
 connected_wants [] stands = subst Wants (sym unread-nil) wants-nil
-connected_wants (Configured terms ∷ h) stands = subst Wants (sym unread-nil) wants-nil
+connected_wants (Configured terms times ∷ h) stands = subst Wants (sym unread-nil) wants-nil
 connected_wants (Signalled input ∷ h) stands = after_signal h input stands (λ k. connected_wants h k)
 connected_wants (Octet octet ∷ h) stands =
     subst Wants (sym (unread-push (stream h) octet)) (after_octet h octet (item_at h octet) refl stands (λ k. connected_wants h k))

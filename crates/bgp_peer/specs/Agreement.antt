@@ -21,7 +21,7 @@ MayQueue h update = ((session h).state ≡ Established) × IsUpdateMessage updat
 -- so was each UPDATE since the last configuration
 abbrev pub Lawful : List Event → Type 0
 Lawful [] = Unit {0}
-Lawful (Configured terms ∷ h) = Unit {0}
+Lawful (Configured terms times ∷ h) = Unit {0}
 Lawful (Signalled input ∷ h) = Lawful h
 Lawful (Octet octet ∷ h) = Lawful h
 Lawful (Queued update ∷ h) = MayQueue h update × Lawful h

@@ -24,7 +24,7 @@ asks_again_if state (Some item) = asks_again state item
 -- an event asks for all routes again, coming next after a history, which has the newest first: an octet that completes a
 -- ROUTE-REFRESH for IPv4 unicast while the session is Established
 abbrev pub refreshes : List Event → Event → Bool
-refreshes h (Configured terms) = false
+refreshes h (Configured terms times) = false
 refreshes h (Signalled input) = false
 refreshes h (Octet octet) = asks_again_if (session h).state (item_at h octet)
 refreshes h (Queued update) = false

@@ -10,7 +10,7 @@ use Rattle.bgp_peer.specs.PeerLimits.{ring_octets}
 -- what was handed out on the present connection, after a history with the newest first
 abbrev pub given : List Event → List ℕ
 given [] = []
-given (Configured terms ∷ h) = []
+given (Configured terms times ∷ h) = []
 given (Signalled input ∷ h) = kept input (given h)
 given (Octet octet ∷ h) = given h
 given (Queued update ∷ h) = given h
@@ -25,7 +25,7 @@ with_said now (input ∷ inputs) s given sent =
 
 -- what an event itself leaves of what was queued, or adds to it
 abbrev pub queued_by : Event → List ℕ → List ℕ
-queued_by (Configured terms) sent = []
+queued_by (Configured terms times) sent = []
 queued_by (Signalled input) sent = kept input sent
 queued_by (Octet octet) sent = sent
 queued_by (Queued update) sent = sent ++ update

@@ -20,9 +20,10 @@ use Rattle.bgp_msg.specs.UpdateMeaning.{update_fault}
 use Rattle.bgp_fsm.specs.declared.state.State.{State}
 use Rattle.bgp_fsm.specs.declared.input.Input.{Input}
 use Rattle.bgp_fsm.specs.declared.input.Input.TheVariants.{Remove, Open, UnexpectedOpen, Keepalive, Update, RouteRefresh, Notification, Fault, Expires}
+use Rattle.bgp_fsm.specs.declared.timers.PeerTimers.{PeerTimers}
 use Rattle.bgp_fsm.specs.declared.timers.Timer.{Timer}
 use Rattle.bgp_fsm.specs.declared.timers.Timer.TheVariants.{Hold, ConnectRetry, IdleHold, Keepalive as KeepaliveTimer}
-use Rattle.bgp_fsm.specs.TimerMoments.{has_ended}
+use Rattle.bgp_fsm.specs.TimerMoments.{has_ended, usual}
 use Rattle.bgp_fsm.specs.declared.session.Session.{Session}
 use Rattle.bgp_fsm.specs.SessionTable.{fresh, session_after}
 use Rattle.bgp_fsm.specs.StateTests.{is_established, awaits_open}
@@ -37,7 +38,7 @@ pub record Terms : Type 0 where
 
 -- what happens to a slot
 pub data Event : Type 0 where
-  Configured : (terms : Terms) → Event  -- a peer is configured, in place of any before
+  Configured : (terms : Terms) (times : PeerTimers) → Event  -- a peer is configured, in place of any before, and for how long its timers run
   Signalled : (input : Input) → Event  -- an input that no octet brings: of the operator, of the connection, of a timer that has ended, or want of memory
   Octet : (octet : ℕ) → Event  -- an octet comes on the connection
   Queued : (update : List ℕ) → Event  -- an UPDATE is queued
@@ -52,7 +53,7 @@ staying input found = found
 -- the terms of a peer that is configured, after a history, which has the newest first
 abbrev pub occupant : List Event → Option Terms
 occupant [] = None
-occupant (Configured terms ∷ h) = Some terms
+occupant (Configured terms times ∷ h) = Some terms
 occupant (Signalled input ∷ h) = staying input (occupant h)
 occupant (Octet octet ∷ h) = occupant h
 occupant (Queued update ∷ h) = occupant h
@@ -75,7 +76,7 @@ terms_of h = terms_from (occupant h)
 -- the octets that came on the present connection, the oldest first
 abbrev pub stream : List Event → List ℕ
 stream [] = []
-stream (Configured terms ∷ h) = []
+stream (Configured terms times ∷ h) = []
 stream (Signalled input ∷ h) = kept input (stream h)
 stream (Octet octet ∷ h) = stream h ++ octet ∷ []
 stream (Queued update ∷ h) = stream h
@@ -85,7 +86,7 @@ stream (Ticked now ∷ h) = stream h
 -- the moment at which the newest event came, and with it its inputs: that of the last tick, 0 before the first
 abbrev pub moment_of : List Event → ℕ
 moment_of [] = 0
-moment_of (Configured terms ∷ h) = moment_of h
+moment_of (Configured terms times ∷ h) = moment_of h
 moment_of (Signalled input ∷ h) = moment_of h
 moment_of (Octet octet ∷ h) = moment_of h
 moment_of (Queued update ∷ h) = moment_of h
@@ -134,7 +135,7 @@ listed (Some input) = input ∷ []
 
 -- what an event is to a session in this state, the newest input first: an octet is the input that it completes
 abbrev pub inputs_at : State → List Event → Event → List Input
-inputs_at state h (Configured terms) = []
+inputs_at state h (Configured terms times) = []
 inputs_at state h (Signalled input) = input ∷ []
 inputs_at state h (Octet octet) = listed (option_map (input_of state (terms_of h)) (item_at h octet))
 inputs_at state h (Queued update) = []
@@ -148,7 +149,7 @@ after now (input ∷ inputs) s = session_after now input (after now inputs s)
 
 -- a configuration begins a session, in place of the one before
 abbrev pub restarted : Event → Session → Session
-restarted (Configured terms) s = fresh terms.own terms.mode
+restarted (Configured terms times) s = fresh terms.own terms.mode times
 restarted (Signalled input) s = s
 restarted (Octet octet) s = s
 restarted (Queued update) s = s
@@ -157,7 +158,7 @@ restarted (Ticked now) s = s
 
 -- the session after a history
 abbrev pub session : List Event → Session
-session [] = fresh nobody.own nobody.mode
+session [] = fresh nobody.own nobody.mode usual
 session (e ∷ h) = after (moment_of (e ∷ h)) (inputs_at (session h).state h e) (restarted e (session h))
 
 -- the slot is there: a peer is configured, or the connection of one that was removed is still closing

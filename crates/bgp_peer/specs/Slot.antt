@@ -16,6 +16,7 @@ use Rattle.bgp_fsm.specs.declared.input.Input.{Input}
 use Rattle.bgp_fsm.specs.declared.input.Input.TheVariants.{Start, Disable, Remove, Up, Fail, Open as OpenInput, UnexpectedOpen, Keepalive as KeepaliveInput, Update, RouteRefresh, Notification, Fault, NoMemory, Expires}
 use Rattle.bgp_fsm.specs.declared.session.Session.{Session}
 use Rattle.bgp_fsm.specs.declared.session.Outgoing.{Outgoing}
+use Rattle.bgp_fsm.specs.declared.timers.PeerTimers.{PeerTimers}
 use Rattle.bgp_fsm.specs.declared.session.Outgoing.TheVariants.{Open, Keepalive, Notification as Notify}
 use Rattle.bgp_fsm.specs.SessionTable.{fresh, session_after, effects_of}
 use Rattle.bgp_fsm.specs.StateTests.{is_notification}
@@ -72,8 +73,8 @@ abbrev pub said : Option Outgoing → List ℕ → List ℕ
 said message ring = if is_queued message ring then octets_of message else []
 
 -- a slot whose peer is configured and not enabled
-abbrev pub configured : OwnOpenMessage → Mode → Slot
-configured own mode = record { session = fresh own mode; rest = []; ring = [] }
+abbrev pub configured : OwnOpenMessage → Mode → PeerTimers → Slot
+configured own mode times = record { session = fresh own mode times; rest = []; ring = [] }
 
 -- these octets have come
 abbrev pub pushed : Slot → List ℕ → Slot

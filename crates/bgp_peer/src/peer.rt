@@ -16,7 +16,7 @@ ghost use Rattle.bgp_msg.specs.MessageLimits.{max_message};
 
 use arrayvec::ArrayVec;
 use bgp_attr::Mode;
-use bgp_fsm::{Effects, Input, Outgoing, Session, State, Timer};
+use bgp_fsm::{Effects, Input, Outgoing, PeerTimers, Session, State, Timer};
 use bgp_msg::{
     MAX_MESSAGE, OwnOpen, Step, needed, read, write_keepalive, write_notification, write_open,
 };
@@ -53,14 +53,15 @@ impl<A: Allocator> Model for Peer<A> {
 }
 
 impl<A: Allocator> Peer<A> {
-    /// A slot whose peer is configured and not enabled. `own` is the OPEN that this side sends.
-    pub fn new(alloc: A, own: OwnOpen, mode: Mode) -> Result<Self, AllocError>
-        ensures exact { IfOk result (λ p. p ≡ configured own mode) }
-        ensures agrees { IfOk result (λ p. (h : List Event) (peer_asn : Asn) → PeerAgrees (Configured (record { own = own; mode = mode; peer_asn = peer_asn }) ∷ h) p) }
+    /// A slot whose peer is configured and not enabled. `own` is the OPEN that this side sends, `times` are those of its timers
+    /// that the peer's operator may set.
+    pub fn new(alloc: A, own: OwnOpen, mode: Mode, times: PeerTimers) -> Result<Self, AllocError>
+        ensures exact { IfOk result (λ p. p ≡ configured own mode times) }
+        ensures agrees { IfOk result (λ p. (h : List Event) (peer_asn : Asn) → PeerAgrees (Configured (record { own = own; mode = mode; peer_asn = peer_asn }) times ∷ h) p) }
     {
         let ring = HeapCircularBuffer::with_capacity(alloc, RING_OCTETS)?;
         Ok(Peer {
-            session: Session::new(own, mode),
+            session: Session::new(own, mode, times),
             rest: ArrayVec::new(),
             ring,
         })

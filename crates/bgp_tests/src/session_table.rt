@@ -2,7 +2,7 @@
 //! memory and inputs that a speaker refuses.
 
 use bgp_attr::Mode;
-use bgp_fsm::{Input, Outgoing, Session, State, Timer, Timers};
+use bgp_fsm::{Input, Outgoing, PeerTimers, Session, State, Timer, Timers};
 use bgp_msg::{Notification, Open, OwnOpen, SessionError};
 use net_prefix::{Asn, Transport};
 
@@ -79,7 +79,7 @@ fn input_of(came: Came) -> Input<'static> {
 fn session_in(mode: Mode, state: State) -> Session {
     Session {
         state,
-        ..Session::new(OWN, mode)
+        ..Session::new(OWN, mode, PeerTimers::USUAL)
     }
 }
 
@@ -253,7 +253,11 @@ const RUNS: [Run; 7] = [
 
 // The session behind what comes, and whether the last of it made the session enter and leave Established.
 fn ran(hold_time: u16, inputs: &[(Came, u64)]) -> (Session, (bool, bool)) {
-    let mut session = Session::new(OwnOpen { hold_time, ..OWN }, Mode::Passive);
+    let mut session = Session::new(
+        OwnOpen { hold_time, ..OWN },
+        Mode::Passive,
+        PeerTimers::USUAL,
+    );
     let mut told = (false, false);
     for (came, now) in inputs {
         let effects = session.input(input_of(*came), *now);
@@ -288,6 +292,35 @@ fn is_identified(inputs: &[(Came, u64)]) -> bool {
 #[test]
 fn a_session_holds_and_has_the_identifier_of_its_peer(rt: HostRuntime) {
     assert!(rt; holds_until_240(&UPDATED) && is_identified(&OPENED));
+}
+
+// What comes to an active peer, for how long its timers run, and the timers then.
+#[rattlefmt::skip]
+const WAITING: [(&'static [(Came, u64)], PeerTimers, Timers); 4] = [
+    (&[(Came::Start, 100)], SHORT, Timers { connect_retry: Some(107), ..Timers::STOPPED }),
+    (&[(Came::Start, 100), (Came::Fail, 150)], SHORT, Timers { connect_retry: Some(157), ..Timers::STOPPED }),
+    (&[(Came::Start, 100), (Came::Up, 100), (Came::Keepalive, 150)], SHORT, Timers { idle_hold: Some(153), ..Timers::STOPPED }),
+    (&[(Came::Start, 100)], PeerTimers::USUAL, Timers { connect_retry: Some(220), ..Timers::STOPPED }),
+];
+
+const SHORT: PeerTimers = PeerTimers {
+    connect_retry: 7,
+    idle_hold: 3,
+};
+
+fn waits(inputs: &[(Came, u64)], times: PeerTimers) -> Timers {
+    let mut session = Session::new(OWN, Mode::Active, times);
+    for (came, now) in inputs {
+        let _ = session.input(input_of(*came), *now);
+    }
+    session.timers
+}
+
+#[test]
+fn a_session_waits_as_long_as_its_peer_has_it(rt: HostRuntime) {
+    for (inputs, times, timers) in &WAITING {
+        assert!(rt; waits(inputs, *times) == *timers);
+    }
 }
 
 // Whether the connect retry timer of a peer that is enabled at this moment has ended at the greatest one.

@@ -1,9 +1,11 @@
 //! Who answers operators.
+ghost use Rattle.std.specs.Prelude.{◌≡◌};
+ghost use Rattle.cache_desk.specs.Readings.{may_ask};
 
 use crate::line::{Line, line_of};
 use crate::reading::Reading;
 use crate::tables::{Rest, Scene, Shown, write_piece};
-use cache_watch::{ListFault, Reread};
+use cache_watch::Reread;
 use control_lines::{OPERATORS, Operators, Wish};
 use std::alloc::{AllocError, Global};
 use std::io::{self, Write};
@@ -15,13 +17,6 @@ pub(crate) const STOPPING_SECONDS: u64 = 5;
 // What is still to be said to an operator behind a piece.
 type Left = Option<Rest>;
 
-// Who asks for a reading of the list.
-#[derive(Clone, Copy)]
-struct Asking {
-    key: usize,
-    reading: Reading,
-}
-
 /// The operators, and what is kept of their lines between turns.
 #[derive(Drop)]
 pub(crate) struct Clerk<P> {
@@ -29,8 +24,11 @@ pub(crate) struct Clerk<P> {
     // What is being said, and what is left of the table of each operator.
     page: Vec<u8>,
     left: Vec<Left>,
-    // Who is told what the next reading leads to.
-    asking: Option<Asking>,
+    // Which reading is asked for next, and who is told what it leads to.
+    asking: Option<Reading>,
+    askers: [bool; OPERATORS],
+    // When a reading was asked for last.
+    asked: Option<u64>,
     // What the last reading led to.
     last: Option<Reread>,
     // When `stop` was said.
@@ -49,6 +47,8 @@ impl<P: Operators> Clerk<P> {
             page: Vec::new(alloc),
             left,
             asking: None,
+            askers: [false; OPERATORS],
+            asked: None,
             last: None,
             stopped: None,
         })
@@ -74,18 +74,29 @@ impl<P: Operators> Clerk<P> {
                 Wish::More => self.go_on(scene, key),
             }
         }
-        let asking = self.asking?;
-        Some(asking.reading)
+        if self.asking.is_some() {
+            self.asked = Some(scene.now);
+        }
+        self.asking
     }
 
-    /// Notes what reading the list has led to, and tells it to who asked for it.
+    /// Notes what reading the list has led to, and tells it to those who asked for it.
     pub(crate) fn tell(&mut self, led: Reread, payloads: usize) {
         self.last = Some(led);
-        if let Some(asking) = self.asking.take() {
-            self.page.clear();
-            let _said = write_outcome(led, payloads, &mut self.page);
-            self.hand_out(asking.key, None);
+        self.asking = None;
+        for key in 0..OPERATORS {
+            if self.has_asked(key) {
+                self.page.clear();
+                let _said = write_outcome(led, payloads, &mut self.page);
+                self.hand_out(key, None);
+            }
         }
+        self.askers = [false; OPERATORS];
+    }
+
+    // Whether the operator of this key asked for the reading.
+    fn has_asked(&self, key: usize) -> bool {
+        self.askers.get(key).copied().unwrap_or(false)
     }
 
     /// Whether octets of operators came or went, or something was said, since the last visit.
@@ -104,7 +115,7 @@ impl<P: Operators> Clerk<P> {
     fn answer<W: Wire + Drop>(&mut self, scene: &Scene<'_, W>, key: usize) {
         match line_of(self.operators.line(key)) {
             Line::Show(shown) => self.begin(scene, key, shown),
-            Line::Read(reading) => self.ask(key, reading),
+            Line::Read(reading) => self.ask(scene.now, key, reading),
             Line::Stop => {
                 self.stopped = Some(scene.now);
                 self.say(key, "ok");
@@ -113,17 +124,21 @@ impl<P: Operators> Clerk<P> {
         }
     }
 
-    // Notes a reading that is asked for. Where one is already, the operator waits for the next moment.
-    fn ask(&mut self, key: usize, reading: Reading) {
-        if reading == Reading::Accept && !is_guarded(self.last) {
+    // Notes a reading that is asked for. Where another one is already, or one was asked for in this second, the operator waits.
+    fn ask(&mut self, now: u64, key: usize, reading: Reading) {
+        if reading == Reading::Accept && !is_refused(self.last) {
             self.say(
                 key,
                 "refused: no guard refused the list when it was read last",
             );
             return;
         }
-        if self.asking.is_none() {
-            self.asking = Some(Asking { key, reading });
+        if !may_ask(self.asking, reading, self.asked, now) {
+            return;
+        }
+        self.asking = Some(reading);
+        if let Some(asker) = self.askers.get_mut(key) {
+            *asker = true;
         }
     }
 
@@ -166,12 +181,24 @@ impl<P: Operators> Clerk<P> {
     }
 }
 
-// Whether a guard refused the list, or its age.
-fn is_guarded(last: Option<Reread>) -> bool {
-    matches!(
-        last,
-        Some(Reread::Refused(ListFault::Guard(_) | ListFault::Old { .. }))
-    )
+// Whether a reading may be asked for now: one a second is, and those who ask for the same one at once share it (own choice).
+fn may_ask(asking: Option<Reading>, reading: Reading, asked: Option<u64>, now: u64) -> bool
+    ensures { result ≡ may_ask asking reading asked now }
+{
+    match (asking, reading, asked) {
+        (None, _, None) => true,
+        (None, _, Some(asked)) => asked != now,
+        (Some(Reading::Reread), Reading::Reread, _) => true,
+        (Some(_), _, _) => false,
+    }
+}
+
+// Whether a list was refused that may be accepted.
+fn is_refused(last: Option<Reread>) -> bool {
+    match last {
+        Some(Reread::Refused(why)) => why.payloads().is_some(),
+        _ => false,
+    }
 }
 
 fn write_outcome(led: Reread, payloads: usize, page: &mut Vec<u8>) -> io::Result<()> {

@@ -5,6 +5,6 @@
 pub enum Reading {
     /// The list is read at once.
     Reread,
-    /// It is read at once, and what guards refuse is served.
+    /// It is read at once, and served in spite of the guards where it is as large as the one that they refused last.
     Accept,
 }

@@ -17,7 +17,7 @@ use Rattle.cache_program.proofs.ServedTurns.{served_are_steps}
 use Rattle.cache_program.specs.FirstList.{IsFirst}
 use Rattle.cache_program.specs.Passing.{have_passed}
 use Rattle.cache_program.specs.Rereads.{IsNewest, RereadsWhenDue, Served, newest_set}
-use Rattle.cache_program.specs.ServedTurns.{IsBegun, IsServed, Moment, ServesAll, ServesOnce, ServesSoMany, is_accepted, is_read}
+use Rattle.cache_program.specs.ServedTurns.{IsBegun, IsServed, Moment, ServesAll, ServesOnce, ServesSoMany, count_accepted, is_read}
 use Rattle.cache_watch.specs.declared.reread.Reread.{Reread}
 use Rattle.cache_watch.specs.declared.telling.FileAge.{FileAge}
 
@@ -42,7 +42,7 @@ is_served Lists Wires Seconds settings may_ask count start before mid behind beg
 }
 
 -- the same, as others say what the system has answered
-due_as : (Lists Others : Result SourceTexts SourceFile → Type 0) → ((sources : Result SourceTexts SourceFile) → Lists sources → Others sources) → (accepts is_due : Bool) (now : ℕ) (age : FileAge) (old : Served) (answer : Option Reread) (new : Served) → RereadsWhenDue Lists accepts is_due now age old answer new → RereadsWhenDue Others accepts is_due now age old answer new
+due_as : (Lists Others : Result SourceTexts SourceFile → Type 0) → ((sources : Result SourceTexts SourceFile) → Lists sources → Others sources) → (accepts : Option ℕ) (is_due : Bool) (now : ℕ) (age : FileAge) (old : Served) (answer : Option Reread) (new : Served) → RereadsWhenDue Lists accepts is_due now age old answer new → RereadsWhenDue Others accepts is_due now age old answer new
 due_as Lists Others so accepts false now age old answer new none = none
 due_as Lists Others so accepts true now age old answer new rereads = (rereads.0, rereads.1, rereads.2, so rereads.2 rereads.3, rereads.4)
 
@@ -50,7 +50,7 @@ once_as : (Lists Others : Result SourceTexts SourceFile → Type 0) → ((source
 once_as Lists Others so asked is_due now age old new once = record {
   between = once.between;
   left = once.left;
-  rereads = (once.rereads.0, due_as Lists Others so (is_accepted asked) (is_read asked is_due) now age old once.rereads.0 once.between once.rereads.1);
+  rereads = (once.rereads.0, due_as Lists Others so (count_accepted asked old) (is_read asked is_due) now age old once.rereads.0 once.between once.rereads.1);
   withdraws = once.withdraws;
   takes = once.takes;
   same = once.same;
@@ -81,6 +81,7 @@ served_as Lists Others Wires Opened Seconds Told settings count before behind se
         payloads = begun.payloads;
         guards = begun.guards;
         accepted = begun.accepted;
+        refused = begun.refused;
         most = begun.most;
         listens = wires begun.wire begun.listens;
         turns = begun.turns;

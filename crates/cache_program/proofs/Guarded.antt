@@ -1,5 +1,5 @@
 -- What is served behind each moment is guarded.
-use Rattle.std.proofs.Common.{◌≡◌, ◌⊎◌, inl, inr, ℕ, Bool, true, false, List, [], ◌∷◌, Option, None, Result, Ok, Err, if◌then◌else◌, is_some, refl, sym, ap, subst, ◌∙◌}
+use Rattle.std.proofs.Common.{◌≡◌, ◌⊎◌, inl, inr, ℕ, Bool, true, false, List, [], ◌∷◌, Option, None, Some, Result, Ok, Err, if◌then◌else◌, is_some, refl, sym, ap, subst, ◌∙◌}
 use Rattle.std.proofs.lemmas.Bool.{false≢true}
 use Rattle.cache_turns.proofs.Keeping.{turn_keeps, withdrawing_keeps}
 use Rattle.list_guards.proofs.Passing.{passes}
@@ -16,8 +16,10 @@ use Rattle.payload_sources.specs.declared.fault.SourceFile.{SourceFile}
 use Rattle.cache_program.proofs.Begun.{first_is_newest_set}
 use Rattle.cache_program.proofs.Newest.{newest_set-kept_after}
 use Rattle.cache_program.specs.Passing.{have_passed}
-use Rattle.cache_program.specs.Rereads.{age_told, HandsIn, Publishes, Rereads, RereadsFile, RereadsWhenDue, Served, WithdrawsWhere, is_stale, newest_set, served_set, versions}
-use Rattle.cache_program.specs.ServedTurns.{IsBegun, IsServed, Moment, NobodyAsks, ServesAll, ServesOnce, is_accepted, is_read}
+use Rattle.cache_program.specs.Rereads.{age_told, HandsIn, KeepsCount, Publishes, Rereads, RereadsFile, RereadsWhenDue, Served, WithdrawsWhere, is_stale, newest_set, served_set, versions}
+use Rattle.cache_program.specs.ServedTurns.{IsBegun, IsServed, Moment, NobodyAsks, ServesAll, ServesOnce, count_accepted, is_read}
+use Rattle.cache_watch.specs.declared.reread.ListFault.{ListFault}
+use Rattle.cache_watch.specs.declared.reread.ListFault.TheVariants.{NoFile}
 use Rattle.cache_watch.specs.declared.reread.Reread.{Reread}
 use Rattle.cache_watch.specs.declared.reread.Reread.TheVariants.{Refused, Same, Published}
 use Rattle.cache_watch.specs.declared.telling.FileAge.{FileAge}
@@ -37,33 +39,40 @@ stays_same may old new same = record {
   well = λ well. subst (λ (s : Served). IsWell may old.guards s) (sym same) well;
 }
 
-handed_set : (accepts : Bool) (now age : ℕ) (set : List Vrp) (old : Served) (under : ℕ) (new : Served) → HandsIn accepts now age set old under new → served_set new ≡ set
+handed_set : (accepts : Option ℕ) (now age : ℕ) (set : List Vrp) (old : Served) (under : ℕ) (new : Served) → HandsIn accepts now age set old under new → served_set new ≡ set
 handed_set accepts now age set old under new handed =
     ap (λ (shared : Shared). newest_set shared.kept) handed.makes.0.0 ∙ newest_set-kept_after (versions old) set
 
-well_handed : (may accepts : Bool) (now age : ℕ) (set : List Vrp) (old : Served) (under : ℕ) (new : Served) → (accepts ≡ true → may ≡ true) → HandsIn accepts now age set old under new → IsWell may old.guards new
-well_handed may true now age set old under new allowed handed = inl (allowed refl, handed.accepted)
-well_handed may false now age set old under new allowed handed =
-    inr (subst (λ (s : List Vrp). HasEnough old.guards s) (sym (handed_set false now age set old under new handed)) (passes old.guards (served_set old) set handed.passes).0)
+well_handed : (may : Bool) (accepts : Option ℕ) (now age : ℕ) (set : List Vrp) (old : Served) (under : ℕ) (new : Served) → (is_some accepts ≡ true → may ≡ true) → HandsIn accepts now age set old under new → IsWell may old.guards new
+well_handed may (Some refused) now age set old under new allowed handed = inl (allowed refl, handed.accepted)
+well_handed may None now age set old under new allowed handed =
+    inr (subst (λ (s : List Vrp). HasEnough old.guards s) (sym (handed_set None now age set old under new handed)) (passes old.guards (served_set old) set handed.is_let_in.passes).0)
 
-stays_handed : (may accepts : Bool) (now age : ℕ) (set : List Vrp) (old : Served) (under : ℕ) (new : Served) → (accepts ≡ true → may ≡ true) → HandsIn accepts now age set old under new → Stays may old new
+-- a refused list leaves what is served
+stays_refused : (may : Bool) (why : ListFault) (old new : Served) → KeepsCount why old new → Stays may old new
+stays_refused may why old new keeps = record {
+  guards = ap (λ (s : Served). s.guards) keeps;
+  well = λ well. subst (λ (s : Served). IsWell may old.guards s) (sym keeps) well;
+}
+
+stays_handed : (may : Bool) (accepts : Option ℕ) (now age : ℕ) (set : List Vrp) (old : Served) (under : ℕ) (new : Served) → (is_some accepts ≡ true → may ≡ true) → HandsIn accepts now age set old under new → Stays may old new
 stays_handed may accepts now age set old under new allowed handed = record { guards = handed.guards; well = λ before. well_handed may accepts now age set old under new allowed handed }
 
-stays_published : (may accepts : Bool) (now age : ℕ) (set : List Vrp) (old : Served) (led : Reread) (new : Served) → (accepts ≡ true → may ≡ true) → Publishes accepts now age set old led new → Stays may old new
-stays_published may accepts now age set old (Refused why) new allowed refused = stays_same may old new refused.1
+stays_published : (may : Bool) (accepts : Option ℕ) (now age : ℕ) (set : List Vrp) (old : Served) (led : Reread) (new : Served) → (is_some accepts ≡ true → may ≡ true) → Publishes accepts now age set old led new → Stays may old new
+stays_published may accepts now age set old (Refused why) new allowed refused = stays_refused may why old new refused.1
 stays_published may accepts now age set old Same new allowed same = stays_handed may accepts now age set old _ new allowed same.2
 stays_published may accepts now age set old (Published serial) new allowed published = stays_handed may accepts now age set old serial new allowed published.2
 
-stays_by_file : (may accepts : Bool) (now : ℕ) (age : FileAge) (file : SourceTexts) (old : Served) (led : Reread) (new : Served) → (accepts ≡ true → may ≡ true) → RereadsFile accepts now age file old led new → Stays may old new
-stays_by_file may accepts now age file old (Refused why) new allowed refused = stays_same may old new refused.1
+stays_by_file : (may : Bool) (accepts : Option ℕ) (now : ℕ) (age : FileAge) (file : SourceTexts) (old : Served) (led : Reread) (new : Served) → (is_some accepts ≡ true → may ≡ true) → RereadsFile accepts now age file old led new → Stays may old new
+stays_by_file may accepts now age file old (Refused why) new allowed refused = stays_refused may why old new refused.1
 stays_by_file may accepts now age file old Same new allowed same = stays_published may accepts now (age_told new.written age) same.0 old Same new allowed same.2
 stays_by_file may accepts now age file old (Published serial) new allowed published = stays_published may accepts now (age_told new.written age) published.0 old (Published serial) new allowed published.2
 
-stays_reread : (may accepts : Bool) (now : ℕ) (age : FileAge) (sources : Result SourceTexts SourceFile) (old : Served) (led : Reread) (new : Served) → (accepts ≡ true → may ≡ true) → Rereads accepts now age sources old led new → Stays may old new
-stays_reread may accepts now age (Err file) old led new allowed none = stays_same may old new none.1
+stays_reread : (may : Bool) (accepts : Option ℕ) (now : ℕ) (age : FileAge) (sources : Result SourceTexts SourceFile) (old : Served) (led : Reread) (new : Served) → (is_some accepts ≡ true → may ≡ true) → Rereads accepts now age sources old led new → Stays may old new
+stays_reread may accepts now age (Err file) old led new allowed none = stays_refused may (NoFile file) old new none.1
 stays_reread may accepts now age (Ok file) old led new allowed rereads = stays_by_file may accepts now age file old led new allowed rereads
 
-stays_due : (Lists : Result SourceTexts SourceFile → Type 0) (may accepts is_due : Bool) (now : ℕ) (age : FileAge) (old : Served) (answer : Option Reread) (new : Served) → (accepts ≡ true → may ≡ true) → RereadsWhenDue Lists accepts is_due now age old answer new → Stays may old new
+stays_due : (Lists : Result SourceTexts SourceFile → Type 0) (may : Bool) (accepts : Option ℕ) (is_due : Bool) (now : ℕ) (age : FileAge) (old : Served) (answer : Option Reread) (new : Served) → (is_some accepts ≡ true → may ≡ true) → RereadsWhenDue Lists accepts is_due now age old answer new → Stays may old new
 stays_due Lists may accepts false now age old answer new allowed none = stays_same may old new none.1
 stays_due Lists may accepts true now age old answer new allowed rereads = stays_reread may accepts now age rereads.2 old rereads.0 new allowed rereads.4
 
@@ -87,9 +96,9 @@ withdrawn_keeps true old new withdraws = record {
 }
 
 -- a turn publishes nothing
-stays_once : (Lists : Result SourceTexts SourceFile → Type 0) (may : Bool) (asked : Option Reading) (is_due : Bool) (now : ℕ) (age : FileAge) (old new : Served) → (is_accepted asked ≡ true → may ≡ true) → ServesOnce Lists asked is_due now age old new → Stays may old new
+stays_once : (Lists : Result SourceTexts SourceFile → Type 0) (may : Bool) (asked : Option Reading) (is_due : Bool) (now : ℕ) (age : FileAge) (old new : Served) → (is_some (count_accepted asked old) ≡ true → may ≡ true) → ServesOnce Lists asked is_due now age old new → Stays may old new
 stays_once Lists may asked is_due now age old new allowed once =
-    let between = stays_due Lists may (is_accepted asked) (is_read asked is_due) now age old once.rereads.0 once.between allowed once.rereads.1 in
+    let between = stays_due Lists may (count_accepted asked old) (is_read asked is_due) now age old once.rereads.0 once.between allowed once.rereads.1 in
     let left = withdrawn_keeps (is_stale now once.between) once.between once.left once.withdraws in
     let kept = (turn_keeps now once.left.turns new.turns (Ok tt) once.takes).0 in
     record {
@@ -98,16 +107,16 @@ stays_once Lists may asked is_due now age old new allowed once =
     }
 
 -- where nobody may ask for a reading nobody accepts one
-only_where_one_may : (may : Bool) (asked : Option Reading) → (may ≡ false → asked ≡ None) → is_accepted asked ≡ true → may ≡ true
-only_where_one_may true asked none accepted = refl
-only_where_one_may false asked none accepted = absurd (false≢true (sym (ap is_accepted (none refl)) ∙ accepted))
+only_where_one_may : (may : Bool) (asked : Option Reading) (served : Served) → (may ≡ false → asked ≡ None) → is_some (count_accepted asked served) ≡ true → may ≡ true
+only_where_one_may true asked served none accepted = refl
+only_where_one_may false asked served none accepted = absurd (false≢true (sym (ap (λ (a : Option Reading). is_some (count_accepted a served)) (none refl)) ∙ accepted))
 
 -- behind all moments
 all_well : (Lists : Result SourceTexts SourceFile → Type 0) (seconds : Option ℕ) (may : Bool) (last : ℕ) (moments : List Moment) (guards : Guards) (old new : Served) → ServesAll Lists seconds last moments old new
     → (may ≡ false → NobodyAsks moments) → old.guards ≡ guards → IsWell may guards old → IsWell may guards new
 all_well Lists seconds may last [] guards old new same nobody is well = subst (λ (s : Served). IsWell may guards s) (sym same) well
 all_well Lists seconds may last (at ∷ moments) guards old new all nobody is well =
-    let stays = stays_once Lists may at.asked (have_passed seconds last at.now) at.now at.age old all.0 (only_where_one_may may at.asked (λ off. (nobody off).0)) all.1 in
+    let stays = stays_once Lists may at.asked (have_passed seconds last at.now) at.now at.age old all.0 (only_where_one_may may at.asked old (λ off. (nobody off).0)) all.1 in
     all_well Lists seconds may (if have_passed seconds last at.now then at.now else last) moments guards all.0 new all.2 (λ off. (nobody off).1) (stays.guards ∙ is)
     (subst (λ (g : Guards). IsWell may g all.0) is (stays.well (subst (λ (g : Guards). IsWell may g old) (sym is) well)))
 

@@ -1,3 +1,4 @@
+pub mod Admitting
 pub mod Begun
 pub mod EndedWell
 pub mod Guarded

@@ -11,7 +11,7 @@ use Rattle.cache_program.specs.Passing.{have_passed}
 use Rattle.cache_program.specs.declared.every.Every.{Every}
 use Rattle.cache_program.specs.Rereads.{age_told, HandsIn, Publishes, Rereads, RereadsFile, RereadsWhenDue, Served, WithdrawsWhere, is_stale}
 use Rattle.cache_desk.specs.declared.reading.Reading.{Reading}
-use Rattle.cache_program.specs.ServedTurns.{Moment, NobodyAsks, ServesAll, ServesOnce, ServesSoMany, is_accepted, is_read, nows}
+use Rattle.cache_program.specs.ServedTurns.{Moment, NobodyAsks, ServesAll, ServesOnce, ServesSoMany, count_accepted, is_read, nows}
 use Rattle.cache_watch.specs.declared.reread.Reread.{Reread}
 use Rattle.cache_watch.specs.declared.reread.Reread.TheVariants.{Refused, Same, Published}
 use Rattle.cache_watch.specs.declared.telling.FileAge.{FileAge}
@@ -101,24 +101,24 @@ fewer_served Lists seconds may_ask last count most before behind old new served 
 }
 
 -- a set that is handed in is loaded into the loop
-loads : (accepts : Bool) (now age : ℕ) (set : List Vrp) (old : Served) (under : ℕ) (new : Served) → HandsIn accepts now age set old under new → LoadsSet set old.turns new.turns
+loads : (accepts : Option ℕ) (now age : ℕ) (set : List Vrp) (old : Served) (under : ℕ) (new : Served) → HandsIn accepts now age set old under new → LoadsSet set old.turns new.turns
 loads accepts now age set old under new handed = record { result = Ok (tells_serial under); loads = handed.makes; same = handed.same }
 
-steps_between : (accepts : Bool) (now age : ℕ) (set : List Vrp) (old : Served) (led : Reread) (new : Served) → Publishes accepts now age set old led new → (steps : List Step) × TakesSteps steps old.turns new.turns
+steps_between : (accepts : Option ℕ) (now age : ℕ) (set : List Vrp) (old : Served) (led : Reread) (new : Served) → Publishes accepts now age set old led new → (steps : List Step) × TakesSteps steps old.turns new.turns
 steps_between accepts now age set old (Refused why) new refused = ([], ap (λ (s : Served). s.turns) refused.1)
 steps_between accepts now age set old Same new same = (Load set ∷ [], (new.turns, loads accepts now age set old _ new same.2, refl))
 steps_between accepts now age set old (Published serial) new published = (Load set ∷ [], (new.turns, loads accepts now age set old serial new published.2, refl))
 
-steps_of_file : (accepts : Bool) (now : ℕ) (age : FileAge) (file : SourceTexts) (old : Served) (led : Reread) (new : Served) → RereadsFile accepts now age file old led new → (steps : List Step) × TakesSteps steps old.turns new.turns
+steps_of_file : (accepts : Option ℕ) (now : ℕ) (age : FileAge) (file : SourceTexts) (old : Served) (led : Reread) (new : Served) → RereadsFile accepts now age file old led new → (steps : List Step) × TakesSteps steps old.turns new.turns
 steps_of_file accepts now age file old (Refused why) new refused = ([], ap (λ (s : Served). s.turns) refused.1)
 steps_of_file accepts now age file old Same new same = steps_between accepts now (age_told new.written age) same.0 old Same new same.2
 steps_of_file accepts now age file old (Published serial) new published = steps_between accepts now (age_told new.written age) published.0 old (Published serial) new published.2
 
-steps_reread : (accepts : Bool) (now : ℕ) (age : FileAge) (sources : Result SourceTexts SourceFile) (old : Served) (led : Reread) (new : Served) → Rereads accepts now age sources old led new → (steps : List Step) × TakesSteps steps old.turns new.turns
+steps_reread : (accepts : Option ℕ) (now : ℕ) (age : FileAge) (sources : Result SourceTexts SourceFile) (old : Served) (led : Reread) (new : Served) → Rereads accepts now age sources old led new → (steps : List Step) × TakesSteps steps old.turns new.turns
 steps_reread accepts now age (Err file) old led new none = ([], ap (λ (s : Served). s.turns) none.1)
 steps_reread accepts now age (Ok file) old led new rereads = steps_of_file accepts now age file old led new rereads
 
-steps_due : (Lists : Result SourceTexts SourceFile → Type 0) (accepts is_due : Bool) (now : ℕ) (age : FileAge) (old : Served) (answer : Option Reread) (new : Served) → RereadsWhenDue Lists accepts is_due now age old answer new → (steps : List Step) × TakesSteps steps old.turns new.turns
+steps_due : (Lists : Result SourceTexts SourceFile → Type 0) (accepts : Option ℕ) (is_due : Bool) (now : ℕ) (age : FileAge) (old : Served) (answer : Option Reread) (new : Served) → RereadsWhenDue Lists accepts is_due now age old answer new → (steps : List Step) × TakesSteps steps old.turns new.turns
 steps_due Lists accepts false now age old answer new none = ([], ap (λ (s : Served). s.turns) none.1)
 steps_due Lists accepts true now age old answer new rereads = steps_reread accepts now age rereads.2 old rereads.0 new rereads.4
 
@@ -136,7 +136,7 @@ pub served_are_steps : (Lists : Result SourceTexts SourceFile → Type 0) (secon
 served_are_steps Lists seconds last [] old new same = ([], ap (λ (s : Served). s.turns) same)
 served_are_steps Lists seconds last (at ∷ moments) old new all =
     let once = all.1 in
-    let read = steps_due Lists (is_accepted at.asked) (is_read at.asked (have_passed seconds last at.now)) at.now at.age old once.rereads.0 once.between once.rereads.1 in
+    let read = steps_due Lists (count_accepted at.asked old) (is_read at.asked (have_passed seconds last at.now)) at.now at.age old once.rereads.0 once.between once.rereads.1 in
     let withdrawn = steps_withdrawn (is_stale at.now once.between) once.between once.left once.withdraws in
     let before = steps_then read.0 withdrawn.0 old.turns once.between.turns once.left.turns read.1 withdrawn.1 in
     let more = served_are_steps Lists seconds (if have_passed seconds last at.now then at.now else last) moments all.0 new all.2 in

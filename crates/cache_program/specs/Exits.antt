@@ -3,7 +3,7 @@ use Rattle.rtr_cache.specs.declared.refusal.CacheRefusal.{CacheRefusal}
 use Rattle.rtr_cache.specs.declared.refusal.CacheRefusal.TheVariants.{NoClient, Full, ClockBack, NoMemory as NoMemoryOfCache, Range}
 use Rattle.payload_sources.specs.SourceExits.{exit_of_source}
 use Rattle.cache_watch.specs.declared.reread.ListFault.{ListFault}
-use Rattle.cache_watch.specs.declared.reread.ListFault.TheVariants.{NoFile, Source, Guard, Old, NoMemory}
+use Rattle.cache_watch.specs.declared.reread.ListFault.TheVariants.{NoFile, Source, Guard, Old, Other, NoMemory}
 use Rattle.settings_keys.specs.SettingsExits.{exit_of_settings}
 use Rattle.cache_program.specs.declared.fault.CacheFault.{CacheFault}
 use Rattle.cache_program.specs.declared.fault.CacheFault.TheVariants.{Words, File, Settings as BadSettings, List as BadList, Refused, Listen, Metrics, Clock, Turn, Output, NoMemory as NoMemoryToBegin}
@@ -15,7 +15,8 @@ abbrev pub exit_of_first_list : ListFault → ExitFault
 exit_of_first_list (NoFile file) = Device
 exit_of_first_list (Source why) = exit_of_source why
 exit_of_first_list (Guard why) = Settings
-exit_of_first_list (Old seconds most) = Settings
+exit_of_first_list (Old payloads seconds most) = Settings
+exit_of_first_list (Other payloads refused) = Settings
 exit_of_first_list NoMemory = Device
 
 -- what a refusal of the cache is to the program

@@ -8,7 +8,7 @@ use Rattle.payload_sources.specs.declared.fault.SourceFile.{SourceFile}
 use Rattle.vrp_json.specs.declared.written.Written.{Written}
 use Rattle.vrp_delta.specs.Versions.{Version, kept_after, newest_serial}
 use Rattle.cache_watch.specs.declared.reread.ListFault.{ListFault}
-use Rattle.cache_watch.specs.declared.reread.ListFault.TheVariants.{NoFile, Source, Guard, Old, NoMemory}
+use Rattle.cache_watch.specs.declared.reread.ListFault.TheVariants.{NoFile, Source, Guard, Old, Other, NoMemory}
 
 -- the set is that of the list that the text spells, under the exceptions of the SLURM file where there is one, and the
 -- guards let it be served first
@@ -20,7 +20,8 @@ abbrev pub IsNoFirst : Guards → SourceTexts → ListFault → Type 0
 IsNoFirst guards sources (NoFile file) = ⊥
 IsNoFirst guards sources (Source refused) = IsRefused sources refused
 IsNoFirst guards sources (Guard why) = (set : List Vrp) × IsSetOf sources set × (guard_fault guards [] set ≡ Some why)
-IsNoFirst guards sources (Old seconds most) = ⊥
+IsNoFirst guards sources (Old payloads seconds most) = ⊥
+IsNoFirst guards sources (Other payloads refused) = ⊥
 IsNoFirst guards sources NoMemory = ⊥
 
 -- what a cache has published then: the set of files that the system gave, which the guards let pass, of a list that says that

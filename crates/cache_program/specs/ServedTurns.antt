@@ -30,15 +30,16 @@ abbrev pub is_read : Option Reading → Bool → Bool
 is_read None is_due = is_due
 is_read (Some reading) is_due = true
 
--- an operator accepts what guards refuse
-abbrev pub is_accepted : Option Reading → Bool
-is_accepted None = false
-is_accepted (Some readings.Reread) = false
-is_accepted (Some readings.Accept) = true
+-- how many payloads the list has that an operator accepts whatever the guards say: as many as the one that was refused when it was
+-- read last, if one was
+abbrev pub count_accepted : Option Reading → Served → Option ℕ
+count_accepted None served = None
+count_accepted (Some readings.Reread) served = None
+count_accepted (Some readings.Accept) served = served.refused
 
 -- the list is read again where it is due or asked for, whatever that leads to
 abbrev pub HandsInWhereDue : (Result SourceTexts SourceFile → Type 0) → Option Reading → Bool → ℕ → FileAge → Served → Served → Type 0
-HandsInWhereDue Lists asked is_due now age old new = (answer : Option Reread) × RereadsWhenDue Lists (is_accepted asked) (is_read asked is_due) now age old answer new
+HandsInWhereDue Lists asked is_due now age old new = (answer : Option Reread) × RereadsWhenDue Lists (count_accepted asked old) (is_read asked is_due) now age old answer new
 
 -- what is done at a moment: the list is read again where it is due or asked for, what is too old is withdrawn, and then a turn is
 -- taken, which goes well
@@ -98,6 +99,7 @@ pub record IsBegun (Lists : Result SourceTexts SourceFile → Type 0) (Wires : W
   pub payloads : served.payloads ≡ length set
   pub guards : served.guards ≡ settings.guards
   pub accepted : served.accepted ≡ false
+  pub refused : served.refused ≡ None
   pub most : served.most ≡ oldest_of settings
   pub listens : Wires wire
   pub turns : served.turns ≡ idle settings.patience cache wire

@@ -36,6 +36,7 @@ use cache_watch::{
 use clocks::{MonotonicClock, SecondsClock, SecondsSince1970, SystemSeconds};
 use control_lines::Operators;
 use control_sockets::ControlSocket;
+use file_paths::Steady;
 use list_guards::ListAge;
 use log_limits::LineLimit;
 use metrics_sockets::MetricsSocket;
@@ -221,7 +222,7 @@ fn run_cache<
     R,
     O: Write,
     C: SecondsClock,
-    L: Read + Drop,
+    L: Read + Steady + Drop,
     W: Wire + Watched + Drop,
     P: Scrapers + Drop,
     Q: Operators + Drop,
@@ -302,7 +303,7 @@ pub fn serve_cache<
     R,
     O: Write,
     C: SecondsClock,
-    L: Read + Drop,
+    L: Read + Steady + Drop,
     W: Wire + Watched + Drop,
     P: Scrapers + Drop,
     Q: Operators + Drop,
@@ -406,7 +407,7 @@ where
 }
 
 // The list of the settings, begun in this second, before its first turn.
-fn begin<R, O: Write, L: Read + Drop, W: Wire + Watched + Drop, F, G>(
+fn begin<R, O: Write, L: Read + Steady + Drop, W: Wire + Watched + Drop, F, G>(
     rt: &R,
     settings: &CacheSettings,
     second: u64,
@@ -498,7 +499,7 @@ fn take_turns<
     R,
     O: Write,
     C: SecondsClock,
-    L: Read + Drop,
+    L: Read + Steady + Drop,
     W: Wire + Watched + Drop,
     P: Scrapers + Drop,
     Q: Operators + Drop,
@@ -624,7 +625,15 @@ fn attend<R: Files + Clock + AllocGlobal, W: Wire + Drop, P: Scrapers>(
 }
 
 // What is done at a moment, and what the log says of it.
-fn serve_once<R, O: Write, L: Read + Drop, W: Wire + Drop, P: Scrapers, Q: Operators + Drop, F>(
+fn serve_once<
+    R,
+    O: Write,
+    L: Read + Steady + Drop,
+    W: Wire + Drop,
+    P: Scrapers,
+    Q: Operators + Drop,
+    F,
+>(
     rt: &R,
     settings: &CacheSettings,
     served: &mut ServedList<W>,
@@ -653,11 +662,28 @@ where
     watch.count(led);
     desk.tell(led, served.payloads());
     if let Some(led) = led {
-        tell_list(rt, settings.log, led, served.payloads(), output);
+        tell_led(rt, settings, led, served.payloads(), output);
     }
     tell_withdrawal(rt, settings, served, now, was_withdrawn, led, output);
     turned?;
     Ok(())
+}
+
+// The log tells what reading the list has led to.
+fn tell_led<R: Clock, O: Write>(
+    rt: &R,
+    settings: &CacheSettings,
+    led: Reread,
+    payloads: usize,
+    output: &mut O,
+)
+    ensures { settings.now.log ≡ false → output.new ≡ output.old }
+{
+    let path = match led {
+        Reread::Refused(why) => path_of(settings, why.file()),
+        Reread::Same | Reread::Published(_) => settings.csv.as_str(),
+    };
+    tell_list(rt, settings.log, led, payloads, path, output);
 }
 
 // The log tells where the list was withdrawn, and where it is served again as it was.

@@ -14,6 +14,7 @@ pub fn of_first_list(why: ListFault) -> ExitFault
     match why {
         ListFault::Source(why) => why.exit(),
         ListFault::Guard(_) | ListFault::Old { .. } => ExitFault::Settings,
+        ListFault::Other { .. } => ExitFault::Settings,
         ListFault::NoFile(_) | ListFault::NoMemory => ExitFault::Device,
     }
 }

@@ -12,6 +12,7 @@ use crate::fault::CacheFault;
 use crate::files::{open_files, path_of};
 use cache_settings::{CacheSettings, SessionSource};
 use cache_watch::{ListFault, LogLine, log};
+use file_paths::Steady;
 use list_guards::Guards;
 use net_prefix::Vrp;
 use payload_sources::{SourceSet, Sources, read_sources};
@@ -23,7 +24,7 @@ use std::rt::Clock;
 
 /// The cache of the settings, begun in this second since 1970, with the set of the files that are opened at their paths: its
 /// serial, and what was read.
-pub(crate) fn load_cache<R: Clock + AllocGlobal, O: Write, L: Read + Drop, F>(
+pub(crate) fn load_cache<R: Clock + AllocGlobal, O: Write, L: Read + Steady + Drop, F>(
     rt: &R,
     settings: &CacheSettings,
     second: u64,
@@ -72,7 +73,7 @@ pub(crate) fn session_id(session: SessionSource, second: u64) -> u16
 }
 
 // Has the cache serve the list of the settings, read at this second.
-fn load_list<R: Clock + AllocGlobal, O: Write, L: Read + Drop, F>(
+fn load_list<R: Clock + AllocGlobal, O: Write, L: Read + Steady + Drop, F>(
     rt: &R,
     settings: &CacheSettings,
     second: u64,
@@ -125,7 +126,7 @@ where
 }
 
 // What is read of files; where no set can be had, the log tells why.
-fn read_told<R: Clock + AllocGlobal, L: Read + Drop, O: Write>(
+fn read_told<R: Clock + AllocGlobal, L: Read + Steady + Drop, O: Write>(
     rt: &R,
     settings: &CacheSettings,
     files: Sources<L>,
@@ -147,7 +148,7 @@ fn read_told<R: Clock + AllocGlobal, L: Read + Drop, O: Write>(
 }
 
 /// The set of files, where it can be had and the guards let it be served first.
-pub(crate) fn first_set<L: Read + Drop>(
+pub(crate) fn first_set<L: Read + Steady + Drop>(
     alloc: Global,
     guards: &Guards,
     files: Sources<L>,

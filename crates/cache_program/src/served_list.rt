@@ -1,5 +1,5 @@
 //! A payload list that is served while its file changes.
-ghost use Rattle.std.specs.Prelude.{◌≡◌, ◌+◌, Ok, Err, None, Some, IfNone, IfSome, MatchResult, false, if◌then◌else◌, is_some, length, true};
+ghost use Rattle.std.specs.Prelude.{◌≡◌, ◌≢◌, ◌+◌, Ok, Err, None, Some, IfNone, IfSome, MatchResult, false, if◌then◌else◌, is_some, length, true};
 ghost use Rattle.std.specs.Fn.{FnReturnsAt};
 ghost use Rattle.cache_turns.specs.Turns.{TakesTurn, WithdrawsSet};
 ghost use Rattle.list_guards.specs.Guarding.{guard_fault};
@@ -7,8 +7,8 @@ ghost use Rattle.payload_sources.specs.PayloadSources.{texts_of};
 ghost use Rattle.cache_program.specs.Figures.{figures_of};
 ghost use Rattle.cache_program.specs.Opened.{Gives};
 ghost use Rattle.cache_program.specs.Passing.{have_passed};
-ghost use Rattle.cache_program.specs.Rereads.{IsNewest, Notes, Publishes, Rereads, RereadsFile, RereadsWhenDue, ServesAt, WithdrawsWhere, age_told, fault_of_guards, is_older, is_stale, is_too_old, newest_set, served_set};
-ghost use Rattle.cache_program.specs.ServedTurns.{is_accepted, is_read};
+ghost use Rattle.cache_program.specs.Rereads.{IsKeptOut, IsLetIn, IsNewest, Notes, Publishes, Rereads, RereadsFile, RereadsWhenDue, ServesAt, WithdrawsWhere, age_told, is_older, is_stale, newest_set, served_set};
+ghost use Rattle.cache_program.specs.ServedTurns.{count_accepted, is_read};
 
 use crate::every::Every;
 use crate::files::open_files;
@@ -17,6 +17,7 @@ use cache_figures::CacheFigures;
 use cache_settings::CacheSettings;
 use cache_turns::CacheLoop;
 use cache_watch::{FileAge, ListFault, Reread};
+use file_paths::Steady;
 use list_guards::{GuardFault, Guards};
 use net_prefix::Vrp;
 use payload_sources::{Sources, Unopened, read_sources};
@@ -44,6 +45,8 @@ pub struct ServedList<W: Wire> {
     read: u64,
     // Whether an operator had the guards set aside for the list that is served.
     accepted: bool,
+    // How many payloads the list had that was refused when it was read last, where an operator may accept it.
+    refused: Option<usize>,
     // How many seconds old that list was when it was read.
     age: u64,
     // How many seconds old one may be, else it is withdrawn.
@@ -57,7 +60,7 @@ impl<W: Wire> Model for ServedList<W> {
 
     ghost Value = { Served };
 
-    ghost view = { λ s. record { turns = s.turns; guards = s.guards; serial = s.serial; payloads = s.payloads; read = s.read; accepted = s.accepted; age = s.age; most = s.most; written = s.written } };
+    ghost view = { λ s. record { turns = s.turns; guards = s.guards; serial = s.serial; payloads = s.payloads; read = s.read; accepted = s.accepted; refused = s.refused; age = s.age; most = s.most; written = s.written } };
 
     ghost invariant = { λ s. IsServing s.guards s.turns.cache.shared.kept s.serial s.payloads s.looked_at.keys };
 }
@@ -74,7 +77,7 @@ impl<W: Wire + Drop> ServedList<W> {
     ) -> Self
         requires newest { IsNewest turns.cache.shared.kept serial (length set.keys) }
         requires set { set.keys ≡ newest_set turns.cache.shared.kept }
-        ensures { result ≡ record { turns = turns; guards = guards; serial = serial; payloads = length set.keys; read = 0; accepted = false; age = 0; most = None; written = written } }
+        ensures { result ≡ record { turns = turns; guards = guards; serial = serial; payloads = length set.keys; read = 0; accepted = false; refused = None; age = 0; most = None; written = written } }
     {
         let payloads = set.len();
         ServedList {
@@ -85,6 +88,7 @@ impl<W: Wire + Drop> ServedList<W> {
             looked_at: kept_for(&guards, set),
             read: 0,
             accepted: false,
+            refused: None,
             age: 0,
             most: None,
             written,
@@ -112,7 +116,7 @@ impl<W: Wire + Drop> ServedList<W> {
     /// What is done at a moment: where the list is due, or an operator asks for it, the files of the settings are opened and it is
     /// read again, at this second since 1970, as old as it is then; what is too old is withdrawn; then a turn is taken. Answers what
     /// reading the list again has led to, where it was read, and what the turn has.
-    pub fn serve<L: Read + Drop, F: Fn(&str) -> io::Result<L>>(
+    pub fn serve<L: Read + Steady + Drop, F: Fn(&str) -> io::Result<L>>(
         &mut self,
         alloc: Global,
         now: u64,
@@ -124,23 +128,23 @@ impl<W: Wire + Drop> ServedList<W> {
         opens: &F,
     ) -> (Option<Reread>, Result<(), LoopFault>)
         requires { F.IsAlwaysCallable opens.now }
-        ensures serves { ServesAt (Gives (FnReturnsAt F.Fn opens.now) L.remaining settings.now) (is_accepted asked) (is_read asked (have_passed due.old.seconds due.old.last now)) now age self.old result.0 result.1 self.new }
+        ensures serves { ServesAt (Gives (FnReturnsAt F.Fn opens.now) L.remaining settings.now) (count_accepted asked self.old) (is_read asked (have_passed due.old.seconds due.old.last now)) now age self.old result.0 result.1 self.new }
         ensures due { due.new ≡ record due.old { last = if have_passed due.old.seconds due.old.last now then now else due.old.last } }
     {
         let is_read = is_read(asked, due.is_due(now));
-        let accepts = is_accepted(asked);
+        let accepts = self.count_accepted(asked);
         let reread = self.reread_if(is_read, alloc, now, age, accepts, settings, second, opens);
         self.withdraw_stale(now);
         (reread, self.turn(now))
     }
 
-    fn reread_if<L: Read + Drop, F: Fn(&str) -> io::Result<L>>(
+    fn reread_if<L: Read + Steady + Drop, F: Fn(&str) -> io::Result<L>>(
         &mut self,
         is_read: bool,
         alloc: Global,
         now: u64,
         age: FileAge,
-        accepts: bool,
+        accepts: Option<usize>,
         settings: &CacheSettings,
         second: u64,
         opens: &F,
@@ -164,30 +168,33 @@ impl<W: Wire + Drop> ServedList<W> {
     }
 
     /// Takes the set of files that were opened again at this moment, with a list as old as this. One that can't be had, or that a
-    /// guard refuses, or that is too old, changes nothing, and one that is served already publishes nothing. Where an operator
-    /// accepts what is refused so, it isn't.
-    pub fn reread<L: Read + Drop>(
+    /// guard refuses, or that is too old, changes nothing but what an operator may accept next, and one that is served already
+    /// publishes nothing. Where an operator accepts what is refused so, a list of as many payloads isn't, and any other is.
+    pub fn reread<L: Read + Steady + Drop>(
         &mut self,
         alloc: Global,
         now: u64,
         age: FileAge,
-        accepts: bool,
+        accepts: Option<usize>,
         sources: Result<Sources<L>, Unopened>,
     ) -> Reread
         ensures { MatchResult sources (λ files. Rereads accepts now age (Ok (texts_of L.remaining files.list files.slurm files.second)) self.old result self.new) (λ unopened. Rereads accepts now age (Err unopened.file) self.old result self.new) }
     {
         match sources {
             Ok(files) => self.reread_files(alloc, now, age, accepts, files),
-            Err(unopened) => Reread::Refused(ListFault::NoFile(unopened.file)),
+            Err(unopened) => {
+                self.refused = None;
+                Reread::Refused(ListFault::NoFile(unopened.file))
+            }
         }
     }
 
-    fn reread_files<L: Read + Drop>(
+    fn reread_files<L: Read + Steady + Drop>(
         &mut self,
         alloc: Global,
         now: u64,
         age: FileAge,
-        accepts: bool,
+        accepts: Option<usize>,
         files: Sources<L>,
     ) -> Reread
         ensures { RereadsFile accepts now age (texts_of L.remaining files.list files.slurm files.second) self.old result self.new }
@@ -197,50 +204,70 @@ impl<W: Wire + Drop> ServedList<W> {
                 let age = age_told(read.written, age);
                 self.publish(now, age, accepts, read.set, read.written)
             }
-            Err(refused) => Reread::Refused(ListFault::Source(refused)),
+            Err(refused) => {
+                self.refused = None;
+                Reread::Refused(ListFault::Source(refused))
+            }
         }
     }
 
-    // Hands a set of this age to the cache that isn't too old and that the guards let pass, or that an operator accepts.
+    // Hands a set of this age to the cache that is let in.
     fn publish(
         &mut self,
         now: u64,
         age: u64,
-        accepts: bool,
+        accepts: Option<usize>,
         set: BTreeSet<Vrp>,
         written: Written,
     ) -> Reread
         ensures publishes { Publishes accepts now age set.keys self.old result self.new }
         ensures notes { Notes written result self.new }
     {
-        if let Some(most) = self.too_old(accepts, age) {
-            return Reread::Refused(ListFault::Old { seconds: age, most });
-        }
-        match self.judge_unless(accepts, &set) {
+        match self.admit(age, accepts, &set) {
             Ok(()) => self.hand_in(now, age, accepts, set, written),
-            Err(why) => Reread::Refused(ListFault::Guard(why)),
+            Err(why) => {
+                self.refused = why.payloads();
+                Reread::Refused(why)
+            }
+        }
+    }
+
+    // Whether a set of this age is let in: where an operator accepts it, one that has as many payloads as the one that was
+    // refused, and else one that isn't too old and that the guards let pass.
+    fn admit(&self, age: u64, accepts: Option<usize>, set: &BTreeSet<Vrp>) -> Result<(), ListFault>
+        ensures { MatchResult result (λ passed. IsLetIn accepts age set.now.keys self.now) (λ why. IsKeptOut accepts age set.now.keys self.now why) }
+    {
+        match accepts {
+            Some(refused) => admit_shown(set.len(), refused),
+            None => self.admit_guarded(age, set),
+        }
+    }
+
+    fn admit_guarded(&self, age: u64, set: &BTreeSet<Vrp>) -> Result<(), ListFault>
+        ensures { MatchResult result (λ passed. IsLetIn None age set.now.keys self.now) (λ why. IsKeptOut None age set.now.keys self.now why) }
+    {
+        if let Some(most) = self.too_old(age) {
+            return Err(ListFault::Old {
+                payloads: set.len(),
+                seconds: age,
+                most,
+            });
+        }
+        match self.judge(set) {
+            Ok(()) => Ok(()),
+            Err(why) => Err(ListFault::Guard(why)),
         }
     }
 
     // How old a list may be, where one of this age is too old to be taken.
-    fn too_old(&self, accepts: bool, age: u64) -> Option<u32>
-        ensures old { IfSome result (λ most. (is_too_old accepts age self.now ≡ true) × (self.now.most ≡ Some most)) }
-        ensures young { IfNone result (is_too_old accepts age self.now ≡ false) }
+    fn too_old(&self, age: u64) -> Option<u32>
+        ensures old { IfSome result (λ most. (is_older self.now.most age ≡ true) × (self.now.most ≡ Some most)) }
+        ensures young { IfNone result (is_older self.now.most age ≡ false) }
     {
-        if !accepts && is_older(self.most, age) {
+        if is_older(self.most, age) {
             return self.most;
         }
         None
-    }
-
-    // Whether the guards let a set be served in the place of this one, where they are asked.
-    fn judge_unless(&self, accepts: bool, set: &BTreeSet<Vrp>) -> Result<(), GuardFault>
-        ensures { MatchResult result (λ passed. fault_of_guards accepts self.now set.now.keys ≡ None) (λ why. fault_of_guards accepts self.now set.now.keys ≡ Some why) }
-    {
-        match accepts {
-            true => Ok(()),
-            false => self.judge(set),
-        }
     }
 
     // Whether the guards let a set be served in the place of this one.
@@ -255,16 +282,16 @@ impl<W: Wire + Drop> ServedList<W> {
         &mut self,
         now: u64,
         age: u64,
-        accepts: bool,
+        accepts: Option<usize>,
         set: BTreeSet<Vrp>,
         written: Written,
     ) -> Reread
-        requires young { is_too_old accepts age self.old ≡ false }
-        requires passes { fault_of_guards accepts self.old set.keys ≡ None }
+        requires { IsLetIn accepts age set.keys self.old }
         ensures publishes { Publishes accepts now age set.keys self.old result self.new }
         ensures notes { Notes written result self.new }
     {
         let Ok(report) = self.turns.load(&set) else {
+            self.refused = None;
             return Reread::Refused(ListFault::NoMemory);
         };
         let before = self.serial;
@@ -272,7 +299,8 @@ impl<W: Wire + Drop> ServedList<W> {
         self.payloads = set.len();
         self.looked_at = kept_for(&self.guards, set);
         self.read = now;
-        self.accepted = accepts;
+        self.accepted = accepts.is_some();
+        self.refused = None;
         self.age = age;
         self.written = written;
         if self.serial == before {
@@ -295,6 +323,16 @@ impl<W: Wire + Drop> ServedList<W> {
         ensures same { self.new ≡ record self.old { turns = self.new.turns } }
     {
         self.turns.withdraw();
+    }
+
+    // How many payloads the list has that is taken whatever the guards say, where an operator accepts it.
+    fn count_accepted(&self, asked: Option<Reading>) -> Option<usize>
+        ensures { result ≡ count_accepted asked self.now }
+    {
+        match asked {
+            Some(Reading::Accept) => self.refused,
+            Some(Reading::Reread) | None => None,
+        }
     }
 
     fn is_stale(&self, now: u64) -> bool
@@ -427,14 +465,14 @@ fn is_read(asked: Option<Reading>, is_due: bool) -> bool
     }
 }
 
-// Whether an operator accepts what guards refuse.
-fn is_accepted(asked: Option<Reading>) -> bool
-    ensures { result ≡ is_accepted asked }
+// Whether a list is let in that an operator accepts, by its count of payloads and that of the one that was refused.
+fn admit_shown(payloads: usize, refused: usize) -> Result<(), ListFault>
+    ensures { MatchResult result (λ passed. payloads ≡ refused) (λ why. (why ≡ ListFault.Other payloads refused) × (payloads ≢ refused)) }
 {
-    match asked {
-        Some(Reading::Accept) => true,
-        Some(Reading::Reread) | None => false,
+    if payloads == refused {
+        return Ok(());
     }
+    Err(ListFault::Other { payloads, refused })
 }
 
 // The set, where a guard looks at it; else nothing of it is kept.

@@ -2,8 +2,10 @@
 
 use crate::rereads::{FIRST, asking, hears, is_published, list, reread, serving_none};
 use cache_program::{ListFault, Reread, ServedList};
+use cache_watch::FileAge;
 use list_guards::{GuardFault, Guards};
 use net_wires::NetWire;
+use payload_sources::Sources;
 use program_stages::lend;
 use std::alloc::{AllocGlobal, Global};
 use std::net::{Net, SocketAddr, TcpListener, TcpStream};
@@ -91,6 +93,7 @@ where
 // Whether six of ten payloads may not go at once, and five may.
 fn loses_half_at_most<W: Wire + Drop>(alloc: Global, served: &mut ServedList<W>) -> bool {
     let fault = GuardFault::TooManyGo {
+        payloads: 4,
         going: 6,
         served: 10,
         most: 50,
@@ -100,6 +103,34 @@ fn loses_half_at_most<W: Wire + Drop>(alloc: Global, served: &mut ServedList<W>)
         && served.payloads() == 10
         && is_published(alloc, served, EIGHT, 2)
         && served.payloads() == 8
+}
+
+// Reads a list again for one who accepts the list that was refused, which had so many payloads.
+fn accepting<W: Wire + Drop>(
+    alloc: Global,
+    served: &mut ServedList<W>,
+    text: &str,
+    refused: usize,
+) -> Reread {
+    let sources = Sources {
+        list: text.as_bytes(),
+        slurm: None,
+        second: None,
+    };
+    served.reread(alloc, 0, FileAge::NEW, Some(refused), Ok(sources))
+}
+
+// Whether only a list is accepted that has as many payloads as the one that was refused.
+fn accepts_what_was_refused<W: Wire + Drop>(alloc: Global, served: &mut ServedList<W>) -> bool {
+    let other = ListFault::Other {
+        payloads: 0,
+        refused: 4,
+    };
+    is_published(alloc, served, TEN, 1)
+        && accepting(alloc, served, NONE, 4) == Reread::Refused(other)
+        && served.payloads() == 10
+        && accepting(alloc, served, FOUR, 4) == Reread::Published(2)
+        && served.accepted()
 }
 
 // Whether all may go at once.
@@ -122,6 +153,18 @@ fn an_empty_list_behind_a_good_one_is_refused(rt: HostRuntime) -> Result<(), Fai
 fn more_than_the_share_may_not_go_at_once(rt: HostRuntime) -> Result<(), Fail> {
     let served = serving_none(rt.alloc(), NetWire::new(&rt)?, HALF_AT_MOST)?;
     assert!(rt; lend(served, |served| loses_half_at_most(rt.alloc(), served)));
+    Ok(())
+}
+
+#[test]
+fn another_list_than_was_refused_is_not_accepted(rt: HostRuntime) -> Result<(), Fail> {
+    let served = serving_none(rt.alloc(), NetWire::new(&rt)?, HALF_AT_MOST)?;
+    assert!(rt;
+        lend(
+            served,
+            |served| accepts_what_was_refused(rt.alloc(), served)
+        )
+    );
     Ok(())
 }
 

@@ -92,7 +92,7 @@ pub(crate) fn reread<W: Wire + Drop>(
         alloc,
         0,
         FileAge::NEW,
-        false,
+        None,
         Ok(Sources {
             list,
             slurm: None,
@@ -139,7 +139,7 @@ fn is_missing<W: Wire + Drop>(alloc: Global, served: &mut ServedList<W>) -> bool
         error: io::Error::from(ErrorKind::NotFound),
     });
     matches!(
-        served.reread(alloc, 0, FileAge::NEW, false, missing),
+        served.reread(alloc, 0, FileAge::NEW, None, missing),
         Reread::Refused(ListFault::NoFile(SourceFile::List))
     )
 }

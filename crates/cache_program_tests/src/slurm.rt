@@ -51,7 +51,7 @@ fn reread<W: Wire + Drop>(alloc: Global, served: &mut ServedList<W>, slurm: &str
         slurm: Some(slurm.as_bytes()),
         second: None,
     };
-    served.reread(alloc, 0, FileAge::NEW, false, Ok(sources))
+    served.reread(alloc, 0, FileAge::NEW, None, Ok(sources))
 }
 
 // Whether a SLURM file that isn't there is refused.
@@ -60,7 +60,7 @@ fn is_missing<W: Wire + Drop>(alloc: Global, served: &mut ServedList<W>) -> bool
         file: SourceFile::Slurm,
         error: io::Error::from(ErrorKind::NotFound),
     });
-    let led = served.reread(alloc, 0, FileAge::NEW, false, missing);
+    let led = served.reread(alloc, 0, FileAge::NEW, None, missing);
     led == Reread::Refused(ListFault::NoFile(SourceFile::Slurm))
 }
 

@@ -7,6 +7,7 @@ use jiff::Timestamp;
 use list_guards::ListAge;
 use net_wires::RouterEvent;
 use payload_sources::SourceFile;
+use std::fmt::{self, Display, Formatter};
 use std::io::{self, Write};
 use std::net::SocketAddr;
 use std::rt::Clock;
@@ -67,8 +68,22 @@ pub enum LogLine {
     Metrics(SocketAddr),
 }
 
+/// A line with the path of the file that it is of.
+#[derive(Clone, Copy)]
+pub(crate) struct AtPath<'a> {
+    pub path: &'a str,
+    pub line: LogLine,
+}
+
+impl<'a> Display for AtPath<'a> {
+    fn fmt<W: fmt::Write>(&self, f: &mut Formatter<W>) -> fmt::Result {
+        let AtPath { path, line } = self;
+        write!(f, "{line}: {path}")
+    }
+}
+
 /// Writes a line to the log where there is one.
-pub fn log<R: Clock, O: Write>(rt: &R, is_on: bool, output: &mut O, line: LogLine)
+pub fn log<R: Clock, O: Write, L: Display + Drop>(rt: &R, is_on: bool, output: &mut O, line: L)
     ensures { is_on ≡ false → output.new ≡ output.old }
 {
     if is_on {
@@ -78,7 +93,11 @@ pub fn log<R: Clock, O: Write>(rt: &R, is_on: bool, output: &mut O, line: LogLin
 }
 
 // A line behind its time, by the clock, to the second (RFC 3339).
-fn write_line<R: Clock, O: Write>(rt: &R, output: &mut O, line: LogLine) -> io::Result<()> {
+fn write_line<R: Clock, O: Write, L: Display + Drop>(
+    rt: &R,
+    output: &mut O,
+    line: L,
+) -> io::Result<()> {
     let seconds = SystemTime::UNIX_EPOCH.elapsed(rt)?.as_secs();
     let time = i64::try_from(seconds)
         .ok()

@@ -1,6 +1,6 @@
 //! What reading the list again has led to.
 ghost use Rattle.std.specs.Prelude.{◌≡◌};
-ghost use Rattle.cache_watch.specs.Outcomes.{outcome_of};
+ghost use Rattle.cache_watch.specs.Outcomes.{count_refused, outcome_of};
 
 use cache_figures::Outcome;
 use list_guards::GuardFault;
@@ -20,8 +20,18 @@ pub enum ListFault {
     #[error("{0}")]
     Guard(GuardFault),
     /// It is older than it may be.
-    #[error("written {seconds} seconds ago, and {most} may be")]
-    Old { seconds: u64, most: u32 },
+    #[error("it has {payloads} payloads, written {seconds} seconds ago, and {most} may be")]
+    Old {
+        payloads: usize,
+        seconds: u64,
+        most: u32,
+    },
+    /// An operator accepts the list that was refused, which had another count of payloads.
+    #[error("it has {payloads} payloads, and the one that was refused had {refused}")]
+    Other {
+        payloads: usize,
+        refused: usize,
+    },
     /// The cache has no memory for it.
     #[error("there is no memory to publish it")]
     NoMemory,
@@ -34,7 +44,19 @@ impl ListFault {
             ListFault::NoFile(file) => file,
             ListFault::Source(why) => why.file(),
             ListFault::Guard(_) | ListFault::NoMemory => SourceFile::List,
-            ListFault::Old { .. } => SourceFile::List,
+            ListFault::Old { .. } | ListFault::Other { .. } => SourceFile::List,
+        }
+    }
+
+    /// How many payloads the list has, where an operator may accept it.
+    pub fn payloads(self) -> Option<usize>
+        ensures { result ≡ count_refused self }
+    {
+        match self {
+            ListFault::Guard(why) => Some(why.payloads()),
+            ListFault::Old { payloads, .. } => Some(payloads),
+            ListFault::Other { payloads, .. } => Some(payloads),
+            ListFault::NoFile(_) | ListFault::Source(_) | ListFault::NoMemory => None,
         }
     }
 }

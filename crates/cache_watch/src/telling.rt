@@ -2,13 +2,14 @@
 ghost use Rattle.std.specs.Prelude.{◌≡◌, ◌-◌, None, false};
 ghost use Rattle.vrp_json.specs.declared.written.Written.TheVariants.{Unread};
 
-use crate::journal::{LogLine, log};
-use crate::reread::Reread;
+use crate::journal::{AtPath, LogLine, log};
+use crate::reread::{ListFault, Reread};
 use crate::watched::Watched;
 use cache_figures::CacheFigures;
 use list_guards::ListAge;
 use log_limits::LineLimit;
 use net_wires::RouterEvent;
+use payload_sources::SourceFault;
 use scrapers::Scrapers;
 use std::fs;
 use std::io::{self, Write};
@@ -39,25 +40,37 @@ pub fn tell_metrics<R: Clock, P: Scrapers, O: Write>(
     }
 }
 
-/// Writes to the log what reading the list again has led to.
+/// Writes to the log what reading the list again has led to; where a file changed meanwhile, with its path.
 pub fn tell_list<R: Clock, O: Write>(
     rt: &R,
     is_on: bool,
     led: Reread,
     payloads: usize,
+    path: &str,
     output: &mut O,
 )
     ensures { is_on ≡ false → output.new ≡ output.old }
 {
-    let line = match led {
-        Reread::Refused(why) => LogLine::Refused {
-            file: why.file(),
-            why,
-        },
-        Reread::Same => return,
-        Reread::Published(serial) => LogLine::Loaded { serial, payloads },
-    };
-    log(rt, is_on, output, line);
+    match led {
+        Reread::Refused(why) => tell_refused(rt, is_on, why, path, output),
+        Reread::Same => {}
+        Reread::Published(serial) => {
+            log(rt, is_on, output, LogLine::Loaded { serial, payloads });
+        }
+    }
+}
+
+fn tell_refused<R: Clock, O: Write>(rt: &R, is_on: bool, why: ListFault, path: &str, output: &mut O)
+    ensures { is_on ≡ false → output.new ≡ output.old }
+{
+    let file = why.file();
+    let line = LogLine::Refused { file, why };
+    match why {
+        ListFault::Source(SourceFault::Changed(_)) => {
+            log(rt, is_on, output, AtPath { path, line });
+        }
+        _ => log(rt, is_on, output, line),
+    }
 }
 
 /// How many lines a minute tell that routers came and went (own choice).

@@ -4,8 +4,9 @@
 //! trusted, beside the toolchain.
 ghost use Rattle.std.specs.Prelude.{◌≡◌, IfOk};
 
+use crate::steady::{Stamp, Steady, stamp_of};
 use std::alloc::AllocGlobal;
-use std::fs;
+use std::fs::{self, OpenFile};
 use std::io::{self, ErrorKind, Read};
 use std::marker::Model;
 use std::rt::Files;
@@ -15,6 +16,8 @@ use std::rt::Files;
 pub struct FileAt<F: Read> {
     path: String,
     file: F,
+    // Its stamp when it was opened.
+    opened: Option<Stamp>,
 }
 
 impl<F: Read> Model for FileAt<F> {
@@ -34,9 +37,11 @@ pub fn open_at<R: Files + AllocGlobal>(rt: &R, path: &str) -> io::Result<FileAt<
         return Err(io::Error::from(ErrorKind::InvalidInput));
     }
     let file = fs::open(rt, path)?;
+    let opened = stamp_of(&file);
     Ok(FileAt {
         path: String::from_str(rt.alloc(), path)?,
         file,
+        opened,
     })
 }
 
@@ -53,5 +58,13 @@ impl<F: Read> Read for FileAt<F> {
 
     fn read(&mut self, buf: &mut [u8]) -> io::Result<usize> {
         self.file.read(buf)
+    }
+}
+
+impl<F: Read + OpenFile> Steady for FileAt<F> {
+    // By its size and the time at which it was written: those of the file that was opened, also where another one stands at its
+    // path by now.
+    fn has_changed(&self) -> bool {
+        stamp_of(&self.file) != self.opened
     }
 }

@@ -9,6 +9,15 @@ use speaker::{Speaker, Transport};
 use std::alloc::{Allocator, Global};
 use std::io::{self, Write};
 
+// More slots than there are peers.
+const SLOTS: u8 = 64;
+
+// More rings than a slot fills.
+const MOST_RINGS: u32 = 1_000;
+
+// Where nothing is handed out, or it is refused.
+const NOTHING_OUT: &[u8] = b"refused 40\n";
+
 /// Plays the lines of a call, and puts in what they answer in the place of what the text was.
 pub fn answer<A: Allocator + Clone + Copy, B: Book<A>>(
     stage: &mut Stage<A, B>,
@@ -34,6 +43,51 @@ pub fn take_all<A: Allocator + Clone + Copy, B: Book<A>>(
     answer(stage, call.with(line.as_str().as_bytes()), text)
 }
 
+/// The session of a slot ends and begins anew, and each slot has all of its octets handed out.
+pub fn begin_anew<A: Allocator + Clone + Copy, B: Book<A>>(
+    stage: &mut Stage<A, B>,
+    call: Call<'_>,
+    slot: u8,
+    alloc: Global,
+    text: &mut Vec<u8>,
+) -> Result<(), Fault> {
+    let lines = format!(in alloc; "disable {slot}\nfail {slot}\nenable {slot}\n")?;
+    answer(stage, call.with(lines.as_str().as_bytes()), text)?;
+    for slot in 0..SLOTS {
+        drain(stage, call, slot, alloc, text)?;
+    }
+    Ok(())
+}
+
+// What is handed out makes room for more.
+fn drain<A: Allocator + Clone + Copy, B: Book<A>>(
+    stage: &mut Stage<A, B>,
+    call: Call<'_>,
+    slot: u8,
+    alloc: Global,
+    text: &mut Vec<u8>,
+) -> Result<(), Fault> {
+    for _ in 0..MOST_RINGS {
+        take_all(stage, call, slot, alloc, text)?;
+        if text.len() <= NOTHING_OUT.len() {
+            break;
+        }
+    }
+    Ok(())
+}
+
+/// A client of the cache goes, and another comes in its place.
+pub fn replace_client<A: Allocator + Clone + Copy, B: Book<A>>(
+    stage: &mut Stage<A, B>,
+    call: Call<'_>,
+    key: u64,
+    alloc: Global,
+    text: &mut Vec<u8>,
+) -> Result<(), Fault> {
+    let lines = format!(in alloc; "cdown {key}\ncup\n")?;
+    answer(stage, call.with(lines.as_str().as_bytes()), text)
+}
+
 fn answer_line<A: Allocator + Clone + Copy, B: Book<A>>(
     stage: &mut Stage<A, B>,
     line: Call<'_>,
@@ -57,9 +111,9 @@ fn play_line<A: Allocator + Clone + Copy, B: Book<A>>(
     }
 }
 
-// Whether the line asks for what no other line shows: how often a best route was chosen in the speaker's last call, the
-// slots whose connection attempts began in it, or the transport of a slot.
-fn is_look(line: &[u8]) -> bool {
+/// Whether the line asks for what no other line shows: how often a best route was chosen in the speaker's last call, the
+/// slots whose connection attempts began in it, or the transport of a slot.
+pub fn is_look(line: &[u8]) -> bool {
     line == b"chosen\n".as_slice()
         || line == b"opened\n".as_slice()
         || line.starts_with(b"transport ")

@@ -133,16 +133,24 @@ fn opens(report: Report) -> bool {
 
 // Refuses the requests in turn, and puts in what each came to, a line each.
 fn refuse_each(alloc: Global, case: Case<'_>, endings: &mut Vec<u8>) -> Result<(), Fault> {
-    let first = number_behind(case.rows, b"from ").unwrap_or(1);
     let most = number_behind(case.rows, b"most ");
-    for later in 0..most.unwrap_or(MOST_REQUESTS) {
-        let met = refuse(alloc, case, first.saturating_add(later).max(1))?;
+    for place in 0..most.unwrap_or(MOST_REQUESTS) {
+        let met = refuse(alloc, case, request_at(case.rows, place))?;
         if met.ending == Ending::Nothing {
             return Ok(());
         }
         note(met, endings)?;
     }
     Wrong::EndlessRequests.unless(most.is_some(), 0)
+}
+
+// The request that is refused at this place, counted from 0.
+fn request_at(rows: &[u8], place: u64) -> u64
+    ensures { 1 ≤ result }
+{
+    let first = number_behind(rows, b"from ").unwrap_or(1);
+    let step = number_behind(rows, b"step ").unwrap_or(1);
+    first.saturating_add(place.saturating_mul(step)).max(1)
 }
 
 fn note(met: Met, endings: &mut Vec<u8>) -> io::Result<()> {

@@ -24,6 +24,7 @@ pub enum Wrong {
     OtherwiseWhereCacheClosed,
     CacheUntold,
     ClientAway,
+    Asks,
 }
 
 impl Wrong {
@@ -56,6 +57,7 @@ impl Wrong {
             }
             Wrong::CacheUntold => "doesn't tell the cache why",
             Wrong::ClientAway => "doesn't let the closed client come again",
+            Wrong::Asks => "asks for memory, which it is to do without",
         }
     }
 }

@@ -1,6 +1,6 @@
 //! Two runs of a script beside each other: one to which requests are refused, and one to which none are.
 
-use crate::answers::{answer, take_all};
+use crate::answers::{answer, begin_anew, replace_client, take_all};
 use crate::calls::Call;
 use crate::endings::{Ending, is_told_and_closed};
 use crate::fault::{Fault, Wrong};
@@ -22,6 +22,12 @@ pub trait Runs {
 
     /// The first hands out all that it has for a slot.
     fn take_all(&mut self, call: Call<'_>, slot: u8) -> bool;
+
+    /// Both have the session of a slot end and begin anew, and hand out all that they have.
+    fn begin_anew(&mut self, call: Call<'_>, slot: u8) -> bool;
+
+    /// Both have a client of the cache go, and another come in its place.
+    fn replace_client(&mut self, call: Call<'_>, key: u64) -> bool;
 
     /// The call is wrong so, unless this holds.
     fn expect(&mut self, holds: bool, wrong: Wrong, number: u64) -> bool;
@@ -100,6 +106,18 @@ impl<A: Allocator + Clone + Copy> Runs for Pair<'_, A> {
     fn take_all(&mut self, call: Call<'_>, slot: u8) -> bool {
         let taken = take_all(self.tested, call, slot, self.alloc, &mut self.answer);
         self.keep(taken)
+    }
+
+    fn begin_anew(&mut self, call: Call<'_>, slot: u8) -> bool {
+        let tested = begin_anew(self.tested, call, slot, self.alloc, &mut self.answer);
+        let whole = begin_anew(self.whole, call, slot, self.alloc, &mut self.told);
+        self.keep(tested) && self.keep(whole)
+    }
+
+    fn replace_client(&mut self, call: Call<'_>, key: u64) -> bool {
+        let tested = replace_client(self.tested, call, key, self.alloc, &mut self.answer);
+        let whole = replace_client(self.whole, call, key, self.alloc, &mut self.told);
+        self.keep(tested) && self.keep(whole)
     }
 
     fn expect(&mut self, holds: bool, wrong: Wrong, number: u64) -> bool {

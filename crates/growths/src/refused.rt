@@ -4,19 +4,23 @@
 //! call is answered as told when it comes again. Or it is answered as told, but says that one session was closed for
 //! want of memory: that one is idle, its peer is told why, its routes have gone, and all else is as in the other run.
 //! Then its peer comes again, by the lines of the case, and the rest of the script is answered as told; where the case
-//! has no such lines the rest is played without that peer. Or the session with a cache was closed: the cache is sent
-//! an Error Report, and what is in force stays. Or a client of a cache was closed, and no other: it is sent an Error
-//! Report in the place of a response, comes again by the lines of the case, and has its response. Or nothing shows of it:
-//! what was asked for is a help to find things soon, the call is answered as in the other run, and both show the same.
+//! has no such lines the rest is played without that peer. In a case that is `alike` the peer is disabled, lost and
+//! enabled again in both runs instead, and both then show the same and go on alike. Or the session with a cache was
+//! closed: the cache is sent an Error Report, and what is in force stays. Or a client of a cache was closed, and no other:
+//! it is sent an Error Report in the place of a response, comes again by the lines of the case, and has its response. Or
+//! nothing shows of it: what was asked for is a help to find things soon, the call is answered as in the other run, and
+//! both show the same. A view, or what has the octets for the cache handed out, meets no refused request; and at the end of a
+//! run to which none was refused all views are shown, and make none.
 ghost use Rattle.std.specs.Prelude.{◌≤◌};
 
+use crate::answers::is_look;
 use crate::calls::{Call, split_call};
 use crate::case::Case;
 use crate::endings::{Ending, INTERNAL_ERROR, ending_of, is_want_of_memory};
 use crate::fault::Wrong;
 use crate::lines::{Lines, number_at, row_of};
 use crate::pair::Runs;
-use crate::rows::{asked, has_row, number_behind};
+use crate::rows::{asked, asked_after, has_row, number_behind};
 use crate::views::Scope;
 use refusing::Refusing;
 
@@ -50,7 +54,7 @@ pub fn play_on<R: Runs, B>(case: Case<'_>, runs: &mut R, requests: &Refusing<B>)
     let mut met = Met::NOTHING;
     for number in 1..MOST_CALLS {
         let Some((text, behind)) = split_call(script) else {
-            return finish(runs, met);
+            return finish(runs, requests, met, number);
         };
         script = behind;
         met = play_call(case, runs, requests, met, Call { number, text })?;
@@ -107,22 +111,32 @@ fn is_for(line: &[u8], slot: u8) -> bool {
     number_at(row_of(line), 1) == Some(u64::from(slot))
 }
 
-// At the end of a script: a peer that was closed and hasn't come again is still away.
-fn finish<R: Runs>(runs: &mut R, met: Met) -> Option<Met> {
-    if !met.is_apart || runs.shows_alike(met.ending, Scope::End, met.number) {
-        Some(met)
-    } else {
-        None
-    }
+// At the end of a script: a peer that was closed and hasn't come again is still away; and where no request was refused all is
+// shown, for which none is made.
+fn finish<R: Runs, B>(runs: &mut R, requests: &Refusing<B>, met: Met, number: u64) -> Option<Met> {
+    let holds = match met.ending {
+        Ending::Nothing => shows_without_memory(runs, requests, number),
+        _ => !met.is_apart || runs.shows_alike(met.ending, Scope::End, met.number),
+    };
+    if holds { Some(met) } else { None }
+}
+
+// In the run in which the request behind the last one is refused, all views are asked for: none makes it.
+fn shows_without_memory<R: Runs, B>(runs: &mut R, requests: &Refusing<B>, number: u64) -> bool {
+    runs.shows_alike(Ending::Unseen, Scope::Whole, number)
+        && runs.expect(!requests.has_refused(), Wrong::Asks, number)
 }
 
 // The first run has just met the refused request at this call, which the other hasn't played yet.
 fn meet<R: Runs>(case: Case<'_>, runs: &mut R, call: Call<'_>) -> Option<Met> {
+    if !runs.expect(!is_spared(call.text), Wrong::Asks, call.number) {
+        return None;
+    }
     match ending_of(call.text, runs.answer()) {
         Some(ending) if is_met(case, runs, call, ending) => Some(Met {
             ending,
             number: call.number,
-            is_apart: is_apart(case.again, ending),
+            is_apart: !has_row(case.rows, b"alike") && is_apart(case.again, ending),
         }),
         Some(_) => None,
         None if is_unseen(runs, call) => Some(Met {
@@ -132,6 +146,11 @@ fn meet<R: Runs>(case: Case<'_>, runs: &mut R, call: Call<'_>) -> Option<Met> {
         }),
         None => None,
     }
+}
+
+// Whether it is a view, or what has the octets for the cache handed out, which take no memory.
+fn is_spared(call: &[u8]) -> bool {
+    is_look(call) || call.starts_with(b"show ") || call.starts_with(b"rtake ")
 }
 
 // Nothing shows of the refused request.
@@ -189,7 +208,22 @@ fn ask<R: Runs>(case: Case<'_>, runs: &mut R, call: Call<'_>) -> bool {
 }
 
 fn is_answered<R: Runs>(row: &[u8], runs: &mut R, call: Call<'_>) -> bool {
-    match asked(row, call.number) {
+    is_told(asked(row, call.number), runs, call)
+}
+
+// The same of those that are asked behind the closing of a slot.
+fn ask_after<R: Runs>(case: Case<'_>, runs: &mut R, call: Call<'_>, slot: u8) -> bool {
+    for line in Lines::of(case.rows) {
+        let asked = asked_after(row_of(line), call.number, slot);
+        if !is_told(asked, runs, call) {
+            return false;
+        }
+    }
+    true
+}
+
+fn is_told<R: Runs>(asked: Option<(&[u8], &[u8])>, runs: &mut R, call: Call<'_>) -> bool {
+    match asked {
         Some((asked, told)) => runs.play(call.with(asked)) && is_answer(runs, told, call.number),
         None => true,
     }
@@ -231,10 +265,28 @@ fn is_told_and_closed<R: Runs>(runs: &mut R, call: Call<'_>, wrong: Wrong) -> bo
 // A peer was closed.
 fn is_closed<R: Runs>(case: Case<'_>, runs: &mut R, call: Call<'_>, slot: u8) -> bool {
     is_told_and_closed(runs, call, Wrong::OtherwiseWhereClosed)
-        && runs.shows_alike(Ending::Closed(slot), Scope::Whole, call.number)
+        && runs.shows_alike(Ending::Closed(slot), scope_of(case.rows), call.number)
         && runs.take_all(call, slot)
         && is_told_why(case, runs, call.number)
-        && comes_again(case, runs, call, slot)
+        && ask_after(case, runs, call, slot)
+        && comes_back(case, runs, call, slot)
+}
+
+// What is compared where a peer was closed: where it comes again in both runs, all that another peer has no part in.
+fn scope_of(rows: &[u8]) -> Scope {
+    if has_row(rows, b"alike") {
+        Scope::Received
+    } else {
+        Scope::Whole
+    }
+}
+
+fn comes_back<R: Runs>(case: Case<'_>, runs: &mut R, call: Call<'_>, slot: u8) -> bool {
+    if has_row(case.rows, b"alike") {
+        runs.begin_anew(call, slot) && runs.shows_alike(Ending::Unseen, Scope::Whole, call.number)
+    } else {
+        comes_again(case, runs, call, slot)
+    }
 }
 
 fn is_told_why<R: Runs>(case: Case<'_>, runs: &mut R, number: u64) -> bool {
@@ -278,8 +330,15 @@ fn cache_is_closed<R: Runs>(runs: &mut R, call: Call<'_>) -> bool {
 fn client_is_closed<R: Runs>(case: Case<'_>, runs: &mut R, call: Call<'_>, key: u64) -> bool {
     runs.play_whole(call)
         && runs.shows_alike(Ending::ClientClosed(key), Scope::Whole, call.number)
-        && client_comes_again(case, runs, call, key)
-        && is_as_told_at_last(case, runs, call)
+        && client_comes_back(case, runs, call, key)
+}
+
+fn client_comes_back<R: Runs>(case: Case<'_>, runs: &mut R, call: Call<'_>, key: u64) -> bool {
+    if has_row(case.rows, b"alike") {
+        runs.replace_client(call, key) && is_as_told(runs, call.number)
+    } else {
+        client_comes_again(case, runs, call, key) && is_as_told_at_last(case, runs, call)
+    }
 }
 
 fn client_comes_again<R: Runs>(case: Case<'_>, runs: &mut R, call: Call<'_>, key: u64) -> bool {

@@ -1,10 +1,13 @@
 //! The rows of a case: how it is played, and what must have come of it.
 //!
-//! `from N` and `most N`: which requests are refused, so many from the Nth on (all, where there are no such rows).
+//! `from N`, `step N` and `most N`: which requests are refused, so many from the Nth on, each or one in N (all, where there
+//! are no such rows).
 //! `twice`: the request behind the refused one is refused too, since what grows by less asks again.
 //! `opens`: connection attempts begin; where there is no such row, none does.
+//! `alike`: a peer or a client that was closed comes again in both runs, which show the same from there on.
 //! `told N`: a peer whose session was closed is told so many octets.
 //! `ask N LINE -> ANSWER`: where the Nth call was refused, and before it comes again, this line is answered so.
+//! `after N SLOT LINE -> ANSWER`: where this slot was closed at the Nth call, and before it comes again, the same.
 //! `has ENDING` and `not ENDING`: some refused request came to this, or none did: `refused`, `closed SLOT`, `closed
 //! cache`, `client KEY` or `unseen`, and where a number follows, at the call of this number.
 
@@ -73,6 +76,17 @@ pub fn count_of(endings: &[u8], words: &[u8]) -> usize {
 pub fn asked(row: &[u8], number: u64) -> Option<(&[u8], &[u8])> {
     let (call, line) = split_word(row.strip_prefix(b"ask ")?)?;
     if number_of(call) == Some(number) {
+        split_answer(line)
+    } else {
+        None
+    }
+}
+
+/// The line that is asked where this slot was closed at the call of this number, and its answer.
+pub fn asked_after(row: &[u8], number: u64, slot: u8) -> Option<(&[u8], &[u8])> {
+    let (call, rest) = split_word(row.strip_prefix(b"after ")?)?;
+    let (closed, line) = split_word(rest)?;
+    if number_of(call) == Some(number) && number_of(closed) == Some(u64::from(slot)) {
         split_answer(line)
     } else {
         None

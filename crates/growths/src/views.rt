@@ -42,19 +42,20 @@ impl<A: Allocator + Clone, B: Book<A>> View for Speaker<A, B> {
     }
 }
 
-/// What is compared: all, or at the end of a script only the sessions, Loc-RIB and the routes as received, where a peer
-/// was closed and hasn't come again.
+/// What is compared: all; or at the end of a script only the sessions, Loc-RIB and the routes as received, where a peer
+/// was closed and hasn't come again; or where a peer was just closed the sessions, the payloads and the routes as received.
 #[derive(Clone, Copy)]
 pub enum Scope {
     Whole,
     End,
+    Received,
 }
 
 impl Scope {
     /// What is wrong where both aren't alike.
     pub fn wrong(self) -> Wrong {
         match self {
-            Scope::Whole => Wrong::ChangedMore,
+            Scope::Whole | Scope::Received => Wrong::ChangedMore,
             Scope::End => Wrong::OtherEnd,
         }
     }
@@ -63,6 +64,7 @@ impl Scope {
         match self {
             Scope::Whole => true,
             Scope::End => matches!(table, Table::Sessions | Table::Rib | Table::In(_)),
+            Scope::Received => { matches!(table, Table::Sessions | Table::Payloads | Table::In(_)) }
         }
     }
 

@@ -4,9 +4,9 @@ use Rattle.net_prefix.specs.declared.payload.Vrp.{Vrp}
 use Rattle.list_guards.specs.Guarding.{few_fault, first_of, guard_fault, leaving, shrink_fault}
 use Rattle.list_guards.specs.declared.Guards.{Guards}
 
-by_share : (share : Option ℕ) (served other next : List Vrp) → (is_some share ≡ true → other ≡ served) → shrink_fault share (leaving other next) (length other) ≡ shrink_fault share (leaving served next) (length served)
+by_share : (share : Option ℕ) (served other next : List Vrp) → (is_some share ≡ true → other ≡ served) → shrink_fault share (leaving other next) (length other) (length next) ≡ shrink_fault share (leaving served next) (length served) (length next)
 by_share None served other next same = refl
-by_share (Some most) served other next same = ap (λ (set : List Vrp). shrink_fault (Some most) (leaving set next) (length set)) (same refl)
+by_share (Some most) served other next same = ap (λ (set : List Vrp). shrink_fault (Some most) (leaving set next) (length set) (length next)) (same refl)
 
 -- where a share may go they look at what is served, and else it may be any set
 pub judged_alike : (guards : Guards) (served other next : List Vrp) → (is_some guards.max_shrink ≡ true → other ≡ served) → guard_fault guards other next ≡ guard_fault guards served next

@@ -16,10 +16,15 @@ abbrev pub few_fault : Option ℕ → ℕ → Option GuardFault
 few_fault None payloads = None
 few_fault (Some wanted) payloads = if nat_lt payloads wanted then Some (TooFew payloads wanted) else None
 
--- of so many served payloads more go than so many per cent
-abbrev pub shrink_fault : Option ℕ → ℕ → ℕ → Option GuardFault
-shrink_fault None going served = None
-shrink_fault (Some most) going served = if nat_lt (most * served) (going * 100) then Some (TooManyGo going served most) else None
+-- of so many served payloads more go than so many per cent, in a set that has so many
+abbrev pub shrink_fault : Option ℕ → ℕ → ℕ → ℕ → Option GuardFault
+shrink_fault None going served payloads = None
+shrink_fault (Some most) going served payloads = if nat_lt (most * served) (going * 100) then Some (TooManyGo payloads going served most) else None
+
+-- how many payloads the set has that a fault is of
+abbrev pub payloads_of : GuardFault → ℕ
+payloads_of (TooFew payloads wanted) = payloads
+payloads_of (TooManyGo payloads going served most) = payloads
 
 -- the first of two faults
 abbrev pub first_of : Option GuardFault → Option GuardFault → Option GuardFault
@@ -28,7 +33,7 @@ first_of (Some why) second = Some why
 
 -- why the next set isn't served in the place of this one
 abbrev pub guard_fault : Guards → List Vrp → List Vrp → Option GuardFault
-guard_fault guards served next = first_of (few_fault guards.min_payloads (length next)) (shrink_fault guards.max_shrink (leaving served next) (length served))
+guard_fault guards served next = first_of (few_fault guards.min_payloads (length next)) (shrink_fault guards.max_shrink (leaving served next) (length served) (length next))
 
 -- the next set has as many payloads as are wanted
 abbrev pub HasEnough : Guards → List Vrp → Type 0

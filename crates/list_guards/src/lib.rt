@@ -7,7 +7,8 @@
 
 ghost use Rattle.std.specs.Prelude.{◌≡◌, ◌↔◌, List, None, Some, MatchResult, is_some, length, true};
 ghost use Rattle.net_prefix.specs.declared.payload.Vrp.{Vrp};
-ghost use Rattle.list_guards.specs.Guarding.{HasEnough, LosesFew, few_fault, guard_fault, leaving, shrink_fault};
+ghost use Rattle.list_guards.specs.Guarding.{HasEnough, LosesFew, few_fault, guard_fault, leaving, payloads_of, shrink_fault};
+ghost use Rattle.list_guards.specs.declared.GuardFault.{GuardFault};
 ghost use Rattle.list_guards.specs.declared.Guards.{Guards};
 
 mod list_age;
@@ -36,12 +37,25 @@ pub enum GuardFault {
         wanted: u32,
     },
     /// More of the served payloads aren't in it than may go at once.
-    #[error("{going} of the {served} payloads that are served would go, and {most} per cent may")]
+    #[error("it has {payloads} payloads: {going} of the {served} that are served would go, and {most} per cent may")]
     TooManyGo {
+        payloads: usize,
         going: usize,
         served: usize,
         most: u8,
     },
+}
+
+impl GuardFault {
+    /// How many payloads the list has.
+    pub fn payloads(self) -> usize
+        ensures { result ≡ payloads_of self }
+    {
+        match self {
+            GuardFault::TooFew { payloads, .. } => payloads,
+            GuardFault::TooManyGo { payloads, .. } => payloads,
+        }
+    }
 }
 
 impl Guards {
@@ -86,15 +100,17 @@ impl Guards {
 
     // That more payloads go than may.
     fn shrink_fault(&self, served: &BTreeSet<Vrp>, next: &BTreeSet<Vrp>) -> Option<GuardFault>
-        ensures { result ≡ shrink_fault self.now.max_shrink (leaving served.now.keys next.now.keys) (length served.now.keys) }
+        ensures { result ≡ shrink_fault self.now.max_shrink (leaving served.now.keys next.now.keys) (length served.now.keys) (length next.now.keys) }
     {
         let most = self.max_shrink?;
         let going = leaving(served, next);
         let served = served.len();
+        let payloads = next.len();
         if going as u128 * 100 <= most as u128 * served as u128 {
             return None;
         }
         Some(GuardFault::TooManyGo {
+            payloads,
             going,
             served,
             most,
@@ -108,6 +124,11 @@ fn leaving(served: &BTreeSet<Vrp>, next: &BTreeSet<Vrp>) -> usize
 {
     served.difference(next).count()
 }
+
+/// A fault tells how many payloads the next set has.
+pub fn faults_tell_the_count()
+    ensures { (guards : Guards) (served next : List Vrp) (why : GuardFault) → guard_fault guards served next ≡ Some why → payloads_of why ≡ length next }
+{}
 
 /// The next set passes just where it has as many payloads as are wanted, and no more of the served ones go than may.
 pub fn sets_pass_by_their_counts()

@@ -7,7 +7,7 @@ use Rattle.net_prefix.specs.declared.prefix.Prefix.{Prefix}
 use Rattle.rib_in.specs.LatestRoutes.{RouteTable, route_at}
 
 -- the latest route of each slot and prefix, the candidates that they make with the best of each prefix, and how often
--- a best one was chosen so far
+-- a best one was chosen so far: a count that stays at 2^64 - 1 where it has reached it
 pub record RibTables : Type 0 where
   pub adj_in : RouteTable
   pub book : BookState

@@ -10,6 +10,7 @@ ghost use Rattle.decision.specs.declared.candidate.Candidate.{Candidate as TheCa
 ghost use Rattle.net_prefix.specs.PrefixOrder.{IsAbove, prefix_cmp};
 ghost use Rattle.net_prefix.specs.declared.prefix.Prefix.{Prefix as ThePrefix};
 ghost use Rattle.rib_in.specs.LatestRoutes.{HasRoute, is_route, route_at, routes_of};
+ghost use Rattle.prefix_trie.specs.TrieWalks.{all_after};
 ghost use Rattle.loc_rib.specs.RibTables.{CountsAnother, RisesBy, started};
 
 use crate::rows::Rows;
@@ -212,6 +213,15 @@ impl<A: Allocator + Clone, B: Book<A>> Ribs<A, B> {
         ensures rising { IsStrictlySortedBy prefix_cmp (keys_of result) }
     {
         self.is_chosen();
-        Rows::of(self)
+        Rows::behind(self, None)
+    }
+
+    /// The rows of Loc-RIB above the given prefix, or all, in rising order.
+    pub fn rows_after(&self, after: Option<Prefix>) -> Rows<'_, A, B>
+        ensures all { result ≡ all_after after (rows_of self.now.book) }
+        ensures rising { IsStrictlySortedBy prefix_cmp (keys_of result) }
+    {
+        self.is_chosen();
+        Rows::behind(self, after)
     }
 }

@@ -2,6 +2,7 @@
 ghost use Rattle.std.specs.Prelude.{◌≡◌};
 ghost use Rattle.std.specs.Iterator.{YieldsFirst, item_count};
 ghost use Rattle.decision.specs.BookContents.{rows_of};
+ghost use Rattle.prefix_trie.specs.TrieWalks.{all_after};
 
 use crate::ribs::Ribs;
 use decision::{Book, Candidate};
@@ -29,11 +30,11 @@ impl<'a, A: Allocator + Clone, B: Book<A>> Model for Rows<'a, A, B> {
 }
 
 impl<'a, A: Allocator + Clone, B: Book<A>> Rows<'a, A, B> {
-    // All rows.
-    pub(crate) fn of(ribs: &'a Ribs<A, B>) -> Self
-        ensures { result ≡ rows_of ribs.now.book }
+    // The rows above the given prefix, or all.
+    pub(crate) fn behind(ribs: &'a Ribs<A, B>, after: Option<Prefix>) -> Self
+        ensures { result ≡ all_after after (rows_of ribs.now.book) }
     {
-        Rows { ribs, after: None }
+        Rows { ribs, after }
     }
 }
 

@@ -1,9 +1,10 @@
 -- A list, with or without a SLURM file.
 use Rattle.std.proofs.Common.{◌≡◌, ◌⊎◌, ◌∙◌, ℕ, inl, inr, List, Option, None, Some, Result, Ok, Err, option_map, refl, sym, ap, subst}
 use Rattle.net_prefix.specs.declared.payload.Vrp.{Vrp}
-use Rattle.payload_sources.specs.PayloadSources.{IsRefused, IsRefusedSlurm, IsSetOfText, IsUnderFile, texts_of}
+use Rattle.payload_sources.specs.PayloadSources.{IsRefused, IsRefusedList, IsRefusedSlurm, IsSetOfText, IsUnderFile, texts_of}
 use Rattle.payload_sources.specs.declared.fault.SourceFault.{SourceFault}
-use Rattle.payload_sources.specs.declared.fault.SourceFault.TheVariants.{List as OfList, Slurm, SlurmDevice}
+use Rattle.payload_sources.specs.declared.fault.SourceFault.TheVariants.{List as OfList, Slurm, SlurmDevice, Changed}
+use Rattle.payload_sources.specs.declared.fault.SourceFile.TheVariants as files
 use Rattle.slurm_files.specs.SlurmDocument.{IsSlurm, Said}
 use Rattle.slurm_files.specs.declared.fault.SlurmFault.{SlurmFault}
 use Rattle.slurm_files.specs.declared.fault.SlurmFault.TheVariants.{NoMemory}
@@ -26,6 +27,17 @@ refused_behind remaining second list slurm file listed (Slurm fault) is of_list 
     record { listed = listed; of_list = of_list; file = remaining file; there = ap (option_map remaining) is; refused = h }
 refused_behind remaining second list slurm file listed SlurmDevice is of_list h =
     record { listed = listed; of_list = of_list; file = remaining file; there = ap (option_map remaining) is; refused = h }
+refused_behind remaining second list slurm file listed (Changed files.List) is of_list h = absurd (cc h)
+refused_behind remaining second list slurm file listed (Changed files.Slurm) is of_list h =
+    record { listed = listed; of_list = of_list; file = remaining file; there = ap (option_map remaining) is; refused = h }
+
+-- or the list is
+pub refused_list : {L : Type 0} (remaining : L → Option (List ℕ)) (second : Option ℕ) (list : L) (slurm : Option L) (fault : SourceFault) → IsRefusedList (remaining list) fault → IsRefused (texts_of remaining list slurm second) fault
+refused_list remaining second list slurm (OfList refused) h = h
+refused_list remaining second list slurm (Slurm fault) h = absurd h
+refused_list remaining second list slurm SlurmDevice h = absurd h
+refused_list remaining second list slurm (Changed files.List) h = tt
+refused_list remaining second list slurm (Changed files.Slurm) h = absurd (cc h)
 
 abbrev fault_or : Result Said SlurmFault → SlurmFault → SlurmFault
 fault_or (Ok said) other = other

@@ -10,7 +10,9 @@ use Rattle.local_exceptions.specs.ExceptionSets.{IsUnder}
 use Rattle.slurm_files.specs.SlurmDocument.{IsSlurm, Said}
 use Rattle.slurm_files.specs.declared.fault.SlurmFault.TheVariants.{NoMemory}
 use Rattle.payload_sources.specs.declared.fault.SourceFault.{SourceFault}
-use Rattle.payload_sources.specs.declared.fault.SourceFault.TheVariants.{List as OfList, Slurm, SlurmDevice}
+use Rattle.payload_sources.specs.declared.fault.SourceFault.TheVariants.{List as OfList, Slurm, SlurmDevice, Changed}
+use Rattle.payload_sources.specs.declared.fault.SourceFile.{SourceFile}
+use Rattle.payload_sources.specs.declared.fault.SourceFile.TheVariants as files
 
 -- the texts of files that were opened, as far as they are known: of the list, and of the SLURM file where there is one; and the
 -- second since 1970 at which the list's rows may have expired, where they may
@@ -56,11 +58,19 @@ SaysWritten sources written = (text : List ℕ) → sources.list ≡ Some text �
 abbrev pub IsSetOf : SourceTexts → List Vrp → Type 0
 IsSetOf sources set = (said : Option Said) × IsRead sources said set
 
--- why a SLURM file can't be had: a fault of it, no memory for what it says, or that reading stopped
+-- why a list can't be had: a fault of it, that reading stopped, or that the file changed, which the system tells
+abbrev pub IsRefusedList : Option (List ℕ) → SourceFault → Type 0
+IsRefusedList list (OfList refused) = IsRefusedText list refused
+IsRefusedList list (Slurm fault) = ⊥
+IsRefusedList list SlurmDevice = ⊥
+IsRefusedList list (Changed which) = which ≡ files.List
+
+-- why a SLURM file can't be had: a fault of it, no memory for what it says, that reading stopped, or that the file changed
 abbrev pub IsRefusedSlurm : Option (List ℕ) → SourceFault → Type 0
 IsRefusedSlurm file (OfList refused) = ⊥
 IsRefusedSlurm file (Slurm fault) = (text : List ℕ) → file ≡ Some text → (fault ≡ NoMemory) ⊎ IsSlurm text (Err fault)
 IsRefusedSlurm file SlurmDevice = ⊤
+IsRefusedSlurm file (Changed which) = which ≡ files.Slurm
 
 -- so it is where the list has no fault
 pub record IsRefusedBehind (sources : SourceTexts) (fault : SourceFault) : Type 0 where
@@ -75,3 +85,5 @@ abbrev pub IsRefused : SourceTexts → SourceFault → Type 0
 IsRefused sources (OfList refused) = IsRefusedText sources.list refused
 IsRefused sources (Slurm fault) = IsRefusedBehind sources (Slurm fault)
 IsRefused sources SlurmDevice = IsRefusedBehind sources SlurmDevice
+IsRefused sources (Changed files.List) = ⊤
+IsRefused sources (Changed files.Slurm) = IsRefusedBehind sources (Changed files.Slurm)

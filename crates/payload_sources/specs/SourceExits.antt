@@ -2,7 +2,7 @@
 use Rattle.payload_lists.specs.declared.fault.PayloadListFault.{PayloadListFault}
 use Rattle.payload_lists.specs.declared.fault.PayloadListFault.TheVariants.{Row, Json, Io as IoOfList}
 use Rattle.payload_sources.specs.declared.fault.SourceFault.{SourceFault}
-use Rattle.payload_sources.specs.declared.fault.SourceFault.TheVariants.{List, Slurm, SlurmDevice}
+use Rattle.payload_sources.specs.declared.fault.SourceFault.TheVariants.{List, Slurm, SlurmDevice, Changed}
 use Rattle.slurm_files.specs.declared.fault.SlurmFault.{SlurmFault}
 use Rattle.slurm_files.specs.declared.fault.SlurmFault.TheVariants.{Text as NoJson, File as OfFile, Filters, Assertions, Entry as OfEntry, NoMemory as NoMemoryOfSlurm}
 use Rattle.vrp_csv.specs.declared.fault.RowFault.{RowFault}
@@ -53,3 +53,4 @@ abbrev pub exit_of_source : SourceFault → ExitFault
 exit_of_source (List refused) = exit_of_list refused
 exit_of_source (Slurm fault) = exit_of_slurm fault
 exit_of_source SlurmDevice = Device
+exit_of_source (Changed file) = Device

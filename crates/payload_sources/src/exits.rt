@@ -18,7 +18,7 @@ impl SourceFault {
         match self {
             SourceFault::List(refused) => of_list(refused),
             SourceFault::Slurm(fault) => of_slurm(fault),
-            SourceFault::SlurmDevice => ExitFault::Device,
+            SourceFault::SlurmDevice | SourceFault::Changed(_) => ExitFault::Device,
         }
     }
 }

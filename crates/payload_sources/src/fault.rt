@@ -34,6 +34,9 @@ pub enum SourceFault {
     /// The device failed at the SLURM file.
     #[error("the device failed")]
     SlurmDevice,
+    /// This file was written to while it was read.
+    #[error("the file changed while it was read")]
+    Changed(SourceFile),
 }
 
 impl SourceFault {
@@ -42,6 +45,7 @@ impl SourceFault {
         match self {
             SourceFault::List(_) => SourceFile::List,
             SourceFault::Slurm(_) | SourceFault::SlurmDevice => SourceFile::Slurm,
+            SourceFault::Changed(file) => file,
         }
     }
 }

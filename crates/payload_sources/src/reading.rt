@@ -1,11 +1,13 @@
 //! The set of a list, under the exceptions of a SLURM file where there is one.
 ghost use Rattle.std.specs.Prelude.{◌≡◌, ℕ, List, MatchResult, Option, Some};
-ghost use Rattle.payload_sources.specs.PayloadSources.{IsRead, IsRefused, IsRefusedSlurm, IsSaidBy, IsUnderFile, SaysWritten, texts_of};
+ghost use Rattle.payload_lists.specs.PayloadLists.{IsListOf};
+ghost use Rattle.payload_sources.specs.PayloadSources.{IsRead, IsRefused, IsRefusedList, IsRefusedSlurm, IsSaidBy, IsUnderFile, SaysWritten, texts_of};
 
-use crate::fault::SourceFault;
+use crate::fault::{SourceFault, SourceFile};
 use crate::opening::Sources;
+use file_paths::Steady;
 use net_prefix::Vrp;
-use payload_lists::read_payloads;
+use payload_lists::{Listed, read_payloads};
 use slurm_files::{SlurmFault, SlurmFile, read_slurm};
 use std::alloc::Global;
 use std::collections::BTreeSet;
@@ -25,15 +27,15 @@ pub struct SourceSet {
 
 /// The set of the list, under the exceptions of the SLURM file where there is one, or the first fault: that of the list, if
 /// it has one.
-pub fn read_sources<L: Read + Drop>(
+pub fn read_sources<L: Read + Steady + Drop>(
     alloc: Global,
     sources: Sources<L>,
 ) -> Result<SourceSet, SourceFault>
     ensures { MatchResult result (λ read. IsRead (texts_of L.remaining sources.list sources.slurm sources.second) read.slurm read.set.keys × SaysWritten (texts_of L.remaining sources.list sources.slurm sources.second) read.written) (λ fault. IsRefused (texts_of L.remaining sources.list sources.slurm sources.second) fault) }
 {
-    let listed = match read_payloads(alloc, sources.list, sources.second) {
+    let listed = match read_steadily(alloc, sources.list, sources.second) {
         Ok(listed) => listed,
-        Err(refused) => return Err(SourceFault::List(refused)),
+        Err(fault) => return Err(fault),
     };
     let written = listed.written;
     match sources.slurm {
@@ -53,8 +55,27 @@ pub fn read_sources<L: Read + Drop>(
     }
 }
 
+// The list, unless its file changed while it was read.
+fn read_steadily<L: Read + Steady + Drop>(
+    alloc: Global,
+    list: L,
+    second: Option<u64>,
+) -> Result<Listed, SourceFault>
+    ensures { MatchResult result (λ listed. (text : List ℕ) → L.remaining list ≡ Some text → IsListOf second text listed) (λ fault. IsRefusedList (L.remaining list) fault) }
+{
+    let mut list = list;
+    let read = read_payloads(alloc, &mut list, second);
+    if list.has_changed() {
+        return Err(SourceFault::Changed(SourceFile::List));
+    }
+    match read {
+        Ok(listed) => Ok(listed),
+        Err(refused) => Err(SourceFault::List(refused)),
+    }
+}
+
 // The set under the exceptions of the SLURM file, and what that says.
-fn read_under<L: Read + Drop>(
+fn read_under<L: Read + Steady + Drop>(
     alloc: Global,
     set: BTreeSet<Vrp>,
     file: L,
@@ -72,13 +93,16 @@ fn read_under<L: Read + Drop>(
 }
 
 // What the SLURM file says.
-fn read_file<L: Read + Drop>(alloc: Global, file: L) -> Result<SlurmFile, SourceFault>
+fn read_file<L: Read + Steady + Drop>(alloc: Global, file: L) -> Result<SlurmFile, SourceFault>
     ensures { MatchResult result (λ said. IsSaidBy (L.remaining file) said) (λ fault. IsRefusedSlurm (L.remaining file) fault) }
 {
     let mut file = file;
     let mut octets = Vec::new(alloc);
     if let Err(error) = file.read_to_end(&mut octets) {
         return Err(fault_of(error.kind()));
+    }
+    if file.has_changed() {
+        return Err(SourceFault::Changed(SourceFile::Slurm));
     }
     match read_slurm(alloc, octets.as_slice()) {
         Ok(said) => Ok(said),

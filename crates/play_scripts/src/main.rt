@@ -2,19 +2,25 @@
 //!
 //! The file `scripts` names them, one a line; empty lines and lines that begin with `#` are passed over. The lines of
 //! `NAME.in` are handed to `scenario::play`, over a speaker with a `PlainBook` and over one with a `LiveBook`. Both must
-//! answer alike, and the answers must be `NAME.out`, octet for octet, where the bad line that ends a script is its last one. A file may have several cases, and messages that are cut at each octet
-//! (`script_files`). Each name has a line on standard output, and the last line counts them.
+//! answer alike, and the answers must be `NAME.out`, octet for octet, where the bad line that ends a script is its last one. A
+//! file may have several cases, and messages that are cut at each octet (`script_files`). Each play is made once more with one
+//! request for memory refused, another one each time (`refused.rt`). Each name has a line on standard output, and the last line
+//! counts them.
 //!
 //! Exit status 0 where all answer as told; 1 where one doesn't; 2 where a file can't be read or memory is wanting.
 #![tactic(auto)]
 
-ghost use Rattle.std.specs.Prelude.{⊤};
+mod refused;
 
+ghost use Rattle.std.specs.Prelude.{◌≤◌, ⊤};
+
+use crate::refused::is_well_refused;
 use decision::{Book, PlainBook};
 use live_book::LiveBook;
 use scenario::{PlayFault, play};
 use script_files::{Player, Shelf, Tally, Unplayed, play_listed};
 use std::alloc::{AllocGlobal, Global};
+use std::cell::Cell;
 use std::fs;
 use std::io::{self, LineWriter, Write};
 use std::process::ExitCode;
@@ -24,6 +30,24 @@ use std::rt::Files;
 #[derive(Drop)]
 struct Scenario {
     alloc: Global,
+    // How many scripts were played.
+    plays: Cell<u64>,
+}
+
+// The requests that are refused: the first in the first play, the eighth in the second, and so on, over as many.
+const STRIDE: u64 = 7;
+
+const REQUESTS: u64 = 43;
+
+impl Scenario {
+    // Which request is refused in this play.
+    fn next_request(&self) -> u64
+        ensures { 1 ≤ result }
+    {
+        let plays = self.plays.get();
+        self.plays.set(plays.wrapping_add(1));
+        (plays.wrapping_mul(STRIDE) % REQUESTS).saturating_add(1)
+    }
 }
 
 impl Player for Scenario {
@@ -35,6 +59,10 @@ impl Player for Scenario {
         let live = played::<LiveBook>(self.alloc, script)?;
         if live.as_slice() != answers.as_slice() {
             writeln!(answers, "otherwise over LiveBook")?;
+        }
+        let nth = self.next_request();
+        if !is_well_refused(self.alloc, script, live.as_slice(), nth)? {
+            writeln!(answers, "otherwise where request {nth} is refused")?;
         }
         Ok(answers)
     }
@@ -86,7 +114,10 @@ fn read<R: Files + AllocGlobal>(rt: &R, name: &[u8], ending: &str) -> Result<Vec
 fn run(rt: &HostRuntime) -> Result<Tally, Unplayed> {
     let mut output = LineWriter::new(rt.alloc(), io::writer(rt))?;
     let list = fs::read(rt, "scripts")?;
-    let player = Scenario { alloc: rt.alloc() };
+    let player = Scenario {
+        alloc: rt.alloc(),
+        plays: Cell::new(0),
+    };
     let shelf = Data { rt };
     let tally = play_listed(rt.alloc(), &player, &shelf, list.as_slice(), &mut output)?;
     let (scripts, as_told) = (tally.scripts(), tally.as_told);

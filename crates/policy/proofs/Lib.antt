@@ -1,3 +1,4 @@
+pub mod ListedPolicies
 pub mod NameTexts
 pub mod FirstRule
 pub mod TableLaws

@@ -4,6 +4,7 @@ ghost use Rattle.std.specs.List.{list_all};
 ghost use Rattle.policy.specs.PolicyNames.{all_name, is_built_in, is_name_octet, is_policy_name, is_same, name_of, none_name};
 
 use crate::refusal::PolicyRefusal;
+use std::fmt;
 
 // The most octets in a name.
 const MAX_NAME: usize = 32;
@@ -60,6 +61,17 @@ impl PolicyName {
         ensures { result ≡ is_built_in self.now }
     {
         self.is_all() || self.is_none()
+    }
+}
+
+impl fmt::Display for PolicyName {
+    fn fmt<W: fmt::Write>(&self, f: &mut fmt::Formatter<W>) -> fmt::Result {
+        for octet in &self.octets {
+            if *octet != 0 {
+                f.write_char(char::from(*octet))?;
+            }
+        }
+        Ok(())
     }
 }
 

@@ -1,6 +1,7 @@
 //! The policies by their names.
-ghost use Rattle.std.specs.Prelude.{◌≡◌, [], None, Some, MatchResult, OnErr, OnOk};
+ghost use Rattle.std.specs.Prelude.{slice_get, ◌≡◌, [], None, Some, MatchResult, OnErr, OnOk};
 ghost use Rattle.std.specs.List.{list_all};
+ghost use Rattle.std.specs.Option.{option_map};
 ghost use Rattle.policy.specs.PolicyNames.{name_of};
 ghost use Rattle.policy.specs.PolicyRefusals.{IsRefusedFor, drop_refusal, is_full, is_in_range, set_refusal};
 ghost use Rattle.policy.specs.PolicyTable.{is_known, policy_action, with_policy, without_policy};
@@ -67,6 +68,14 @@ impl<A: Allocator + Clone> Policies<A> {
         ensures { result ≡ is_known self.now name }
     {
         name.is_built_in() || self.policies.contains_key(&name)
+    }
+
+    /// The name and the rules of the policy that was set behind so many others.
+    pub fn nth(&self, index: usize) -> Option<(PolicyName, &[Rule])>
+        ensures { option_map (λ policy. (policy.0, policy.1.now)) result ≡ slice_get self.now index }
+    {
+        let (name, rules) = self.policies.get_index(index)?;
+        Some((*name, rules.as_slice()))
     }
 
     /// Why the policy can't be set, if it can't. Memory may be refused as well.

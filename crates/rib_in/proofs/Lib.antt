@@ -1,3 +1,4 @@
+pub mod Behind
 pub mod Ordered
 pub mod RouteLists
 pub mod SlotWalks

@@ -7,6 +7,7 @@ ghost use Rattle.std.specs.Ordering.{is_gt};
 ghost use Rattle.net_prefix.specs.PrefixOrder.{prefix_cmp, IsAbove};
 ghost use Rattle.net_prefix.specs.declared.prefix.Prefix.{Prefix};
 ghost use Rattle.prefix_trie.specs.TrieMap.{IsRising, found};
+ghost use Rattle.prefix_trie.specs.TrieWalks.{IsNext, all_after};
 ghost use Rattle.rib_in.specs.PrefixRoutes.{is_only};
 ghost use Rattle.rib_in.specs.LatestRoutes.{HasRoute, is_prefix, is_route, route_at, route_in, routes_of};
 
@@ -47,16 +48,6 @@ impl<A: Allocator + Clone> AdjIn<A> {
         AdjIn {
             routes: Trie::new(alloc),
             alloc: more,
-        }
-    }
-
-    /// The attributes of the latest route of the slot to the prefix.
-    pub fn get(&self, slot: u8, prefix: Prefix) -> Option<&Attrs<A>>
-        ensures { option_copied result ≡ route_at self.now slot prefix }
-    {
-        match self.routes.get(&prefix) {
-            Some(routes) => routes.get(slot),
-            None => None,
         }
     }
 
@@ -158,6 +149,18 @@ impl<A: Allocator + Clone> AdjIn<A> {
             last = Some(prefix);
         }
     }
+}
+
+impl<A: Allocator> AdjIn<A> {
+    /// The attributes of the latest route of the slot to the prefix.
+    pub fn get(&self, slot: u8, prefix: Prefix) -> Option<&Attrs<A>>
+        ensures { option_copied result ≡ route_at self.now slot prefix }
+    {
+        match self.routes.get(&prefix) {
+            Some(routes) => routes.get(slot),
+            None => None,
+        }
+    }
 
     /// The least prefix above the given one to which a slot has a route, or the least of all.
     pub fn prefix_after(&self, after: Option<Prefix>) -> Option<Prefix>
@@ -210,7 +213,26 @@ impl<A: Allocator + Clone> AdjIn<A> {
         ensures found { (p : Prefix) → lookup (is_prefix p) result ≡ route_at self.now slot p }
     {
         self.rises();
-        SlotRoutes::among(self.routes.iter(), slot)
+        SlotRoutes::behind(self, slot, None)
+    }
+
+    /// The routes of a slot to prefixes above the given one, or all, in rising order of prefix.
+    pub fn routes_after(&self, slot: u8, after: Option<Prefix>) -> SlotRoutes<'_, A>
+        ensures all { result ≡ all_after after (routes_of slot self.now) }
+        ensures rising { IsStrictlySortedBy prefix_cmp (keys_of result) }
+    {
+        self.rises();
+        SlotRoutes::behind(self, slot, after)
+    }
+
+    /// The slot's route to the least prefix above the given one, or of all, to which it has one.
+    pub(crate) fn route_after(&self, slot: u8, after: Option<Prefix>) -> Option<(Prefix, &Attrs<A>)>
+        ensures { IsNext result after (routes_of slot self.now) }
+    {
+        self.rises();
+        let prefix = self.slot_prefix_after(slot, after)?;
+        let attrs = self.get(slot, prefix)?;
+        Some((prefix, attrs))
     }
 
     // The prefixes rise.

@@ -1,39 +1,43 @@
 //! The routes of one slot.
 ghost use Rattle.std.specs.Prelude.{◌≡◌};
+ghost use Rattle.prefix_trie.specs.TrieWalks.{all_after};
 ghost use Rattle.rib_in.specs.LatestRoutes.{routes_of};
 ghost use Rattle.std.specs.Iterator.{YieldsFirstBy, item_count};
 
-use crate::prefix_routes::PrefixRoutes;
+use crate::adj_in::AdjIn;
 use bgp_attr::Attrs;
 use net_prefix::Prefix;
-use prefix_trie::Entries;
 use std::alloc::{Allocator, Global};
 use std::marker::Model;
 
-/// The routes of one slot, in rising order of prefix. It is seen as those still to come.
+/// The routes of one slot, in rising order of prefix. It is seen as those still to come. Each of a slot below 64 is found
+/// through the marks, in time of the prefix's length.
 #[derive(Drop)]
 pub struct SlotRoutes<'a, A: Allocator = Global> {
-    rest: Entries<'a, PrefixRoutes<A>, A>,
+    table: &'a AdjIn<A>,
     slot: u8,
+    // The prefix behind which they begin.
+    after: Option<Prefix>,
 }
 
 impl<'a, A: Allocator> Model for SlotRoutes<'a, A> {
     ghost use Rattle.std.specs.Prelude.{List};
     ghost use Rattle.net_prefix.specs.declared.prefix.Prefix.{Prefix};
     ghost use Rattle.bgp_attr.specs.PathAttributes.{PathAttributes};
+    ghost use Rattle.prefix_trie.specs.TrieWalks.{all_after};
     ghost use Rattle.rib_in.specs.LatestRoutes.{routes_of};
 
     ghost Value = { List (Prefix × PathAttributes) };
 
-    ghost view = { λ r. routes_of r.slot r.rest };
+    ghost view = { λ r. all_after r.after (routes_of r.slot r.table.now) };
 }
 
 impl<'a, A: Allocator> SlotRoutes<'a, A> {
-    // Among some entries.
-    pub(crate) fn among(rest: Entries<'a, PrefixRoutes<A>, A>, slot: u8) -> Self
-        ensures { result ≡ routes_of slot rest.entry }
+    // Those above the given prefix, or all.
+    pub(crate) fn behind(table: &'a AdjIn<A>, slot: u8, after: Option<Prefix>) -> Self
+        ensures { result ≡ all_after after (routes_of slot table.now) }
     {
-        SlotRoutes { rest, slot }
+        SlotRoutes { table, slot, after }
     }
 }
 
@@ -45,11 +49,11 @@ impl<'a, A: Allocator> Iterator for SlotRoutes<'a, A> {
     ghost remaining = { item_count (λ rest. rest) };
 
     fn next(&mut self) -> Option<(Prefix, &'a Attrs<A>)> {
-        while let Some((prefix, routes)) = self.rest.next() {
-            if let Some(attrs) = routes.get(self.slot) {
-                return Some((prefix, attrs));
-            }
+        let table = self.table;
+        let route = table.route_after(self.slot, self.after);
+        if let Some((prefix, _)) = route {
+            self.after = Some(prefix);
         }
-        None
+        route
     }
 }

@@ -1,6 +1,8 @@
 pub mod AlikeLists
+pub mod HeldRows
 pub mod HeldTables
 pub mod OwedMarks
+pub mod PrefixRows
 pub mod Prefixes
 pub mod Records
 pub mod SlotBits

@@ -1,5 +1,5 @@
 -- What walks over the records answer.
-use Rattle.std.proofs.Common.{◌≡◌, ◌≢◌, ◌↔◌, ℕ, ◌+◌, ◌==◌, ◌&&◌, Bool, true, false, cond, IsTrue, IfSome, IfNone, List, Option, None, Some, is_some, refl, sym, ap, ◌∙◌, arith}
+use Rattle.std.proofs.Common.{◌≡◌, ◌≢◌, ◌↔◌, ℕ, ◌+◌, ◌==◌, ◌&&◌, Bool, true, false, cond, IsTrue, IfSome, IfNone, IsSome, List, Option, None, Some, is_some, refl, sym, ap, ◌∙◌, arith}
 use Rattle.std.proofs.lemmas.Bool.Decides.{nat_tests}
 use Rattle.std.specs.Option.{option_and_then}
 use Rattle.std.specs.Ordering.{is_gt}
@@ -88,6 +88,33 @@ module _ (es : List (Prefix × Waits)) (slot : ℕ) (marks : Marks) (meets : (w 
       let found_there = l.there in
       let same : h.before ≡ l.value = cc in
       count_owed-set slot es new p h rising (ap (λ (w : Waits). is_some (owed_by w slot)) same ∙ sym (meets l.value) ∙ l.passes)
+
+some_owed : (slot : ℕ) (o : Option Waits) → IsSome (option_and_then (λ w. owed_by w slot) o) → (w : Waits) × (o ≡ Some w) × (is_some (owed_by w slot) ≡ true)
+some_owed slot None some = absurd cc
+some_owed slot (Some w) some = (w, refl, some)
+
+module _ (es : List (Prefix × Waits)) (slot : ℕ) (marks : Marks) (after : Option Prefix) (meets : (w : Waits) → marks_meet w.marks marks ≡ is_some (owed_by w slot)) where
+  pub any_has : (r : Option Prefix) → IsRising es → r ≡ first_marked marks after es → IfSome r (λ p. IsSome (owed_at es slot p))
+  any_has None rising is = tt
+  any_has (Some p) rising is =
+      let l = least_marked (λ (w : Waits). w.marks) marks_meet marks after es rising p is in
+      ap (λ o. is_some (option_and_then (λ w. owed_by w slot) o)) l.there ∙ sym (meets l.value) ∙ l.passes
+
+  pub any_above : (r : Option Prefix) → IsRising es → r ≡ first_marked marks after es → IfSome r (λ p. IsAbove after p)
+  any_above None rising is = tt
+  any_above (Some p) rising is = (least_marked (λ (w : Waits). w.marks) marks_meet marks after es rising p is).above
+
+  pub any_least : (r : Option Prefix) → IsRising es → r ≡ first_marked marks after es
+      → IfSome r (λ p. (q : Prefix) → IsAbove after q → IsSome (owed_at es slot q) → is_gt (prefix_cmp p q) ≡ false)
+  any_least None rising is = tt
+  any_least (Some p) rising is = λ q above owes.
+      let l = least_marked (λ (w : Waits). w.marks) marks_meet marks after es rising p is in
+      let v = some_owed slot (found es q) owes in
+      l.least q v.0 above v.1 (meets v.0 ∙ v.2)
+
+  pub any_none : (r : Option Prefix) → r ≡ first_marked marks after es → IfNone r ((q : Prefix) → IsAbove after q → owed_at es slot q ≡ None)
+  any_none None is = λ q above. none_owed slot (found es q) (λ w there. sym (meets w) ∙ none_marked (λ (x : Waits). x.marks) marks_meet marks after es is q w above there)
+  any_none (Some p) is = tt
 
 other_slot : (s slot : ℕ) → s ≢ slot → (s == slot) ≡ false
 other_slot s slot apart = grind (arith, nat_tests)

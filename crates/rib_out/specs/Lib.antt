@@ -1,5 +1,6 @@
 pub mod Alike
 pub mod Held
+pub mod PrefixRows
 pub mod Slots
 pub mod Undo
 pub mod Waiting

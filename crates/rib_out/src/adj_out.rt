@@ -7,6 +7,7 @@ ghost use Rattle.std.specs.Iterator.{YieldsFirstBy, item_count};
 ghost use Rattle.net_prefix.specs.declared.prefix.Prefix.{Prefix};
 ghost use Rattle.rib_out.specs.Held.{IsRising, all_asked, asked_at, held_at, is_among, is_prefix, octets_of};
 ghost use Rattle.net_prefix.specs.PrefixOrder.{prefix_cmp, IsAbove};
+ghost use Rattle.prefix_trie.specs.TrieWalks.{all_above, all_after};
 
 use crate::shared::SharedOctets;
 use crate::undo::{UndoLog, tell_all};
@@ -242,8 +243,31 @@ impl<A: Allocator + Clone> AdjOut<A> {
         ensures all { result ≡ octets_of self.now }
         ensures rising { IsRising result }
     {
+        let all: (Bound<Prefix>, Bound<Prefix>) = (Bound::Unbounded, Bound::Unbounded);
         HeldRoutes {
-            rest: self.routes.iter(),
+            rest: self.routes.range(all),
+        }
+    }
+
+    /// What the peer holds of prefixes above the given one, or of all, in rising order of the prefixes.
+    pub fn held_after(&self, after: Option<Prefix>) -> HeldRoutes<'_, A>
+        ensures all { result ≡ all_after after (octets_of self.now) }
+        ensures rising { IsRising result }
+    {
+        match after {
+            Some(prefix) => self.held_above(prefix),
+            None => self.held(),
+        }
+    }
+
+    fn held_above(&self, prefix: Prefix) -> HeldRoutes<'_, A>
+        ensures all { result ≡ all_above prefix (octets_of self.now) }
+        ensures rising { IsRising result }
+    {
+        HeldRoutes {
+            rest: self
+                .routes
+                .range((Bound::Excluded(prefix), Bound::Unbounded)),
         }
     }
 }
@@ -251,7 +275,7 @@ impl<A: Allocator + Clone> AdjOut<A> {
 /// The prefixes that a peer holds, with the octets of their attributes.
 #[derive(Drop)]
 pub struct HeldRoutes<'a, A: Allocator = Global> {
-    rest: btree_map::Iter<'a, Prefix, HeldRoute<A>>,
+    rest: btree_map::Range<'a, Prefix, HeldRoute<A>>,
 }
 
 impl<'a, A: Allocator> Model for HeldRoutes<'a, A> {

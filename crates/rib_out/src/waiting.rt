@@ -128,6 +128,18 @@ impl<A: Allocator> Waiting<A> {
         self.records.marked_after(after, Waits::mark_of(slot, owed))
     }
 
+    /// The least prefix above the given one, or of all, of which something waits for the slot. It is found through the
+    /// marks, in time of the prefix's length.
+    pub fn next_owed(&self, slot: u8, after: Option<Prefix>) -> Option<Prefix>
+        requires { slot < 64 }
+        ensures has { IfSome result (λ p. IsSome (owed_at self.now slot p)) }
+        ensures above { IfSome result (λ p. IsAbove after p) }
+        ensures least { IfSome result (λ p. (q : Prefix) → IsAbove after q → IsSome (owed_at self.now slot q) → is_gt (prefix_cmp p q) ≡ false) }
+        ensures none { IfNone result ((q : Prefix) → IsAbove after q → owed_at self.now slot q ≡ None) }
+    {
+        self.records.marked_after(after, Waits::marks_for(slot))
+    }
+
     /// Nothing waits any more for the slot. It takes no memory.
     pub fn clear(&mut self, slot: u8)
         requires { slot < 64 }

@@ -259,7 +259,17 @@ fn fill<A: Allocator + Clone>(
             refused = refused.saturating_add(1);
         }
     }
+    take_out(rt, table);
     refused
+}
+
+// Takes a route out, and then all of both slots, for which no request is made: it would be refused unseen in some run.
+fn take_out<A: Allocator + Clone>(rt: &impl Abort, table: &mut AdjIn<A>) {
+    table.withdraw(0, prefix_of(rt, 0, 24));
+    assert!(rt; count_routes(table, 0) == 31 && count_routes(table, 1) == 32);
+    table.drop_slot(0);
+    table.drop_slot(1);
+    assert!(rt; count_routes(table, 0) == 0 && count_routes(table, 1) == 0);
 }
 
 // Fills a table from one heap with routes from another. Answers how often a growth was refused.

@@ -31,7 +31,8 @@ use Rattle.routes.specs.Linked.{Linked}
 use Rattle.routes.specs.Marks.{AreMarked, AreMarkedFor, mark_at, mark_for, mark_of, no_mark}
 use Rattle.routes.specs.RoutingState.{RoutingState}
 use Rattle.routes.specs.Tables.{best_at, link_at}
-use Rattle.routes.proofs.Marking.{IsNow, export_none, is_other, marked_as, none_unlinked, now_off, other_is}
+use Rattle.routes.proofs.Marking.{export_none, is_other, marked_as, none_unlinked, other_is}
+use Rattle.routes.proofs.SlotMarks.{IsNow, now_off}
 
 -- What waits, where a peer is added.
 

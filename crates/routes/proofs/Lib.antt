@@ -1,4 +1,5 @@
 pub mod AddedMarks
+pub mod AskedRoutes
 pub mod BroughtPrefixes
 pub mod BroughtRoutes
 pub mod CandidateLists
@@ -21,6 +22,7 @@ pub mod PutSlots
 pub mod RemadeOffers
 pub mod Results
 pub mod RouteChanges
+pub mod SlotMarks
 pub mod SoundOffers
 pub mod Stretching
 pub mod ToldDegrees
@@ -28,3 +30,4 @@ pub mod ToldPrefixes
 pub mod ToldRoutes
 pub mod TouchedStretches
 pub mod WaitingLists
+pub mod WaitingRows

@@ -18,3 +18,4 @@ pub mod Tables
 pub mod Told
 pub mod Updates
 pub mod Waiting
+pub mod WaitingRows

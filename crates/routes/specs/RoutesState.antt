@@ -20,8 +20,8 @@ use Rattle.routes.specs.Tables.{Tables, best_at, link_at, tables}
 use Rattle.routes.specs.Told.{IsTold}
 
 -- what others see of the routes: the configuration, the payloads by which they are judged, the slots with their sessions and with
--- what their peers were sent, Adj-RIB-In, the candidates that are kept with Loc-RIB, and how often a best route was chosen so far.
--- What each peer is owed is where that which it holds and its export differ, or it has asked for it again
+-- what their peers were sent, Adj-RIB-In, the candidates that are kept with Loc-RIB, and how often a best route was chosen so far: a
+-- count that stays at 2^64 - 1 where it has reached it. What each peer is owed is where that which it holds and its export differ, or it has asked for it again
 pub record RoutesState : Type 0 where
   pub conf : Configuration
   pub payloads : List Vrp

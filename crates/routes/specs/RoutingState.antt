@@ -6,8 +6,8 @@ use Rattle.rib_in.specs.LatestRoutes.{RouteTable, route_at}
 use Rattle.rib_out.specs.Alike.{AlikeState}
 use Rattle.rib_out.specs.declared.waits.Waits.{Waits}
 
--- Adj-RIB-In, the candidates that are kept with Loc-RIB, how often a best route was chosen so far, what waits of each
--- known prefix for each slot, and what is listed of it by the octets that are written
+-- Adj-RIB-In, the candidates that are kept with Loc-RIB, how often a best route was chosen so far (a count that stays at 2^64 - 1
+-- where it has reached it), what waits of each known prefix for each slot, and what is listed of it by the octets that are written
 pub record RoutingState : Type 0 where
   pub adj_in : RouteTable
   pub book : BookState

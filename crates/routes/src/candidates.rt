@@ -356,8 +356,8 @@ fn remade<A: Allocator + Clone>(
     changes
 }
 
-// The candidate that a slot's route to a prefix makes now, or a local network, if there is one.
-fn remade_at<A: Allocator + Clone>(
+/// The candidate that a slot's route to a prefix makes now, or a local network, if there is one.
+pub fn remade_at<A: Allocator + Clone>(
     conf: &Conf<A>,
     payloads: &PayloadTrie<A>,
     links: &Links<A>,

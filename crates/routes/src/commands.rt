@@ -24,6 +24,7 @@ use crate::link::Link;
 use crate::routes::Routes;
 use bgp_attr::Attrs;
 use bgp_conf::{Command, PeerConf};
+use bgp_fsm::PeerTimers;
 use bgp_msg::OwnOpen;
 use decision::{Book, LOCAL_SLOT};
 use net_prefix::Prefix;
@@ -32,7 +33,8 @@ use std::collections::BTreeMap;
 use std::rc::Rc;
 
 impl<A: Allocator + Clone, B: Book<A>> Routes<A, B> {
-    /// A peer comes to a slot, with the OPEN that is sent to it. Where memory is refused, nothing changes.
+    /// A peer comes to a slot, with the OPEN that is sent to it and the times of its timers. Where memory is refused, nothing
+    /// changes.
     pub fn add_peer(
         &mut self,
         alloc: &A,
@@ -40,17 +42,18 @@ impl<A: Allocator + Clone, B: Book<A>> Routes<A, B> {
         slot: u8,
         conf: &PeerConf<'_>,
         own: OwnOpen,
+        times: PeerTimers,
     ) -> Result<(), AllocError>
         requires accepted { IsAccepted self.old.conf command.now }
         requires adds { command.now ≡ AddsPeer slot conf.now }
         ensures conf { OnOk result (self.new.conf ≡ conf_after self.old.conf (AddsPeer slot conf.now)) }
         ensures peers { OnOk result ((s : ℕ) → peer_at self.new.conf s ≡ peer_after self.old.conf (AddsPeer slot conf.now) s) }
-        ensures puts { OnOk result (IsSet slot (Some (record { peer = configured own conf.now.mode; adj_out = [] })) self.old self.new) }
+        ensures puts { OnOk result (IsSet slot (Some (record { peer = configured own conf.now.mode times; adj_out = [] })) self.old self.new) }
         ensures rest { OnOk result (self.new ≡ record self.old { conf = self.new.conf; links = self.new.links }) }
         ensures err { OnErr result (StaysAsIs self.old self.new) }
         ensures payloads { self.new.payloads ≡ self.old.payloads }
     {
-        let link = Link::new(alloc.clone()?, own, conf.mode)?;
+        let link = Link::new(alloc.clone()?, own, conf.mode, times)?;
         let before = self.links.insert(slot, link)?;
         if self.conf.apply(command).is_err() {
             put_back(&mut self.links, slot, before);

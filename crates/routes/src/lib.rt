@@ -24,9 +24,10 @@
 //! Nothing here speaks of a run or of a session's history: the speaker above does. To read first: the definitions
 //! `RoutesState` and `Marks`, then `routes`, `sessions`, `commands`, `queue` (the calls), `routing` (the tables and their
 //! marks), `candidates` (what makes a route a candidate), `message`, `updates`, `exports`, `packing` (which prefixes one
-//! UPDATE names), `told`, `waiting`.
+//! UPDATE names), `told`, `waiting`, `waiting_after`.
 #![tactic(auto)]
 
+mod asked;
 mod candidates;
 mod commands;
 mod exports;
@@ -40,6 +41,7 @@ mod sessions;
 mod told;
 mod updates;
 mod waiting;
+mod waiting_after;
 
 pub use exports::{Octets, place};
 pub use link::Link;
@@ -47,3 +49,4 @@ pub use message::Standard;
 pub use packing::Draft;
 pub use routes::Routes;
 pub use waiting::WaitingPrefixes;
+pub use waiting_after::WaitingAfter;

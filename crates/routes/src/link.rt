@@ -6,7 +6,7 @@ ghost use Rattle.bgp_peer.specs.Slot.{configured, pushed, handed};
 ghost use Rattle.routes.specs.Linked.{adj_out_after, moved, taken_of};
 
 use bgp_attr::Mode;
-use bgp_fsm::{Effects, Input, State};
+use bgp_fsm::{Effects, Input, PeerTimers, State};
 use bgp_msg::OwnOpen;
 use bgp_peer::Peer;
 use net_prefix::Transport;
@@ -31,11 +31,11 @@ impl<A: Allocator> Model for Link<A> {
 
 impl<A: Allocator + Clone> Link<A> {
     /// A slot in Idle, disabled. Takes the memory of its ring.
-    pub fn new(alloc: A, own: OwnOpen, mode: Mode) -> Result<Self, AllocError>
-        ensures { IfOk result (λ l. l ≡ record { peer = configured own mode; adj_out = [] }) }
+    pub fn new(alloc: A, own: OwnOpen, mode: Mode, times: PeerTimers) -> Result<Self, AllocError>
+        ensures { IfOk result (λ l. l ≡ record { peer = configured own mode times; adj_out = [] }) }
     {
         let adj_out = AdjOut::new(alloc.clone()?);
-        let peer = Peer::new(alloc, own, mode)?;
+        let peer = Peer::new(alloc, own, mode, times)?;
         Ok(Link { peer, adj_out })
     }
 

@@ -10,6 +10,7 @@ ghost use Rattle.decision.specs.BookContents.{IsBestOf, offer_at, rows_of};
 ghost use Rattle.export_rules.specs.Export.{Tells, most_attributes};
 ghost use Rattle.net_prefix.specs.PrefixOrder.{prefix_cmp};
 ghost use Rattle.net_prefix.specs.declared.prefix.Prefix.{Prefix as ThePrefix};
+ghost use Rattle.prefix_trie.specs.TrieWalks.{all_after};
 ghost use Rattle.rib_in.specs.LatestRoutes.{HasRoute, route_at, routes_of};
 ghost use Rattle.rib_out.specs.Held.{is_prefix};
 ghost use Rattle.origin_valid.specs.Stretches.{changed_prefixes, stretches};
@@ -125,6 +126,14 @@ impl<A: Allocator + Clone, B: Book<A>> Routes<A, B> {
         self.routing.ribs().rows()
     }
 
+    /// The rows of Loc-RIB above the given prefix, or all, in rising order.
+    pub fn rows_after(&self, after: Option<Prefix>) -> Rows<'_, A, B>
+        ensures all { result ≡ all_after after (rows_of self.now.book) }
+        ensures rising { IsStrictlySortedBy prefix_cmp (keys_of result) }
+    {
+        self.routing.ribs().rows_after(after)
+    }
+
     /// The routes of a slot in rising order.
     pub fn routes_of(&self, slot: u8) -> SlotRoutes<'_, A>
         ensures all { result ≡ routes_of slot self.now.adj_in }
@@ -132,6 +141,14 @@ impl<A: Allocator + Clone, B: Book<A>> Routes<A, B> {
         ensures found { (p : ThePrefix) → lookup (is_prefix p) result ≡ route_at self.now.adj_in slot p }
     {
         self.routing.ribs().routes().routes_of(slot)
+    }
+
+    /// The routes of a slot to prefixes above the given one, or all, in rising order.
+    pub fn routes_after(&self, slot: u8, after: Option<Prefix>) -> SlotRoutes<'_, A>
+        ensures all { result ≡ all_after after (routes_of slot self.now.adj_in) }
+        ensures rising { IsStrictlySortedBy prefix_cmp (keys_of result) }
+    {
+        self.routing.ribs().routes().routes_after(slot, after)
     }
 
     /// How often a best route was chosen so far, up to 2^64 - 1.

@@ -376,6 +376,17 @@ impl<A: Allocator + Clone, B: Book<A>> Routing<A, B> {
         self.waiting.next(slot, owed, after)
     }
 
+    /// The least prefix above the given one, or of all, of which something waits for the slot.
+    pub fn next_owed(&self, slot: u8, after: Option<Prefix>) -> Option<Prefix>
+        requires { slot < 64 }
+        ensures has { IfSome result (λ p. IsSome (owed_at self.now.waiting slot p)) }
+        ensures above { IfSome result (λ p. IsAbove after p) }
+        ensures least { IfSome result (λ p. (q : ThePrefix) → IsAbove after q → IsSome (owed_at self.now.waiting slot q) → is_gt (prefix_cmp p q) ≡ false) }
+        ensures none { IfNone result ((q : ThePrefix) → IsAbove after q → owed_at self.now.waiting slot q ≡ None) }
+    {
+        self.waiting.next_owed(slot, after)
+    }
+
     /// A prefix above the given one, below which none waits to be announced to the slot with these octets of attributes:
     /// the next that is listed by them, or the next that waits at all, where the slot's list isn't whole.
     pub fn possible_after(&self, slot: u8, octets: &[u8], after: Prefix) -> Option<Prefix>

@@ -8,7 +8,7 @@ use command_lines::{CommandLine, LineFault, address, number, words_of};
 use hex::FromHexError;
 use net_prefix::Asn;
 use rtr_codec::Intervals;
-use speaker::Config;
+use speaker::{Config, SlotTimers};
 use std::alloc::Global;
 
 /// A line of a script. Its words are separated by single spaces.
@@ -190,6 +190,7 @@ fn config_of(asn: &str, identifier: &str, cache: &str, multiprotocol: bool) -> O
         identifier: address(identifier)?,
         cache: cache_word(cache)?,
         multiprotocol,
+        timers: SlotTimers::USUAL,
     })
 }
 

@@ -52,6 +52,7 @@ use Rattle.routes.specs.Offers.{AreKept, AreMadeAgain, AreMadeWhere}
 use Rattle.routes.specs.Commands.{resolves}
 use Rattle.speaker.specs.Moves.{Announces, Moves, IsPut}
 use Rattle.speaker.specs.Runs.{Call, Run, turn, Up_call, Fail_call, Bytes_call, Starved_call, Tick_call, Command_call, Take_call, Cache_up_call, Cache_fail_call, Cache_bytes_call, Cache_starved_call, Cache_take_call, cache_history, commanded, conf_called, configuration_of, history, moment_after, opened_commanded, terms_in}
+use Rattle.speaker.specs.SlotTimes.{times_at}
 use Rattle.speaker.specs.SpeakerState.{SpeakerState, tables_of}
 use Rattle.routes.specs.Tables.{link_at, network_route, peer_route_at, session_at, tables}
 use Rattle.speaker.specs.declared.config.Config.{Config}
@@ -597,7 +598,7 @@ is_taken closing config r slot peer s h may = record {
 -- a new peer
 pub holds_added : (closing : ℕ) (config : Config) (r : Run) (slot : ℕ) (peer : PeerConf) (old new : SpeakerState) → Holds config r old → first_refusal old.conf closing (AddPeer slot peer) ≡ None
     → new.conf ≡ conf_after old.conf (AddPeer slot peer) → ((s : ℕ) → peer_at new.conf s ≡ peer_after old.conf (AddPeer slot peer) s)
-    → IsPut slot (record { peer = configured (terms_in config (configured_of peer)).own peer.mode; adj_out = [] }) old new
+    → IsPut slot (record { peer = configured (terms_in config (configured_of peer)).own peer.mode (times_at config.timers slot); adj_out = [] }) old new
     → new.config ≡ old.config → new.moment ≡ old.moment → new.cache ≡ old.cache → new.payloads ≡ old.payloads → new.adj_in ≡ old.adj_in → new.book ≡ old.book → new.chosen ≤ new.chosen_before → Holds config (turn (Command_call (AddPeer slot peer)) [] ∷ r) new
 holds_added closing config r slot peer old new h may conf peers put config_same moment cache payloads adj_in book few =
     let free : peer_at old.conf slot ≡ None = peer_at-from_accepted old.conf closing slot peer may in
@@ -620,7 +621,7 @@ holds_added closing config r slot peer old new h may conf peers put config_same 
           (rw (peers slot, put slot, adj_in, eq-eqb slot slot refl) (agrees_peers config (Some (configured_of peer)) _ old.adj_in slot _ (slot-from_accepted old.conf closing slot peer may) (slot_agrees config (configured_of peer) _ (route_at old.adj_in slot) _ (record {
             terms = refl;
             link = record {
-              peer = agrees-new (history config slot r) (terms_in config (configured_of peer)).own peer.mode peer.asn;
+              peer = agrees-new (history config slot r) (terms_in config (configured_of peer)).own peer.mode peer.asn (times_at config.timers slot);
               held = λ p. refl;
               asked = λ p. refl;
               silent = λ k new p. absurd (cc);
@@ -629,16 +630,16 @@ holds_added closing config r slot peer old new h may conf peers put config_same 
           }))));
       networks = λ p. ap (λ table. route_at table 64 p) adj_in ∙ h.networks p ∙ ap (λ c. network_route c p) (sym conf);
       kept =
-          kept_added slot (configured (terms_in config (configured_of peer)).own peer.mode) old new (offer_at old.book) (offer_at new.book) (slot-from_accepted old.conf closing slot peer may) put
+          kept_added slot (configured (terms_in config (configured_of peer)).own peer.mode (times_at config.timers slot)) old new (offer_at old.book) (offer_at new.book) (slot-from_accepted old.conf closing slot peer may) put
           (λ p. was p ∙ no_route (history config slot r) p vacant)
           (ap (λ (c : Configuration). c.own) conf) (ap (λ (c : Configuration). c.reach) conf) (ap (λ (c : Configuration). c.policies) conf) (λ t other. peers t ∙ rw (ne_eqb t slot other) refl)
           payloads adj_in (ap (λ b. offer_at b) book) h.kept;
       chosen = omega (arith, few);
     }
 
--- a new slot, with the OPEN of the peer's terms
-abbrev pub added : Config → PeerConf → Linked
-added config peer = record { peer = configured (record { asn = config.asn; hold_time = peer.hold; identifier = config.identifier; multiprotocol = config.multiprotocol }) peer.mode; adj_out = [] }
+-- a new slot, with the OPEN of the peer's terms, and its timers
+abbrev pub added : Config → ℕ → PeerConf → Linked
+added config slot peer = record { peer = configured (record { asn = config.asn; hold_time = peer.hold; identifier = config.identifier; multiprotocol = config.multiprotocol }) peer.mode (times_at config.timers slot); adj_out = [] }
 
-pub added_same : (have config : Config) (peer : PeerConf) → have ≡ config → added have peer ≡ added config peer
-added_same have config peer is = rw is refl
+pub added_same : (have config : Config) (slot : ℕ) (peer : PeerConf) → have ≡ config → added have slot peer ≡ added config slot peer
+added_same have config slot peer is = rw is refl

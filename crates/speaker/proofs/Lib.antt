@@ -31,3 +31,5 @@ pub mod Revalidating
 pub mod CacheSteps
 pub mod Touches
 pub mod RoutesSeen
+pub mod ViewsBehind
+pub mod AskedRoutes

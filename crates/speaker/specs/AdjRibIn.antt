@@ -11,7 +11,7 @@ use Rattle.routes.specs.Updates.{word_if}
 
 -- the UPDATE that an event brings, coming next
 abbrev pub brought : List Event → Event → Option UpdateBody
-brought h (Configured terms) = None
+brought h (Configured terms times) = None
 brought h (Signalled input) = None
 brought h (Octet octet) = option_and_then (update_heard (session h).state (terms_of h)) (item_at h octet)
 brought h (Queued update) = None

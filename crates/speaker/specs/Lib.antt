@@ -4,6 +4,7 @@ pub mod SpeakerState
 pub mod AdjRibIn
 pub mod Held
 pub mod Refreshes
+pub mod SlotTimes
 pub mod Runs
 pub mod Agreement
 pub mod Serving

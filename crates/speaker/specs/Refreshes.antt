@@ -31,7 +31,7 @@ names_in octets prefix = list_any (λ item. named item prefix) (messages octets)
 
 -- an UPDATE that names a prefix answers for it, and nothing else answers
 abbrev pub answers : Event → Prefix → Bool
-answers (Configured terms) prefix = false
+answers (Configured terms times) prefix = false
 answers (Signalled input) prefix = false
 answers (Octet octet) prefix = false
 answers (Queued update) prefix = names_in update prefix

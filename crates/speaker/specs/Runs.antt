@@ -15,6 +15,7 @@ use Rattle.net_prefix.specs.declared.payload.Vrp.{Vrp}
 use Rattle.rtr_codec.specs.ClientTable.{in_force}
 use Rattle.rtr_session.specs.SessionHistory as cache
 use Rattle.speaker.specs.Queueing.{Queue, Service, Tells, Starves, starved_in}
+use Rattle.speaker.specs.SlotTimes.{times_at}
 use Rattle.speaker.specs.declared.config.Config.{Config}
 use Rattle.speaker.specs.declared.event.Event.{Event}
 use Rattle.speaker.specs.declared.event.Event.TheVariants.{Up as CameUp, Fail as HasFailed, Bytes, Tick, Command as Commanded, CacheUp, CacheFail, CacheBytes}
@@ -178,7 +179,7 @@ terms_in config peer = record {
 
 -- what a command is to a slot
 abbrev pub commanded : Config → ℕ → Command → List slot.Event → List slot.Event
-commanded config s (AddPeer slot peer) h = if s == slot then Configured (terms_in config (configured_of peer)) ∷ h else h
+commanded config s (AddPeer slot peer) h = if s == slot then Configured (terms_in config (configured_of peer)) (times_at config.timers slot) ∷ h else h
 commanded config s (RemovePeer slot) h = if s == slot then Signalled Removed ∷ h else h
 commanded config s (Enable slot) h = if s == slot then Signalled Start ∷ h else h
 commanded config s (Disable slot) h = if s == slot then Signalled Disabled ∷ h else h

@@ -1,11 +1,14 @@
 -- What operators see of the tables.
-use Rattle.std.specs.Prelude.{ℕ, ◌==◌, List, [], Option, Some, None, unwrap_or, if◌then◌else◌}
+use Rattle.std.specs.Prelude.{ℕ, ◌==◌, List, [], Option, Some, None, filter, unwrap_or, if◌then◌else◌}
 use Rattle.std.specs.Option.{option_map}
+use Rattle.std.specs.Ordering.{is_lt}
 use Rattle.bgp_fsm.specs.Transports.{transport_of}
 use Rattle.bgp_fsm.specs.declared.session.Session.{Session}
 use Rattle.decision.specs.declared.candidate.Candidate.{Candidate}
 use Rattle.bgp_attr.specs.PathAttributes.{PathAttributes}
 use Rattle.decision.specs.declared.candidate.TheConstants.{LOCAL_SLOT}
+use Rattle.net_prefix.specs.PayloadOrder.{payload_cmp}
+use Rattle.net_prefix.specs.declared.payload.Vrp.{Vrp}
 use Rattle.net_prefix.specs.declared.prefix.Prefix.{Prefix}
 use Rattle.rib_in.specs.LatestRoutes.{RouteTable, routes_of}
 use Rattle.net_prefix.specs.declared.transport.Transport.{Transport}
@@ -54,3 +57,8 @@ cache_state_after config r = if config.cache then Some (state_of (client (cache_
 -- a transport; where there is no session there is none
 abbrev pub transport_or_none : Option Transport → Transport
 transport_or_none found = unwrap_or found NoConnection
+
+-- the payloads above one, or all
+abbrev pub payloads_behind : Option Vrp → List Vrp → List Vrp
+payloads_behind None payloads = payloads
+payloads_behind (Some last) payloads = filter (λ payload. is_lt (payload_cmp last payload)) payloads

@@ -1,5 +1,5 @@
 -- A speaker, as others see it.
-use Rattle.std.specs.Prelude.{◌≡◌, ◌==◌, ◌||◌, ℕ, List, Bool, [], Option, Some, None, if◌then◌else◌}
+use Rattle.std.specs.Prelude.{◌≡◌, ◌==◌, ◌||◌, not, ℕ, List, Bool, [], Option, Some, None, if◌then◌else◌}
 use Rattle.bgp_conf.specs.Configuration.{Configuration}
 use Rattle.decision.specs.BookContents.{BookState, offer_at}
 use Rattle.decision.specs.declared.candidate.Candidate.{Candidate}
@@ -8,13 +8,15 @@ use Rattle.net_prefix.specs.declared.prefix.Prefix.{Prefix}
 use Rattle.rib_in.specs.LatestRoutes.{RouteTable, route_at}
 use Rattle.rtr_codec.specs.ClientTable.{in_force}
 use Rattle.rtr_session.specs.SessionState.{Session as CacheSession, configured}
+use Rattle.speaker.specs.SlotTimes.{are_lawful}
 use Rattle.speaker.specs.declared.config.Config.{Config}
 use Rattle.routes.specs.Linked.{Linked}
 use Rattle.routes.specs.Tables.{Tables, tables, link_at}
 
 -- what others see of a speaker: its settings, the moment, the configured tables, the cache session, the payloads in
 -- force, its slots, Adj-RIB-In,
--- the candidates that are kept, Loc-RIB, how often a best route was chosen so far, and how often before the last step or take that wasn't refused
+-- the candidates that are kept, Loc-RIB, how often a best route was chosen so far (a count that stays at 2^64 - 1 where it has
+-- reached it), and how often before the last step or take that wasn't refused
 pub record SpeakerState : Type 0 where
   pub config : Config
   pub moment : ℕ
@@ -48,9 +50,9 @@ started config = record {
   chosen_before = 0;
 }
 
--- an AS or an identifier of 0
+-- an AS or an identifier of 0, or a timer of some peer that is to run for no time
 abbrev pub is_out_of_range : Config → Bool
-is_out_of_range config = config.asn.0 == 0 || config.identifier == 0
+is_out_of_range config = config.asn.0 == 0 || config.identifier == 0 || not (are_lawful config.timers)
 
 -- the payloads in force of a cache session; none where there is no session
 abbrev pub payloads_in : Option CacheSession → List Vrp

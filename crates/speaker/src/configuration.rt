@@ -245,7 +245,9 @@ impl<A: Allocator + Clone, B: Book<A>> Speaker<A, B> {
             identifier: self.config.identifier,
             multiprotocol: self.config.multiprotocol,
         };
-        self.routes.add_peer(&self.alloc, command, slot, conf, own)?;
+        let times = self.config.timers.of(slot);
+        self.routes
+            .add_peer(&self.alloc, command, slot, conf, own, times)?;
         self.begin_count();
         Ok(0)
     }

@@ -25,6 +25,7 @@
 //! `queue`.
 #![tactic(auto)]
 
+mod asked;
 mod cache_session;
 mod config;
 mod configuration;
@@ -36,11 +37,12 @@ mod sessions;
 mod step;
 mod timers;
 mod views;
+mod views_after;
 
 pub use bgp_attr::{Attrs, Mode};
 pub use bgp_conf::{Action, Command, Condition, PeerConf, PrefixRange, Refusal, Rule};
-pub use bgp_fsm::State;
-pub use config::Config;
+pub use bgp_fsm::{PeerTimers, State};
+pub use config::{Config, SlotTimers};
 pub use decision::LOCAL_SLOT;
 pub use event::{Event, Report};
 pub use laws::{
@@ -49,7 +51,7 @@ pub use laws::{
 };
 pub use net_prefix::Transport;
 pub use origin_valid::Validity;
-pub use routes::WaitingPrefixes;
+pub use routes::{WaitingAfter, WaitingPrefixes};
 pub use rtr_client::ClientState;
 pub use runs::{Trace, run};
 pub use step::Speaker;

@@ -25,6 +25,7 @@ ghost use Rattle.speaker.specs.Waiting.{IsWaitingIn, waiting_of};
 ghost use Rattle.bgp_peer.specs.PeerLimits.{ring_octets, room_for_update};
 
 use crate::step::Speaker;
+use crate::views_after::members_after;
 use bgp_attr::Attrs;
 use bgp_fsm::State;
 use decision::{Book, LOCAL_SLOT};
@@ -86,7 +87,7 @@ impl<A: Allocator + Clone, B: Book<A>> Iterator for LocRib<'_, A, B> {
 /// The payloads in force in rising order.
 #[derive(Drop)]
 pub struct Payloads<'a> {
-    pub(crate) payloads: Option<btree_set::Iter<'a, Vrp>>,
+    pub(crate) payloads: Option<btree_set::Range<'a, Vrp>>,
 }
 
 impl<'a> Model for Payloads<'a> {
@@ -263,7 +264,7 @@ impl<A: Allocator + Clone, B: Book<A>> Speaker<A, B> {
     {
         match &self.cache {
             Some(session) => Payloads {
-                payloads: Some(session.payloads().iter()),
+                payloads: Some(members_after(session.payloads(), None)),
             },
             None => Payloads { payloads: None },
         }

@@ -1,15 +1,21 @@
 -- Turns with operators between them.
-use Rattle.std.specs.Prelude.{◌≡◌, ◌≤◌, ℕ, List, OnOk, Result, Ok, Err, length}
+use Rattle.std.specs.Prelude.{◌≡◌, ◌≤◌, ◌⊎◌, ℕ, List, OnOk, Result, Ok, Err, length}
 use Rattle.clocks.specs.Moments.{NeverGoBack, told_behind}
 use Rattle.wires.specs.declared.fault.LoopFault.TheVariants.{Accept}
 use Rattle.speaker_turns.specs.Turns.{TakesTurn, Turns}
-use Rattle.speaker_desk.specs.Moves.{AreOperators, AreWell, Move, MovesAll, moments_in}
+use Rattle.control_lines.specs.declared.operators.TheConstants.{OPERATORS}
+use Rattle.speaker_desk.specs.Answering.{AnswersAll, AnswersLine}
+use Rattle.speaker_desk.specs.Moves.{AreWell, Move, MovesAll, moments_in}
 
--- what operators' lines make of a loop between two turns
+-- a line of an operator is answered, or nothing changes
+abbrev pub AnswersOne : Turns → Turns → Type 0
+AnswersOne old new = (new ≡ old) ⊎ ((line : List ℕ) × AnswersLine line old new)
+
+-- what operators' lines make of a loop between two turns: a line of each at most
 pub record Attends (old new : Turns) : Type 0 where
-  pub moves : List Move
-  pub made : MovesAll moves old new
-  pub own : AreOperators moves
+  pub lines : List (List ℕ)
+  pub few : length lines ≤ OPERATORS
+  pub made : AnswersAll lines old new
 
 -- so many turns or fewer, each at the moment that the clock told for it, with what operators asked for between them; where nothing
 -- failed each turn went well

@@ -1,17 +1,18 @@
 //! What each line is answered.
-ghost use Rattle.std.specs.Prelude.{ℕ, List};
-ghost use Rattle.speaker_desk.specs.Attended.{Attends};
-ghost use Rattle.speaker_desk.specs.Moves.{AsksFor};
+ghost use Rattle.std.specs.Prelude.{◌≡◌, ◌∷◌, ℕ, List, [], IfOk, IfSome};
+ghost use Rattle.command_lines.specs.CommandWords.{SaysLine};
+ghost use Rattle.speaker_desk.specs.Answering.{AnswersLine, AnswersText, AreObeyed, ClearsSlot, IsObeyed, IsTextOf, IsToldWhere, StopsBelow, added_by};
+ghost use Rattle.speaker_desk.specs.Attended.{AnswersOne, Attends};
 
-use crate::pieces::{Place, Rest, Scene, write_piece};
-use crate::shown::{Shown, shown_by};
-use crate::times::StateTimes;
+use crate::answers::{say_bad_line, say_done, say_no_peer, say_refused};
 use bgp_conf::{Command, PEER_SLOTS, Refusal};
+use command_lines::{CommandLine, words_of};
 use control_lines::{OPERATORS, Operators, Wish};
 use decision::Book;
 use net_prefix::Transport;
 use scenario::{Line, LineFault, SpeakerLine};
 use speaker::{Report, Speaker};
+use speaker_tables::{Rest, Scene, Shown, StateTimes, shown_by, write_piece};
 use speaker_turns::{End, SpeakerLoop};
 use std::alloc::{AllocError, Global};
 use std::io::{self, Write};
@@ -74,7 +75,7 @@ impl<'a> Desk<'a> {
     }
 
     /// Answers each operator that waits for something.
-    #[tactic(auto, using(crate::proofs::AskedMoves::attends_none, crate::proofs::AskedMoves::attends_on))]
+    #[tactic(auto, using(crate::proofs::AskedMoves::attends_first, crate::proofs::AskedMoves::attends_one, crate::proofs::AskedMoves::attends_all))]
     pub fn attend<W: Wire + Drop, B: Book<Global>, O: Operators>(
         &mut self,
         served: &mut SpeakerLoop<W, Global, B>,
@@ -84,11 +85,25 @@ impl<'a> Desk<'a> {
         ensures { Attends served.old served.new }
     {
         for key in 0..OPERATORS {
-            match operators.wish(key) {
-                Wish::Nothing => {}
-                Wish::Answer => self.answer(served, operators, key, now),
-                Wish::More => self.go_on(served.speaker(), operators, key, now),
-            }
+            self.attend_one(served, operators, key, now);
+        }
+    }
+
+    // Answers the operator at this place, who may wait for something.
+    #[tactic(auto, using(crate::proofs::AskedMoves::answers_none, crate::proofs::AskedMoves::answers_line))]
+    fn attend_one<W: Wire + Drop, B: Book<Global>, O: Operators>(
+        &mut self,
+        served: &mut SpeakerLoop<W, Global, B>,
+        operators: &mut O,
+        key: usize,
+        now: u64,
+    )
+        ensures { AnswersOne served.old served.new }
+    {
+        match operators.wish(key) {
+            Wish::Nothing => {}
+            Wish::Answer => self.answer(served, operators, key, now),
+            Wish::More => self.go_on(served.speaker(), operators, key, now),
         }
     }
 
@@ -114,7 +129,7 @@ impl<'a> Desk<'a> {
         key: usize,
         now: u64,
     )
-        ensures { Attends served.old served.new }
+        ensures { (line : List ℕ) × AnswersLine line served.old served.new }
     {
         self.page.clear();
         let said = self.say(served, operators.line(key), now);
@@ -153,106 +168,187 @@ impl<'a> Desk<'a> {
     }
 
     // Says what the line is answered.
-    #[tactic(auto, using(crate::proofs::AskedMoves::attends_none))]
+    #[tactic(auto, using(crate::proofs::AskedMoves::line_text, crate::proofs::AskedMoves::line_none))]
     fn say<W: Wire + Drop, B: Book<Global>>(
         &mut self,
         served: &mut SpeakerLoop<W, Global, B>,
         line: &[u8],
         now: u64,
     ) -> io::Result<Said>
-        ensures { Attends served.old served.new }
+        ensures { AnswersLine line.now served.old served.new }
     {
-        let Some(text) = text_of(line) else {
-            return self.say_whole("bad line");
-        };
+        match text_of(line) {
+            Some(text) => self.say_text(served, text, now),
+            None => self.bad_line(""),
+        }
+    }
+
+    // Says what the text of a line is answered.
+    #[tactic(auto, using(crate::proofs::AskedMoves::text_none, crate::proofs::AskedMoves::text_stops))]
+    fn say_text<W: Wire + Drop, B: Book<Global>>(
+        &mut self,
+        served: &mut SpeakerLoop<W, Global, B>,
+        text: &str,
+        now: u64,
+    ) -> io::Result<Said>
+        ensures { AnswersText text.now served.old served.new }
+    {
         if text == "stop" {
             stop_all(served);
-            self.say_whole("ok")?;
+            writeln!(self.page, "ok")?;
             return Ok(Said::Stop);
         }
         if let Some(shown) = shown_by(text) {
             return self.begin(served.speaker(), shown, now);
         }
+        if text.starts_with("clear ") {
+            return self.clear(served, text);
+        }
+        self.say_line(served, text, now)
+    }
+
+    // Says what a line is answered that scripts have too.
+    #[tactic(auto, using(crate::proofs::AskedMoves::text_none))]
+    fn say_line<W: Wire + Drop, B: Book<Global>>(
+        &mut self,
+        served: &mut SpeakerLoop<W, Global, B>,
+        text: &str,
+        now: u64,
+    ) -> io::Result<Said>
+        ensures { AnswersText text.now served.old served.new }
+    {
         match Line::parse(self.alloc, text) {
             Ok(Line::Drive(SpeakerLine::Obey(line))) => self.obey(served, line.command()),
             Ok(Line::Drive(SpeakerLine::Show(table))) => {
                 self.begin(served.speaker(), Shown::Table(table), now)
             }
-            Ok(_) | Err(LineFault::BadLine) => self.say_whole("bad line"),
-            Err(LineFault::NoMemory) => self.refuse(Refusal::NoMemory),
+            Ok(_) => self.bad_line(text),
+            Err(fault) => self.refuse_line(fault, text),
         }
     }
 
-    fn say_whole(&mut self, text: &str) -> io::Result<Said> {
-        writeln!(self.page, "{text}")?;
+    fn bad_line(&mut self, text: &str) -> io::Result<Said> {
+        say_bad_line(&mut self.page, text)?;
         Ok(Said::Whole)
     }
 
+    fn refuse_line(&mut self, fault: LineFault, text: &str) -> io::Result<Said> {
+        match fault {
+            LineFault::BadLine => self.bad_line(text),
+            LineFault::NoMemory => self.refuse(Refusal::NoMemory),
+        }
+    }
+
     fn refuse(&mut self, refusal: Refusal) -> io::Result<Said> {
-        let number = refusal.number();
-        writeln!(self.page, "refused {number} {refusal}")?;
+        say_refused(&mut self.page, refusal)?;
         Ok(Said::Whole)
     }
 
     // Hands the command to the speaker. Of a peer that is configured so it is told where it is.
-    #[tactic(auto, using(crate::proofs::AskedMoves::attends_command, crate::proofs::AskedMoves::attends_on))]
     fn obey<W: Wire + Drop, B: Book<Global>>(
         &mut self,
         served: &mut SpeakerLoop<W, Global, B>,
         command: Command<'_>,
     ) -> io::Result<Said>
-        ensures { (line : List ℕ) → AsksFor line command.entry → Attends served.old served.new }
+        ensures { IsObeyed command.entry served.old served.new }
     {
         match served.obey(command) {
             Ok(report) => {
                 self.tell_remote(served, command);
-                self.say_done(&report)
+                self.say_obeyed(&command, &report)
             }
             Err(refusal) => self.refuse(refusal),
         }
     }
 
-    #[tactic(auto, using(crate::proofs::AskedMoves::attends_none, crate::proofs::AskedMoves::attends_place))]
+    fn say_obeyed(&mut self, command: &Command<'_>, report: &Report) -> io::Result<Said> {
+        say_done(&mut self.page, command, report)?;
+        Ok(Said::Whole)
+    }
+
+    #[tactic(auto, using(crate::proofs::AskedMoves::told_some, crate::proofs::AskedMoves::told_none))]
     fn tell_remote<W: Wire + Drop, B: Book<Global>>(
         &self,
         served: &mut SpeakerLoop<W, Global, B>,
         command: Command<'_>,
     )
-        ensures { Attends served.old served.new }
+        ensures { IsToldWhere command.entry served.old served.new }
     {
-        if let Command::AddPeer(slot, peer) = command {
-            let remote = remote_of(self.remotes, slot, peer.address);
-            served.set_remote(End::Peer(slot), remote);
-        }
-    }
-
-    // Where memory was wanting, sessions are named that were closed for it.
-    fn say_done(&mut self, report: &Report) -> io::Result<Said> {
-        write!(self.page, "ok")?;
-        if report.starved != 0 {
-            write!(self.page, " starved")?;
-        }
-        for slot in 0..PEER_SLOTS {
-            if (report.starved >> slot) & 1 == 1 {
-                write!(self.page, " {slot}")?;
+        match added_by(&command) {
+            Some((slot, address)) => {
+                let remote = remote_of(self.remotes, slot, address);
+                served.set_remote(End::Peer(slot), remote);
             }
+            None => {}
         }
-        writeln!(self.page, "")?;
-        Ok(Said::Whole)
     }
 
-    // Shows the first piece of a table.
+    // Ends the session of a slot by an administrative shutdown (RFC 4486 section 4), and has it begin again.
+    #[tactic(auto, using(crate::proofs::AskedMoves::text_none, crate::proofs::AskedMoves::text_clears))]
+    fn clear<W: Wire + Drop, B: Book<Global>>(
+        &mut self,
+        served: &mut SpeakerLoop<W, Global, B>,
+        text: &str,
+    ) -> io::Result<Said>
+        ensures { AnswersText text.now served.old served.new }
+    {
+        let Ok(words) = words_of(self.alloc, text) else {
+            return self.refuse(Refusal::NoMemory);
+        };
+        match words.as_slice() {
+            ["clear", slot] => self.clear_slot(served, slot),
+            _ => self.bad_line(text),
+        }
+    }
+
+    // Disables the peer of the slot that a word names, and enables it.
+    #[tactic(auto, using(crate::proofs::AskedMoves::clears_both, crate::proofs::AskedMoves::clears_none))]
+    fn clear_slot<W: Wire + Drop, B: Book<Global>>(
+        &mut self,
+        served: &mut SpeakerLoop<W, Global, B>,
+        slot: &str,
+    ) -> io::Result<Said>
+        ensures { ClearsSlot slot.now served.old served.new }
+    {
+        let disable = match line_of(self.alloc, "disable", slot) {
+            Ok(line) => line,
+            Err(fault) => return self.refuse_line(fault, ""),
+        };
+        let enable = match line_of(self.alloc, "enable", slot) {
+            Ok(line) => line,
+            Err(fault) => return self.refuse_line(fault, ""),
+        };
+        self.restart(served, disable.command(), enable.command())
+    }
+
+    // Hands in a command, and where it is obeyed another one.
+    #[tactic(auto, using(crate::proofs::AskedMoves::both_ok, crate::proofs::AskedMoves::both_err))]
+    fn restart<W: Wire + Drop, B: Book<Global>>(
+        &mut self,
+        served: &mut SpeakerLoop<W, Global, B>,
+        first: Command<'_>,
+        second: Command<'_>,
+    ) -> io::Result<Said>
+        ensures { AreObeyed first.entry second.entry served.old served.new }
+    {
+        match served.obey(first) {
+            Ok(_) => self.obey(served, second),
+            Err(why) => self.refuse(why),
+        }
+    }
+
+    // Shows the first piece of a table, unless it is of a slot without a peer.
     fn begin<B: Book<Global>>(
         &mut self,
         speaker: &Speaker<Global, B>,
         shown: Shown,
         now: u64,
     ) -> io::Result<Said> {
-        let rest = Rest {
-            shown,
-            behind: Place::Start,
-        };
-        self.show(speaker, rest, now)
+        if let Some(slot) = slot_without_peer(speaker, shown) {
+            say_no_peer(&mut self.page, slot)?;
+            return Ok(Said::Whole);
+        }
+        self.show(speaker, Rest::whole(shown), now)
     }
 
     // Shows the next piece of a table.
@@ -274,13 +370,49 @@ impl<'a> Desk<'a> {
     }
 }
 
-// The text of a line without a carriage return at its end.
-fn text_of(line: &[u8]) -> Option<&str> {
-    let octets = line.strip_suffix(b"\r").unwrap_or(line);
+// The text of a line without a carriage return at its end, where it is ASCII.
+fn text_of(line: &[u8]) -> Option<&str>
+    ensures { IfSome result (λ text. IsTextOf line.now text.now) }
+{
+    match line.split_last() {
+        Some((last, octets)) if *last == b'\r' => ascii_text(octets),
+        _ => ascii_text(line),
+    }
+}
+
+fn ascii_text(octets: &[u8]) -> Option<&str>
+    ensures { IfSome result (λ text. text.now ≡ octets.now) }
+{
     if !octets.is_ascii() {
         return None;
     }
     str::from_utf8(octets).ok()
+}
+
+// The line of a command of one word.
+fn line_of<'a>(alloc: Global, command: &'a str, word: &'a str) -> Result<CommandLine<'a>, LineFault>
+    ensures { IfOk result (λ line. SaysLine (command.now ∷ word.now ∷ []) line) }
+{
+    CommandLine::of(alloc, &[command, word])
+}
+
+// The slot of whose peer a table is, where there is no such peer.
+fn slot_without_peer<B: Book<Global>>(speaker: &Speaker<Global, B>, shown: Shown) -> Option<u8> {
+    let slot = shown.slot()?;
+    match speaker.session(slot) {
+        Some(_) => None,
+        None => Some(slot),
+    }
+}
+
+// The slot and the address of the peer that a command configures.
+fn added_by(command: &Command<'_>) -> Option<(u8, u32)>
+    ensures { result ≡ added_by command.now }
+{
+    match command {
+        Command::AddPeer(slot, peer) => Some((*slot, peer.address)),
+        _ => None,
+    }
 }
 
 // Where a peer is: as the settings say of its slot, or at its address and BGP's port.
@@ -300,9 +432,9 @@ fn nothing_left(alloc: Global) -> Result<Vec<Left>, AllocError> {
 }
 
 // Disables each peer: its session ends by an administrative shutdown (RFC 4486 section 4).
-#[tactic(auto, using(crate::proofs::AskedMoves::attends_none, crate::proofs::AskedMoves::attends_on, crate::proofs::AskedMoves::attends_disable))]
+#[tactic(auto, using(crate::proofs::AskedMoves::stops_first, crate::proofs::AskedMoves::stops_more, crate::proofs::AskedMoves::stops_all))]
 fn stop_all<W: Wire + Drop, B: Book<Global>>(served: &mut SpeakerLoop<W, Global, B>)
-    ensures { Attends served.old served.new }
+    ensures { StopsBelow 64 served.old served.new }
 {
     for slot in 0..PEER_SLOTS {
         let _taken = served.obey(Command::Disable(slot));

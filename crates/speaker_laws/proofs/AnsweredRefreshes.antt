@@ -45,7 +45,7 @@ refresh_octet h octet p (Some item) at is =
 
 -- a refresh asks for what is held
 pub refresh_asks : (h : List Event) (e : Event) (p : Prefix) → refreshes h e ≡ true → asked (e ∷ h) p ≡ is_some (held h p)
-refresh_asks h (Configured terms) p is = absurd (cc)
+refresh_asks h (Configured terms times) p is = absurd (cc)
 refresh_asks h (Signalled input) p is = absurd (cc)
 refresh_asks h (Octet octet) p is = refresh_octet h octet p (item_at h octet) refl is
 refresh_asks h (Queued update) p is = absurd (cc)

@@ -89,7 +89,7 @@ item_travels state terms None = tt
 item_travels state terms (Some item) = heard_travels state terms item
 
 brought_travels : (h : List Event) (e : Event) → UpdateTravels (brought h e)
-brought_travels h (Configured terms) = tt
+brought_travels h (Configured terms times) = tt
 brought_travels h (Signalled input) = tt
 brought_travels h (Octet octet) = item_travels (session h).state (terms_of h) (item_at h octet)
 brought_travels h (Queued update) = tt
@@ -207,7 +207,7 @@ kept_told input octets t = t
 -- each UPDATE that is queued in a history adds nothing else
 abbrev AllAdd : List Event → Type 0
 AllAdd [] = ⊤
-AllAdd (Configured terms ∷ h) = AllAdd h
+AllAdd (Configured terms times ∷ h) = AllAdd h
 AllAdd (Signalled input ∷ h) = AllAdd h
 AllAdd (Octet octet ∷ h) = AllAdd h
 AllAdd (Queued update ∷ h) = AddsTravelling update × AllAdd h
@@ -216,7 +216,7 @@ AllAdd (Ticked now ∷ h) = AllAdd h
 
 sent_travels : (h : List Event) → AllAdd h → TellsTravelling (sent h)
 sent_travels [] all = none_told
-sent_travels (Configured terms ∷ h) all = rows_add (moment_of (Configured terms ∷ h)) (inputs_of h (Configured terms)) (session h) (given (Configured terms ∷ h)) [] none_told
+sent_travels (Configured terms times ∷ h) all = rows_add (moment_of (Configured terms times ∷ h)) (inputs_of h (Configured terms times)) (session h) (given (Configured terms times ∷ h)) [] none_told
 sent_travels (Signalled input ∷ h) all =
     rows_add (moment_of (Signalled input ∷ h)) (inputs_of h (Signalled input)) (session h) (given (Signalled input ∷ h)) (kept input (sent h)) (kept_told input (sent h) (sent_travels h all))
 sent_travels (Octet octet ∷ h) all = rows_add (moment_of (Octet octet ∷ h)) (inputs_of h (Octet octet)) (session h) (given (Octet octet ∷ h)) (sent h) (sent_travels h all)

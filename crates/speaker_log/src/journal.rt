@@ -1,7 +1,10 @@
 //! What is told of a speaker behind each turn.
 ghost use Rattle.std.specs.Prelude.{◌≡◌, IfOk, false};
 
+use crate::asked::Asked;
 use crate::line::{CacheChange, Flood, SessionChange, SpeakerLine};
+use crate::places::Places;
+use crate::series::{Met, Series};
 use crate::shown::Shown;
 use crate::side::Side;
 use bgp_conf::PEER_SLOTS;
@@ -13,8 +16,10 @@ use std::alloc::{AllocError, Global};
 use std::io::Write;
 use std::net::SocketAddr;
 use std::rt::Clock;
+use watched_wires::Seen;
 
-/// How many lines a minute are about peers and the cache at most, and how many about strangers (own choice).
+/// How many lines a minute are about peers and the cache at most, how many about strangers, and how many about operators
+/// (own choice).
 pub const LINES_A_MINUTE: u32 = 300;
 
 /// The log of a speaker.
@@ -27,9 +32,9 @@ pub struct Journal {
 // What is kept of the turns before.
 #[derive(Drop)]
 struct Kept {
-    // Where the settings place peers and the cache.
-    peers: Vec<(u8, SocketAddr)>,
-    cache: Option<SocketAddr>,
+    places: Places,
+    // What fails alike of each slot, and of the cache behind them.
+    series: Vec<Series>,
     // The state of each slot's session, and of that with the cache.
     sessions: Vec<Option<State>>,
     cache_session: Option<ClientState>,
@@ -38,6 +43,7 @@ struct Kept {
     status: Every,
     about_sessions: LineLimit,
     about_strangers: LineLimit,
+    about_operators: LineLimit,
 }
 
 impl Journal {
@@ -64,6 +70,23 @@ impl Journal {
         log(rt, self.is_on, output, &SpeakerLine::Listens(address));
     }
 
+    /// Scrapers connect here.
+    pub fn metrics<R: Clock, O: Write>(&self, rt: &R, address: SocketAddr, output: &mut O)
+        ensures { self.now.is_on ≡ false → output.new ≡ output.old }
+    {
+        log(rt, self.is_on, output, &SpeakerLine::Metrics(address));
+    }
+
+    /// The speaker is so before its first turn: of peers that nothing enables it is told.
+    pub fn begins<S: Shown, R: Clock, O: Write>(&self, rt: &R, shown: &S, output: &mut O)
+        ensures { self.now.is_on ≡ false → output.new ≡ output.old }
+    {
+        if !self.is_on {
+            return;
+        }
+        self.kept.tell_disabled(rt, shown, output);
+    }
+
     /// The speaker is so behind a turn, at this moment.
     pub fn tell<S: Shown, R: Clock, O: Write>(
         &mut self,
@@ -79,6 +102,23 @@ impl Journal {
             self.kept.tell(rt, shown, now, output);
         }
     }
+
+    /// The peer of the slot is there, where the settings don't place it.
+    pub fn place(&mut self, slot: u8, remote: SocketAddr)
+        ensures { self.new.is_on ≡ self.old.is_on }
+    {
+        self.kept.places.place(slot, remote);
+    }
+
+    /// An operator was answered.
+    pub fn answered<R: Clock, O: Write>(&mut self, rt: &R, asked: &Asked<'_>, output: &mut O)
+        ensures silent { self.old.is_on ≡ false → output.new ≡ output.old }
+        ensures same { self.new.is_on ≡ self.old.is_on }
+    {
+        if self.is_on && self.kept.about_operators.admits() {
+            log(rt, true, output, asked);
+        }
+    }
 }
 
 impl Kept {
@@ -89,8 +129,8 @@ impl Kept {
         cache: Option<SocketAddr>,
     ) -> Result<Kept, AllocError> {
         Ok(Kept {
-            peers: peers.to_vec(alloc)?,
-            cache,
+            places: Places::new(alloc, peers, cache)?,
+            series: vec![in alloc; Series::NONE; PEER_SLOTS as usize + 1]?,
             sessions: vec![in alloc; None; PEER_SLOTS as usize]?,
             cache_session: None,
             had_payloads: false,
@@ -98,7 +138,17 @@ impl Kept {
             status: Every::new(status),
             about_sessions: LineLimit::new(LINES_A_MINUTE),
             about_strangers: LineLimit::new(LINES_A_MINUTE),
+            about_operators: LineLimit::new(LINES_A_MINUTE),
         })
+    }
+
+    fn tell_disabled<S: Shown, R: Clock, O: Write>(&self, rt: &R, shown: &S, output: &mut O) {
+        for slot in 0..PEER_SLOTS {
+            if shown.session(slot) == Some(State::Idle) {
+                let line = SpeakerLine::Disabled(self.places.of_slot(slot));
+                log(rt, true, output, &line);
+            }
+        }
     }
 
     fn tell<S: Shown, R: Clock, O: Write>(&mut self, rt: &R, shown: &S, now: u64, output: &mut O) {
@@ -123,18 +173,66 @@ impl Kept {
         if let Some(lines) = self.about_strangers.tick(now) {
             log(rt, true, output, &left_out(Flood::Strangers, lines));
         }
+        if let Some(lines) = self.about_operators.tick(now) {
+            log(rt, true, output, &left_out(Flood::Operators, lines));
+        }
     }
 
     // What the wire saw.
     fn tell_seen<S: Shown, R: Clock, O: Write>(&mut self, rt: &R, shown: &S, output: &mut O) {
         for event in shown.seen() {
-            let side = Side::at(event.address, self.peers.as_slice(), self.cache);
-            if self.admits(side) {
+            let side = self.places.at(event.address);
+            if self.is_told(rt, side, event.seen, output) && self.admits(side) {
                 log(rt, true, output, &SpeakerLine::Seen(side, event.seen));
             }
         }
         if shown.left_out() > 0 {
             log(rt, true, output, &SpeakerLine::Unseen(shown.left_out()));
+        }
+    }
+
+    // Whether what was seen of this side is to be told: a failure like the one before is counted. What was counted is told before
+    // anything else is.
+    fn is_told<R: Clock, O: Write>(
+        &mut self,
+        rt: &R,
+        side: Side,
+        seen: Seen,
+        output: &mut O,
+    ) -> bool {
+        let Some(series) = series_of(self.series.as_mut_slice(), side) else {
+            return true;
+        };
+        let more = match is_failure(seen) {
+            true => match series.meet(seen) {
+                Met::Alike => return false,
+                Met::Other(more) => more,
+            },
+            false => series.end(),
+        };
+        self.tell_alike(rt, side, more, output);
+        true
+    }
+
+    // What fails alike of this side is over.
+    fn end_series<R: Clock, O: Write>(&mut self, rt: &R, side: Side, output: &mut O) {
+        if let Some(series) = series_of(self.series.as_mut_slice(), side) {
+            let more = series.end();
+            self.tell_alike(rt, side, more, output);
+        }
+    }
+
+    fn tell_alike<R: Clock, O: Write>(&mut self, rt: &R, side: Side, more: u64, output: &mut O) {
+        if more > 0 && self.admits(side) {
+            log(rt, true, output, &SpeakerLine::Alike(side, more));
+        }
+    }
+
+    // Whether attempts of this side fail alike, one after another.
+    fn fails_on(&mut self, side: Side) -> bool {
+        match series_of(self.series.as_mut_slice(), side) {
+            Some(series) => series.is_on(),
+            None => false,
         }
     }
 
@@ -162,9 +260,16 @@ impl Kept {
             return;
         }
         *kept = now;
-        let side = Side::of_slot(slot, self.peers.as_slice());
+        let side = self.places.of_slot(slot);
+        let change = SessionChange { before, now };
+        if change.is_of_attempts() {
+            if self.fails_on(side) {
+                return;
+            }
+        } else {
+            self.end_series(rt, side, output);
+        }
         if self.admits(side) {
-            let change = SessionChange { before, now };
             log(rt, true, output, &SpeakerLine::Session(side, change));
         }
     }
@@ -184,8 +289,26 @@ impl Kept {
             _ => 0,
         };
         if let Some(change) = CacheChange::of(before, now, payloads) {
-            self.tell_change(rt, change, output);
+            self.tell_cache_change(rt, change, output);
         }
+    }
+
+    // Steps of attempts that fail alike are left out.
+    fn tell_cache_change<R: Clock, O: Write>(
+        &mut self,
+        rt: &R,
+        change: CacheChange,
+        output: &mut O,
+    ) {
+        let side = Side::Cache(self.places.cache);
+        if change.is_of_attempts() {
+            if self.fails_on(side) {
+                return;
+            }
+        } else {
+            self.end_series(rt, side, output);
+        }
+        self.tell_change(rt, change, output);
     }
 
     // Where payloads were in force and none are any more.
@@ -197,10 +320,27 @@ impl Kept {
     }
 
     fn tell_change<R: Clock, O: Write>(&mut self, rt: &R, change: CacheChange, output: &mut O) {
-        let side = Side::Cache(self.cache);
+        let side = Side::Cache(self.places.cache);
         if self.admits(side) {
             log(rt, true, output, &SpeakerLine::Cache(side, change));
         }
+    }
+}
+
+// What fails alike of this side; of a stranger nothing is kept.
+fn series_of(all: &mut [Series], side: Side) -> Option<&mut Series> {
+    match side {
+        Side::Peer(slot, _) => all.get_mut(slot as usize),
+        Side::Cache(_) => all.get_mut(PEER_SLOTS as usize),
+        Side::Stranger(_) => None,
+    }
+}
+
+// Whether this says that no connection came of an attempt.
+fn is_failure(seen: Seen) -> bool {
+    match seen {
+        Seen::NoAttempt | Seen::Refused(_) | Seen::AttemptEnded(_) => true,
+        Seen::Ended(_) | Seen::Received(_) | Seen::Sent(_) => false,
     }
 }
 

@@ -14,6 +14,12 @@ pub enum SpeakerLine {
     /// The speaker listens here.
     #[error("listens at {0}")]
     Listens(SocketAddr),
+    /// Scrapers connect here.
+    #[error("metrics at {0}")]
+    Metrics(SocketAddr),
+    /// Nothing enables this peer.
+    #[error("warning: {0}: no line of the commands enables it")]
+    Disabled(Side),
     /// A peer's session has come to another state.
     #[error("{0}: {1}")]
     Session(Side, SessionChange),
@@ -23,6 +29,9 @@ pub enum SpeakerLine {
     /// Something was seen of a connection.
     #[error("{0}: {1}")]
     Seen(Side, Seen),
+    /// So many more attempts at a connection failed like the one that was told last of this side.
+    #[error("{0}: {1} more attempts failed alike")]
+    Alike(Side, u64),
     /// The wire saw more in a turn than it keeps.
     #[error("connections: {0} more things were seen")]
     Unseen(u64),
@@ -55,6 +64,9 @@ pub enum Flood {
     /// Those about peers and the cache.
     #[error("sessions")]
     Sessions,
+    /// Those about operators.
+    #[error("operators")]
+    Operators,
     /// Those about others.
     #[error("strangers")]
     Strangers,
@@ -65,6 +77,18 @@ pub enum Flood {
 pub struct SessionChange {
     pub before: Option<State>,
     pub now: Option<State>,
+}
+
+impl SessionChange {
+    /// Whether the session waits for a connection behind it, as it did before.
+    pub(crate) fn is_of_attempts(self) -> bool {
+        waits(self.before) && waits(self.now)
+    }
+}
+
+// Whether a session is there that has no connection (RFC 4271 section 8.2.2).
+fn waits(state: Option<State>) -> bool {
+    matches!(state, Some(State::Idle | State::Connect | State::Active))
 }
 
 impl Display for SessionChange {
@@ -105,6 +129,11 @@ pub enum CacheChange {
 }
 
 impl CacheChange {
+    /// Whether there is no session behind it, as there was none before.
+    pub(crate) fn is_of_attempts(self) -> bool {
+        matches!(self, CacheChange::Off | CacheChange::Opening)
+    }
+
     /// What the log says where the session has come to this state, if anything: a response that is being read is passed over.
     pub(crate) fn of(before: Option<ClientState>, now: ClientState, payloads: u64) -> Option<Self> {
         match now {

@@ -1,3 +1,4 @@
+pub mod AskedBefore
 pub mod Commanding
 pub mod EndedWell
 pub mod OpenedLines

@@ -1,6 +1,5 @@
 -- What settings make of a loop, and turns of that.
-use Rattle.std.specs.Prelude.{◌≡◌, ℕ, List, [], ◌∷◌, Option, None, Some, String, Ok, is_some}
-use Rattle.std.specs.declared.alloc.Global.{Global}
+use Rattle.std.specs.Prelude.{◌≡◌, ◌||◌, ℕ, Bool, true, false, List, [], ◌∷◌, Option, None, Some, Ok, is_some}
 use Rattle.std.specs.declared.net.socket_addr.SocketAddr.{SocketAddr as Address}
 use Rattle.speaker.specs.SpeakerState.{SpeakerState}
 use Rattle.speaker_turns.specs.Turns.{Turns, idle, with_patience, with_remote}
@@ -9,7 +8,9 @@ use Rattle.speaker_turns.specs.declared.patience.Patience.{Patience}
 use Rattle.wires.specs.Wires.{WireState}
 use Rattle.speaker_program.specs.Commanded.{IsCommanded, TakesSoMany}
 use Rattle.speaker_program.specs.declared.fault.SpeakerFault.{SpeakerFault}
+use Rattle.speaker_program.specs.HeldBack.{waits}
 use Rattle.speaker_program.specs.Slots.{HasJust}
+use Rattle.speaker_program.specs.ToldConfig.{config_of}
 use Rattle.speaker_desk.specs.Attended.{AttendsTurns}
 use Rattle.speaker_desk.specs.declared.attending.AttendFault.{AttendFault}
 use Rattle.speaker_settings.specs.declared.settings.SpeakerSettings.{SpeakerSettings}
@@ -40,7 +41,7 @@ abbrev pub StateFrom : {W : Type 0} → (W → Type 0) → (W → WireState) →
 StateFrom {W} gives state_of state = (wire : W) × gives wire × (state ≡ state_of wire)
 
 -- a loop before its first turn: its speaker is as the commands of the settings, of such a text, leave one of their AS, Identifier,
--- cache and capabilities, its slots are just those of the settings, it is as patient as they tell, and over such a wire it knows
+-- cache, capabilities and timers, its slots are just those of the settings, it is as patient as they tell, and over such a wire it knows
 -- where each peer of the settings is, and their cache
 pub record IsBegun (Told : Option (List ℕ) → Type 0) (Opened : WireState → Type 0) (settings : SpeakerSettings) (turns : Turns) : Type 0 where
   pub speaker : SpeakerState
@@ -48,18 +49,26 @@ pub record IsBegun (Told : Option (List ℕ) → Type 0) (Opened : WireState →
   pub wire : WireState
   pub told : Told text
   pub opened : Opened wire
-  pub commanded : IsCommanded text (record { asn = settings.asn; identifier = settings.identifier; cache = is_some settings.cache; multiprotocol = settings.multiprotocol }) speaker
+  pub commanded : IsCommanded text (config_of settings) speaker
   pub slots : HasJust settings.peers.items speaker
   pub remotes : turns ≡ with_remotes settings.peers.items settings.cache (with_patience (patience_of settings) (idle speaker wire))
 
--- so many turns, each at the moment that the clock told for it; where the settings have a path for operators, so many or fewer, with
--- what operators asked for between them
-abbrev pub TakesTurnsOf : Option (String Global) → ℕ → List ℕ → List ℕ → Turns → Turns → Type 0
-TakesTurnsOf None count before behind old new = TakesSoMany {E = SpeakerFault} count (Ok tt) before behind old new
-TakesTurnsOf (Some path) count before behind old new = AttendsTurns {E = AttendFault} count (Ok tt) before behind old new
+-- commands may come between turns: the settings have a path for operators, or peers wait for the payloads of a cache
+abbrev pub has_commands : SpeakerSettings → Bool
+has_commands settings = is_some settings.control || waits settings
+
+-- so many turns, each at the moment that the clock told for it; where commands may come between them, so many or fewer, with what was
+-- asked for before and between them
+abbrev pub TakesTurnsOf : Bool → ℕ → List ℕ → List ℕ → Turns → Turns → Type 0
+TakesTurnsOf false count before behind old new = TakesSoMany {E = SpeakerFault} count (Ok tt) before behind old new
+TakesTurnsOf true count before behind old new = AttendsTurns {E = AttendFault} count (Ok tt) before behind old new
+
+-- what is seen on the wire is kept: for a log, or for scrapers
+abbrev pub is_watched : SpeakerSettings → Bool
+is_watched settings = settings.log || is_some settings.metrics
 
 -- from there turns were taken
 pub record IsServed (Told : Option (List ℕ) → Type 0) (Opened : WireState → Type 0) (settings : SpeakerSettings) (count : ℕ) (before behind : List ℕ) (turns : Turns) : Type 0 where
   pub begun : Turns
   pub begins : IsBegun Told Opened settings begun
-  pub takes : TakesTurnsOf settings.control count before behind begun turns
+  pub takes : TakesTurnsOf (has_commands settings) count before behind begun turns

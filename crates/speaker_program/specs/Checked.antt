@@ -1,11 +1,12 @@
 -- What is known of settings that were checked (own).
-use Rattle.std.specs.Prelude.{ℕ, List, Option, is_some, string_bytes, ⊤}
+use Rattle.std.specs.Prelude.{ℕ, List, Option, string_bytes, ⊤}
 use Rattle.program_endings.specs.declared.aside.Aside.{Aside}
 use Rattle.program_endings.specs.declared.aside.Aside.TheVariants.{Help, Version, Check}
 use Rattle.speaker.specs.SpeakerState.{SpeakerState}
 use Rattle.speaker_program.specs.Commanded.{IsCommanded}
 use Rattle.speaker_program.specs.Files.{AreOctetsAt, AreSettingsOf, IsTextAt}
 use Rattle.speaker_program.specs.Slots.{HasJust}
+use Rattle.speaker_program.specs.ToldConfig.{config_of}
 use Rattle.speaker_settings.specs.declared.settings.SpeakerSettings.{SpeakerSettings}
 
 -- a file that was opened at the path tells settings, and the commands of a file that was opened at theirs leave a speaker of
@@ -16,7 +17,7 @@ pub record IsChecked (path : List ℕ) : Type 0 where
   pub text : Option (List ℕ)
   pub given : IsTextAt (string_bytes settings.commands) text
   pub speaker : SpeakerState
-  pub commanded : IsCommanded text (record { asn = settings.asn; identifier = settings.identifier; cache = is_some settings.cache; multiprotocol = settings.multiprotocol }) speaker
+  pub commanded : IsCommanded text (config_of settings) speaker
   pub slots : HasJust settings.peers.items speaker
 
 -- so they are, where they were to be

@@ -4,7 +4,7 @@ use Rattle.program_endings.specs.Exits.{status_of}
 use Rattle.scenario.specs.declared.commands.CommandsFault.{CommandsFault}
 use Rattle.speaker_program.specs.Exits.{exit_of_fault}
 use Rattle.speaker_program.specs.declared.fault.SpeakerFault.{SpeakerFault}
-use Rattle.speaker_program.specs.declared.fault.SpeakerFault.TheVariants.{Words, File, Settings, Commands, Slot, Refused, Listen, Clock, Turn, Output, NoMemory}
+use Rattle.speaker_program.specs.declared.fault.SpeakerFault.TheVariants.{Words, File, Settings, Commands, Slot, Refused, Listen, Metrics, Clock, Turn, Output, NoMemory}
 
 -- the words are wrong
 abbrev pub IsOfWords : SpeakerFault → Type 0
@@ -15,6 +15,7 @@ IsOfWords (Commands path why) = ⊥
 IsOfWords (Slot path slot) = ⊥
 IsOfWords (Refused refusal) = ⊥
 IsOfWords (Listen address error) = ⊥
+IsOfWords (Metrics address error) = ⊥
 IsOfWords (Clock error) = ⊥
 IsOfWords (Turn why) = ⊥
 IsOfWords (Output error) = ⊥
@@ -29,6 +30,7 @@ IsOfCommands fault (Commands path why) = why ≡ fault
 IsOfCommands fault (Slot path slot) = ⊥
 IsOfCommands fault (Refused refusal) = ⊥
 IsOfCommands fault (Listen address error) = ⊥
+IsOfCommands fault (Metrics address error) = ⊥
 IsOfCommands fault (Clock error) = ⊥
 IsOfCommands fault (Turn why) = ⊥
 IsOfCommands fault (Output error) = ⊥

@@ -6,7 +6,7 @@ use Rattle.scenario.specs.declared.commands.CommandsFault.{CommandsFault}
 use Rattle.scenario.specs.declared.commands.CommandsFault.TheVariants.{BadLine as BadCommand, Refused as RefusedCommand, Device as DeviceOfCommands, NoMemory as NoMemoryOfCommands}
 use Rattle.settings_keys.specs.SettingsExits.{exit_of_settings}
 use Rattle.speaker_program.specs.declared.fault.SpeakerFault.{SpeakerFault}
-use Rattle.speaker_program.specs.declared.fault.SpeakerFault.TheVariants.{Words, File, Settings as BadSettings, Commands, Slot, Refused as RefusedBeginning, Listen, Clock, Turn, Output, NoMemory as NoMemoryToBegin}
+use Rattle.speaker_program.specs.declared.fault.SpeakerFault.TheVariants.{Words, File, Settings as BadSettings, Commands, Slot, Refused as RefusedBeginning, Listen, Metrics, Clock, Turn, Output, NoMemory as NoMemoryToBegin}
 use Rattle.program_endings.specs.declared.fault.ExitFault.{ExitFault}
 use Rattle.program_endings.specs.declared.fault.ExitFault.TheVariants.{Arguments, Settings, BadLine, RefusedLine, Device}
 
@@ -39,6 +39,7 @@ exit_of_fault (Commands path why) = exit_of_commands why
 exit_of_fault (Slot path slot) = Settings
 exit_of_fault (RefusedBeginning refusal) = exit_of_speaker refusal
 exit_of_fault (Listen address error) = Device
+exit_of_fault (Metrics address error) = Device
 exit_of_fault (Clock error) = Device
 exit_of_fault (Turn why) = Device
 exit_of_fault (Output error) = Device

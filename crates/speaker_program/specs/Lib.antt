@@ -4,4 +4,6 @@ pub mod Commanded
 pub mod Endings
 pub mod Exits
 pub mod Files
+pub mod HeldBack
 pub mod Slots
+pub mod ToldConfig

@@ -55,6 +55,12 @@ pub enum SpeakerFault {
         listen: Option<SocketAddr>,
         error: io::Error,
     },
+    /// Scrapers can't connect at the address.
+    #[error("metrics {address}: {error}")]
+    Metrics {
+        address: SocketAddr,
+        error: io::Error,
+    },
     /// The clock fails.
     #[error("the clock: {0}")]
     Clock(io::Error),
@@ -109,6 +115,7 @@ impl SpeakerFault {
             SpeakerFault::Slot { .. } => ExitFault::Settings,
             SpeakerFault::Refused(refusal) => of_speaker(*refusal),
             SpeakerFault::File { .. } | SpeakerFault::Listen { .. } => ExitFault::Device,
+            SpeakerFault::Metrics { .. } => ExitFault::Device,
             SpeakerFault::Clock(_) | SpeakerFault::Turn(_) => ExitFault::Device,
             SpeakerFault::Output(_) | SpeakerFault::NoMemory => ExitFault::Device,
         }

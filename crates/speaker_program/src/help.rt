@@ -21,9 +21,13 @@ send_hold      seconds after which a connection is closed that takes no octet (4
 open_wait      seconds after which one is closed from which no whole OPEN comes (none)
 log            true or false: whether it writes a log (false)
 status         seconds between two status lines of the log, 1 or more (none)
+metrics        address and port where scrapers get the figures, as \"127.0.0.1:9848\" (none)
+wait_for_cache seconds for which enabled peers wait at most until the cache's payloads are in force (none)
 [[peer]]       a table for each slot that the commands fill:
   slot         number of the slot, 0 to 63, none twice
   remote       address and port of the peer
+  connect_retry  seconds after which a connection is tried again, 1 to 65535 (120)
+  idle_hold    seconds after which a closed session begins again, 1 to 65535 (30)
 
 Exit status: 0 after the turns, with Loc-RIB on the output, 1 where words, settings or commands are refused, 2 where the
 system fails. docs/GUIDE.md tells more.

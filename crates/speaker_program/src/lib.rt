@@ -10,13 +10,23 @@
 //! listens where the settings say, as net_wires notes it; what is printed is shown by tests.
 #![tactic(auto)]
 
+mod attending;
+mod beginning;
+mod behind;
 mod bgp_main;
+mod checking;
+mod commanded_speaker;
 mod exits;
 mod fault;
 mod files;
 mod help;
 mod journal;
 mod laws;
+mod serving;
+mod settings_file;
+mod standing;
+mod taking;
+mod waiting;
 
 pub use bgp_main::main_bgp;
 pub use exits::{of_commands, of_speaker};

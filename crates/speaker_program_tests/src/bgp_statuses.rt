@@ -189,21 +189,27 @@ fn the_version_is_told(rt: HostRuntime) {
 
 // Settings but for the path of the commands, with commands that fill their slots.
 #[rattlefmt::skip]
-const GOOD_SETTINGS: [(&str, &str); 7] = [
+const GOOD_SETTINGS: [(&str, &str); 10] = [
     (SETTINGS, ""),
     ("as = 1\nidentifier = \"255.255.255.255\"\nmultiprotocol = false\nsend_hold = 1\nopen_wait = 4294967295\nlog = false\nstatus = 1\n", "# nothing\n\n"),
     ("as = 4294967295\nidentifier = \"0.0.0.1\"\nlisten = \"127.0.0.1:0\"\nmultiprotocol = true\n", "reach 192.0.2.0/24 10"),
     ("as = 65000\nidentifier = \"192.0.2.1\"\ncache = \"127.0.0.1:1\"\n", "policy v state invalid reject ; accept\r\n"),
     ("as = 65000\nidentifier = \"192.0.2.1\"\npeer = []\n", ""),
     (ONE_PEER, PEER),
+    ("as = 65000\nidentifier = \"192.0.2.1\"\nmetrics = \"127.0.0.1:0\"\n", ""),
+    ("as = 65000\nidentifier = \"192.0.2.1\"\ncache = \"127.0.0.1:1\"\nwait_for_cache = 1\n[[peer]]\nslot = 0\nremote = \"127.0.0.1:1\"\n", "peer 0 65001 192.0.2.11 192.0.2.1 active 180 all all\nenable 0\n"),
     (
         "as = 65000\nidentifier = \"192.0.2.1\"\n[[peer]]\nslot = 63\nremote = \"127.0.0.1:1\"\n[[peer]]\nslot = 0\nremote = \"127.0.0.1:1\"\n",
         "peer 0 1 192.0.2.11 192.0.2.1 active 0 all all\nenable 0\npeer 63 2 192.0.2.12 192.0.2.1 active 3 none none\n",
     ),
+    (
+        "as = 65000\nidentifier = \"192.0.2.1\"\n[[peer]]\nslot = 63\nremote = \"127.0.0.1:1\"\nconnect_retry = 1\nidle_hold = 65535\n",
+        "peer 63 1 192.0.2.11 192.0.2.1 active 0 all all\nenable 63\n",
+    ),
 ];
 
 #[rattlefmt::skip]
-const BAD_SETTINGS: [(&str, &str); 36] = [
+const BAD_SETTINGS: [(&str, &str); 42] = [
     ("as = 65000\nidentifier = \"192.0.2.1\"\nno toml", "line 4: key with no value, expected `=`"),
     ("identifier = \"192.0.2.1\"\n", "'as' isn't there"),
     ("as = 65000\n", "'identifier' isn't there"),
@@ -221,6 +227,8 @@ const BAD_SETTINGS: [(&str, &str); 36] = [
     ("as = 65000\nidentifier = \"192.0.2.1\"\nmultiprotocol = 1\n", "multiprotocol: 1 is neither true nor false"),
     ("as = 65000\nidentifier = \"192.0.2.1\"\nlog = \"yes\"\n", "log: 'yes' is neither true nor false"),
     ("as = 65000\nidentifier = \"192.0.2.1\"\nstatus = 0\n", "status: 0 is no number from 1 to 4294967295"),
+    ("as = 65000\nidentifier = \"192.0.2.1\"\nmetrics = 9848\n", "metrics: 9848 is no IP address and port"),
+    ("as = 65000\nidentifier = \"192.0.2.1\"\nwait_for_cache = 0\n", "wait_for_cache: 0 is no number from 1 to 4294967295"),
     ("as = 65000\nidentifier = \"192.0.2.1\"\nlisten = \"127.0.0.1\"\n", "listen: '127.0.0.1' is no IP address and port"),
     ("as = 65000\nidentifier = \"192.0.2.1\"\nlisten = true\n", "listen: true is no IP address and port"),
     ("as = 65000\nidentifier = \"192.0.2.1\"\nsend_hold = 0\n", "send_hold: 0 is no number from 1 to 4294967295"),
@@ -240,6 +248,10 @@ const BAD_SETTINGS: [(&str, &str); 36] = [
     ("as = 65000\nidentifier = \"192.0.2.1\"\n[[peers]]\nslot = 0\n", "'peers' is no key of ovbgpd; the nearest is 'peer'"),
     ("as = 65000\nidentifier = \"192.0.2.1\"\n[[peer]]\nslot = 0\nremote = \"127.0.0.1:1\"\n[[peer]]\nslot = 1\nremot = \"127.0.0.1:1\"\n", "peer 2: 'remot' is no key of a peer; the nearest is 'remote'"),
     ("as = 65000\nidentifier = \"192.0.2.1\"\n[[peer]]\nslot = 0\nremote = \"127.0.0.1:1\"\nslott = 1\n", "peer 1: 'slott' is no key of a peer; the nearest is 'slot'"),
+    ("as = 65000\nidentifier = \"192.0.2.1\"\n[[peer]]\nslot = 0\nremote = \"127.0.0.1:1\"\nconnect_retry = 0\n", "peer 1: connect_retry: 0 is no number from 1 to 65535"),
+    ("as = 65000\nidentifier = \"192.0.2.1\"\n[[peer]]\nslot = 0\nremote = \"127.0.0.1:1\"\nidle_hold = 65536\n", "peer 1: idle_hold: 65536 is no number from 1 to 65535"),
+    ("as = 65000\nidentifier = \"192.0.2.1\"\n[[peer]]\nslot = 0\nremote = \"127.0.0.1:1\"\nidle_hold = \"30\"\n", "peer 1: idle_hold: '30' is no number from 1 to 65535"),
+    ("as = 65000\nidentifier = \"192.0.2.1\"\nidle_hold = 30\n", "'idle_hold' is no key of ovbgpd; the nearest is 'send_hold'"),
 ];
 
 #[test]

@@ -1,2 +1,3 @@
 pub mod TakenSlots
 pub mod Told
+pub mod Timers

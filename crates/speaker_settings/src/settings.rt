@@ -5,9 +5,10 @@ ghost use Rattle.toml.specs.View.{items_view, table_view, view};
 ghost use Rattle.settings_keys.specs.Causes.{IsBad};
 ghost use Rattle.settings_keys.specs.Keys.{Answers, AnswersInMemory, IsTableOf, IsTold, IsToldIfThere, IsToldOrUsual};
 ghost use Rattle.speaker_settings.specs.PeerSlots.{AreSlots, has_slot};
-ghost use Rattle.speaker_settings.specs.ToldSettings.{ArePeers, ArePeersAt, IsAsn, IsIdentifier, IsPeer, IsSeconds, IsSlot, IsTextOf, IsToldBy};
+ghost use Rattle.speaker_settings.specs.ToldSettings.{ArePeers, ArePeersAt, AreTimers, AreTimersAt, IsAsn, IsIdentifier, IsPeer, IsSeconds, IsShortSeconds, IsSlot, IsSlotTimers, IsTextOf, IsToldBy};
 
 use bgp_conf::PEER_SLOTS;
+use bgp_fsm::{CONNECT_RETRY_SECONDS, IDLE_HOLD_SECONDS, PeerTimers};
 use net_prefix::Asn;
 use settings_keys::{
     Owner, SettingsFault, SettingsPlace, Wanted, address_if_told, address_of, again, bad_number,
@@ -43,17 +44,24 @@ pub struct SpeakerSettings {
     pub log: bool,
     /// After how many seconds the log gets a status line, if it does.
     pub status: Option<u32>,
+    /// Where scrapers ask for figures, if they do.
+    pub metrics: Option<SocketAddr>,
+    /// For how many seconds at most peers are enabled only once payloads were loaded, if they wait for that.
+    pub wait_for_cache: Option<u32>,
     /// The slot of each peer, and where the peer is.
     pub peers: Vec<(u8, SocketAddr)>,
+    /// The slot of each peer, and for how long those of its timers run that may be set.
+    pub timers: Vec<(u8, PeerTimers)>,
 }
 
 impl SpeakerSettings {
     /// The settings that the octets of a file tell in TOML: `as`, a number from 1 to 4294967295, `identifier`, the text of
     /// an IPv4 address other than 0.0.0.0, and `commands`, a text; and, where they are there, `multiprotocol` and `log`,
-    /// `true` or `false`, `cache` and `listen`, each the text of an address and a port, `control`, a text, `send_hold`, in the
-    /// place of `SEND_HOLD_SECONDS`, `open_wait` and `status`, each a number from 1 to 4294967295, and the tables `peer`, each with
-    /// `slot`, from 0 to 63 and none twice, and `remote`, the text of an address and a port. There are no keys of other names. Anything else is
-    /// `Settings`.
+    /// `true` or `false`, `cache`, `listen` and `metrics`, each the text of an address and a port, `control`, a text, `send_hold`, in
+    /// the place of `SEND_HOLD_SECONDS`, `open_wait`, `status` and `wait_for_cache`, each a number from 1 to 4294967295, and the
+    /// tables `peer`, each with `slot`, from 0 to 63 and none twice, `remote`, the text of an address and a port, and, where they
+    /// are there, `connect_retry` and `idle_hold`, each a number from 1 to 65535, in the place of `CONNECT_RETRY_SECONDS` and
+    /// `IDLE_HOLD_SECONDS`. There are no keys of other names. Anything else is `Settings`.
     pub fn read(alloc: Global, octets: &[u8]) -> Result<SpeakerSettings, SettingsFault>
         ensures told { AnswersInMemory (λ settings. (table : Members) × IsTableOf octets.now table × IsToldBy table settings) result }
         ensures own { IfOk result (λ settings. (1 ≤ settings.asn.0) × (1 ≤ settings.identifier)) }
@@ -86,7 +94,10 @@ impl SpeakerSettings {
         let open_wait = seconds_of(alloc, table, "open_wait")?;
         let log = yes_or_no_of(alloc, table, "log")?;
         let status = seconds_of(alloc, table, "status")?;
+        let metrics = address_if_told(alloc, table, "metrics")?;
+        let wait_for_cache = seconds_of(alloc, table, "wait_for_cache")?;
         let peers = peers_of(alloc, table)?;
+        let timers = timers_of(alloc, table)?;
         Ok(SpeakerSettings {
             asn,
             identifier,
@@ -99,13 +110,16 @@ impl SpeakerSettings {
             open_wait,
             log,
             status,
+            metrics,
+            wait_for_cache,
             peers,
+            timers,
         })
     }
 }
 
 // The keys of the settings, and of each peer's table.
-const KEYS: [&str; 12] = [
+const KEYS: [&str; 14] = [
     "as",
     "identifier",
     "commands",
@@ -117,10 +131,12 @@ const KEYS: [&str; 12] = [
     "open_wait",
     "log",
     "status",
+    "metrics",
+    "wait_for_cache",
     "peer",
 ];
 
-const PEER_KEYS: [&str; 2] = ["slot", "remote"];
+const PEER_KEYS: [&str; 4] = ["slot", "remote", "connect_retry", "idle_hold"];
 
 // The speaker's AS, which is not 0.
 fn asn_of(alloc: Global, table: &Table) -> Result<Asn, SettingsFault>
@@ -265,6 +281,82 @@ fn slot_of(alloc: Global, table: &Table) -> Result<u8, SettingsFault>
     match u8::try_from(number) {
         Ok(slot) if slot < PEER_SLOTS => Ok(slot),
         _ => Err(bad_number(alloc, "slot", number, wanted)),
+    }
+}
+
+// The slot and the timers of each peer; none where there are no such tables.
+fn timers_of(alloc: Global, table: &Table) -> Result<Vec<(u8, PeerTimers)>, SettingsFault>
+    ensures { AnswersInMemory (λ timers. AreTimersAt (get_member (codes "peer") (table_view table.now)) timers.items) result }
+{
+    let Some(value) = value_at(table, "peer") else {
+        return Ok(Vec::new(alloc));
+    };
+    let Some(entries) = value.as_array() else {
+        return Err(bad_value(alloc, "peer", value, Wanted::Tables));
+    };
+    each_timers(alloc, entries.as_slice())
+}
+
+// The slot and the timers of the peer of each table.
+fn each_timers(alloc: Global, entries: &[Value]) -> Result<Vec<(u8, PeerTimers)>, SettingsFault>
+    ensures { AnswersInMemory (λ timers. AreTimers (items_view entries.now) timers.items) result }
+{
+    let mut timers = Vec::new(alloc);
+    for entry in entries {
+        let number = timers.len() + 1;
+        let told = numbered_timers(alloc, entry, number)?;
+        if timers.push(told).is_err() {
+            return Err(SettingsFault::NoMemory);
+        }
+    }
+    Ok(timers)
+}
+
+// The slot and the timers of the peer of the table of this number.
+fn numbered_timers(
+    alloc: Global,
+    entry: &Value,
+    number: usize,
+) -> Result<(u8, PeerTimers), SettingsFault>
+    ensures { AnswersInMemory (IsSlotTimers (view entry.now)) result }
+{
+    match slot_timers_of(alloc, entry) {
+        Ok(told) => Ok(told),
+        Err(fault) => Err(fault.at(SettingsPlace::Peer(number))),
+    }
+}
+
+fn slot_timers_of(alloc: Global, entry: &Value) -> Result<(u8, PeerTimers), SettingsFault>
+    ensures { AnswersInMemory (IsSlotTimers (view entry.now)) result }
+{
+    let Some(table) = entry.as_table() else {
+        return Err(bad_value(alloc, "peer", entry, Wanted::Table));
+    };
+    let slot = slot_of(alloc, table)?;
+    let connect_retry = short_of(alloc, table, "connect_retry", CONNECT_RETRY_SECONDS)?;
+    let idle_hold = short_of(alloc, table, "idle_hold", IDLE_HOLD_SECONDS)?;
+    Ok((
+        slot,
+        PeerTimers {
+            connect_retry,
+            idle_hold,
+        },
+    ))
+}
+
+// The seconds that a timer of a peer may have.
+const SHORT_SECONDS: Wanted = Wanted::Number(1, u16::MAX as u32);
+
+// The seconds of a timer at a key: one at least; where the key isn't there the usual ones.
+fn short_of(alloc: Global, table: &Table, key: &str, usual: u16) -> Result<u16, SettingsFault>
+    ensures { Answers (IsToldOrUsual IsShortSeconds usual (get_member key.now (table_view table.now))) result }
+{
+    let Some(number) = number_of(alloc, table, key, SHORT_SECONDS)? else {
+        return Ok(usual);
+    };
+    match u16::try_from(number) {
+        Ok(seconds) if seconds != 0 => Ok(seconds),
+        _ => Err(bad_number(alloc, key, number, SHORT_SECONDS)),
     }
 }
 

@@ -1,6 +1,6 @@
 //! The events of a first path: two passive peers, a route of the first, and the loss of its connection.
 use net_prefix::{Asn, Prefix};
-use speaker::{Command, Config, Event, Mode, PeerConf};
+use speaker::{Command, Config, Event, Mode, PeerConf, SlotTimers};
 
 /// AS 65000, 192.0.2.1.
 pub const CONFIG: Config = Config {
@@ -8,9 +8,11 @@ pub const CONFIG: Config = Config {
     identifier: 0xC000_0201,
     cache: false,
     multiprotocol: false,
+    timers: SlotTimers::USUAL,
 };
 
-const FIRST_PEER: PeerConf<'static> = PeerConf {
+/// The peer of slot 0.
+pub const FIRST_PEER: PeerConf<'static> = PeerConf {
     asn: Asn(65001),
     address: 0xC000_020B,
     local: 0xC000_0201,
@@ -20,7 +22,8 @@ const FIRST_PEER: PeerConf<'static> = PeerConf {
     export: "all",
 };
 
-const SECOND_PEER: PeerConf<'static> = PeerConf {
+/// The peer of slot 1.
+pub const SECOND_PEER: PeerConf<'static> = PeerConf {
     asn: Asn(65002),
     address: 0xC000_020C,
     local: 0xC000_0201,
@@ -44,8 +47,9 @@ const SECOND_OPEN: [u8; 37] = [
     0x08, 0x02, 0x06, 0x41, 0x04, 0x00, 0x00, 0xFD, 0xEA,
 ];
 
+/// A KEEPALIVE.
 #[rattlefmt::skip]
-const KEEPALIVE: [u8; 19] = [
+pub const KEEPALIVE: [u8; 19] = [
     255, 255, 255, 255, 255, 255, 255, 255, 255, 255, 255, 255, 255, 255, 255, 255,
     0x00, 0x13, 0x04,
 ];

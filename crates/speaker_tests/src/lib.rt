@@ -9,3 +9,5 @@ mod bare;
 mod events;
 #[cfg(test)]
 mod running;
+#[cfg(test)]
+mod timers;

@@ -7,7 +7,7 @@ use net_wires::NetWire;
 use rtr_cache::{Cache, CacheEvent};
 use rtr_codec::Intervals;
 use scenario::{Table, obey_lines, show};
-use speaker::{ClientState, Config, Speaker, State};
+use speaker::{ClientState, Config, SlotTimers, Speaker, State};
 use speaker_turns::{End, SpeakerLoop};
 use std::alloc::{AllocGlobal, Global};
 use std::net::{Ipv4Addr, Net, SocketAddr, SocketAddrV4, TcpListener, TcpStream};
@@ -146,6 +146,7 @@ where
         identifier: 0xC000_0201,
         cache: true,
         multiprotocol: false,
+        timers: SlotTimers::USUAL,
     };
     let mut speaker = speaking(rt, None, config, "");
     speaker.set_remote(End::Cache, address);
@@ -246,6 +247,7 @@ where
         identifier: 0xC000_0202,
         cache: false,
         multiprotocol: false,
+        timers: SlotTimers::USUAL,
     };
     let mut active = speaking(rt, None, config, ACTIVE);
     active.set_remote(End::Peer(0), address);
@@ -273,6 +275,7 @@ fn two_speakers_tell_each_other_their_networks(rt: HostRuntime) {
         identifier: 0xC000_0201,
         cache: false,
         multiprotocol: false,
+        timers: SlotTimers::USUAL,
     };
     let mut passive = speaking(&rt, Some(some_port()), config, PASSIVE);
     assert!(rt; tells_its_peer(&rt, &mut passive));

@@ -1,9 +1,13 @@
 //! Tests alone: speakers over the system's sockets, with a cache and with one another, and one over a wire in memory each of
-//! whose calls fails once.
+//! whose calls fails once, alone and with an operator beside.
 #![tactic(auto)]
 
 #[cfg(test)]
+mod asked_turns;
+#[cfg(test)]
 mod bgp_loopback;
+#[cfg(test)]
+mod clock_jump;
 #[cfg(test)]
 mod made;
 #[cfg(test)]

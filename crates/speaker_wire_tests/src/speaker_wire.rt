@@ -6,7 +6,7 @@ ghost use Rattle.wires.specs.Wires.{FitsIn, FitsInSent, calling, failing, told_b
 use crate::made::made;
 use bgp_attr::Mode;
 use net_prefix::{Asn, Prefix};
-use speaker::{ClientState, Command, Config, Event, PeerConf, Speaker, State};
+use speaker::{ClientState, Command, Config, Event, PeerConf, SlotTimers, Speaker, State};
 use speaker_turns::{End, SpeakerLoop};
 use std::alloc::AllocGlobal;
 use std::cmp::min;
@@ -20,6 +20,8 @@ use wires::{Accepted, Attempt, Log, LoopFault, Note, Parting, Received, Sent, Wi
 const READ_OCTETS: usize = 11;
 
 const WRITE_OCTETS: usize = 17;
+
+const KEEPALIVE_OCTETS: usize = 19;
 
 // An OPEN of AS 65001 and a KEEPALIVE.
 #[rattlefmt::skip]
@@ -69,7 +71,7 @@ struct Side {
 
 // Three sides, and a call of the wire that fails.
 #[derive(Drop)]
-struct MemoryWire {
+pub(crate) struct MemoryWire {
     sides: [Side; 3],
     has_come: bool,
     calls: u64,
@@ -78,6 +80,9 @@ struct MemoryWire {
     // How often a connection was asked for, and from how often on both peers send no more.
     turns: u64,
     ends_at: u64,
+    // Whether each peer goes on saying its KEEPALIVE, and at which of these it is to be said again.
+    keeps: bool,
+    again_at: [u64; 3],
     faults: u64,
     accept_faults: u64,
     ends: u64,
@@ -89,7 +94,7 @@ struct MemoryWire {
 
 // The socket of one side.
 #[derive(Drop)]
-struct Plug {
+pub(crate) struct Plug {
     side: usize,
     number: u64,
     address: SocketAddr,
@@ -115,7 +120,7 @@ fn address_of(side: usize) -> SocketAddr {
 }
 
 impl MemoryWire {
-    fn failing_at(fails_at: u64) -> MemoryWire {
+    pub(crate) fn failing_at(fails_at: u64) -> MemoryWire {
         let side = Side {
             said: 0,
             asked: 0,
@@ -129,6 +134,8 @@ impl MemoryWire {
             failed: None,
             turns: 0,
             ends_at: u64::MAX,
+            keeps: false,
+            again_at: [0; 3],
             faults: 0,
             accept_faults: 0,
             ends: 0,
@@ -144,6 +151,31 @@ impl MemoryWire {
         MemoryWire {
             ends_at,
             ..MemoryWire::failing_at(0)
+        }
+    }
+
+    // Both peers say a KEEPALIVE each seventh time that a connection is asked for.
+    pub(crate) fn keeping_alive() -> MemoryWire {
+        MemoryWire {
+            keeps: true,
+            ..MemoryWire::failing_at(0)
+        }
+    }
+
+    // Where a peer has said all, and it is time, it says its KEEPALIVE again.
+    fn keep_alive(&mut self, number: usize)
+        ensures { self.new ≡ self.old }
+    {
+        let turns = self.turns;
+        let (Some(side), Some(again_at)) = (
+            self.sides.get_mut(number),
+            self.again_at.get_mut(number),
+        ) else {
+            return;
+        };
+        if self.keeps && number < 2 && side.said == FIRST_PEER.len() && turns >= *again_at {
+            side.said = FIRST_PEER.len() - KEEPALIVE_OCTETS;
+            *again_at = turns.saturating_add(7);
         }
     }
 
@@ -195,6 +227,7 @@ impl MemoryWire {
         if self.fails(Call::OfSide(side)) {
             return Received::Fault;
         }
+        self.keep_alive(side);
         match self.say(side, buf) {
             0 if self.is_over(side) => {
                 self.ends = self.ends.saturating_add(1);
@@ -337,7 +370,7 @@ impl Wire for MemoryWire {
 
 // What twenty turns have led to.
 #[derive(Clone, Copy)]
-struct Turned {
+pub(crate) struct Turned {
     sides: [Side; 3],
     failed: Option<Call>,
     fault: Option<LoopFault>,
@@ -346,6 +379,18 @@ struct Turned {
     // The sessions of the slots 0 and 1.
     sessions: [Option<State>; 2],
     cache: Option<ClientState>,
+}
+
+impl Turned {
+    // Whether no call of the wire has failed.
+    pub(crate) fn is_whole(&self) -> bool {
+        self.failed.is_none()
+    }
+
+    // Whether a fault has ended the turns.
+    pub(crate) fn is_ended(&self) -> bool {
+        self.fault.is_some()
+    }
 }
 
 fn peer(asn: u32, host: u32, mode: Mode) -> PeerConf<'static> {
@@ -387,12 +432,13 @@ fn has_peers(speaker: &mut Speaker) -> bool {
 }
 
 // A speaker with both peers, enabled, and a cache.
-fn prepared(rt: &(impl AllocGlobal + Abort)) -> Speaker {
+pub(crate) fn prepared(rt: &(impl AllocGlobal + Abort)) -> Speaker {
     let config = Config {
         asn: Asn(65_000),
         identifier: 0xC000_0201,
         cache: true,
         multiprotocol: false,
+        timers: SlotTimers::USUAL,
     };
     let mut speaker = made(rt, Speaker::new(rt.alloc(), config));
     assert!(rt; has_peers(&mut speaker));
@@ -410,7 +456,7 @@ fn fault_of_turns(turns: &mut SpeakerLoop<MemoryWire>) -> Option<LoopFault> {
 }
 
 // What they have led to.
-fn told_of(turns: &SpeakerLoop<MemoryWire>, fault: Option<LoopFault>) -> Turned {
+pub(crate) fn told_of(turns: &SpeakerLoop<MemoryWire>, fault: Option<LoopFault>) -> Turned {
     let wire = turns.wire();
     let speaker = turns.speaker();
     let told = wire.faults.saturating_add(wire.ends);
@@ -424,11 +470,16 @@ fn told_of(turns: &SpeakerLoop<MemoryWire>, fault: Option<LoopFault>) -> Turned 
     }
 }
 
-// What twenty turns lead to, once each side has its address.
-fn after_turns(turns: &mut SpeakerLoop<MemoryWire>) -> Turned {
+// Tells the address of each side.
+pub(crate) fn with_addresses(turns: &mut SpeakerLoop<MemoryWire>) {
     turns.set_remote(End::Peer(0), address_of(0));
     turns.set_remote(End::Peer(1), address_of(1));
     turns.set_remote(End::Cache, address_of(2));
+}
+
+// What twenty turns lead to, once each side has its address.
+fn after_turns(turns: &mut SpeakerLoop<MemoryWire>) -> Turned {
+    with_addresses(turns);
     let fault = fault_of_turns(turns);
     told_of(turns, fault)
 }
@@ -468,7 +519,7 @@ fn goes_on(turned: &Turned) -> bool {
 }
 
 // Whether the call that has failed, if one has, has led to what it should.
-fn is_well_led(turned: &Turned) -> bool {
+pub(crate) fn is_well_led(turned: &Turned) -> bool {
     match turned.failed {
         Some(Call::Accept) => turned.fault == Some(LoopFault::Accept),
         Some(Call::OfSide(_)) | None => goes_on(turned),

@@ -14,7 +14,8 @@ use Rattle.routes.specs.Marks.{AreMarked, IsFollowed, IsMarked, IsReleased, IsUn
 use Rattle.routes.specs.RoutingState.{RoutingState}
 use Rattle.routes.specs.Tables.{link_at}
 use Rattle.routes.proofs.Counting.{ends_all}
-use Rattle.routes.proofs.Marking.{KeepsTables, all_marked, is_other, marked_asked, marked_none, marked_still, this_or_other}
+use Rattle.routes.proofs.Marking.{KeepsTables, all_marked, is_other, marked_none, marked_still, this_or_other}
+use Rattle.routes.proofs.SlotMarks.{marked_asked}
 use Rattle.routes.proofs.sessions.follow.Goals as goal
 
 -- where the session neither leaves Established nor enters it, and its peer doesn't ask for all routes again, the marks stay

@@ -6,4 +6,4 @@ pub returns-clause-exact : goal.returns-clause-exact
 returns-clause-exact g c = search rules
 
 pub returns-clause-agrees : goal.returns-clause-agrees
-returns-clause-agrees g c = λ h peer_asn. rw (returns-clause-exact g c) (agrees-new h c.args.own c.args.mode peer_asn)
+returns-clause-agrees g c = λ h peer_asn. rw (returns-clause-exact g c) (agrees-new h c.args.own c.args.mode peer_asn c.args.times)

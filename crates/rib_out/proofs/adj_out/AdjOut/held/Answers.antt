@@ -1,11 +1,11 @@
-use Rattle.std.proofs.Common.{rules, sym, subst}
-use Rattle.std.specs.List.Sorted.{IsStrictlySortedBy}
-use Rattle.std.specs.Map.{keys_of}
-use Rattle.net_prefix.specs.PrefixOrder.{prefix_cmp}
-use Rattle.rib_out.proofs.HeldTables.{keys_of-octets_of}
+use Rattle.std.proofs.Common.{ap, rules, ◌∙◌}
+use Rattle.rib_out.specs.Held.{octets_of}
+use Rattle.rib_out.proofs.HeldRows.{all_between, rising_octets}
 use Rattle.rib_out.proofs.adj_out.AdjOut.held.Goals as goal
+
+pub returns-clause-all : goal.returns-clause-all
+returns-clause-all g c = ap octets_of (c.range.ensures.between (search rules) ∙ all_between _ ∙ c.self.view_is)
 
 pub returns-clause-rising : goal.returns-clause-rising
 returns-clause-rising g c =
-    let rising : IsStrictlySortedBy prefix_cmp (keys_of c.iter.result) = search rules in
-    subst (λ keys. IsStrictlySortedBy prefix_cmp keys) (sym (keys_of-octets_of c.iter.result)) rising
+    rw (c.range.ensures.between (search rules) ∙ all_between _) (rising_octets _ c.range.ensures.ordered)

@@ -1,6 +1,6 @@
 use Rattle.std.proofs.Common.{rules, sym, ap}
 use Rattle.routes.specs.Linked.{Linked}
-use Rattle.routes.proofs.Marking.{marked_put}
+use Rattle.routes.proofs.SlotMarks.{marked_put}
 use Rattle.routes.proofs.routes.Routes.take.Goals as goal
 
 pub invariant_of-self-2 : goal.invariant_of-self-2

@@ -4,7 +4,7 @@ use Rattle.rib_out.specs.Held.{held_at, is_among}
 use Rattle.routes.specs.Linked.{Linked}
 use Rattle.routes.specs.Offers.{IsSound}
 use Rattle.routes.specs.RoutingState.{RoutingState}
-use Rattle.routes.proofs.Marking.{IsNow, marked_put, marked_told}
+use Rattle.routes.proofs.SlotMarks.{IsNow, marked_put, marked_told}
 use Rattle.routes.proofs.Owing.{exported_to, state_of}
 use Rattle.routes.proofs.Results.{OnErr-is}
 use Rattle.routes.proofs.ToldRoutes.{announced_released, exported_routed}

@@ -4,7 +4,8 @@ use Rattle.routes.specs.Offers.{IsSound}
 use Rattle.routes.specs.RoutesState.{export_of}
 use Rattle.routes.specs.RoutingState.{RoutingState}
 use Rattle.routes.proofs.Due.{due_held}
-use Rattle.routes.proofs.Marking.{IsNow, lists_stay, marked_told, tables_stay}
+use Rattle.routes.proofs.Marking.{lists_stay, tables_stay}
+use Rattle.routes.proofs.SlotMarks.{IsNow, marked_told}
 use Rattle.routes.proofs.Owing.{exported_to, state_of, withdrawn_there}
 use Rattle.routes.proofs.routes.Routes.tell_withdrawals.Goals as goal
 

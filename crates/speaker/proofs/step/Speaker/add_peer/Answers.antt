@@ -10,8 +10,9 @@ returns-clause-ok g c = λ config r holds.
     let may = rw (← c.self.view_is, c.requires.adds) at c.requires.accepted in
     let did = c.in_ok-add_peer.ensures in
     let here = rw (← c.self.view_is) at holds in
-    let own = added_same c.self.inside.config config c.args.conf.now here.config_is in
-    rw (c.begin_count.ensures, c.requires.adds) (holds_added _ config r c.args.slot c.args.conf.now _ _ here may did.conf did.peers (rw own at did.puts) refl refl refl c.add_peer.ensures.payloads (ap (λ (s : RoutesState). s.adj_in) did.rest) (ap (λ (s : RoutesState). s.book) did.rest) (omega arith), refl)
+    let own = added_same c.self.inside.config config c.args.slot c.args.conf.now here.config_is in
+    let put = rw c.of-times.ensures at did.puts in
+    rw (c.begin_count.ensures, c.requires.adds) (holds_added _ config r c.args.slot c.args.conf.now _ _ here may did.conf did.peers (rw own at put) refl refl refl c.add_peer.ensures.payloads (ap (λ (s : RoutesState). s.adj_in) did.rest) (ap (λ (s : RoutesState). s.book) did.rest) (omega arith), refl)
 
 pub returns-in_err-add_peer-clause-err : goal.returns-in_err-add_peer-clause-err
 returns-in_err-add_peer-clause-err g c =

@@ -1,8 +1,9 @@
-use Rattle.speaker_desk.proofs.AskedMoves.{attends_command, attends_on}
+use Rattle.std.proofs.Common.{refl}
+use Rattle.speaker_desk.proofs.AskedMoves.{obeys_err, obeys_ok}
 use Rattle.speaker_desk.proofs.desk.Desk.obey.Goals as goal
 
 pub returns-in-Ok : goal.returns-in-Ok
-returns-in-Ok g c = λ line asks. attends_on _ c.obey.new.self _ (attends_command line c.args.command _ c.obey.result _ asks c.obey.ensures) c.tell_remote.ensures
+returns-in-Ok g c = obeys_ok c.args.command c.in-Ok.report _ c.obey.new.self _ c.in-Ok.ensures c.tell_remote.ensures
 
 pub returns-in-Err : goal.returns-in-Err
-returns-in-Err g c = λ line asks. attends_command line c.args.command _ c.obey.result _ asks c.obey.ensures
+returns-in-Err g c = obeys_err c.args.command c.in-Err.refusal _ c.obey.new.self _ c.in-Err.ensures refl

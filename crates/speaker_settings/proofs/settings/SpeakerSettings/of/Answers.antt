@@ -69,7 +69,22 @@ returns-in_err-status-clause-told c =
     let needs = IsToldBy (table_view c.args.table.now) in
     in_memory needs _ (passes_on _ needs c.from_residual-in_err-status.result _ c.from_residual-in_err-status.ensures.1 c.in_err-status.ensures.told (λ none s told. none s.status told.status))
 
+pub returns-in_err-metrics-clause-told : goal.returns-in_err-metrics-clause-told
+returns-in_err-metrics-clause-told c =
+    let needs = IsToldBy (table_view c.args.table.now) in
+    in_memory needs _ (passes_on _ needs c.from_residual-in_err-metrics.result _ c.from_residual-in_err-metrics.ensures.1 c.in_err-metrics.ensures (λ none s told. none s.metrics told.metrics))
+
+pub returns-in_err-wait_for_cache-clause-told : goal.returns-in_err-wait_for_cache-clause-told
+returns-in_err-wait_for_cache-clause-told c =
+    let needs = IsToldBy (table_view c.args.table.now) in
+    in_memory needs _ (passes_on _ needs c.from_residual-in_err-wait_for_cache.result _ c.from_residual-in_err-wait_for_cache.ensures.1 c.in_err-wait_for_cache.ensures.told (λ none s told. none s.wait_for_cache told.wait_for_cache))
+
 pub returns-in_err-peers-clause-told : goal.returns-in_err-peers-clause-told
 returns-in_err-peers-clause-told c =
     let needs = IsToldBy (table_view c.args.table.now) in
     passes_on_in_memory _ needs c.from_residual-in_err-peers.result _ c.from_residual-in_err-peers.ensures.1 c.in_err-peers.ensures.told (λ none s told. none s.peers told.peers)
+
+pub returns-in_err-timers-clause-told : goal.returns-in_err-timers-clause-told
+returns-in_err-timers-clause-told c =
+    let needs = IsToldBy (table_view c.args.table.now) in
+    passes_on_in_memory _ needs c.from_residual-in_err-timers.result _ c.from_residual-in_err-timers.ensures.1 c.in_err-timers.ensures (λ none s told. none s.timers told.timers)

@@ -1,0 +1,59 @@
+//! What is asked of one route.
+ghost use Rattle.std.specs.Prelude.{◌≡◌, ◌≤◌};
+ghost use Rattle.std.specs.Option.{option_copied};
+ghost use Rattle.origin_valid.specs.Validity.{validity};
+ghost use Rattle.rib_in.specs.LatestRoutes.{route_at};
+ghost use Rattle.routes.specs.Offers.{IsOffer};
+ghost use Rattle.routes.specs.RoutesState.{tables_in};
+
+use crate::candidates::remade_at;
+use crate::routes::Routes;
+use bgp_attr::Attrs;
+use decision::{Book, Candidate, LOCAL_SLOT};
+use net_prefix::{Asn, Prefix};
+use origin_valid::Validity;
+use std::alloc::Allocator;
+
+impl<A: Allocator + Clone, B: Book<A>> Routes<A, B> {
+    /// The latest route of a slot to a prefix; under `LOCAL_SLOT` a local network.
+    pub fn route(&self, slot: u8, prefix: Prefix) -> Option<&Attrs<A>>
+        ensures { option_copied result ≡ route_at self.now.adj_in slot prefix }
+    {
+        self.routing.ribs().routes().get(slot, prefix)
+    }
+
+    /// The candidate that a slot's route to a prefix makes now, if it makes one.
+    pub fn candidate(&self, slot: u8, prefix: Prefix) -> Option<Candidate>
+        ensures { IsOffer (tables_in self.now) slot prefix result }
+    {
+        if slot > LOCAL_SLOT {
+            return None;
+        }
+        self.candidate_at(slot, prefix)
+    }
+
+    fn candidate_at(&self, slot: u8, prefix: Prefix) -> Option<Candidate>
+        requires { slot ≤ 64 }
+        ensures { IsOffer (tables_in self.now) slot prefix result }
+    {
+        let routes = self.routing.ribs().routes();
+        match remade_at(
+            &self.conf,
+            &self.payloads,
+            &self.links,
+            routes,
+            slot,
+            prefix,
+        ) {
+            Some(change) => change.candidate,
+            None => None,
+        }
+    }
+
+    /// The state of a route of this origin AS to a prefix, in the payloads by which routes are judged.
+    pub fn state(&self, prefix: Prefix, origin: Option<Asn>) -> Validity
+        ensures { result ≡ validity self.now.payloads prefix origin }
+    {
+        self.payloads.state(&prefix, origin)
+    }
+}

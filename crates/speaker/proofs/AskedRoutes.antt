@@ -1,0 +1,18 @@
+-- What is asked of one route is of the run.
+use Rattle.std.proofs.Common.{◌≡◌, ℕ, Option, sym, subst}
+use Rattle.decision.specs.declared.candidate.Candidate.{Candidate}
+use Rattle.net_prefix.specs.declared.prefix.Prefix.{Prefix}
+use Rattle.routes.specs.Offers.{IsOffer}
+use Rattle.routes.specs.Tables.{Tables, link_at}
+use Rattle.speaker.specs.Agreement.{Agrees, tables_after}
+use Rattle.speaker.specs.Runs.{Run}
+use Rattle.speaker.specs.SpeakerState.{SpeakerState, tables_of}
+use Rattle.speaker.specs.declared.config.Config.{Config}
+use Rattle.speaker.proofs.Calls.{tables_same}
+
+tables_shown : (config : Config) (r : Run) (s : SpeakerState) → Agrees config r s → tables_after config r ≡ tables_of s
+tables_shown config r s a = tables_same config r s.conf s.payloads (link_at s.links) s.adj_in (sym a.holds.conf) a.holds.payloads a.holds.slots a.holds.networks
+
+-- the candidate that a slot's route makes
+pub offer_shown : (config : Config) (r : Run) (s : SpeakerState) (slot : ℕ) (prefix : Prefix) (found : Option Candidate) → IsOffer (tables_of s) slot prefix found → Agrees config r s → IsOffer (tables_after config r) slot prefix found
+offer_shown config r s slot prefix found is a = subst (λ (t : Tables). IsOffer t slot prefix found) (sym (tables_shown config r s a)) is

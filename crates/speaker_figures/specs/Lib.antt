@@ -1,0 +1,2 @@
+pub mod FiguresText
+pub mod NoticeCounts

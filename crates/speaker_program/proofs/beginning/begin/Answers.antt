@@ -1,0 +1,27 @@
+use Rattle.std.proofs.Common.{◌∙◌, ap, refl}
+use Rattle.speaker_turns.specs.Turns.{Turns, with_patience}
+use Rattle.speaker_turns.specs.declared.patience.Patience.{Patience}
+use Rattle.speaker_program.specs.Begun.{patience_of, with_remotes}
+use Rattle.speaker_program.proofs.OtherFaults.{other_fault}
+use Rattle.speaker_program.proofs.beginning.begin.Goals as goal
+
+pub returns-in_err-wire-clause-fault : goal.returns-in_err-wire-clause-fault
+returns-in_err-wire-clause-fault g c = other_fault c.from_residual-in_err-wire.result c.in_err-wire.field-0.0 c.from_residual-in_err-wire.ensures.1 c.in_err-wire.ensures.fault
+
+pub returns-clause-begins : goal.returns-clause-begins
+returns-clause-begins g c =
+    let told = c.in_ok-speaker.ensures.commands in
+    record {
+      speaker = c.in_ok-speaker.speaker;
+      text = g.L.Read.remaining told.0;
+      wire = g.W.Wire.state c.in_ok-wire.wire;
+      told = (told.0, told.1, refl);
+      opened = (c.in_ok-wire.wire, rw c.is_watched.ensures at c.in_ok-wire.ensures.wire, refl);
+      commanded = told.2;
+      slots = c.in_ok-speaker.ensures.slots;
+      remotes =
+          c.tell_remotes.ensures
+          ∙ ap (λ (turns : Turns). with_remotes c.args.settings.now.peers.items c.args.settings.now.cache turns)
+          (c.set_patience.ensures
+          ∙ (ap (λ (patience : Patience). with_patience patience c.in_ok-served.served) c.patience_of.ensures ∙ ap (with_patience (patience_of c.args.settings.now)) c.in_ok-served.ensures));
+    }

@@ -1,0 +1,10 @@
+use Rattle.std.proofs.Common.{subst, sym}
+use Rattle.speaker_program.specs.Checked.{IsCheckedBy}
+use Rattle.speaker_program.proofs.EndedWell.{on_ok_of}
+use Rattle.speaker_program.proofs.checking.answer.Goals as goal
+
+pub returns-in-Help : goal.returns-in-Help
+returns-in-Help g c = on_ok_of c.map_err.result (subst IsCheckedBy (sym c.in-Help.is) tt)
+
+pub returns-in-Version : goal.returns-in-Version
+returns-in-Version g c = on_ok_of c.map_err-in-Version.result (subst IsCheckedBy (sym c.in-Version.is) tt)

@@ -1,0 +1,19 @@
+use Rattle.std.proofs.Common.{[], subst}
+use Rattle.speaker.specs.Agreement.{Agrees}
+use Rattle.speaker.specs.declared.config.Config.{Config}
+use Rattle.speaker_program.proofs.Commanding.{commanded_by}
+use Rattle.speaker_program.proofs.OtherFaults.{other_fault}
+use Rattle.speaker_program.proofs.commanded_speaker.commanded.Goals as goal
+
+pub returns-in_err-command-clause-fault : goal.returns-in_err-command-clause-fault
+returns-in_err-command-clause-fault g c =
+    other_fault c.from_residual-in_err-command.result c.in_err-command.field-0.0 c.from_residual-in_err-command.ensures.1 c.in_err-command.ensures.fault
+
+pub returns-clause-commands : goal.returns-clause-commands
+returns-clause-commands g c =
+    let obeys = c.in_ok-command.ensures.commands in
+    (obeys.0, obeys.1, commanded_by _ _ _ _ (subst (λ (config : Config). Agrees config [] c.in_ok-speaker.speaker) c.config_of.ensures c.in_ok-speaker.ensures.agrees) obeys.2)
+
+pub returns-in_err-speaker-clause-fault : goal.returns-in_err-speaker-clause-fault
+returns-in_err-speaker-clause-fault g c =
+    other_fault c.from_residual.result c.in_err-speaker.field-0.0 c.from_residual.ensures.1 c.in_err-speaker.ensures.fault

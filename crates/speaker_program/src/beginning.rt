@@ -1,0 +1,89 @@
+//! The loop of the settings, before its first turn.
+ghost use Rattle.std.specs.Prelude.{◌≡◌, Ok, Some, IfErr, IfOk, string_bytes};
+ghost use Rattle.std.specs.Fn.{FnOnceReturnsAt};
+ghost use Rattle.speaker_program.specs.Endings.{IsOfWords};
+ghost use Rattle.speaker_program.specs.Begun.{IsBegun, StateFrom, TextFrom, is_watched, patience_of, with_remotes};
+
+use crate::commanded_speaker::commanded;
+use crate::fault::SpeakerFault;
+use decision::Book;
+use speaker_settings::SpeakerSettings;
+use speaker_turns::{End, Patience, SpeakerLoop};
+use std::alloc::Global;
+use std::io::{self, BufRead};
+use std::net::SocketAddr;
+use wires::Wire;
+
+/// The loop of the settings, before its first turn.
+pub(crate) fn begin<B: Book<Global>, L: BufRead + Drop, W: Wire + Drop, M, F>(
+    alloc: Global,
+    settings: &SpeakerSettings,
+    commands: M,
+    opens: F,
+) -> Result<SpeakerLoop<W, Global, B>, SpeakerFault>
+where
+    M: FnOnce(&str) -> io::Result<L>,
+    F: FnOnce(Option<SocketAddr>, bool) -> io::Result<W>,
+    requires commands { M.IsAlwaysCallable commands }
+    requires opens { F.IsAlwaysCallable opens }
+    ensures fault { IfErr result (λ fault. ¬ (IsOfWords fault)) }
+    ensures begins { IfOk result (λ served. IsBegun (TextFrom (λ lines. FnOnceReturnsAt M.FnOnce commands (string_bytes settings.now.commands) (Ok lines)) L.remaining)
+        (StateFrom (λ wire. F.post opens settings.now.listen (is_watched settings.now) (Ok wire)) W.state) settings.now served) }
+{
+    let speaker = commanded(alloc, settings, commands)?;
+    let wire = opened(settings.listen, is_watched(settings), opens)?;
+    let mut served = SpeakerLoop::new(alloc, wire, speaker)?;
+    served.set_patience(patience_of(settings));
+    tell_remotes(settings, &mut served);
+    Ok(served)
+}
+
+// How patient the loop of the settings is.
+fn patience_of(settings: &SpeakerSettings) -> Patience
+    ensures { result ≡ patience_of settings.now }
+{
+    Patience {
+        send_hold: Some(settings.send_hold),
+        open_wait: settings.open_wait,
+    }
+}
+
+// Whether what is seen on the wire is kept.
+fn is_watched(settings: &SpeakerSettings) -> bool
+    ensures { result ≡ is_watched settings.now }
+{
+    settings.log || settings.metrics.is_some()
+}
+
+// The wire that is opened there, for a log or for none.
+fn opened<W: Wire + Drop, F>(
+    listen: Option<SocketAddr>,
+    log: bool,
+    opens: F,
+) -> Result<W, SpeakerFault>
+where
+    F: FnOnce(Option<SocketAddr>, bool) -> io::Result<W>,
+    requires { F.IsAlwaysCallable opens }
+    ensures fault { IfErr result (λ fault. ¬ (IsOfWords fault)) }
+    ensures wire { IfOk result (λ wire. F.post opens listen log (Ok wire)) }
+{
+    match opens(listen, log) {
+        Ok(wire) => Ok(wire),
+        Err(error) => Err(SpeakerFault::Listen { listen, error }),
+    }
+}
+
+// Tells where the peers are, and the cache.
+fn tell_remotes<B: Book<Global>, W: Wire + Drop>(
+    settings: &SpeakerSettings,
+    served: &mut SpeakerLoop<W, Global, B>,
+)
+    ensures { served.new ≡ with_remotes settings.now.peers.items settings.now.cache served.old }
+{
+    for (slot, remote) in &settings.peers {
+        served.set_remote(End::Peer(*slot), *remote);
+    }
+    if let Some(remote) = settings.cache {
+        served.set_remote(End::Cache, remote);
+    }
+}

@@ -1,0 +1,92 @@
+//! What is answered besides serving.
+ghost use Rattle.std.specs.Prelude.{ℕ, List, Option, IfOk, OnOk, string_bytes};
+ghost use Rattle.speaker_program.specs.Commanded.{IsCommanded};
+ghost use Rattle.speaker_program.specs.Checked.{IsChecked, IsCheckedBy};
+ghost use Rattle.speaker_program.specs.Slots.{HasJust};
+ghost use Rattle.speaker_program.specs.ToldConfig.{config_of};
+ghost use Rattle.speaker_program.specs.Files.{AreOctetsAt, AreSettingsOf, IsTextAt};
+
+use crate::commanded_speaker::commanded;
+use crate::fault::SpeakerFault;
+use crate::files::{lines_of, octets_at};
+use crate::help::{HELP, VERSION};
+use crate::settings_file::read_settings;
+use decision::Book;
+use program_endings::{Aside, print};
+use speaker::Speaker;
+use speaker_settings::SpeakerSettings;
+use std::alloc::{AllocGlobal, Global};
+use std::io::Write;
+use std::rt::Files;
+
+/// Answers what is asked besides serving.
+pub(crate) fn answer<B: Book<Global>, R, O: Write>(
+    rt: &R,
+    aside: Aside<'_>,
+    output: &mut O,
+) -> Result<(), SpeakerFault>
+where
+    R: Files + AllocGlobal,
+    ensures { OnOk result (IsCheckedBy aside.entry) }
+{
+    match aside {
+        Aside::Help => print(HELP, output).map_err(SpeakerFault::Output),
+        Aside::Version => print(VERSION, output).map_err(SpeakerFault::Output),
+        Aside::Check(path) => check::<B, _, _>(rt, path, output),
+    }
+}
+
+// Reads the settings of this path, obeys their commands, and tells what they are.
+fn check<B: Book<Global>, R, O: Write>(
+    rt: &R,
+    path: &str,
+    output: &mut O,
+) -> Result<(), SpeakerFault>
+where
+    R: Files + AllocGlobal,
+    ensures { OnOk result (IsChecked path.now) }
+{
+    let settings = settings_at(rt, path)?;
+    let _speaker = speaker_of::<B, _>(rt, &settings)?;
+    tell_checked(path, &settings, output)
+}
+
+/// The settings in the file at this path.
+pub(crate) fn settings_at<R>(rt: &R, path: &str) -> Result<SpeakerSettings, SpeakerFault>
+where
+    R: Files + AllocGlobal,
+    ensures { IfOk result (AreSettingsOf (AreOctetsAt path.now)) }
+{
+    read_settings(rt.alloc(), path, |path: &str| octets_at(rt, path))
+}
+
+/// The speaker of the settings, which has obeyed the commands in the file at their path.
+pub(crate) fn speaker_of<B: Book<Global>, R>(
+    rt: &R,
+    settings: &SpeakerSettings,
+) -> Result<Speaker<Global, B>, SpeakerFault>
+where
+    R: Files + AllocGlobal,
+    ensures slots { IfOk result (HasJust settings.now.peers.items) }
+    ensures commands { IfOk result (λ speaker. (text : Option (List ℕ)) × IsTextAt (string_bytes settings.now.commands) text
+        × IsCommanded text (config_of settings.now) speaker) }
+{
+    commanded(rt.alloc(), settings, |path: &str| lines_of(rt, path))
+}
+
+// Tells what settings are.
+fn tell_checked<O: Write>(
+    path: &str,
+    settings: &SpeakerSettings,
+    output: &mut O,
+) -> Result<(), SpeakerFault> {
+    let asn = settings.asn.0;
+    let peers = settings.peers.len();
+    let commands = settings.commands.as_str();
+    let written = write!(
+        output,
+        "{path}: settings of AS {asn} with {peers} peers\n{commands}: commands that are obeyed\n"
+    );
+    written.map_err(SpeakerFault::Output)?;
+    output.flush().map_err(SpeakerFault::Output)
+}

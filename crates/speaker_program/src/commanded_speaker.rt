@@ -1,0 +1,149 @@
+//! The speaker of the settings, and their commands.
+ghost use Rattle.std.specs.Prelude.{◌≡◌, [], ℕ, List, Ok, Some, IfErr, IfOk, MatchOption, OnOk, string_bytes};
+ghost use Rattle.std.specs.Fn.{FnOnceReturnsAt};
+ghost use Rattle.speaker_program.specs.Commanded.{IsCommanded, IsCommandedBy, ObeysText};
+ghost use Rattle.speaker_program.specs.Endings.{IsOfWords};
+ghost use Rattle.speaker.specs.SlotTimes.{usual_timers};
+ghost use Rattle.speaker_program.specs.Slots.{HasJust, is_configured};
+ghost use Rattle.speaker_program.specs.ToldConfig.{config_of, with_all_times};
+ghost use Rattle.scenario.specs.FileLines.{lines};
+ghost use Rattle.speaker.specs.Agreement.{Agrees};
+
+use crate::fault::SpeakerFault;
+use bgp_conf::PEER_SLOTS;
+use decision::Book;
+use scenario::obey_lines;
+use speaker::{Config, PeerTimers, SlotTimers, Speaker};
+use speaker_settings::{SpeakerSettings, has_slot};
+use std::alloc::Global;
+use std::io::{self, BufRead};
+use std::net::SocketAddr;
+
+/// The speaker of the settings, which has obeyed their commands.
+pub(crate) fn commanded<B: Book<Global>, L: BufRead + Drop, M>(
+    alloc: Global,
+    settings: &SpeakerSettings,
+    commands: M,
+) -> Result<Speaker<Global, B>, SpeakerFault>
+where
+    M: FnOnce(&str) -> io::Result<L>,
+    requires { M.IsAlwaysCallable commands }
+    ensures fault { IfErr result (λ fault. ¬ (IsOfWords fault)) }
+    ensures slots { IfOk result (HasJust settings.now.peers.items) }
+    ensures commands { IfOk result (λ speaker. (lines : L) × FnOnceReturnsAt M.FnOnce commands (string_bytes settings.now.commands) (Ok lines)
+        × IsCommanded (L.remaining lines) (config_of settings.now) speaker) }
+{
+    let mut speaker = made(alloc, config_of(settings))?;
+    command(alloc, settings, &mut speaker, commands)?;
+    Ok(speaker)
+}
+
+// What the speaker of the settings is made with.
+fn config_of(settings: &SpeakerSettings) -> Config
+    ensures { result ≡ config_of settings.now }
+{
+    Config {
+        asn: settings.asn,
+        identifier: settings.identifier,
+        cache: settings.cache.is_some(),
+        multiprotocol: settings.multiprotocol,
+        timers: timers_of(settings.timers.as_slice()),
+    }
+}
+
+// The timers of each slot's peer.
+fn timers_of(told: &[(u8, PeerTimers)]) -> SlotTimers
+    ensures { result ≡ with_all_times told.now usual_timers }
+{
+    let mut timers = SlotTimers::USUAL;
+    for (slot, times) in told {
+        timers = timers.with_slot(*slot, *times);
+    }
+    timers
+}
+
+// A speaker that has obeyed no command.
+fn made<B: Book<Global>>(alloc: Global, config: Config) -> Result<Speaker<Global, B>, SpeakerFault>
+    ensures fault { IfErr result (λ fault. ¬ (IsOfWords fault)) }
+    ensures agrees { IfOk result (λ speaker. Agrees config [] speaker) }
+{
+    match Speaker::new(alloc, config) {
+        Ok(speaker) => Ok(speaker),
+        Err(refusal) => Err(SpeakerFault::Refused(refusal)),
+    }
+}
+
+// Hands the commands of the settings to the speaker, whose slots are to be just those of the settings then.
+fn command<B: Book<Global>, L: BufRead + Drop, M>(
+    alloc: Global,
+    settings: &SpeakerSettings,
+    speaker: &mut Speaker<Global, B>,
+    commands: M,
+) -> Result<(), SpeakerFault>
+where
+    M: FnOnce(&str) -> io::Result<L>,
+    requires { M.IsAlwaysCallable commands }
+    ensures fault { IfErr result (λ fault. ¬ (IsOfWords fault)) }
+    ensures slots { OnOk result (HasJust settings.now.peers.items speaker.new) }
+    ensures commands { OnOk result ((lines : L) × FnOnceReturnsAt M.FnOnce commands (string_bytes settings.now.commands) (Ok lines) × ObeysText (L.remaining lines) speaker.old speaker.new) }
+{
+    let path = settings.commands.as_str();
+    let lines = lines_at(alloc, path, commands)?;
+    command_from(alloc, path, lines, speaker)?;
+    match other_slot(speaker, settings.peers.as_slice()) {
+        None => Ok(()),
+        Some(slot) => Err(SpeakerFault::bad_slot(alloc, path, slot)),
+    }
+}
+
+// The reader of the file of this path.
+fn lines_at<L: BufRead + Drop, M>(alloc: Global, path: &str, commands: M) -> Result<L, SpeakerFault>
+where
+    M: FnOnce(&str) -> io::Result<L>,
+    requires { M.IsAlwaysCallable commands }
+    ensures fault { IfErr result (λ fault. ¬ (IsOfWords fault)) }
+    ensures given { IfOk result (λ lines. FnOnceReturnsAt M.FnOnce commands path.now (Ok lines)) }
+{
+    match commands(path) {
+        Ok(lines) => Ok(lines),
+        Err(error) => Err(SpeakerFault::unread(alloc, path, error)),
+    }
+}
+
+// Hands the commands that a reader of this path has to the speaker, line by line.
+fn command_from<B: Book<Global>, R: BufRead + Drop>(
+    alloc: Global,
+    path: &str,
+    reader: R,
+    speaker: &mut Speaker<Global, B>,
+) -> Result<(), SpeakerFault>
+    ensures fault { IfErr result (λ fault. ¬ (IsOfWords fault)) }
+    ensures each { (text : List ℕ) → R.remaining reader ≡ Some text → IsCommandedBy (lines text) result speaker.old speaker.new }
+    ensures obeys { OnOk result (ObeysText (R.remaining reader) speaker.old speaker.new) }
+{
+    match obey_lines(alloc, reader, speaker) {
+        Ok(()) => Ok(()),
+        Err(why) => Err(SpeakerFault::bad_commands(alloc, path, why)),
+    }
+}
+
+// A slot that is configured and none of the peers', or one of them that isn't.
+fn other_slot<B: Book<Global>>(
+    speaker: &Speaker<Global, B>,
+    peers: &[(u8, SocketAddr)],
+) -> Option<u8>
+    ensures { MatchOption result (HasJust peers.now speaker.now) (λ slot. ¬ (HasJust peers.now speaker.now)) }
+{
+    for slot in 0..PEER_SLOTS {
+        if is_configured(speaker, slot) != has_slot(peers, slot) {
+            return Some(slot);
+        }
+    }
+    None
+}
+
+fn is_configured<B: Book<Global>>(speaker: &Speaker<Global, B>, slot: u8) -> bool
+    ensures { result ≡ is_configured speaker.now slot }
+{
+    speaker.session(slot).is_some()
+}
