@@ -1,5 +1,5 @@
-//! What no answer shows of a session: the ends of its timers, and the rows of its table that no script reaches, which are want of
-//! memory and inputs that a speaker refuses.
+//! What no answer shows of a session: the ends of its timers, and the rows of its table that no script reaches, which are want
+//! of memory and inputs that a speaker refuses.
 
 use bgp_attr::Mode;
 use bgp_fsm::{Input, Outgoing, PeerTimers, Session, State, Timer, Timers};

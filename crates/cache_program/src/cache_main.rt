@@ -1,6 +1,6 @@
 //! What the main of `ovcache` does.
 ghost use Rattle.std.specs.Prelude.{◌≡◌, ◌≤◌, [], ◌∷◌, ℕ, List, Ok, Some, IfErr, IfOk, MatchResult, OnErr, OnOk, None, false, if◌then◌else◌, is_some};
-ghost use Rattle.clocks.specs.Moments.{IsNotBefore};
+ghost use Rattle.clocks.specs.Moments.{IsNotBefore, moments_of};
 ghost use Rattle.std.specs.Fn.{FnReturnsAt};
 ghost use Rattle.std.specs.Result.{IsErrAnd};
 ghost use Rattle.program_endings.specs.Asides.{Asks};
@@ -53,8 +53,8 @@ use std::time::Duration;
 use wires::Wire;
 
 /// `ovcache SETTINGS [TURNS]`: a cache that serves the list of its settings for so many turns. Its output is the log, and
-/// stays as it is where the settings ask for none; a fault has its line on `errors`. `--help`, `--version` and `--check SETTINGS`
-/// are answered on the output, and nothing is served then. The answer is the exit status.
+/// stays as it is where the settings ask for none; a fault has its line on `errors`. `--help`, `--version` and `--check
+/// SETTINGS` are answered on the output, and nothing is served then. The answer is the exit status.
 pub fn main_cache<R, O: Write, E: Write>(
     rt: &R,
     words: &[String],
@@ -67,14 +67,14 @@ where
     ensures range { result ≤ 2 }
     ensures output { ((path : List ℕ) (turns : ℕ) → ¬ (IsCall words.now path turns)) → ((aside : Aside) → ¬ (Asks words.now aside)) → output.new ≡ output.old }
     ensures silent { result ≡ 0 → errors.new ≡ errors.old }
-    // The status is 0 only where the settings that a file tells were served for just the turns of the words, a file that was opened
-    // at the path of the words: with the lists of files that were opened at their paths, over a wire that was opened where they
-    // listen, and that listens there still.
-    ensures serves { ((aside : Aside) → ¬ (Asks words.now aside)) → result ≡ 0 → (path : List ℕ) × (turns : ℕ) × (settings : CacheSettings) × (behind : List ℕ) × (served : Served)
+    // The status is 0 only where the settings that a file tells were served for just the turns of the words, a file that was
+    // opened at the path of the words: with the lists of files that were opened at their paths, over a wire that was opened
+    // where they listen, and that listens there still, at the moments of the instants that the system's clock answered.
+    ensures serves { ((aside : Aside) → ¬ (Asks words.now aside)) → result ≡ 0 → (path : List ℕ) × (turns : ℕ) × (settings : CacheSettings) × (instants : List ℕ) × (served : Served)
         × IsCall words.now path turns × AreSettingsAt (IsOpenedAt path) (λ file. file.text) settings
-        × IsServed (SystemGives settings) (λ wire. wire ≡ nothing_told (Some settings.listen)) AnySecond settings turns [] behind served × (served.turns.counts.wire.listens ≡ Some settings.listen) }
-    // Where they are to be checked, it is 0 only where a file that was opened at their path tells settings whose guards let the list
-    // of the files that were opened at theirs be served.
+        × IsServed (SystemGives settings) (λ wire. wire ≡ nothing_told (Some settings.listen)) AnySecond settings turns [] (moments_of instants) served × (served.turns.counts.wire.listens ≡ Some settings.listen) }
+    // Where they are to be checked, it is 0 only where a file that was opened at their path tells settings whose guards let the
+    // list of the files that were opened at theirs be served.
     ensures checks { (aside : Aside) → Asks words.now aside → result ≡ 0 → IsCheckedBy aside }
 {
     match aside_of(words) {
@@ -96,9 +96,9 @@ where
     ensures range { result ≤ 2 }
     ensures output { ((path : List ℕ) (turns : ℕ) → ¬ (IsCall words.now path turns)) → output.new ≡ output.old }
     ensures silent { result ≡ 0 → errors.new ≡ errors.old }
-    ensures serves { result ≡ 0 → (path : List ℕ) × (turns : ℕ) × (settings : CacheSettings) × (behind : List ℕ) × (served : Served)
+    ensures serves { result ≡ 0 → (path : List ℕ) × (turns : ℕ) × (settings : CacheSettings) × (instants : List ℕ) × (served : Served)
         × IsCall words.now path turns × AreSettingsAt (IsOpenedAt path) (λ file. file.text) settings
-        × IsServed (SystemGives settings) (λ wire. wire ≡ nothing_told (Some settings.listen)) AnySecond settings turns [] behind served × (served.turns.counts.wire.listens ≡ Some settings.listen) }
+        × IsServed (SystemGives settings) (λ wire. wire ≡ nothing_told (Some settings.listen)) AnySecond settings turns [] (moments_of instants) served × (served.turns.counts.wire.listens ≡ Some settings.listen) }
 {
     let mut clock = MonotonicClock::new(rt);
     let served = serve_words(rt, words, output, &mut clock);
@@ -297,8 +297,8 @@ fn read_clock<C: SecondsClock>(clock: &mut C) -> Result<u64, CacheFault>
 /// address where the settings have them ask for figures, if they do: they are attended to between turns, and change nothing
 /// of what is served. Operators are what `controls` answers at the path where the settings have them ask, if they do: between
 /// turns they have the list read, under the guards of the settings or, where one accepts what these refuse, without, or the
-/// program stopped, and change nothing else. Answers what is served behind the last turn. Nothing is written to the output where the settings ask
-/// for no log.
+/// program stopped, and change nothing else. Answers what is served behind the last turn. Nothing is written to the output
+/// where the settings ask for no log.
 pub fn serve_cache<
     R,
     O: Write,

@@ -7,8 +7,8 @@
 //! that is opened at their path (`specs/FirstList.antt`, `specs/Opened.antt`), and serves it by the wire that listens at
 //! their address for so many turns, each at the moment of the clock (`specs/ServedTurns.antt`). It writes nothing where they
 //! ask for no log; the status of `main_cache` is 0 only where that was done, or was to be checked and could begin
-//! (`specs/Checked.antt`), or where help was asked for. What ends it has its cause as data (`CacheFault`). What files do, and what the log says, is shown
-//! by tests.
+//! (`specs/Checked.antt`), or where help was asked for. What ends it has its cause as data (`CacheFault`). What files do, and
+//! what the log says, is shown by tests.
 #![tactic(auto)]
 
 mod cache_main;

@@ -113,9 +113,9 @@ impl<W: Wire + Drop> ServedList<W> {
         self.turns.turn(now)
     }
 
-    /// What is done at a moment: where the list is due, or an operator asks for it, the files of the settings are opened and it is
-    /// read again, at this second since 1970, as old as it is then; what is too old is withdrawn; then a turn is taken. Answers what
-    /// reading the list again has led to, where it was read, and what the turn has.
+    /// What is done at a moment: where the list is due, or an operator asks for it, the files of the settings are opened and it
+    /// is read again, at this second since 1970, as old as it is then; what is too old is withdrawn; then a turn is taken.
+    /// Answers what reading the list again has led to, where it was read, and what the turn has.
     pub fn serve<L: Read + Steady + Drop, F: Fn(&str) -> io::Result<L>>(
         &mut self,
         alloc: Global,
@@ -167,9 +167,10 @@ impl<W: Wire + Drop> ServedList<W> {
         self.turns.wait(most);
     }
 
-    /// Takes the set of files that were opened again at this moment, with a list as old as this. One that can't be had, or that a
-    /// guard refuses, or that is too old, changes nothing but what an operator may accept next, and one that is served already
-    /// publishes nothing. Where an operator accepts what is refused so, a list of as many payloads isn't, and any other is.
+    /// Takes the set of files that were opened again at this moment, with a list as old as this. One that can't be had, or that
+    /// a guard refuses, or that is too old, changes nothing but what an operator may accept next, and one that is served
+    /// already publishes nothing. Where an operator accepts what is refused so, a list of as many payloads isn't, and any other
+    /// is.
     pub fn reread<L: Read + Steady + Drop>(
         &mut self,
         alloc: Global,

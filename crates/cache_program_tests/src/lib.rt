@@ -1,6 +1,6 @@
 //! Tests alone: a list that is read again while routers are served, and guarded, lists in either format and under the
-//! exceptions of SLURM files, a day of `ovcache`, one on which its list is withdrawn, payloads that expire, its texts and statuses,
-//! figures, operators, and a file that changes.
+//! exceptions of SLURM files, a day of `ovcache`, one on which its list is withdrawn, payloads that expire, its texts and
+//! statuses, figures, operators, and a file that changes.
 #![tactic(auto)]
 
 #[cfg(test)]

@@ -81,9 +81,9 @@ impl CacheSettings {
     /// `session`, a number of 16 bits or `"clock"`; and, where they are there, `other_session`, `"report"` or `"reset"`,
     /// `stale`, `"serve"` or, where `max_age` is there, `"withdraw"`,
     /// `refresh`, `retry` and `expire`, in place of the usual intervals and lawful together, `first`, 1 at least, `idle`,
-    /// above `refresh`, `reread`, `max_age` and `status`, 1 at least, and `min_payloads`, each a number of 32 bits, `max_shrink`,
-    /// up to 100, `expires` and `log`, booleans, `slurm` and `control`, texts, and `metrics`, as `listen`. There are no keys of
-    /// other names. Anything else is `Settings`.
+    /// above `refresh`, `reread`, `max_age` and `status`, 1 at least, and `min_payloads`, each a number of 32 bits,
+    /// `max_shrink`, up to 100, `expires` and `log`, booleans, `slurm` and `control`, texts, and `metrics`, as `listen`. There
+    /// are no keys of other names. Anything else is `Settings`.
     pub fn read(alloc: Global, octets: &[u8]) -> Result<CacheSettings, SettingsFault>
         ensures told { AnswersInMemory (λ settings. (table : Members) × IsTableOf octets.now table × IsToldBy table settings) result }
         ensures intervals { IfOk result (λ settings. are_lawful settings.intervals ≡ true) }

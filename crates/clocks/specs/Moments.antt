@@ -18,6 +18,11 @@ abbrev pub latest : List ℕ → ℕ
 latest [] = 0
 latest (now ∷ moments) = now
 
+-- each of the moments is two seconds at most behind the one before it, and the first is 2 at most
+abbrev pub GoOnBySteps : List ℕ → Type 0
+GoOnBySteps [] = ⊤
+GoOnBySteps (now ∷ moments) = (now ≤ latest moments + 2) × GoOnBySteps moments
+
 -- the first of these instants and one behind them, the last one first
 abbrev pub first_of : List ℕ → ℕ → ℕ
 first_of [] now = now
@@ -53,11 +58,6 @@ pub record IsKept (start : Option Instant) (seconds last : ℕ) (instants : List
   pub started : option_map instant_nanos start ≡ first_if_any instants
   pub went : seconds ≡ seconds_at instants
   pub told : last ≡ latest (moments_of instants)
-
--- the system's clock, as others see it: the instants that it answered, and the moments that were told, the last one first
-pub record Clocked : Type 0 where
-  pub instants : List ℕ
-  pub moments : List ℕ
 
 -- what a clock has told behind these moments, the last one first
 abbrev pub told_behind : List ℕ → List ℕ → List ℕ

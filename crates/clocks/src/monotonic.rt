@@ -1,6 +1,6 @@
 //! The system's monotonic clock.
 ghost use Rattle.std.specs.Prelude.{◌≡◌, [], None};
-ghost use Rattle.clocks.specs.Moments.{Clocked};
+ghost use Rattle.clocks.specs.Moments.{moments_of};
 
 use crate::pace::paced;
 use crate::seconds_clock::SecondsClock;
@@ -23,11 +23,13 @@ pub struct MonotonicClock<'a, R> {
 }
 
 impl<'a, R> Model for MonotonicClock<'a, R> {
-    ghost use Rattle.clocks.specs.Moments.{Clocked, moments_of, IsKept};
+    ghost use Rattle.std.specs.Prelude.{ℕ, List};
+    ghost use Rattle.clocks.specs.Moments.{IsKept};
 
-    ghost Value = { Clocked };
+    // The instants that the system's clock answered, in nanoseconds, the last one first.
+    ghost Value = { List ℕ };
 
-    ghost view = { λ clock. record { instants = clock.system.readings.instants; moments = moments_of clock.system.readings.instants } };
+    ghost view = { λ clock. clock.system.readings.instants };
 
     // The start is the first instant, and the last moment that of the last one.
     ghost invariant = { λ clock. IsKept clock.start clock.seconds clock.last clock.system.readings.instants };
@@ -36,7 +38,7 @@ impl<'a, R> Model for MonotonicClock<'a, R> {
 impl<'a, R: Clock> MonotonicClock<'a, R> {
     /// A clock that hasn't been read.
     pub fn new(rt: &'a R) -> Self
-        ensures { result ≡ record { instants = []; moments = [] } }
+        ensures { result ≡ [] }
     {
         MonotonicClock {
             system: SystemClock::new(rt),
@@ -49,7 +51,7 @@ impl<'a, R: Clock> MonotonicClock<'a, R> {
 
 impl<'a, R: Clock> SecondsClock for MonotonicClock<'a, R> {
     // What is told of the instants that the system answered, and of nothing else.
-    ghost readings = { λ clock. clock.moments };
+    ghost readings = { λ clock. moments_of clock };
 
     fn read(&mut self) -> io::Result<u64> {
         let now = self.system.read()?;

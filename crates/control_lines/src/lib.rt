@@ -4,8 +4,8 @@
 //! is what stands in front of the first line feed, and one of more than 1,024 octets is too long (`specs/Lines.antt`).
 //! `Operator` is one operator's connection: a line is read, what is said to it is written as far as it is taken, and until all
 //! of that is taken nothing more is read. One who moves nothing for a minute loses the connection, and so does one whose line
-//! isn't whole a minute after its first octet, or is too long, behind an answer that says so. `Operators` is what answers them. What lines mean stands above, and the
-//! system's sockets beside.
+//! isn't whole a minute after its first octet, or is too long, behind an answer that says so. `Operators` is what answers them.
+//! What lines mean stands above, and the system's sockets beside.
 #![tactic(auto)]
 
 mod line_buffer;

@@ -29,7 +29,8 @@ impl<F: Read> Model for FileAt<F> {
     ghost view = { λ opened. record { path = string_bytes opened.path; text = F.remaining opened.file } };
 }
 
-/// The file at the path. What is neither a file nor a folder isn't opened (`InvalidInput`): a pipe would wait for one who writes.
+/// The file at the path. What is neither a file nor a folder isn't opened (`InvalidInput`): a pipe would wait for one who
+/// writes.
 pub fn open_at<R: Files + AllocGlobal>(rt: &R, path: &str) -> io::Result<FileAt<R::File>>
     ensures { IfOk result (λ opened. opened.path ≡ path.now) }
 {

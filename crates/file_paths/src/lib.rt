@@ -1,8 +1,8 @@
 //! Files of the system, each with the path at which it was opened.
 //!
 //! `open_at` opens a file to be read and keeps its path, so that contracts of programs can say where what they read was opened
-//! (`specs/OpenedFiles.antt`), and tells whether it was written to since. `octets_of` reads a file whole. That the system's file is the one to which the path leads is
-//! trusted, beside the toolchain (`file_at`).
+//! (`specs/OpenedFiles.antt`), and tells whether it was written to since. `octets_of` reads a file whole. That the system's
+//! file is the one to which the path leads is trusted, beside the toolchain (`file_at`).
 #![tactic(auto)]
 
 mod file_at;

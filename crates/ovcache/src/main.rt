@@ -1,8 +1,8 @@
 //! Serves a payload list to routers: `ovcache SETTINGS [TURNS]`.
 //!
 //! Exit status 0 after the turns; 1 where the words, the settings or the list are refused; 2 where a file, the network
-//! or the clock fails, or where memory is wanting. What was wrong, and why, stands on standard error. Where the settings ask for a
-//! log, it stands on standard output.
+//! or the clock fails, or where memory is wanting. What was wrong, and why, stands on standard error. Where the settings ask
+//! for a log, it stands on standard output.
 #![tactic(auto)]
 
 use cache_program::main_cache;

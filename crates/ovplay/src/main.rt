@@ -1,7 +1,7 @@
 //! Plays a script of scenario lines from standard input, and answers on standard output.
 //!
-//! Exit status 0 at the end of the script; 1 where the words are others than `--help` or `--version`, or at a bad line, with its
-//! number on standard error; 2 where input or output fails, or where memory is wanting outside the speaker.
+//! Exit status 0 at the end of the script; 1 where the words are others than `--help` or `--version`, or at a bad line, with
+//! its number on standard error; 2 where input or output fails, or where memory is wanting outside the speaker.
 #![tactic(auto)]
 
 mod play_main;

@@ -1,5 +1,5 @@
-//! Faulty PDUs: with which octet each is judged and its fault, a Serial Notify of another version, and the numbers of errors and
-//! intervals.
+//! Faulty PDUs: with which octet each is judged and its fault, a Serial Notify of another version, and the numbers of errors
+//! and intervals.
 use rtr_codec::{End, ErrorCode, Intervals, Pdu, PduFault, Place, Step, needed, read};
 
 const AT_CACHE: Place = Place {

@@ -1,10 +1,11 @@
 //! Loads the payload lists of its data, and compares what that answers with what is told.
 //!
-//! The file `lists` names them, and `expired` those that are read at one second since 1970, one a line; empty lines and lines that begin with `#` are passed over. Each `NAME.in` has
-//! several lists, each behind a line `# case`; `NAME.out` has the answers to each. A list is read as JSON or as
-//! comma-separated values, by `format_of`. It answers how many rows there are and how many are skipped, with the second
-//! at which it says that it was written, if it does, and then each payload of its set, a line each; or why it is refused. Each name has a line on standard output, and a line
-//! behind each of the two files counts them.
+//! The file `lists` names them, and `expired` those that are read at one second since 1970, one a line; empty lines and lines
+//! that begin with `#` are passed over. Each `NAME.in` has several lists, each behind a line `# case`; `NAME.out` has the
+//! answers to each. A list is read as JSON or as comma-separated values, by `format_of`. It answers how many rows there are and
+//! how many are skipped, with the second at which it says that it was written, if it does, and then each payload of its set, a
+//! line each; or why it is refused. Each name has a line on standard output, and a line behind each of the two files counts
+//! them.
 //!
 //! Exit status 0 where all answer as told; 1 where one doesn't; 2 where a file can't be read or memory is wanting.
 #![tactic(auto)]

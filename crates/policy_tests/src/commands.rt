@@ -1,5 +1,5 @@
-//! What no answer shows of commands: what is configured then, a name that no line has, a slot without a peer, and the numbers of
-//! refusals.
+//! What no answer shows of commands: what is configured then, a name that no line has, a slot without a peer, and the numbers
+//! of refusals.
 
 use bgp_attr::Mode;
 use bgp_conf::{

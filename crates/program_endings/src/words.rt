@@ -21,8 +21,8 @@ pub enum WordsFault {
     TooMany,
 }
 
-/// The path of the settings and the number of turns: two words, the second one of digits alone and within u64, or one word, that
-/// doesn't begin with a hyphen, for the greatest number of turns.
+/// The path of the settings and the number of turns: two words, the second one of digits alone and within u64, or one word,
+/// that doesn't begin with a hyphen, for the greatest number of turns.
 pub fn read_words(words: &[String]) -> Result<(&str, u64), WordsFault>
     ensures { MatchResult result (λ read. IsCall words.now read.0.now read.1) (λ fault. (path : List ℕ) (turns : ℕ) → ¬ (IsCall words.now path turns)) }
 {

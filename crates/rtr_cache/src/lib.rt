@@ -4,8 +4,9 @@
 //! What happens is handed in, one event a call, and what goes out is taken from each client's ring. A call makes of
 //! each client what the rows of the cache's table say, and at its end what a response has left is queued while the
 //! ring has room (`specs/CacheTable.antt`). A response belongs to the version that was the newest when
-//! its query was read, to its end. While the set is withdrawn queries are answered as where there is none. A load, a client that comes up and the beginning of a response take memory; where
-//! it is refused a load and a new client change nothing, and of the rest only the client that asked is closed.
+//! its query was read, to its end. While the set is withdrawn queries are answered as where there is none. A load, a client
+//! that comes up and the beginning of a response take memory; where it is refused a load and a new client change nothing, and
+//! of the rest only the client that asked is closed.
 #![tactic(auto)]
 
 mod cache;

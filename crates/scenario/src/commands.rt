@@ -42,8 +42,8 @@ impl From<io::Error> for CommandsFault {
     }
 }
 
-/// Hands the commands of a file to the speaker, line by line, up to the first that is none or is refused. Empty lines and lines that
-/// begin with `#` are passed over.
+/// Hands the commands of a file to the speaker, line by line, up to the first that is none or is refused. Empty lines and lines
+/// that begin with `#` are passed over.
 pub fn obey_lines<R: BufRead + Drop, B: Book<Global>>(
     alloc: Global,
     mut reader: R,

@@ -75,7 +75,8 @@ impl<S: Read + Write + Drop> Scraper<S> {
         self.stage
     }
 
-    /// Reads what has come of its request, or writes its answer as far as that is taken. One that is here for 10 seconds is over.
+    /// Reads what has come of its request, or writes its answer as far as that is taken. One that is here for 10 seconds is
+    /// over.
     pub fn visit(&mut self, now: u64)
         ensures came { self.new.came ≡ self.old.came }
         ensures visits { Visits (is_late now self.old) self.old self.new }

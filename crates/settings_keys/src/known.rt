@@ -12,8 +12,8 @@ use std::alloc::{AllocError, Global};
 use strsim::levenshtein;
 use toml::Table;
 
-/// Refuses a table with a key that isn't known, and tells the first one, in the order of their octets. The owner is whose keys are
-/// known. `NoMemory` only where there is such a key.
+/// Refuses a table with a key that isn't known, and tells the first one, in the order of their octets. The owner is whose keys
+/// are known. `NoMemory` only where there is such a key.
 pub fn only_known(
     alloc: Global,
     table: &Table,

@@ -13,8 +13,8 @@ use std::net::SocketAddr;
 use std::str;
 use toml::{Table, Value};
 
-/// The table that the octets of a file spell. `Settings` where they are no UTF-8 or no TOML, `NoMemory` where memory lacks, which it
-/// can't for a text with nothing in it.
+/// The table that the octets of a file spell. `Settings` where they are no UTF-8 or no TOML, `NoMemory` where memory lacks,
+/// which it can't for a text with nothing in it.
 pub fn read_table(alloc: Global, octets: &[u8]) -> Result<Table, SettingsFault>
     ensures table { MatchResult result (λ table. IsTableOf octets.now (table_view table)) (λ fault. IsBad fault → (table : Members) → ¬ (IsTableOf octets.now table)) }
     ensures memory { IfErr result (λ fault. fault ≡ SettingsFault.NoMemory → IsUtf8 octets.now × ¬ (IsBlank octets.now)) }

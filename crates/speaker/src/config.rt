@@ -6,8 +6,8 @@ use bgp_conf::PEER_SLOTS;
 use bgp_fsm::PeerTimers;
 use net_prefix::Asn;
 
-/// What a speaker is made with: its AS, its BGP Identifier, whether it has a cache session, what its OPEN tells, and for how long
-/// the timers of its peers run.
+/// What a speaker is made with: its AS, its BGP Identifier, whether it has a cache session, what its OPEN tells, and for how
+/// long the timers of its peers run.
 #[derive(Clone, Copy, Debug, PartialEq, Eq)]
 pub struct Config {
     pub asn: Asn,

@@ -27,9 +27,9 @@ pub enum AttendFault {
     Turn(LoopFault),
 }
 
-/// So many turns, or fewer where an operator stops them, each at the moment that is read for it, with the operators' lines between
-/// them. The journal looks on behind each turn, and writes to the output. Between turns the program rests until one may find
-/// something to do, or so long.
+/// So many turns, or fewer where an operator stops them, each at the moment that is read for it, with the operators' lines
+/// between them. The journal looks on behind each turn, and writes to the output. Between turns the program rests until one may
+/// find something to do, or so long.
 pub fn attended_turns<
     R: Clock,
     W: Wire + Drop,

@@ -107,8 +107,8 @@ impl<'a> Desk<'a> {
         }
     }
 
-    /// Whether the program has stopped: `stop` was said, and neither sessions nor operators have anything to say any more, or so
-    /// much time has passed.
+    /// Whether the program has stopped: `stop` was said, and neither sessions nor operators have anything to say any more, or
+    /// so much time has passed.
     pub fn has_stopped<B: Book<Global>>(
         &self,
         speaker: &Speaker<Global, B>,

@@ -9,16 +9,16 @@ ghost use Rattle.speaker_turns.specs.Serving.{Connection};
 ghost use Rattle.speaker_turns.specs.Turns.{Turns, place_at};
 ghost use Rattle.speaker_desk.specs.Moves.{AreCallsOfAll, Move, MovesAll};
 
-/// Whatever turns are taken and whatever operators ask for between them, the speaker is as calls of it leave it: for every run that it
-/// agreed with, it agrees with that run followed by theirs, in which each command that was accepted stands between the turns
-/// between which it came.
+/// Whatever turns are taken and whatever operators ask for between them, the speaker is as calls of it leave it: for every run
+/// that it agreed with, it agrees with that run followed by theirs, in which each command that was accepted stands between the
+/// turns between which it came.
 pub fn commands_stand_between_turns()
     ensures { (moves : List Move) (old new : Turns) → length old.places ≡ place_count → MovesAll moves old new → (config : Config) (r : Run) → Agrees config r old.speaker → (more : Run) × AreCallsOfAll moves more × Agrees config (more ++ r) new.speaker }
 {}
 
-/// Nor do operators change what sessions carry: from the beginning on, while no more sockets came than a u64 counts, each session
-/// has heard just what its own socket gave, and what its socket took and what waits for it is just what the speaker handed out
-/// for it, in order.
+/// Nor do operators change what sessions carry: from the beginning on, while no more sockets came than a u64 counts, each
+/// session has heard just what its own socket gave, and what its socket took and what waits for it is just what the speaker
+/// handed out for it, in order.
 pub fn commands_leave_what_sessions_carry()
     ensures { (config : Config) (r : Run) (moves : List Move) (start new : Turns) (key : ℕ) (line : Connection) → Agrees config r start.speaker → length start.places ≡ place_count → IsFresh start → MovesAll moves start new → new.counts.wire.sockets < 2 ^ 64 - 1 → (place_at new key).line ≡ Some line → line.is_up ≡ true → CarriesOwn config r new key line }
 {}

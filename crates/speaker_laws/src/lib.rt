@@ -34,16 +34,16 @@ pub fn what_may_travel_is_told()
     ensures held { (config : Config) (r : Run) (s : SpeakerState) (slot : ℕ) (prefix : Prefix) (octets : List ℕ) → Agrees config r s → held (history config slot r) prefix ≡ Some octets → AreTravelling octets }
 {}
 
-/// Every attribute that this speaker doesn't know and that may travel is kept where it is optional and transitive: no other code
-/// ends here, and no value but those that the table of unknown codes bars (RFC 4271 section 5).
+/// Every attribute that this speaker doesn't know and that may travel is kept where it is optional and transitive: no other
+/// code ends here, and no value but those that the table of unknown codes bars (RFC 4271 section 5).
 pub fn what_may_travel_is_kept()
     ensures { (a : Attribute) → type_of a.code ≡ None → MayTravel a.code a.value → bit_and a.flags 192 ≡ 192 → is_kept a ≡ true }
 {}
 
-/// A ROUTE-REFRESH is answered once (RFC 2918 section 4). It asks for just what the peer holds when it comes, whatever was asked for
-/// before; an UPDATE that names a prefix answers for it, and for no other one; where a session isn't Established nothing is asked
-/// for, and so nothing is where it enters Established. What is asked for is held. An UPDATE that is queued as owed and says of a
-/// prefix what its peer holds already answers a refresh.
+/// A ROUTE-REFRESH is answered once (RFC 2918 section 4). It asks for just what the peer holds when it comes, whatever was
+/// asked for before; an UPDATE that names a prefix answers for it, and for no other one; where a session isn't Established
+/// nothing is asked for, and so nothing is where it enters Established. What is asked for is held. An UPDATE that is queued as
+/// owed and says of a prefix what its peer holds already answers a refresh.
 pub fn a_refresh_is_answered_once()
     ensures asks { (h : List Event) (e : Event) (prefix : Prefix) → refreshes h e ≡ true → asked (e ∷ h) prefix ≡ is_some (held h prefix) }
     ensures answers { (h : List Event) (update : List ℕ) (prefix : Prefix) → names_in update prefix ≡ true → asked (Queued update ∷ h) prefix ≡ false }

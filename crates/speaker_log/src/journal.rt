@@ -191,8 +191,8 @@ impl Kept {
         }
     }
 
-    // Whether what was seen of this side is to be told: a failure like the one before is counted. What was counted is told before
-    // anything else is.
+    // Whether what was seen of this side is to be told: a failure like the one before is counted. What was counted is told
+    // before anything else is.
     fn is_told<R: Clock, O: Write>(
         &mut self,
         rt: &R,

@@ -42,8 +42,9 @@ pub enum SpeakerLine {
         lines: u64,
         most: u32,
     },
-    /// How many of the configured sessions are established, how many routes Loc-RIB has, how many payloads are in force, how many
-    /// turns were taken, connections lost, and of them closed on this side, and how many octets came and went since the start.
+    /// How many of the configured sessions are established, how many routes Loc-RIB has, how many payloads are in force, how
+    /// many turns were taken, connections lost, and of them closed on this side, and how many octets came and went since the
+    /// start.
     #[error("status: sessions {established} of {sessions} established, routes {routes}, payloads {payloads}, turns {turns}, connections lost {lost}, closed {closed}, octets {octets_in} in, {octets_out} out")]
     Status {
         established: u8,

@@ -15,8 +15,8 @@ pub enum Side {
 }
 
 impl Side {
-    /// Who is at this address: the cache or a peer that the settings place just there, or the one peer that they place at its IP
-    /// address, whatever the port.
+    /// Who is at this address: the cache or a peer that the settings place just there, or the one peer that they place at its
+    /// IP address, whatever the port.
     pub(crate) fn at(
         address: SocketAddr,
         peers: &[(u8, SocketAddr)],

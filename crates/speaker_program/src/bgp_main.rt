@@ -1,4 +1,5 @@
 //! What the main of `ovbgpd` does.
+ghost use Rattle.clocks.specs.Moments.{moments_of};
 ghost use Rattle.std.specs.Prelude.{◌≡◌, [], ◌≤◌, ℕ, List, Vec, Ok, Some, IfOk, MatchResult, string_bytes};
 ghost use Rattle.std.specs.Fn.{FnOnceReturnsAt};
 ghost use Rattle.std.specs.Global.{Global as TheGlobal};
@@ -40,8 +41,8 @@ use watched_wires::{Watched, WatchedWire};
 use wires::Wire;
 
 /// `ovbgpd SETTINGS [TURNS]`: a speaker that obeys the commands of its settings and then serves its sessions for so many turns.
-/// Behind them its Loc-RIB stands on `output`; a fault has its line on `errors`. `--help`, `--version` and `--check SETTINGS` are
-/// answered on the output, and nothing is served then. The answer is the exit status.
+/// Behind them its Loc-RIB stands on `output`; a fault has its line on `errors`. `--help`, `--version` and `--check SETTINGS`
+/// are answered on the output, and nothing is served then. The answer is the exit status.
 pub fn main_bgp<B: Book<Global>, R, O: Write, E: Write>(
     rt: &R,
     words: &[String],
@@ -54,14 +55,15 @@ where
     ensures range { result ≤ 2 }
     ensures output { ((path : List ℕ) (turns : ℕ) → ¬ (IsCall words.now path turns)) → ((aside : Aside) → ¬ (Asks words.now aside)) → output.new ≡ output.old }
     ensures silent { result ≡ 0 → errors.new ≡ errors.old }
-    // The status is 0 only where the settings of a file that was opened at the path of the words were served for just the turns of
-    // the words, or where they have a path for operators for so many or fewer with what operators asked for between them: with the commands of a file that was opened at their path, over a wire that was opened where they listen, and that
-    // listens there still.
-    ensures serves { ((aside : Aside) → ¬ (Asks words.now aside)) → result ≡ 0 → (path : List ℕ) × (turns : ℕ) × (settings : SpeakerSettings) × (behind : List ℕ) × (served : Turns)
+    // The status is 0 only where the settings of a file that was opened at the path of the words were served for just the turns
+    // of the words, or where commands may come between turns for so many or fewer with what was asked for before and between
+    // them: with the commands of a file that was opened at their path, over a wire that was opened where they listen, and that
+    // listens there still, at the moments of the instants that the system's clock answered.
+    ensures serves { ((aside : Aside) → ¬ (Asks words.now aside)) → result ≡ 0 → (path : List ℕ) × (turns : ℕ) × (settings : SpeakerSettings) × (instants : List ℕ) × (served : Turns)
         × IsCall words.now path turns × AreSettingsOf (AreOctetsAt path) settings
-        × IsServed (IsTextAt (string_bytes settings.commands)) (λ wire. wire ≡ nothing_told settings.listen) settings turns [] behind served × (served.counts.wire.listens ≡ settings.listen) }
-    // Where they are to be checked, it is 0 only where a file that was opened at their path tells settings, and the commands of a
-    // file that was opened at theirs leave a speaker of them with just their slots.
+        × IsServed (IsTextAt (string_bytes settings.commands)) (λ wire. wire ≡ nothing_told settings.listen) settings turns [] (moments_of instants) served × (served.counts.wire.listens ≡ settings.listen) }
+    // Where they are to be checked, it is 0 only where a file that was opened at their path tells settings, and the commands of
+    // a file that was opened at theirs leave a speaker of them with just their slots.
     ensures checks { (aside : Aside) → Asks words.now aside → result ≡ 0 → IsCheckedBy aside }
 {
     match aside_of(words) {
@@ -83,9 +85,9 @@ where
     ensures range { result ≤ 2 }
     ensures output { ((path : List ℕ) (turns : ℕ) → ¬ (IsCall words.now path turns)) → output.new ≡ output.old }
     ensures silent { result ≡ 0 → errors.new ≡ errors.old }
-    ensures serves { result ≡ 0 → (path : List ℕ) × (turns : ℕ) × (settings : SpeakerSettings) × (behind : List ℕ) × (served : Turns)
+    ensures serves { result ≡ 0 → (path : List ℕ) × (turns : ℕ) × (settings : SpeakerSettings) × (instants : List ℕ) × (served : Turns)
         × IsCall words.now path turns × AreSettingsOf (AreOctetsAt path) settings
-        × IsServed (IsTextAt (string_bytes settings.commands)) (λ wire. wire ≡ nothing_told settings.listen) settings turns [] behind served × (served.counts.wire.listens ≡ settings.listen) }
+        × IsServed (IsTextAt (string_bytes settings.commands)) (λ wire. wire ≡ nothing_told settings.listen) settings turns [] (moments_of instants) served × (served.counts.wire.listens ≡ settings.listen) }
 {
     let mut clock = MonotonicClock::new(rt);
     let served = serve_words::<B, _, _, _>(rt, words, output, &mut clock);
@@ -197,8 +199,8 @@ where
     ensures wrong { ((path : List ℕ) (turns : ℕ) → ¬ (IsCall words.now path turns)) → IsErrAnd result IsOfWords }
     ensures right { (path : List ℕ) (turns : ℕ) → IsCall words.now path turns → ¬ (IsErrAnd result IsOfWords) }
     ensures output { IsErrAnd result IsOfWords → output.new ≡ output.old }
-    // The speaker of the settings that the file of the words tells has obeyed just the commands of the file of the settings, it was
-    // told their remotes, and has taken just the turns of the words over the wire that was opened where they listen.
+    // The speaker of the settings that the file of the words tells has obeyed just the commands of the file of the settings, it
+    // was told their remotes, and has taken just the turns of the words over the wire that was opened where they listen.
     ensures serves { IfOk result (λ served. (path : List ℕ) × (turns : ℕ) × (octets : Vec ℕ TheGlobal) × (table : Members) × (settings : SpeakerSettings)
         × IsCall words.now path turns × FnOnceReturnsAt S.FnOnce reads path (Ok octets) × IsTableOf octets.items table × IsToldBy table settings
         × IsServed (TextFrom (λ lines. FnOnceReturnsAt M.FnOnce commands (string_bytes settings.commands) (Ok lines)) L.remaining)

@@ -38,8 +38,8 @@ pub(crate) struct LoopJournal<'a, S> {
 }
 
 impl<'a, S: Scrapers + Drop> LoopJournal<'a, S> {
-    /// The log that the settings ask for, before the first turn, and these scrapers, if there may be any. It is told where the wire
-    /// listens, where scrapers connect, and which peers nothing enables.
+    /// The log that the settings ask for, before the first turn, and these scrapers, if there may be any. It is told where the
+    /// wire listens, where scrapers connect, and which peers nothing enables.
     pub fn begin<R: Clock, W: Wire + Watched + Drop, B: Book<Global>, O: Write>(
         rt: &R,
         alloc: Global,

@@ -2,12 +2,12 @@
 //!
 //! `main_bgp` reads the words exactly, and tells what the operator has to mend from what the system didn't give
 //! (`specs/Exits.antt`). `run_bgp` is handed what
-//! reads files, what opens a wire, and a clock: its speaker is as the commands of the settings' file leave it, its slots are just
-//! those of the settings (`specs/Slots.antt`), its wire is the one that was opened where they listen (`specs/Begun.antt`), and it
-//! takes so many turns (`specs/Commanded.antt`), behind which its Loc-RIB is printed. Settings
-//! that are only checked bind nothing (`specs/Checked.antt`). What ends it has its cause as data (`SpeakerFault`). The files are
-//! those at the path of the words and at the path of the settings (`specs/Files.antt`), as file_paths notes them, and the wire
-//! listens where the settings say, as net_wires notes it; what is printed is shown by tests.
+//! reads files, what opens a wire, and a clock: its speaker is as the commands of the settings' file leave it, its slots are
+//! just those of the settings (`specs/Slots.antt`), its wire is the one that was opened where they listen (`specs/Begun.antt`),
+//! and it takes so many turns (`specs/Commanded.antt`), behind which its Loc-RIB is printed. Settings that are only checked
+//! bind nothing (`specs/Checked.antt`). What ends it has its cause as data (`SpeakerFault`). The files are those at the path of
+//! the words and at the path of the settings (`specs/Files.antt`), as file_paths notes them, and the wire listens where the
+//! settings say, as net_wires notes it; what is printed is shown by tests.
 #![tactic(auto)]
 
 mod attending;

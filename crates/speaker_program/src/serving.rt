@@ -126,7 +126,8 @@ fn show_routes<B: Book<Global>, W: Wire + Drop, O: Write>(
     output.flush().map_err(SpeakerFault::Output)
 }
 
-// So many turns, with commands between them where the settings let them come, and with the log and the scrapers that they ask for.
+// So many turns, with commands between them where the settings let them come, and with the log and the scrapers that they ask
+// for.
 fn serve_turns<
     R: Clock + AllocGlobal,
     B: Book<Global>,

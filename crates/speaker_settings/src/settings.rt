@@ -57,11 +57,11 @@ pub struct SpeakerSettings {
 impl SpeakerSettings {
     /// The settings that the octets of a file tell in TOML: `as`, a number from 1 to 4294967295, `identifier`, the text of
     /// an IPv4 address other than 0.0.0.0, and `commands`, a text; and, where they are there, `multiprotocol` and `log`,
-    /// `true` or `false`, `cache`, `listen` and `metrics`, each the text of an address and a port, `control`, a text, `send_hold`, in
-    /// the place of `SEND_HOLD_SECONDS`, `open_wait`, `status` and `wait_for_cache`, each a number from 1 to 4294967295, and the
-    /// tables `peer`, each with `slot`, from 0 to 63 and none twice, `remote`, the text of an address and a port, and, where they
-    /// are there, `connect_retry` and `idle_hold`, each a number from 1 to 65535, in the place of `CONNECT_RETRY_SECONDS` and
-    /// `IDLE_HOLD_SECONDS`. There are no keys of other names. Anything else is `Settings`.
+    /// `true` or `false`, `cache`, `listen` and `metrics`, each the text of an address and a port, `control`, a text,
+    /// `send_hold`, in the place of `SEND_HOLD_SECONDS`, `open_wait`, `status` and `wait_for_cache`, each a number from 1 to
+    /// 4294967295, and the tables `peer`, each with `slot`, from 0 to 63 and none twice, `remote`, the text of an address and a
+    /// port, and, where they are there, `connect_retry` and `idle_hold`, each a number from 1 to 65535, in the place of
+    /// `CONNECT_RETRY_SECONDS` and `IDLE_HOLD_SECONDS`. There are no keys of other names. Anything else is `Settings`.
     pub fn read(alloc: Global, octets: &[u8]) -> Result<SpeakerSettings, SettingsFault>
         ensures told { AnswersInMemory (λ settings. (table : Members) × IsTableOf octets.now table × IsToldBy table settings) result }
         ensures own { IfOk result (λ settings. (1 ≤ settings.asn.0) × (1 ≤ settings.identifier)) }

@@ -6,8 +6,8 @@ use policy_lines::write_policy_line;
 use std::alloc::Global;
 use std::io::{self, Write};
 
-/// Writes the next policy as its line says it, and behind it, as a comment, the slots of the peers that use it. It is a piece by
-/// itself.
+/// Writes the next policy as its line says it, and behind it, as a comment, the slots of the peers that use it. It is a piece
+/// by itself.
 pub(crate) fn write_policy(
     conf: &Conf<Global>,
     behind: Place,

@@ -8,8 +8,8 @@ use std::alloc::Global;
 use std::io::{self, Write};
 use std::net::Ipv4Addr;
 
-/// Writes a route as a row: `PREFIX STATE ASn`, with the state and the AS of its origin (`none` where its path ends in a set), and
-/// what it has.
+/// Writes a route as a row: `PREFIX STATE ASn`, with the state and the AS of its origin (`none` where its path ends in a set),
+/// and what it has.
 pub(crate) fn write_route<B: Book<Global>>(
     speaker: &Speaker<Global, B>,
     prefix: Prefix,
@@ -42,8 +42,8 @@ fn write_origin(origin: Option<Asn>, page: &mut Vec<u8>) -> io::Result<()> {
     }
 }
 
-/// Writes the attributes of a route that the selection reads, each behind a space: ` path 65001 65002 next-hop 192.0.2.1 origin igp
-/// med 10 local-pref 100`. A set stands in braces; a path without ASes is `path empty`.
+/// Writes the attributes of a route that the selection reads, each behind a space: ` path 65001 65002 next-hop 192.0.2.1 origin
+/// igp med 10 local-pref 100`. A set stands in braces; a path without ASes is `path empty`.
 pub(crate) fn write_route_words(attrs: &Attrs<Global>, page: &mut Vec<u8>) -> io::Result<()> {
     if let Some(path) = attrs.as_path() {
         write_path(path, page)?;

@@ -48,8 +48,8 @@ impl<W: Wire, A: Allocator + Clone, B: Book<A>> Model for SpeakerLoop<W, A, B> {
 }
 
 impl<W: Wire + Drop, B: Book<Global>> SpeakerLoop<W, Global, B> {
-    /// The turns of this speaker on this wire, before the first. Of no session it is known where its other side is, and patience
-    /// is endless.
+    /// The turns of this speaker on this wire, before the first. Of no session it is known where its other side is, and
+    /// patience is endless.
     pub fn new(alloc: Global, wire: W, speaker: Speaker<Global, B>) -> Result<Self, AllocError>
         ensures { IfOk result (λ turns. turns ≡ idle speaker (W.state wire)) }
     {
@@ -68,8 +68,8 @@ impl<W: Wire + Drop, B: Book<Global>> SpeakerLoop<W, Global, B> {
 }
 
 impl<W: Wire + Drop, A: Allocator + Clone, B: Book<A>> SpeakerLoop<W, A, B> {
-    /// The other side of the session is there: attempts go to this address, and a connection that comes from it is the session's,
-    /// whatever its port.
+    /// The other side of the session is there: attempts go to this address, and a connection that comes from it is the
+    /// session's, whatever its port.
     pub fn set_remote(&mut self, end: End, remote: SocketAddr)
         ensures { self.new ≡ with_remote end remote self.old }
     {
@@ -100,8 +100,8 @@ impl<W: Wire + Drop, A: Allocator + Clone, B: Book<A>> SpeakerLoop<W, A, B> {
         Ok(())
     }
 
-    /// Hands the speaker a command between two turns. An attempt at a connection that the speaker begins again takes the place of
-    /// one that stands; all else that the command asks of connections is done by the next turn.
+    /// Hands the speaker a command between two turns. An attempt at a connection that the speaker begins again takes the place
+    /// of one that stands; all else that the command asks of connections is done by the next turn.
     pub fn obey(&mut self, command: Command<'_>) -> Result<Report, Refusal>
         ensures { Obeys command.entry self.old result self.new }
     {

@@ -42,8 +42,8 @@ impl<P: Scrapers> Watch<P> {
         &self.counts
     }
 
-    /// A turn was taken, in which this was seen. Then it is the scrapers' turn, where there may be any. Answers whether one waits
-    /// for the figures.
+    /// A turn was taken, in which this was seen. Then it is the scrapers' turn, where there may be any. Answers whether one
+    /// waits for the figures.
     pub fn turn(&mut self, now: u64, seen: &[WireEvent]) -> bool
         ensures { self.new.counts ≡ taking seen.now self.old.counts }
     {

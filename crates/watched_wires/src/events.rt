@@ -8,7 +8,8 @@ use std::net::SocketAddr;
 use thiserror::Error;
 use wires::Parting;
 
-/// How many things that were seen are kept at most until the next rest (own choice): seven of each of 65 sessions, and some more.
+/// How many things that were seen are kept at most until the next rest (own choice): seven of each of 65 sessions, and some
+/// more.
 pub const MOST_EVENTS: usize = 512;
 
 /// What was seen of a connection, or of an attempt at one.

@@ -1,5 +1,6 @@
 //! Tests alone: what the system's sockets tell and what faults of `accept` mean, a cache over them and over a wire in memory,
-//! alone and with an operator beside, what routers hold and those that are silent, a cache that resets another session, and a set that is withdrawn.
+//! alone and with an operator beside, what routers hold and those that are silent, a cache that resets another session, and a
+//! set that is withdrawn.
 #![tactic(auto)]
 
 #[cfg(test)]

@@ -1,5 +1,5 @@
-use Rattle.std.proofs.Common.{◌≡◌, Some, sym, subst, ◌∙◌}
-use Rattle.clocks.specs.Moments.{Clocked}
+use Rattle.std.proofs.Common.{◌≡◌, ℕ, List, Some, sym, subst, ◌∙◌}
+use Rattle.clocks.specs.Moments.{moments_of}
 use Rattle.wires.specs.Wires.{WireState, nothing_told}
 use Rattle.cache_program.proofs.EndedWell.{served_so}
 use Rattle.cache_program.specs.Opened.{AnySecond, SystemGives}
@@ -13,10 +13,10 @@ returns-clause-serves g c = λ zero.
       is.0,
       is.1,
       is.2,
-      c.serve_words-served.new.clock.moments,
+      c.serve_words-served.new.clock,
       so.0,
       is.3,
       is.4,
-      subst (λ (clock : Clocked). IsServed (SystemGives is.2) (λ (wire : WireState). wire ≡ nothing_told (Some (is.2).listen)) AnySecond is.2 is.1 clock.moments c.serve_words-served.new.clock.moments so.0) c.new-clock.ensures is.5,
+      subst (λ (clock : List ℕ). IsServed (SystemGives is.2) (λ (wire : WireState). wire ≡ nothing_told (Some (is.2).listen)) AnySecond is.2 is.1 (moments_of clock) (moments_of c.serve_words-served.new.clock) so.0) c.new-clock.ensures is.5,
       is.6,
     )
