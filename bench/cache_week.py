@@ -250,7 +250,8 @@ class Validator:
         whole = json.dumps(rpki_client(rows)).encode()
         kept = sorted(self.rows)
         text = "\n".join(lines).encode()
-        yield Offer("a torn row", text[:text.index(b",", len(text) // 2 - len(text) // 2 % 40) + 1], says="row ")
+        # Behind its first comma: behind the last one it would be whole.
+        yield Offer("a torn row", text[:text.index(b",", text.index(b"\n", len(text) // 2)) + 1], says="row ")
         yield Offer("torn JSON", whole[:self.chance.randrange(2, len(whole) - 1)], says="octet ")
         yield Offer("JSON without its last brace", whole[:-1], says=f"octet {len(whole) - 1}: ")
         yield Offer("more behind JSON", whole + b"\n{}", says=f"octet {len(whole) + 1}: ")

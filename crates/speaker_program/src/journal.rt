@@ -16,6 +16,7 @@ use speaker::Speaker;
 use speaker_log::{Asked, Journal};
 use speaker_settings::SpeakerSettings;
 use speaker_turns::SpeakerLoop;
+use speaker_warnings::warn;
 use speaker_watch::Watch;
 use std::alloc::Global;
 use std::io::Write;
@@ -58,6 +59,15 @@ impl<'a, S: Scrapers + Drop> LoopJournal<'a, S> {
         tell_listening(rt, &journal, served.wire().listens(), output);
         tell_metrics(rt, &journal, watch.address(), output);
         journal.begins(rt, &Behind { served }, output);
+        let has_cache = settings.cache.is_some();
+        warn(
+            rt,
+            settings.log,
+            served.speaker().conf(),
+            peers,
+            has_cache,
+            output,
+        );
         Ok(LoopJournal {
             alloc,
             journal,

@@ -3,3 +3,5 @@
 
 #[cfg(test)]
 mod bgp_statuses;
+#[cfg(test)]
+mod warnings;
