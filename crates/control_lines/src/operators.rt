@@ -1,6 +1,6 @@
 //! All operators.
 
-use crate::operator::Wish;
+use crate::talk::Wish;
 
 /// How many operators may be there at once (own choice). Each has a key below this.
 pub const OPERATORS: usize = 16;

@@ -85,6 +85,7 @@ fn is_started<B: Book<Global>>(speaker: &Speaker<Global, B>, slot: u8) -> bool
 {
     match speaker.session(slot) {
         None | Some(State::Idle) => false,
-        Some(_) => true,
+        Some(State::Connect | State::Active | State::OpenSent) => true,
+        Some(State::OpenConfirm | State::Established) => true,
     }
 }

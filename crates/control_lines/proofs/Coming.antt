@@ -1,0 +1,63 @@
+-- No octet of an operator is lost, and none comes twice.
+use Rattle.std.proofs.Common.{◌≡◌, ◌++◌, ◌∷◌, ◌∙◌, inl, inr, ℕ, Bool, true, false, List, [], take, drop, refl, sym, ap}
+use Rattle.std.proofs.Math.Seq.{drop-length}
+use Rattle.std.proofs.lemmas.Bool.{false≢true}
+use Rattle.std.proofs.lemmas.List.{append-nil, append_assoc, take-append-drop}
+use Rattle.control_lines.specs.Coming.{AnswersTakeTheirLine, VisitsLoseNone, line_so_far, unanswered}
+use Rattle.control_lines.specs.Lines.{GathersLine, line_feed}
+use Rattle.control_lines.specs.Talks.{Follows, Hears, awaits_line, wish_behind}
+use Rattle.control_lines.specs.declared.line_buffer.Heard.{Heard}
+use Rattle.control_lines.specs.declared.line_buffer.Heard.TheVariants.{Part, Whole, TooLong}
+use Rattle.control_lines.specs.declared.talk.Talk.{Talk}
+use Rattle.control_lines.specs.declared.talk.Wish.{Wish}
+use Rattle.control_lines.specs.declared.talk.Wish.TheVariants.{Nothing, Answer, More}
+
+awaited : (wish : Wish) → awaits_line wish ≡ true → wish ≡ Nothing
+awaited Nothing is = refl
+awaited Answer is = absurd cc
+awaited More is = absurd cc
+
+-- of the octets of a line that goes on or is whole then, none is lost
+gathered : (heard : Heard) (count : ℕ) (octets : List ℕ) (old new : Talk) → old.wish ≡ Nothing → new.is_leaving ≡ false → GathersLine old.line octets count heard new.line → new.chunk ≡ drop count octets → Follows heard old new
+    → unanswered new ≡ old.line ++ octets
+gathered Part count octets old new none stays gathers left follows =
+    ap (λ (wish : Wish). line_so_far wish new.line ++ new.chunk) (follows.0 ∙ none)
+    ∙ (ap (λ (line : List ℕ). line ++ new.chunk) gathers.2
+    ∙ (ap (λ (chunk : List ℕ). old.line ++ octets ++ chunk) (left ∙ (ap (λ (n : ℕ). drop n octets) gathers.0 ∙ drop-length octets)) ∙ append-nil (old.line ++ octets)))
+gathered Whole count octets old new none stays gathers left follows =
+    ap (λ (wish : Wish). line_so_far wish new.line ++ new.chunk) follows.0
+    ∙ (ap (λ (line : List ℕ). line ++ line_feed ∷ [] ++ new.chunk) gathers.3
+    ∙ (ap (λ (line : List ℕ). line ++ new.chunk) (append_assoc old.line gathers.0 (line_feed ∷ []))
+    ∙ (append_assoc old.line (gathers.0 ++ line_feed ∷ []) new.chunk
+    ∙ ap (λ (behind : List ℕ). old.line ++ behind)
+    (ap (λ (front : List ℕ). front ++ new.chunk) (sym gathers.1) ∙ (ap (λ (chunk : List ℕ). take count octets ++ chunk) left ∙ take-append-drop count octets)))))
+gathered TooLong count octets old new none stays gathers left follows = absurd (false≢true (sym stays ∙ follows.1))
+
+heard : (octets : List ℕ) (old new : Talk) → old.wish ≡ Nothing → new.is_leaving ≡ false → Hears octets old new → unanswered new ≡ old.line ++ octets
+heard octets old new none stays hears = gathered hears.heard hears.count octets old new none stays hears.gathers hears.left hears.follows
+
+at_rest : (old : Talk) → old.wish ≡ Nothing → unanswered old ≡ old.line ++ old.chunk
+at_rest old none = ap (λ (wish : Wish). line_so_far wish old.line ++ old.chunk) none
+
+pub visits_lose_none : VisitsLoseNone
+visits_lose_none false old new before after same stays = ([], inl refl, ap unanswered same ∙ sym (append-nil (unanswered old)))
+visits_lose_none true old new before after (inl writes) stays = ([], inl refl, ap unanswered writes.left ∙ sym (append-nil (unanswered old)))
+visits_lose_none true old new before after (inr (awaits, inl more)) stays =
+    let none = awaited old.wish awaits.0 in
+    ([], inl refl, heard old.chunk old new none stays more.hears ∙ (sym (at_rest old none) ∙ sym (append-nil (unanswered old))))
+visits_lose_none true old new before after (inr (awaits, inr fresh)) stays =
+    let none = awaited old.wish awaits.0 in (
+      fresh.came,
+      inr fresh.read,
+      heard fresh.came old new none stays fresh.hears
+          ∙ sym (ap (λ (had : List ℕ). had ++ fresh.came) (at_rest old none ∙ (ap (λ (chunk : List ℕ). old.line ++ chunk) fresh.none ∙ append-nil old.line))),
+    )
+
+behind_it : (goes_on : Bool) (chunk : List ℕ) → line_so_far (wish_behind goes_on) [] ++ chunk ≡ chunk
+behind_it true chunk = refl
+behind_it false chunk = refl
+
+pub answers_take_their_line : AnswersTakeTheirLine
+answers_take_their_line goes_on octets old new says =
+    ap (λ (behind : List ℕ). line_so_far old.wish old.line ++ behind)
+    (sym (ap (λ (wish : Wish). line_so_far wish new.line ++ new.chunk) says.2 ∙ (ap (λ (line : List ℕ). line_so_far (wish_behind goes_on) line ++ new.chunk) says.0 ∙ (behind_it goes_on new.chunk ∙ says.1))))

@@ -1,0 +1,105 @@
+-- What becomes of an exchange with an operator at a visit (own).
+use Rattle.std.specs.Prelude.{◌≡◌, ◌≢◌, ◌==◌, ◌≤◌, ◌-◌, ◌&&◌, ◌⊎◌, if◌then◌else◌, ℕ, Bool, true, false, not, nat_le, nat_lt, List, [], Option, None, Some, drop, length, ⊤}
+use Rattle.std.specs.Io.KnownBytes.{Consumes}
+use Rattle.control_lines.specs.Lines.{GathersLine}
+use Rattle.control_lines.specs.declared.line_buffer.Heard.{Heard}
+use Rattle.control_lines.specs.declared.line_buffer.Heard.TheVariants.{Part, Whole, TooLong}
+use Rattle.control_lines.specs.declared.talk.Talk.{Talk}
+use Rattle.control_lines.specs.declared.talk.Wish.{Wish}
+use Rattle.control_lines.specs.declared.talk.Wish.TheVariants.{Nothing, Answer, More}
+
+-- nothing has come or gone
+abbrev pub silent : Talk
+silent = record { line = []; chunk = []; saying = []; wish = Nothing; is_leaving = false }
+
+-- what the operator waits for, as others see it: nothing where what was said isn't all written, or the operator is to go
+abbrev pub shown_wish : Talk → Wish
+shown_wish talk = if length talk.saying == 0 && not talk.is_leaving then talk.wish else Nothing
+
+-- what it waits for behind what is said
+abbrev pub wish_behind : Bool → Wish
+wish_behind true = More
+wish_behind false = Nothing
+
+-- these octets are said, with more to come or not, and the line is answered; where there is no memory for them the operator is to go
+abbrev pub Says : Bool → List ℕ → Talk → Talk → Type 0
+Says goes_on octets old new =
+    (new.line ≡ []) × (new.chunk ≡ old.chunk) × (new.wish ≡ wish_behind goes_on)
+    × (((new.saying ≡ octets) × (new.is_leaving ≡ old.is_leaving)) ⊎ ((new.saying ≡ []) × (new.is_leaving ≡ true)))
+
+-- its next line is to come
+abbrev pub awaits_line : Wish → Bool
+awaits_line Nothing = true
+awaits_line Answer = false
+awaits_line More = false
+
+-- a line has begun that isn't whole
+abbrev pub has_begun : Talk → Bool
+has_begun talk = awaits_line talk.wish && (not talk.is_leaving && nat_lt 0 (length talk.line))
+
+-- what octets of a line lead to: it goes on, it is to be answered, or the operator is to go
+abbrev pub Follows : Heard → Talk → Talk → Type 0
+Follows Part old new = (new.wish ≡ old.wish) × (new.saying ≡ old.saying) × (new.is_leaving ≡ old.is_leaving)
+Follows Whole old new = (new.wish ≡ Answer) × (new.saying ≡ old.saying) × (new.is_leaving ≡ old.is_leaving)
+Follows TooLong old new = (new.wish ≡ old.wish) × (new.is_leaving ≡ true)
+
+-- of these octets so many go to the line, up to its line feed at most, and the others stay
+pub record Hears (octets : List ℕ) (old new : Talk) : Type 0 where
+  pub count : ℕ
+  pub heard : Heard
+  pub few : count ≤ length octets
+  pub gathers : GathersLine old.line octets count heard new.line
+  pub left : new.chunk ≡ drop count octets
+  pub follows : Follows heard old new
+
+-- octets of what was said were written
+pub record Writes (old new : Talk) : Type 0 where
+  pub count : ℕ
+  pub some : count ≢ 0
+  pub few : count ≤ length old.saying
+  pub left : new ≡ record old { saying = drop count old.saying }
+
+-- a line goes on by octets that had come already
+pub record HearsMore (old new : Talk) (before after : Option (List ℕ)) : Type 0 where
+  pub some : old.chunk ≢ []
+  pub unread : after ≡ before
+  pub hears : Hears old.chunk old new
+
+-- or else by those that the stream gives
+pub record HearsNew (old new : Talk) (before after : Option (List ℕ)) : Type 0 where
+  pub none : old.chunk ≡ []
+  pub came : List ℕ
+  pub some : came ≢ []
+  pub read : Consumes before after came
+  pub hears : Hears came old new
+
+-- what listening led to, where the operator isn't gone
+abbrev pub Listening : Option Bool → Talk → Talk → Option (List ℕ) → Option (List ℕ) → Type 0
+Listening None old new before after = ⊤
+Listening (Some false) old new before after = new ≡ old
+Listening (Some true) old new before after = HearsMore old new before after ⊎ HearsNew old new before after
+
+-- all is written, and a line is to come
+abbrev pub Awaits : Talk → Type 0
+Awaits talk = (awaits_line talk.wish ≡ true) × (talk.saying ≡ []) × (talk.is_leaving ≡ false)
+
+-- what an exchange was, where the operator isn't gone: nothing came or went, or octets were written, or read
+abbrev pub Exchanges : Option Bool → Talk → Talk → Option (List ℕ) → Option (List ℕ) → Type 0
+Exchanges None old new before after = ⊤
+Exchanges (Some false) old new before after = new ≡ old
+Exchanges (Some true) old new before after = Writes old new ⊎ (Awaits old × Listening (Some true) old new before after)
+
+-- that long ago is too long
+abbrev pub is_late : ℕ → ℕ → Bool
+is_late moved now = nat_le 60 (now - moved)
+
+-- when the operator moved last: now, unless its line only goes on, which it may for a minute
+abbrev pub MovedAt : Bool → ℕ → ℕ → ℕ → Type 0
+MovedAt true now at moved = (moved ≡ at) × (is_late at now ≡ false)
+MovedAt false now at moved = moved ≡ now
+
+-- a visit at a moment to one who moved last at another: who stays has moved, or not been still for too long
+abbrev pub Visits : Option Bool → ℕ → ℕ → ℕ → Talk → Talk → Option (List ℕ) → Option (List ℕ) → Type 0
+Visits None now at moved old new before after = ⊤
+Visits (Some false) now at moved old new before after = (new ≡ old) × (moved ≡ at) × (is_late at now ≡ false)
+Visits (Some true) now at moved old new before after = Exchanges (Some true) old new before after × MovedAt (has_begun old && has_begun new) now at moved
