@@ -1,5 +1,5 @@
 -- A list that is due, by what opening its files has led to.
-use Rattle.std.proofs.Common.{◌≡◌, ℕ, Bool, true, List, Some, Result, Ok, Err, MatchResult, refl, sym, subst}
+use Rattle.std.proofs.Common.{◌≡◌, ℕ, Bool, true, List, Option, Some, Result, Ok, Err, MatchResult, refl, sym, subst}
 use Rattle.net_prefix.specs.declared.payload.Vrp.{Vrp}
 use Rattle.payload_sources.specs.PayloadSources.{IsSetOf, SaysWritten, SourceTexts}
 use Rattle.payload_sources.specs.declared.fault.SourceFile.{SourceFile}

@@ -1,5 +1,5 @@
 -- What is asked for before turns.
-use Rattle.std.proofs.Common.{◌≡◌, ◌++◌, ◌+◌, ℕ, zero, suc, Bool, true, false, List, [], ◌∷◌, Result, Ok, inr, codes, refl, sym, subst, arith}
+use Rattle.std.proofs.Common.{◌≡◌, ◌++◌, ◌+◌, ℕ, zero, suc, Bool, true, false, List, [], ◌∷◌, Result, Ok, inr, codes, refl, subst, arith}
 use Rattle.bgp_conf.specs.declared.command.Command.TheVariants.{Disable}
 use Rattle.bgp_conf.specs.declared.refusal.Refusal.{Refusal}
 use Rattle.speaker.specs.declared.event.Report.{Report}

@@ -48,7 +48,7 @@ pub(crate) fn hold_back<W: Wire + Drop, B: Book<Global>>(
     }
 }
 
-#[tactic(auto, using(crate::proofs::AskedBefore::held_first, crate::proofs::AskedBefore::held_more, crate::proofs::AskedBefore::held_all))]
+#[tactic(auto, using(crate::proofs::AskedBefore::held_first, crate::proofs::AskedBefore::held_more))]
 fn disable_started<W: Wire + Drop, B: Book<Global>>(
     alloc: Global,
     served: &mut SpeakerLoop<W, Global, B>,
