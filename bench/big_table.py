@@ -29,9 +29,10 @@ remote = "127.0.0.11:179"
 slot = 1
 remote = "127.0.0.12:179"
 """
-COMMANDS = """reach 127.0.0.0/8 10
-peer 0 65001 127.0.0.11 127.0.0.1 passive 90 all none
-peer 1 65002 127.0.0.12 127.0.0.1 passive 90 all none
+# A peer connects from 127.0.0.N, and is 192.0.2.N to the speaker.
+COMMANDS = """reach 192.0.2.0/24 10
+peer 0 65001 192.0.2.11 192.0.2.1 passive 90 all none
+peer 1 65002 192.0.2.12 192.0.2.1 passive 90 all none
 enable 0
 enable 1
 """
@@ -76,13 +77,13 @@ def withdrawing(numbers):
 class Peer:
     """A session that is kept alive, whatever comes."""
 
-    def __init__(self, asn, address):
-        self.asn, self.address = asn, address
+    def __init__(self, asn, host):
+        self.asn, self.address = asn, f"192.0.2.{host}"
         self.lock = threading.Lock()
         self.socket = socket.socket()
-        self.socket.bind((address, 0))
+        self.socket.bind((f"127.0.0.{host}", 0))
         self.socket.connect(("127.0.0.1", PORT))
-        self.send(opening(asn, address) + message(4))
+        self.send(opening(asn, self.address) + message(4))
         threading.Thread(target=self.hear, daemon=True).start()
         threading.Thread(target=self.live, daemon=True).start()
 
@@ -228,7 +229,7 @@ def main():
     open("commands", "w").write(COMMANDS)
     process = subprocess.Popen([OVBGPD, "settings"], stdout=subprocess.DEVNULL)
     until(lambda: os.path.exists("socket"), 20)
-    source, flapper = Peer(65001, "127.0.0.11"), Peer(65002, "127.0.0.12")
+    source, flapper = Peer(65001, 11), Peer(65002, 12)
     look("both sessions come up", until(lambda: answer("show sessions").count("Established") == 2, 60))
     begun = time.monotonic()
     source.tell(range(FLAPPING, FLAPPING + ROUTES))

@@ -550,7 +550,9 @@ class Cache:
     def run(self):
         clear("control")
         with open("log", "ab") as log:
-            self.process = subprocess.Popen([self.program, "settings"], stdout=log, stderr=log, stdin=subprocess.DEVNULL, env=self.clock.environment)
+            # What runs in the background may have SIGINT ignored, and hands that on.
+            heed = lambda: signal.signal(signal.SIGINT, signal.SIG_DFL)
+            self.process = subprocess.Popen([self.program, "settings"], stdout=log, stderr=log, stdin=subprocess.DEVNULL, env=self.clock.environment, preexec_fn=heed)
 
     def begin(self):
         self.run()

@@ -58,7 +58,8 @@ def message(kind, body=b''):
     return b'\xff' * 16 + struct.pack('>HB', 19 + len(body), kind) + body
 
 
-OPEN = message(1, struct.pack('>BHHIB', 4, 65002, 90, 0xC0000202, 0))
+# With four-octet AS numbers.
+OPEN = message(1, struct.pack('>BHHIB', 4, 65002, 90, 0xC0000202, 8) + struct.pack('>BBBBI', 2, 6, 65, 4, 65002))
 
 
 def cache(listener, wait):
@@ -96,11 +97,11 @@ def drive(folder, listen, metrics):
     expect('octets came and went', int(figures_at(metrics)[1]['kenyodla_octets_total{direction="in"}']) > 60)
     expect('a command is answered', commanded(control, 'network 10.0.0.0/8').startswith('ok'))
     expect('and one that is refused', commanded(control, 'disable 9').startswith('refused 40'))
-    expect('a peer is added', commanded(control, 'peer 5 65005 127.0.0.5 127.0.0.1 active 90 all all').startswith('ok'))
+    expect('a peer is added', commanded(control, 'peer 5 65005 192.0.2.5 192.0.2.1 active 90 all all').startswith('ok'))
     commanded(control, 'show peers')
     until('they are in the log', 2, lambda: all(any(told in line for line in log) for told in ['operator: network 10.0.0.0/8: ok', 'operator: disable 9: refused 40', 'operator: peer 5 65005']))
     expect('tables are not', not any('show peers' in line for line in log))
-    until('the peer is told by its address', 2, lambda: any('peer 5 127.0.0.5:179' in line for line in log))
+    until('the peer is told by its address', 2, lambda: any('peer 5 192.0.2.5:179' in line for line in log))
     expect('a control octet is written by its number', commanded(control, 'net\x1bwork').startswith('bad line'))
     until('that too', 2, lambda: any('operator: net\\x1bwork: bad line' in line for line in log))
     time.sleep(20)
@@ -116,7 +117,7 @@ def main():
         with socket.create_server(('127.0.0.3', 0)) as free:
             refusing = free.getsockname()[1]
         with open(os.path.join(folder, 'commands'), 'w') as file:
-            file.write('peer 0 65001 127.0.0.3 127.0.0.1 active 90 all all\npeer 1 65002 127.0.0.1 127.0.0.2 passive 90 all all\nenable 0\nenable 1\n')
+            file.write('peer 0 65001 192.0.2.3 192.0.2.1 active 90 all all\npeer 1 65002 192.0.2.4 192.0.2.1 passive 90 all all\nenable 0\nenable 1\n')
         with open(os.path.join(folder, 'settings.toml'), 'w') as file:
             file.write('as = 65000\nidentifier = "192.0.2.1"\ncommands = "commands"\nlisten = "127.0.0.2:0"\nmetrics = "127.0.0.1:0"\ncontrol = "control"\nlog = true\nwait_for_cache = 30\n')
             file.write('cache = "127.0.0.1:%d"\n[[peer]]\nslot = 0\nremote = "127.0.0.3:%d"\n[[peer]]\nslot = 1\nremote = "127.0.0.1:179"\n' % (listener.getsockname()[1], refusing))
