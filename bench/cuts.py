@@ -149,10 +149,44 @@ def is_silent_well(ovplay, script, number, place):
 
 # ---------------------------------------------------------------- All
 
+def pieces_of(held, octets, is_bgp):
+    """The octets, cut behind each message that ends among them, and what is held behind them; none where a header has a fault."""
+    head, length_of = lengths(is_bgp)
+    pieces, place = [], 0
+    while held is not None and len(held) + len(octets) - place >= head:
+        whole = held + octets[place:]
+        if not is_lawful(whole[:head], is_bgp):
+            held = None
+        elif len(whole) < length_of(whole[:head]):
+            break
+        else:
+            end = place + length_of(whole[:head]) - len(held)
+            pieces.append(octets[place:end])
+            held, place = b"", end
+    if place < len(octets):
+        pieces.append(octets[place:])
+        held = None if held is None else held + octets[place:]
+    return pieces, held
+
+
+def with_one_a_line(script):
+    """The script with one message or PDU in each line: one of several would be answered before the others have come."""
+    found, held = [], {}
+    for line in script:
+        parts = LINE.match(line)
+        if parts:
+            pieces, held[parts[1]] = pieces_of(held.get(parts[1], b""), bytes.fromhex(parts[2]), parts[1].startswith("bytes"))
+            found += [f"{parts[1]} {piece.hex().upper()}" for piece in pieces]
+            continue
+        held = {stream: it for stream, it in held.items() if not ends_connection(line, stream.split(" "))}
+        found.append(line)
+    return found
+
+
 def play_case(given, case):
     """How many plays there were, and what was wrong."""
     name, script, _ = case
-    script, answers = scripts.answered(given.ovplay, script)
+    script, answers = scripts.answered(given.ovplay, with_one_a_line(script))
     told = answers_by_line(script, answers)
     longest = max(map(octets_in, script), default=0)
     faults = [f"{name}: cut at {place}" for place in range(1, longest) if not is_cut_well(given.ovplay, script, told, place)]

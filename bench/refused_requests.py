@@ -47,7 +47,7 @@ def pdus(held, octets):
 
 
 def split(script):
-    """The script with one PDU in each line, and all of a client's octets taken around a query."""
+    """The script with one PDU in each line, all for the speaker's cache taken before it, and all of a client's octets around a query."""
     found, held = [], {}
     for line in script:
         words = line.split(" ")
@@ -55,8 +55,7 @@ def split(script):
             stream = " ".join(words[:-1])
             pieces, held[stream] = pdus(held.get(stream, b""), bytes.fromhex(words[-1]))
             for piece in pieces:
-                if words[0] == "cbytes":
-                    found.append(f"ctake {words[1]} 65536")
+                found.append(f"ctake {words[1]} 65536" if words[0] == "cbytes" else "rtake 65536")
                 found.append(f"{stream} {piece.hex().upper()}")
                 if words[0] == "cbytes":
                     found.append(f"ctake {words[1]} 65536")

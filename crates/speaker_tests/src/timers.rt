@@ -61,14 +61,11 @@ impl Look for Opens {
 }
 
 fn are_opened(answers: &[Result<Report, Refusal>]) -> bool {
-    let mut told = 0;
-    for (answer, opened) in answers.iter().zip(OPENED.iter()) {
-        match answer {
-            Ok(report) if report.opened == *opened => told += 1,
-            _ => return false,
-        }
-    }
-    told == OPENED.len()
+    answers.len() == OPENED.len()
+        && answers.iter().zip(OPENED.iter()).all(|(answer, opened)| match answer {
+            Ok(report) => report.opened == *opened,
+            Err(_) => false,
+        })
 }
 
 fn is_as_told<A: Allocator + Clone + Copy>(heap: A, config: Config) -> bool {
