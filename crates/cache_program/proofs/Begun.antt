@@ -15,7 +15,7 @@ use Rattle.payload_sources.specs.declared.fault.SourceFile.{SourceFile}
 use Rattle.cache_program.proofs.Newest.{newest_set-kept_after}
 use Rattle.cache_program.proofs.ServedTurns.{served_are_steps}
 use Rattle.cache_program.specs.FirstList.{IsFirst}
-use Rattle.cache_program.specs.Passing.{have_passed}
+use Rattle.log_lines.specs.Passing.{have_passed}
 use Rattle.cache_program.specs.Rereads.{IsNewest, RereadsWhenDue, Served, newest_set}
 use Rattle.cache_program.specs.ServedTurns.{IsBegun, IsServed, Moment, ServesAll, ServesOnce, ServesSoMany, count_accepted, is_read}
 use Rattle.cache_watch.specs.declared.reread.Reread.{Reread}

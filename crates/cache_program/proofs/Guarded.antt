@@ -15,7 +15,7 @@ use Rattle.payload_sources.specs.PayloadSources.{SourceTexts}
 use Rattle.payload_sources.specs.declared.fault.SourceFile.{SourceFile}
 use Rattle.cache_program.proofs.Begun.{first_is_newest_set}
 use Rattle.cache_program.proofs.Newest.{newest_set-kept_after}
-use Rattle.cache_program.specs.Passing.{have_passed}
+use Rattle.log_lines.specs.Passing.{have_passed}
 use Rattle.cache_program.specs.Rereads.{age_told, HandsIn, KeepsCount, Publishes, Rereads, RereadsFile, RereadsWhenDue, Served, WithdrawsWhere, is_stale, newest_set, served_set, versions}
 use Rattle.cache_program.specs.ServedTurns.{IsBegun, IsServed, Moment, NobodyAsks, ServesAll, ServesOnce, count_accepted, is_read}
 use Rattle.cache_watch.specs.declared.reread.ListFault.{ListFault}

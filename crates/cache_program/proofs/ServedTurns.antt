@@ -7,7 +7,7 @@ use Rattle.net_prefix.specs.declared.payload.Vrp.{Vrp}
 use Rattle.rtr_cache.specs.CacheState.{tells_serial}
 use Rattle.payload_sources.specs.PayloadSources.{SourceTexts}
 use Rattle.payload_sources.specs.declared.fault.SourceFile.{SourceFile}
-use Rattle.cache_program.specs.Passing.{have_passed}
+use Rattle.log_lines.specs.Passing.{have_passed}
 use Rattle.cache_program.specs.declared.every.Every.{Every}
 use Rattle.cache_program.specs.Rereads.{age_told, HandsIn, Publishes, Rereads, RereadsFile, RereadsWhenDue, Served, WithdrawsWhere, is_stale}
 use Rattle.cache_desk.specs.declared.reading.Reading.{Reading}

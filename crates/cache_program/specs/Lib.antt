@@ -5,6 +5,5 @@ pub mod Exits
 pub mod Figures
 pub mod FirstList
 pub mod Opened
-pub mod Passing
 pub mod Rereads
 pub mod ServedTurns

@@ -14,7 +14,7 @@ use Rattle.cache_settings.specs.declared.settings.Stale.{Stale}
 use Rattle.cache_settings.specs.declared.settings.Stale.TheVariants.{Serve, Withdraw}
 use Rattle.cache_program.specs.CacheOfSettings.{IsCacheOf}
 use Rattle.cache_program.specs.FirstList.{IsFirst}
-use Rattle.cache_program.specs.Passing.{have_passed}
+use Rattle.log_lines.specs.Passing.{have_passed}
 use Rattle.cache_program.specs.Rereads.{RereadsWhenDue, Served, WithdrawsWhere, is_stale}
 use Rattle.cache_watch.specs.declared.reread.Reread.{Reread}
 use Rattle.cache_watch.specs.declared.telling.FileAge.{FileAge}

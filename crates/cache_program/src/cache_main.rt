@@ -10,7 +10,7 @@ ghost use Rattle.cache_program.specs.Endings.{EndsSo, IsOfWords, status_at_end};
 ghost use Rattle.cache_program.specs.Checked.{IsChecked, IsCheckedBy};
 ghost use Rattle.cache_program.specs.FirstList.{Passes};
 ghost use Rattle.cache_program.specs.Opened.{AnySecond, AreSettingsAt, Gives, IsOpenedAt, Listens, SystemGives};
-ghost use Rattle.cache_program.specs.Passing.{have_passed};
+ghost use Rattle.log_lines.specs.Passing.{have_passed};
 ghost use Rattle.cache_program.specs.Rereads.{Served};
 ghost use Rattle.cache_program.specs.ServedTurns.{IsBegun, IsServed, ServesOnce, ServesSoMany, oldest_of};
 ghost use Rattle.cache_settings.specs.declared.settings.CacheSettings.{CacheSettings};
@@ -19,7 +19,6 @@ ghost use Rattle.cache_turns.specs.Turns.{idle};
 ghost use Rattle.program_endings.specs.Words.{IsCall};
 ghost use Rattle.wires.specs.Wires.{WireState, nothing_told};
 
-use crate::every::Every;
 use crate::fault::CacheFault;
 use crate::files::{open_at, path_of, slurm_path};
 use crate::help::{HELP, VERSION};
@@ -30,7 +29,7 @@ use cache_desk::{Desk, ListState, Reading, Scene};
 use cache_settings::{CacheSettings, Stale};
 use cache_turns::CacheLoop;
 use cache_watch::{
-    FileAge, LogLine, ROUTER_LINES, Reread, Watch, Watched, age_of, file_age, log, tell_list,
+    FileAge, LogLine, ROUTER_LINES, Reread, Watch, Watched, age_of, file_age, tell_list,
     tell_listening, tell_metrics, tell_routers, tell_status,
 };
 use clocks::{MonotonicClock, SecondsClock, SecondsSince1970, SystemSeconds};
@@ -39,6 +38,7 @@ use control_sockets::ControlSocket;
 use file_paths::Steady;
 use list_guards::ListAge;
 use log_limits::LineLimit;
+use log_lines::{Every, log};
 use metrics_sockets::MetricsSocket;
 use net_wires::{NetWire, REST_MILLISECONDS};
 use payload_sources::SourceSet;
@@ -709,5 +709,5 @@ fn tell_withdrawal<R: Clock, W: Wire + Drop, O: Write>(
         },
         _ => return,
     };
-    log(rt, settings.log, output, line);
+    log(rt, settings.log, output, &line);
 }

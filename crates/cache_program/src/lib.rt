@@ -2,8 +2,8 @@
 //!
 //! `main_cache` reads the words exactly, and tells what the operator has to mend from what the system didn't give
 //! (`specs/Exits.antt`). `ServedList` takes the list again while routers are served: one that can't be had, or that a guard
-//! of the settings refuses, changes nothing, and one that is served already publishes nothing (`specs/Rereads.antt`,
-//! `specs/Passing.antt`). `serve_cache` makes the cache of settings (`specs/CacheOfSettings.antt`), has it publish the list
+//! of the settings refuses, changes nothing, and one that is served already publishes nothing (`specs/Rereads.antt`).
+//! `serve_cache` makes the cache of settings (`specs/CacheOfSettings.antt`), has it publish the list
 //! that is opened at their path (`specs/FirstList.antt`, `specs/Opened.antt`), and serves it by the wire that listens at
 //! their address for so many turns, each at the moment of the clock (`specs/ServedTurns.antt`). It writes nothing where they
 //! ask for no log; the status of `main_cache` is 0 only where that was done, or was to be checked and could begin
@@ -12,7 +12,6 @@
 #![tactic(auto)]
 
 mod cache_main;
-mod every;
 mod exits;
 mod fault;
 mod files;
@@ -24,7 +23,6 @@ mod settings_file;
 
 pub use cache_main::{main_cache, serve_cache};
 pub use cache_watch::{ListFault, LogLine, Reread, Watched};
-pub use every::Every;
 pub use exits::{of_first_list, of_refusal};
 pub use fault::CacheFault;
 pub use laws::{no_fewer_are_served_than_are_wanted, served_turns_are_steps};

@@ -11,9 +11,10 @@ ghost use Rattle.vrp_delta.specs.Versions.{kept_after, newest_serial};
 use crate::fault::CacheFault;
 use crate::files::{open_files, path_of};
 use cache_settings::{CacheSettings, SessionSource};
-use cache_watch::{ListFault, LogLine, log};
+use cache_watch::{ListFault, LogLine};
 use file_paths::Steady;
 use list_guards::Guards;
+use log_lines::log;
 use net_prefix::Vrp;
 use payload_sources::{SourceSet, Sources, read_sources};
 use rtr_cache::{Cache, CacheEvent};
@@ -98,7 +99,7 @@ where
         rt,
         settings.log,
         output,
-        LogLine::Loaded { serial, payloads },
+        &LogLine::Loaded { serial, payloads },
     );
     Ok((serial, read))
 }
@@ -141,7 +142,7 @@ fn read_told<R: Clock + AllocGlobal, L: Read + Steady + Drop, O: Write>(
         Ok(read) => Ok(read),
         Err(why) => {
             let file = why.file();
-            log(rt, settings.log, output, LogLine::Refused { file, why });
+            log(rt, settings.log, output, &LogLine::Refused { file, why });
             Err(CacheFault::bad_list(rt.alloc(), path_of(settings, file), why))
         }
     }

@@ -2,12 +2,13 @@
 ghost use Rattle.std.specs.Prelude.{◌≡◌, ◌-◌, None, false};
 ghost use Rattle.vrp_json.specs.declared.written.Written.TheVariants.{Unread};
 
-use crate::journal::{AtPath, LogLine, log};
+use crate::journal::{AtPath, LogLine};
 use crate::reread::{ListFault, Reread};
 use crate::watched::Watched;
 use cache_figures::CacheFigures;
 use list_guards::ListAge;
 use log_limits::LineLimit;
+use log_lines::log;
 use net_wires::RouterEvent;
 use payload_sources::SourceFault;
 use scrapers::Scrapers;
@@ -22,7 +23,7 @@ pub fn tell_listening<R: Clock, W: Watched, O: Write>(rt: &R, is_on: bool, wire:
     ensures { is_on ≡ false → output.new ≡ output.old }
 {
     if let Some(address) = wire.listens() {
-        log(rt, is_on, output, LogLine::Listens(address));
+        log(rt, is_on, output, &LogLine::Listens(address));
     }
 }
 
@@ -36,7 +37,7 @@ pub fn tell_metrics<R: Clock, P: Scrapers, O: Write>(
     ensures { is_on ≡ false → output.new ≡ output.old }
 {
     if let Some(address) = scrapers.address() {
-        log(rt, is_on, output, LogLine::Metrics(address));
+        log(rt, is_on, output, &LogLine::Metrics(address));
     }
 }
 
@@ -55,7 +56,7 @@ pub fn tell_list<R: Clock, O: Write>(
         Reread::Refused(why) => tell_refused(rt, is_on, why, path, output),
         Reread::Same => {}
         Reread::Published(serial) => {
-            log(rt, is_on, output, LogLine::Loaded { serial, payloads });
+            log(rt, is_on, output, &LogLine::Loaded { serial, payloads });
         }
     }
 }
@@ -67,9 +68,9 @@ fn tell_refused<R: Clock, O: Write>(rt: &R, is_on: bool, why: ListFault, path: &
     let line = LogLine::Refused { file, why };
     match why {
         ListFault::Source(SourceFault::Changed(_)) => {
-            log(rt, is_on, output, AtPath { path, line });
+            log(rt, is_on, output, &AtPath { path, line });
         }
-        _ => log(rt, is_on, output, line),
+        _ => log(rt, is_on, output, &line),
     }
 }
 
@@ -93,11 +94,11 @@ pub fn tell_routers<R: Clock, W: Watched, O: Write>(
     }
     if let Some(lines) = limit.tick(now) {
         let most = ROUTER_LINES;
-        log(rt, is_on, output, LogLine::LeftOut { lines, most });
+        log(rt, is_on, output, &LogLine::LeftOut { lines, most });
     }
     for event in wire.seen() {
         if matches!(event, RouterEvent::NoDescriptors) || limit.admits() {
-            log(rt, is_on, output, LogLine::Router(*event));
+            log(rt, is_on, output, &LogLine::Router(*event));
         }
     }
 }
@@ -120,7 +121,7 @@ pub fn tell_status<R: Clock, O: Write>(
         age: ListAge(age),
         seconds,
     };
-    log(rt, is_on, output, status);
+    log(rt, is_on, output, &status);
     if let Some(most) = most {
         tell_age(rt, is_on, age, most, output);
     }
@@ -135,7 +136,7 @@ fn tell_age<R: Clock, O: Write>(rt: &R, is_on: bool, age: Option<u64>, most: u32
         Some(seconds) => LogLine::Old { seconds, most },
         None => LogLine::NoAge,
     };
-    log(rt, is_on, output, line);
+    log(rt, is_on, output, &line);
 }
 
 /// How many seconds ago a list was written, if that can be told: since the second that it tells; where it tells none, since
