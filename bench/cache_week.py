@@ -28,7 +28,7 @@ import tempfile
 import threading
 import time
 
-MOST_GO, HOUR, MAX_AGE, PATIENCE = 10, 3600, 5 * 3600, 60
+MOST_GO, HOUR, MAX_AGE, SOON, PATIENCE = 10, 3600, 5 * 3600, 20, 60
 SETTINGS = """listen = "127.0.0.1:{port}"
 csv = "list"
 session = "clock"
@@ -169,8 +169,8 @@ def rpki_client(rows, expires=True):
             "bgpsec_keys": [], "aspas": []}
 
 
-def routinator(rows):
-    return {"metadata": {"generated": 1, "generatedTime": "2026-11-22T00:00:00Z"},
+def routinator(rows, now):
+    return {"metadata": {"generated": int(now), "generatedTime": time.strftime("%Y-%m-%dT%H:%M:%SZ", time.gmtime(now))},
             "roas": [{"asn": f"AS{a}", "prefix": p, "maxLength": m, "ta": "ta"} for p, m, a, _ in rows]}
 
 
@@ -224,7 +224,7 @@ class Validator:
             ends = self.chance.choice(["\n", "\r\n"])
             octets = (ends.join(lines) + ends).encode()
         else:
-            lists = [rpki_client(listed), routinator(listed), rpki_client(listed, False)]
+            lists = [rpki_client(listed), routinator(listed, self.clock.now()), rpki_client(listed, False)]
             octets = json.dumps(lists[form - 4], indent=self.chance.choice([None, 2])).encode()
         if form not in (1, 3, 4):
             rows = {payload: None for payload in rows}
@@ -743,9 +743,9 @@ class Week:
         if loaded:
             want(loaded[-1] == (str(self.model.serial), str(len(self.model.served))), f"the log's last list is {loaded[-1]}")
 
-    def stale(self, word):
+    def stale(self):
         """Three days without a list."""
-        self.step = f"three stale days with stale = {word}"
+        self.step = "three stale days"
         self.validator.go_on()
         self.offer(self.validator.offer())
         self.reread()
@@ -756,10 +756,13 @@ class Week:
             self.hours(2 * HOUR)
             age = (number + 1) * 2 * HOUR if not self.clock.faked else self.clock.now() - written
             self.is_told_old(age)
-            if word == "withdraw" and age > MAX_AGE:
-                self.is_withdrawn()
-            elif number % 6 == 0:
+            if number % 6 == 0:
                 self.compare()
+        self.bring()
+        print("week: three stale days", flush=True)
+
+    def bring(self):
+        """A newer list, which an operator accepts where a guard refuses it."""
         self.validator.go_on()
         self.offer(self.validator.offer())
         if self.model.fault() is not None:
@@ -770,7 +773,6 @@ class Week:
         else:
             self.reread()
         self.compare()
-        print(f"week: three stale days, {word}", flush=True)
 
     def is_told_old(self, age):
         """The log warns, at its next status line, just where the file is older than it may be."""
@@ -799,13 +801,20 @@ class Week:
         want(set(own.errors) == {2}, f"a router that asks on behind a withdrawal is answered by {own.errors}")
 
     def with_withdraw(self):
-        self.step = "a beginning with stale = \"withdraw\""
+        """Three lists that grow too old. Their ages are seconds since they were read, which no faked clock makes pass."""
+        self.step = "lists that are withdrawn"
+        self.cache.settings = self.cache.settings.replace(f"max_age = {MAX_AGE}", f"max_age = {SOON}")
         if not self.cache.takes('stale = "withdraw"\n'):
             self.cache.write("")
             print("week: this cache doesn't know stale = \"withdraw\": left out", flush=True)
             return
         self.restart("stop")
-        self.stale("withdraw")
+        for _ in range(3):
+            self.bring()
+            time.sleep(SOON)
+            self.is_withdrawn()
+        self.bring()
+        print("week: three lists withdrawn", flush=True)
 
     def end(self):
         for router in self.routers:
@@ -816,7 +825,7 @@ class Week:
 
     def all(self):
         self.live()
-        self.stale("serve")
+        self.stale()
         self.with_withdraw()
         self.cache.end("stop")
         reader = self.routers[0]

@@ -8,7 +8,7 @@ use Rattle.rtr_cache.specs.CacheState.{tells_serial}
 use Rattle.payload_sources.specs.PayloadSources.{SourceTexts}
 use Rattle.payload_sources.specs.declared.fault.SourceFile.{SourceFile}
 use Rattle.log_lines.specs.Passing.{have_passed}
-use Rattle.cache_program.specs.declared.every.Every.{Every}
+use Rattle.log_lines.specs.declared.every.Every.{Every}
 use Rattle.cache_program.specs.Rereads.{age_told, HandsIn, Publishes, Rereads, RereadsFile, RereadsWhenDue, Served, WithdrawsWhere, is_stale}
 use Rattle.cache_desk.specs.declared.reading.Reading.{Reading}
 use Rattle.cache_program.specs.ServedTurns.{Moment, NobodyAsks, ServesAll, ServesOnce, ServesSoMany, count_accepted, is_read, nows}

@@ -656,6 +656,7 @@ where
     ensures due { reread.new ≡ record reread.old { last = if have_passed reread.old.seconds reread.old.last now then now else reread.old.last } }
     ensures serves { OnOk result ((age : FileAge) × ServesOnce (Gives (FnReturnsAt F.Fn opens.now) L.remaining settings.now) asked (have_passed reread.old.seconds reread.old.last now) now age served.old served.new) }
 {
+    tell_asked(rt, settings, asked, output);
     let age = list_age(rt, settings);
     let was_withdrawn = served.is_withdrawn();
     let (led, turned) = served.serve(rt.alloc(), now, age, asked, reread, settings, second, opens);
@@ -667,6 +668,23 @@ where
     tell_withdrawal(rt, settings, served, now, was_withdrawn, led, output);
     turned?;
     Ok(())
+}
+
+// The log tells which reading operators ask for.
+fn tell_asked<R: Clock, O: Write>(
+    rt: &R,
+    settings: &CacheSettings,
+    asked: Option<Reading>,
+    output: &mut O,
+)
+    ensures { settings.now.log ≡ false → output.new ≡ output.old }
+{
+    let line = match asked {
+        None => return,
+        Some(Reading::Reread) => LogLine::Reread,
+        Some(Reading::Accept) => LogLine::Accept,
+    };
+    log(rt, settings.log, output, &line);
 }
 
 // The log tells what reading the list has led to.

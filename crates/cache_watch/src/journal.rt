@@ -61,6 +61,12 @@ pub enum LogLine {
     /// Scrapers connect here.
     #[error("metrics at {0}")]
     Metrics(SocketAddr),
+    /// An operator has the list read.
+    #[error("operator: reread")]
+    Reread,
+    /// An operator accepts the list that was refused.
+    #[error("operator: accept")]
+    Accept,
 }
 
 /// A line with the path of the file that it is of.

@@ -11,10 +11,13 @@ use crate::fault::SpeakerFault;
 use crate::files::{lines_of, octets_at};
 use crate::help::{HELP, VERSION};
 use crate::settings_file::read_settings;
+use crate::settled::settled;
+use bgp_conf::Conf;
 use decision::Book;
 use program_endings::{Aside, print};
 use speaker::Speaker;
 use speaker_settings::SpeakerSettings;
+use speaker_warnings::write_warnings;
 use std::alloc::{AllocGlobal, Global};
 use std::io::Write;
 use std::rt::Files;
@@ -47,8 +50,8 @@ where
     ensures { OnOk result (IsChecked path.now) }
 {
     let settings = settings_at(rt, path)?;
-    let _speaker = speaker_of::<B, _>(rt, &settings)?;
-    tell_checked(path, &settings, output)
+    let speaker = speaker_of::<B, _>(rt, &settings)?;
+    tell_checked(path, &settings, speaker.conf(), output)
 }
 
 /// The settings in the file at this path.
@@ -74,10 +77,11 @@ where
     commanded(rt.alloc(), settings, |path: &str| lines_of(rt, path))
 }
 
-// Tells what settings are.
+// Tells what settings are, and what of them is hardly meant.
 fn tell_checked<O: Write>(
     path: &str,
     settings: &SpeakerSettings,
+    conf: &Conf<Global>,
     output: &mut O,
 ) -> Result<(), SpeakerFault> {
     let asn = settings.asn.0;
@@ -88,5 +92,6 @@ fn tell_checked<O: Write>(
         "{path}: settings of AS {asn} with {peers} peers\n{commands}: commands that are obeyed\n"
     );
     written.map_err(SpeakerFault::Output)?;
+    write_warnings(conf, settled(settings), output).map_err(SpeakerFault::Output)?;
     output.flush().map_err(SpeakerFault::Output)
 }

@@ -4,6 +4,7 @@ ghost use Rattle.speaker_program.specs.Endings.{IsOfWords};
 
 use crate::behind::Behind;
 use crate::fault::SpeakerFault;
+use crate::settled::settled;
 use crate::standing::{payload_count, route_count, standing_of};
 use bgp_conf::Command;
 use command_lines::CommandLine;
@@ -59,15 +60,8 @@ impl<'a, S: Scrapers + Drop> LoopJournal<'a, S> {
         tell_listening(rt, &journal, served.wire().listens(), output);
         tell_metrics(rt, &journal, watch.address(), output);
         journal.begins(rt, &Behind { served }, output);
-        let has_cache = settings.cache.is_some();
-        warn(
-            rt,
-            settings.log,
-            served.speaker().conf(),
-            peers,
-            has_cache,
-            output,
-        );
+        let conf = served.speaker().conf();
+        warn(rt, settings.log, conf, settled(settings), output);
         Ok(LoopJournal {
             alloc,
             journal,

@@ -24,6 +24,7 @@ mod journal;
 mod laws;
 mod serving;
 mod settings_file;
+mod settled;
 mod standing;
 mod taking;
 mod waiting;

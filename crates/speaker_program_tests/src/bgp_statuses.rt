@@ -460,10 +460,14 @@ fn commands_that_arent_there_are_told(rt: HostRuntime) -> Result<(), Fail> {
     Ok(())
 }
 
+// What of them is hardly meant.
+const UNREACHED: &str =
+    "warning: peer 0 192.0.2.11: no reach entry covers its address, so no route with this next hop is chosen";
+
 // Whether settings of this path with these commands are told to be good.
 fn is_checked(rt: &HostRuntime, path: &str, commands: &str) -> bool {
     match format!(in rt.alloc();
-        "{path}: settings of AS 65000 with 1 peers\n{commands}: commands that are obeyed\n"
+        "{path}: settings of AS 65000 with 1 peers\n{commands}: commands that are obeyed\n{UNREACHED}\n"
     ) {
         Ok(output) => {
             let good = Ending {

@@ -14,10 +14,12 @@ const COMMANDS: &str =
     "reach 198.51.100.0/24 10\npolicy v state invalid reject ; accept\npolicy w accept\npeer 0 65001 192.0.2.11 192.0.2.1 passive 180 v all\npeer 1 65002 198.51.100.1 192.0.2.1 passive 180 all all\nenable 1\n";
 
 // The lines of the log behind their times, and what is printed behind the turns.
-const WARNINGS: [&str; 6] = [
+const WARNINGS: [&str; 8] = [
     " warning: peer 0 192.0.2.12:179: no line of the commands enables it",
     " warning: peer 0 192.0.2.11: its remote 192.0.2.12:179 is at another address",
     " warning: peer 0 192.0.2.11: no reach entry covers its address, so no route with this next hop is chosen",
+    " warning: peer 0 192.0.2.11: it is passive, and the settings have no 'listen'",
+    " warning: peer 1 198.51.100.1: it is passive, and the settings have no 'listen'",
     " warning: policy v: a rule asks for a state, and without a cache no route is valid or invalid",
     " warning: policy w: no peer uses it",
     "end",

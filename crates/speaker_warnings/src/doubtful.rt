@@ -1,47 +1,81 @@
 //! What is warned of.
 ghost use Rattle.std.specs.Prelude.{◌≡◌, false};
 
+use crate::told::{InLog, OnOutput, Told};
 use crate::warning::Warning;
+use bgp_attr::Mode;
 use bgp_conf::{Conf, ConfiguredPeer, PEER_SLOTS, PolicyName, Rule};
-use log_lines::log;
 use origin_valid::Validity;
 use policy::MAX_POLICIES;
 use std::alloc::Global;
-use std::io::Write;
+use std::io::{self, Write};
 use std::net::{IpAddr, Ipv4Addr, SocketAddr};
 use std::rt::Clock;
 
-/// Writes a line to the log, where there is one, for each thing of the configuration that is hardly meant; the settings place
-/// the peers there, and tell whether there is a cache.
+/// What the settings say beside the commands.
+#[derive(Clone, Copy)]
+pub struct Settled<'a> {
+    /// Where the peer of each slot is.
+    pub remotes: &'a [(u8, SocketAddr)],
+    /// Whether there is a cache.
+    pub has_cache: bool,
+    /// Whether the speaker listens.
+    pub listens: bool,
+    /// Whether peers are to wait for payloads.
+    pub waits: bool,
+}
+
+/// Writes a line to the log, where there is one, for each thing of the configuration that is hardly meant.
 pub fn warn<R: Clock, O: Write>(
     rt: &R,
     is_on: bool,
     conf: &Conf<Global>,
-    remotes: &[(u8, SocketAddr)],
-    has_cache: bool,
+    settled: Settled<'_>,
     output: &mut O,
 )
     ensures { is_on ≡ false → output.new ≡ output.old }
 {
     if is_on {
-        warn_of_peers(rt, conf, remotes, output);
-        warn_of_policies(rt, conf, has_cache, output);
+        tell_all(conf, settled, &mut InLog { rt, output });
     }
 }
 
-fn warn_of_peers<R: Clock, O: Write>(
-    rt: &R,
+/// Writes the same lines without their time.
+pub fn write_warnings<O: Write>(
     conf: &Conf<Global>,
-    remotes: &[(u8, SocketAddr)],
+    settled: Settled<'_>,
     output: &mut O,
-) {
+) -> io::Result<()> {
+    let mut told = OnOutput {
+        output,
+        written: Ok(()),
+    };
+    tell_all(conf, settled, &mut told);
+    told.written
+}
+
+fn tell_all<T: Told>(conf: &Conf<Global>, settled: Settled<'_>, told: &mut T) {
+    if settled.waits && !settled.has_cache {
+        told.tell(&Warning::NoCache);
+    }
+    tell_peers(conf, settled, told);
+    tell_policies(conf, settled.has_cache, told);
+}
+
+fn tell_peers<T: Told>(conf: &Conf<Global>, settled: Settled<'_>, told: &mut T) {
     for slot in 0..PEER_SLOTS {
         if let Some(peer) = conf.peer(slot) {
-            if let Some(warning) = elsewhere(slot, &peer, remotes) {
-                log(rt, true, output, &warning);
+            if let Some(warning) = elsewhere(slot, &peer, settled.remotes) {
+                told.tell(&warning);
             }
             if let Some(warning) = unreached(conf, slot, &peer) {
-                log(rt, true, output, &warning);
+                told.tell(&warning);
+            }
+            if peer.mode == Mode::Passive && !settled.listens {
+                told.tell(&Warning::Deaf {
+                    slot,
+                    address: Ipv4Addr::from_bits(peer.address),
+                });
             }
         }
     }
@@ -68,19 +102,14 @@ fn unreached(conf: &Conf<Global>, slot: u8, peer: &ConfiguredPeer) -> Option<War
     Some(Warning::Unreached { slot, address })
 }
 
-fn warn_of_policies<R: Clock, O: Write>(
-    rt: &R,
-    conf: &Conf<Global>,
-    has_cache: bool,
-    output: &mut O,
-) {
+fn tell_policies<T: Told>(conf: &Conf<Global>, has_cache: bool, told: &mut T) {
     for index in 0..MAX_POLICIES {
         if let Some((name, rules)) = conf.policy(index) {
             if !is_used(conf, name) {
-                log(rt, true, output, &Warning::Unused(name));
+                told.tell(&Warning::Unused(name));
             }
             if !has_cache && asks_for_a_state(rules) {
-                log(rt, true, output, &Warning::Stateless(name));
+                told.tell(&Warning::Stateless(name));
             }
         }
     }

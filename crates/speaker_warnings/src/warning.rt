@@ -20,6 +20,15 @@ pub enum Warning {
         address: Ipv4Addr,
         remote: SocketAddr,
     },
+    /// The slot's peer is to connect, and the speaker doesn't listen.
+    #[error("warning: peer {slot} {address}: it is passive, and the settings have no 'listen'")]
+    Deaf {
+        slot: u8,
+        address: Ipv4Addr,
+    },
+    /// Peers are to wait for payloads, and there is no cache.
+    #[error("warning: wait_for_cache: there is no cache to wait for")]
+    NoCache,
     /// No peer uses the policy.
     #[error("warning: policy {0}: no peer uses it")]
     Unused(PolicyName),

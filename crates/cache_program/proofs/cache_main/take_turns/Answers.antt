@@ -1,6 +1,6 @@
 use Rattle.std.proofs.Common.{◌+◌, ap, arith, refl, sym, ◌∙◌}
 use Rattle.std.proofs.lemmas.Bool.{false≢true}
-use Rattle.cache_program.specs.declared.every.Every.{Every}
+use Rattle.log_lines.specs.declared.every.Every.{Every}
 use Rattle.cache_program.proofs.ServedTurns.{all_served, fewer_served, none_served, turn_served}
 use Rattle.cache_program.proofs.cache_main.take_turns.Goals as goal
 

@@ -3,6 +3,6 @@ use Rattle.speaker_program.proofs.checking.check.Goals as goal
 
 pub returns : goal.returns
 returns g c =
-    let commands = c.in_ok-_speaker.ensures.commands in
+    let commands = c.in_ok-speaker.ensures.commands in
     on_ok_of c.tell_checked.result
-    (record { settings = c.in_ok-settings.settings; read = c.in_ok-settings.ensures; text = commands.0; given = commands.1; speaker = c.in_ok-_speaker._speaker; commanded = commands.2; slots = c.in_ok-_speaker.ensures.slots })
+    (record { settings = c.in_ok-settings.settings; read = c.in_ok-settings.ensures; text = commands.0; given = commands.1; speaker = c.in_ok-speaker.speaker; commanded = commands.2; slots = c.in_ok-speaker.ensures.slots })
