@@ -13,37 +13,64 @@ use std::io::{self, Read};
 use std::test::Fail;
 use wires::Wire;
 
-// A file without octets, which was written to.
+const LIST: &[u8] =
+    b"ASN,IP Prefix,Max Length,Trust Anchor\nAS1,192.0.2.0/24,24,ta\nAS2,198.51.100.0/24,24,ta\n";
+
+const NO_EXCEPTIONS: &[u8] =
+    br#"{"slurmVersion": 1, "validationOutputFilters": {"prefixFilters": [], "bgpsecFilters": []}, "locallyAddedAssertions": {"prefixAssertions": [], "bgpsecAssertions": []}}"#;
+
+// A file without fault, which may be written to while it is read.
 #[derive(Drop)]
-struct Changing;
+struct File<'a> {
+    rest: &'a [u8],
+    changes: bool,
+}
 
-impl Read for Changing {
-    fn read(&mut self, _buf: &mut [u8]) -> io::Result<usize> {
-        Ok(0)
+impl<'a> Read for File<'a> {
+    fn read(&mut self, buf: &mut [u8]) -> io::Result<usize> {
+        self.rest.read(buf)
     }
 }
 
-impl Steady for Changing {
+impl<'a> Steady for File<'a> {
     fn has_changed(&self) -> bool {
-        true
+        self.changes
     }
 }
 
-// Whether what was served is served on where the file changes.
-fn stays<W: Wire + Drop>(alloc: Global, served: &mut ServedList<W>) -> bool {
-    let changed = ListFault::Source(SourceFault::Changed(SourceFile::List));
-    is_published(alloc, served, FIRST, 1)
-        && reread_changing(alloc, served) == Reread::Refused(changed)
-        && served.payloads() == 1
-}
-
-fn reread_changing<W: Wire + Drop>(alloc: Global, served: &mut ServedList<W>) -> Reread {
+// What reading the list leads to, where these files change.
+fn reread_changing<W: Wire + Drop>(
+    alloc: Global,
+    served: &mut ServedList<W>,
+    list: bool,
+    slurm: bool,
+) -> Reread {
     let sources = Sources {
-        list: Changing,
-        slurm: None,
+        list: File {
+            rest: LIST,
+            changes: list,
+        },
+        slurm: Some(File {
+            rest: NO_EXCEPTIONS,
+            changes: slurm,
+        }),
         second: None,
     };
     served.reread(alloc, 0, FileAge::NEW, None, Ok(sources))
+}
+
+fn refused(file: SourceFile) -> Reread {
+    Reread::Refused(ListFault::Source(SourceFault::Changed(file)))
+}
+
+// Whether what was served is served on where a file changes, and the list is taken where none does.
+fn stays<W: Wire + Drop>(alloc: Global, served: &mut ServedList<W>) -> bool {
+    is_published(alloc, served, FIRST, 1)
+        && reread_changing(alloc, served, true, false) == refused(SourceFile::List)
+        && reread_changing(alloc, served, false, true) == refused(SourceFile::Slurm)
+        && served.payloads() == 1
+        && reread_changing(alloc, served, false, false) == Reread::Published(2)
+        && served.payloads() == 2
 }
 
 #[test]

@@ -40,5 +40,14 @@ pub fn named_slot(line: &[u8]) -> Option<u8> {
         .or(text.strip_prefix("disable "))
         .or(text.strip_prefix("clear "))
         .or(text.strip_prefix("drop "))?;
+    if !is_number(number.as_bytes()) {
+        return None;
+    }
     number.parse::<u8>().ok()
+}
+
+// Whether these are the digits of a number as a command has it: without a sign, and without zeros in front.
+fn is_number(digits: &[u8]) -> bool {
+    let is_padded = digits.len() > 1 && digits.starts_with(b"0");
+    !is_padded && digits.iter().all(|octet| octet.is_ascii_digit())
 }

@@ -7,7 +7,9 @@ use Rattle.program_endings.specs.declared.aside.Aside.{Aside}
 use Rattle.program_endings.specs.declared.aside.Aside.TheVariants.{Help, Version, Check}
 use Rattle.program_endings.specs.declared.fault.ExitFault.{ExitFault}
 use Rattle.program_endings.specs.declared.fault.ExitFault.TheVariants.{Arguments, Settings, BadLine, RefusedLine, Device}
+use Rattle.speaker_program.proofs.AskedBefore.{asked_before}
 use Rattle.speaker_program.specs.Begun.{IsServed, TakesTurnsOf, has_commands, patience_of}
+use Rattle.speaker_program.specs.HeldBack.{waits}
 use Rattle.speaker_program.specs.Checked.{IsChecked, IsCheckedBy}
 use Rattle.speaker_program.specs.Endings.{EndsSo, status_at_end}
 use Rattle.speaker_program.specs.Exits.{exit_of_fault}
@@ -78,13 +80,15 @@ on_ok_of (Ok done) is = is
 on_ok_of (Err why) is = tt
 
 -- turns leave it where the wire listens
-taken_listens : (commands : Bool) (count : ℕ) (before behind : List ℕ) (old new : Turns) → TakesTurnsOf commands count before behind old new → new.counts.wire.listens ≡ old.counts.wire.listens
-taken_listens false count before behind old new takes = listens_on takes.moments old new (well_are_turns takes.moments old new takes.taken)
-taken_listens true count before behind old new takes = moves_listen takes.moves old new takes.made
+taken_listens : (commands wait : Bool) (count : ℕ) (before behind : List ℕ) (old new : Turns) → TakesTurnsOf commands wait count before behind old new → new.counts.wire.listens ≡ old.counts.wire.listens
+taken_listens false wait count before behind old new takes = listens_on takes.moments old new (well_are_turns takes.moments old new takes.taken)
+taken_listens true wait count before behind old new takes =
+    let asked = asked_before wait takes.0 count before behind old takes.1 new takes.2 takes.3 in
+    moves_listen asked.moves old new asked.made
 
 -- the wire listens where it was opened
 pub listens_there : (Told : Option (List ℕ) → Type 0) (settings : SpeakerSettings) (count : ℕ) (before behind : List ℕ) (turns : Turns) (listens : Option SocketAddr) → IsServed Told (λ wire. wire ≡ nothing_told listens) settings count before behind turns → turns.counts.wire.listens ≡ listens
 listens_there Told settings count before behind turns listens is =
-    taken_listens (has_commands settings) count before behind is.begun turns is.takes
+    taken_listens (has_commands settings) (waits settings) count before behind is.begun turns is.takes
     ∙ (ap (λ (t : Turns). t.counts.wire.listens) is.begins.remotes
     ∙ (remotes_listen settings.peers.items settings.cache (with_patience (patience_of settings) (idle is.begins.speaker is.begins.wire)) ∙ ap (λ (w : WireState). w.listens) is.begins.opened))

@@ -8,7 +8,7 @@ use Rattle.speaker_turns.specs.declared.patience.Patience.{Patience}
 use Rattle.wires.specs.Wires.{WireState}
 use Rattle.speaker_program.specs.Commanded.{IsCommanded, TakesSoMany}
 use Rattle.speaker_program.specs.declared.fault.SpeakerFault.{SpeakerFault}
-use Rattle.speaker_program.specs.HeldBack.{waits}
+use Rattle.speaker_program.specs.HeldBack.{AreHeldBack, waits}
 use Rattle.speaker_program.specs.Slots.{HasJust}
 use Rattle.speaker_program.specs.ToldConfig.{config_of}
 use Rattle.speaker_desk.specs.Attended.{AttendsTurns}
@@ -57,11 +57,15 @@ pub record IsBegun (Told : Option (List ℕ) → Type 0) (Opened : WireState →
 abbrev pub has_commands : SpeakerSettings → Bool
 has_commands settings = is_some settings.control || waits settings
 
--- so many turns, each at the moment that the clock told for it; where commands may come between them, so many or fewer, with what was
--- asked for before and between them
-abbrev pub TakesTurnsOf : Bool → ℕ → List ℕ → List ℕ → Turns → Turns → Type 0
-TakesTurnsOf false count before behind old new = TakesSoMany {E = SpeakerFault} count (Ok tt) before behind old new
-TakesTurnsOf true count before behind old new = AttendsTurns {E = AttendFault} count (Ok tt) before behind old new
+-- so many turns or fewer with commands between them, before which peers are disabled that are to wait, where they are, and no others
+abbrev pub AttendsBehind : Bool → ℕ → List ℕ → List ℕ → Turns → Turns → Type 0
+AttendsBehind wait count before behind old new =
+    (slots : List ℕ) × (mid : Turns) × AreHeldBack wait slots old mid × AttendsTurns {E = AttendFault} count (Ok tt) before behind mid new
+
+-- so many turns, each at the moment that the clock told for it, or those where commands may come between them
+abbrev pub TakesTurnsOf : Bool → Bool → ℕ → List ℕ → List ℕ → Turns → Turns → Type 0
+TakesTurnsOf false wait count before behind old new = TakesSoMany {E = SpeakerFault} count (Ok tt) before behind old new
+TakesTurnsOf true wait count before behind old new = AttendsBehind wait count before behind old new
 
 -- what is seen on the wire is kept: for a log, or for scrapers
 abbrev pub is_watched : SpeakerSettings → Bool
@@ -71,4 +75,4 @@ is_watched settings = settings.log || is_some settings.metrics
 pub record IsServed (Told : Option (List ℕ) → Type 0) (Opened : WireState → Type 0) (settings : SpeakerSettings) (count : ℕ) (before behind : List ℕ) (turns : Turns) : Type 0 where
   pub begun : Turns
   pub begins : IsBegun Told Opened settings begun
-  pub takes : TakesTurnsOf (has_commands settings) count before behind begun turns
+  pub takes : TakesTurnsOf (has_commands settings) (waits settings) count before behind begun turns

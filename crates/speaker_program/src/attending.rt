@@ -2,6 +2,8 @@
 ghost use Rattle.std.specs.Prelude.{◌≡◌, Ok, IfErr, OnOk, false};
 ghost use Rattle.speaker_program.specs.Endings.{IsOfWords};
 ghost use Rattle.speaker_desk.specs.Attended.{AttendsTurns};
+ghost use Rattle.speaker_program.specs.Begun.{AttendsBehind};
+ghost use Rattle.speaker_program.specs.HeldBack.{waits};
 ghost use Rattle.speaker_desk.specs.declared.attending.AttendFault.{AttendFault as TheAttendFault};
 
 use crate::fault::SpeakerFault;
@@ -46,7 +48,7 @@ where
     D: FnOnce(&str) -> io::Result<P>,
     requires controls { D.IsAlwaysCallable controls }
     ensures fault { IfErr result (λ fault. ¬ (IsOfWords fault)) }
-    ensures turns { OnOk result (AttendsTurns {E = TheAttendFault} turns (Ok tt) (C.readings clock.old) (C.readings clock.new) served.old served.new) }
+    ensures turns { OnOk result (AttendsBehind (waits settings.now) turns (C.readings clock.old) (C.readings clock.new) served.old served.new) }
     ensures silent { N.writes journal.old ≡ false → output.new ≡ output.old }
 {
     let Some(path) = &settings.control else {
@@ -81,7 +83,7 @@ fn attend_by<
     output: &mut O,
 ) -> Result<(), SpeakerFault>
     ensures fault { IfErr result (λ fault. ¬ (IsOfWords fault)) }
-    ensures turns { OnOk result (AttendsTurns {E = TheAttendFault} turns (Ok tt) (C.readings clock.old) (C.readings clock.new) served.old served.new) }
+    ensures turns { OnOk result (AttendsBehind (waits settings.now) turns (C.readings clock.old) (C.readings clock.new) served.old served.new) }
     ensures silent { N.writes journal.old ≡ false → output.new ≡ output.old }
 {
     let slots = hold_back(rt.alloc(), settings, served)?;

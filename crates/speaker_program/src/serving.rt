@@ -2,6 +2,7 @@
 ghost use Rattle.std.specs.Prelude.{◌≡◌, Ok, IfErr, IfOk, OnOk, false, string_bytes};
 ghost use Rattle.std.specs.Fn.{FnOnceReturnsAt};
 ghost use Rattle.speaker_program.specs.Endings.{IsOfWords};
+ghost use Rattle.speaker_program.specs.HeldBack.{waits};
 ghost use Rattle.speaker_program.specs.Begun.{IsServed, StateFrom, TakesTurnsOf, TextFrom, has_commands, is_watched};
 
 use crate::attending::attend_all;
@@ -107,7 +108,7 @@ where
     requires controls { D.IsAlwaysCallable controls }
     requires scrapes { E.IsAlwaysCallable scrapes }
     ensures fault { IfErr result (λ fault. ¬ (IsOfWords fault)) }
-    ensures turns { OnOk result (TakesTurnsOf (has_commands settings.now) turns (C.readings clock.old) (C.readings clock.new) served.old served.new) }
+    ensures turns { OnOk result (TakesTurnsOf (has_commands settings.now) (waits settings.now) turns (C.readings clock.old) (C.readings clock.new) served.old served.new) }
 {
     serve_turns(
         rt, settings, turns, output, clock, served, controls, scrapes,
@@ -154,7 +155,7 @@ where
     requires controls { D.IsAlwaysCallable controls }
     requires scrapes { E.IsAlwaysCallable scrapes }
     ensures fault { IfErr result (λ fault. ¬ (IsOfWords fault)) }
-    ensures turns { OnOk result (TakesTurnsOf (has_commands settings.now) turns (C.readings clock.old) (C.readings clock.new) served.old served.new) }
+    ensures turns { OnOk result (TakesTurnsOf (has_commands settings.now) (waits settings.now) turns (C.readings clock.old) (C.readings clock.new) served.old served.new) }
     ensures quiet { settings.now.log ≡ false → output.new ≡ output.old }
 {
     let exchange = Exchange::new(rt.alloc());
