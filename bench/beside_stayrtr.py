@@ -1,7 +1,8 @@
 #!/usr/bin/env python3
 """beside_stayrtr.py OVCACHE [PAYLOADS]: the same JSON file of so many payloads (400,000) served by ovcache and by StayRTR (Debian's
-`stayrtr`), each to 1, 16 and 200 routers at once, and then changed in 20,000 of them while 16 routers are connected. For each it prints
-seconds, seconds of processor and megabytes; it ends with 1 where a router gets another list than the file's."""
+`stayrtr`), each to 1, 16 and 200 routers at once, and then changed in 20,000 of them while 16 routers are connected: from the moment on
+at which the changed file has the list's name. Both look at it each second; what that takes while it stays the same is told for itself.
+For each it prints seconds, seconds of processor and megabytes; it ends with 1 where a router gets another list than the file's."""
 import json
 import os
 import selectors
@@ -27,7 +28,7 @@ def look(what, well):
 
 
 def written(first):
-    """A list that begins at this payload."""
+    """A list that begins at this payload, at `new.json`."""
     rows = []
     for number in range(first, first + PAYLOADS):
         address = (16 << 24) + (number << 8)
@@ -35,7 +36,6 @@ def written(first):
     now = time.strftime("%Y-%m-%dT%H:%M:%SZ", time.gmtime())
     with open("new.json", "w") as file:
         json.dump({"metadata": {"buildtime": now, "vrps": PAYLOADS}, "roas": rows}, file)
-    os.replace("new.json", "list.json")
 
 
 class Router:
@@ -151,6 +151,7 @@ def answered(port):
 
 def run(kind, port):
     written(0)
+    os.replace("new.json", "list.json")
     begun = time.monotonic()
     process = begin(kind, port)
     first = answered(port)
@@ -170,8 +171,12 @@ def run(kind, port):
         router.ask()
     look(f"{kind}: sixteen are told all", heard(routers, lambda router: router.serial is not None))
     serials = [router.serial for router in routers]
-    used, begun = processor(process), time.monotonic()
+    used = processor(process)
+    time.sleep(10)
+    print(f"{kind}: ten seconds of an unchanged list, {processor(process) - used:.2f} of processor", flush=True)
     written(CHANGED)
+    used, begun = processor(process), time.monotonic()
+    os.replace("new.json", "list.json")
     look(f"{kind}: sixteen are notified", heard(routers, lambda router: router.notified is not None, 60))
     notified = time.monotonic()
     for router, serial in zip(routers, serials):
