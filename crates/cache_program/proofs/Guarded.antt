@@ -3,7 +3,7 @@ use Rattle.std.proofs.Common.{◌≡◌, ◌⊎◌, inl, inr, ℕ, Bool, true, f
 use Rattle.std.proofs.lemmas.Bool.{false≢true}
 use Rattle.cache_turns.proofs.Keeping.{turn_keeps, withdrawing_keeps}
 use Rattle.list_guards.proofs.Passing.{passes}
-use Rattle.list_guards.specs.Guarding.{HasEnough}
+use Rattle.list_guards.specs.Guarding.{HasEnough, HasRoom, guard_fault}
 use Rattle.list_guards.specs.declared.Guards.{Guards}
 use Rattle.net_prefix.specs.declared.payload.Vrp.{Vrp}
 use Rattle.rtr_cache.specs.CacheTable.{Shared}
@@ -24,9 +24,13 @@ use Rattle.cache_watch.specs.declared.reread.Reread.{Reread}
 use Rattle.cache_watch.specs.declared.reread.Reread.TheVariants.{Refused, Same, Published}
 use Rattle.cache_watch.specs.declared.telling.FileAge.{FileAge}
 
--- what is served has enough, or an operator has accepted it, where one may
+-- a set has as many payloads as are wanted, and no more than may be
+abbrev pub IsWithin : Guards → List Vrp → Type 0
+IsWithin guards set = HasEnough guards set × HasRoom guards set
+
+-- so what is served does, or an operator has accepted it, where one may
 abbrev pub IsWell : Bool → Guards → Served → Type 0
-IsWell may guards s = ((may ≡ true) × (s.accepted ≡ true)) ⊎ HasEnough guards (served_set s)
+IsWell may guards s = ((may ≡ true) × (s.accepted ≡ true)) ⊎ IsWithin guards (served_set s)
 
 -- the guards stay, and what is served is well if it was
 record Stays (may : Bool) (old new : Served) : Type 0 where
@@ -39,6 +43,10 @@ stays_same may old new same = record {
   well = λ well. subst (λ (s : Served). IsWell may old.guards s) (sym same) well;
 }
 
+-- what the guards let pass does
+within : (guards : Guards) (served next : List Vrp) → guard_fault guards served next ≡ None → IsWithin guards next
+within guards served next none = let all = passes guards served next none in (all.0, all.1)
+
 handed_set : (accepts : Option ℕ) (now age : ℕ) (set : List Vrp) (old : Served) (under : ℕ) (new : Served) → HandsIn accepts now age set old under new → served_set new ≡ set
 handed_set accepts now age set old under new handed =
     ap (λ (shared : Shared). newest_set shared.kept) handed.makes.0.0 ∙ newest_set-kept_after (versions old) set
@@ -46,7 +54,7 @@ handed_set accepts now age set old under new handed =
 well_handed : (may : Bool) (accepts : Option ℕ) (now age : ℕ) (set : List Vrp) (old : Served) (under : ℕ) (new : Served) → (is_some accepts ≡ true → may ≡ true) → HandsIn accepts now age set old under new → IsWell may old.guards new
 well_handed may (Some refused) now age set old under new allowed handed = inl (allowed refl, handed.accepted)
 well_handed may None now age set old under new allowed handed =
-    inr (subst (λ (s : List Vrp). HasEnough old.guards s) (sym (handed_set None now age set old under new handed)) (passes old.guards (served_set old) set handed.is_let_in.passes).0)
+    inr (subst (λ (s : List Vrp). IsWithin old.guards s) (sym (handed_set None now age set old under new handed)) (within old.guards (served_set old) set handed.is_let_in.passes))
 
 -- a refused list leaves what is served
 stays_refused : (may : Bool) (why : ListFault) (old new : Served) → KeepsCount why old new → Stays may old new
@@ -79,7 +87,7 @@ stays_due Lists may accepts true now age old answer new allowed rereads = stays_
 -- it is so as long as the set stays, and who accepted it
 well_behind : (may : Bool) (guards : Guards) (old new : Served) → served_set new ≡ served_set old → new.accepted ≡ old.accepted → IsWell may guards old → IsWell may guards new
 well_behind may guards old new set accepted (inl is) = inl (is.0, accepted ∙ is.1)
-well_behind may guards old new set accepted (inr enough) = inr (subst (λ (s : List Vrp). HasEnough guards s) (sym set) enough)
+well_behind may guards old new set accepted (inr enough) = inr (subst (λ (s : List Vrp). IsWithin guards s) (sym set) enough)
 
 -- a set that is withdrawn is kept
 record Keeps (old new : Served) : Type 0 where
@@ -120,14 +128,33 @@ all_well Lists seconds may last (at ∷ moments) guards old new all nobody is we
     all_well Lists seconds may (if have_passed seconds last at.now then at.now else last) moments guards all.0 new all.2 (λ off. (nobody off).1) (stays.guards ∙ is)
     (subst (λ (g : Guards). IsWell may g all.0) is (stays.well (subst (λ (g : Guards). IsWell may g old) (sym is) well)))
 
-first_enough : (Lists : Result SourceTexts SourceFile → Type 0) (Wires : WireState → Type 0) (Seconds : ℕ → Type 0) (settings : CacheSettings) (served : Served) → IsBegun Lists Wires Seconds settings served → HasEnough settings.guards (served_set served)
-first_enough Lists Wires Seconds settings served begun =
+first_within : (Lists : Result SourceTexts SourceFile → Type 0) (Wires : WireState → Type 0) (Seconds : ℕ → Type 0) (settings : CacheSettings) (served : Served) → IsBegun Lists Wires Seconds settings served → IsWithin settings.guards (served_set served)
+first_within Lists Wires Seconds settings served begun =
     let newest = first_is_newest_set Lists settings.guards begun.cache.shared.kept served.serial begun.set served.written begun.first in
-    subst (λ (set : List Vrp). HasEnough settings.guards set)
+    subst (λ (set : List Vrp). IsWithin settings.guards set)
     (newest ∙ sym (ap (λ (turns : Turns). newest_set turns.cache.shared.kept) begun.turns))
-    (passes settings.guards [] begun.set begun.first.passes.1).0
+    (within settings.guards [] begun.set begun.first.passes.1)
 
 pub served_well : (Lists : Result SourceTexts SourceFile → Type 0) (Wires : WireState → Type 0) (Seconds : ℕ → Type 0) (settings : CacheSettings) (count : ℕ) (before behind : List ℕ) (served : Served)
     → IsServed Lists Wires Seconds settings count before behind served → IsWell (is_some settings.control) settings.guards served
 served_well Lists Wires Seconds settings count before behind served is =
-    all_well Lists settings.reread (is_some settings.control) 0 is.takes.moments settings.guards is.begun served is.takes.serves (λ off. (is.takes.all off).1) is.begins.guards (inr (first_enough Lists Wires Seconds settings is.begun is.begins))
+    all_well Lists settings.reread (is_some settings.control) 0 is.takes.moments settings.guards is.begun served is.takes.serves (λ off. (is.takes.all off).1) is.begins.guards (inr (first_within Lists Wires Seconds settings is.begun is.begins))
+
+-- and of each count alone
+enough_of : (may : Bool) (guards : Guards) (s : Served) → IsWell may guards s → ((may ≡ true) × (s.accepted ≡ true)) ⊎ HasEnough guards (served_set s)
+enough_of may guards s (inl accepted) = inl accepted
+enough_of may guards s (inr is) = inr is.0
+
+room_of : (may : Bool) (guards : Guards) (s : Served) → IsWell may guards s → ((may ≡ true) × (s.accepted ≡ true)) ⊎ HasRoom guards (served_set s)
+room_of may guards s (inl accepted) = inl accepted
+room_of may guards s (inr is) = inr is.1
+
+pub served_enough : (Lists : Result SourceTexts SourceFile → Type 0) (Wires : WireState → Type 0) (Seconds : ℕ → Type 0) (settings : CacheSettings) (count : ℕ) (before behind : List ℕ) (served : Served)
+    → IsServed Lists Wires Seconds settings count before behind served → ((is_some settings.control ≡ true) × (served.accepted ≡ true)) ⊎ HasEnough settings.guards (served_set served)
+served_enough Lists Wires Seconds settings count before behind served is =
+    enough_of (is_some settings.control) settings.guards served (served_well Lists Wires Seconds settings count before behind served is)
+
+pub served_room : (Lists : Result SourceTexts SourceFile → Type 0) (Wires : WireState → Type 0) (Seconds : ℕ → Type 0) (settings : CacheSettings) (count : ℕ) (before behind : List ℕ) (served : Served)
+    → IsServed Lists Wires Seconds settings count before behind served → ((is_some settings.control ≡ true) × (served.accepted ≡ true)) ⊎ HasRoom settings.guards (served_set served)
+served_room Lists Wires Seconds settings count before behind served is =
+    room_of (is_some settings.control) settings.guards served (served_well Lists Wires Seconds settings count before behind served is)

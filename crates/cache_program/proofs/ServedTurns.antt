@@ -38,6 +38,26 @@ serves_more Lists seconds last [] at old mid new same once = (new, subst (λ (s 
 serves_more Lists seconds last (moment ∷ moments) at old mid new all once =
     (all.0, all.1, serves_more Lists seconds (if have_passed seconds last moment.now then moment.now else last) moments at all.0 mid new all.2 once)
 
+-- what is done by lists of one kind is done by those of a wider one
+due_of : (Lists Others : Result SourceTexts SourceFile → Type 0) → ((sources : Result SourceTexts SourceFile) → Lists sources → Others sources)
+    → (accepts : Option ℕ) (is_due : Bool) (now : ℕ) (age : FileAge) (old : Served) (answer : Option Reread) (new : Served) → RereadsWhenDue Lists accepts is_due now age old answer new → RereadsWhenDue Others accepts is_due now age old answer new
+due_of Lists Others wider accepts false now age old answer new none = none
+due_of Lists Others wider accepts true now age old answer new (led, is, sources, given, rereads) = (led, is, sources, wider sources given, rereads)
+
+pub once_of : (Lists Others : Result SourceTexts SourceFile → Type 0) → ((sources : Result SourceTexts SourceFile) → Lists sources → Others sources)
+    → (asked : Option Reading) (is_due : Bool) (now : ℕ) (old new : Served) → ((age : FileAge) × ServesOnce Lists asked is_due now age old new) → (age : FileAge) × ServesOnce Others asked is_due now age old new
+once_of Lists Others wider asked is_due now old new (age, once) = (
+  age,
+  record {
+    between = once.between;
+    left = once.left;
+    rereads = (once.rereads.0, due_of Lists Others wider (count_accepted asked old) (is_read asked is_due) now age old once.rereads.0 once.between once.rereads.1);
+    withdraws = once.withdraws;
+    takes = once.takes;
+    same = once.same;
+  },
+)
+
 -- so many turns were taken, the list was due last at this moment, and where nobody may ask for a reading nobody did
 pub record AreServed (Lists : Result SourceTexts SourceFile → Type 0) (seconds : Option ℕ) (may_ask : Bool) (last count : ℕ) (before behind : List ℕ) (old new : Served) : Type 0 where
   pub moments : List Moment

@@ -16,9 +16,13 @@ abbrev pub expiring_at : CacheSettings → ℕ → Option ℕ
 expiring_at settings second = if settings.expires then Some second else None
 
 -- the texts of the settings' files, the list and the SLURM file where there is one, or which of them couldn't be opened, as
--- answers to their paths have it; they are read at some second
+-- answers to their paths have it; they are read at this second
+abbrev pub GivesAt : {L E : Type 0} → (List ℕ → Result L E → Type 0) → (L → Option (List ℕ)) → CacheSettings → ℕ → Result SourceTexts SourceFile → Type 0
+GivesAt Answers remaining settings second sources = Opens Answers remaining (expiring_at settings second) (string_bytes settings.csv) (option_map string_bytes settings.slurm) sources
+
+-- at some second
 abbrev pub Gives : {L E : Type 0} → (List ℕ → Result L E → Type 0) → (L → Option (List ℕ)) → CacheSettings → Result SourceTexts SourceFile → Type 0
-Gives Answers remaining settings sources = (second : ℕ) × Opens Answers remaining (expiring_at settings second) (string_bytes settings.csv) (option_map string_bytes settings.slurm) sources
+Gives Answers remaining settings sources = (second : ℕ) × GivesAt Answers remaining settings second sources
 
 -- a file that was opened at the path, or none
 abbrev pub IsOpenedAt : List ℕ → Result OpenedFile (Unit {0}) → Type 0

@@ -62,7 +62,7 @@ served_set served = newest_set (versions served)
 -- what a list has to keep to: nothing, where an operator accepts one of so many payloads that was refused
 abbrev pub held_to : Option ℕ → Guards → Guards
 held_to None guards = guards
-held_to (Some refused) guards = record { min_payloads = None; max_shrink = None }
+held_to (Some refused) guards = record { min_payloads = None; max_payloads = None; max_shrink = None }
 
 -- the set has as many payloads as the list that an operator accepts
 abbrev pub IsShown : Option ℕ → List Vrp → Type 0

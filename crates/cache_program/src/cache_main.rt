@@ -9,7 +9,7 @@ ghost use Rattle.payload_sources.specs.PayloadSources.{SourceTexts};
 ghost use Rattle.cache_program.specs.Endings.{EndsSo, IsOfWords, status_at_end};
 ghost use Rattle.cache_program.specs.Checked.{IsChecked, IsCheckedBy};
 ghost use Rattle.cache_program.specs.FirstList.{Passes};
-ghost use Rattle.cache_program.specs.Opened.{AnySecond, AreSettingsAt, Gives, IsOpenedAt, Listens, SystemGives};
+ghost use Rattle.cache_program.specs.Opened.{AnySecond, AreSettingsAt, Gives, GivesAt, IsOpenedAt, Listens, SystemGives};
 ghost use Rattle.log_lines.specs.Passing.{have_passed};
 ghost use Rattle.cache_program.specs.Rereads.{Served};
 ghost use Rattle.cache_program.specs.ServedTurns.{IsBegun, IsServed, ServesOnce, ServesSoMany, oldest_of};
@@ -654,7 +654,7 @@ where
     ensures quiet { settings.now.log ≡ false → output.new ≡ output.old }
     ensures desk { desk.new ≡ desk.old }
     ensures due { reread.new ≡ record reread.old { last = if have_passed reread.old.seconds reread.old.last now then now else reread.old.last } }
-    ensures serves { OnOk result ((age : FileAge) × ServesOnce (Gives (FnReturnsAt F.Fn opens.now) L.remaining settings.now) asked (have_passed reread.old.seconds reread.old.last now) now age served.old served.new) }
+    ensures serves { OnOk result ((age : FileAge) × ServesOnce (GivesAt (FnReturnsAt F.Fn opens.now) L.remaining settings.now second) asked (have_passed reread.old.seconds reread.old.last now) now age served.old served.new) }
 {
     tell_asked(rt, settings, asked, output);
     let age = list_age(rt, settings);

@@ -2,7 +2,7 @@
 ghost use Rattle.std.specs.Prelude.{◌≡◌, Err, IfOk, MatchResult, Ok, option_map, string_bytes};
 ghost use Rattle.std.specs.Fn.{FnReturnsAt};
 ghost use Rattle.payload_sources.specs.PayloadSources.{texts_of};
-ghost use Rattle.cache_program.specs.Opened.{Gives, expiring_at};
+ghost use Rattle.cache_program.specs.Opened.{Gives, GivesAt, expiring_at};
 
 use cache_settings::CacheSettings;
 pub(crate) use file_paths::open_at;
@@ -19,6 +19,7 @@ where
     F: Fn(&str) -> io::Result<L>,
     requires { F.IsAlwaysCallable opens.now }
     ensures second { IfOk result (λ files. files.second ≡ expiring_at settings.now second) }
+    ensures then { MatchResult result (λ files. GivesAt (FnReturnsAt F.Fn opens.now) L.remaining settings.now second (Ok (texts_of L.remaining files.list files.slurm files.second))) (λ unopened. GivesAt (FnReturnsAt F.Fn opens.now) L.remaining settings.now second (Err unopened.file)) }
     ensures gives { MatchResult result (λ files. Gives (FnReturnsAt F.Fn opens.now) L.remaining settings.now (Ok (texts_of L.remaining files.list files.slurm files.second))) (λ unopened. Gives (FnReturnsAt F.Fn opens.now) L.remaining settings.now (Err unopened.file)) }
 {
     let second = expiring_at(settings, second);

@@ -22,6 +22,7 @@ first          seconds until a router without a whole PDU loses its place, 1 at 
 idle           seconds until a silent router does, greater than refresh (expire)
 reread         seconds until the list is read again, 1 at least (never)
 min_payloads   payloads that a list has at least (any number)
+max_payloads   payloads that it has at most (any number)
 max_shrink     per cent of the served payloads that may go at once, 0 to 100 (any number)
 expires        true or false: whether what has expired is left out of the list (false)
 max_age        seconds since the list was written, else the log warns, 1 at least (never)

@@ -1,7 +1,7 @@
 //! What follows of turns.
 ghost use Rattle.std.specs.Prelude.{◌≡◌, ◌⊎◌, ℕ, List, Option, is_some, true};
 ghost use Rattle.cache_turns.specs.Turns.{Step, TakesSteps};
-ghost use Rattle.list_guards.specs.Guarding.{HasEnough};
+ghost use Rattle.list_guards.specs.Guarding.{HasEnough, HasRoom};
 ghost use Rattle.cache_program.specs.Opened.{AnyList, AnySecond, AnyWire};
 ghost use Rattle.cache_program.specs.Rereads.{Served, served_set};
 ghost use Rattle.cache_program.specs.ServedTurns.{IsServed, Moment, ServesAll};
@@ -18,4 +18,9 @@ pub fn served_turns_are_steps()
 /// operators.
 pub fn no_fewer_are_served_than_are_wanted()
     ensures { (settings : CacheSettings) (count : ℕ) (before behind : List ℕ) (served : Served) → IsServed AnyList AnyWire AnySecond settings count before behind served → ((is_some settings.control ≡ true) × (served.accepted ≡ true)) ⊎ HasEnough settings.guards (served_set served) }
+{}
+
+/// And no more than the settings allow, with the same exception.
+pub fn no_more_are_served_than_may_be()
+    ensures { (settings : CacheSettings) (count : ℕ) (before behind : List ℕ) (served : Served) → IsServed AnyList AnyWire AnySecond settings count before behind served → ((is_some settings.control ≡ true) × (served.accepted ≡ true)) ⊎ HasRoom settings.guards (served_set served) }
 {}

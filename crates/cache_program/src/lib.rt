@@ -25,5 +25,7 @@ pub use cache_main::{main_cache, serve_cache};
 pub use cache_watch::{ListFault, LogLine, Reread, Watched};
 pub use exits::{of_first_list, of_refusal};
 pub use fault::CacheFault;
-pub use laws::{no_fewer_are_served_than_are_wanted, served_turns_are_steps};
+pub use laws::{
+    no_fewer_are_served_than_are_wanted, no_more_are_served_than_may_be, served_turns_are_steps,
+};
 pub use served_list::ServedList;

@@ -5,7 +5,7 @@ ghost use Rattle.cache_turns.specs.Turns.{TakesTurn, WithdrawsSet};
 ghost use Rattle.list_guards.specs.Guarding.{guard_fault};
 ghost use Rattle.payload_sources.specs.PayloadSources.{texts_of};
 ghost use Rattle.cache_program.specs.Figures.{figures_of};
-ghost use Rattle.cache_program.specs.Opened.{Gives};
+ghost use Rattle.cache_program.specs.Opened.{GivesAt};
 ghost use Rattle.log_lines.specs.Passing.{have_passed};
 ghost use Rattle.cache_program.specs.Rereads.{IsKeptOut, IsLetIn, IsNewest, Notes, Publishes, Rereads, RereadsFile, RereadsWhenDue, ServesAt, WithdrawsWhere, age_told, is_older, is_stale, newest_set, served_set};
 ghost use Rattle.cache_program.specs.ServedTurns.{count_accepted, is_read};
@@ -128,7 +128,7 @@ impl<W: Wire + Drop> ServedList<W> {
         opens: &F,
     ) -> (Option<Reread>, Result<(), LoopFault>)
         requires { F.IsAlwaysCallable opens.now }
-        ensures serves { ServesAt (Gives (FnReturnsAt F.Fn opens.now) L.remaining settings.now) (count_accepted asked self.old) (is_read asked (have_passed due.old.seconds due.old.last now)) now age self.old result.0 result.1 self.new }
+        ensures serves { ServesAt (GivesAt (FnReturnsAt F.Fn opens.now) L.remaining settings.now second) (count_accepted asked self.old) (is_read asked (have_passed due.old.seconds due.old.last now)) now age self.old result.0 result.1 self.new }
         ensures due { due.new ≡ record due.old { last = if have_passed due.old.seconds due.old.last now then now else due.old.last } }
     {
         let is_read = is_read(asked, due.is_due(now));
@@ -150,7 +150,7 @@ impl<W: Wire + Drop> ServedList<W> {
         opens: &F,
     ) -> Option<Reread>
         requires { F.IsAlwaysCallable opens.now }
-        ensures { RereadsWhenDue (Gives (FnReturnsAt F.Fn opens.now) L.remaining settings.now) accepts is_read now age self.old result self.new }
+        ensures { RereadsWhenDue (GivesAt (FnReturnsAt F.Fn opens.now) L.remaining settings.now second) accepts is_read now age self.old result self.new }
     {
         if is_read {
             let files = open_files(settings, second, opens);

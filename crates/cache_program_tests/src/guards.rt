@@ -49,11 +49,19 @@ AS65002,11.0.0.0/16,24,ta
 
 const ONE_AT_LEAST: Guards = Guards {
     min_payloads: Some(1),
+    max_payloads: None,
     max_shrink: None,
 };
 
 const HALF_AT_MOST: Guards = Guards {
     min_payloads: None,
+    max_payloads: None,
+    max_shrink: Some(50),
+};
+
+const EIGHT_AT_MOST: Guards = Guards {
+    min_payloads: None,
+    max_payloads: Some(8),
     max_shrink: Some(50),
 };
 
@@ -105,6 +113,21 @@ fn loses_half_at_most<W: Wire + Drop>(alloc: Global, served: &mut ServedList<W>)
         && served.payloads() == 8
 }
 
+// Whether eight payloads may be and ten may not, whatever comes and goes with them.
+fn has_eight_at_most<W: Wire + Drop>(alloc: Global, served: &mut ServedList<W>) -> bool {
+    let fault = GuardFault::TooMany {
+        payloads: 10,
+        most: 8,
+    };
+    is_refused(alloc, served, TEN, fault)
+        && is_published(alloc, served, EIGHT, 1)
+        && is_refused(alloc, served, TEN, fault)
+        && served.payloads() == 8
+        && accepting(alloc, served, TEN, 10) == Reread::Published(2)
+        && is_refused(alloc, served, TEN, fault)
+        && served.payloads() == 10
+}
+
 // Reads a list again for one who accepts the list that was refused, which had so many payloads.
 fn accepting<W: Wire + Drop>(
     alloc: Global,
@@ -153,6 +176,13 @@ fn an_empty_list_behind_a_good_one_is_refused(rt: HostRuntime) -> Result<(), Fai
 fn more_than_the_share_may_not_go_at_once(rt: HostRuntime) -> Result<(), Fail> {
     let served = serving_none(rt.alloc(), NetWire::new(&rt)?, HALF_AT_MOST)?;
     assert!(rt; lend(served, |served| loses_half_at_most(rt.alloc(), served)));
+    Ok(())
+}
+
+#[test]
+fn more_payloads_than_may_be_are_refused(rt: HostRuntime) -> Result<(), Fail> {
+    let served = serving_none(rt.alloc(), NetWire::new(&rt)?, EIGHT_AT_MOST)?;
+    assert!(rt; lend(served, |served| has_eight_at_most(rt.alloc(), served)));
     Ok(())
 }
 

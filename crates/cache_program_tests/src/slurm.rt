@@ -41,6 +41,7 @@ const NONE_LEFT: &str = r#"{"slurmVersion": 1,
 
 const ONE_AT_LEAST: Guards = Guards {
     min_payloads: Some(1),
+    max_payloads: None,
     max_shrink: None,
 };
 

@@ -173,12 +173,12 @@ const GOOD_SETTINGS: [&str; 10] = [
     "session = 7\nlisten = \"127.0.0.1:0\"\nreread = 1\nlog = false\nstatus = 4294967295\n",
     "session = 7\nlisten = \"127.0.0.1:0\"\nfirst = 1\nidle = 3601\n",
     "session = 7\nlisten = \"127.0.0.1:0\"\nmetrics = \"127.0.0.1:0\"\n",
-    "session = 7\nlisten = \"127.0.0.1:0\"\nmin_payloads = 1\nmax_shrink = 0\nmax_age = 1\n",
-    "session = 7\nlisten = \"127.0.0.1:0\"\nmin_payloads = 0\nmax_shrink = 100\nmax_age = 4294967295\n",
+    "session = 7\nlisten = \"127.0.0.1:0\"\nmin_payloads = 1\nmax_payloads = 1\nmax_shrink = 0\nmax_age = 1\n",
+    "session = 7\nlisten = \"127.0.0.1:0\"\nmin_payloads = 0\nmax_payloads = 4294967295\nmax_shrink = 100\nmax_age = 4294967295\n",
 ];
 
 #[rattlefmt::skip]
-const BAD_SETTINGS: [(&str, &str); 44] = [
+const BAD_SETTINGS: [(&str, &str); 46] = [
     ("listen = \"127.0.0.1:0\"\nsession = 7\nno toml", "line 4: key with no value, expected `=`"),
     ("listen = \"127.0.0.1:0\"\n", "'session' isn't there"),
     ("session = 7\n", "'listen' isn't there"),
@@ -211,6 +211,8 @@ const BAD_SETTINGS: [(&str, &str); 44] = [
     ("listen = \"127.0.0.1:0\"\nsession = 7\nmin_payloads = -1\n", "min_payloads: -1 is no number from 0 to 4294967295"),
     ("listen = \"127.0.0.1:0\"\nsession = 7\nmin_payloads = \"1\"\n", "min_payloads: '1' is no number from 0 to 4294967295"),
     ("listen = \"127.0.0.1:0\"\nsession = 7\nmin_payloads = 4294967296\n", "min_payloads: 4294967296 is no number from 0 to 4294967295"),
+    ("listen = \"127.0.0.1:0\"\nsession = 7\nmax_payloads = -1\n", "max_payloads: -1 is no number from 0 to 4294967295"),
+    ("listen = \"127.0.0.1:0\"\nsession = 7\nmax_payloads = true\n", "max_payloads: true is no number from 0 to 4294967295"),
     ("listen = \"127.0.0.1:0\"\nsession = 7\nmax_shrink = 101\n", "max_shrink: 101 is no number from 0 to 100"),
     ("listen = \"127.0.0.1:0\"\nsession = 7\nmax_shrink = \"50\"\n", "max_shrink: '50' is no number from 0 to 100"),
     ("listen = \"127.0.0.1:0\"\nsession = 7\nmax_age = 0\n", "max_age: 0 is no number from 1 to 4294967295"),
@@ -252,6 +254,13 @@ fn bad_settings_are_told(rt: HostRuntime) {
 fn a_first_list_below_the_least_is_refused(rt: HostRuntime) {
     let settings = "listen = \"127.0.0.1:0\"\nsession = 7\nmin_payloads = 2\n";
     let told = (1, "settings", "it has 1 payloads, and 2 are wanted");
+    assert!(rt; tells_on(&rt, settings, LIST, Fault::List, told));
+}
+
+#[test]
+fn a_first_list_above_the_most_is_refused(rt: HostRuntime) {
+    let settings = "listen = \"127.0.0.1:0\"\nsession = 7\nmax_payloads = 0\n";
+    let told = (1, "settings", "it has 1 payloads, and 0 may be");
     assert!(rt; tells_on(&rt, settings, LIST, Fault::List, told));
 }
 

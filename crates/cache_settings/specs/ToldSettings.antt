@@ -61,6 +61,7 @@ IsPerCent found share = IsNumber found share × (share ≤ 100)
 -- what a list has to keep to, as far as the keys are there
 pub record AreGuards (table : Members) (guards : Guards) : Type 0 where
   pub min_payloads : IsToldIfThere IsNumber (get_member (codes "min_payloads") table) guards.min_payloads
+  pub max_payloads : IsToldIfThere IsNumber (get_member (codes "max_payloads") table) guards.max_payloads
   pub max_shrink : IsToldIfThere IsPerCent (get_member (codes "max_shrink") table) guards.max_shrink
 
 -- what stands at the keys besides where the cache listens and its list
@@ -97,7 +98,7 @@ terms_of settings = record {
 abbrev pub keys_of_a_cache : List (List ℕ)
 keys_of_a_cache =
     codes "listen" ∷ codes "csv" ∷ codes "slurm" ∷ codes "session" ∷ codes "other_session" ∷ codes "refresh" ∷ codes "retry" ∷ codes "expire" ∷ codes "first" ∷ codes "idle" ∷ codes "min_payloads"
-    ∷ codes "max_shrink" ∷ codes "expires" ∷ codes "reread" ∷ codes "max_age" ∷ codes "stale" ∷ codes "log" ∷ codes "status" ∷ codes "metrics" ∷ codes "control" ∷ []
+    ∷ codes "max_payloads" ∷ codes "max_shrink" ∷ codes "expires" ∷ codes "reread" ∷ codes "max_age" ∷ codes "stale" ∷ codes "log" ∷ codes "status" ∷ codes "metrics" ∷ codes "control" ∷ []
 
 -- the settings are what stands at their keys, and there are no others
 pub record IsToldBy (table : Members) (settings : CacheSettings) : Type 0 where

@@ -81,9 +81,9 @@ impl CacheSettings {
     /// `session`, a number of 16 bits or `"clock"`; and, where they are there, `other_session`, `"report"` or `"reset"`,
     /// `stale`, `"serve"` or, where `max_age` is there, `"withdraw"`,
     /// `refresh`, `retry` and `expire`, in place of the usual intervals and lawful together, `first`, 1 at least, `idle`,
-    /// above `refresh`, `reread`, `max_age` and `status`, 1 at least, and `min_payloads`, each a number of 32 bits,
-    /// `max_shrink`, up to 100, `expires` and `log`, booleans, `slurm` and `control`, texts, and `metrics`, as `listen`. There
-    /// are no keys of other names. Anything else is `Settings`.
+    /// above `refresh`, `reread`, `max_age` and `status`, 1 at least, `min_payloads` and `max_payloads`, each a number
+    /// of 32 bits, `max_shrink`, up to 100, `expires` and `log`, booleans, `slurm` and `control`, texts, and `metrics`, as
+    /// `listen`. There are no keys of other names. Anything else is `Settings`.
     pub fn read(alloc: Global, octets: &[u8]) -> Result<CacheSettings, SettingsFault>
         ensures told { AnswersInMemory (λ settings. (table : Members) × IsTableOf octets.now table × IsToldBy table settings) result }
         ensures intervals { IfOk result (λ settings. are_lawful settings.intervals ≡ true) }
@@ -133,7 +133,7 @@ impl CacheSettings {
 }
 
 // The keys of the settings.
-const KEYS: [&str; 20] = [
+const KEYS: [&str; 21] = [
     "listen",
     "csv",
     "slurm",
@@ -145,6 +145,7 @@ const KEYS: [&str; 20] = [
     "first",
     "idle",
     "min_payloads",
+    "max_payloads",
     "max_shrink",
     "expires",
     "reread",
@@ -356,14 +357,19 @@ fn patience_of(
     Ok(Patience { first, idle })
 }
 
+// The counts of payloads that a key may have.
+const PAYLOADS: Wanted = Wanted::Number(0, u32::MAX);
+
 // What a list has to keep to, as far as the keys are there.
 fn guards_of(alloc: Global, table: &Table) -> Result<Guards, SettingsFault>
     ensures { Answers (AreGuards (table_view table.now)) result }
 {
-    let min_payloads = number_of(alloc, table, "min_payloads", Wanted::Number(0, u32::MAX))?;
+    let min_payloads = number_of(alloc, table, "min_payloads", PAYLOADS)?;
+    let max_payloads = number_of(alloc, table, "max_payloads", PAYLOADS)?;
     let max_shrink = per_cent_of(alloc, table, "max_shrink")?;
     Ok(Guards {
         min_payloads,
+        max_payloads,
         max_shrink,
     })
 }
