@@ -7,6 +7,8 @@ mod attributes;
 #[cfg(test)]
 mod messages;
 #[cfg(test)]
+mod notices;
+#[cfg(test)]
 mod session_table;
 #[cfg(test)]
 mod want_of_memory;

@@ -8,6 +8,7 @@ use crate::readiness::Readiness;
 use crate::router_event::RouterEvent;
 use crate::system_sockets::SystemSockets;
 use crate::waiter::Waiter;
+use connect_faults::{ConnectFault, TellsFaults};
 use mio::net::TcpStream;
 use std::alloc::AllocGlobal;
 use std::io::{self, ErrorKind};
@@ -38,6 +39,8 @@ pub struct NetWire<'a, R: Net<Listener = TcpListener, Stream = net::TcpStream> +
     events: Vec<RouterEvent>,
     // Whether descriptors were wanting when a connection was asked for last.
     lacks_descriptors: bool,
+    // Why the last call failed that began an attempt or asked how one stands, if it did.
+    last_fault: Option<ConnectFault>,
 }
 
 impl<'a, R: Net<Listener = TcpListener, Stream = net::TcpStream> + AllocGlobal> Model
@@ -94,6 +97,7 @@ impl<'a, R: Net<Listener = TcpListener, Stream = net::TcpStream> + AllocGlobal> 
             is_busy: false,
             events: Vec::new(net.alloc()),
             lacks_descriptors: false,
+            last_fault: None,
         })
     }
 
@@ -226,6 +230,13 @@ impl<'a, R: Net<Listener = TcpListener, Stream = net::TcpStream> + AllocGlobal> 
     }
 }
 
+impl<R: Net<Listener = TcpListener, Stream = net::TcpStream> + AllocGlobal> TellsFaults
+    for NetWire<'_, R> {
+    fn last_fault(&self) -> Option<ConnectFault> {
+        self.last_fault
+    }
+}
+
 impl<R: Net<Listener = TcpListener, Stream = net::TcpStream> + AllocGlobal> Wire
     for NetWire<'_, R> {
     type Socket = NetSocket;
@@ -239,7 +250,8 @@ impl<R: Net<Listener = TcpListener, Stream = net::TcpStream> + AllocGlobal> Wire
     fn connect(&mut self, to: SocketAddr) -> Option<NetSocket> {
         match self.system.connect(to) {
             Ok(stream) => Some(self.next_socket(stream, to, Readiness::ATTEMPT)),
-            Err(_) => {
+            Err(error) => {
+                self.last_fault = Some(ConnectFault::of(&error));
                 self.fail();
                 None
             }
@@ -247,13 +259,14 @@ impl<R: Net<Listener = TcpListener, Stream = net::TcpStream> + AllocGlobal> Wire
     }
 
     fn attempt(&mut self, socket: &mut NetSocket) -> Attempt {
-        let attempt = if self.waiter.sockets.readiness(socket.key).may_write {
+        let standing = if self.waiter.sockets.readiness(socket.key).may_write {
             self.system.attempt(socket)
         } else {
             self.system.leave_attempt(socket)
         };
-        self.count_attempt(attempt);
-        attempt
+        self.last_fault = standing.cause;
+        self.count_attempt(standing.attempt);
+        standing.attempt
     }
 
     fn accept(&mut self) -> Accepted<NetSocket> {

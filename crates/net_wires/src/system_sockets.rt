@@ -11,7 +11,7 @@ ghost use Rattle.wires.specs.declared.wire.Sent.TheVariants.{Nothing as NoneWent
 ghost use Rattle.wires.specs.declared.wire.Attempt.TheVariants.{Pending as StillPending};
 ghost use Rattle.net_wires.specs.Opening.{noting};
 
-use crate::net_socket::NetSocket;
+use crate::net_socket::{NetSocket, Standing};
 use mio::net::TcpStream;
 use std::io::{self, ErrorKind, Read, Write};
 use std::marker::Model;
@@ -73,21 +73,21 @@ impl<'a, R: Net<Listener = TcpListener, Stream = net::TcpStream>> SystemSockets<
     }
 
     /// Asks how the attempt of a socket stands that may be written to.
-    pub fn attempt(&mut self, socket: &NetSocket) -> Attempt
-        ensures { self.new ≡ noting (Tries socket.now.number result) self.old }
+    pub fn attempt(&mut self, socket: &NetSocket) -> Standing
+        ensures { self.new ≡ noting (Tries socket.now.number result.attempt) self.old }
     {
-        let attempt = socket.attempt();
-        self.note(&Note::Try(socket.number, attempt));
-        attempt
+        let standing = socket.attempt();
+        self.note(&Note::Try(socket.number, standing.attempt));
+        standing
     }
 
     /// An attempt isn't asked: as far as is known it still stands.
-    pub fn leave_attempt(&mut self, socket: &NetSocket) -> Attempt
-        ensures noted { self.new ≡ noting (Tries socket.now.number result) self.old }
-        ensures pending { result ≡ StillPending }
+    pub fn leave_attempt(&mut self, socket: &NetSocket) -> Standing
+        ensures noted { self.new ≡ noting (Tries socket.now.number result.attempt) self.old }
+        ensures pending { result.attempt ≡ StillPending }
     {
         self.note(&Note::Try(socket.number, Attempt::Pending));
-        Attempt::Pending
+        Standing::PENDING
     }
 
     /// Asks for a connection; none where it is gone already.

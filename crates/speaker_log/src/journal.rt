@@ -2,6 +2,7 @@
 ghost use Rattle.std.specs.Prelude.{◌≡◌, IfOk, false};
 
 use crate::asked::Asked;
+use crate::failure::failure_of;
 use crate::line::{CacheChange, Flood, SessionChange, SpeakerLine};
 use crate::places::Places;
 use crate::series::{Met, Series};
@@ -203,12 +204,12 @@ impl Kept {
         let Some(series) = series_of(self.series.as_mut_slice(), side) else {
             return true;
         };
-        let more = match is_failure(seen) {
-            true => match series.meet(seen) {
+        let more = match failure_of(seen) {
+            Some(failure) => match series.meet(failure) {
                 Met::Alike => return false,
                 Met::Other(more) => more,
             },
-            false => series.end(),
+            None => series.end(),
         };
         self.tell_alike(rt, side, more, output);
         true
@@ -333,14 +334,6 @@ fn series_of(all: &mut [Series], side: Side) -> Option<&mut Series> {
         Side::Peer(slot, _) => all.get_mut(slot as usize),
         Side::Cache(_) => all.get_mut(PEER_SLOTS as usize),
         Side::Stranger(_) => None,
-    }
-}
-
-// Whether this says that no connection came of an attempt.
-fn is_failure(seen: Seen) -> bool {
-    match seen {
-        Seen::NoAttempt | Seen::Refused(_) | Seen::AttemptEnded(_) => true,
-        Seen::Ended(_) | Seen::Received(_) | Seen::Sent(_) => false,
     }
 }
 

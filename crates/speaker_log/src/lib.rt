@@ -9,6 +9,7 @@
 #![tactic(auto)]
 
 mod asked;
+mod failure;
 mod journal;
 mod line;
 mod places;
@@ -17,6 +18,7 @@ mod shown;
 mod side;
 
 pub use asked::Asked;
+pub use failure::{Failure, failure_of};
 pub use journal::{Journal, LINES_A_MINUTE};
 pub use line::{CacheChange, Flood, SessionChange, SpeakerLine};
 pub use series::{Met, Series};

@@ -2,12 +2,12 @@
 ghost use Rattle.std.specs.Prelude.{◌≡◌, None, Some};
 ghost use Rattle.speaker_log.specs.SeriesCounts.{Meets, more_of};
 
-use watched_wires::Seen;
+use crate::failure::Failure;
 
 /// What failed last of a side, and how often it has failed alike since it was told.
 #[derive(Clone, Copy, Debug, PartialEq, Eq)]
 pub struct Series {
-    last: Option<Seen>,
+    last: Option<Failure>,
     more: u64,
 }
 
@@ -33,15 +33,15 @@ impl Series {
     }
 
     /// One more has failed.
-    pub fn meet(&mut self, seen: Seen) -> Met
-        ensures { Meets seen self.old result self.new }
+    pub fn meet(&mut self, failure: Failure) -> Met
+        ensures { Meets failure self.old result self.new }
     {
-        if self.last == Some(seen) {
+        if self.last == Some(failure) {
             self.more = self.more.saturating_add(1);
             return Met::Alike;
         }
         let more = self.more;
-        self.last = Some(seen);
+        self.last = Some(failure);
         self.more = 0;
         Met::Other(more)
     }

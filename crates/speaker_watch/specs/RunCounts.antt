@@ -5,7 +5,7 @@ use Rattle.speaker_figures.specs.declared.figures.SpeakerFigures.{SpeakerFigures
 use Rattle.speaker_watch.specs.declared.counts.Counts.{Counts}
 use Rattle.speaker_watch.specs.declared.counts.Standing.{Standing}
 use Rattle.watched_wires.specs.declared.events.Seen.{Seen}
-use Rattle.watched_wires.specs.declared.events.Seen.TheVariants.{NoAttempt, Refused, AttemptEnded, Ended, Received, Sent}
+use Rattle.watched_wires.specs.declared.events.Seen.TheVariants.{NoAttempt, AttemptFailed, Refused, AttemptEnded, Ended, Received, Sent}
 use Rattle.watched_wires.specs.declared.events.WireEvent.{WireEvent}
 
 abbrev pub none_counted : Counts
@@ -14,6 +14,7 @@ none_counted = record { received = no_notices; sent = no_notices; turns = 0; cou
 -- this was seen: NOTIFICATIONs are counted by their codes
 abbrev pub seeing : Seen → Counts → Counts
 seeing NoAttempt counts = counts
+seeing (AttemptFailed why) counts = counts
 seeing (Refused why) counts = counts
 seeing (AttemptEnded why) counts = counts
 seeing (Ended why) counts = counts

@@ -69,7 +69,7 @@ impl Counts {
         match seen {
             Seen::Received(notice) => self.received.count(notice.code),
             Seen::Sent(notice) => self.sent.count(notice.code),
-            Seen::NoAttempt | Seen::Refused(_) => {}
+            Seen::NoAttempt | Seen::AttemptFailed(_) | Seen::Refused(_) => {}
             Seen::AttemptEnded(_) | Seen::Ended(_) => {}
         }
     }

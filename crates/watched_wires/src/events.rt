@@ -3,6 +3,7 @@ ghost use Rattle.std.specs.Prelude.{◌≡◌, ◌≤◌, [], length};
 ghost use Rattle.watched_wires.specs.Limits.{most_events};
 
 use crate::notice::Notice;
+use connect_faults::ConnectFault;
 use std::alloc::Global;
 use std::net::SocketAddr;
 use thiserror::Error;
@@ -15,13 +16,16 @@ pub const MOST_EVENTS: usize = 512;
 /// What was seen of a connection, or of an attempt at one.
 #[derive(Clone, Copy, Debug, PartialEq, Eq, Error)]
 pub enum Seen {
-    /// No attempt could be begun.
+    /// No attempt could be begun, for no cause that is known.
     #[error("no attempt to connect can be begun")]
     NoAttempt,
+    /// An attempt to connect has failed, or none could be begun, for this cause.
+    #[error("attempt to connect failed: {0}")]
+    AttemptFailed(ConnectFault),
     /// A connection came and was closed.
     #[error("connection refused: {0}")]
     Refused(Parting),
-    /// An attempt to connect has ended.
+    /// An attempt to connect has ended otherwise.
     #[error("attempt to connect ended: {0}")]
     AttemptEnded(Parting),
     /// A connection has ended.

@@ -1,12 +1,13 @@
 //! The messages of one direction of a connection.
 ghost use Rattle.std.specs.Prelude.{◌≤◌, length};
 
-use crate::notice::{Notice, SHOWN_OCTETS};
+use crate::kept_data::KEPT_OCTETS;
+use crate::notice::Notice;
 use arrayvec::ArrayVec;
 use bgp_msg::{HEADER_OCTETS, MessageType, Step, needed, read};
 
-// How many octets are kept of a message: its header, and of a NOTIFICATION its code, its subcode and the data that are shown.
-const FRONT_OCTETS: usize = HEADER_OCTETS + 2 + SHOWN_OCTETS;
+// How many octets are kept of a message: its header, and of a NOTIFICATION its code, its subcode and the data that are kept.
+const FRONT_OCTETS: usize = HEADER_OCTETS + 2 + KEPT_OCTETS;
 
 /// Follows the messages of one direction of a connection (RFC 4271 section 4.1), in whatever pieces they come, up to the first
 /// header with a fault.
@@ -76,7 +77,7 @@ impl Follower {
         }
     }
 
-    // Of a message that goes on a NOTIFICATION alone is kept, as far as it is shown.
+    // Of a message that goes on a NOTIFICATION alone is kept, as far as a log needs it.
     fn judge_part(&mut self) -> Option<Notice> {
         let octets = self.front.as_slice();
         if octets.len() < HEADER_OCTETS {

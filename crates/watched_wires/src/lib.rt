@@ -10,12 +10,15 @@
 
 mod events;
 mod follower;
+mod kept_data;
 mod names;
 mod notice;
+mod shutdown_text;
 mod watched;
 
 pub use events::{MOST_EVENTS, Seen, WireEvent};
 pub use follower::Follower;
 pub use names::{error_name, subcode_name};
 pub use notice::{Notice, SHOWN_OCTETS};
+pub use shutdown_text::{COMMUNICATION_OCTETS, Quoted, communication_in, is_of_shutdown, is_plain};
 pub use watched::{Watched, WatchedSocket, WatchedWire};

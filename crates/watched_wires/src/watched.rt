@@ -4,6 +4,7 @@ ghost use Rattle.watched_wires.specs.Limits.{most_events};
 
 use crate::events::{Events, Seen, WireEvent};
 use crate::follower::Follower;
+use connect_faults::{ConnectFault, TellsFaults};
 use std::alloc::Global;
 use std::net::SocketAddr;
 use std::time::Duration;
@@ -39,6 +40,8 @@ pub struct WatchedSocket<W: Wire> {
     address: SocketAddr,
     // Whether the connection is there; an attempt at one isn't.
     is_up: bool,
+    // Why the attempt failed, where that is known.
+    fault: Option<ConnectFault>,
     came: Follower,
     went: Follower,
 }
@@ -51,6 +54,7 @@ impl<W: Wire> WatchedSocket<W> {
             socket,
             address,
             is_up,
+            fault: None,
             came: Follower::new(),
             went: Follower::new(),
         }
@@ -94,7 +98,7 @@ impl<W: Wire> Watched for WatchedWire<W> {
     }
 }
 
-impl<W: Wire> Wire for WatchedWire<W> {
+impl<W: Wire + TellsFaults> Wire for WatchedWire<W> {
     type Socket = WatchedSocket<W>;
 
     ghost state = { λ watched. W.state watched.wire };
@@ -107,7 +111,8 @@ impl<W: Wire> Wire for WatchedWire<W> {
         match self.wire.connect(to) {
             Some(socket) => Some(WatchedSocket::new(socket, to, false)),
             None => {
-                self.see(to, Seen::NoAttempt);
+                let seen = not_begun(self.wire.last_fault());
+                self.see(to, seen);
                 None
             }
         }
@@ -116,6 +121,7 @@ impl<W: Wire> Wire for WatchedWire<W> {
     fn attempt(&mut self, socket: &mut WatchedSocket<W>) -> Attempt {
         let attempt = self.wire.attempt(&mut socket.socket);
         socket.is_up = attempt == Attempt::Connected;
+        socket.fault = self.wire.last_fault();
         attempt
     }
 
@@ -162,9 +168,10 @@ impl<W: Wire> Wire for WatchedWire<W> {
             socket,
             address,
             is_up,
+            fault,
             ..
         } = socket;
-        self.see(address, seen_of(is_up, parting));
+        self.see(address, seen_of(is_up, fault, parting));
         self.wire.close(socket, parting);
     }
 
@@ -191,11 +198,20 @@ impl<W: Wire> Wire for WatchedWire<W> {
     }
 }
 
+// What it is to a log that no attempt could be begun.
+fn not_begun(fault: Option<ConnectFault>) -> Seen {
+    match fault {
+        Some(cause) => Seen::AttemptFailed(cause),
+        None => Seen::NoAttempt,
+    }
+}
+
 // What the end of a connection is to a log, or that of an attempt at one.
-fn seen_of(is_up: bool, parting: Parting) -> Seen {
-    match parting {
-        Parting::NoPlace | Parting::NoMemory => Seen::Refused(parting),
+fn seen_of(is_up: bool, fault: Option<ConnectFault>, parting: Parting) -> Seen {
+    match (parting, fault) {
+        (Parting::NoPlace | Parting::NoMemory, _) => Seen::Refused(parting),
         _ if is_up => Seen::Ended(parting),
+        (Parting::Failed, Some(cause)) => Seen::AttemptFailed(cause),
         _ => Seen::AttemptEnded(parting),
     }
 }

@@ -2,6 +2,7 @@
 
 use crate::made::made;
 use crate::over_loopback::{connected, some_port};
+use connect_faults::{ConnectFault, TellsFaults};
 use net_wires::NetWire;
 use program_stages::lend;
 use std::alloc::AllocGlobal;
@@ -322,6 +323,7 @@ fn an_attempt_that_fails_is_one_fault(rt: HostRuntime) {
     let address = SocketAddr::V4(SocketAddrV4::new(Ipv4Addr::LOCALHOST, 1));
     let mut router = made(&rt, NetWire::new(&rt));
     assert!(rt; router.local_address().is_none() && is_alone(&mut router, address));
+    assert!(rt; router.last_fault() == Some(ConnectFault::Refused));
 }
 
 // Behind a connection that came there is no rest, and the new socket is ready for octets that go.
