@@ -1,1 +1,3 @@
+pub mod Clerks
+pub mod Desks
 pub mod Readings

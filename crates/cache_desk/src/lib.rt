@@ -3,9 +3,11 @@
 //! `Desk` answers the line of each operator between two turns of a `CacheLoop`, which it only looks at: it shows the clients,
 //! the versions, the payloads and the list, and says which reading of the list is asked for (`specs/Readings.antt`): that it is
 //! read at once, or that it is and the guards are set aside for the list that they refused, which is refused unless they
-//! refused it when it was read last. One reading a second is asked for, and those who ask meanwhile wait for the next. All who
-//! asked for it are told what it led to. A large table goes out piece by piece, each going on behind the row at which the one
-//! before it ended. Where there are no operators nothing is asked for. What rows say is shown by tests.
+//! refused it when it was read last. Each line is answered to the operator who sent it, once; a reading is asked for by its
+//! word alone, its outcome is told to all who asked for it and to nobody else, and `stop` alone ends the program
+//! (`specs/Desks.antt`). One reading a second is asked for, and those who ask meanwhile wait for the next. A large table goes
+//! out piece by piece, each going on behind the row at which the one before it ended. Where there are no operators nothing is
+//! asked for. What rows say is shown by tests.
 #![tactic(auto)]
 
 mod clerk;

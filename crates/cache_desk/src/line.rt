@@ -1,5 +1,6 @@
 //! The lines of operators.
-ghost use Rattle.cache_desk.specs.Readings.{AsksAsItSays};
+ghost use Rattle.std.specs.Prelude.{List, ℕ};
+ghost use Rattle.cache_desk.specs.Readings.{AsksAsItSays, IsNoWord, IsTextOf};
 
 use crate::reading::Reading;
 use crate::tables::Shown;
@@ -20,8 +21,18 @@ pub(crate) enum Line {
 }
 
 /// What the octets of a line ask for, of which a carriage return at the end is no part. Words are separated by single spaces.
-pub(crate) fn line_of(octets: &[u8]) -> Line {
-    let octets = octets.strip_suffix(b"\r").unwrap_or(octets);
+pub(crate) fn line_of(octets: &[u8]) -> Line
+    ensures { (text : List ℕ) × IsTextOf octets.now text × AsksAsItSays text result }
+{
+    match octets.strip_suffix(b"\r") {
+        Some(front) => line_by(front),
+        None => line_by(octets),
+    }
+}
+
+fn line_by(octets: &[u8]) -> Line
+    ensures { AsksAsItSays octets.now result }
+{
     match str::from_utf8(octets) {
         Ok(text) => line_in(text),
         Err(_) => Line::Bad,
@@ -40,6 +51,7 @@ fn line_in(text: &str) -> Line
 }
 
 fn shown_by(text: &str) -> Line
+    requires { IsNoWord text.now }
     ensures { AsksAsItSays text.now result }
 {
     match text {
@@ -53,6 +65,7 @@ fn shown_by(text: &str) -> Line
 }
 
 fn payloads_at(text: &str) -> Line
+    requires { IsNoWord text.now }
     ensures { AsksAsItSays text.now result }
 {
     let Some(prefix) = text.strip_prefix("show payloads ") else {

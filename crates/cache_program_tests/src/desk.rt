@@ -1,4 +1,6 @@
 //! Operators' lines, and what they are answered.
+ghost use Rattle.std.specs.Prelude.{◌==◌, ◌&&◌, if◌then◌else◌, length, ⊤};
+ghost use Rattle.control_lines.specs.declared.talk.Wish.TheVariants.{Answer, Nothing};
 
 use crate::rereads::{FIRST, is_published, serving_none};
 use cache_desk::{Desk, ListState, Reading, Scene};
@@ -19,6 +21,14 @@ struct Asker<'a> {
 }
 
 impl<'a> Operators for Asker<'a> {
+    ghost wish = { λ asker key. if key == 0 && length asker.said.now.items == 0 then Answer else Nothing };
+
+    ghost line = { λ asker key. asker.line.now };
+
+    ghost turns = { λ now old new. ⊤ };
+
+    ghost hears = { λ key octets goes_on old new. ⊤ };
+
     fn turn(&mut self, _now: u64) {}
 
     fn wish(&self, key: usize) -> Wish {

@@ -1,11 +1,12 @@
 -- No octet of an operator is lost, and none comes twice.
-use Rattle.std.proofs.Common.{◌≡◌, ◌++◌, ◌∷◌, ◌∙◌, inl, inr, ℕ, Bool, true, false, List, [], take, drop, refl, sym, ap}
+use Rattle.std.proofs.Common.{◌≡◌, ◌≢◌, ◌==◌, ◌≤◌, ◌&&◌, ◌++◌, ◌∷◌, ◌∙◌, if◌then◌else◌, inl, inr, ℕ, Bool, true, false, not, List, [], Option, min, length, take, drop, refl, sym, ap, arith}
+use Rattle.std.specs.Io.KnownBytes.{Appends}
 use Rattle.std.proofs.Math.Seq.{drop-length}
 use Rattle.std.proofs.lemmas.Bool.{false≢true}
-use Rattle.std.proofs.lemmas.List.{append-nil, append_assoc, take-append-drop}
-use Rattle.control_lines.specs.Coming.{AnswersTakeTheirLine, VisitsLoseNone, line_so_far, unanswered}
+use Rattle.std.proofs.lemmas.List.{append-nil, append_assoc, length-take, take-append-drop}
+use Rattle.control_lines.specs.Coming.{AnswersTakeTheirLine, VisitsLoseNone, VisitsWriteInOrder, line_so_far, unanswered}
 use Rattle.control_lines.specs.Lines.{GathersLine, line_feed}
-use Rattle.control_lines.specs.Talks.{Follows, Hears, awaits_line, wish_behind}
+use Rattle.control_lines.specs.Talks.{Follows, Hears, Says, SaysIf, Writes, awaits_line, shown_wish, wish_behind}
 use Rattle.control_lines.specs.declared.line_buffer.Heard.{Heard}
 use Rattle.control_lines.specs.declared.line_buffer.Heard.TheVariants.{Part, Whole, TooLong}
 use Rattle.control_lines.specs.declared.talk.Talk.{Talk}
@@ -40,12 +41,12 @@ at_rest : (old : Talk) → old.wish ≡ Nothing → unanswered old ≡ old.line 
 at_rest old none = ap (λ (wish : Wish). line_so_far wish old.line ++ old.chunk) none
 
 pub visits_lose_none : VisitsLoseNone
-visits_lose_none false old new before after same stays = ([], inl refl, ap unanswered same ∙ sym (append-nil (unanswered old)))
-visits_lose_none true old new before after (inl writes) stays = ([], inl refl, ap unanswered writes.left ∙ sym (append-nil (unanswered old)))
-visits_lose_none true old new before after (inr (awaits, inl more)) stays =
+visits_lose_none false old new before after taken behind same stays = ([], inl refl, ap unanswered same ∙ sym (append-nil (unanswered old)))
+visits_lose_none true old new before after taken behind (inl writes) stays = ([], inl refl, ap unanswered writes.same ∙ sym (append-nil (unanswered old)))
+visits_lose_none true old new before after taken behind (inr (awaits, inl more)) stays =
     let none = awaited old.wish awaits.0 in
     ([], inl refl, heard old.chunk old new none stays more.hears ∙ (sym (at_rest old none) ∙ sym (append-nil (unanswered old))))
-visits_lose_none true old new before after (inr (awaits, inr fresh)) stays =
+visits_lose_none true old new before after taken behind (inr (awaits, inr fresh)) stays =
     let none = awaited old.wish awaits.0 in (
       fresh.came,
       inr fresh.read,
@@ -57,7 +58,39 @@ behind_it : (goes_on : Bool) (chunk : List ℕ) → line_so_far (wish_behind goe
 behind_it true chunk = refl
 behind_it false chunk = refl
 
+-- a wish that is shown is the wish
+shown : (b : Bool) (wish : Wish) → (if b then wish else Nothing) ≡ Answer → wish ≡ Answer
+shown true wish is = is
+shown false wish is = absurd cc
+
+answered : (wish : Wish) (goes_on : Bool) (octets : List ℕ) (old new : Talk) → wish ≡ Answer → SaysIf wish goes_on octets old new → Says goes_on octets old new
+answered Nothing goes_on octets old new is says = absurd cc
+answered Answer goes_on octets old new is says = says
+answered More goes_on octets old new is says = absurd cc
+
 pub answers_take_their_line : AnswersTakeTheirLine
-answers_take_their_line goes_on octets old new says =
-    ap (λ (behind : List ℕ). line_so_far old.wish old.line ++ behind)
+answers_take_their_line goes_on octets old new asked said =
+    let says = answered (shown_wish old) goes_on octets old new asked said in
+    let whole = shown (length old.saying == 0 && not old.is_leaving) old.wish asked in
+    ap (λ (wish : Wish). line_so_far wish old.line ++ old.chunk) whole
+    ∙ ap (λ (behind : List ℕ). (old.line ++ line_feed ∷ []) ++ behind)
     (sym (ap (λ (wish : Wish). line_so_far wish new.line ++ new.chunk) says.2 ∙ (ap (λ (line : List ℕ). line_so_far (wish_behind goes_on) line ++ new.chunk) says.0 ∙ (behind_it goes_on new.chunk ∙ says.1))))
+
+-- ---- what is written
+
+pub written : (count : ℕ) (old new : Talk) (taken behind : Option (List ℕ)) → count ≢ 0 → count ≤ length old.saying → new ≡ record old { saying = drop count old.saying } → Appends taken behind (take count old.saying) → Writes old new taken behind
+written count old new taken behind some few left took = record {
+  octets = take count old.saying;
+  some = λ none. some (sym (length-take-few few) ∙ ap length none);
+  front = sym (take-append-drop count old.saying) ∙ ap (λ (rest : List ℕ). take count old.saying ++ rest) (sym (ap (λ (talk : Talk). talk.saying) left));
+  same = left ∙ ap (λ (rest : List ℕ). record old { saying = rest }) (sym (ap (λ (talk : Talk). talk.saying) left));
+  took = took;
+}
+  where
+    length-take-few : count ≤ length old.saying → length (take count old.saying) ≡ count
+    length-take-few within = let is = length-take count old.saying in omega (arith, is, within)
+
+pub visits_write_in_order : VisitsWriteInOrder
+visits_write_in_order false old new before after taken behind same some = ([], inr refl, ap (λ (talk : Talk). talk.saying) (sym same))
+visits_write_in_order true old new before after taken behind (inl writes) some = (writes.octets, inl writes.took, writes.front)
+visits_write_in_order true old new before after taken behind (inr (awaits, listens)) some = absurd (some awaits.1)

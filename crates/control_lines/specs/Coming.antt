@@ -1,8 +1,8 @@
 -- What has come of an operator (own).
-use Rattle.std.specs.Prelude.{◌≡◌, ◌++◌, ◌⊎◌, ◌∷◌, ℕ, Bool, false, List, [], Option, Some}
-use Rattle.std.specs.Io.KnownBytes.{Consumes}
+use Rattle.std.specs.Prelude.{◌≡◌, ◌≢◌, ◌++◌, ◌⊎◌, ◌∷◌, ℕ, Bool, false, List, [], Option, Some}
+use Rattle.std.specs.Io.KnownBytes.{Appends, Consumes}
 use Rattle.control_lines.specs.Lines.{line_feed}
-use Rattle.control_lines.specs.Talks.{Exchanges, Says}
+use Rattle.control_lines.specs.Talks.{Exchanges, SaysIf, shown_wish}
 use Rattle.control_lines.specs.declared.talk.Talk.{Talk}
 use Rattle.control_lines.specs.declared.talk.Wish.{Wish}
 use Rattle.control_lines.specs.declared.talk.Wish.TheVariants.{Nothing, Answer, More}
@@ -23,9 +23,14 @@ Came octets before after = (octets ≡ []) ⊎ Consumes before after octets
 
 -- at a visit of one who stays the octets that came are put behind those that had come, and none is lost
 abbrev pub VisitsLoseNone : Type 0
-VisitsLoseNone = (has_moved : Bool) (old new : Talk) (before after : Option (List ℕ)) → Exchanges (Some has_moved) old new before after → new.is_leaving ≡ false
+VisitsLoseNone = (has_moved : Bool) (old new : Talk) (before after taken taken_behind : Option (List ℕ)) → Exchanges (Some has_moved) old new before after taken taken_behind → new.is_leaving ≡ false
     → (octets : List ℕ) × Came octets before after × (unanswered new ≡ unanswered old ++ octets)
 
--- an answer takes away its line, and what came behind it stays
+-- an answer takes away its line, which is whole, with its line feed, and what came behind it stays
 abbrev pub AnswersTakeTheirLine : Type 0
-AnswersTakeTheirLine = (goes_on : Bool) (octets : List ℕ) (old new : Talk) → Says goes_on octets old new → unanswered old ≡ line_so_far old.wish old.line ++ unanswered new
+AnswersTakeTheirLine = (goes_on : Bool) (octets : List ℕ) (old new : Talk) → shown_wish old ≡ Answer → SaysIf (shown_wish old) goes_on octets old new → unanswered old ≡ (old.line ++ line_feed ∷ []) ++ unanswered new
+
+-- whoever is visited and stays has been written the first of the octets that were said, or none, and the others are still to be
+abbrev pub VisitsWriteInOrder : Type 0
+VisitsWriteInOrder = (has_moved : Bool) (old new : Talk) (before after taken taken_behind : Option (List ℕ)) → Exchanges (Some has_moved) old new before after taken taken_behind → old.saying ≢ []
+    → (octets : List ℕ) × (Appends taken taken_behind octets ⊎ (octets ≡ [])) × (old.saying ≡ octets ++ new.saying)

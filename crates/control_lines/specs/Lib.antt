@@ -1,3 +1,4 @@
 pub mod Coming
 pub mod Lines
+pub mod Perhaps
 pub mod Talks

@@ -16,9 +16,10 @@ abbrev pub IsWithin : List ℕ → Type 0
 IsWithin octets = ¬ (Contains octets line_feed)
 
 -- so many of these octets were taken, behind those that had come of the line: all of them, which don't end it, or just those up to
--- the first line feed, which does; a line that would have too many octets stays as it was
+-- the first line feed, which does; a line that stays as it was has too many octets with those that stand before a line feed
 abbrev pub GathersLine : List ℕ → List ℕ → ℕ → Heard → List ℕ → Type 0
 GathersLine old octets count Part new = (count ≡ length octets) × IsWithin octets × (new ≡ old ++ octets)
 GathersLine old octets count Whole new =
     (part : List ℕ) × (take count octets ≡ part ++ line_feed ∷ []) × IsWithin part × (new ≡ old ++ part)
-GathersLine old octets count TooLong new = (new ≡ old) × (most_of_a_line < length old + length octets)
+GathersLine old octets count TooLong new =
+    (part rest : List ℕ) × (octets ≡ part ++ rest) × IsWithin part × (most_of_a_line < length old + length part) × (new ≡ old)

@@ -1,7 +1,7 @@
 -- What becomes of an exchange with an operator at a visit (own).
-use Rattle.std.specs.Prelude.{◌≡◌, ◌≢◌, ◌==◌, ◌≤◌, ◌-◌, ◌&&◌, ◌⊎◌, if◌then◌else◌, ℕ, Bool, true, false, not, nat_le, nat_lt, List, [], Option, None, Some, drop, length, ⊤}
-use Rattle.std.specs.Io.KnownBytes.{Consumes}
-use Rattle.control_lines.specs.Lines.{GathersLine}
+use Rattle.std.specs.Prelude.{◌≡◌, ◌≢◌, ◌==◌, ◌≤◌, ◌-◌, ◌&&◌, ◌⊎◌, ◌++◌, ◌∷◌, if◌then◌else◌, ℕ, Bool, true, false, not, nat_le, nat_lt, List, [], Option, None, Some, codes, drop, length, ⊤}
+use Rattle.std.specs.Io.KnownBytes.{Appends, Consumes}
+use Rattle.control_lines.specs.Lines.{GathersLine, line_feed}
 use Rattle.control_lines.specs.declared.line_buffer.Heard.{Heard}
 use Rattle.control_lines.specs.declared.line_buffer.Heard.TheVariants.{Part, Whole, TooLong}
 use Rattle.control_lines.specs.declared.talk.Talk.{Talk}
@@ -27,6 +27,12 @@ Says goes_on octets old new =
     (new.line ≡ []) × (new.chunk ≡ old.chunk) × (new.wish ≡ wish_behind goes_on)
     × (((new.saying ≡ octets) × (new.is_leaving ≡ old.is_leaving)) ⊎ ((new.saying ≡ []) × (new.is_leaving ≡ true)))
 
+-- they are where an answer is waited for, or more of one, and else nothing is
+abbrev pub SaysIf : Wish → Bool → List ℕ → Talk → Talk → Type 0
+SaysIf Nothing goes_on octets old new = new ≡ old
+SaysIf Answer goes_on octets old new = Says goes_on octets old new
+SaysIf More goes_on octets old new = Says goes_on octets old new
+
 -- its next line is to come
 abbrev pub awaits_line : Wish → Bool
 awaits_line Nothing = true
@@ -37,11 +43,15 @@ awaits_line More = false
 abbrev pub has_begun : Talk → Bool
 has_begun talk = awaits_line talk.wish && (not talk.is_leaving && nat_lt 0 (length talk.line))
 
--- what octets of a line lead to: it goes on, it is to be answered, or the operator is to go
+-- what is said of a line that is too long
+abbrev pub too_long : List ℕ
+too_long = codes "refused: a line has at most 1024 octets" ++ line_feed ∷ []
+
+-- what octets of a line lead to: it goes on, it is to be answered, or the operator is to go and is told why, if there is memory
 abbrev pub Follows : Heard → Talk → Talk → Type 0
 Follows Part old new = (new.wish ≡ old.wish) × (new.saying ≡ old.saying) × (new.is_leaving ≡ old.is_leaving)
 Follows Whole old new = (new.wish ≡ Answer) × (new.saying ≡ old.saying) × (new.is_leaving ≡ old.is_leaving)
-Follows TooLong old new = (new.wish ≡ old.wish) × (new.is_leaving ≡ true)
+Follows TooLong old new = (new.wish ≡ old.wish) × (new.is_leaving ≡ true) × ((new.saying ≡ too_long) ⊎ (new.saying ≡ []))
 
 -- of these octets so many go to the line, up to its line feed at most, and the others stay
 pub record Hears (octets : List ℕ) (old new : Talk) : Type 0 where
@@ -52,12 +62,13 @@ pub record Hears (octets : List ℕ) (old new : Talk) : Type 0 where
   pub left : new.chunk ≡ drop count octets
   pub follows : Follows heard old new
 
--- octets of what was said were written
-pub record Writes (old new : Talk) : Type 0 where
-  pub count : ℕ
-  pub some : count ≢ 0
-  pub few : count ≤ length old.saying
-  pub left : new ≡ record old { saying = drop count old.saying }
+-- the first octets of what was said were written, and the stream took just them
+pub record Writes (old new : Talk) (taken taken_behind : Option (List ℕ)) : Type 0 where
+  pub octets : List ℕ
+  pub some : octets ≢ []
+  pub front : old.saying ≡ octets ++ new.saying
+  pub same : new ≡ record old { saying = new.saying }
+  pub took : Appends taken taken_behind octets
 
 -- a line goes on by octets that had come already
 pub record HearsMore (old new : Talk) (before after : Option (List ℕ)) : Type 0 where
@@ -84,10 +95,10 @@ abbrev pub Awaits : Talk → Type 0
 Awaits talk = (awaits_line talk.wish ≡ true) × (talk.saying ≡ []) × (talk.is_leaving ≡ false)
 
 -- what an exchange was, where the operator isn't gone: nothing came or went, or octets were written, or read
-abbrev pub Exchanges : Option Bool → Talk → Talk → Option (List ℕ) → Option (List ℕ) → Type 0
-Exchanges None old new before after = ⊤
-Exchanges (Some false) old new before after = new ≡ old
-Exchanges (Some true) old new before after = Writes old new ⊎ (Awaits old × Listening (Some true) old new before after)
+abbrev pub Exchanges : Option Bool → Talk → Talk → Option (List ℕ) → Option (List ℕ) → Option (List ℕ) → Option (List ℕ) → Type 0
+Exchanges None old new before after taken taken_behind = ⊤
+Exchanges (Some false) old new before after taken taken_behind = new ≡ old
+Exchanges (Some true) old new before after taken taken_behind = Writes old new taken taken_behind ⊎ (Awaits old × Listening (Some true) old new before after)
 
 -- that long ago is too long
 abbrev pub is_late : ℕ → ℕ → Bool
@@ -99,7 +110,7 @@ MovedAt true now at moved = (moved ≡ at) × (is_late at now ≡ false)
 MovedAt false now at moved = moved ≡ now
 
 -- a visit at a moment to one who moved last at another: who stays has moved, or not been still for too long
-abbrev pub Visits : Option Bool → ℕ → ℕ → ℕ → Talk → Talk → Option (List ℕ) → Option (List ℕ) → Type 0
-Visits None now at moved old new before after = ⊤
-Visits (Some false) now at moved old new before after = (new ≡ old) × (moved ≡ at) × (is_late at now ≡ false)
-Visits (Some true) now at moved old new before after = Exchanges (Some true) old new before after × MovedAt (has_begun old && has_begun new) now at moved
+abbrev pub Visits : Option Bool → ℕ → ℕ → ℕ → Talk → Talk → Option (List ℕ) → Option (List ℕ) → Option (List ℕ) → Option (List ℕ) → Type 0
+Visits None now at moved old new before after taken taken_behind = ⊤
+Visits (Some false) now at moved old new before after taken taken_behind = (new ≡ old) × (moved ≡ at) × (is_late at now ≡ false)
+Visits (Some true) now at moved old new before after taken taken_behind = Exchanges (Some true) old new before after taken taken_behind × MovedAt (has_begun old && has_begun new) now at moved

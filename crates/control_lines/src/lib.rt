@@ -6,7 +6,7 @@
 //! of that is taken nothing more is read (`specs/Talks.antt`). No octet that comes is lost, and none comes twice
 //! (`visits_lose_no_octets`, `answers_take_their_line`). One who moves nothing for a minute loses the connection, and so does
 //! one whose line isn't whole a minute after its first octet, or is too long, behind an answer that says so. `Operators` is what
-//! answers them. What lines mean stands above, and the system's sockets beside.
+//! answers them, of whom there may be none. What lines mean stands above, and the system's sockets beside.
 #![tactic(auto)]
 
 mod chunk;
@@ -14,12 +14,13 @@ mod laws;
 mod line_buffer;
 mod operator;
 mod operators;
+mod perhaps;
 mod saying;
 #[cfg(test)]
 mod slow_lines;
 mod talk;
 
-pub use laws::{answers_take_their_line, visits_lose_no_octets};
+pub use laws::{answers_take_their_line, visits_lose_no_octets, visits_write_in_order};
 pub use line_buffer::{Heard, LineBuffer, MOST_OF_A_LINE};
 pub use operator::{Operator, SILENT_SECONDS};
 pub use operators::{OPERATORS, Operators};

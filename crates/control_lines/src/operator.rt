@@ -1,6 +1,6 @@
 //! One operator's connection.
 ghost use Rattle.std.specs.Prelude.{◌≡◌, [], IfOk, IfSome, false};
-ghost use Rattle.control_lines.specs.Talks.{Exchanges, Listening, Says, Visits, is_late, shown_wish, silent};
+ghost use Rattle.control_lines.specs.Talks.{Exchanges, Listening, SaysIf, Visits, is_late, shown_wish, silent};
 
 use crate::talk::{Talk, Wish};
 use std::alloc::{AllocError, Global};
@@ -51,11 +51,14 @@ impl<S: Read + Write + Drop> Operator<S> {
     }
 
     /// This is said to the operator, whose line is answered: wholly, or with more that is still to come. Where there is no
-    /// memory for it, the operator is to go.
+    /// memory for it, the operator is to go. To one who waits for nothing nothing is said.
     pub fn say(&mut self, octets: &[u8], goes_on: bool)
-        ensures said { Says goes_on octets.now self.old.talk self.new.talk }
-        ensures same { self.new.moved ≡ self.old.moved }
+        ensures said { SaysIf (shown_wish self.old.talk) goes_on octets.now self.old.talk self.new.talk }
+        ensures same { (self.new.moved ≡ self.old.moved) × (self.new.stream ≡ self.old.stream) }
     {
+        if self.wish() == Wish::Nothing {
+            return;
+        }
         self.talk.wish = match goes_on {
             true => Wish::More,
             false => Wish::Nothing,
@@ -68,7 +71,7 @@ impl<S: Read + Write + Drop> Operator<S> {
     /// went, and nothing where the operator is gone, or has moved nothing for too long: a line has to be whole so many seconds
     /// after its first octet, however many come.
     pub fn visit(&mut self, now: u64) -> Option<bool>
-        ensures { Visits result now self.old.moved self.new.moved self.old.talk self.new.talk (S.remaining self.old.stream) (S.remaining self.new.stream) }
+        ensures { Visits result now self.old.moved self.new.moved self.old.talk self.new.talk (S.remaining self.old.stream) (S.remaining self.new.stream) (S.contents self.old.stream) (S.contents self.new.stream) }
     {
         let had_begun = self.talk.has_begun();
         let has_moved = self.exchange()?;
@@ -82,7 +85,7 @@ impl<S: Read + Write + Drop> Operator<S> {
 
     // Writes or reads. Answers whether octets came or went, and nothing where the operator is gone, or is to go.
     fn exchange(&mut self) -> Option<bool>
-        ensures exchanges { Exchanges result self.old.talk self.new.talk (S.remaining self.old.stream) (S.remaining self.new.stream) }
+        ensures exchanges { Exchanges result self.old.talk self.new.talk (S.remaining self.old.stream) (S.remaining self.new.stream) (S.contents self.old.stream) (S.contents self.new.stream) }
         ensures same { self.new.moved ≡ self.old.moved }
     {
         if !self.talk.is_written() {
@@ -97,8 +100,9 @@ impl<S: Read + Write + Drop> Operator<S> {
         }
     }
 
+    #[tactic(auto, using(crate::proofs::Coming::written))]
     fn write(&mut self) -> Option<bool>
-        ensures exchanges { Exchanges result self.old.talk self.new.talk (S.remaining self.old.stream) (S.remaining self.new.stream) }
+        ensures exchanges { Exchanges result self.old.talk self.new.talk (S.remaining self.old.stream) (S.remaining self.new.stream) (S.contents self.old.stream) (S.contents self.new.stream) }
         ensures same { self.new.moved ≡ self.old.moved }
     {
         match self.stream.write(self.talk.saying.octets()) {

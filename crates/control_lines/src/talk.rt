@@ -1,7 +1,7 @@
 //! What is kept of an exchange with an operator.
 ghost use Rattle.std.specs.Prelude.{◌≡◌, ◌==◌, ◌⊎◌, [], true, IfOk, length};
 ghost use Rattle.std.specs.Bool.{OnTrue};
-ghost use Rattle.control_lines.specs.Talks.{Hears, has_begun, silent};
+ghost use Rattle.control_lines.specs.Talks.{Hears, has_begun, silent, too_long};
 
 use crate::chunk::Chunk;
 use crate::line_buffer::{Heard, LineBuffer};
@@ -95,6 +95,7 @@ impl Talk {
     // The line is too long.
     fn refuse(&mut self)
         ensures leaves { self.new.is_leaving ≡ true }
+        ensures said { (self.new.saying ≡ too_long) ⊎ (self.new.saying ≡ []) }
         ensures line { self.new.line ≡ self.old.line }
         ensures chunk { self.new.chunk ≡ self.old.chunk }
         ensures wish { self.new.wish ≡ self.old.wish }

@@ -1,4 +1,6 @@
 //! A Unix socket and its operators.
+ghost use Rattle.std.specs.Prelude.{◌≡◌, length};
+ghost use Rattle.control_sockets.specs.Places.{HearsAt, IsSaidTo, IsVisited, LetsIn, Turns, line_at, wish_at};
 
 use control_lines::{OPERATORS, Operator, Operators, Wish};
 use std::alloc::{AllocError, AllocGlobal, Global};
@@ -35,7 +37,9 @@ impl ControlSocket {
     }
 
     // Lets in an operator who has come, where there is a place.
-    fn let_in(&mut self, now: u64) {
+    fn let_in(&mut self, now: u64)
+        ensures { LetsIn now self.old.places.items self.new.places.items }
+    {
         let Some(key) = self.places.iter().position(|place| place.is_none()) else {
             return;
         };
@@ -55,10 +59,18 @@ impl ControlSocket {
 }
 
 impl Operators for ControlSocket {
+    ghost wish = { λ socket key. wish_at socket.places.items key };
+
+    ghost line = { λ socket key. line_at socket.places.items key };
+
+    ghost turns = { λ now old new. Turns now old.places.items new.places.items };
+
+    ghost hears = { λ key octets goes_on old new. HearsAt key octets goes_on old.places.items new.places.items };
+
     fn turn(&mut self, now: u64) {
         self.is_busy = false;
         self.let_in(now);
-        for place in &mut self.places {
+        for place in self.places.iter_mut() {
             if visit(place, now) {
                 self.is_busy = true;
             }
@@ -80,8 +92,9 @@ impl Operators for ControlSocket {
     }
 
     fn say(&mut self, key: usize, octets: &[u8], goes_on: bool) {
-        if let Some(Some(operator)) = self.places.get_mut(key) {
-            operator.say(octets, goes_on);
+        if let Some(place) = self.places.get_mut(key)
+            && say_to(place, octets, goes_on)
+        {
             self.is_busy = true;
         }
     }
@@ -91,8 +104,23 @@ impl Operators for ControlSocket {
     }
 }
 
+// Says this to who is at the place, and answers whether anybody is.
+fn say_to(place: &mut Place, octets: &[u8], goes_on: bool) -> bool
+    ensures { IsSaidTo goes_on octets.now place.old place.new }
+{
+    match place {
+        Some(operator) => {
+            operator.say(octets, goes_on);
+            true
+        }
+        None => false,
+    }
+}
+
 // Visits who is at the place, and answers whether octets came or went.
-fn visit(place: &mut Place, now: u64) -> bool {
+fn visit(place: &mut Place, now: u64) -> bool
+    ensures { IsVisited now place.old place.new }
+{
     let visited = match place {
         Some(operator) => operator.visit(now),
         None => return false,

@@ -3,6 +3,9 @@
 //! `Line` is the connection, `Seen` what it has seen, and `Asker` the operator, at whatever desk.
 #![tactic(auto)]
 
+ghost use Rattle.std.specs.Prelude.{⊤};
+ghost use Rattle.operator_stages.specs.Askers.{line_of, wish_at};
+
 use control_lines::{Operator, Operators, Wish};
 use std::alloc::{AllocError, Global};
 use std::cell::Cell;
@@ -120,6 +123,14 @@ impl<'a> Asker<'a> {
 }
 
 impl Operators for Asker<'_> {
+    ghost wish = { λ asker key. wish_at asker.operator key };
+
+    ghost line = { λ asker key. line_of asker.operator };
+
+    ghost turns = { λ now old new. ⊤ };
+
+    ghost hears = { λ key octets goes_on old new. ⊤ };
+
     fn turn(&mut self, now: u64) {
         let is_gone = match &mut self.operator {
             Some(operator) => operator.visit(now).is_none(),

@@ -1,3 +1,4 @@
-pub mod AskedMoves
+pub mod Attended
 pub mod Listening
 pub mod Moving
+pub mod Texts

@@ -1,6 +1,7 @@
 -- Whatever turns are taken and operators ask for, the wire listens where it did.
 use Rattle.std.proofs.Common.{◌≡◌, ◌∙◌, List, [], ◌∷◌, Result, Ok, Err, ap, length}
 use Rattle.bgp_conf.specs.declared.command.Command.{Command}
+use Rattle.bgp_conf.specs.declared.command.Command.TheVariants.{Enable}
 use Rattle.bgp_conf.specs.declared.refusal.Refusal.{Refusal}
 use Rattle.speaker.specs.declared.event.Report.{Report}
 use Rattle.wires.specs.Counts.{Counts}
@@ -9,7 +10,7 @@ use Rattle.speaker_turns.specs.Obeying.{Obeys}
 use Rattle.speaker_turns.specs.Turns.{GivesWay, Turns}
 use Rattle.speaker_turns.proofs.Listening.{listens_at_places, listens_given_way, listens_turned}
 use Rattle.speaker_desk.specs.Moves.{Move, Moves, MovesAll}
-use Rattle.speaker_desk.specs.Moves.Move.{Turned, Stopped, Obeyed, Placed}
+use Rattle.speaker_desk.specs.Moves.Move.{Turned, Stopped, Obeyed, Let, Placed}
 use Rattle.speaker_desk.proofs.Moving.{placed_resembles}
 
 obeyed_listens : (command : Command) (old new : Turns) (result : Result Report Refusal) → Obeys command old result new → new.counts.wire.listens ≡ old.counts.wire.listens
@@ -21,6 +22,7 @@ move_listens : (move : Move) (old new : Turns) → Moves move old new → new.co
 move_listens (Turned now) old new takes = listens_turned now old new (Ok tt) takes
 move_listens (Stopped now) old new takes = listens_turned now old new (Err Accept) takes
 move_listens (Obeyed line command) old new obeys = obeyed_listens command old new obeys.1 obeys.2
+move_listens (Let slot) old new obeys = obeyed_listens (Enable slot) old new obeys.0 obeys.1
 move_listens (Placed end remote) old new placed = ap (λ (c : Counts). c.wire.listens) (placed_resembles end remote old new placed).counts
 
 pub moves_listen : (moves : List Move) (old new : Turns) → MovesAll moves old new → new.counts.wire.listens ≡ old.counts.wire.listens

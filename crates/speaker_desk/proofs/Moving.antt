@@ -3,6 +3,7 @@ use Rattle.std.proofs.Common.{◌≡◌, ◌≢◌, ◌≤◌, ◌<◌, ◌-◌,
 use Rattle.std.proofs.lemmas.Bool.{cases_eq}
 use Rattle.std.specs.declared.net.socket_addr.SocketAddr.{SocketAddr}
 use Rattle.bgp_conf.specs.declared.command.Command.{Command}
+use Rattle.bgp_conf.specs.declared.command.Command.TheVariants.{Enable}
 use Rattle.bgp_conf.specs.declared.refusal.Refusal.{Refusal}
 use Rattle.speaker.specs.Agreement.{Agrees}
 use Rattle.bgp_conf.specs.declared.refusal.Refusal.TheVariants.{NoMemory}
@@ -28,7 +29,7 @@ use Rattle.speaker_turns.proofs.Carrying.{AreCarried, IsCarried, IsKept, IsKeptA
 use Rattle.speaker_turns.proofs.Effects.{gives_way_effect}
 use Rattle.speaker_turns.proofs.Places.{as_many, elsewhere, here}
 use Rattle.speaker_desk.specs.Moves.{AreCallsOf, AreCallsOfAll, Move, Moves, MovesAll}
-use Rattle.speaker_desk.specs.Moves.Move.{Turned, Stopped, Obeyed, Placed}
+use Rattle.speaker_desk.specs.Moves.Move.{Turned, Stopped, Obeyed, Let, Placed}
 
 -- a command that is accepted is one call
 commands_make : (command : Command) (old : SpeakerState) (report : Report) (new : SpeakerState) → Commands command old report new → Makes (Command_call command ∷ []) old new
@@ -159,6 +160,7 @@ move_leads : (move : Move) (old new : Turns) → length old.places ≡ place_cou
 move_leads (Turned now) old new all takes = turn_leads now old new (Ok tt) all takes
 move_leads (Stopped now) old new all takes = turn_leads now old new (Err Accept) all takes
 move_leads (Obeyed line command) old new all obeys = obeyed_leads command old new obeys.1 all obeys.2
+move_leads (Let slot) old new all obeys = obeyed_leads (Enable slot) old new obeys.0 all obeys.1
 move_leads (Placed end remote) old new all placed = resembling_leads old new (placed_resembles end remote old new placed)
 
 none_leads : (old new : Turns) → new ≡ old → LeadsOn old new
@@ -212,6 +214,7 @@ move_adds (Turned now) old new all takes config r agrees =
 move_adds (Stopped now) old new all takes config r agrees =
     let m = turn_adds old.speaker new.speaker (turn_leads now old new (Err Accept) all takes).made config r agrees in (m.0, tt, m.1)
 move_adds (Obeyed line command) old new all obeys config r agrees = obeyed_adds line command old new obeys.1 all obeys.2 config r agrees
+move_adds (Let slot) old new all obeys config r agrees = obeyed_adds [] (Enable slot) old new obeys.0 all obeys.1 config r agrees
 move_adds (Placed end remote) old new all placed config r agrees =
     ([], refl, subst (λ (s : SpeakerState). Agrees config r s) (sym (placed_resembles end remote old new placed).speaker) agrees)
 

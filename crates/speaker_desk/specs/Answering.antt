@@ -1,5 +1,9 @@
 -- What a line makes of a loop (own): it hands in what it asks for, once, or changes nothing.
-use Rattle.std.specs.Prelude.{◌≡◌, ◌⊎◌, ◌++◌, ℕ, zero, suc, List, [], ◌∷◌, Option, Some, None, MatchOption, Result, Ok, Err, codes}
+use Rattle.std.specs.Prelude.{◌≡◌, ◌≢◌, ◌⊎◌, ◌++◌, ℕ, zero, suc, List, [], ◌∷◌, Contains, Option, Some, None, MatchOption, Result, Ok, Err, codes}
+use Rattle.std.specs.Net.Addr.{IsIpv4OfBits}
+use Rattle.std.specs.Net.Socket.{socket_ip, socket_port}
+use Rattle.std.specs.declared.net.ipv4_addr.Ipv4Addr.{Ipv4Addr}
+use Rattle.std.specs.declared.net.ip_addr.IpAddr.TheVariants.{V4}
 use Rattle.std.specs.declared.net.socket_addr.SocketAddr.{SocketAddr}
 use Rattle.bgp_conf.specs.declared.command.Command.{Command}
 use Rattle.bgp_conf.specs.declared.command.Command.TheVariants.{AddPeer, RemovePeer, Enable, Disable, SetPolicy, DropPolicy, UseIn, UseOut, Network, NoNetwork, Reach, NoReach}
@@ -10,6 +14,8 @@ use Rattle.speaker.specs.declared.event.Report.{Report}
 use Rattle.speaker_turns.specs.Obeying.{Obeys}
 use Rattle.speaker_turns.specs.Turns.{Turns, with_remote}
 use Rattle.speaker_turns.specs.declared.end.End.TheVariants.{Peer}
+use Rattle.speaker_desk.specs.Standing.{Standing}
+use Rattle.speaker_desk.specs.Waiting.{decided_by, none_waits, without}
 
 -- the slot and the address of the peer that a command configures
 abbrev pub added_by : Command → Option (ℕ × ℕ)
@@ -26,30 +32,40 @@ added_by (NoNetwork prefix) = None
 added_by (Reach prefix cost) = None
 added_by (NoReach prefix) = None
 
--- of a peer that is configured the loop is told where it is
-abbrev pub IsToldWhere : Command → Turns → Turns → Type 0
-IsToldWhere command old new =
-    MatchOption (added_by command) (new ≡ old) (λ added. (remote : SocketAddr) × (new ≡ with_remote (Peer added.0) remote old))
+-- where the peer of a slot is: as the settings say, or at its address and BGP's port (RFC 4271 section 8.2.1)
+abbrev pub IsAt : List (ℕ × SocketAddr) → ℕ × ℕ → SocketAddr → Type 0
+IsAt remotes added remote =
+    Contains remotes (added.0, remote)
+    ⊎ (((other : SocketAddr) → ¬ (Contains remotes (added.0, other))) × (ip : Ipv4Addr) × IsIpv4OfBits ip added.1 × (socket_ip remote ≡ V4 ip) × (socket_port remote ≡ 179))
 
--- where a command was obeyed
-abbrev pub IsToldIf : Result Report Refusal → Command → Turns → Turns → Type 0
-IsToldIf (Ok report) command old new = IsToldWhere command old new
-IsToldIf (Err why) command old new = new ≡ old
+-- of a peer that is configured the loop is told where it is
+abbrev pub IsToldWhere : List (ℕ × SocketAddr) → Command → Turns → Turns → Type 0
+IsToldWhere remotes command old new =
+    MatchOption (added_by command) (new ≡ old) (λ added. (remote : SocketAddr) × IsAt remotes added remote × (new ≡ with_remote (Peer added.0) remote old))
+
+-- where a command was obeyed the peer whose session it decides on waits no longer
+abbrev pub FollowsAnswer : Result Report Refusal → Command → Turns → Standing → Standing → Type 0
+FollowsAnswer (Ok report) command mid old new =
+    IsToldWhere old.desk.remotes command mid new.served × (new.desk ≡ record old.desk { waiting = without (decided_by command) old.desk.waiting })
+FollowsAnswer (Err why) command mid old new = new ≡ record old { served = mid }
 
 -- the command is handed in once
-abbrev pub IsObeyed : Command → Turns → Turns → Type 0
-IsObeyed command old new = (result : Result Report Refusal) × (mid : Turns) × Obeys command old result mid × IsToldIf result command mid new
+pub record IsObeyed (command : Command) (old new : Standing) : Type 0 where
+  pub result : Result Report Refusal
+  pub mid : Turns
+  pub obeys : Obeys command old.served result mid
+  pub follows : FollowsAnswer result command mid old new
 
 -- and behind it, where it is obeyed, another one
-abbrev pub IsObeyedIf : Result Report Refusal → Command → Turns → Turns → Type 0
+abbrev pub IsObeyedIf : Result Report Refusal → Command → Standing → Standing → Type 0
 IsObeyedIf (Ok report) command old new = IsObeyed command old new
 IsObeyedIf (Err why) command old new = new ≡ old
 
-abbrev pub AreObeyed : Command → Command → Turns → Turns → Type 0
-AreObeyed first second old new = (result : Result Report Refusal) × (mid : Turns) × Obeys first old result mid × IsObeyedIf result second mid new
+abbrev pub AreObeyed : Command → Command → Standing → Standing → Type 0
+AreObeyed first second old new = (result : Result Report Refusal) × (mid : Turns) × Obeys first old.served result mid × IsObeyedIf result second (record old { served = mid }) new
 
 -- the peer of the slot that the word names is disabled and then enabled, or nothing changes
-abbrev pub ClearsSlot : List ℕ → Turns → Turns → Type 0
+abbrev pub ClearsSlot : List ℕ → Standing → Standing → Type 0
 ClearsSlot slot old new =
     (new ≡ old)
     ⊎ ((disable enable : Command) × Says (codes "disable" ∷ slot ∷ []) disable × Says (codes "enable" ∷ slot ∷ []) enable × AreObeyed disable enable old new)
@@ -59,23 +75,26 @@ abbrev pub StopsBelow : ℕ → Turns → Turns → Type 0
 StopsBelow zero old new = new ≡ old
 StopsBelow (suc slot) old new = (mid : Turns) × StopsBelow slot old mid × ((result : Result Report Refusal) × Obeys (Disable slot) mid result new)
 
--- the text of a line says a command, which is handed in; or it clears a slot, or stops all; or nothing changes
-abbrev pub AnswersText : List ℕ → Turns → Turns → Type 0
-AnswersText text old new =
+-- all are, none waits any more, and the program is to stop
+pub record Stops (now : ℕ) (old new : Standing) : Type 0 where
+  pub all : StopsBelow 64 old.served new.served
+  pub noted : new.desk ≡ record old.desk { waiting = none_waits old.desk.waiting; stopped = Some now }
+
+-- the text of a line says a command, which is handed in; or it clears a slot; or nothing changes
+abbrev pub Commands : List ℕ → Standing → Standing → Type 0
+Commands text old new =
     (new ≡ old)
     ⊎ (((command : Command) × Says (words_in text) command × IsObeyed command old new)
-    ⊎ (((slot : List ℕ) × (words_in text ≡ codes "clear" ∷ slot ∷ []) × ClearsSlot slot old new)
-    ⊎ ((text ≡ codes "stop") × StopsBelow 64 old new)))
+    ⊎ ((slot : List ℕ) × (words_in text ≡ codes "clear" ∷ slot ∷ []) × ClearsSlot slot old new))
 
--- the text of a line, which may end in a carriage return
+-- it stops the program, if it says so, and else does no more than this
+abbrev pub AnswersText : List ℕ → ℕ → Standing → Standing → Type 0
+AnswersText text now old new = ((text ≡ codes "stop") × Stops now old new) ⊎ ((text ≢ codes "stop") × Commands text old new)
+
+-- the text of a line: all but a carriage return at its end
 abbrev pub IsTextOf : List ℕ → List ℕ → Type 0
-IsTextOf line text = (line ≡ text) ⊎ (line ≡ text ++ 13 ∷ [])
+IsTextOf line text = (line ≡ text ++ 13 ∷ []) ⊎ ((line ≡ text) × ((front : List ℕ) → line ≢ front ++ 13 ∷ []))
 
 -- so it is of a line
-abbrev pub AnswersLine : List ℕ → Turns → Turns → Type 0
-AnswersLine line old new = (text : List ℕ) × IsTextOf line text × AnswersText text old new
-
--- and of these lines, one after another
-abbrev pub AnswersAll : List (List ℕ) → Turns → Turns → Type 0
-AnswersAll [] old new = new ≡ old
-AnswersAll (line ∷ lines) old new = (mid : Turns) × AnswersLine line old mid × AnswersAll lines mid new
+abbrev pub AnswersLine : List ℕ → ℕ → Standing → Standing → Type 0
+AnswersLine line now old new = (text : List ℕ) × IsTextOf line text × AnswersText text now old new

@@ -1,31 +1,111 @@
 -- Turns with operators between them.
-use Rattle.std.specs.Prelude.{◌≡◌, ◌≤◌, ◌⊎◌, ℕ, List, OnOk, Result, Ok, Err, length}
+use Rattle.std.specs.Prelude.{◌≡◌, ◌<◌, ◌⊎◌, ℕ, zero, suc, Bool, true, false, List, [], ◌∷◌, Option, None, Some, Result, Ok, Err, length}
+use Rattle.bgp_conf.specs.declared.command.Command.TheVariants.{Enable}
+use Rattle.bgp_conf.specs.declared.refusal.Refusal.{Refusal}
 use Rattle.clocks.specs.Moments.{NeverGoBack, told_behind}
+use Rattle.control_lines.specs.declared.talk.Wish.{Wish}
+use Rattle.control_lines.specs.declared.talk.Wish.TheVariants.{Nothing, Answer, More}
+use Rattle.speaker.specs.Shown.{cache_state_of}
+use Rattle.speaker.specs.declared.event.Report.{Report}
 use Rattle.wires.specs.declared.fault.LoopFault.TheVariants.{Accept}
+use Rattle.speaker_turns.specs.Obeying.{Obeys}
 use Rattle.speaker_turns.specs.Turns.{TakesTurn, Turns}
-use Rattle.control_lines.specs.declared.operators.TheConstants.{OPERATORS}
-use Rattle.speaker_desk.specs.Answering.{AnswersAll, AnswersLine}
-use Rattle.speaker_desk.specs.Moves.{AreWell, Move, MovesAll, moments_in}
+use Rattle.speaker_desk.specs.Answering.{AnswersLine}
+use Rattle.speaker_desk.specs.Standing.{Standing}
+use Rattle.speaker_desk.specs.Waiting.{first_of, opens, passed}
 
--- a line of an operator is answered, or nothing changes
-abbrev pub AnswersOne : Turns → Turns → Type 0
-AnswersOne old new = (new ≡ old) ⊎ ((line : List ℕ) × AnswersLine line old new)
+-- ---- peers that wait
 
--- what operators' lines make of a loop between two turns: a line of each at most
-pub record Attends (old new : Turns) : Type 0 where
-  pub lines : List (List ℕ)
-  pub few : length lines ≤ OPERATORS
-  pub made : AnswersAll lines old new
+-- the first that waits, if one does, is enabled
+abbrev pub LetsFirst : Option ℕ → Standing → Standing → Type 0
+LetsFirst None old new = new ≡ old
+LetsFirst (Some slot) old new =
+    (result : Result Report Refusal) × Obeys (Enable slot) old.served result new.served × (new.desk ≡ record old.desk { waiting = passed result old.desk.waiting })
 
--- so many turns or fewer, each at the moment that the clock told for it, with what operators asked for between them; where nothing
--- failed each turn went well
-pub record AttendsTurns {E : Type 0} (count : ℕ) (result : Result (Unit {0}) E) (before behind : List ℕ) (old new : Turns) : Type 0 where
-  pub moves : List Move
-  pub made : MovesAll moves old new
-  pub told : behind ≡ told_behind (moments_in moves) before
-  pub forward : NeverGoBack before → NeverGoBack behind
-  pub few : length (moments_in moves) ≤ count
-  pub well : OnOk result (AreWell moves)
+-- and so on, so many times
+abbrev pub LetsMany : ℕ → Standing → Standing → Type 0
+LetsMany zero old new = new ≡ old
+LetsMany (suc count) old new = (mid : Standing) × LetsMany count old mid × LetsFirst (first_of mid.desk.waiting.slots) mid new
+
+-- all are where they may go, and none is where they may not
+abbrev pub LetsIf : Bool → Standing → Standing → Type 0
+LetsIf false old new = new ≡ old
+LetsIf true old new = LetsMany 64 (record old { desk = record old.desk { waiting = record old.desk.waiting { is_open = true } } }) new
+
+abbrev pub LetsThrough : ℕ → Standing → Standing → Type 0
+LetsThrough now old new = LetsIf (opens now (cache_state_of old.served.speaker.cache) old.desk.waiting) old new
+
+-- ---- operators
+
+-- the program was to stop
+abbrev pub HasStopped : Option ℕ → Type 0
+HasStopped stopped = (since : ℕ) × (stopped ≡ Some since)
+
+-- a loop, a desk, and operators
+pub record Hall (P : Type 0) : Type 0 where
+  pub stand : Standing
+  pub operators : P
+
+-- something is said to one of them
+abbrev pub IsTold : {P : Type 0} → (ℕ → List ℕ → Bool → P → P → Type 0) → ℕ → P → P → Type 0
+IsTold hears key old new = (octets : List ℕ) × (goes_on : Bool) × hears key octets goes_on old new
+
+module _ {P : Type 0} (wish : P → ℕ → Wish) (line : P → ℕ → List ℕ) (turns : ℕ → P → P → Type 0) (hears : ℕ → List ℕ → Bool → P → P → Type 0) where
+  -- the operator of a key waits for nothing, for an answer to its line, or for more of one: so it is told, once, and nobody else is
+  abbrev pub AttendsWish : Wish → ℕ → ℕ → Hall P → Hall P → Type 0
+  AttendsWish Nothing key now old new = new ≡ old
+  AttendsWish Answer key now old new = AnswersLine (line old.operators key) now old.stand new.stand × IsTold hears key old.operators new.operators
+  AttendsWish More key now old new = (new.stand ≡ old.stand) × IsTold hears key old.operators new.operators
+
+  -- the operators of the keys below this one, in rising order
+  abbrev pub AttendsBelow : ℕ → ℕ → Hall P → Hall P → Type 0
+  AttendsBelow zero now old new = new ≡ old
+  AttendsBelow (suc key) now old new = (mid : Hall P) × AttendsBelow key now old mid × AttendsWish (wish mid.operators key) key now mid new
+
+  -- a round at a moment: a turn goes well, operators are visited, peers that waited are let through where they may go, and each operator
+  -- is attended to
+  pub record TakesRound (now : ℕ) (old new : Hall P) : Type 0 where
+    pub turned : Turns
+    pub turn : TakesTurn now old.stand.served (Ok tt) turned
+    pub visited : P
+    pub visits : turns now old.operators visited
+    pub let_through : Standing
+    pub lets : LetsThrough now (record old.stand { served = turned }) let_through
+    pub attends : AttendsBelow 16 now (record { stand = let_through; operators = visited }) new
+
+  abbrev pub TakesRounds : List ℕ → Hall P → Hall P → Type 0
+  TakesRounds [] old new = new ≡ old
+  TakesRounds (now ∷ moments) old new = (mid : Hall P) × TakesRound now old mid × TakesRounds moments mid new
+
+  -- one more turn, behind which the program ends since it was to stop
+  pub record IsStopped (now : ℕ) (old new : Hall P) : Type 0 where
+    pub turn : TakesTurn now old.stand.served (Ok tt) new.stand.served
+    pub visits : turns now old.operators new.operators
+    pub same : new.stand.desk ≡ old.stand.desk
+    pub stopped : HasStopped new.stand.desk.stopped
+
+  -- one more turn, which can't accept
+  pub record Fails (now : ℕ) (old new : Hall P) : Type 0 where
+    pub turn : TakesTurn now old.stand.served (Err Accept) new.stand.served
+    pub same : new ≡ record old { stand = record old.stand { served = new.stand.served } }
+
+  -- how the rounds at these moments end: so many were taken, or fewer, and then one who asked has stopped the program, or the clock or a
+  -- turn fails
+  abbrev pub EndsRounds : {E : Type 0} → Result (Unit {0}) E → ℕ → List ℕ → List ℕ → List ℕ → Hall P → Hall P → Type 0
+  EndsRounds (Ok done) count moments before behind old new =
+      ((length moments ≡ count) × (behind ≡ told_behind moments before) × (new ≡ old))
+      ⊎ ((now : ℕ) × (length moments < count) × (behind ≡ now ∷ told_behind moments before) × IsStopped now old new)
+  EndsRounds (Err fault) count moments before behind old new =
+      ((length moments < count) × (behind ≡ told_behind moments before) × (new ≡ old))
+      ⊎ ((now : ℕ) × (length moments < count) × (behind ≡ now ∷ told_behind moments before) × Fails now old new)
+
+  -- so many rounds, each at the moment that the clock told for it, or fewer
+  pub record AttendsTurns {E : Type 0} (count : ℕ) (result : Result (Unit {0}) E) (before behind : List ℕ) (old new : Hall P) : Type 0 where
+    pub moments : List ℕ
+    pub mid : Hall P
+    pub rounds : TakesRounds moments old mid
+    pub ends : EndsRounds result count moments before behind mid new
+    pub forward : NeverGoBack before → NeverGoBack behind
 
 -- a turn goes well, or can't accept
 abbrev pub TakesOrStops : {E : Type 0} → ℕ → Turns → Result (Unit {0}) E → Turns → Type 0

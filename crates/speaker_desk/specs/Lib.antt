@@ -1,3 +1,5 @@
 pub mod Answering
 pub mod Attended
 pub mod Moves
+pub mod Standing
+pub mod Waiting

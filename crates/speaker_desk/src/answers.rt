@@ -1,7 +1,9 @@
 //! The words of answers.
 
 use bgp_conf::{Action, Command, PEER_SLOTS, Refusal, Rule};
+use line_causes::{OPERATOR_LINES, cause_of};
 use speaker::Report;
+use std::alloc::Global;
 use std::io::{self, Write};
 
 /// Says that a command was obeyed. Where memory was wanting, sessions are named that were closed for it; of a policy it is told
@@ -61,13 +63,13 @@ pub(crate) fn say_no_peer(page: &mut Vec<u8>, slot: u8) -> io::Result<()> {
     writeln!(page, "refused {number} slot {slot} has no peer")
 }
 
-/// Says that a line is none, and which one it may have been meant to be.
-pub(crate) fn say_bad_line(page: &mut Vec<u8>, text: &str) -> io::Result<()> {
-    if text.starts_with("policy ") {
-        return writeln!(
-            page,
-            "bad line: policy NAME RULE ; RULE .., and each RULE ends in accept or reject"
-        );
+/// Says that a line is none, and why, as far as there is memory to find out.
+pub(crate) fn say_bad_line(alloc: Global, page: &mut Vec<u8>, text: &str) -> io::Result<()> {
+    if text.is_empty() {
+        return writeln!(page, "bad line");
     }
-    writeln!(page, "bad line")
+    match cause_of(alloc, text, &OPERATOR_LINES) {
+        Ok(Some(cause)) => writeln!(page, "bad line: {cause}"),
+        Ok(None) | Err(_) => writeln!(page, "bad line"),
+    }
 }

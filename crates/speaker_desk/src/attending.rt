@@ -28,8 +28,8 @@ pub enum AttendFault {
 }
 
 /// So many turns, or fewer where an operator stops them, each at the moment that is read for it, with the operators' lines
-/// between them. The journal looks on behind each turn, and writes to the output. Between turns the program rests until one may
-/// find something to do, or so long.
+/// between them; peers that wait are enabled where they may go. The journal looks on behind each turn, and writes to the
+/// output. Between turns the program rests until one may find something to do, or so long.
 pub fn attended_turns<
     R: Clock,
     W: Wire + Drop,
@@ -49,7 +49,8 @@ pub fn attended_turns<
     journal: &mut N,
     output: &mut O,
 ) -> Result<(), AttendFault>
-    ensures turns { AttendsTurns turns result (C.readings clock.old) (C.readings clock.new) served.old served.new }
+    ensures turns { AttendsTurns P.wish P.line P.turns P.hears turns result (C.readings clock.old) (C.readings clock.new)
+        (record { stand = record { served = served.old; desk = desk.old }; operators = operators.old }) (record { stand = record { served = served.new; desk = desk.new }; operators = operators.new }) }
     ensures silent { N.writes journal.old ≡ false → output.new ≡ output.old }
 {
     for _ in 0..turns {
@@ -61,6 +62,7 @@ pub fn attended_turns<
         if desk.has_stopped(served.speaker(), operators.is_busy(), now) {
             return Ok(());
         }
+        desk.let_through(served, now);
         desk.attend(served, operators, now);
         served.wait(rest_of(operators, rest));
     }

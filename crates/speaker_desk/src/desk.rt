@@ -1,12 +1,16 @@
 //! What each line is answered.
-ghost use Rattle.std.specs.Prelude.{◌≡◌, ◌∷◌, ℕ, List, [], IfOk, IfSome};
-ghost use Rattle.command_lines.specs.CommandWords.{SaysLine};
-ghost use Rattle.speaker_desk.specs.Answering.{AnswersLine, AnswersText, AreObeyed, ClearsSlot, IsObeyed, IsTextOf, IsToldWhere, StopsBelow, added_by};
-ghost use Rattle.speaker_desk.specs.Attended.{AnswersOne, Attends};
+ghost use Rattle.std.specs.Prelude.{◌≡◌, IfOk, None};
+ghost use Rattle.std.specs.Bool.{OnTrue};
+ghost use Rattle.speaker_desk.specs.Answering.{AnswersLine, AnswersText, AreObeyed, ClearsSlot, Commands, IsObeyed, IsToldWhere, Stops, StopsBelow};
+ghost use Rattle.speaker_desk.specs.Attended.{AttendsBelow, AttendsWish, HasStopped, IsTold, LetsFirst, LetsThrough};
+ghost use Rattle.speaker_desk.specs.Waiting.{decided_by, first_of, without};
 
 use crate::answers::{say_bad_line, say_done, say_no_peer, say_refused};
+use crate::exchange::Exchange;
+use crate::gate::Gate;
+use crate::line::{added_by, ascii_text, decided_by, line_of, remote_of, without_return};
 use bgp_conf::{Command, PEER_SLOTS, Refusal};
-use command_lines::{CommandLine, words_of};
+use command_lines::words_of;
 use control_lines::{OPERATORS, Operators, Wish};
 use decision::Book;
 use net_prefix::Transport;
@@ -16,12 +20,9 @@ use speaker_tables::{Rest, Scene, Shown, StateTimes, shown_by, write_piece};
 use speaker_turns::{End, SpeakerLoop};
 use std::alloc::{AllocError, Global};
 use std::io::{self, Write};
-use std::net::{IpAddr, Ipv4Addr, SocketAddr};
-use std::str;
+use std::marker::Model;
+use std::net::SocketAddr;
 use wires::Wire;
-
-// BGP's port (RFC 4271 section 8.2.1).
-const BGP_PORT: u16 = 179;
 
 /// For how many seconds at most sessions are still served behind `stop`, so that what was said to their peers goes out
 /// (own choice).
@@ -37,16 +38,16 @@ enum Said {
     Whole,
     /// More of a table is to come.
     More(Rest),
-    /// The program is to stop.
-    Stop,
 }
 
-/// What is kept of operators' lines between turns.
+/// What is kept of operators' lines between turns, and peers that wait.
 #[derive(Drop)]
 pub struct Desk<'a> {
     alloc: Global,
     // Where the peers of the settings are.
     remotes: &'a [(u8, SocketAddr)],
+    gate: Gate,
+    exchange: &'a Exchange,
     // What is being said, and what is left of the table of each operator.
     page: Vec<u8>,
     left: Vec<Left>,
@@ -56,12 +57,29 @@ pub struct Desk<'a> {
     times: StateTimes,
 }
 
+impl<'a> Model for Desk<'a> {
+    ghost use Rattle.speaker_desk.specs.Standing.{DeskState};
+
+    ghost Value = { DeskState };
+
+    ghost view = { λ desk. record { remotes = desk.remotes.now; waiting = desk.gate; stopped = desk.stopped } };
+}
+
 impl<'a> Desk<'a> {
-    /// Nothing was asked yet. The peers of the settings are there.
-    pub fn new(alloc: Global, remotes: &'a [(u8, SocketAddr)]) -> Result<Desk<'a>, AllocError> {
+    /// Nothing was asked yet. The peers of the settings are there, those of the gate wait, and what operators command is noted.
+    pub fn new(
+        alloc: Global,
+        remotes: &'a [(u8, SocketAddr)],
+        gate: Gate,
+        exchange: &'a Exchange,
+    ) -> Result<Desk<'a>, AllocError>
+        ensures { IfOk result (λ desk. desk ≡ record { remotes = remotes.now; waiting = gate; stopped = None }) }
+    {
         Ok(Desk {
             alloc,
             remotes,
+            gate,
+            exchange,
             page: Vec::new(alloc),
             left: nothing_left(alloc)?,
             stopped: None,
@@ -70,19 +88,63 @@ impl<'a> Desk<'a> {
     }
 
     /// Notes the states of the sessions behind a turn of this moment, to tell since when they are in them.
-    pub fn note_states<B: Book<Global>>(&mut self, speaker: &Speaker<Global, B>, now: u64) {
+    pub fn note_states<B: Book<Global>>(&mut self, speaker: &Speaker<Global, B>, now: u64)
+        ensures { self.new ≡ self.old }
+    {
         self.times.look(speaker, now);
     }
 
-    /// Answers each operator that waits for something.
-    #[tactic(auto, using(crate::proofs::AskedMoves::attends_first, crate::proofs::AskedMoves::attends_one, crate::proofs::AskedMoves::attends_all))]
+    /// Enables the peers that wait, where they may go: from the first turn on behind which the session with the cache is synced,
+    /// or whose moment is theirs. One that memory is refused to waits on.
+    #[tactic(auto, using(crate::proofs::Attended::lets_none, crate::proofs::Attended::lets_first, crate::proofs::Attended::lets_all))]
+    pub fn let_through<W: Wire + Drop, B: Book<Global>>(
+        &mut self,
+        served: &mut SpeakerLoop<W, Global, B>,
+        now: u64,
+    )
+        ensures { LetsThrough now (record { served = served.old; desk = self.old }) (record { served = served.new; desk = self.new }) }
+    {
+        if !self.gate.open(now, served.speaker().cache_session()) {
+            return;
+        }
+        for _ in 0..PEER_SLOTS {
+            self.let_first(served);
+        }
+    }
+
+    fn let_first<W: Wire + Drop, B: Book<Global>>(&mut self, served: &mut SpeakerLoop<W, Global, B>)
+        ensures { LetsFirst (first_of self.old.waiting.slots) (record { served = served.old; desk = self.old }) (record { served = served.new; desk = self.new }) }
+    {
+        let Some(slot) = self.gate.first() else {
+            return;
+        };
+        match served.obey(Command::Enable(slot)) {
+            Err(Refusal::NoMemory) => {}
+            Ok(_) | Err(_) => {
+                self.note_let(slot);
+                self.gate.pass();
+            }
+        }
+    }
+
+    // A log has it as an operator's command.
+    fn note_let(&mut self, slot: u8)
+        ensures { self.new ≡ self.old }
+    {
+        self.page.clear();
+        let _said = write!(self.page, "enable {slot}");
+        self.exchange.note(self.page.as_slice(), b"ok\n");
+    }
+
+    /// Answers each operator that waits for something, in rising order of their keys.
     pub fn attend<W: Wire + Drop, B: Book<Global>, O: Operators>(
         &mut self,
         served: &mut SpeakerLoop<W, Global, B>,
         operators: &mut O,
         now: u64,
     )
-        ensures { Attends served.old served.new }
+        ensures { AttendsBelow O.wish O.line O.turns O.hears 16 now (record { stand = record { served = served.old; desk = self.old }; operators = operators.old })
+            (record { stand = record { served = served.new; desk = self.new }; operators = operators.new }) }
     {
         for key in 0..OPERATORS {
             self.attend_one(served, operators, key, now);
@@ -90,7 +152,6 @@ impl<'a> Desk<'a> {
     }
 
     // Answers the operator at this place, who may wait for something.
-    #[tactic(auto, using(crate::proofs::AskedMoves::answers_none, crate::proofs::AskedMoves::answers_line))]
     fn attend_one<W: Wire + Drop, B: Book<Global>, O: Operators>(
         &mut self,
         served: &mut SpeakerLoop<W, Global, B>,
@@ -98,7 +159,8 @@ impl<'a> Desk<'a> {
         key: usize,
         now: u64,
     )
-        ensures { AnswersOne served.old served.new }
+        ensures { AttendsWish O.wish O.line O.turns O.hears (O.wish operators.old key) key now (record { stand = record { served = served.old; desk = self.old }; operators = operators.old })
+            (record { stand = record { served = served.new; desk = self.new }; operators = operators.new }) }
     {
         match operators.wish(key) {
             Wish::Nothing => {}
@@ -114,7 +176,9 @@ impl<'a> Desk<'a> {
         speaker: &Speaker<Global, B>,
         is_busy: bool,
         now: u64,
-    ) -> bool {
+    ) -> bool
+        ensures { OnTrue result (HasStopped self.now.stopped) }
+    {
         let Some(since) = self.stopped else {
             return false;
         };
@@ -129,14 +193,25 @@ impl<'a> Desk<'a> {
         key: usize,
         now: u64,
     )
-        ensures { (line : List ℕ) × AnswersLine line served.old served.new }
+        ensures answers { AnswersLine (O.line operators.old key) now (record { served = served.old; desk = self.old }) (record { served = served.new; desk = self.new }) }
+        ensures tells { IsTold O.hears key operators.old operators.new }
+    {
+        self.turn_page();
+        let said = self.say(served, operators.line(key), now);
+        self.note(operators.line(key));
+        self.put(operators, key, said);
+    }
+
+    // Nothing is said yet.
+    fn turn_page(&mut self)
+        ensures { self.new ≡ self.old }
     {
         self.page.clear();
-        let said = self.say(served, operators.line(key), now);
-        if let Ok(Said::Stop) = said {
-            self.stopped = Some(now);
-        }
-        self.put(operators, key, said);
+    }
+
+    // Notes what the line was answered.
+    fn note(&self, line: &[u8]) {
+        self.exchange.note(line, self.page.as_slice());
     }
 
     // Shows an operator the next piece of its table.
@@ -146,8 +221,11 @@ impl<'a> Desk<'a> {
         operators: &mut O,
         key: usize,
         now: u64,
-    ) {
-        self.page.clear();
+    )
+        ensures same { self.new ≡ self.old }
+        ensures tells { IsTold O.hears key operators.old operators.new }
+    {
+        self.turn_page();
         let said = match self.left.get(key).copied() {
             Some(Some(rest)) => self.show(speaker, rest, now),
             _ => Ok(Said::Whole),
@@ -156,10 +234,13 @@ impl<'a> Desk<'a> {
     }
 
     // Hands what is said to the operator. What memory refused is cut.
-    fn put<O: Operators>(&mut self, operators: &mut O, key: usize, said: io::Result<Said>) {
+    fn put<O: Operators>(&mut self, operators: &mut O, key: usize, said: io::Result<Said>)
+        ensures same { self.new ≡ self.old }
+        ensures tells { IsTold O.hears key operators.old operators.new }
+    {
         let rest = match said {
             Ok(Said::More(rest)) => Some(rest),
-            Ok(Said::Whole | Said::Stop) | Err(_) => None,
+            Ok(Said::Whole) | Err(_) => None,
         };
         operators.say(key, self.page.as_slice(), rest.is_some());
         if let Some(left) = self.left.get_mut(key) {
@@ -168,36 +249,50 @@ impl<'a> Desk<'a> {
     }
 
     // Says what the line is answered.
-    #[tactic(auto, using(crate::proofs::AskedMoves::line_text, crate::proofs::AskedMoves::line_none))]
+    #[tactic(auto, using(crate::proofs::Attended::line_stops, crate::proofs::Attended::line_says, crate::proofs::Attended::line_none))]
     fn say<W: Wire + Drop, B: Book<Global>>(
         &mut self,
         served: &mut SpeakerLoop<W, Global, B>,
         line: &[u8],
         now: u64,
     ) -> io::Result<Said>
-        ensures { AnswersLine line.now served.old served.new }
+        ensures { AnswersLine line.now now (record { served = served.old; desk = self.old }) (record { served = served.new; desk = self.new }) }
     {
-        match text_of(line) {
+        let line = without_return(line);
+        if line == b"stop".as_slice() {
+            return self.stop(served, now);
+        }
+        match ascii_text(line) {
             Some(text) => self.say_text(served, text, now),
             None => self.bad_line(""),
         }
     }
 
+    // Stops the program: disables each peer, of whom none waits any more.
+    fn stop<W: Wire + Drop, B: Book<Global>>(
+        &mut self,
+        served: &mut SpeakerLoop<W, Global, B>,
+        now: u64,
+    ) -> io::Result<Said>
+        ensures { Stops now (record { served = served.old; desk = self.old }) (record { served = served.new; desk = self.new }) }
+    {
+        stop_all(served);
+        self.gate.forget_all();
+        self.stopped = Some(now);
+        writeln!(self.page, "ok")?;
+        Ok(Said::Whole)
+    }
+
     // Says what the text of a line is answered.
-    #[tactic(auto, using(crate::proofs::AskedMoves::text_none, crate::proofs::AskedMoves::text_stops))]
+    #[tactic(auto, using(crate::proofs::Attended::commands_none))]
     fn say_text<W: Wire + Drop, B: Book<Global>>(
         &mut self,
         served: &mut SpeakerLoop<W, Global, B>,
         text: &str,
         now: u64,
     ) -> io::Result<Said>
-        ensures { AnswersText text.now served.old served.new }
+        ensures { Commands text.now (record { served = served.old; desk = self.old }) (record { served = served.new; desk = self.new }) }
     {
-        if text == "stop" {
-            stop_all(served);
-            writeln!(self.page, "ok")?;
-            return Ok(Said::Stop);
-        }
         if let Some(shown) = shown_by(text) {
             return self.begin(served.speaker(), shown, now);
         }
@@ -208,14 +303,14 @@ impl<'a> Desk<'a> {
     }
 
     // Says what a line is answered that scripts have too.
-    #[tactic(auto, using(crate::proofs::AskedMoves::text_none))]
+    #[tactic(auto, using(crate::proofs::Attended::commands_none))]
     fn say_line<W: Wire + Drop, B: Book<Global>>(
         &mut self,
         served: &mut SpeakerLoop<W, Global, B>,
         text: &str,
         now: u64,
     ) -> io::Result<Said>
-        ensures { AnswersText text.now served.old served.new }
+        ensures { Commands text.now (record { served = served.old; desk = self.old }) (record { served = served.new; desk = self.new }) }
     {
         match Line::parse(self.alloc, text) {
             Ok(Line::Drive(SpeakerLine::Obey(line))) => self.obey(served, line.command()),
@@ -227,52 +322,63 @@ impl<'a> Desk<'a> {
         }
     }
 
-    fn bad_line(&mut self, text: &str) -> io::Result<Said> {
-        say_bad_line(&mut self.page, text)?;
+    fn bad_line(&mut self, text: &str) -> io::Result<Said>
+        ensures { self.new ≡ self.old }
+    {
+        say_bad_line(self.alloc, &mut self.page, text)?;
         Ok(Said::Whole)
     }
 
-    fn refuse_line(&mut self, fault: LineFault, text: &str) -> io::Result<Said> {
+    fn refuse_line(&mut self, fault: LineFault, text: &str) -> io::Result<Said>
+        ensures { self.new ≡ self.old }
+    {
         match fault {
             LineFault::BadLine => self.bad_line(text),
             LineFault::NoMemory => self.refuse(Refusal::NoMemory),
         }
     }
 
-    fn refuse(&mut self, refusal: Refusal) -> io::Result<Said> {
+    fn refuse(&mut self, refusal: Refusal) -> io::Result<Said>
+        ensures { self.new ≡ self.old }
+    {
         say_refused(&mut self.page, refusal)?;
         Ok(Said::Whole)
     }
 
-    // Hands the command to the speaker. Of a peer that is configured so it is told where it is.
+    // Hands the command to the speaker. Of a peer that is configured so it is told where it is, and one whose session it decides
+    // on waits no longer.
+    #[tactic(auto, using(crate::proofs::Attended::obeys_ok, crate::proofs::Attended::obeys_err))]
     fn obey<W: Wire + Drop, B: Book<Global>>(
         &mut self,
         served: &mut SpeakerLoop<W, Global, B>,
         command: Command<'_>,
     ) -> io::Result<Said>
-        ensures { IsObeyed command.entry served.old served.new }
+        ensures { IsObeyed command.entry (record { served = served.old; desk = self.old }) (record { served = served.new; desk = self.new }) }
     {
         match served.obey(command) {
             Ok(report) => {
                 self.tell_remote(served, command);
+                self.decide(command);
                 self.say_obeyed(&command, &report)
             }
             Err(refusal) => self.refuse(refusal),
         }
     }
 
-    fn say_obeyed(&mut self, command: &Command<'_>, report: &Report) -> io::Result<Said> {
+    fn say_obeyed(&mut self, command: &Command<'_>, report: &Report) -> io::Result<Said>
+        ensures { self.new ≡ self.old }
+    {
         say_done(&mut self.page, command, report)?;
         Ok(Said::Whole)
     }
 
-    #[tactic(auto, using(crate::proofs::AskedMoves::told_some, crate::proofs::AskedMoves::told_none))]
+    #[tactic(auto, using(crate::proofs::Attended::told_some, crate::proofs::Attended::told_none))]
     fn tell_remote<W: Wire + Drop, B: Book<Global>>(
         &self,
         served: &mut SpeakerLoop<W, Global, B>,
         command: Command<'_>,
     )
-        ensures { IsToldWhere command.entry served.old served.new }
+        ensures { IsToldWhere self.now.remotes command.entry served.old served.new }
     {
         match added_by(&command) {
             Some((slot, address)) => {
@@ -283,14 +389,24 @@ impl<'a> Desk<'a> {
         }
     }
 
+    // The peer on whose session a command decides waits no longer.
+    fn decide(&mut self, command: Command<'_>)
+        ensures { self.new ≡ record self.old { waiting = without (decided_by command.entry) self.old.waiting } }
+    {
+        match decided_by(&command) {
+            Some(slot) => self.gate.forget(slot),
+            None => {}
+        }
+    }
+
     // Ends the session of a slot by an administrative shutdown (RFC 4486 section 4), and has it begin again.
-    #[tactic(auto, using(crate::proofs::AskedMoves::text_none, crate::proofs::AskedMoves::text_clears))]
+    #[tactic(auto, using(crate::proofs::Attended::commands_none, crate::proofs::Attended::commands_clears))]
     fn clear<W: Wire + Drop, B: Book<Global>>(
         &mut self,
         served: &mut SpeakerLoop<W, Global, B>,
         text: &str,
     ) -> io::Result<Said>
-        ensures { AnswersText text.now served.old served.new }
+        ensures { Commands text.now (record { served = served.old; desk = self.old }) (record { served = served.new; desk = self.new }) }
     {
         let Ok(words) = words_of(self.alloc, text) else {
             return self.refuse(Refusal::NoMemory);
@@ -302,13 +418,13 @@ impl<'a> Desk<'a> {
     }
 
     // Disables the peer of the slot that a word names, and enables it.
-    #[tactic(auto, using(crate::proofs::AskedMoves::clears_both, crate::proofs::AskedMoves::clears_none))]
+    #[tactic(auto, using(crate::proofs::Attended::clears_both, crate::proofs::Attended::clears_none))]
     fn clear_slot<W: Wire + Drop, B: Book<Global>>(
         &mut self,
         served: &mut SpeakerLoop<W, Global, B>,
         slot: &str,
     ) -> io::Result<Said>
-        ensures { ClearsSlot slot.now served.old served.new }
+        ensures { ClearsSlot slot.now (record { served = served.old; desk = self.old }) (record { served = served.new; desk = self.new }) }
     {
         let disable = match line_of(self.alloc, "disable", slot) {
             Ok(line) => line,
@@ -322,14 +438,14 @@ impl<'a> Desk<'a> {
     }
 
     // Hands in a command, and where it is obeyed another one.
-    #[tactic(auto, using(crate::proofs::AskedMoves::both_ok, crate::proofs::AskedMoves::both_err))]
+    #[tactic(auto, using(crate::proofs::Attended::both_ok, crate::proofs::Attended::both_err))]
     fn restart<W: Wire + Drop, B: Book<Global>>(
         &mut self,
         served: &mut SpeakerLoop<W, Global, B>,
         first: Command<'_>,
         second: Command<'_>,
     ) -> io::Result<Said>
-        ensures { AreObeyed first.entry second.entry served.old served.new }
+        ensures { AreObeyed first.entry second.entry (record { served = served.old; desk = self.old }) (record { served = served.new; desk = self.new }) }
     {
         match served.obey(first) {
             Ok(_) => self.obey(served, second),
@@ -343,7 +459,9 @@ impl<'a> Desk<'a> {
         speaker: &Speaker<Global, B>,
         shown: Shown,
         now: u64,
-    ) -> io::Result<Said> {
+    ) -> io::Result<Said>
+        ensures { self.new ≡ self.old }
+    {
         if let Some(slot) = slot_without_peer(speaker, shown) {
             say_no_peer(&mut self.page, slot)?;
             return Ok(Said::Whole);
@@ -357,7 +475,9 @@ impl<'a> Desk<'a> {
         speaker: &Speaker<Global, B>,
         rest: Rest,
         now: u64,
-    ) -> io::Result<Said> {
+    ) -> io::Result<Said>
+        ensures { self.new ≡ self.old }
+    {
         let scene = Scene {
             speaker,
             times: &self.times,
@@ -370,56 +490,12 @@ impl<'a> Desk<'a> {
     }
 }
 
-// The text of a line without a carriage return at its end, where it is ASCII.
-fn text_of(line: &[u8]) -> Option<&str>
-    ensures { IfSome result (λ text. IsTextOf line.now text.now) }
-{
-    match line.split_last() {
-        Some((last, octets)) if *last == b'\r' => ascii_text(octets),
-        _ => ascii_text(line),
-    }
-}
-
-fn ascii_text(octets: &[u8]) -> Option<&str>
-    ensures { IfSome result (λ text. text.now ≡ octets.now) }
-{
-    if !octets.is_ascii() {
-        return None;
-    }
-    str::from_utf8(octets).ok()
-}
-
-// The line of a command of one word.
-fn line_of<'a>(alloc: Global, command: &'a str, word: &'a str) -> Result<CommandLine<'a>, LineFault>
-    ensures { IfOk result (λ line. SaysLine (command.now ∷ word.now ∷ []) line) }
-{
-    CommandLine::of(alloc, &[command, word])
-}
-
 // The slot of whose peer a table is, where there is no such peer.
 fn slot_without_peer<B: Book<Global>>(speaker: &Speaker<Global, B>, shown: Shown) -> Option<u8> {
     let slot = shown.slot()?;
     match speaker.session(slot) {
         Some(_) => None,
         None => Some(slot),
-    }
-}
-
-// The slot and the address of the peer that a command configures.
-fn added_by(command: &Command<'_>) -> Option<(u8, u32)>
-    ensures { result ≡ added_by command.now }
-{
-    match command {
-        Command::AddPeer(slot, peer) => Some((*slot, peer.address)),
-        _ => None,
-    }
-}
-
-// Where a peer is: as the settings say of its slot, or at its address and BGP's port.
-fn remote_of(remotes: &[(u8, SocketAddr)], slot: u8, address: u32) -> SocketAddr {
-    match remotes.iter().find(|remote| remote.0 == slot) {
-        Some(remote) => remote.1,
-        None => SocketAddr::new(IpAddr::V4(Ipv4Addr::from_bits(address)), BGP_PORT),
     }
 }
 
@@ -432,7 +508,7 @@ fn nothing_left(alloc: Global) -> Result<Vec<Left>, AllocError> {
 }
 
 // Disables each peer: its session ends by an administrative shutdown (RFC 4486 section 4).
-#[tactic(auto, using(crate::proofs::AskedMoves::stops_first, crate::proofs::AskedMoves::stops_more, crate::proofs::AskedMoves::stops_all))]
+#[tactic(auto, using(crate::proofs::Attended::stops_first, crate::proofs::Attended::stops_more, crate::proofs::Attended::stops_all))]
 fn stop_all<W: Wire + Drop, B: Book<Global>>(served: &mut SpeakerLoop<W, Global, B>)
     ensures { StopsBelow 64 served.old served.new }
 {

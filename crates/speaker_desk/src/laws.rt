@@ -1,5 +1,5 @@
 //! What follows of turns with operators between them.
-ghost use Rattle.std.specs.Prelude.{◌≡◌, ◌<◌, ◌-◌, ◌^◌, ◌++◌, ℕ, List, Some, length, true};
+ghost use Rattle.std.specs.Prelude.{◌≡◌, ◌<◌, ◌-◌, ◌^◌, ◌++◌, ℕ, List, Result, Some, length, true};
 ghost use Rattle.speaker.specs.Agreement.{Agrees};
 ghost use Rattle.speaker.specs.Runs.{Run};
 ghost use Rattle.speaker.specs.declared.config.Config.{Config};
@@ -7,7 +7,11 @@ ghost use Rattle.speaker_turns.specs.Carrying.{CarriesOwn, IsFresh};
 ghost use Rattle.speaker_turns.specs.Ends.{place_count};
 ghost use Rattle.speaker_turns.specs.Serving.{Connection};
 ghost use Rattle.speaker_turns.specs.Turns.{Turns, place_at};
-ghost use Rattle.speaker_desk.specs.Moves.{AreCallsOfAll, Move, MovesAll};
+ghost use Rattle.speaker_desk.specs.Attended.{AttendsTurns, Hall};
+ghost use Rattle.speaker_desk.specs.Moves.{AreCallsOfAll, Move, MovesAll, TakesMoves};
+ghost use Rattle.speaker_desk.specs.declared.attending.AttendFault.{AttendFault};
+
+use control_lines::Operators;
 
 /// Whatever turns are taken and whatever operators ask for between them, the speaker is as calls of it leave it: for every run
 /// that it agreed with, it agrees with that run followed by theirs, in which each command that was accepted stands between the
@@ -21,4 +25,10 @@ pub fn commands_stand_between_turns()
 /// handed out for it, in order.
 pub fn commands_leave_what_sessions_carry()
     ensures { (config : Config) (r : Run) (moves : List Move) (start new : Turns) (key : ℕ) (line : Connection) → Agrees config r start.speaker → length start.places ≡ place_count → IsFresh start → MovesAll moves start new → new.counts.wire.sockets < 2 ^ 64 - 1 → (place_at new key).line ≡ Some line → line.is_up ≡ true → CarriesOwn config r new key line }
+{}
+
+/// Turns with operators between them are turns at the moments that the clock told, the commands that lines ask for, and peers
+/// that are let through.
+pub fn attended_turns_are_moves<P: Operators>()
+    ensures { (count : ℕ) (result : Result (Unit {0}) AttendFault) (before behind : List ℕ) (old new : Hall P) → AttendsTurns P.wish P.line P.turns P.hears count result before behind old new → TakesMoves count result before behind old.stand.served new.stand.served }
 {}

@@ -3,15 +3,26 @@
 //! `Desk` answers the line of each operator between two turns of a `SpeakerLoop`: a command is handed to the speaker, a table
 //! is shown (crate speaker_tables), `clear` ends a session and has it begin again, and `stop` ends the program. A line does no
 //! more than it asks for: it hands in its command once, or changes nothing (`specs/Answering.antt`). A peer that is configured
-//! so is at the address of its table in the settings, or at its own address and port 179. `attended_turns` takes turns with
-//! operators between them: the speaker is as the turns and their commands leave it (`specs/Attended.antt`).
+//! so is at the address of its table in the settings, or at its own address and port 179. Peers that are held back wait in a
+//! `Gate`, until the session with the cache is synced or for so long, or until an operator decides (`specs/Waiting.antt`). What
+//! operators command is noted in an `Exchange`, for a log. `attended_turns` takes turns with all that between them, each line
+//! that of the operator who is told what it came to (`specs/Attended.antt`).
 #![tactic(auto)]
 
 mod answers;
 mod attending;
 mod desk;
+mod exchange;
+mod gate;
 mod laws;
+mod line;
+mod note;
 
 pub use attending::{AttendFault, attended_turns};
 pub use desk::Desk;
-pub use laws::{commands_leave_what_sessions_carry, commands_stand_between_turns};
+pub use exchange::Exchange;
+pub use gate::Gate;
+pub use laws::{
+    attended_turns_are_moves, commands_leave_what_sessions_carry, commands_stand_between_turns,
+};
+pub use note::Note;

@@ -3,7 +3,7 @@ use Rattle.std.proofs.Common.{◌≡◌, ◌++◌, ◌+◌, ℕ, zero, suc, Bool
 use Rattle.bgp_conf.specs.declared.command.Command.TheVariants.{Disable}
 use Rattle.bgp_conf.specs.declared.refusal.Refusal.{Refusal}
 use Rattle.speaker.specs.declared.event.Report.{Report}
-use Rattle.speaker_desk.specs.Attended.{AttendsTurns}
+use Rattle.speaker_desk.specs.Moves.{TakesMoves}
 use Rattle.speaker_desk.specs.Moves.Move.{Obeyed}
 use Rattle.speaker_turns.specs.Obeying.{Obeys}
 use Rattle.speaker_turns.specs.Turns.{Turns}
@@ -11,8 +11,8 @@ use Rattle.speaker_program.specs.HeldBack.{AreHeldBack, HeldBelow, HoldsBack, is
 
 -- it is asked for among them
 disabled_before : {E : Type 0} (started : Bool) (slot : ℕ) (noted slots : List ℕ) (count : ℕ) (before behind : List ℕ) (old mid new : Turns) → HoldsBack started slot noted slots old mid
-    → AttendsTurns {E = E} count (Ok tt) before behind mid new → AttendsTurns {E = E} count (Ok tt) before behind old new
-disabled_before {E} false slot noted slots count before behind old mid new holds takes = subst (λ (t : Turns). AttendsTurns {E = E} count (Ok tt) before behind t new) holds.1 takes
+    → TakesMoves {E = E} count (Ok tt) before behind mid new → TakesMoves {E = E} count (Ok tt) before behind old new
+disabled_before {E} false slot noted slots count before behind old mid new holds takes = subst (λ (t : Turns). TakesMoves {E = E} count (Ok tt) before behind t new) holds.1 takes
 disabled_before true slot noted slots count before behind old mid new holds takes =
     record {
       moves = Obeyed (codes "stop") (Disable slot) ∷ takes.moves;
@@ -24,14 +24,14 @@ disabled_before true slot noted slots count before behind old mid new holds take
     }
 
 held_before : {E : Type 0} (slots_below : ℕ) (slots : List ℕ) (count : ℕ) (before behind : List ℕ) (old mid new : Turns) → HeldBelow slots_below slots old mid
-    → AttendsTurns {E = E} count (Ok tt) before behind mid new → AttendsTurns {E = E} count (Ok tt) before behind old new
-held_before {E} zero slots count before behind old mid new held takes = subst (λ (t : Turns). AttendsTurns {E = E} count (Ok tt) before behind t new) held.1 takes
+    → TakesMoves {E = E} count (Ok tt) before behind mid new → TakesMoves {E = E} count (Ok tt) before behind old new
+held_before {E} zero slots count before behind old mid new held takes = subst (λ (t : Turns). TakesMoves {E = E} count (Ok tt) before behind t new) held.1 takes
 held_before (suc slot) slots count before behind old mid new held takes =
     held_before slot held.0 count before behind old held.1 new held.2 (disabled_before (is_started (held.1).speaker slot) slot held.0 slots count before behind held.1 mid new held.3 takes)
 
 pub asked_before : {E : Type 0} (wait : Bool) (slots : List ℕ) (count : ℕ) (before behind : List ℕ) (old mid new : Turns) → AreHeldBack wait slots old mid
-    → AttendsTurns {E = E} count (Ok tt) before behind mid new → AttendsTurns {E = E} count (Ok tt) before behind old new
-asked_before {E} false slots count before behind old mid new held takes = subst (λ (t : Turns). AttendsTurns {E = E} count (Ok tt) before behind t new) held.1 takes
+    → TakesMoves {E = E} count (Ok tt) before behind mid new → TakesMoves {E = E} count (Ok tt) before behind old new
+asked_before {E} false slots count before behind old mid new held takes = subst (λ (t : Turns). TakesMoves {E = E} count (Ok tt) before behind t new) held.1 takes
 asked_before true slots count before behind old mid new held takes = held_before 64 slots count before behind old mid new held takes
 
 -- ---- how peers are held back

@@ -1,4 +1,5 @@
 pub mod AskedBefore
+pub mod AttendedSo
 pub mod Commanding
 pub mod EndedWell
 pub mod OpenedLines

@@ -1,5 +1,6 @@
 -- What settings make of a loop, and turns of that.
-use Rattle.std.specs.Prelude.{◌≡◌, ◌||◌, ℕ, Bool, true, false, List, [], ◌∷◌, Option, None, Some, Ok, is_some}
+use Rattle.std.specs.Prelude.{◌≡◌, ◌||◌, ℕ, Bool, true, false, List, [], ◌∷◌, Option, None, Some, Ok, String, is_some, string_bytes, ⊤}
+use Rattle.std.specs.declared.alloc.Global.{Global}
 use Rattle.std.specs.declared.net.socket_addr.SocketAddr.{SocketAddr as Address}
 use Rattle.speaker.specs.SpeakerState.{SpeakerState}
 use Rattle.speaker_turns.specs.Turns.{Turns, idle, with_patience, with_remote}
@@ -8,10 +9,15 @@ use Rattle.speaker_turns.specs.declared.patience.Patience.{Patience}
 use Rattle.wires.specs.Wires.{WireState}
 use Rattle.speaker_program.specs.Commanded.{IsCommanded, TakesSoMany}
 use Rattle.speaker_program.specs.declared.fault.SpeakerFault.{SpeakerFault}
-use Rattle.speaker_program.specs.HeldBack.{AreHeldBack, waits}
+use Rattle.speaker_program.specs.HeldBack.{AreHeldBack, wait_until, waits}
 use Rattle.speaker_program.specs.Slots.{HasJust}
 use Rattle.speaker_program.specs.ToldConfig.{config_of}
-use Rattle.speaker_desk.specs.Attended.{AttendsTurns}
+use Rattle.control_lines.specs.Perhaps.{Becomes, line_of, wish_of}
+use Rattle.control_lines.specs.declared.talk.Wish.{Wish}
+use Rattle.control_sockets.specs.Places.{HearsAt, Turns as VisitsAll, line_at, wish_at}
+use Rattle.control_sockets.specs.declared.control_socket.ControlSocket.{ControlSocket}
+use Rattle.speaker_desk.specs.Attended.{AttendsTurns, Hall}
+use Rattle.speaker_desk.specs.Standing.{DeskState}
 use Rattle.speaker_desk.specs.declared.attending.AttendFault.{AttendFault}
 use Rattle.speaker_settings.specs.declared.settings.SpeakerSettings.{SpeakerSettings}
 
@@ -57,22 +63,46 @@ pub record IsBegun (Told : Option (List ℕ) → Type 0) (Opened : WireState →
 abbrev pub has_commands : SpeakerSettings → Bool
 has_commands settings = is_some settings.control || waits settings
 
--- so many turns or fewer with commands between them, before which peers are disabled that are to wait, where they are, and no others
-abbrev pub AttendsBehind : Bool → ℕ → List ℕ → List ℕ → Turns → Turns → Type 0
-AttendsBehind wait count before behind old new =
-    (slots : List ℕ) × (mid : Turns) × AreHeldBack wait slots old mid × AttendsTurns {E = AttendFault} count (Ok tt) before behind mid new
+-- the operators of the settings: those that their path gives, if they have one
+abbrev pub AreOperatorsOf : {P : Type 0} → (List ℕ → P → Type 0) → Option (String Global) → Option P → Type 0
+AreOperatorsOf Gives None operators = operators ≡ None
+AreOperatorsOf {P} Gives (Some path) operators = (there : P) × Gives (string_bytes path) there × (operators ≡ Some there)
+
+-- a desk before the first turn, at which these peers wait
+abbrev pub desk_of : SpeakerSettings → List ℕ → DeskState
+desk_of settings slots =
+    record { remotes = settings.peers.items; waiting = record { slots = slots; until = wait_until settings.wait_for_cache; is_open = false }; stopped = None }
+
+module _ {P : Type 0} (wish : P → ℕ → Wish) (line : P → ℕ → List ℕ) (goes : ℕ → P → P → Type 0) (hears : ℕ → List ℕ → Bool → P → P → Type 0) (Gives : List ℕ → P → Type 0) where
+  -- so many turns or fewer with the operators of the settings between them, before which peers are disabled that are to wait, where they
+  -- are, and no others
+  pub record AttendsOperators (settings : SpeakerSettings) (count : ℕ) (before behind : List ℕ) (old new : Turns) : Type 0 where
+    pub slots : List ℕ
+    pub held : Turns
+    pub holds : AreHeldBack (waits settings) slots old held
+    pub operators : Option P
+    pub given : AreOperatorsOf Gives settings.control operators
+    pub left : Hall (Option P)
+    pub takes : AttendsTurns (wish_of wish) (line_of line) (λ now. Becomes (goes now)) (λ key octets goes_on. Becomes (hears key octets goes_on)) {E = AttendFault} count (Ok tt) before behind
+        (record { stand = record { served = held; desk = desk_of settings slots }; operators = operators }) left
+    pub leaves : new ≡ left.stand.served
+
+-- operators at a Unix socket
+abbrev pub AttendsSocket : SpeakerSettings → ℕ → List ℕ → List ℕ → Turns → Turns → Type 0
+AttendsSocket = AttendsOperators {P = ControlSocket} (λ socket. wish_at socket.places.items) (λ socket. line_at socket.places.items) (λ now old new. VisitsAll now old.places.items new.places.items)
+    (λ key octets goes_on old new. HearsAt key octets goes_on old.places.items new.places.items) (λ path socket. ⊤)
 
 -- so many turns, each at the moment that the clock told for it, or those where commands may come between them
-abbrev pub TakesTurnsOf : Bool → Bool → ℕ → List ℕ → List ℕ → Turns → Turns → Type 0
-TakesTurnsOf false wait count before behind old new = TakesSoMany {E = SpeakerFault} count (Ok tt) before behind old new
-TakesTurnsOf true wait count before behind old new = AttendsBehind wait count before behind old new
+abbrev pub TakesTurnsOf : (SpeakerSettings → ℕ → List ℕ → List ℕ → Turns → Turns → Type 0) → Bool → SpeakerSettings → ℕ → List ℕ → List ℕ → Turns → Turns → Type 0
+TakesTurnsOf Attends false settings count before behind old new = TakesSoMany {E = SpeakerFault} count (Ok tt) before behind old new
+TakesTurnsOf Attends true settings count before behind old new = Attends settings count before behind old new
 
 -- what is seen on the wire is kept: for a log, or for scrapers
 abbrev pub is_watched : SpeakerSettings → Bool
 is_watched settings = settings.log || is_some settings.metrics
 
 -- from there turns were taken
-pub record IsServed (Told : Option (List ℕ) → Type 0) (Opened : WireState → Type 0) (settings : SpeakerSettings) (count : ℕ) (before behind : List ℕ) (turns : Turns) : Type 0 where
+pub record IsServed (Told : Option (List ℕ) → Type 0) (Opened : WireState → Type 0) (Attends : SpeakerSettings → ℕ → List ℕ → List ℕ → Turns → Turns → Type 0) (settings : SpeakerSettings) (count : ℕ) (before behind : List ℕ) (turns : Turns) : Type 0 where
   pub begun : Turns
   pub begins : IsBegun Told Opened settings begun
-  pub takes : TakesTurnsOf (has_commands settings) (waits settings) count before behind begun turns
+  pub takes : TakesTurnsOf Attends (has_commands settings) settings count before behind begun turns

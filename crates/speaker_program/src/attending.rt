@@ -1,10 +1,8 @@
 //! Turns with commands between them.
-ghost use Rattle.std.specs.Prelude.{◌≡◌, Ok, IfErr, OnOk, false};
+ghost use Rattle.std.specs.Prelude.{◌≡◌, Ok, None, IfErr, IfOk, OnOk, false};
+ghost use Rattle.std.specs.Fn.{FnOnceReturnsAt};
+ghost use Rattle.speaker_program.specs.Begun.{AreOperatorsOf, AttendsOperators};
 ghost use Rattle.speaker_program.specs.Endings.{IsOfWords};
-ghost use Rattle.speaker_desk.specs.Attended.{AttendsTurns};
-ghost use Rattle.speaker_program.specs.Begun.{AttendsBehind};
-ghost use Rattle.speaker_program.specs.HeldBack.{waits};
-ghost use Rattle.speaker_desk.specs.declared.attending.AttendFault.{AttendFault as TheAttendFault};
 
 use crate::fault::SpeakerFault;
 use crate::waiting::{hold_back, wait_of};
@@ -13,17 +11,18 @@ use control_lines::Operators;
 use decision::Book;
 use log_lines::Onlooker;
 use net_wires::REST_MILLISECONDS;
-use operator_watch::{Exchange, Gate, Nobody, WatchedOperators};
-use speaker_desk::{AttendFault, Desk, attended_turns};
+use speaker_desk::{AttendFault, Desk, Exchange, Gate, attended_turns};
 use speaker_settings::SpeakerSettings;
 use speaker_turns::SpeakerLoop;
 use std::alloc::{AllocGlobal, Global};
 use std::io::{self, Write};
+use std::net::SocketAddr;
 use std::rt::Clock;
 use std::time::Duration;
 use wires::Wire;
 
-/// The turns with the operators of the settings' path between them, if there is one.
+/// The turns with the operators of the settings' path between them, if there is one, and with peers that wait where the
+/// settings have them wait.
 pub(crate) fn attend_all<
     R: Clock + AllocGlobal,
     B: Book<Global>,
@@ -48,115 +47,74 @@ where
     D: FnOnce(&str) -> io::Result<P>,
     requires controls { D.IsAlwaysCallable controls }
     ensures fault { IfErr result (λ fault. ¬ (IsOfWords fault)) }
-    ensures turns { OnOk result (AttendsBehind (waits settings.now) turns (C.readings clock.old) (C.readings clock.new) served.old served.new) }
+    ensures turns { OnOk result (AttendsOperators P.wish P.line P.turns P.hears (λ path there. FnOnceReturnsAt D.FnOnce controls path (Ok there)) settings.now turns (C.readings clock.old) (C.readings clock.new) served.old served.new) }
     ensures silent { N.writes journal.old ≡ false → output.new ≡ output.old }
 {
-    let Some(path) = &settings.control else {
-        return attend_by(
-            rt, settings, Nobody, clock, served, turns, exchange, journal, output,
-        );
-    };
-    let operators = operators_at(rt.alloc(), path.as_str(), controls)?;
-    attend_by(
-        rt, settings, operators, clock, served, turns, exchange, journal, output,
-    )
-}
-
-// The turns with these operators between them, and with peers that wait where the settings have them wait.
-fn attend_by<
-    R: Clock + AllocGlobal,
-    B: Book<Global>,
-    C: SecondsClock,
-    W: Wire + Drop,
-    P: Operators + Drop,
-    N: Onlooker<SpeakerLoop<W, Global, B>>,
-    O: Write,
->(
-    rt: &R,
-    settings: &SpeakerSettings,
-    operators: P,
-    clock: &mut C,
-    served: &mut SpeakerLoop<W, Global, B>,
-    turns: u64,
-    exchange: &Exchange,
-    journal: &mut N,
-    output: &mut O,
-) -> Result<(), SpeakerFault>
-    ensures fault { IfErr result (λ fault. ¬ (IsOfWords fault)) }
-    ensures turns { OnOk result (AttendsBehind (waits settings.now) turns (C.readings clock.old) (C.readings clock.new) served.old served.new) }
-    ensures silent { N.writes journal.old ≡ false → output.new ≡ output.old }
-{
+    let mut operators = operators_of(rt.alloc(), settings, controls)?;
     let slots = hold_back(rt.alloc(), settings, served)?;
     let gate = Gate::new(slots, wait_of(settings));
-    let mut operators = WatchedOperators::new(operators, exchange, gate);
-    attend(
-        rt,
-        settings,
-        clock,
-        served,
-        &mut operators,
-        turns,
-        journal,
-        output,
-    )
-}
-
-// The turns with these operators between them.
-fn attend<
-    R: Clock + AllocGlobal,
-    B: Book<Global>,
-    C: SecondsClock,
-    W: Wire + Drop,
-    P: Operators,
-    N: Onlooker<SpeakerLoop<W, Global, B>>,
-    O: Write,
->(
-    rt: &R,
-    settings: &SpeakerSettings,
-    clock: &mut C,
-    served: &mut SpeakerLoop<W, Global, B>,
-    operators: &mut P,
-    turns: u64,
-    journal: &mut N,
-    output: &mut O,
-) -> Result<(), SpeakerFault>
-    ensures fault { IfErr result (λ fault. ¬ (IsOfWords fault)) }
-    ensures turns { OnOk result (AttendsTurns {E = TheAttendFault} turns (Ok tt) (C.readings clock.old) (C.readings clock.new) served.old served.new) }
-    ensures silent { N.writes journal.old ≡ false → output.new ≡ output.old }
-{
-    let mut desk = Desk::new(rt.alloc(), settings.peers.as_slice())?;
+    let remotes = settings.peers.as_slice();
+    let mut desk = desk_at(rt.alloc(), remotes, gate, exchange)?;
     let rest = Duration::from_millis(REST_MILLISECONDS);
     let ended = attended_turns(
-        rt, clock, served, &mut desk, operators, turns, rest, journal, output,
+        rt,
+        clock,
+        served,
+        &mut desk,
+        &mut operators,
+        turns,
+        rest,
+        journal,
+        output,
     );
-    match ended {
-        Ok(()) => Ok(()),
-        Err(fault) => Err(of_attending(fault)),
+    of_attending(ended)
+}
+
+// A desk at which nothing was asked yet.
+fn desk_at<'a>(
+    alloc: Global,
+    remotes: &'a [(u8, SocketAddr)],
+    gate: Gate,
+    exchange: &'a Exchange,
+) -> Result<Desk<'a>, SpeakerFault>
+    ensures desk { IfOk result (λ desk. desk ≡ record { remotes = remotes.now; waiting = gate; stopped = None }) }
+    ensures fault { IfErr result (λ fault. ¬ (IsOfWords fault)) }
+{
+    match Desk::new(alloc, remotes, gate, exchange) {
+        Ok(desk) => Ok(desk),
+        Err(_) => Err(SpeakerFault::NoMemory),
     }
 }
 
-// The operators at this path.
-fn operators_at<P: Operators + Drop, D>(
+// The operators at the path of the settings, if there is one.
+fn operators_of<P: Operators + Drop, D>(
     alloc: Global,
-    path: &str,
+    settings: &SpeakerSettings,
     controls: D,
-) -> Result<P, SpeakerFault>
+) -> Result<Option<P>, SpeakerFault>
 where
     D: FnOnce(&str) -> io::Result<P>,
     requires { D.IsAlwaysCallable controls }
+    ensures given { IfOk result (λ operators. AreOperatorsOf (λ path there. FnOnceReturnsAt D.FnOnce controls path (Ok there)) settings.now.control operators) }
     ensures fault { IfErr result (λ fault. ¬ (IsOfWords fault)) }
 {
-    match controls(path) {
-        Ok(operators) => Ok(operators),
-        Err(error) => Err(SpeakerFault::unread(alloc, path, error)),
+    let Some(path) = &settings.control else {
+        return Ok(None);
+    };
+    match controls(path.as_str()) {
+        Ok(operators) => Ok(Some(operators)),
+        Err(error) => Err(SpeakerFault::unread(alloc, path.as_str(), error)),
     }
 }
 
-fn of_attending(fault: AttendFault) -> SpeakerFault
-    ensures { ¬ (IsOfWords result) }
+// How turns with operators ended, to the program.
+fn of_attending(ended: Result<(), AttendFault>) -> Result<(), SpeakerFault>
+    ensures well { OnOk result (ended ≡ Ok tt) }
+    ensures fault { IfErr result (λ fault. ¬ (IsOfWords fault)) }
 {
-    match fault {
-        AttendFault::Clock(error) => SpeakerFault::Clock(error),
-        AttendFault::Turn(why) => SpeakerFault::Turn(why),
+    match ended {
+        Ok(()) => Ok(()),
+        Err(AttendFault::Clock(error)) => Err(SpeakerFault::Clock(error)),
+        Err(AttendFault::Turn(why)) => Err(SpeakerFault::Turn(why)),
     }
 }

@@ -9,7 +9,7 @@ ghost use Rattle.speaker_program.specs.Endings.{EndsSo, IsOfWords, status_at_end
 ghost use Rattle.program_endings.specs.Asides.{Asks};
 ghost use Rattle.program_endings.specs.declared.aside.Aside.{Aside};
 ghost use Rattle.std.specs.Result.{IsErrAnd};
-ghost use Rattle.speaker_program.specs.Begun.{IsServed, StateFrom, TextFrom, is_watched};
+ghost use Rattle.speaker_program.specs.Begun.{AttendsOperators, AttendsSocket, IsServed, StateFrom, TextFrom, is_watched};
 ghost use Rattle.speaker_settings.specs.declared.settings.SpeakerSettings.{SpeakerSettings};
 ghost use Rattle.speaker_settings.specs.ToldSettings.{IsToldBy};
 ghost use Rattle.settings_keys.specs.Keys.{IsTableOf};
@@ -56,12 +56,12 @@ where
     ensures output { ((path : List ℕ) (turns : ℕ) → ¬ (IsCall words.now path turns)) → ((aside : Aside) → ¬ (Asks words.now aside)) → output.new ≡ output.old }
     ensures silent { result ≡ 0 → errors.new ≡ errors.old }
     // The status is 0 only where the settings of a file that was opened at the path of the words were served for just the turns
-    // of the words, or where commands may come between turns for so many or fewer with what was asked for before and between
-    // them: with the commands of a file that was opened at their path, over a wire that was opened where they listen, and that
+    // of the words, or where operators are attended to between turns for so many or for fewer behind one who stopped them, each
+    // answered what its own line asks for, with peers that are to wait let through when they may go: with the commands of a file that was opened at their path, over a wire that was opened where they listen, and that
     // listens there still, at the moments of the instants that the system's clock answered.
     ensures serves { ((aside : Aside) → ¬ (Asks words.now aside)) → result ≡ 0 → (path : List ℕ) × (turns : ℕ) × (settings : SpeakerSettings) × (instants : List ℕ) × (served : Turns)
         × IsCall words.now path turns × AreSettingsOf (AreOctetsAt path) settings
-        × IsServed (IsTextAt (string_bytes settings.commands)) (λ wire. wire ≡ nothing_told settings.listen) settings turns [] (moments_of instants) served × (served.counts.wire.listens ≡ settings.listen) }
+        × IsServed (IsTextAt (string_bytes settings.commands)) (λ wire. wire ≡ nothing_told settings.listen) AttendsSocket settings turns [] (moments_of instants) served × (served.counts.wire.listens ≡ settings.listen) }
     // Where they are to be checked, it is 0 only where a file that was opened at their path tells settings, and the commands of
     // a file that was opened at theirs leave a speaker of them with just their slots.
     ensures checks { (aside : Aside) → Asks words.now aside → result ≡ 0 → IsCheckedBy aside }
@@ -87,7 +87,7 @@ where
     ensures silent { result ≡ 0 → errors.new ≡ errors.old }
     ensures serves { result ≡ 0 → (path : List ℕ) × (turns : ℕ) × (settings : SpeakerSettings) × (instants : List ℕ) × (served : Turns)
         × IsCall words.now path turns × AreSettingsOf (AreOctetsAt path) settings
-        × IsServed (IsTextAt (string_bytes settings.commands)) (λ wire. wire ≡ nothing_told settings.listen) settings turns [] (moments_of instants) served × (served.counts.wire.listens ≡ settings.listen) }
+        × IsServed (IsTextAt (string_bytes settings.commands)) (λ wire. wire ≡ nothing_told settings.listen) AttendsSocket settings turns [] (moments_of instants) served × (served.counts.wire.listens ≡ settings.listen) }
 {
     let mut clock = MonotonicClock::new(rt);
     let served = serve_words::<B, _, _, _>(rt, words, output, &mut clock);
@@ -119,7 +119,7 @@ where
     ensures output { IsErrAnd result IsOfWords → output.new ≡ output.old }
     ensures serves { IfOk result (λ served. (path : List ℕ) × (turns : ℕ) × (settings : SpeakerSettings)
         × IsCall words.now path turns × AreSettingsOf (AreOctetsAt path) settings
-        × IsServed (IsTextAt (string_bytes settings.commands)) (λ wire. wire ≡ nothing_told settings.listen) settings turns (C.readings clock.old) (C.readings clock.new) served × (served.counts.wire.listens ≡ settings.listen)) }
+        × IsServed (IsTextAt (string_bytes settings.commands)) (λ wire. wire ≡ nothing_told settings.listen) AttendsSocket settings turns (C.readings clock.old) (C.readings clock.new) served × (served.counts.wire.listens ≡ settings.listen)) }
 {
     run_bgp(
         rt,
@@ -204,7 +204,8 @@ where
     ensures serves { IfOk result (λ served. (path : List ℕ) × (turns : ℕ) × (octets : Vec ℕ TheGlobal) × (table : Members) × (settings : SpeakerSettings)
         × IsCall words.now path turns × FnOnceReturnsAt S.FnOnce reads path (Ok octets) × IsTableOf octets.items table × IsToldBy table settings
         × IsServed (TextFrom (λ lines. FnOnceReturnsAt M.FnOnce commands (string_bytes settings.commands) (Ok lines)) L.remaining)
-        (StateFrom (λ wire. F.post opens settings.listen (is_watched settings) (Ok wire)) W.state) settings turns (C.readings clock.old) (C.readings clock.new) served) }
+        (StateFrom (λ wire. F.post opens settings.listen (is_watched settings) (Ok wire)) W.state)
+        (AttendsOperators P.wish P.line P.turns P.hears (λ path there. FnOnceReturnsAt D.FnOnce controls path (Ok there))) settings turns (C.readings clock.old) (C.readings clock.new) served) }
 {
     let (path, turns) = call_of(words)?;
     let settings = read_settings(rt.alloc(), path, reads)?;

@@ -10,10 +10,9 @@ use bgp_conf::Command;
 use command_lines::CommandLine;
 use decision::Book;
 use log_lines::Onlooker;
-use operator_watch::{Exchange, Note};
-use rtr_client::ClientState;
 use scrapers::Scrapers;
 use speaker::Speaker;
+use speaker_desk::{Exchange, Note};
 use speaker_log::{Asked, Journal};
 use speaker_settings::SpeakerSettings;
 use speaker_turns::SpeakerLoop;
@@ -121,13 +120,6 @@ impl<'a, S: Scrapers + Drop> LoopJournal<'a, S> {
     }
 }
 
-// Payloads were loaded, where the session with the cache is synced.
-fn note_load(exchange: &Exchange, session: Option<ClientState>) {
-    if session == Some(ClientState::Synced) {
-        exchange.load();
-    }
-}
-
 // It is told where the wire listens.
 fn tell_listening<R: Clock, O: Write>(
     rt: &R,
@@ -184,7 +176,6 @@ impl<W: Wire + Watched + Drop, B: Book<Global>, S: Scrapers + Drop> Onlooker<
         now: u64,
         output: &mut O,
     ) {
-        note_load(self.exchange, value.speaker().cache_session());
         self.tell_notes(rt, output);
         self.journal
             .tell(rt, &Behind { served: value }, now, output);

@@ -3,7 +3,7 @@ ghost use Rattle.std.specs.Prelude.{◌≡◌, Ok, IfErr, IfOk, OnOk, false, str
 ghost use Rattle.std.specs.Fn.{FnOnceReturnsAt};
 ghost use Rattle.speaker_program.specs.Endings.{IsOfWords};
 ghost use Rattle.speaker_program.specs.HeldBack.{waits};
-ghost use Rattle.speaker_program.specs.Begun.{IsServed, StateFrom, TakesTurnsOf, TextFrom, has_commands, is_watched};
+ghost use Rattle.speaker_program.specs.Begun.{AttendsOperators, IsServed, StateFrom, TakesTurnsOf, TextFrom, has_commands, is_watched};
 
 use crate::attending::attend_all;
 use crate::beginning::begin;
@@ -14,9 +14,9 @@ use crate::waiting::waits;
 use clocks::SecondsClock;
 use control_lines::Operators;
 use decision::Book;
-use operator_watch::Exchange;
 use scenario::{Table, show};
 use scrapers::Scrapers;
+use speaker_desk::Exchange;
 use speaker_settings::SpeakerSettings;
 use speaker_turns::SpeakerLoop;
 use speaker_watch::Watch;
@@ -63,7 +63,8 @@ where
     requires scrapes { E.IsAlwaysCallable scrapes }
     ensures fault { IfErr result (λ fault. ¬ (IsOfWords fault)) }
     ensures serves { IfOk result (λ served. IsServed (TextFrom (λ lines. FnOnceReturnsAt M.FnOnce commands (string_bytes settings.now.commands) (Ok lines)) L.remaining)
-        (StateFrom (λ wire. F.post opens settings.now.listen (is_watched settings.now) (Ok wire)) W.state) settings.now turns (C.readings clock.old) (C.readings clock.new) served) }
+        (StateFrom (λ wire. F.post opens settings.now.listen (is_watched settings.now) (Ok wire)) W.state)
+        (AttendsOperators P.wish P.line P.turns P.hears (λ path there. FnOnceReturnsAt D.FnOnce controls path (Ok there))) settings.now turns (C.readings clock.old) (C.readings clock.new) served) }
 {
     let mut served = begin(rt.alloc(), settings, commands, opens)?;
     match serve_and_show(
@@ -108,7 +109,7 @@ where
     requires controls { D.IsAlwaysCallable controls }
     requires scrapes { E.IsAlwaysCallable scrapes }
     ensures fault { IfErr result (λ fault. ¬ (IsOfWords fault)) }
-    ensures turns { OnOk result (TakesTurnsOf (has_commands settings.now) (waits settings.now) turns (C.readings clock.old) (C.readings clock.new) served.old served.new) }
+    ensures turns { OnOk result (TakesTurnsOf (AttendsOperators P.wish P.line P.turns P.hears (λ path there. FnOnceReturnsAt D.FnOnce controls path (Ok there))) (has_commands settings.now) settings.now turns (C.readings clock.old) (C.readings clock.new) served.old served.new) }
 {
     serve_turns(
         rt, settings, turns, output, clock, served, controls, scrapes,
@@ -155,7 +156,7 @@ where
     requires controls { D.IsAlwaysCallable controls }
     requires scrapes { E.IsAlwaysCallable scrapes }
     ensures fault { IfErr result (λ fault. ¬ (IsOfWords fault)) }
-    ensures turns { OnOk result (TakesTurnsOf (has_commands settings.now) (waits settings.now) turns (C.readings clock.old) (C.readings clock.new) served.old served.new) }
+    ensures turns { OnOk result (TakesTurnsOf (AttendsOperators P.wish P.line P.turns P.hears (λ path there. FnOnceReturnsAt D.FnOnce controls path (Ok there))) (has_commands settings.now) settings.now turns (C.readings clock.old) (C.readings clock.new) served.old served.new) }
     ensures quiet { settings.now.log ≡ false → output.new ≡ output.old }
 {
     let exchange = Exchange::new(rt.alloc());

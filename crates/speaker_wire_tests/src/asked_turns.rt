@@ -5,7 +5,7 @@ use crate::made::made;
 use crate::speaker_wire::{MemoryWire, Turned, is_well_led, prepared, told_of, with_addresses};
 use control_lines::Operators;
 use operator_stages::{Asker, Line, Question, Seen};
-use speaker_desk::Desk;
+use speaker_desk::{Desk, Exchange, Gate};
 use speaker_turns::SpeakerLoop;
 use std::alloc::AllocGlobal;
 use std::process::Abort;
@@ -57,7 +57,9 @@ fn serve(
     let mut asker = made(rt, Asker::at(rt.alloc(), line));
     let wire = MemoryWire::failing_at(wire_fails_at);
     let mut turns = made(rt, SpeakerLoop::new(rt.alloc(), wire, prepared(rt)));
-    let mut desk = made(rt, Desk::new(rt.alloc(), &[]));
+    let exchange = Exchange::new(rt.alloc());
+    let gate = Gate::new(Vec::new(rt.alloc()), 0);
+    let mut desk = made(rt, Desk::new(rt.alloc(), &[], gate, &exchange));
     let turned = asked(&mut turns, &mut desk, &mut asker);
     (turned, asker.is_busy())
 }

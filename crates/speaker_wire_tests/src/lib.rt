@@ -1,5 +1,5 @@
 //! Tests alone: speakers over the system's sockets, with a cache and with one another, and one over a wire in memory each of
-//! whose calls fails once, alone and with an operator beside.
+//! whose calls fails once, alone and with an operator beside, and with peers that wait.
 #![tactic(auto)]
 
 #[cfg(test)]
@@ -12,3 +12,5 @@ mod clock_jump;
 mod made;
 #[cfg(test)]
 mod speaker_wire;
+#[cfg(test)]
+mod waiting_peers;

@@ -2,7 +2,7 @@ use Rattle.std.proofs.Common.{◌≡◌, ◌∙◌, List, ℕ, refl, rules, subs
 use Rattle.std.specs.Io.Buffered.{reader_remaining}
 use Rattle.file_paths.specs.OpenedFiles.{OpenedFile}
 use Rattle.wires.specs.Wires.{nothing_told}
-use Rattle.speaker_program.proofs.EndedWell.{listens_there, served_as}
+use Rattle.speaker_program.proofs.EndedWell.{attends_as, listens_there, served_as}
 use Rattle.speaker_program.proofs.ServedWords.{if_ok_as}
 use Rattle.speaker_program.specs.Files.{AreOctetsAt, IsTextAt}
 use Rattle.speaker_program.proofs.bgp_main.serve_words.Goals as goal
@@ -15,9 +15,10 @@ returns-clause-serves g c =
     let octets = (is.2).items in
     let read : AreOctetsAt is.6.0.now octets = (let gives = is.6.1 in search rules) in
     let so =
-    served_as _ _ _ _ settings is.1 _ _ served is.9
+    served_as _ _ _ _ _ _ settings is.1 _ _ served is.9
     (λ text told.
     let lines : IsTextAt told.1.0.now (reader_remaining (λ (f : OpenedFile). f.text) told.0) = (let gives = told.1.1 in search rules) in
     (lines.0, lines.1 ∙ told.1.2, told.2 ∙ lines.2))
-    (λ wire opened. let listens : (opened.0).wire ≡ nothing_told settings.listen = (let gives = opened.1 in search rules) in opened.2 ∙ listens) in
+    (λ wire opened. let listens : (opened.0).wire ≡ nothing_told settings.listen = (let gives = opened.1 in search rules) in opened.2 ∙ listens)
+    (λ old new. attends_as _ _ _ _ _ _ settings is.1 _ _ old new (λ path there given. tt)) in
     (is.0, is.1, settings, is.5, record { octets = octets; read = subst (λ (path : List ℕ). AreOctetsAt path octets) is.6.2 read; table = is.3; spelled = is.7; told = is.8 }, so, listens_there _ settings is.1 _ _ served _ so))

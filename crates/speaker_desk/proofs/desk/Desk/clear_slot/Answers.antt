@@ -1,4 +1,4 @@
-use Rattle.speaker_desk.proofs.AskedMoves.{clears_both}
+use Rattle.speaker_desk.proofs.Attended.{clears_both}
 use Rattle.speaker_desk.proofs.desk.Desk.clear_slot.Goals as goal
 
 pub returns : goal.returns

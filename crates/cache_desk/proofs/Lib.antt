@@ -1,0 +1,2 @@
+pub mod Attending
+pub mod Lines
