@@ -50,7 +50,7 @@ struct Router<A: Allocator> {
 impl<A: Allocator + Clone> Router<A> {
     fn new(alloc: A) -> Result<Self, AllocError> {
         let kept = BTreeSet::new(alloc.clone()?);
-        let client = Client::new(alloc)?;
+        let client = Client::new(alloc, Intervals::USUAL.retry)?;
         Ok(Router { client, kept })
     }
 

@@ -24,51 +24,53 @@ HasPassed came seconds (Refused ∷ later) = HasPassed came seconds later
 HasPassed came seconds (Handed octets ∷ later) = HasPassed came seconds later
 HasPassed came seconds (Ticked now ∷ later) = HasLapsed came seconds now ⊎ HasPassed came seconds later
 
--- an event, coming next, completes no load
-abbrev pub CompletesNone : List Event → Event → Type 0
-CompletesNone h e = (set : List Vrp) → CompletesLoad h e set → ⊥
+-- of a session that has begun with this Retry Interval
+module _ (retry : ℕ) where
+  -- an event, coming next, completes no load
+  abbrev pub CompletesNone : List Event → Event → Type 0
+  CompletesNone h e = (set : List Vrp) → CompletesLoad retry h e set → ⊥
 
--- none of these events completes one, which came behind the history; the newest is the first
-abbrev pub NoneCompletes : List Event → List Event → Type 0
-NoneCompletes h [] = Unit {0}
-NoneCompletes h (e ∷ later) = CompletesNone (later ++ h) e × NoneCompletes h later
+  -- none of these events completes one, which came behind the history; the newest is the first
+  abbrev pub NoneCompletes : List Event → List Event → Type 0
+  NoneCompletes h [] = Unit {0}
+  NoneCompletes h (e ∷ later) = CompletesNone (later ++ h) e × NoneCompletes h later
 
--- none of these events flushes
-abbrev pub FlushesNone : List Event → Event → Type 0
-FlushesNone h Came_up = Unit {0}
-FlushesNone h Failed = Unit {0}
-FlushesNone h (Octet octet) = Flushes h octet → ⊥
-FlushesNone h Refused = Unit {0}
-FlushesNone h (Handed octets) = Unit {0}
-FlushesNone h (Ticked now) = Unit {0}
+  -- none of these events flushes
+  abbrev pub FlushesNone : List Event → Event → Type 0
+  FlushesNone h Came_up = Unit {0}
+  FlushesNone h Failed = Unit {0}
+  FlushesNone h (Octet octet) = Flushes retry h octet → ⊥
+  FlushesNone h Refused = Unit {0}
+  FlushesNone h (Handed octets) = Unit {0}
+  FlushesNone h (Ticked now) = Unit {0}
 
-abbrev pub NoneFlushes : List Event → List Event → Type 0
-NoneFlushes h [] = Unit {0}
-NoneFlushes h (e ∷ later) = FlushesNone (later ++ h) e × NoneFlushes h later
+  abbrev pub NoneFlushes : List Event → List Event → Type 0
+  NoneFlushes h [] = Unit {0}
+  NoneFlushes h (e ∷ later) = FlushesNone (later ++ h) e × NoneFlushes h later
 
--- an octet of the history completed a load with this set, on whatever connection: less than the interval ago that its End of Data told, by each moment that came since, and neither a newer load nor a flush came since
-pub record AreUnexpired (h : List Event) (set : List Vrp) : Type 0 where
-  pub later : List Event
-  pub octet : ℕ
-  pub before : List Event
-  pub all_are : h ≡ later ++ Octet octet ∷ before
-  pub load : EndsLoad before octet set
-  pub newest : NoneCompletes (Octet octet ∷ before) later
-  pub unflushed : NoneFlushes (Octet octet ∷ before) later
-  pub unexpired : HasPassed (moment_of before) load.intervals.expire later → ⊥
+  -- an octet of the history completed a load with this set, on whatever connection: less than the interval ago that its End of Data told, by each moment that came since, and neither a newer load nor a flush came since
+  pub record AreUnexpired (h : List Event) (set : List Vrp) : Type 0 where
+    pub later : List Event
+    pub octet : ℕ
+    pub before : List Event
+    pub all_are : h ≡ later ++ Octet octet ∷ before
+    pub load : EndsLoad retry before octet set
+    pub newest : NoneCompletes (Octet octet ∷ before) later
+    pub unflushed : NoneFlushes (Octet octet ∷ before) later
+    pub unexpired : HasPassed (moment_of before) load.intervals.expire later → ⊥
 
 -- payloads that are in force are an unexpired load, and an unexpired load is in force
 abbrev pub PayloadsAreUnexpired : Type 0
-PayloadsAreUnexpired = (h : List Event) → in_force (client h) ≢ [] → AreUnexpired h (in_force (client h))
+PayloadsAreUnexpired = (retry : ℕ) (h : List Event) → in_force (client retry h) ≢ [] → AreUnexpired retry h (in_force (client retry h))
 
 abbrev pub UnexpiredAreInForce : Type 0
-UnexpiredAreInForce = (h : List Event) (set : List Vrp) → AreUnexpired h set → in_force (client h) ≡ set
+UnexpiredAreInForce = (retry : ℕ) (h : List Event) (set : List Vrp) → AreUnexpired retry h set → in_force (client retry h) ≡ set
 
 -- behind a load, with a moment since at which its interval has passed, nothing is in force before a newer load
 abbrev pub ExpiredAreGone : Type 0
 ExpiredAreGone =
-    (later : List Event) (octet : ℕ) (before : List Event) (set : List Vrp) (load : EndsLoad before octet set)
-    → NoneCompletes (Octet octet ∷ before) later → HasPassed (moment_of before) load.intervals.expire later → in_force (client (later ++ Octet octet ∷ before)) ≡ []
+    (retry : ℕ) (later : List Event) (octet : ℕ) (before : List Event) (set : List Vrp) (load : EndsLoad retry before octet set)
+    → NoneCompletes retry (Octet octet ∷ before) later → HasPassed (moment_of before) load.intervals.expire later → in_force (client retry (later ++ Octet octet ∷ before)) ≡ []
 
 -- The same by the octets as they came, with nothing in it of the client.
 
@@ -98,4 +100,4 @@ pub record HasFreshEnd (h : List Event) : Type 0 where
 
 -- where payloads are in force, an End of Data came less than its expire interval ago
 abbrev pub PayloadsAreFresh : Type 0
-PayloadsAreFresh = (h : List Event) → in_force (client h) ≢ [] → HasFreshEnd h
+PayloadsAreFresh = (retry : ℕ) (h : List Event) → in_force (client retry h) ≢ [] → HasFreshEnd h

@@ -39,18 +39,20 @@ abbrev pub AreChanges : List Vrp → List Content → Type 0
 AreChanges start [] = Unit {0}
 AreChanges start (content ∷ earlier) = (is_of_load content ≡ true) × (is_change (made start earlier) content ≡ true) × AreChanges start earlier
 
--- the PDUs that came last are a Cache Response of the session and behind it those of a load, and this is what they make of no payloads, or of those that were in force when the Cache Response came
-pub record AreTold (h : List Event) (session : ℕ) (set : List Vrp) : Type 0 where
-  pub within : List Content
-  pub since : List Event
-  pub begun : List Event
-  pub start : List Vrp
-  pub behind : h ≡ since ++ begun
-  pub told_are : told h ≡ within ++ Cache_response session ∷ told begun
-  pub starts : (start ≡ []) ⊎ (start ≡ in_force (client begun))
-  pub lawful : AreChanges start within
-  pub set_is : set ≡ made start within
+-- of a session that has begun with this Retry Interval
+module _ (retry : ℕ) where
+  -- the PDUs that came last are a Cache Response of the session and behind it those of a load, and this is what they make of no payloads, or of those that were in force when the Cache Response came
+  pub record AreTold (h : List Event) (session : ℕ) (set : List Vrp) : Type 0 where
+    pub within : List Content
+    pub since : List Event
+    pub begun : List Event
+    pub start : List Vrp
+    pub behind : h ≡ since ++ begun
+    pub told_are : told h ≡ within ++ Cache_response session ∷ told begun
+    pub starts : (start ≡ []) ⊎ (start ≡ in_force (client retry begun))
+    pub lawful : AreChanges start within
+    pub set_is : set ≡ made start within
 
 -- payloads in force are those of a load that an End of Data ended less than its expire interval ago
 abbrev pub PayloadsAreTold : Type 0
-PayloadsAreTold = (h : List Event) → in_force (client h) ≢ [] → (end : HasFreshEnd h) × AreTold end.before end.session (in_force (client h))
+PayloadsAreTold = (retry : ℕ) (h : List Event) → in_force (client retry h) ≢ [] → (end : HasFreshEnd h) × AreTold retry end.before end.session (in_force (client retry h))

@@ -7,7 +7,8 @@ use Rattle.rtr_cache.specs.CacheTable.{Shared}
 use Rattle.rtr_cache.specs.ClientHistory.{Call}
 use Rattle.rtr_cache.specs.ClientHistory as calls
 use Rattle.rtr_cache.specs.declared.event.CacheReport.{CacheReport}
-use Rattle.rtr_codec.specs.ClientTable.{Client, Input, No_room, initial, row}
+use Rattle.rtr_codec.specs.ClientTable.{Client, Input, No_room, row}
+use Rattle.rtr_client.specs.FirstClient.{first_client}
 use Rattle.rtr_client.specs.Following.{served}
 use Rattle.rtr_codec.specs.PduSpelling.{Content, spelling}
 use Rattle.rtr_codec.specs.PduStream.{place_after}
@@ -232,7 +233,7 @@ failures_are_events w now = refl
 -- ---- beginnings
 
 pub beginnings_are_new : BeginningsAreNew
-beginnings_are_new session intervals other_session cache fits new = ((fits, new.0), λ i. record { cache = new.1 i; client = initial; link = Awaited; up = []; down = []; place = first_place; published = [] })
+beginnings_are_new retry session intervals other_session cache fits new = ((fits, new.0), λ i. record { cache = new.1 i; client = first_client retry; link = Awaited; up = []; down = []; place = first_place; published = [] })
 
 is_new_case : (session : ℕ) (first : Publication) (published : List Publication) (t : Bool) → (first.session == session) ≡ t → first.session ≢ session → is_new_session session published ≡ true
     → cond t false (is_new_session session published) ≡ true
@@ -258,7 +259,7 @@ restarts_are_events w session intervals other_session cache fits new apart = (
 )
 
 pub events_go_on : EventsGoOn
-events_go_on session intervals other_session events w event new after happens = (after.0, (w, after.1, happens))
+events_go_on retry session intervals other_session events w event new after happens = (after.0, (w, after.1, happens))
 
 -- ---- a session
 

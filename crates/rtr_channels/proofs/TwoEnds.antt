@@ -12,8 +12,9 @@ use Rattle.rtr_cache.specs.ClientHistory as calls
 use Rattle.rtr_cache.specs.declared.event.CacheReport.{CacheReport}
 use Rattle.rtr_cache.specs.declared.other_session.OtherSession.{OtherSession}
 use Rattle.rtr_cache.specs.declared.refusal.CacheRefusal.{CacheRefusal}
+use Rattle.rtr_client.specs.FirstClient.{first_client}
 use Rattle.rtr_client.specs.Following.{served}
-use Rattle.rtr_codec.specs.ClientTable.{Base, Client, Fail, Input, Reply, initial, row}
+use Rattle.rtr_codec.specs.ClientTable.{Base, Client, Fail, Input, Reply, row}
 use Rattle.rtr_codec.specs.PduSpelling.{IsLawful, Serial_notify}
 use Rattle.rtr_codec.specs.PduStream.{Item, meaning}
 use Rattle.rtr_codec.specs.declared.intervals.Intervals.{Intervals}
@@ -173,8 +174,8 @@ pub record Holds (w : TwoEnds) : Type 0 where
 new_joined : (vs : List Publication) (client : Client) → Fits vs client.base [] [] client.stage → JoinedTo vs fresh_conn client [] []
 new_joined vs client fits = record { asked = []; sent = []; down_is = refl; lawful = tt; up_is = λ h. refl; fits = fits }
 
-pub holds_start : (session : ℕ) (intervals : Intervals) (other_session : OtherSession) → IsSession session intervals → Holds (start session intervals other_session)
-holds_start session intervals other_session fits = record { told = told_start session intervals other_session fits; base = tt; joined = λ live. new_joined [] initial (refl, tt) }
+pub holds_start : (retry session : ℕ) (intervals : Intervals) (other_session : OtherSession) → IsSession session intervals → Holds (start retry session intervals other_session)
+holds_start retry session intervals other_session fits = record { told = told_start session intervals other_session fits; base = tt; joined = λ live. new_joined [] (first_client retry) (refl, tt) }
 
 -- ---- calls of the cache
 

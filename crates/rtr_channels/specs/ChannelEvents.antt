@@ -188,6 +188,6 @@ abbrev pub LeadsTo : TwoEnds → List Event → TwoEnds → Type 0
 LeadsTo first [] last = last ≡ first
 LeadsTo first (event ∷ earlier) last = (before : TwoEnds) × LeadsTo first earlier before × Happens before event last
 
--- so they do from a beginning
-abbrev pub IsAfter : ℕ → Intervals → OtherSession → List Event → TwoEnds → Type 0
-IsAfter session intervals other_session events last = IsSession session intervals × LeadsTo (start session intervals other_session) events last
+-- so they do from a beginning, in which the client's Retry Interval is the first of these numbers
+abbrev pub IsAfter : ℕ → ℕ → Intervals → OtherSession → List Event → TwoEnds → Type 0
+IsAfter retry session intervals other_session events last = IsSession session intervals × LeadsTo (start retry session intervals other_session) events last

@@ -4,7 +4,8 @@ use Rattle.net_prefix.specs.declared.payload.Vrp.{Vrp}
 use Rattle.rtr_cache.specs.CacheState.{CacheState, empty_cache}
 use Rattle.rtr_cache.specs.CacheTable.{Shared}
 use Rattle.rtr_cache.specs.declared.other_session.OtherSession.{OtherSession}
-use Rattle.rtr_codec.specs.ClientTable.{Client, initial}
+use Rattle.rtr_client.specs.FirstClient.{first_client}
+use Rattle.rtr_codec.specs.ClientTable.{Client}
 use Rattle.rtr_codec.specs.Receiving.{beginning}
 use Rattle.rtr_codec.specs.declared.intervals.Intervals.{Intervals}
 use Rattle.rtr_codec.specs.declared.place.End.TheVariants.{Client as RouterEnd}
@@ -37,11 +38,11 @@ pub record TwoEnds : Type 0 where
 abbrev pub first_place : Place
 first_place = (beginning RouterEnd).place
 
--- a cache that has published nothing and has no clients, a client without payloads that has begun to open its connection, and nothing on the way
-abbrev pub start : ℕ → Intervals → OtherSession → TwoEnds
-start session intervals other_session = record {
+-- a cache that has published nothing and has no clients, a client without payloads that has begun to open its connection, with this Retry Interval, and nothing on the way
+abbrev pub start : ℕ → ℕ → Intervals → OtherSession → TwoEnds
+start retry session intervals other_session = record {
   cache = empty_cache session intervals other_session;
-  client = initial;
+  client = first_client retry;
   link = Awaited;
   up = [];
   down = [];

@@ -9,8 +9,9 @@ use Rattle.rtr_cache.specs.ClientHistory as calls
 use Rattle.rtr_cache.specs.declared.event.CacheReport.{CacheReport}
 use Rattle.rtr_cache.specs.declared.other_session.OtherSession.{OtherSession}
 use Rattle.rtr_cache.specs.declared.other_session.OtherSession.TheVariants.{Report}
+use Rattle.rtr_client.specs.FirstClient.{first_client}
 use Rattle.rtr_client.specs.Following.{served}
-use Rattle.rtr_codec.specs.ClientTable.{Client, Fail, Input, No_room, Off, Tick, Up, initial, row}
+use Rattle.rtr_codec.specs.ClientTable.{Client, Fail, Input, No_room, Off, Tick, Up, row}
 use Rattle.rtr_codec.specs.Intervals.{usual}
 use Rattle.rtr_codec.specs.PduSpelling.{Content, spelling}
 use Rattle.rtr_codec.specs.PduStream.{Item, meaning, place_after}
@@ -128,8 +129,8 @@ FailuresAreEvents = (w : TwoEnds) (now : ℕ) → LeadsToParts w (Fails now) w.c
 -- a new cache, and a new client
 abbrev pub BeginningsAreNew : Type 0
 BeginningsAreNew =
-    (session : ℕ) (intervals : Intervals) (other_session : OtherSession) (cache : CacheState) → session < 2 ^ 16 → IsNew session intervals other_session (Ok cache)
-    → IsAfter session intervals other_session [] (record { cache = cache; client = initial; link = Awaited; up = []; down = []; place = (beginning Router).place; published = [] })
+    (retry session : ℕ) (intervals : Intervals) (other_session : OtherSession) (cache : CacheState) → session < 2 ^ 16 → IsNew session intervals other_session (Ok cache)
+    → IsAfter retry session intervals other_session [] (record { cache = cache; client = first_client retry; link = Awaited; up = []; down = []; place = (beginning Router).place; published = [] })
 
 -- a new cache in the place of the old one, in a session in which nothing was published. It hasn't a connection that the old one had, and may get one that waits
 abbrev pub RestartsAreEvents : Type 0
@@ -142,13 +143,13 @@ RestartsAreEvents =
 -- whatever has happened, an event that can happen goes on from it
 abbrev pub EventsGoOn : Type 0
 EventsGoOn =
-    (session : ℕ) (intervals : Intervals) (other_session : OtherSession) (events : List Event) (w : TwoEnds) (event : Event) (new : TwoEnds)
-    → IsAfter session intervals other_session events w → Happens w event new → IsAfter session intervals other_session (event ∷ events) new
+    (retry session : ℕ) (intervals : Intervals) (other_session : OtherSession) (events : List Event) (w : TwoEnds) (event : Event) (new : TwoEnds)
+    → IsAfter retry session intervals other_session events w → Happens w event new → IsAfter retry session intervals other_session (event ∷ events) new
 
 -- events can lead to payloads in force
 abbrev pub EventsLeadToPayloads : Type 0
 EventsLeadToPayloads =
-    (events : List Event) × (w : TwoEnds) × IsAfter 1 usual Report events w × AreFew w.published × (w.client.base ≡ Some (record { session = 1; serial = 1; payloads = [] }))
+    (retry : ℕ) → (events : List Event) × (w : TwoEnds) × IsAfter retry 1 usual Report events w × AreFew w.published × (w.client.base ≡ Some (record { session = 1; serial = 1; payloads = [] }))
 
 -- A session of a router.
 

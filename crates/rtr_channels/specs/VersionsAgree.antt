@@ -24,8 +24,8 @@ HoldsPublished w = (base : Base) → w.client.base ≡ Some base → IsPublished
 
 abbrev pub VersionsAgree : Type 0
 VersionsAgree =
-    (session : ℕ) (intervals : Intervals) (other_session : OtherSession) (events : List Event) (w : TwoEnds)
-    → IsAfter session intervals other_session events w → AreFew w.published → HoldsPublished w
+    (retry session : ℕ) (intervals : Intervals) (other_session : OtherSession) (events : List Event) (w : TwoEnds)
+    → IsAfter retry session intervals other_session events w → AreFew w.published → HoldsPublished w
 
 -- where fewer than 2^32 sets were published in all, no session published so often
 abbrev pub AllAreFew : Type 0

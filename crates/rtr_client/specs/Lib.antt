@@ -1,4 +1,5 @@
 pub mod Book
+pub mod FirstClient
 pub mod Following
 pub mod Laws
 pub mod Sessions

@@ -3,11 +3,12 @@ ghost use Rattle.std.specs.Prelude.{◌≡◌, IfOk, true};
 ghost use Rattle.std.specs.Bool.{OnTrue};
 ghost use Rattle.std.specs.Option.{option_map};
 ghost use Rattle.net_prefix.specs.PayloadSets.{IsPayloadSet};
-ghost use Rattle.rtr_codec.specs.ClientTable.{No_room, in_force, initial, row, transport_of};
+ghost use Rattle.rtr_codec.specs.ClientTable.{No_room, in_force, row, transport_of};
 ghost use Rattle.rtr_codec.specs.PduSpelling.{content_of};
 ghost use Rattle.vrp_delta.specs.Delta.{change_between};
 ghost use Rattle.vrp_delta.specs.Keeping.{no_change};
 ghost use Rattle.rtr_client.specs.Book.{named};
+ghost use Rattle.rtr_client.specs.FirstClient.{first_client};
 ghost use Rattle.rtr_client.specs.Following.{can_starve, input_of, served, state_of};
 ghost use Rattle.rtr_client.specs.Sessions.{IsSettled, client_of};
 
@@ -98,13 +99,14 @@ impl<A: Allocator> Client<A> {
 }
 
 impl<A: Allocator + Clone> Client<A> {
-    /// A client whose connection attempt has begun, with no payloads.
-    pub fn new(alloc: A) -> Result<Self, AllocError>
-        ensures { IfOk result (λ client. client ≡ record { client = initial; changed = no_change }) }
+    /// A client whose connection attempt has begun, with no payloads. Behind what failed it waits for `retry` seconds, until a
+    /// load has brought the cache's own Retry Interval (RFC 8210 section 6).
+    pub fn new(alloc: A, retry: u32) -> Result<Self, AllocError>
+        ensures { IfOk result (λ client. client ≡ record { client = first_client retry; changed = no_change }) }
     {
         let payloads = Payloads::new(alloc)?;
         Ok(Client {
-            session: Session::INITIAL,
+            session: Session::first(retry),
             payloads,
         })
     }

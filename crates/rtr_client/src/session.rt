@@ -1,11 +1,12 @@
 //! Where a client stands, and what the rows of the client's table do that need no payloads.
-ghost use Rattle.std.specs.Prelude.{◌≡◌, [], false, true, if◌then◌else◌};
+ghost use Rattle.std.specs.Prelude.{◌≡◌, [], None, false, true, if◌then◌else◌};
 ghost use Rattle.std.specs.Option.{option_map};
 ghost use Rattle.moments.specs.Moments.{from_now};
 ghost use Rattle.rtr_codec.specs.ClientTable.{asks, asks_again, asks_reset, becomes, closes, comes_up, committed, corrupts, ended, fails, hears_fault, is_connected, query_ends, quoted_of, refresh_ends, reopen_ends, reopens, reports, transport_of};
 ghost use Rattle.rtr_codec.specs.ClientState as table;
 ghost use Rattle.rtr_codec.specs.declared.fault.ErrorCode.TheVariants.{CorruptData, InternalError};
 ghost use Rattle.rtr_client.specs.Book.{Book, named};
+ghost use Rattle.rtr_client.specs.FirstClient.{first_client};
 ghost use Rattle.rtr_client.specs.Following.{state_of};
 ghost use Rattle.rtr_client.specs.Sessions.{client_of, is_loading, reply_of, stage_of};
 
@@ -45,16 +46,23 @@ pub struct Session {
 }
 
 impl Session {
-    /// A connection attempt has begun.
-    pub const INITIAL: Session = Session {
-        stage: Stage::Opening,
-        closing: false,
-        intervals: Intervals::USUAL,
-        expire: None,
-        refresh: None,
-        query: None,
-        reopen: None,
-    };
+    /// A connection attempt has begun, and the Retry Interval is this one, in seconds.
+    pub fn first(retry: u32) -> Session
+        ensures { (book : Book) → book.base ≡ None → client_of result book ≡ first_client retry }
+    {
+        Session {
+            stage: Stage::Opening,
+            closing: false,
+            intervals: Intervals {
+                retry,
+                ..Intervals::USUAL
+            },
+            expire: None,
+            refresh: None,
+            query: None,
+            reopen: None,
+        }
+    }
 
     pub fn state(&self) -> ClientState
         ensures { (book : Book) → result ≡ state_of (client_of self.now book) }

@@ -42,24 +42,6 @@ ring_agrees now input c s same joins =
     rw (same, waiting_is c s.ring joins)
     (sym (append_assoc c.given s.ring (said (row now c.client input).said s.ring)) ∙ ap (λ (octets : List ℕ). octets ++ said (row now c.client input).said s.ring) joins)
 
--- a moment comes
-pub agrees_tick : (h : List Event) (s : Session) (now : ℕ) → SessionAgrees h s → SessionAgrees (Ticked now ∷ h) (after_input now Tick s)
-agrees_tick h s now a = record {
-  client = client_agrees now Tick (course h) s a.client a.ring;
-  reading = λ stands. a.reading (stood_before now s.client Tick (λ e. cc) (stood_after now Tick s.ring s.client stands));
-  ring = ring_agrees now Tick (course h) s a.client a.ring;
-}
-
--- memory is refused
-pub agrees_refused :
-    (h : List Event) (s : Session) (now : ℕ) (item : Item) → now ≡ moment_of h → SessionAgrees h s
-    → SessionAgrees (Refused ∷ h) (after_input now Starved (record { client = s.client; reading = passed s.reading item; ring = s.ring; changed = s.changed }))
-agrees_refused h s now item now_is a = rw now_is (record {
-  client = client_agrees (moment_of h) Starved (course h) s a.client a.ring;
-  reading = λ stands. absurd (starved_closes (moment_of h) s.client (stood_after (moment_of h) Starved s.ring s.client stands));
-  ring = ring_agrees (moment_of h) Starved (course h) s a.client a.ring;
-})
-
 -- where a connection stands an octet is heard
 heard_on : (transport : Transport) (now : ℕ) (octet : ℕ) (c : Course) → transport ≡ Connected → octet_on transport now octet c ≡ hearing now (completed_in c octet) (longer octet c)
 heard_on transport now octet c connected = rw connected refl
@@ -67,50 +49,9 @@ heard_on transport now octet c connected = rw connected refl
 item_heard : (transport : Transport) (octet : ℕ) (c : Course) → transport ≡ Connected → item_on transport c octet ≡ completed_in c octet
 item_heard transport octet c connected = rw connected refl
 
-pub course-octet :
-    (h : List Event) (octet : ℕ) (found : Option Item) → transport_of (client h) ≡ Connected → completed_in (course h) octet ≡ found
-    → course (Octet octet ∷ h) ≡ hearing (moment_of h) found (longer octet (course h))
-course-octet h octet found connected is =
-    heard_on (transport_of (client h)) (moment_of h) octet (course h) connected
-    ∙ ap (λ (x : Option Item). hearing (moment_of h) x (longer octet (course h))) is
-
--- the item that an octet completes for the session is that of the history
-pub completed_here :
-    (h : List Event) (s : Session) (octet : ℕ) (found : Option Item) → transport_of s.client ≡ Connected → meaning s.reading.place (s.reading.part ++ octet ∷ []) ≡ found
-    → SessionAgrees h s → completed_in (course h) octet ≡ found
-completed_here h s octet found connected is a = ap (λ (r : Reception). meaning r.place (r.part ++ octet ∷ [])) (sym (a.reading connected)) ∙ is
-
-pub stands_here : (h : List Event) (s : Session) → transport_of s.client ≡ Connected → SessionAgrees h s → transport_of (client h) ≡ Connected
-stands_here h s connected a = ap transport_of (sym a.client) ∙ connected
-
-pub item_here :
-    (h : List Event) (s : Session) (octet : ℕ) (found : Option Item) → transport_of s.client ≡ Connected → meaning s.reading.place (s.reading.part ++ octet ∷ []) ≡ found
-    → SessionAgrees h s → item_at h octet ≡ found
-item_here h s octet found connected is a = item_heard (transport_of (client h)) octet (course h) (stands_here h s connected a) ∙ completed_here h s octet found connected is a
-
 -- what is being read behind an octet that completes this or nothing
 abbrev pub behind_octet : Reception → ℕ → Option Item → Reception
 behind_octet r octet found = record { place = place_after r.place found; part = left_over (r.part ++ octet ∷ []) found }
-
-read_behind :
-    (h : List Event) (s : Session) (octet : ℕ) (found : Option Item) → s.reading ≡ reading_in (course h)
-    → completed_in (course h) octet ≡ found
-    → behind_octet s.reading octet found ≡ reading_in (longer octet (course h))
-read_behind h s octet found reading_is is =
-    rw (place-push first_place (course h).stream octet, unread-push first_place (course h).stream octet, is, reading_is) refl
-
--- an octet comes that completes no item
-pub agrees_octet :
-    (h : List Event) (s : Session) (octet : ℕ) → transport_of s.client ≡ Connected → meaning s.reading.place (s.reading.part ++ octet ∷ []) ≡ None
-    → SessionAgrees h s → SessionAgrees (Octet octet ∷ h) (with_octets s (octet ∷ []))
-agrees_octet h s octet connected none a =
-    let completed : completed_in (course h) octet ≡ None = completed_here h s octet None connected none a in
-    let next : course (Octet octet ∷ h) ≡ longer octet (course h) = course-octet h octet None (stands_here h s connected a) completed in
-    record {
-      client = a.client ∙ ap (λ (c : Course). c.client) (sym next);
-      reading = λ stands. read_behind h s octet None (a.reading connected) completed ∙ ap reading_in (sym next);
-      ring = ap (λ (c : Course). c.given ++ s.ring) next ∙ a.ring ∙ ap (λ (c : Course). c.sent) (sym next);
-    }
 
 -- a fault leaves no connection, and what was read of a PDU is passed
 passed_is :
@@ -119,19 +60,80 @@ passed_is :
 passed_is now (WholePdu content whole) s octet stands = refl
 passed_is now (FaultyPdu fault whole) s octet stands = absurd (fault_closes now s.client fault whole (stood_after now (input_of (FaultyPdu fault whole)) s.ring s.client stands))
 
--- an octet comes that completes this item
-pub agrees_item :
-    (h : List Event) (s : Session) (now octet : ℕ) (item : Item) → now ≡ moment_of h → transport_of s.client ≡ Connected
-    → meaning s.reading.place (s.reading.part ++ octet ∷ []) ≡ Some item → SessionAgrees h s
-    → SessionAgrees (Octet octet ∷ h) (after_input now (input_of item) (record { client = s.client; reading = passed s.reading item; ring = s.ring; changed = s.changed }))
-agrees_item h s now octet item now_is connected some a =
-    let completed : completed_in (course h) octet ≡ Some item = completed_here h s octet (Some item) connected some a in
-    let next : course (Octet octet ∷ h) ≡ taking (moment_of h) (input_of item) (longer octet (course h)) = course-octet h octet (Some item) (stands_here h s connected a) completed in
-    rw now_is (record {
-      client = client_agrees (moment_of h) (input_of item) (longer octet (course h)) s a.client a.ring ∙ ap (λ (c : Course). c.client) (sym next);
-      reading = λ stands.
-          passed_is (moment_of h) item s octet stands ∙ read_behind h s octet (Some item) (a.reading connected) completed
-          ∙ ap reading_in (sym next);
-      ring = ap (λ (c : Course). c.given ++ ring_after (moment_of h) (input_of item) s.ring s.client) next
-          ∙ ring_agrees (moment_of h) (input_of item) (longer octet (course h)) s a.client a.ring ∙ ap (λ (c : Course). c.sent) (sym next);
-    })
+-- a session that has begun with this Retry Interval
+module _ (retry : ℕ) where
+  -- a moment comes
+  pub agrees_tick : (h : List Event) (s : Session) (now : ℕ) → SessionAgrees retry h s → SessionAgrees retry (Ticked now ∷ h) (after_input now Tick s)
+  agrees_tick h s now a = record {
+    client = client_agrees now Tick (course retry h) s a.client a.ring;
+    reading = λ stands. a.reading (stood_before now s.client Tick (λ e. cc) (stood_after now Tick s.ring s.client stands));
+    ring = ring_agrees now Tick (course retry h) s a.client a.ring;
+  }
+
+  -- memory is refused
+  pub agrees_refused :
+      (h : List Event) (s : Session) (now : ℕ) (item : Item) → now ≡ moment_of h → SessionAgrees retry h s
+      → SessionAgrees retry (Refused ∷ h) (after_input now Starved (record { client = s.client; reading = passed s.reading item; ring = s.ring; changed = s.changed }))
+  agrees_refused h s now item now_is a = rw now_is (record {
+    client = client_agrees (moment_of h) Starved (course retry h) s a.client a.ring;
+    reading = λ stands. absurd (starved_closes (moment_of h) s.client (stood_after (moment_of h) Starved s.ring s.client stands));
+    ring = ring_agrees (moment_of h) Starved (course retry h) s a.client a.ring;
+  })
+
+  pub course-octet :
+      (h : List Event) (octet : ℕ) (found : Option Item) → transport_of (client retry h) ≡ Connected → completed_in (course retry h) octet ≡ found
+      → course retry (Octet octet ∷ h) ≡ hearing (moment_of h) found (longer octet (course retry h))
+  course-octet h octet found connected is =
+      heard_on (transport_of (client retry h)) (moment_of h) octet (course retry h) connected
+      ∙ ap (λ (x : Option Item). hearing (moment_of h) x (longer octet (course retry h))) is
+
+  -- the item that an octet completes for the session is that of the history
+  pub completed_here :
+      (h : List Event) (s : Session) (octet : ℕ) (found : Option Item) → transport_of s.client ≡ Connected → meaning s.reading.place (s.reading.part ++ octet ∷ []) ≡ found
+      → SessionAgrees retry h s → completed_in (course retry h) octet ≡ found
+  completed_here h s octet found connected is a = ap (λ (r : Reception). meaning r.place (r.part ++ octet ∷ [])) (sym (a.reading connected)) ∙ is
+
+  pub stands_here : (h : List Event) (s : Session) → transport_of s.client ≡ Connected → SessionAgrees retry h s → transport_of (client retry h) ≡ Connected
+  stands_here h s connected a = ap transport_of (sym a.client) ∙ connected
+
+  pub item_here :
+      (h : List Event) (s : Session) (octet : ℕ) (found : Option Item) → transport_of s.client ≡ Connected → meaning s.reading.place (s.reading.part ++ octet ∷ []) ≡ found
+      → SessionAgrees retry h s → item_at retry h octet ≡ found
+  item_here h s octet found connected is a = item_heard (transport_of (client retry h)) octet (course retry h) (stands_here h s connected a) ∙ completed_here h s octet found connected is a
+
+  read_behind :
+      (h : List Event) (s : Session) (octet : ℕ) (found : Option Item) → s.reading ≡ reading_in (course retry h)
+      → completed_in (course retry h) octet ≡ found
+      → behind_octet s.reading octet found ≡ reading_in (longer octet (course retry h))
+  read_behind h s octet found reading_is is =
+      rw (place-push first_place (course retry h).stream octet, unread-push first_place (course retry h).stream octet, is, reading_is) refl
+
+  -- an octet comes that completes no item
+  pub agrees_octet :
+      (h : List Event) (s : Session) (octet : ℕ) → transport_of s.client ≡ Connected → meaning s.reading.place (s.reading.part ++ octet ∷ []) ≡ None
+      → SessionAgrees retry h s → SessionAgrees retry (Octet octet ∷ h) (with_octets s (octet ∷ []))
+  agrees_octet h s octet connected none a =
+      let completed : completed_in (course retry h) octet ≡ None = completed_here h s octet None connected none a in
+      let next : course retry (Octet octet ∷ h) ≡ longer octet (course retry h) = course-octet h octet None (stands_here h s connected a) completed in
+      record {
+        client = a.client ∙ ap (λ (c : Course). c.client) (sym next);
+        reading = λ stands. read_behind h s octet None (a.reading connected) completed ∙ ap reading_in (sym next);
+        ring = ap (λ (c : Course). c.given ++ s.ring) next ∙ a.ring ∙ ap (λ (c : Course). c.sent) (sym next);
+      }
+
+  -- an octet comes that completes this item
+  pub agrees_item :
+      (h : List Event) (s : Session) (now octet : ℕ) (item : Item) → now ≡ moment_of h → transport_of s.client ≡ Connected
+      → meaning s.reading.place (s.reading.part ++ octet ∷ []) ≡ Some item → SessionAgrees retry h s
+      → SessionAgrees retry (Octet octet ∷ h) (after_input now (input_of item) (record { client = s.client; reading = passed s.reading item; ring = s.ring; changed = s.changed }))
+  agrees_item h s now octet item now_is connected some a =
+      let completed : completed_in (course retry h) octet ≡ Some item = completed_here h s octet (Some item) connected some a in
+      let next : course retry (Octet octet ∷ h) ≡ taking (moment_of h) (input_of item) (longer octet (course retry h)) = course-octet h octet (Some item) (stands_here h s connected a) completed in
+      rw now_is (record {
+        client = client_agrees (moment_of h) (input_of item) (longer octet (course retry h)) s a.client a.ring ∙ ap (λ (c : Course). c.client) (sym next);
+        reading = λ stands.
+            passed_is (moment_of h) item s octet stands ∙ read_behind h s octet (Some item) (a.reading connected) completed
+            ∙ ap reading_in (sym next);
+        ring = ap (λ (c : Course). c.given ++ ring_after (moment_of h) (input_of item) s.ring s.client) next
+            ∙ ring_agrees (moment_of h) (input_of item) (longer octet (course retry h)) s a.client a.ring ∙ ap (λ (c : Course). c.sent) (sym next);
+      })

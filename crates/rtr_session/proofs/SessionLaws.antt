@@ -9,8 +9,8 @@ use Rattle.rtr_codec.specs.PduSpelling.{Content, length_of, spelling}
 use Rattle.rtr_codec.specs.PduStream.{Item, WholePdu, FaultyPdu, pdus}
 use Rattle.rtr_codec.proofs.Spellings.{length-spelling}
 use Rattle.rtr_session.specs.Agreement.{SessionAgrees}
-use Rattle.rtr_session.specs.Laws.{OctetsAreDropped, OctetsArePdus, PiecesJoin, ReportsFindRoom}
-use Rattle.rtr_session.specs.SessionHistory.{Event, Came_up, Failed, Octet, Refused, Handed, Ticked, Course, anew, client, completed_in, course, first_place, hearing, item_on, longer, moment_of, octet_on, taking, waiting}
+use Rattle.rtr_session.specs.Laws.{OctetsArePdus, PiecesJoin, ReportsFindRoom}
+use Rattle.rtr_session.specs.SessionHistory.{Event, Came_up, Failed, Octet, Refused, Handed, Ticked, Course, anew, client, completed_in, course, first_place, hearing, item_on, longer, moment_of, octet_on, onto, taking, waiting}
 use Rattle.rtr_session.specs.SessionState.{Session, finds_room, input_of, is_query, said, settled}
 use Rattle.rtr_session.proofs.ClientRows.{Says, no_room_closes, says, stood_before}
 use Rattle.rtr_session.proofs.Agreeing.{stood_after, waiting_is}
@@ -29,18 +29,19 @@ dropped Listening now octet c shut = refl
 dropped Connected now octet c shut = absurd (shut refl)
 dropped Closing now octet c shut = refl
 
-agrees_dropped : (h : List Event) (s : Session) (octet : ℕ) → transport_of s.client ≢ Connected → SessionAgrees h s → SessionAgrees (Octet octet ∷ h) s
-agrees_dropped h s octet shut a =
-    let same : course (Octet octet ∷ h) ≡ course h = dropped (transport_of (client h)) (moment_of h) octet (course h) (λ e. shut (ap transport_of a.client ∙ e)) in
-    record {
-      client = a.client ∙ ap (λ (c : Course). c.client) (sym same);
-      reading = λ stands. absurd (shut stands);
-      ring = ap (λ (c : Course). c.given ++ s.ring) same ∙ a.ring ∙ ap (λ (c : Course). c.sent) (sym same);
-    }
+module _ (retry : ℕ) where
+  agrees_dropped : (h : List Event) (s : Session) (octet : ℕ) → transport_of s.client ≢ Connected → SessionAgrees retry h s → SessionAgrees retry (Octet octet ∷ h) s
+  agrees_dropped h s octet shut a =
+      let same : course retry (Octet octet ∷ h) ≡ course retry h = dropped (transport_of (client retry h)) (moment_of h) octet (course retry h) (λ e. shut (ap transport_of a.client ∙ e)) in
+      record {
+        client = a.client ∙ ap (λ (c : Course). c.client) (sym same);
+        reading = λ stands. absurd (shut stands);
+        ring = ap (λ (c : Course). c.given ++ s.ring) same ∙ a.ring ∙ ap (λ (c : Course). c.sent) (sym same);
+      }
 
-pub octets_are_dropped : OctetsAreDropped
-octets_are_dropped h s [] shut a = a
-octets_are_dropped h s (octet ∷ octets) shut a = octets_are_dropped (Octet octet ∷ h) s octets shut (agrees_dropped h s octet shut a)
+  pub octets_are_dropped : (h : List Event) (s : Session) (octets : List ℕ) → transport_of s.client ≢ Connected → SessionAgrees retry h s → SessionAgrees retry (onto octets h) s
+  octets_are_dropped h s [] shut a = a
+  octets_are_dropped h s (octet ∷ octets) shut a = octets_are_dropped (Octet octet ∷ h) s octets shut (agrees_dropped h s octet shut a)
 
 -- The PDUs of the stream.
 
@@ -56,7 +57,7 @@ pdus_on Connected now octet c = ap (pdus first_place) (heard_stream now (complet
 pdus_on Closing now octet c = sym (append-nil (pdus first_place c.stream))
 
 pub octets_are_pdus : OctetsArePdus
-octets_are_pdus h octet = pdus_on (transport_of (client h)) (moment_of h) octet (course h)
+octets_are_pdus retry h octet = pdus_on (transport_of (client retry h)) (moment_of h) octet (course retry h)
 
 -- The room of the ring.
 
@@ -117,19 +118,19 @@ octet_room Listening now octet c room = room
 octet_room Connected now octet c room = heard_room now (completed_in c octet) (longer octet c) room
 octet_room Closing now octet c room = room
 
-pub has_room : (h : List Event) → HasRoom (course h)
-has_room [] stands = absurd cc
-has_room (Came_up ∷ h) stands = taking_room (moment_of h) Up (anew (course h)) (λ e. omega arith) stands
-has_room (Failed ∷ h) stands = other_room (moment_of h) Fail (anew (course h)) (λ e. cc) (λ e. omega arith) stands
-has_room (Octet octet ∷ h) stands = octet_room (transport_of (client h)) (moment_of h) octet (course h) (has_room h) stands
-has_room (Refused ∷ h) stands = other_room (moment_of h) Starved (course h) (λ e. cc) (has_room h) stands
-has_room (Handed octets ∷ h) stands =
-    let before : length (waiting (course h)) + 48 ≤ 4096 = has_room h stands in
-    omega (arith, before, length-drop (length (course h).given) (course h).sent, length-drop (length ((course h).given ++ octets)) (course h).sent, length-append (course h).given octets)
-has_room (Ticked now ∷ h) stands = other_room now Tick (course h) (λ e. cc) (has_room h) stands
+pub has_room : (retry : ℕ) (h : List Event) → HasRoom (course retry h)
+has_room retry [] stands = absurd cc
+has_room retry (Came_up ∷ h) stands = taking_room (moment_of h) Up (anew (course retry h)) (λ e. omega arith) stands
+has_room retry (Failed ∷ h) stands = other_room (moment_of h) Fail (anew (course retry h)) (λ e. cc) (λ e. omega arith) stands
+has_room retry (Octet octet ∷ h) stands = octet_room (transport_of (client retry h)) (moment_of h) octet (course retry h) (has_room retry h) stands
+has_room retry (Refused ∷ h) stands = other_room (moment_of h) Starved (course retry h) (λ e. cc) (has_room retry h) stands
+has_room retry (Handed octets ∷ h) stands =
+    let before : length (waiting (course retry h)) + 48 ≤ 4096 = has_room retry h stands in
+    omega (arith, before, length-drop (length (course retry h).given) (course retry h).sent, length-drop (length ((course retry h).given ++ octets)) (course retry h).sent, length-append (course retry h).given octets)
+has_room retry (Ticked now ∷ h) stands = other_room now Tick (course retry h) (λ e. cc) (has_room retry h) stands
 
 pub reports_find_room : ReportsFindRoom
-reports_find_room h s a stands =
-    let ring : waiting (course h) ≡ s.ring = waiting_is (course h) s.ring a.ring in
-    let room : length (waiting (course h)) + 48 ≤ 4096 = has_room h (ap transport_of (sym a.client) ∙ stands) in
+reports_find_room retry h s a stands =
+    let ring : waiting (course retry h) ≡ s.ring = waiting_is (course retry h) s.ring a.ring in
+    let room : length (waiting (course retry h)) + 48 ≤ 4096 = has_room retry h (ap transport_of (sym a.client) ∙ stands) in
     subst (λ (octets : List ℕ). length octets + 48 ≤ 4096) ring room

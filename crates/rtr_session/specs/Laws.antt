@@ -13,14 +13,14 @@ use Rattle.rtr_session.specs.SessionState.{Session}
 
 -- the payloads in force are those of the last completed load behind which there was neither a flush nor an expiry, and no others are
 abbrev pub PayloadsAreOfTheLastLoad : Type 0
-PayloadsAreOfTheLastLoad = (h : List Event) → AreInForce h (in_force (client h))
+PayloadsAreOfTheLastLoad = (retry : ℕ) (h : List Event) → AreInForce retry h (in_force (client retry h))
 
 abbrev pub NoOthersAreInForce : Type 0
-NoOthersAreInForce = (h : List Event) (set : List Vrp) → AreInForce h set → set ≡ in_force (client h)
+NoOthersAreInForce = (retry : ℕ) (h : List Event) (set : List Vrp) → AreInForce retry h set → set ≡ in_force (client retry h)
 
 -- an octet adds at most the PDU that it completes, or its fault
 abbrev pub OctetsArePdus : Type 0
-OctetsArePdus = (h : List Event) (octet : ℕ) → pdus first_place (stream (Octet octet ∷ h)) ≡ pdus first_place (stream h) ++ with_front (item_at h octet) []
+OctetsArePdus = (retry : ℕ) (h : List Event) (octet : ℕ) → pdus first_place (stream retry (Octet octet ∷ h)) ≡ pdus first_place (stream retry h) ++ with_front (item_at retry h octet) []
 
 -- octets and then others are all of them
 abbrev pub PiecesJoin : Type 0
@@ -28,8 +28,8 @@ PiecesJoin = (front back : List ℕ) (h : List Event) → onto (front ++ back) h
 
 -- where no connection stands, octets change nothing
 abbrev pub OctetsAreDropped : Type 0
-OctetsAreDropped = (h : List Event) (s : Session) (octets : List ℕ) → transport_of s.client ≢ Connected → SessionAgrees h s → SessionAgrees (onto octets h) s
+OctetsAreDropped = (retry : ℕ) (h : List Event) (s : Session) (octets : List ℕ) → transport_of s.client ≢ Connected → SessionAgrees retry h s → SessionAgrees retry (onto octets h) s
 
 -- while a connection stands, an Error Report finds room
 abbrev pub ReportsFindRoom : Type 0
-ReportsFindRoom = (h : List Event) (s : Session) → SessionAgrees h s → transport_of s.client ≡ Connected → length s.ring + room_for_report ≤ ring_octets
+ReportsFindRoom = (retry : ℕ) (h : List Event) (s : Session) → SessionAgrees retry h s → transport_of s.client ≡ Connected → length s.ring + room_for_report ≤ ring_octets

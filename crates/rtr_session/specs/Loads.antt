@@ -29,15 +29,17 @@ is_awaited Waiting = false
 is_awaited (Loading serially session set) = false
 is_awaited Synced = false
 
--- the PDUs that were read on the present connection, the newest first. It begins where a connection comes up that is awaited
-abbrev pub readings : List Event → List Reading
-readings [] = []
-readings (Came_up ∷ h) = if is_awaited (client h).stage then [] else readings h
-readings (Failed ∷ h) = []
-readings (Octet octet ∷ h) = with_front (reading_of (client h) (item_at h octet)) (readings h)
-readings (Refused ∷ h) = readings h
-readings (Handed octets ∷ h) = readings h
-readings (Ticked now ∷ h) = readings h
+-- of a session that has begun with this Retry Interval
+module _ (retry : ℕ) where
+  -- the PDUs that were read on the present connection, the newest first. It begins where a connection comes up that is awaited
+  abbrev pub readings : List Event → List Reading
+  readings [] = []
+  readings (Came_up ∷ h) = if is_awaited (client retry h).stage then [] else readings h
+  readings (Failed ∷ h) = []
+  readings (Octet octet ∷ h) = with_front (reading_of (client retry h) (item_at retry h octet)) (readings h)
+  readings (Refused ∷ h) = readings h
+  readings (Handed octets ∷ h) = readings h
+  readings (Ticked now ∷ h) = readings h
 
 -- a PDU that may stand within a load: an IPv4 Prefix, or one that loading ignores
 abbrev pub is_of_load : Content → Bool

@@ -12,25 +12,6 @@ use Rattle.rtr_codec.specs.PduStream.{WholePdu}
 use Rattle.rtr_session.specs.SessionHistory.{Event, Came_up, Failed, Octet, Refused, Handed, Ticked, client, item_at}
 use Rattle.rtr_session.specs.Loads.{IsLoad, readings}
 
--- an octet, coming next, completes a load with this set: with an End of Data of the load's session and with lawful intervals
-pub record EndsLoad (h : List Event) (octet : ℕ) (set : List Vrp) : Type 0 where
-  pub session : ℕ
-  pub serial : ℕ
-  pub intervals : Intervals
-  pub octets : List ℕ
-  pub ends : item_at h octet ≡ Some (WholePdu (End_of_data session serial intervals) octets)
-  pub lawful : are_lawful intervals ≡ true
-  pub load : IsLoad (readings h) session set
-
--- so an event does
-abbrev pub CompletesLoad : List Event → Event → List Vrp → Type 0
-CompletesLoad h Came_up set = ⊥
-CompletesLoad h Failed set = ⊥
-CompletesLoad h (Octet octet) set = EndsLoad h octet set
-CompletesLoad h Refused set = ⊥
-CompletesLoad h (Handed octets) set = ⊥
-CompletesLoad h (Ticked now) set = ⊥
-
 -- the session isn't that of the last completed load
 abbrev pub is_of_another : Option Base → ℕ → Bool
 is_of_another None session = true
@@ -80,26 +61,47 @@ flushes c Cache_reset = false
 flushes c (Router_key body) = false
 flushes c (Error_report code quoted) = code == number_of CorruptData
 
--- an octet completes a PDU that flushes
-pub record Flushes (h : List Event) (octet : ℕ) : Type 0 where
-  pub content : Content
-  pub octets : List ℕ
-  pub completes : item_at h octet ≡ Some (WholePdu content octets)
-  pub flushes_it : flushes (client h) content ≡ true
+-- of a session that has begun with this Retry Interval
+module _ (retry : ℕ) where
+  -- an octet, coming next, completes a load with this set: with an End of Data of the load's session and with lawful intervals
+  pub record EndsLoad (h : List Event) (octet : ℕ) (set : List Vrp) : Type 0 where
+    pub session : ℕ
+    pub serial : ℕ
+    pub intervals : Intervals
+    pub octets : List ℕ
+    pub ends : item_at retry h octet ≡ Some (WholePdu (End_of_data session serial intervals) octets)
+    pub lawful : are_lawful intervals ≡ true
+    pub load : IsLoad (readings retry h) session set
 
--- an event, coming next, ends what is in force: a flush, or a moment at which the expire timer ends
-abbrev pub EndsForce : List Event → Event → Type 0
-EndsForce h Came_up = ⊥
-EndsForce h Failed = ⊥
-EndsForce h (Octet octet) = Flushes h octet
-EndsForce h Refused = ⊥
-EndsForce h (Handed octets) = ⊥
-EndsForce h (Ticked now) = has_come (client h).expire now ≡ true
+  -- so an event does
+  abbrev pub CompletesLoad : List Event → Event → List Vrp → Type 0
+  CompletesLoad h Came_up set = ⊥
+  CompletesLoad h Failed set = ⊥
+  CompletesLoad h (Octet octet) set = EndsLoad h octet set
+  CompletesLoad h Refused set = ⊥
+  CompletesLoad h (Handed octets) set = ⊥
+  CompletesLoad h (Ticked now) set = ⊥
 
--- the payloads that a history leaves in force: the newest event that completes a load, flushes or is an expiry decides
-abbrev pub AreInForce : List Event → List Vrp → Type 0
-AreInForce [] set = set ≡ []
-AreInForce (e ∷ h) set =
-    CompletesLoad h e set
-    ⊎ ((EndsForce h e × (set ≡ []))
-    ⊎ (((other : List Vrp) → CompletesLoad h e other → ⊥) × (EndsForce h e → ⊥) × AreInForce h set))
+  -- an octet completes a PDU that flushes
+  pub record Flushes (h : List Event) (octet : ℕ) : Type 0 where
+    pub content : Content
+    pub octets : List ℕ
+    pub completes : item_at retry h octet ≡ Some (WholePdu content octets)
+    pub flushes_it : flushes (client retry h) content ≡ true
+
+  -- an event, coming next, ends what is in force: a flush, or a moment at which the expire timer ends
+  abbrev pub EndsForce : List Event → Event → Type 0
+  EndsForce h Came_up = ⊥
+  EndsForce h Failed = ⊥
+  EndsForce h (Octet octet) = Flushes h octet
+  EndsForce h Refused = ⊥
+  EndsForce h (Handed octets) = ⊥
+  EndsForce h (Ticked now) = has_come (client retry h).expire now ≡ true
+
+  -- the payloads that a history leaves in force: the newest event that completes a load, flushes or is an expiry decides
+  abbrev pub AreInForce : List Event → List Vrp → Type 0
+  AreInForce [] set = set ≡ []
+  AreInForce (e ∷ h) set =
+      CompletesLoad h e set
+      ⊎ ((EndsForce h e × (set ≡ []))
+      ⊎ (((other : List Vrp) → CompletesLoad h e other → ⊥) × (EndsForce h e → ⊥) × AreInForce h set))

@@ -1,10 +1,11 @@
 -- What a session says on a connection.
 use Rattle.std.specs.Prelude.{◌≡◌, ◌≢◌, ◌≤◌, ◌+◌, ◌⊎◌, ℕ, Bool, true, List, [], Option, Some, None, length}
 use Rattle.net_prefix.specs.declared.transport.Transport.TheVariants.{Open as Connected}
-use Rattle.rtr_codec.specs.ClientTable.{Client, Input, in_force, initial, transport_of}
+use Rattle.rtr_codec.specs.ClientTable.{Client, Input, in_force, transport_of}
 use Rattle.rtr_codec.specs.PduSpelling.{Content, length_of}
 use Rattle.rtr_codec.specs.PduStream.{Item}
 use Rattle.rtr_session.specs.SessionLimits.{ring_octets, room_for_report}
+use Rattle.rtr_client.specs.FirstClient.{first_client}
 use Rattle.rtr_client.specs.Following.{served}
 use Rattle.rtr_session.specs.SessionState.{client_after, input_of, is_query, ring_after}
 use Rattle.vrp_delta.specs.Delta.{Change, change_between}
@@ -16,9 +17,9 @@ pub record Sending : Type 0 where
   pub ring : List ℕ
   pub changed : Change
 
--- a client that has begun to open its connection, and nothing to say
-abbrev pub silent : Sending
-silent = record { client = initial; ring = []; changed = no_change }
+-- a client that has begun to open its connection, with this Retry Interval, and nothing to say
+abbrev pub silent : ℕ → Sending
+silent retry = record { client = first_client retry; ring = []; changed = no_change }
 
 -- what is queued fits the ring, and while the connection stands an Error Report finds room
 pub record IsInOrder (client : Client) (ring : List ℕ) (capacity : ℕ) : Type 0 where

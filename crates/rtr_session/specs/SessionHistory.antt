@@ -4,9 +4,10 @@ use Rattle.net_prefix.specs.declared.transport.Transport.{Transport}
 use Rattle.net_prefix.specs.declared.transport.Transport.TheVariants.{None as NoConnection, Opening, Listening, Open as Connected, Closing}
 use Rattle.rtr_codec.specs.declared.place.End.TheVariants.{Client as RouterEnd}
 use Rattle.rtr_codec.specs.declared.place.Place.{Place}
-use Rattle.rtr_codec.specs.ClientTable.{Client, Input, Up, Fail, Tick, Starved, initial, row, transport_of}
+use Rattle.rtr_codec.specs.ClientTable.{Client, Input, Up, Fail, Tick, Starved, row, transport_of}
 use Rattle.rtr_codec.specs.PduStream.{Item, meaning, place_from, unread}
 use Rattle.rtr_codec.specs.Receiving.{Reception, beginning}
+use Rattle.rtr_client.specs.FirstClient.{first_client}
 use Rattle.rtr_session.specs.SessionState.{client_after, said, input_of}
 
 -- what happens to a session
@@ -93,32 +94,6 @@ octet_on Listening now octet c = c
 octet_on Connected now octet c = hearing now (completed_in c octet) (longer octet c)
 octet_on Closing now octet c = c
 
--- the fold of the rows of the client's table: over the items of the stream, each at the octet that completes it, over Up, Fail, ticks and refused growths
-abbrev pub course : List Event → Course
-course [] = record { client = initial; stream = []; sent = []; given = [] }
-course (Came_up ∷ h) = taking (moment_of h) Up (anew (course h))
-course (Failed ∷ h) = taking (moment_of h) Fail (anew (course h))
-course (Octet octet ∷ h) = octet_on (transport_of (course h).client) (moment_of h) octet (course h)
-course (Refused ∷ h) = taking (moment_of h) Starved (course h)
-course (Handed octets ∷ h) = record { client = (course h).client; stream = (course h).stream; sent = (course h).sent; given = (course h).given ++ octets }
-course (Ticked now ∷ h) = taking now Tick (course h)
-
--- the client after a history
-abbrev pub client : List Event → Client
-client h = (course h).client
-
--- the octets that came on the present connection, the oldest first, up to where the session closed
-abbrev pub stream : List Event → List ℕ
-stream h = (course h).stream
-
--- what was queued on it
-abbrev pub sent : List Event → List ℕ
-sent h = (course h).sent
-
--- what of that was handed out
-abbrev pub given : List Event → List ℕ
-given h = (course h).given
-
 -- the item that an octet completes, where a connection stands
 abbrev pub item_on : Transport → Course → ℕ → Option Item
 item_on NoConnection c octet = None
@@ -127,10 +102,38 @@ item_on Listening c octet = None
 item_on Connected c octet = completed_in c octet
 item_on Closing c octet = None
 
--- the item that this octet completes, coming next
-abbrev pub item_at : List Event → ℕ → Option Item
-item_at h octet = item_on (transport_of (client h)) (course h) octet
+-- what a history leaves of a session that has begun with this Retry Interval
+module _ (retry : ℕ) where
+  -- the fold of the rows of the client's table: over the items of the stream, each at the octet that completes it, over Up, Fail, ticks and refused growths
+  abbrev pub course : List Event → Course
+  course [] = record { client = first_client retry; stream = []; sent = []; given = [] }
+  course (Came_up ∷ h) = taking (moment_of h) Up (anew (course h))
+  course (Failed ∷ h) = taking (moment_of h) Fail (anew (course h))
+  course (Octet octet ∷ h) = octet_on (transport_of (course h).client) (moment_of h) octet (course h)
+  course (Refused ∷ h) = taking (moment_of h) Starved (course h)
+  course (Handed octets ∷ h) = record { client = (course h).client; stream = (course h).stream; sent = (course h).sent; given = (course h).given ++ octets }
+  course (Ticked now ∷ h) = taking now Tick (course h)
 
--- whether an attempt to open a connection begins at this moment
-abbrev pub opens_at : ℕ → List Event → Bool
-opens_at now h = (row now (client h) Tick).opened
+  -- the client after a history
+  abbrev pub client : List Event → Client
+  client h = (course h).client
+
+  -- the octets that came on the present connection, the oldest first, up to where the session closed
+  abbrev pub stream : List Event → List ℕ
+  stream h = (course h).stream
+
+  -- what was queued on it
+  abbrev pub sent : List Event → List ℕ
+  sent h = (course h).sent
+
+  -- what of that was handed out
+  abbrev pub given : List Event → List ℕ
+  given h = (course h).given
+
+  -- the item that this octet completes, coming next
+  abbrev pub item_at : List Event → ℕ → Option Item
+  item_at h octet = item_on (transport_of (client h)) (course h) octet
+
+  -- whether an attempt to open a connection begins at this moment
+  abbrev pub opens_at : ℕ → List Event → Bool
+  opens_at now h = (row now (client h) Tick).opened

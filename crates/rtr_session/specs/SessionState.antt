@@ -1,10 +1,11 @@
 -- What others see of a session with a cache, and what each thing that happens makes of it (RFC 8210 sections 5 to 8).
 use Rattle.std.specs.Prelude.{◌≡◌, ◌+◌, ◌||◌, ℕ, nat_le, if◌then◌else◌, Bool, true, false, not, List, [], ◌++◌, length, drop, Option, Some, None}
 use Rattle.rtr_codec.specs.declared.place.End.TheVariants.{Client as RouterEnd}
-use Rattle.rtr_codec.specs.ClientTable.{Client, Input, Heard, Faulty, No_room, in_force, initial, row}
+use Rattle.rtr_codec.specs.ClientTable.{Client, Input, Heard, Faulty, No_room, in_force, row}
 use Rattle.rtr_codec.specs.PduSpelling.{Content, Serial_notify, Serial_query, Reset_query, Cache_response, Announce, Withdraw, Ipv6_prefix, End_of_data, Cache_reset, Router_key, Error_report, spelling}
 use Rattle.rtr_codec.specs.PduStream.{Item, WholePdu, FaultyPdu, meaning}
 use Rattle.rtr_codec.specs.Receiving.{Reception, beginning, passed}
+use Rattle.rtr_client.specs.FirstClient.{first_client}
 use Rattle.rtr_client.specs.Following.{can_starve, served}
 use Rattle.rtr_session.specs.SessionLimits.{ring_octets, room_for_query}
 use Rattle.vrp_delta.specs.Delta.{Change, change_between}
@@ -62,9 +63,9 @@ after_input now input s = record {
   changed = change_between (in_force s.client) (in_force (client_after now input s.ring s.client));
 }
 
--- the session of a cache that has just been configured
-abbrev pub configured : Session
-configured = record { client = initial; reading = beginning RouterEnd; ring = []; changed = no_change }
+-- the session of a cache that has just been configured, with this Retry Interval
+abbrev pub configured : ℕ → Session
+configured retry = record { client = first_client retry; reading = beginning RouterEnd; ring = []; changed = no_change }
 
 -- nothing came on another connection, and nothing is queued on it
 abbrev pub begun : Session → Session

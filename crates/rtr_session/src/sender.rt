@@ -4,7 +4,7 @@ ghost use Rattle.std.specs.Option.{option_map};
 ghost use Rattle.std.specs.Bool.{OnTrue};
 ghost use Rattle.net_prefix.specs.declared.transport.Transport.TheVariants.{Open as Connected};
 ghost use Rattle.rtr_client.specs.Following.{can_starve, input_of, served};
-ghost use Rattle.rtr_codec.specs.ClientTable.{Starved, Up, in_force, initial, row, transport_of};
+ghost use Rattle.rtr_codec.specs.ClientTable.{Starved, Up, in_force, row, transport_of};
 ghost use Rattle.rtr_codec.specs.PduSpelling.{content_of, length_of};
 ghost use Rattle.rtr_codec.specs.PduStream.{meaning};
 ghost use Rattle.rtr_session.specs.Sending.{IsSayable, heard_front, silent, taken};
@@ -79,12 +79,12 @@ impl<A: Allocator> Sender<A> {
 }
 
 impl<A: Allocator + Clone> Sender<A> {
-    /// A client that has begun to open its connection, and nothing to say.
-    pub fn new(alloc: A) -> Result<Self, AllocError>
-        ensures { IfOk result (λ s. s ≡ silent) }
+    /// A client that has begun to open its connection, with this Retry Interval, and nothing to say.
+    pub fn new(alloc: A, retry: u32) -> Result<Self, AllocError>
+        ensures { IfOk result (λ s. s ≡ silent retry) }
     {
         let ring = HeapCircularBuffer::with_capacity(alloc.clone()?, RING_OCTETS)?;
-        let client = Client::new(alloc)?;
+        let client = Client::new(alloc, retry)?;
         Ok(Sender { client, ring })
     }
 

@@ -77,12 +77,13 @@ impl<A: Allocator> CacheSession<A> {
 }
 
 impl<A: Allocator + Clone> CacheSession<A> {
-    /// A session that has begun to open its connection.
-    pub fn new(alloc: A) -> Result<Self, AllocError>
-        ensures exact { IfOk result (λ s. s ≡ configured) }
-        ensures agrees { IfOk result (λ s. SessionAgrees [] s) }
+    /// A session that has begun to open its connection. Behind what failed it waits for `retry` seconds, until a load has
+    /// brought the cache's own Retry Interval (RFC 8210 section 6).
+    pub fn new(alloc: A, retry: u32) -> Result<Self, AllocError>
+        ensures exact { IfOk result (λ s. s ≡ configured retry) }
+        ensures agrees { IfOk result (λ s. SessionAgrees retry [] s) }
     {
-        let sender = Sender::new(alloc)?;
+        let sender = Sender::new(alloc, retry)?;
         Ok(CacheSession {
             sender,
             receiver: Receiver::new(End::Client),
@@ -95,7 +96,7 @@ impl<A: Allocator + Clone> CacheSession<A> {
         ensures exact { self.new ≡ after_input now Up (begun self.old) }
         ensures changes { Changes self.old self.new }
         ensures kept { K.kept keeper.new ≡ in_force self.new.client }
-        ensures agrees { (h : List Event) → SessionAgrees h self.old → now ≡ moment_of h → SessionAgrees (Came_up ∷ h) self.new }
+        ensures agrees { (retry : ℕ) (h : List Event) → SessionAgrees retry h self.old → now ≡ moment_of h → SessionAgrees retry (Came_up ∷ h) self.new }
     {
         self.begin();
         let _opens_nothing = self.sender.take_input(Input::Up, now, keeper);
@@ -107,7 +108,7 @@ impl<A: Allocator + Clone> CacheSession<A> {
         ensures exact { self.new ≡ after_input now Fail (begun self.old) }
         ensures changes { Changes self.old self.new }
         ensures kept { K.kept keeper.new ≡ in_force self.new.client }
-        ensures agrees { (h : List Event) → SessionAgrees h self.old → now ≡ moment_of h → SessionAgrees (Failed ∷ h) self.new }
+        ensures agrees { (retry : ℕ) (h : List Event) → SessionAgrees retry h self.old → now ≡ moment_of h → SessionAgrees retry (Failed ∷ h) self.new }
     {
         self.begin();
         let _opens_nothing = self.sender.take_input(Input::Fail, now, keeper);
@@ -121,8 +122,8 @@ impl<A: Allocator + Clone> CacheSession<A> {
         ensures opens { result ≡ (row now self.old.client Tick).opened }
         ensures changes { Changes self.old self.new }
         ensures kept { K.kept keeper.new ≡ in_force self.new.client }
-        ensures agrees { (h : List Event) → SessionAgrees h self.old → SessionAgrees (Ticked now ∷ h) self.new }
-        ensures opened { (h : List Event) → SessionAgrees h self.old → result ≡ opens_at now h }
+        ensures agrees { (retry : ℕ) (h : List Event) → SessionAgrees retry h self.old → SessionAgrees retry (Ticked now ∷ h) self.new }
+        ensures opened { (retry : ℕ) (h : List Event) → SessionAgrees retry h self.old → result ≡ opens_at retry now h }
     {
         self.sender.take_input(Input::Tick, now, keeper).opened
     }
@@ -137,8 +138,8 @@ impl<A: Allocator + Clone> CacheSession<A> {
         ensures exact { HearsOctets now (take result.count octets.now) result.starved self.old self.new }
         ensures changes { Changes self.old self.new }
         ensures kept { K.kept keeper.new ≡ in_force self.new.client }
-        ensures agrees { (h : List Event) → SessionAgrees h self.old → now ≡ moment_of h → result.starved ≡ false → SessionAgrees (onto (take result.count octets.now) h) self.new }
-        ensures starves { (h : List Event) → SessionAgrees h self.old → now ≡ moment_of h → result.starved ≡ true → Starves h octets.now result.count self.new }
+        ensures agrees { (retry : ℕ) (h : List Event) → SessionAgrees retry h self.old → now ≡ moment_of h → result.starved ≡ false → SessionAgrees retry (onto (take result.count octets.now) h) self.new }
+        ensures starves { (retry : ℕ) (h : List Event) → SessionAgrees retry h self.old → now ≡ moment_of h → result.starved ≡ true → Starves retry h octets.now result.count self.new }
     {
         let count = self.receiver.push(octets);
         let starved = self.sender.hear_front(&self.receiver, now, keeper);
@@ -151,7 +152,7 @@ impl<A: Allocator + Clone> CacheSession<A> {
         ensures count { result ≡ min (length buf.old) (length self.old.ring) }
         ensures octets { buf.new ≡ take result self.old.ring ++ drop result buf.old }
         ensures exact { self.new ≡ handed self.old result }
-        ensures agrees { (h : List Event) → SessionAgrees h self.old → SessionAgrees (Handed (take result buf.new) ∷ h) self.new }
+        ensures agrees { (retry : ℕ) (h : List Event) → SessionAgrees retry h self.old → SessionAgrees retry (Handed (take result buf.new) ∷ h) self.new }
     {
         self.sender.take(buf)
     }

@@ -4,6 +4,7 @@ ghost use Rattle.net_prefix.specs.declared.transport.Transport.TheVariants.{Open
 ghost use Rattle.rtr_codec.specs.ClientTable.{in_force, transport_of};
 
 use net_prefix::{Transport, Vrp};
+use rtr_codec::Intervals;
 use rtr_session::{CacheSession, Hearing};
 use std::alloc::{AllocError, Allocator};
 use std::collections::BTreeSet;
@@ -19,7 +20,7 @@ pub struct Router<A: Allocator> {
 impl<A: Allocator + Clone> Router<A> {
     pub fn new(alloc: A) -> Result<Self, AllocError> {
         let kept = BTreeSet::new(alloc.clone()?);
-        let session = CacheSession::new(alloc)?;
+        let session = CacheSession::new(alloc, Intervals::USUAL.retry)?;
         Ok(Router { session, kept })
     }
 

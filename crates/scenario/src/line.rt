@@ -8,7 +8,7 @@ use command_lines::{CommandLine, LineFault, address, number, words_of};
 use hex::FromHexError;
 use net_prefix::Asn;
 use rtr_codec::Intervals;
-use speaker::{Config, SlotTimers};
+use speaker::{CACHE_RETRY_SECONDS, Config, SlotTimers};
 use std::alloc::Global;
 
 /// A line of a script. Its words are separated by single spaces.
@@ -189,6 +189,7 @@ fn config_of(asn: &str, identifier: &str, cache: &str, multiprotocol: bool) -> O
         asn: Asn(number(asn)?),
         identifier: address(identifier)?,
         cache: cache_word(cache)?,
+        cache_retry: CACHE_RETRY_SECONDS,
         multiprotocol,
         timers: SlotTimers::USUAL,
     })

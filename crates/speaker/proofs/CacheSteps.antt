@@ -11,7 +11,8 @@ use Rattle.origin_valid.proofs.StretchLaws.{over_change, same_state}
 use Rattle.rib_in.specs.LatestRoutes.{HasRoute, route_at}
 use Rattle.decision.specs.BookContents.{offer_at}
 use Rattle.net_prefix.specs.declared.transport.Transport.TheVariants.{Open as Connected}
-use Rattle.rtr_codec.specs.ClientTable.{Tick, in_force, initial, row, transport_of, Starved as Refuses}
+use Rattle.rtr_client.specs.FirstClient.{first_client}
+use Rattle.rtr_codec.specs.ClientTable.{Tick, in_force, row, transport_of, Starved as Refuses}
 use Rattle.rtr_client.specs.Following.{load_takes}
 use Rattle.rtr_session.specs.Agreement.{SessionAgrees, Starves}
 use Rattle.rtr_session.specs.SessionHistory as cached
@@ -50,7 +51,7 @@ states_kept before after q out origin =
     sym (same_state before after (change_between before after) q origin (λ payload. sym (has-after_change before after payload)) (sym (concerned before after q) ∙ out))
 
 pub cache_moves : (config : Config) (conf : Configuration) (now : ℕ) (k1 k2 : List cached.Event) (histories : ℕ → List happens.Event) (most : ℕ) (r : Run) (old new : SpeakerState)
-    → HoldsBy config conf now k1 histories most old → Revalidates old new → CacheAgrees config k2 new.cache → new.payloads ≡ in_force (cached.client k2)
+    → HoldsBy config conf now k1 histories most old → Revalidates old new → CacheAgrees config k2 new.cache → new.payloads ≡ in_force (cached.client config.cache_retry k2)
     → ((t : ℕ) (p : Prefix) → route (histories t) p ≡ route (history config t r) p) → conf ≡ configuration_of config r → HoldsBy config conf now k2 histories (most + choices_from config r k1 k2) new
 cache_moves config conf now k1 k2 histories most r old new h moves agrees payloads routes same = record {
   config_is = moves.config ∙ h.config_is;
@@ -66,14 +67,14 @@ cache_moves config conf now k1 k2 histories most r old new h moves agrees payloa
       let few = moves.chosen.2 in
       let so_far = h.chosen in
       let before = moves.chosen_before in
-      let touched = most_touched config r (in_force (cached.client k1)) (in_force (cached.client k2)) moves.chosen.0 (different_as _ _ moves.chosen.0 here moves.chosen.1) in
+      let touched = most_touched config r (in_force (cached.client config.cache_retry k1)) (in_force (cached.client config.cache_retry k2)) moves.chosen.0 (different_as _ _ moves.chosen.0 here moves.chosen.1) in
       omega (arith, few, so_far, before, touched);
 }
   where
     here : (p : Prefix) → (concerns old.payloads new.payloads p ≡ true) × HasRoute old.adj_in p
-        → (is_touched (in_force (cached.client k1)) (in_force (cached.client k2)) p ≡ true) × IsKnown config r p
+        → (is_touched (in_force (cached.client config.cache_retry k1)) (in_force (cached.client config.cache_retry k2)) p ≡ true) × IsKnown config r p
     here p both = (
-      subst (λ before. is_touched before (in_force (cached.client k2)) p ≡ true) h.payloads (subst (λ after. is_touched old.payloads after p ≡ true) payloads (sym (concerned old.payloads new.payloads p) ∙ both.0)),
+      subst (λ before. is_touched before (in_force (cached.client config.cache_retry k2)) p ≡ true) h.payloads (subst (λ after. is_touched old.payloads after p ≡ true) payloads (sym (concerned old.payloads new.payloads p) ∙ both.0)),
       known_of config conf now k1 histories most r old h same routes p both.1,
     )
 
@@ -119,7 +120,7 @@ allowed config conf now k1 k2 histories m1 m2 s h same more = record {
   moment = h.moment;
   conf = h.conf;
   cache = subst (λ k. CacheAgrees config k s.cache) (sym same) h.cache;
-  payloads = h.payloads ∙ ap (λ k. in_force (cached.client k)) (sym same);
+  payloads = h.payloads ∙ ap (λ k. in_force (cached.client config.cache_retry k)) (sym same);
   peers = h.peers;
   slots = h.slots;
   networks = h.networks;
@@ -151,14 +152,14 @@ cache_moment [] = refl
 cache_moment (now ∷ r) = called_moment now.call (cache_history r) ∙ ap (λ m. moment_called now.call m) (cache_moment r)
 
 -- a session that agrees with a history has the payloads in force that the history has
-agreed_payloads : (config : Config) (k : List cached.Event) (found : Option CacheSession) (s : CacheSession) → found ≡ Some s → CacheAgrees config k found → (config.cache ≡ true) × SessionAgrees k s
+agreed_payloads : (config : Config) (k : List cached.Event) (found : Option CacheSession) (s : CacheSession) → found ≡ Some s → CacheAgrees config k found → (config.cache ≡ true) × SessionAgrees config.cache_retry k s
 agreed_payloads config k found s is agrees = subst (λ x. CacheAgrees config k x) is agrees
 
-pub agreed_session : (config : Config) (k : List cached.Event) (found : Option CacheSession) (s : CacheSession) → found ≡ Some s → CacheAgrees config k found → SessionAgrees k s
+pub agreed_session : (config : Config) (k : List cached.Event) (found : Option CacheSession) (s : CacheSession) → found ≡ Some s → CacheAgrees config k found → SessionAgrees config.cache_retry k s
 agreed_session config k found s is agrees = (agreed_payloads config k found s is agrees).1
 
 -- what a session becomes
-becomes : (config : Config) (k1 k2 : List cached.Event) (old new : Option CacheSession) (s t : CacheSession) → old ≡ Some s → new ≡ Some t → CacheAgrees config k1 old → (SessionAgrees k1 s → SessionAgrees k2 t)
+becomes : (config : Config) (k1 k2 : List cached.Event) (old new : Option CacheSession) (s t : CacheSession) → old ≡ Some s → new ≡ Some t → CacheAgrees config k1 old → (SessionAgrees config.cache_retry k1 s → SessionAgrees config.cache_retry k2 t)
     → CacheAgrees config k2 new
 becomes config k1 k2 old new s t was is agrees step =
     let before = agreed_payloads config k1 old s was agrees in
@@ -167,7 +168,7 @@ becomes config k1 k2 old new s t was is agrees step =
 -- an event comes to it: its connection stands or fails, or octets are handed out
 pub holds_cached : (config : Config) (r : Run) (call : Call) (s t : CacheSession) (old new : SpeakerState) → Holds config r old → old.chosen ≤ old.chosen_before → old.cache ≡ Some s → new.cache ≡ Some t
     → configuration_of config (turn call [] ∷ r) ≡ configuration_of config r → moment_after (turn call [] ∷ r) ≡ moment_after r → ((slot : ℕ) → history config slot (turn call [] ∷ r) ≡ history config slot r)
-    → (SessionAgrees (cache_history r) s → SessionAgrees (cache_history (turn call [] ∷ r)) t) → new.payloads ≡ in_force t.client → Revalidates old new
+    → (SessionAgrees config.cache_retry (cache_history r) s → SessionAgrees config.cache_retry (cache_history (turn call [] ∷ r)) t) → new.payloads ≡ in_force t.client → Revalidates old new
     → choices_from config r (cache_history r) (cache_history (turn call [] ∷ r)) ≤ choices_in config (turn call [] ∷ r) → Holds config (turn call [] ∷ r) new
 holds_cached config r call s t old new h few was is conf moment histories step payloads moves most =
     let k2 : List cached.Event = cache_history (turn call [] ∷ r) in
@@ -184,7 +185,7 @@ holds_cached config r call s t old new h few was is conf moment histories step p
 -- a moment comes to it, behind the moment of each slot
 pub holds_cache_ticked : (config : Config) (r : Run) (now : ℕ) (s t : CacheSession) (old new : SpeakerState)
     → HoldsBy config (configuration_of config r) now (cache_history r) (λ slot. Ticked now ∷ history config slot r) 0 old → old.cache ≡ Some s → new.cache ≡ Some t
-    → (SessionAgrees (cache_history r) s → SessionAgrees (cached.Ticked now ∷ cache_history r) t) → new.payloads ≡ in_force t.client → Revalidates old new
+    → (SessionAgrees config.cache_retry (cache_history r) s → SessionAgrees config.cache_retry (cached.Ticked now ∷ cache_history r) t) → new.payloads ≡ in_force t.client → Revalidates old new
     → HoldsBy config (configuration_of config r) now (cache_history (turn (Tick_call now) [] ∷ r)) (λ slot. Ticked now ∷ history config slot r) (choices_cached config r (cache_history r) (cached.Ticked now)) new
 holds_cache_ticked config r now s t old new h was is step payloads moves =
     let k2 : List cached.Event = cached.Ticked now ∷ cache_history r in
@@ -195,7 +196,7 @@ holds_cache_ticked config r now s t old new h was is step payloads moves =
 
 -- octets come to it, up to the end of a PDU
 pub cache_heard : (config : Config) (r : Run) (done piece : List ℕ) (s t : CacheSession) (old new : SpeakerState) → Holds config (turn (Cache_bytes_call done) [] ∷ r) old → old.cache ≡ Some s → new.cache ≡ Some t
-    → ((k : List cached.Event) → SessionAgrees k s → old.moment ≡ cached.moment_of k → SessionAgrees (cached.onto piece k) t) → new.payloads ≡ in_force t.client → Revalidates old new
+    → ((k : List cached.Event) → SessionAgrees config.cache_retry k s → old.moment ≡ cached.moment_of k → SessionAgrees config.cache_retry (cached.onto piece k) t) → new.payloads ≡ in_force t.client → Revalidates old new
     → Holds config (turn (Cache_bytes_call (done ++ piece)) [] ∷ r) new
 cache_heard config r done piece s t old new h was is step payloads moves =
     let k : List cached.Event = cache_history r in
@@ -219,7 +220,7 @@ cache_nothing config r s h few = allowed config (configuration_of config r) (mom
 pub cache_dropped : (octets : List ℕ) (session : CacheSession) (s : SpeakerState) → s.cache ≡ Some session → transport_of session.client ≢ Connected → CacheHears octets s s
 cache_dropped octets session s is shut config r done h =
     let had = agreed_payloads config (cache_history (turn (Cache_bytes_call done) [] ∷ r)) s.cache session is h.cache in
-    cache_heard config r done octets session session s s h is is (λ k a at. octets_are_dropped k session octets shut a) (h.payloads ∙ ap in_force (sym had.1.client)) (revalidates_none s s refl)
+    cache_heard config r done octets session session s s h is is (λ k a at. octets_are_dropped config.cache_retry k session octets shut a) (h.payloads ∙ ap in_force (sym had.1.client)) (revalidates_none s s refl)
 
 -- all of them, however the speaker is written
 pub cache_dropped_whole : (octets : List ℕ) (session : CacheSession) (a v s : SpeakerState) → v ≡ s → a ≡ record v { cache = Some session } → v.cache ≡ Some session → transport_of session.client ≢ Connected → CacheHears (take (length octets) octets) s a
@@ -248,8 +249,8 @@ cache_until octets rest first now new h until config r done holds =
 -- ---- memory is refused
 
 -- a session to which memory was refused has closed
-refused_shut : (k : List cached.Event) (t : CacheSession) → SessionAgrees (cached.Refused ∷ k) t → transport_of t.client ≢ Connected
-refused_shut k t a stands = starved_closes (cached.moment_of k) (cached.client k) (stood_after (cached.moment_of k) Refuses (cached.waiting (cached.course k)) (cached.client k) (ap transport_of (sym a.client) ∙ stands))
+refused_shut : (config : Config) (k : List cached.Event) (t : CacheSession) → SessionAgrees config.cache_retry (cached.Refused ∷ k) t → transport_of t.client ≢ Connected
+refused_shut config k t a stands = starved_closes (cached.moment_of k) (cached.client config.cache_retry k) (stood_after (cached.moment_of k) Refuses (cached.waiting (cached.course config.cache_retry k)) (cached.client config.cache_retry k) (ap transport_of (sym a.client) ∙ stands))
 
 -- the last of the first octets, so many of them, stands between the others and those behind
 last_of : (octets : List ℕ) (count : ℕ) → 1 ≤ count → count ≤ length octets → octets ≡ take (count - 1) octets ++ get_or octets (count - 1) 0 ∷ drop count octets
@@ -259,7 +260,7 @@ last_of octets count some within =
     sym (take-append-drop count octets) ∙ ap (λ x. x ++ drop count octets) last ∙ append_assoc (take (count - 1) octets) (get_or octets (count - 1) 0 ∷ []) (drop count octets)
 
 -- what octets up to it allow
-starved_choices : (config : Config) (r : Run) (done piece behind : List ℕ) (k : List cached.Event) → in_force (cached.client (cached.onto behind (cached.Refused ∷ cached.onto piece (cached.onto done k)))) ≡ in_force (cached.client (cached.Refused ∷ cached.onto piece (cached.onto done k)))
+starved_choices : (config : Config) (r : Run) (done piece behind : List ℕ) (k : List cached.Event) → in_force (cached.client config.cache_retry (cached.onto behind (cached.Refused ∷ cached.onto piece (cached.onto done k)))) ≡ in_force (cached.client config.cache_retry (cached.Refused ∷ cached.onto piece (cached.onto done k)))
     → choices_cached_on config r done k + choices_from config r (cached.onto done k) (cached.onto behind (cached.Refused ∷ cached.onto piece (cached.onto done k)))
     ≤ choices_cached_on config r (done ++ piece) k + choices_cached config r (cached.onto piece (cached.onto done k)) cached.Refused
 starved_choices config r done piece behind k same =
@@ -274,9 +275,9 @@ starved_choices config r done piece behind k same =
 
 -- octets come to it up to one that completes a PDU to which memory is refused
 pub cache_starves : (config : Config) (r : Run) (done octets : List ℕ) (count : ℕ) (s t : CacheSession) (old new : SpeakerState) → Holds config (turn (Cache_bytes_call done) [] ∷ r) old → old.cache ≡ Some s → new.cache ≡ Some t
-    → count ≤ length octets → ((k : List cached.Event) → SessionAgrees k s → old.moment ≡ cached.moment_of k → Starves k octets count t) → new.payloads ≡ in_force t.client → Revalidates old new
+    → count ≤ length octets → ((k : List cached.Event) → SessionAgrees config.cache_retry k s → old.moment ≡ cached.moment_of k → Starves config.cache_retry k octets count t) → new.payloads ≡ in_force t.client → Revalidates old new
     → (before : List ℕ) × (octet : ℕ) × (behind : List ℕ) × (done ++ octets ≡ before ++ octet ∷ behind)
-    × CacheMayStarve (cached.onto before (cache_history r)) octet × Holds config (turn (Cache_starved_call before octet behind) [] ∷ r) new
+    × CacheMayStarve config (cached.onto before (cache_history r)) octet × Holds config (turn (Cache_starved_call before octet behind) [] ∷ r) new
 cache_starves config r done octets count s t old new h was is within starves payloads moves =
     let k : List cached.Event = cache_history r in
     let k1 : List cached.Event = cached.onto done k in
@@ -288,10 +289,10 @@ cache_starves config r done octets count s t old new h was is within starves pay
     let w = starves k1 had.1 at in
     let k2 : List cached.Event = cached.onto piece k1 in
     let k3 : List cached.Event = cached.onto behind (cached.Refused ∷ k2) in
-    let shut = refused_shut k2 t w.agrees in
-    let closed : SessionAgrees k3 t = octets_are_dropped (cached.Refused ∷ k2) t behind shut w.agrees in
+    let shut = refused_shut config k2 t w.agrees in
+    let closed : SessionAgrees config.cache_retry k3 t = octets_are_dropped config.cache_retry (cached.Refused ∷ k2) t behind shut w.agrees in
     let agrees : CacheAgrees config k3 new.cache = subst (λ x. CacheAgrees config k3 x) (sym is) (had.0, closed) in
-    let same : in_force (cached.client k3) ≡ in_force (cached.client (cached.Refused ∷ k2)) = ap in_force (sym closed.client ∙ w.agrees.client) in
+    let same : in_force (cached.client config.cache_retry k3) ≡ in_force (cached.client config.cache_retry (cached.Refused ∷ k2)) = ap in_force (sym closed.client ∙ w.agrees.client) in
     let after = cache_moves config (configuration_of config r) (moment_after r) k1 k3 (λ slot. history config slot r) (choices_in config (turn (Cache_bytes_call done) [] ∷ r)) r old new h moves agrees (payloads ∙ ap in_force closed.client) (λ slot p. refl) refl in
     let few = starved_choices config r done piece behind k same in
     let join : cached.onto (done ++ piece) k ≡ k2 = pieces_join done piece k in
@@ -304,8 +305,8 @@ cache_starves config r done octets count s t old new h was is within starves pay
       record {
         content = w.content;
         octets = w.whole;
-        completes = ap (λ x. cached.item_at x octet) join ∙ w.item;
-        takes = ap (λ x. load_takes (cached.client x) w.content) join ∙ w.takes;
+        completes = ap (λ x. cached.item_at config.cache_retry x octet) join ∙ w.item;
+        takes = ap (λ x. load_takes (cached.client config.cache_retry x) w.content) join ∙ w.takes;
       },
       allowed config (configuration_of config r) (moment_after r) k3 (cached.onto behind (cached.Refused ∷ cached.onto (done ++ piece) k)) (λ slot. history config slot r)
           (choices_in config (turn (Cache_bytes_call done) [] ∷ r) + choices_from config r k1 k3) (choices_in config (turn (Cache_starved_call (done ++ piece) octet behind) [] ∷ r)) new after
@@ -335,7 +336,7 @@ agrees_handed config r octets cache old new a agrees is = subst (λ x. Agrees co
   thrifty = (tt, tt, a.thrifty);
 })
 
-pub agrees_taken : (config : Config) (r : Run) (octets : List ℕ) (s t : CacheSession) (old new : SpeakerState) → Agrees config r old → old.cache ≡ Some s → (SessionAgrees (cache_history r) s → SessionAgrees (cached.Handed octets ∷ cache_history r) t)
+pub agrees_taken : (config : Config) (r : Run) (octets : List ℕ) (s t : CacheSession) (old new : SpeakerState) → Agrees config r old → old.cache ≡ Some s → (SessionAgrees config.cache_retry (cache_history r) s → SessionAgrees config.cache_retry (cached.Handed octets ∷ cache_history r) t)
     → new ≡ record old { cache = Some t } → Agrees config (turn (Cache_take_call octets) [] ∷ r) new
 agrees_taken config r octets s t old new a was step is =
     let had = agreed_payloads config (cache_history r) old.cache s was a.holds.cache in
@@ -348,19 +349,19 @@ agrees_none config r octets old new a was is = agrees_handed config r octets Non
 -- ---- where there is no cache session
 
 -- a moment leaves a client to which nothing has happened
-still_initial : (now : ℕ) (ring : List ℕ) → client_after now Tick ring initial ≡ initial
+still_first : (retry now : ℕ) (ring : List ℕ) → client_after now Tick ring (first_client retry) ≡ first_client retry
 unfolding row
-still_initial now ring = refl
+still_first retry now ring = refl
 
-opens_nothing : (now : ℕ) → (row now initial Tick).opened ≡ false
+opens_nothing : (retry now : ℕ) → (row now (first_client retry) Tick).opened ≡ false
 unfolding row
-opens_nothing now = refl
+opens_nothing retry now = refl
 
-none_opens : (config : Config) (now : ℕ) (k : List cached.Event) → CacheAgrees config k None → cached.opens_at now k ≡ false
-none_opens config now k a = ap (λ c. (row now c Tick).opened) a.1 ∙ opens_nothing now
+none_opens : (config : Config) (now : ℕ) (k : List cached.Event) → CacheAgrees config k None → cached.opens_at config.cache_retry now k ≡ false
+none_opens config now k a = ap (λ c. (row now c Tick).opened) a.1 ∙ opens_nothing config.cache_retry now
 
 none_ticked : (config : Config) (now : ℕ) (k : List cached.Event) → CacheAgrees config k None → CacheAgrees config (cached.Ticked now ∷ k) None
-none_ticked config now k a = (a.0, ap (client_after now Tick (cached.waiting (cached.course k))) a.1 ∙ still_initial now (cached.waiting (cached.course k)))
+none_ticked config now k a = (a.0, ap (client_after now Tick (cached.waiting (cached.course config.cache_retry k))) a.1 ∙ still_first config.cache_retry now (cached.waiting (cached.course config.cache_retry k)))
 
 pub none_from_not : (found : Option CacheSession) → ((s : CacheSession) → found ≡ Some s → ⊥) → found ≡ None
 none_from_not None never = refl
@@ -368,7 +369,7 @@ none_from_not (Some s) never = absurd (never s refl)
 
 pub holds_none_ticked : (config : Config) (r : Run) (now : ℕ) (opened : Bool) (s : SpeakerState) → HoldsBy config (configuration_of config r) now (cache_history r) (λ slot. Ticked now ∷ history config slot r) 0 s → s.cache ≡ None → opened ≡ false
     → HoldsBy config (configuration_of config r) now (cache_history (turn (Tick_call now) [] ∷ r)) (λ slot. Ticked now ∷ history config slot r) (choices_cached config r (cache_history r) (cached.Ticked now)) s
-    × (opened ≡ cached.opens_at now (cache_history r))
+    × (opened ≡ cached.opens_at config.cache_retry now (cache_history r))
 holds_none_ticked config r now opened s h none is =
     let k : List cached.Event = cache_history r in
     let had = subst (λ x. CacheAgrees config k x) none h.cache in

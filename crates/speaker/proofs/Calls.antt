@@ -57,7 +57,7 @@ pub slot_route : (config : Config) (peer : Option ConfiguredPeer) (l : Option Li
 slot_route config peer l routes h p a = sym (a.routes_are p)
 
 -- the run's tables are those that are kept
-pub tables_same : (config : Config) (r : Run) (conf : Configuration) (payloads : List Vrp) (links : ℕ → Option Linked) (adj_in : RouteTable) → configuration_of config r ≡ conf → payloads ≡ payloads_after r
+pub tables_same : (config : Config) (r : Run) (conf : Configuration) (payloads : List Vrp) (links : ℕ → Option Linked) (adj_in : RouteTable) → configuration_of config r ≡ conf → payloads ≡ payloads_after config r
     → SlotsAgree config conf links adj_in (λ s. history config s r) → ((prefix : Prefix) → route_at adj_in 64 prefix ≡ network_route conf prefix) → tables_after config r ≡ tables_in conf payloads links adj_in
 tables_same config r conf payloads links adj_in same none all networks = λ i. record {
   conf = same i;

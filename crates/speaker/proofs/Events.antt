@@ -66,7 +66,7 @@ put_agrees config c1 c2 now1 now2 k1 k2 h1 h2 m1 m2 slot l old new h conf moment
   moment = keeps.moment ∙ h.moment ∙ sym moment;
   conf = keeps.conf ∙ h.conf ∙ sym conf;
   cache = subst (λ x. CacheAgrees config x new.cache) (sym cache) (subst (λ x. CacheAgrees config k1 x) (sym keeps.cache) h.cache);
-  payloads = keeps.payloads ∙ h.payloads ∙ ap (λ x. in_force (cached.client x)) (sym cache);
+  payloads = keeps.payloads ∙ h.payloads ∙ ap (λ x. in_force (cached.client config.cache_retry x)) (sym cache);
   peers = rw keeps.conf h.peers;
   slots =
       slots_changed config old.conf new.conf (link_at old.links) (link_at new.links) old.adj_in new.adj_in h1 h2 slot h.slots
@@ -496,7 +496,7 @@ pub record IsReady (config : Config) (r : Run) (wanted : Call) (done : Report) (
   pub asked_is : asked call ≡ wanted
   pub opened_is : opened_by config r call ≡ done.opened
   pub starved_is : starved_by call ≡ done.starved
-  pub cache_opened_is : cache_opened_by r call ≡ done.cache_opened
+  pub cache_opened_is : cache_opened_by config r call ≡ done.cache_opened
   pub cache_starved_is : cache_starved_by call ≡ done.cache_starved
   pub fair : IsFair config r call
   pub holds : Holds config (turn call [] ∷ r) s

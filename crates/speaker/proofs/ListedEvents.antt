@@ -1,4 +1,4 @@
-use Rattle.std.proofs.Common.{◌≡◌, ◌≤◌, ◌<◌, ◌++◌, ◌==◌, IfOk, IfErr, Bool, true, false, cond, List, [], ◌∷◌, Option, Some, None, Result, Ok, Err, refl, sym, ap, ◌∙◌, subst, arith}
+use Rattle.std.proofs.Common.{◌≡◌, ◌≤◌, ◌<◌, ◌++◌, ◌==◌, ℕ, zero, suc, IfOk, IfErr, Bool, true, false, cond, List, [], ◌∷◌, Option, Some, None, Result, Ok, Err, refl, sym, ap, ◌∙◌, subst, arith}
 use Rattle.std.specs.Option.{MatchOption, option_map}
 use Rattle.bgp_conf.specs.declared.refusal.Refusal.{Refusal}
 use Rattle.bgp_conf.specs.declared.refusal.Refusal.TheVariants.{NoMemory}
@@ -27,7 +27,7 @@ use Rattle.routes.proofs.WaitingLists.{nothing_rises}
 -- Lists of events.
 
 -- a cache session that is asked for is as nothing leaves it
-cache_starts : (config : Config) (b : Bool) → config.cache ≡ b → CacheAgrees config [] (cond b (Some configured) None)
+cache_starts : (config : Config) (b : Bool) → config.cache ≡ b → CacheAgrees config [] (cond b (Some (configured config.cache_retry)) None)
 cache_starts config true is = (is, record { client = refl; reading = λ stands. absurd (cc); ring = refl })
 cache_starts config false is = (is, refl)
 
@@ -38,6 +38,10 @@ none_after config prefix c is = none_routed (tables_after config []) prefix c.sl
     none : (b : Bool) → cond b (network_route (configuration_of config []) prefix) None ≡ None
     none true = refl
     none false = refl
+
+pub some_number : (n : ℕ) → (n == 0) ≡ false → 0 < n
+some_number zero none = absurd cc
+some_number (suc n) none = omega arith
 
 -- a speaker without peers is as no call leaves it
 pub agrees_new : (config : Config) → 0 < config.asn.0 → Agrees config [] (started config)

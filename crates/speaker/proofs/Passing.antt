@@ -83,7 +83,7 @@ same_route false u h p = refl
 tables_queued : (config : Config) (call : Call) (r : Run) (queue : Queue) (slot : ℕ) (u : List ℕ) → tables_after config (turn call ((slot, Tells u) ∷ queue) ∷ r) ≡ tables_after config (turn call queue ∷ r)
 tables_queued config call r queue slot u = λ i. record {
   conf = configuration_of config (turn call queue ∷ r);
-  payloads = payloads_after (turn call queue ∷ r);
+  payloads = payloads_after config (turn call queue ∷ r);
   sessions = λ s. same_session (s == slot) u (history config s (turn call queue ∷ r)) i;
   routes = λ s prefix. cond (s == 64) (network_route (configuration_of config (turn call queue ∷ r)) prefix) (same_route (s == slot) u (history config s (turn call queue ∷ r)) prefix i);
 }

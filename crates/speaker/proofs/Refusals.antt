@@ -17,7 +17,7 @@ use Rattle.speaker.proofs.Calls.{tables_same}
 
 -- the transport of the cache session
 pub cache_shown : (config : Config) (h : List cache.Event) (found : Option CacheSession) → CacheAgrees config h found
-    → option_map (λ session. client_transport session.client) found ≡ cond config.cache (Some (client_transport (cache.client h))) None
+    → option_map (λ session. client_transport session.client) found ≡ cond config.cache (Some (client_transport (cache.client config.cache_retry h))) None
 cache_shown config h None agrees = rw agrees.0 refl
 cache_shown config h (Some session) agrees = rw agrees.0 (ap (λ c. Some (client_transport c)) agrees.1.client)
 

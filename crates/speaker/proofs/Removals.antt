@@ -145,7 +145,7 @@ gone_by config r1 r2 slot old new h low config_same moment now conf cache payloa
   moment = moment ∙ h.moment ∙ sym now;
   conf = conf;
   cache = subst (λ x. CacheAgrees config x new.cache) (sym cached) (subst (λ x. CacheAgrees config (cache_history r1) x) (sym cache) h.cache);
-  payloads = payloads ∙ h.payloads ∙ ap (λ x. in_force (client x)) (sym cached);
+  payloads = payloads ∙ h.payloads ∙ ap (λ x. in_force (client config.cache_retry x)) (sym cached);
   peers = taken;
   slots = slots_changed config old.conf new.conf (link_at old.links) (link_at new.links) old.adj_in new.adj_in (λ t. history config t r1) (λ t. history config t r2) slot h.slots peers links routes histories (agrees_peers config (peer_at new.conf slot) (link_at new.links slot) new.adj_in slot (history config slot r2) low here);
   networks = λ p. routes 64 (λ is. not_local slot low (sym is)) p ∙ h.networks p ∙ same_networks p;

@@ -76,7 +76,7 @@ best_shown t routes prefix c is = (
 
 -- ---- the cache session
 
-state_kept : (config : Config) (h : List cached.Event) (found : Option CacheSession) → CacheAgrees config h found → cache_state_of found ≡ cond config.cache (Some (state_of (cached.client h))) None
+state_kept : (config : Config) (h : List cached.Event) (found : Option CacheSession) → CacheAgrees config h found → cache_state_of found ≡ cond config.cache (Some (state_of (cached.client config.cache_retry h))) None
 state_kept config h None agrees = rw agrees.0 refl
 state_kept config h (Some session) agrees = rw agrees.0 (ap (λ c. Some (state_of c)) agrees.1.client)
 

@@ -266,6 +266,6 @@ pub only_64 : (slot : ℕ) → slot ≤ 64 → 64 ≤ slot → slot ≡ 64
 only_64 slot most least = omega (arith, most, least)
 
 -- what it reports
-pub report_ticked : (config : Config) (r : Run) (now opened starved : ℕ) (cache_opened cache_starved : Bool) → opened ≡ opened_by config r (Tick_call now) → starved ≡ 0 → cache_opened ≡ cached.opens_at now (cache_history r) → cache_starved ≡ false
+pub report_ticked : (config : Config) (r : Run) (now opened starved : ℕ) (cache_opened cache_starved : Bool) → opened ≡ opened_by config r (Tick_call now) → starved ≡ 0 → cache_opened ≡ cached.opens_at config.cache_retry now (cache_history r) → cache_starved ≡ false
     → record { opened = opened; starved = starved; cache_opened = cache_opened; cache_starved = cache_starved } ≡ report_of config r (turn (Tick_call now) [])
 report_ticked config r now opened starved cache_opened cache_starved is none cache_is cache_none = λ i. record { opened = is i; starved = none i; cache_opened = cache_is i; cache_starved = cache_none i }

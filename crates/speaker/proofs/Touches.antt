@@ -96,7 +96,7 @@ how_many_twice f g h (p ∷ ps) either =
 
 -- what one of them and another allow, where slots have routes as the run has them
 abbrev pub choices_from : Config → Run → List cached.Event → List cached.Event → ℕ
-choices_from config r k1 k2 = how_many (λ p. is_known config r p && is_touched (in_force (cached.client k1)) (in_force (cached.client k2)) p) (named_to config r)
+choices_from config r k1 k2 = how_many (λ p. is_known config r p && is_touched (in_force (cached.client config.cache_retry k1)) (in_force (cached.client config.cache_retry k2)) p) (named_to config r)
 
 routed_twice : (r a b c : Bool) → (a ≡ true → (b || c) ≡ true) → (r && a) ≡ true → ((r && b) || (r && c)) ≡ true
 routed_twice true a b c either is = either is
@@ -109,12 +109,12 @@ routed_none false a is = refl
 pub choices_twice : (config : Config) (r : Run) (k1 k2 k3 : List cached.Event) → choices_from config r k1 k3 ≤ choices_from config r k1 k2 + choices_from config r k2 k3
 choices_twice config r k1 k2 k3 =
     how_many_twice _ _ _ (named_to config r)
-    (λ p is. routed_twice (is_known config r p) _ _ _ (touched_twice (in_force (cached.client k1)) (in_force (cached.client k2)) (in_force (cached.client k3)) p) is)
+    (λ p is. routed_twice (is_known config r p) _ _ _ (touched_twice (in_force (cached.client config.cache_retry k1)) (in_force (cached.client config.cache_retry k2)) (in_force (cached.client config.cache_retry k3)) p) is)
 
-pub choices_none : (config : Config) (r : Run) (k1 k2 : List cached.Event) → in_force (cached.client k2) ≡ in_force (cached.client k1) → choices_from config r k1 k2 ≡ 0
+pub choices_none : (config : Config) (r : Run) (k1 k2 : List cached.Event) → in_force (cached.client config.cache_retry k2) ≡ in_force (cached.client config.cache_retry k1) → choices_from config r k1 k2 ≡ 0
 choices_none config r k1 k2 same =
     none_held _ (named_to config r)
-    (λ p. routed_none (is_known config r p) _ (ap (λ x. is_touched (in_force (cached.client k1)) x p) same ∙ untouched (in_force (cached.client k1)) p))
+    (λ p. routed_none (is_known config r p) _ (ap (λ x. is_touched (in_force (cached.client config.cache_retry k1)) x p) same ∙ untouched (in_force (cached.client config.cache_retry k1)) p))
 
 -- octets one after another
 pub choices_octets : (config : Config) (r : Run) (octets : List ℕ) (k : List cached.Event) → choices_from config r k (cached.onto octets k) ≤ choices_cached_on config r octets k

@@ -25,7 +25,8 @@ use Rattle.net_prefix.specs.declared.prefix.Prefix.{Prefix}
 use Rattle.net_prefix.specs.declared.transport.Transport.TheVariants.{Open as Connected}
 use Rattle.rib_in.specs.LatestRoutes.{route_at}
 use Rattle.rib_out.specs.Held.{asked_at, held_at, is_among}
-use Rattle.rtr_codec.specs.ClientTable.{in_force, initial}
+use Rattle.rtr_client.specs.FirstClient.{first_client}
+use Rattle.rtr_codec.specs.ClientTable.{in_force}
 use Rattle.rtr_codec.specs.PduSpelling.{Content}
 use Rattle.rtr_codec.specs.PduStream.{WholePdu}
 use Rattle.rtr_client.specs.Following.{load_takes}
@@ -60,7 +61,7 @@ route_under conf histories s prefix = if s == LOCAL_SLOT then network_route conf
 abbrev pub tables_after : Config → Run → Tables
 tables_after config r = record {
   conf = configuration_of config r;
-  payloads = payloads_after r;
+  payloads = payloads_after config r;
   sessions = λ s. if is_there (history config s r) then Some (session (history config s r)) else None;
   routes = λ s prefix. route_under (configuration_of config r) (λ t. history config t r) s prefix;
 }
@@ -165,11 +166,11 @@ pub record MayStarve (h : List slot.Event) (octet : ℕ) : Type 0 where
 
 -- the next octet completes a PDU of the cache session that memory is taken for: in a load a payload that comes anew or that leaves
 -- what the load started from, or the End of Data that completes one, after a Serial Query only where the load brings a payload
-pub record CacheMayStarve (h : List cache.Event) (octet : ℕ) : Type 0 where
+pub record CacheMayStarve (config : Config) (h : List cache.Event) (octet : ℕ) : Type 0 where
   pub content : Content
   pub octets : List ℕ
-  pub completes : cache.item_at h octet ≡ Some (WholePdu content octets)
-  pub takes : load_takes (client h) content ≡ true
+  pub completes : cache.item_at config.cache_retry h octet ≡ Some (WholePdu content octets)
+  pub takes : load_takes (client config.cache_retry h) content ≡ true
 
 -- memory is refused to nothing but such a message or PDU
 abbrev pub IsFair : Config → Run → Call → Type 0
@@ -183,7 +184,7 @@ IsFair config r (Take_call s octets) = Unit {0}
 IsFair config r Cache_up_call = Unit {0}
 IsFair config r Cache_fail_call = Unit {0}
 IsFair config r (Cache_bytes_call octets) = Unit {0}
-IsFair config r (Cache_starved_call before octet behind) = CacheMayStarve (cache.onto before (cache_history r)) octet
+IsFair config r (Cache_starved_call before octet behind) = CacheMayStarve config (cache.onto before (cache_history r)) octet
 IsFair config r (Cache_take_call octets) = Unit {0}
 
 -- nothing was queued but what was owed, and no session was closed for want of memory but one that takes some
@@ -204,8 +205,8 @@ AreTaken own conf = (0 < own.0) × ((slot : ℕ) (peer : ConfiguredPeer) → pee
 -- the cache session is there just where the settings ask for one, and is as this history leaves it; where there is none
 -- nothing has happened to it
 abbrev pub CacheAgrees : Config → List cache.Event → Option CacheSession → Type 0
-CacheAgrees config h None = (config.cache ≡ false) × (client h ≡ initial)
-CacheAgrees config h (Some session) = (config.cache ≡ true) × SessionAgrees h session
+CacheAgrees config h None = (config.cache ≡ false) × (client config.cache_retry h ≡ first_client config.cache_retry)
+CacheAgrees config h (Some session) = (config.cache ≡ true) × SessionAgrees config.cache_retry h session
 
 -- the settings, the configuration and the moment are these, and the cache session and each slot are as their histories leave
 -- them
@@ -215,7 +216,7 @@ pub record HoldsBy (config : Config) (conf_is : Configuration) (now : ℕ) (cach
   pub conf : s.conf ≡ conf_is
   -- the cache session is as its history leaves it, and routes are judged by the payloads that it has in force
   pub cache : CacheAgrees config cached s.cache
-  pub payloads : s.payloads ≡ in_force (client cached)
+  pub payloads : s.payloads ≡ in_force (client config.cache_retry cached)
   pub peers : AreTaken config.asn s.conf
   pub slots : (slot : ℕ) → SlotAgrees config (peer_at s.conf slot) (link_at s.links slot) (peer_route_at s.adj_in slot) (histories slot)
   -- the local networks are those of the configuration
@@ -270,7 +271,7 @@ abbrev pub CacheHearsUntil : List ℕ → SpeakerState → SpeakerState → Type
 CacheHearsUntil octets old new =
     (config : Config) (r : Run) (done : List ℕ) → Holds config (turn (Cache_bytes_call done) [] ∷ r) old
     → (before : List ℕ) × (octet : ℕ) × (behind : List ℕ) × (done ++ octets ≡ before ++ octet ∷ behind)
-    × CacheMayStarve (cache.onto before (cache_history r)) octet × Holds config (turn (Cache_starved_call before octet behind) [] ∷ r) new
+    × CacheMayStarve config (cache.onto before (cache_history r)) octet × Holds config (turn (Cache_starved_call before octet behind) [] ∷ r) new
 
 -- in the midst of a call all is as the run with what the call has done so far leaves it: Loc-RIB is the selection, and
 -- what was done was owed

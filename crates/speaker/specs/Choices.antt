@@ -79,7 +79,7 @@ is_touched before after prefix = list_any (λ payload. covers payload.prefix pre
 -- force or went
 abbrev pub choices_cached : Config → Run → List cache.Event → cache.Event → ℕ
 choices_cached config r h e =
-    how_many (λ p. is_known config r p && is_touched (in_force (cache.client h)) (in_force (cache.client (e ∷ h))) p) (named_to config r)
+    how_many (λ p. is_known config r p && is_touched (in_force (cache.client config.cache_retry h)) (in_force (cache.client config.cache_retry (e ∷ h))) p) (named_to config r)
 
 -- for octets that come to it, one after another
 abbrev pub choices_cached_on : Config → Run → List ℕ → List cache.Event → ℕ

@@ -98,7 +98,7 @@ refusal_by moment cache t (CacheBytes octets) = cache_refused_at cache may_bring
 
 -- the transport of the cache session after a run, where there is one
 abbrev pub cache_transport_after : Config → Run → Option Transport
-cache_transport_after config r = if config.cache then Some (client_transport (client (cache_history r))) else None
+cache_transport_after config r = if config.cache then Some (client_transport (client config.cache_retry (cache_history r))) else None
 
 -- the transport of the cache session of a speaker, where it has one
 abbrev pub cache_transport_of : SpeakerState → Option Transport

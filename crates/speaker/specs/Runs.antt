@@ -166,8 +166,8 @@ cache_history [] = []
 cache_history (now ∷ r) = cache_called now.call (cache_history r)
 
 -- the payloads in force after a run
-abbrev pub payloads_after : Run → List Vrp
-payloads_after r = in_force (cache.client (cache_history r))
+abbrev pub payloads_after : Config → Run → List Vrp
+payloads_after config r = in_force (cache.client config.cache_retry (cache_history r))
 
 -- the terms of a peer's session
 abbrev pub terms_in : Config → ConfiguredPeer → Terms
@@ -263,19 +263,19 @@ opened_by config r (Cache_starved_call before octet behind) = 0
 opened_by config r (Cache_take_call octets) = 0
 
 -- whether an attempt of the cache session begins in a call: by a moment alone
-abbrev pub cache_opened_by : Run → Call → Bool
-cache_opened_by r (Up_call slot) = false
-cache_opened_by r (Fail_call slot) = false
-cache_opened_by r (Bytes_call slot octets) = false
-cache_opened_by r (Starved_call slot before octet behind) = false
-cache_opened_by r (Tick_call now) = cache.opens_at now (cache_history r)
-cache_opened_by r (Command_call command) = false
-cache_opened_by r (Take_call slot octets) = false
-cache_opened_by r Cache_up_call = false
-cache_opened_by r Cache_fail_call = false
-cache_opened_by r (Cache_bytes_call octets) = false
-cache_opened_by r (Cache_starved_call before octet behind) = false
-cache_opened_by r (Cache_take_call octets) = false
+abbrev pub cache_opened_by : Config → Run → Call → Bool
+cache_opened_by config r (Up_call slot) = false
+cache_opened_by config r (Fail_call slot) = false
+cache_opened_by config r (Bytes_call slot octets) = false
+cache_opened_by config r (Starved_call slot before octet behind) = false
+cache_opened_by config r (Tick_call now) = cache.opens_at config.cache_retry now (cache_history r)
+cache_opened_by config r (Command_call command) = false
+cache_opened_by config r (Take_call slot octets) = false
+cache_opened_by config r Cache_up_call = false
+cache_opened_by config r Cache_fail_call = false
+cache_opened_by config r (Cache_bytes_call octets) = false
+cache_opened_by config r (Cache_starved_call before octet behind) = false
+cache_opened_by config r (Cache_take_call octets) = false
 
 -- what a call after a run reports: the slots whose connection attempt begins, and those to which memory was refused, and
 -- both of the cache session
@@ -283,6 +283,6 @@ abbrev pub report_of : Config → Run → Turn → Report
 report_of config r now = record {
   opened = opened_by config r now.call;
   starved = bit_or (starved_by now.call) (starved_in now.queued);
-  cache_opened = cache_opened_by r now.call;
+  cache_opened = cache_opened_by config r now.call;
   cache_starved = cache_starved_by now.call;
 }

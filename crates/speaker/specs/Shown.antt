@@ -52,7 +52,7 @@ cache_state_of cache = option_map (λ session. state_of session.client) cache
 
 -- the same after a run
 abbrev pub cache_state_after : Config → Run → Option ClientState
-cache_state_after config r = if config.cache then Some (state_of (client (cache_history r))) else None
+cache_state_after config r = if config.cache then Some (state_of (client config.cache_retry (cache_history r))) else None
 
 -- a transport; where there is no session there is none
 abbrev pub transport_or_none : Option Transport → Transport

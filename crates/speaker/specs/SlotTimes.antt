@@ -1,5 +1,5 @@
--- For how long the timers of the peer of each slot run that an operator may set (RFC 4271 section 8).
-use Rattle.std.specs.Prelude.{ℕ, Bool, nat_lt, replicate, slice_get, slice_set, unwrap_or, if◌then◌else◌}
+-- For how long the timers run that an operator may set: of the peer of each slot (RFC 4271 section 8), and of the cache session (RFC 8210 section 6).
+use Rattle.std.specs.Prelude.{◌&&◌, ℕ, Bool, nat_le, nat_lt, replicate, slice_get, slice_set, unwrap_or, if◌then◌else◌}
 use Rattle.std.specs.List.{list_all}
 use Rattle.bgp_fsm.specs.TimerMoments as session
 use Rattle.bgp_fsm.specs.TimerMoments.{usual}
@@ -21,3 +21,7 @@ with_times timers slot times = if nat_lt slot 64 then record { slots = slice_set
 -- each of them runs for a second at least
 abbrev pub are_lawful : SlotTimers → Bool
 are_lawful timers = list_all (λ times. session.are_lawful times) timers.slots
+
+-- the seconds that a Retry Interval may be
+abbrev pub is_retry : ℕ → Bool
+is_retry seconds = nat_le 1 seconds && nat_le seconds 7200

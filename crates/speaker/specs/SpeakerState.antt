@@ -8,7 +8,7 @@ use Rattle.net_prefix.specs.declared.prefix.Prefix.{Prefix}
 use Rattle.rib_in.specs.LatestRoutes.{RouteTable, route_at}
 use Rattle.rtr_codec.specs.ClientTable.{in_force}
 use Rattle.rtr_session.specs.SessionState.{Session as CacheSession, configured}
-use Rattle.speaker.specs.SlotTimes.{are_lawful}
+use Rattle.speaker.specs.SlotTimes.{are_lawful, is_retry}
 use Rattle.speaker.specs.declared.config.Config.{Config}
 use Rattle.routes.specs.Linked.{Linked}
 use Rattle.routes.specs.Tables.{Tables, tables, link_at}
@@ -40,7 +40,7 @@ started config = record {
   config = config;
   moment = 0;
   conf = record { own = config.asn; peers = []; policies = []; networks = []; reach = [] };
-  cache = if config.cache then Some configured else None;
+  cache = if config.cache then Some (configured config.cache_retry) else None;
   payloads = [];
   links = [];
   adj_in = [];
@@ -50,9 +50,9 @@ started config = record {
   chosen_before = 0;
 }
 
--- an AS or an identifier of 0, or a timer of some peer that is to run for no time
+-- an AS or an identifier of 0, a timer of some peer that is to run for no time, or a Retry Interval of the cache session that is none
 abbrev pub is_out_of_range : Config → Bool
-is_out_of_range config = config.asn.0 == 0 || config.identifier == 0 || not (are_lawful config.timers)
+is_out_of_range config = config.asn.0 == 0 || config.identifier == 0 || not (are_lawful config.timers) || not (is_retry config.cache_retry)
 
 -- the payloads in force of a cache session; none where there is no session
 abbrev pub payloads_in : Option CacheSession → List Vrp

@@ -67,7 +67,7 @@ impl<A: Allocator + Clone, B: Book<A>> Speaker<A, B> {
     /// The state of a route of this origin AS to a prefix in the payloads in force (RFC 6811 section 2).
     pub fn state(&self, prefix: Prefix, origin: Option<Asn>) -> Validity
         ensures kept { result ≡ validity self.now.payloads prefix origin }
-        ensures agrees { (config : Config) (r : Run) → Agrees config r self.now → result ≡ validity (payloads_after r) prefix origin }
+        ensures agrees { (config : Config) (r : Run) → Agrees config r self.now → result ≡ validity (payloads_after config r) prefix origin }
     {
         self.state_in_force(prefix, origin)
     }

@@ -14,6 +14,7 @@ ghost use Rattle.speaker.specs.declared.config.Config.{Config as TheConfig};
 ghost use Rattle.rtr_session.specs.SessionHistory as cached;
 ghost use Rattle.vrp_delta.specs.Delta.{change_between};
 
+use crate::config::Config;
 use crate::step::Speaker;
 use decision::Book;
 use net_prefix::Transport;
@@ -53,7 +54,7 @@ impl<A: Allocator + Clone, B: Book<A>> Speaker<A, B> {
     pub(crate) fn cache_tick(&mut self, now: u64) -> bool
         ensures ticks { (config : TheConfig) (r : Run) → HoldsBy config (configuration_of config r) now (cache_history r) (λ slot. Ticked now ∷ history config slot r) 0 self.old
             → HoldsBy config (configuration_of config r) now (cache_history (turn (Tick_call now) [] ∷ r)) (λ slot. Ticked now ∷ history config slot r) (choices_cached config r (cache_history r) (cached.Ticked now)) self.new
-            × (result ≡ opens_at now (cache_history r)) }
+            × (result ≡ opens_at config.cache_retry now (cache_history r)) }
         ensures moment { self.new.moment ≡ self.old.moment }
         ensures counted { self.new.chosen_before ≡ self.old.chosen_before }
         ensures rises { self.old.chosen ≤ self.new.chosen }
@@ -143,12 +144,12 @@ impl<A: Allocator + Clone, B: Book<A>> Speaker<A, B> {
 /// The session with a cache, where one is asked for.
 pub(crate) fn session_for<A: Allocator + Clone + Copy>(
     alloc: A,
-    is_asked_for: bool,
+    config: &Config,
 ) -> Result<Option<CacheSession<A>>, AllocError>
-    ensures { IfOk result (λ session. session ≡ (if is_asked_for then Some configured else None)) }
+    ensures { IfOk result (λ session. session ≡ (if config.now.cache then Some (configured config.now.cache_retry) else None)) }
 {
-    if !is_asked_for {
+    if !config.cache {
         return Ok(None);
     }
-    Ok(Some(CacheSession::new(alloc)?))
+    Ok(Some(CacheSession::new(alloc, config.cache_retry)?))
 }

@@ -42,7 +42,7 @@ mod views_after;
 pub use bgp_attr::{Attrs, Mode};
 pub use bgp_conf::{Action, Command, Condition, PeerConf, PrefixRange, Refusal, Rule};
 pub use bgp_fsm::{PeerTimers, State};
-pub use config::{Config, SlotTimers};
+pub use config::{CACHE_RETRY_SECONDS, Config, SlotTimers};
 pub use decision::LOCAL_SLOT;
 pub use event::{Event, Report};
 pub use laws::{

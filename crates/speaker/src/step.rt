@@ -66,7 +66,7 @@ impl<A: Allocator + Clone + Copy, B: Book<A>> Speaker<A, B> {
     ghost use Rattle.speaker.specs.SpeakerState.{started, is_out_of_range};
 
     /// A speaker without peers, whose cache session, where one is asked for, has begun its first connection attempt. Refused by
-    /// 33 where the AS, the identifier or a timer of a peer is 0, and by 44.
+    /// 33 where the AS, the identifier or a timer of a peer is 0 or `cache_retry` isn't from 1 to 7,200, and by 44.
     pub fn new(alloc: A, config: Config) -> Result<Self, Refusal>
         ensures ok { IfOk result (λ s. s ≡ started config) }
         // It agrees with the run of no calls.
@@ -74,7 +74,11 @@ impl<A: Allocator + Clone + Copy, B: Book<A>> Speaker<A, B> {
         ensures range { (result ≡ Err Refusal.Range) ↔ (is_out_of_range config ≡ true) }
         ensures err { IfErr result (λ why. (why ≡ Refusal.Range) ⊎ (why ≡ Refusal.NoMemory)) }
     {
-        if config.asn == Asn(0) || config.identifier == 0 || !config.timers.are_lawful() {
+        if config.asn == Asn(0)
+            || config.identifier == 0
+            || !config.timers.are_lawful()
+            || !config.has_retry()
+        {
             return Err(Refusal::Range);
         }
         match Speaker::empty(alloc, config) {
@@ -86,7 +90,7 @@ impl<A: Allocator + Clone + Copy, B: Book<A>> Speaker<A, B> {
     fn empty(alloc: A, config: Config) -> Result<Self, AllocError>
         ensures { IfOk result (λ s. s ≡ started config) }
     {
-        let cache = session_for(alloc, config.cache)?;
+        let cache = session_for(alloc, &config)?;
         let routes = Routes::new(alloc, config.asn)?;
         Ok(Speaker {
             alloc,

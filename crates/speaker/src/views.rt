@@ -253,7 +253,7 @@ impl<A: Allocator + Clone, B: Book<A>> Speaker<A, B> {
         // Each once.
         ensures rising { IsPayloadSet result }
         ensures kept { result ≡ self.now.payloads }
-        ensures agrees { (config : Config) (r : Run) → Agrees config r self.now → result ≡ payloads_after r }
+        ensures agrees { (config : Config) (r : Run) → Agrees config r self.now → result ≡ payloads_after config r }
     {
         self.payload_rows()
     }

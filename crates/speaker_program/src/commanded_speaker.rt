@@ -13,7 +13,7 @@ use crate::fault::SpeakerFault;
 use bgp_conf::PEER_SLOTS;
 use decision::Book;
 use scenario::obey_lines;
-use speaker::{Config, PeerTimers, SlotTimers, Speaker};
+use speaker::{CACHE_RETRY_SECONDS, Config, PeerTimers, SlotTimers, Speaker};
 use speaker_settings::{SpeakerSettings, has_slot};
 use std::alloc::Global;
 use std::io::{self, BufRead};
@@ -46,6 +46,7 @@ fn config_of(settings: &SpeakerSettings) -> Config
         asn: settings.asn,
         identifier: settings.identifier,
         cache: settings.cache.is_some(),
+        cache_retry: settings.cache_retry.unwrap_or(CACHE_RETRY_SECONDS),
         multiprotocol: settings.multiprotocol,
         timers: timers_of(settings.timers.as_slice()),
     }

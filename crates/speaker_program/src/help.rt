@@ -22,6 +22,7 @@ open_wait      seconds after which one is closed from which no whole OPEN comes 
 log            true or false: whether it writes a log (false)
 status         seconds between two status lines of the log, 1 or more (none)
 metrics        address and port where scrapers get the figures, as \"127.0.0.1:9848\" (none)
+cache_retry    seconds after which the cache is tried again until a load tells its own interval, 1 to 7200 (600)
 wait_for_cache seconds for which enabled peers wait at most until the cache's payloads are in force (none)
 [[peer]]       a table for each slot that the commands fill:
   slot         number of the slot, 0 to 63, none twice

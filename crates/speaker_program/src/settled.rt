@@ -10,5 +10,6 @@ pub(crate) fn settled(settings: &SpeakerSettings) -> Settled<'_> {
         has_cache: settings.cache.is_some(),
         listens: settings.listen.is_some(),
         waits: settings.wait_for_cache.is_some(),
+        retries: settings.cache_retry.is_some(),
     }
 }

@@ -197,7 +197,7 @@ const GOOD_SETTINGS: [(&str, &str); 10] = [
     ("as = 65000\nidentifier = \"192.0.2.1\"\npeer = []\n", ""),
     (ONE_PEER, PEER),
     ("as = 65000\nidentifier = \"192.0.2.1\"\nmetrics = \"127.0.0.1:0\"\n", ""),
-    ("as = 65000\nidentifier = \"192.0.2.1\"\ncache = \"127.0.0.1:1\"\nwait_for_cache = 1\n[[peer]]\nslot = 0\nremote = \"127.0.0.1:1\"\n", "peer 0 65001 192.0.2.11 192.0.2.1 active 180 all all\nenable 0\n"),
+    ("as = 65000\nidentifier = \"192.0.2.1\"\ncache = \"127.0.0.1:1\"\ncache_retry = 7200\nwait_for_cache = 1\n[[peer]]\nslot = 0\nremote = \"127.0.0.1:1\"\n", "peer 0 65001 192.0.2.11 192.0.2.1 active 180 all all\nenable 0\n"),
     (
         "as = 65000\nidentifier = \"192.0.2.1\"\n[[peer]]\nslot = 63\nremote = \"127.0.0.1:1\"\n[[peer]]\nslot = 0\nremote = \"127.0.0.1:1\"\n",
         "peer 0 1 192.0.2.11 192.0.2.1 active 0 all all\nenable 0\npeer 63 2 192.0.2.12 192.0.2.1 active 3 none none\n",
@@ -209,7 +209,7 @@ const GOOD_SETTINGS: [(&str, &str); 10] = [
 ];
 
 #[rattlefmt::skip]
-const BAD_SETTINGS: [(&str, &str); 42] = [
+const BAD_SETTINGS: [(&str, &str); 45] = [
     ("as = 65000\nidentifier = \"192.0.2.1\"\nno toml", "line 4: key with no value, expected `=`"),
     ("identifier = \"192.0.2.1\"\n", "'as' isn't there"),
     ("as = 65000\n", "'identifier' isn't there"),
@@ -229,6 +229,9 @@ const BAD_SETTINGS: [(&str, &str); 42] = [
     ("as = 65000\nidentifier = \"192.0.2.1\"\nstatus = 0\n", "status: 0 is no number from 1 to 4294967295"),
     ("as = 65000\nidentifier = \"192.0.2.1\"\nmetrics = 9848\n", "metrics: 9848 is no IP address and port"),
     ("as = 65000\nidentifier = \"192.0.2.1\"\nwait_for_cache = 0\n", "wait_for_cache: 0 is no number from 1 to 4294967295"),
+    ("as = 65000\nidentifier = \"192.0.2.1\"\ncache_retry = 0\n", "cache_retry: 0 is no number from 1 to 7200"),
+    ("as = 65000\nidentifier = \"192.0.2.1\"\ncache_retry = 7201\n", "cache_retry: 7201 is no number from 1 to 7200"),
+    ("as = 65000\nidentifier = \"192.0.2.1\"\ncache_retry = \"5\"\n", "cache_retry: '5' is no number from 1 to 7200"),
     ("as = 65000\nidentifier = \"192.0.2.1\"\nlisten = \"127.0.0.1\"\n", "listen: '127.0.0.1' is no IP address and port"),
     ("as = 65000\nidentifier = \"192.0.2.1\"\nlisten = true\n", "listen: true is no IP address and port"),
     ("as = 65000\nidentifier = \"192.0.2.1\"\nsend_hold = 0\n", "send_hold: 0 is no number from 1 to 4294967295"),

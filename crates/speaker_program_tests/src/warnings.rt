@@ -6,16 +6,18 @@ use speaker_program::main_bgp;
 use std::test::Fail;
 use std::{io, str};
 
-// All but the path of the commands: two peers, the first of them elsewhere, and no cache.
+// All but the path of the commands: two peers, the first of them elsewhere, and of a cache only what it is to be waited for.
 const SETTINGS: &str =
-    "as = 65000\nidentifier = \"192.0.2.1\"\nlog = true\n[[peer]]\nslot = 0\nremote = \"192.0.2.12:179\"\n[[peer]]\nslot = 1\nremote = \"198.51.100.1:179\"\n";
+    "as = 65000\nidentifier = \"192.0.2.1\"\nlog = true\nwait_for_cache = 1\ncache_retry = 5\n[[peer]]\nslot = 0\nremote = \"192.0.2.12:179\"\n[[peer]]\nslot = 1\nremote = \"198.51.100.1:179\"\n";
 
 const COMMANDS: &str =
     "reach 198.51.100.0/24 10\npolicy v state invalid reject ; accept\npolicy w accept\npeer 0 65001 192.0.2.11 192.0.2.1 passive 180 v all\npeer 1 65002 198.51.100.1 192.0.2.1 passive 180 all all\nenable 1\n";
 
 // The lines of the log behind their times, and what is printed behind the turns.
-const WARNINGS: [&str; 8] = [
+const WARNINGS: [&str; 10] = [
     " warning: peer 0 192.0.2.12:179: no line of the commands enables it",
+    " warning: wait_for_cache: there is no cache to wait for",
+    " warning: cache_retry: there is no cache whose connection is tried again",
     " warning: peer 0 192.0.2.11: its remote 192.0.2.12:179 is at another address",
     " warning: peer 0 192.0.2.11: no reach entry covers its address, so no route with this next hop is chosen",
     " warning: peer 0 192.0.2.11: it is passive, and the settings have no 'listen'",

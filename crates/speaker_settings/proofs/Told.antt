@@ -1,5 +1,5 @@
 -- What settings tell, they tell in one way.
-use Rattle.std.proofs.Common.{◌≡◌, ◌<◌, ◌==◌, ◌++◌, ℕ, zero, suc, true, false, List, [], ◌∷◌, Option, None, Some, Err, nat_abs, length, take, get_or, get_or-take, length-take-le, refl, ap, sym, subst, ◌∙◌, arith, true≢false, codes, string_bytes}
+use Rattle.std.proofs.Common.{◌≡◌, ◌≤◌, ◌<◌, ◌==◌, ◌++◌, ℕ, zero, suc, true, false, List, [], ◌∷◌, Option, None, Some, Err, nat_abs, length, take, get_or, get_or-take, length-take-le, refl, ap, sym, subst, ◌∙◌, arith, true≢false, codes, string_bytes}
 use Rattle.std.proofs.lemmas.Option.{same_Some}
 use Rattle.std.proofs.lemmas.List.Folds.{list_any_none}
 use Rattle.std.proofs.NetLemmas.Theorems.{IsIpv4Text_unique}
@@ -18,7 +18,7 @@ use Rattle.settings_keys.specs.declared.cause.SettingsFault.{SettingsFault}
 use Rattle.settings_keys.specs.declared.cause.SettingsFault.TheVariants.{Settings, NoMemory}
 use Rattle.settings_keys.specs.Keys.{Answers, AnswersInMemory, IsAddress, IsNumber, IsText, IsTold, IsToldIfThere, IsToldOrUsual}
 use Rattle.speaker_settings.specs.PeerSlots.{AreSlots, has_slot}
-use Rattle.speaker_settings.specs.ToldSettings.{ArePeers, IsAsn, IsIdentifier, IsPeer, IsSeconds, IsSlot, IsTextOf, keys_of_a_peer}
+use Rattle.speaker_settings.specs.ToldSettings.{ArePeers, IsAsn, IsIdentifier, IsPeer, IsRetry, IsSeconds, IsSlot, IsTextOf, keys_of_a_peer}
 
 pub no_asn : (o : Option Data) → TellsNothing (IsToldIfThere IsNumber o) → TellsNothing (IsTold IsAsn o)
 no_asn None none asn told = told
@@ -56,6 +56,19 @@ zero_seconds (Some found) is None told = told
 zero_seconds (Some found) is (Some value) told =
     let same : value ≡ 0 = ap nat_abs (same_Some _ _ (sym told.0.0 ∙ is.0)) in
     absurd (omega (arith, same, told.1))
+
+-- nor a Retry Interval, nor is one out of its bounds
+pub no_retry : (o : Option Data) → TellsNothing (IsToldIfThere IsNumber o) → TellsNothing (IsToldIfThere IsRetry o)
+no_retry None none value told = none value told
+no_retry (Some found) none None told = told
+no_retry (Some found) none (Some value) told = none (Some value) told.0
+
+pub beyond_retry : (o : Option Data) (seconds : ℕ) → IsToldIfThere IsNumber o (Some seconds) → ((1 ≤ seconds) → (seconds ≤ 7200) → ⊥) → TellsNothing (IsToldIfThere IsRetry o)
+beyond_retry None seconds is out value told = absurd cc
+beyond_retry (Some found) seconds is out None told = told
+beyond_retry (Some found) seconds is out (Some value) told =
+    let same : value ≡ seconds = ap nat_abs (same_Some _ _ (sym told.0.0 ∙ is.0)) in
+    out (omega (arith, same, told.1)) (omega (arith, same, told.2))
 
 -- a key that tells nothing, and may lack
 pub nothing_or_usual : (Is : Data → ℕ → Type 0) (usual : ℕ) (o : Option Data) → TellsNothing (IsToldIfThere Is o) → TellsNothing (IsToldOrUsual Is usual o)

@@ -27,6 +27,10 @@ IsIdentifier found identifier =
 abbrev pub IsSeconds : Data → ℕ → Type 0
 IsSeconds found seconds = IsNumber found seconds × (1 ≤ seconds)
 
+-- seconds that a Retry Interval may be (RFC 8210 section 6)
+abbrev pub IsRetry : Data → ℕ → Type 0
+IsRetry found seconds = IsNumber found seconds × (1 ≤ seconds) × (seconds ≤ 7200)
+
 -- seconds of a timer that a peer may have: a number of 16 bits that is not 0
 abbrev pub IsShortSeconds : Data → ℕ → Type 0
 IsShortSeconds found seconds = IsNumber found seconds × (1 ≤ seconds) × (seconds < 2 ^ 16)
@@ -37,7 +41,7 @@ IsSlot found slot = IsNumber found slot × (slot < 64)
 
 -- the keys of the settings, and of each peer's table
 abbrev pub keys_of_a_speaker : List (List ℕ)
-keys_of_a_speaker = codes "as" ∷ codes "identifier" ∷ codes "commands" ∷ codes "cache" ∷ codes "multiprotocol" ∷ codes "listen" ∷ codes "control" ∷ codes "send_hold" ∷ codes "open_wait" ∷ codes "log" ∷ codes "status" ∷ codes "metrics" ∷ codes "wait_for_cache" ∷ codes "peer" ∷ []
+keys_of_a_speaker = codes "as" ∷ codes "identifier" ∷ codes "commands" ∷ codes "cache" ∷ codes "multiprotocol" ∷ codes "listen" ∷ codes "control" ∷ codes "send_hold" ∷ codes "open_wait" ∷ codes "log" ∷ codes "status" ∷ codes "metrics" ∷ codes "cache_retry" ∷ codes "wait_for_cache" ∷ codes "peer" ∷ []
 
 abbrev pub keys_of_a_peer : List (List ℕ)
 keys_of_a_peer = codes "slot" ∷ codes "remote" ∷ codes "connect_retry" ∷ codes "idle_hold" ∷ []
@@ -98,6 +102,7 @@ pub record IsToldBy (table : Members) (settings : SpeakerSettings) : Type 0 wher
   pub log : IsToldOrUsual IsYesOrNo false (get_member (codes "log") table) settings.log
   pub status : IsToldIfThere IsSeconds (get_member (codes "status") table) settings.status
   pub metrics : IsToldIfThere IsAddress (get_member (codes "metrics") table) settings.metrics
+  pub cache_retry : IsToldIfThere IsRetry (get_member (codes "cache_retry") table) settings.cache_retry
   pub wait_for_cache : IsToldIfThere IsSeconds (get_member (codes "wait_for_cache") table) settings.wait_for_cache
   pub peers : ArePeersAt (get_member (codes "peer") table) settings.peers.items
   pub timers : AreTimersAt (get_member (codes "peer") table) settings.timers.items

@@ -5,7 +5,7 @@ ghost use Rattle.toml.specs.View.{items_view, table_view, view};
 ghost use Rattle.settings_keys.specs.Causes.{IsBad};
 ghost use Rattle.settings_keys.specs.Keys.{Answers, AnswersInMemory, IsTableOf, IsTold, IsToldIfThere, IsToldOrUsual};
 ghost use Rattle.speaker_settings.specs.PeerSlots.{AreSlots, has_slot};
-ghost use Rattle.speaker_settings.specs.ToldSettings.{ArePeers, ArePeersAt, AreTimers, AreTimersAt, IsAsn, IsIdentifier, IsPeer, IsSeconds, IsShortSeconds, IsSlot, IsSlotTimers, IsTextOf, IsToldBy};
+ghost use Rattle.speaker_settings.specs.ToldSettings.{ArePeers, ArePeersAt, AreTimers, AreTimersAt, IsAsn, IsIdentifier, IsPeer, IsRetry, IsSeconds, IsShortSeconds, IsSlot, IsSlotTimers, IsTextOf, IsToldBy};
 
 use bgp_conf::PEER_SLOTS;
 use bgp_fsm::{CONNECT_RETRY_SECONDS, IDLE_HOLD_SECONDS, PeerTimers};
@@ -46,6 +46,9 @@ pub struct SpeakerSettings {
     pub status: Option<u32>,
     /// Where scrapers ask for figures, if they do.
     pub metrics: Option<SocketAddr>,
+    /// For how many seconds the session with the cache waits behind what failed until a load has brought the cache's own Retry
+    /// Interval, from 1 to 7200, if that is told (RFC 8210 section 6).
+    pub cache_retry: Option<u32>,
     /// For how many seconds at most peers are enabled only once payloads were loaded, if they wait for that.
     pub wait_for_cache: Option<u32>,
     /// The slot of each peer, and where the peer is.
@@ -58,8 +61,8 @@ impl SpeakerSettings {
     /// The settings that the octets of a file tell in TOML: `as`, a number from 1 to 4294967295, `identifier`, the text of
     /// an IPv4 address other than 0.0.0.0, and `commands`, a text; and, where they are there, `multiprotocol` and `log`,
     /// `true` or `false`, `cache`, `listen` and `metrics`, each the text of an address and a port, `control`, a text,
-    /// `send_hold`, in the place of `SEND_HOLD_SECONDS`, `open_wait`, `status` and `wait_for_cache`, each a number from 1 to
-    /// 4294967295, and the tables `peer`, each with `slot`, from 0 to 63 and none twice, `remote`, the text of an address and a
+    /// `cache_retry`, a number from 1 to 7200, `send_hold`, in the place of `SEND_HOLD_SECONDS`, `open_wait`, `status` and
+    /// `wait_for_cache`, each a number from 1 to 4294967295, and the tables `peer`, each with `slot`, from 0 to 63 and none twice, `remote`, the text of an address and a
     /// port, and, where they are there, `connect_retry` and `idle_hold`, each a number from 1 to 65535, in the place of
     /// `CONNECT_RETRY_SECONDS` and `IDLE_HOLD_SECONDS`. There are no keys of other names. Anything else is `Settings`.
     pub fn read(alloc: Global, octets: &[u8]) -> Result<SpeakerSettings, SettingsFault>
@@ -95,6 +98,7 @@ impl SpeakerSettings {
         let log = yes_or_no_of(alloc, table, "log")?;
         let status = seconds_of(alloc, table, "status")?;
         let metrics = address_if_told(alloc, table, "metrics")?;
+        let cache_retry = cache_retry_of(alloc, table)?;
         let wait_for_cache = seconds_of(alloc, table, "wait_for_cache")?;
         let peers = peers_of(alloc, table)?;
         let timers = timers_of(alloc, table)?;
@@ -111,6 +115,7 @@ impl SpeakerSettings {
             log,
             status,
             metrics,
+            cache_retry,
             wait_for_cache,
             peers,
             timers,
@@ -119,7 +124,7 @@ impl SpeakerSettings {
 }
 
 // The keys of the settings, and of each peer's table.
-const KEYS: [&str; 14] = [
+const KEYS: [&str; 15] = [
     "as",
     "identifier",
     "commands",
@@ -132,6 +137,7 @@ const KEYS: [&str; 14] = [
     "log",
     "status",
     "metrics",
+    "cache_retry",
     "wait_for_cache",
     "peer",
 ];
@@ -203,6 +209,22 @@ fn seconds_of(alloc: Global, table: &Table, key: &str) -> Result<Option<u32>, Se
         Some(0) => Err(bad_number(alloc, key, 0, SECONDS)),
         Some(seconds) => Ok(Some(seconds)),
     }
+}
+
+// The seconds that a Retry Interval may be (RFC 8210 section 6).
+const RETRY: Wanted = Wanted::Number(1, 7_200);
+
+// The Retry Interval of the session with the cache until a load has brought another, if it is told.
+fn cache_retry_of(alloc: Global, table: &Table) -> Result<Option<u32>, SettingsFault>
+    ensures { Answers (IsToldIfThere IsRetry (get_member (codes "cache_retry") (table_view table.now))) result }
+{
+    let Some(seconds) = number_of(alloc, table, "cache_retry", RETRY)? else {
+        return Ok(None);
+    };
+    if seconds == 0 || 7_200 < seconds {
+        return Err(bad_number(alloc, "cache_retry", seconds, RETRY));
+    }
+    Ok(Some(seconds))
 }
 
 // The slot and the address of each peer; none where there are no such tables.

@@ -1,12 +1,13 @@
 //! The events of a first path: two passive peers, a route of the first, and the loss of its connection.
 use net_prefix::{Asn, Prefix};
-use speaker::{Command, Config, Event, Mode, PeerConf, SlotTimers};
+use speaker::{CACHE_RETRY_SECONDS, Command, Config, Event, Mode, PeerConf, SlotTimers};
 
 /// AS 65000, 192.0.2.1.
 pub const CONFIG: Config = Config {
     asn: Asn(65000),
     identifier: 0xC000_0201,
     cache: false,
+    cache_retry: CACHE_RETRY_SECONDS,
     multiprotocol: false,
     timers: SlotTimers::USUAL,
 };

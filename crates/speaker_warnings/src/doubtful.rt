@@ -23,6 +23,8 @@ pub struct Settled<'a> {
     pub listens: bool,
     /// Whether peers are to wait for payloads.
     pub waits: bool,
+    /// Whether it is told how long the session with the cache waits behind what failed.
+    pub retries: bool,
 }
 
 /// Writes a line to the log, where there is one, for each thing of the configuration that is hardly meant.
@@ -57,6 +59,9 @@ pub fn write_warnings<O: Write>(
 fn tell_all<T: Told>(conf: &Conf<Global>, settled: Settled<'_>, told: &mut T) {
     if settled.waits && !settled.has_cache {
         told.tell(&Warning::NoCache);
+    }
+    if settled.retries && !settled.has_cache {
+        told.tell(&Warning::NoRetry);
     }
     tell_peers(conf, settled, told);
     tell_policies(conf, settled.has_cache, told);

@@ -29,6 +29,9 @@ pub enum Warning {
     /// Peers are to wait for payloads, and there is no cache.
     #[error("warning: wait_for_cache: there is no cache to wait for")]
     NoCache,
+    /// It is told how long the session with a cache waits, and there is no cache.
+    #[error("warning: cache_retry: there is no cache whose connection is tried again")]
+    NoRetry,
     /// No peer uses the policy.
     #[error("warning: policy {0}: no peer uses it")]
     Unused(PolicyName),

@@ -7,7 +7,7 @@ use net_wires::NetWire;
 use rtr_cache::{Cache, CacheEvent};
 use rtr_codec::Intervals;
 use scenario::{Table, obey_lines, show};
-use speaker::{ClientState, Config, SlotTimers, Speaker, State};
+use speaker::{CACHE_RETRY_SECONDS, ClientState, Config, SlotTimers, Speaker, State};
 use speaker_turns::{End, SpeakerLoop};
 use std::alloc::{AllocGlobal, Global};
 use std::net::{Ipv4Addr, Net, SocketAddr, SocketAddrV4, TcpListener, TcpStream};
@@ -145,6 +145,7 @@ where
         asn: Asn(65_000),
         identifier: 0xC000_0201,
         cache: true,
+        cache_retry: CACHE_RETRY_SECONDS,
         multiprotocol: false,
         timers: SlotTimers::USUAL,
     };
@@ -246,6 +247,7 @@ where
         asn: Asn(65_002),
         identifier: 0xC000_0202,
         cache: false,
+        cache_retry: CACHE_RETRY_SECONDS,
         multiprotocol: false,
         timers: SlotTimers::USUAL,
     };
@@ -274,6 +276,7 @@ fn two_speakers_tell_each_other_their_networks(rt: HostRuntime) {
         asn: Asn(65_001),
         identifier: 0xC000_0201,
         cache: false,
+        cache_retry: CACHE_RETRY_SECONDS,
         multiprotocol: false,
         timers: SlotTimers::USUAL,
     };

@@ -6,7 +6,9 @@ ghost use Rattle.wires.specs.Wires.{FitsIn, FitsInSent, calling, failing, told_b
 use crate::made::made;
 use bgp_attr::Mode;
 use net_prefix::{Asn, Prefix};
-use speaker::{ClientState, Command, Config, Event, PeerConf, SlotTimers, Speaker, State};
+use speaker::{
+    CACHE_RETRY_SECONDS, ClientState, Command, Config, Event, PeerConf, SlotTimers, Speaker, State,
+};
 use speaker_turns::{End, SpeakerLoop};
 use std::alloc::AllocGlobal;
 use std::cmp::min;
@@ -437,6 +439,7 @@ pub(crate) fn prepared(rt: &(impl AllocGlobal + Abort)) -> Speaker {
         asn: Asn(65_000),
         identifier: 0xC000_0201,
         cache: true,
+        cache_retry: CACHE_RETRY_SECONDS,
         multiprotocol: false,
         timers: SlotTimers::USUAL,
     };

@@ -19,11 +19,11 @@ returns-clause-changes g c =
     (heard_changes c.args.now c.hear_front-starved.result _ (with_octets c.args.self.now _))
 
 pub returns-clause-agrees : goal.returns-clause-agrees
-returns-clause-agrees g c = λ h a now_is fed.
+returns-clause-agrees g c = λ retry h a now_is fed.
     let wants : Wants c.args.self.now.reading.place c.args.self.now.reading.part = subst (λ (s : Session). Wants s.reading.place s.reading.part) c.self.view_is c.self.invariant in
-    agrees_heard h _ _ _ _ _ _ c.requires.open wants (returns-clause-count g c) (returns-clause-exact g c) now_is fed a
+    agrees_heard retry h _ _ _ _ _ _ c.requires.open wants (returns-clause-count g c) (returns-clause-exact g c) now_is fed a
 
 pub returns-clause-starves : goal.returns-clause-starves
-returns-clause-starves g c = λ h a now_is refused.
+returns-clause-starves g c = λ retry h a now_is refused.
     let wants : Wants c.args.self.now.reading.place c.args.self.now.reading.part = subst (λ (s : Session). Wants s.reading.place s.reading.part) c.self.view_is c.self.invariant in
-    starves_heard h _ _ _ _ _ _ c.requires.open wants (returns-clause-count g c) (returns-clause-exact g c) now_is refused a
+    starves_heard retry h _ _ _ _ _ _ c.requires.open wants (returns-clause-count g c) (returns-clause-exact g c) now_is refused a

@@ -6,4 +6,4 @@ pub returns-clause-exact : goal.returns-clause-exact
 returns-clause-exact g c = search rules
 
 pub returns-clause-agrees : goal.returns-clause-agrees
-returns-clause-agrees g c = λ h a. rw (returns-clause-exact g c) (agrees_tick h _ _ a)
+returns-clause-agrees g c = λ retry h a. rw (returns-clause-exact g c) (agrees_tick retry h _ _ a)

@@ -10,4 +10,4 @@ pub returns-clause-holds : goal.returns-clause-holds
 returns-clause-holds g c = λ config r holds few.
     let m = cache_moved _ c.args.self.now _ c.choose_touched.new.self c.in-Some.session c.up.new.self c.self.view_is c.in-Some.is c.self.invariant refl c.up.ensures.changes c.up.ensures.kept c.choose_touched.ensures.touched c.choose_touched.ensures.keeps in
     let at : c.self.inside.moment ≡ cached.moment_of (cache_history r) = ap (λ (x : SpeakerState). x.moment) c.self.view_is ∙ holds.moment ∙ sym (cache_moment r) in
-    holds_cached config r Cache_up_call c.in-Some.session c.up.new.self c.args.self.now c.choose_touched.new.self holds few m.was m.is refl refl (λ slot. refl) (λ a. c.up.ensures.agrees (cache_history r) a at) m.payloads m.moves (omega arith)
+    holds_cached config r Cache_up_call c.in-Some.session c.up.new.self c.args.self.now c.choose_touched.new.self holds few m.was m.is refl refl (λ slot. refl) (λ a. c.up.ensures.agrees config.cache_retry (cache_history r) a at) m.payloads m.moves (omega arith)

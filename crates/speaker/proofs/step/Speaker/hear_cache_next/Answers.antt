@@ -15,10 +15,10 @@ pub returns-clause-heard : goal.returns-clause-heard
 returns-clause-heard g c = λ unstarved config r done holds.
     let m = cache_moved _ c.args.self.now _ c.choose_touched.new.self c.in-Some.session c.hear_next-heard.new.self c.self.view_is c.in-Some.is c.self.invariant refl c.hear_next-heard.ensures.changes c.hear_next-heard.ensures.kept c.choose_touched.ensures.touched c.choose_touched.ensures.keeps in
     cache_heard config r done (take c.hear_next-heard.result.count c.args.octets.now) c.in-Some.session c.hear_next-heard.new.self c.args.self.now c.choose_touched.new.self holds m.was m.is
-    (λ k a at. c.hear_next-heard.ensures.agrees k a (ap (λ (x : SpeakerState). x.moment) c.self.view_is ∙ at) unstarved) m.payloads m.moves
+    (λ k a at. c.hear_next-heard.ensures.agrees config.cache_retry k a (ap (λ (x : SpeakerState). x.moment) c.self.view_is ∙ at) unstarved) m.payloads m.moves
 
 pub returns-clause-starved : goal.returns-clause-starved
 returns-clause-starved g c = λ starved config r done holds.
     let m = cache_moved _ c.args.self.now _ c.choose_touched.new.self c.in-Some.session c.hear_next-heard.new.self c.self.view_is c.in-Some.is c.self.invariant refl c.hear_next-heard.ensures.changes c.hear_next-heard.ensures.kept c.choose_touched.ensures.touched c.choose_touched.ensures.keeps in
     cache_starves config r done c.args.octets.now c.hear_next-heard.result.count c.in-Some.session c.hear_next-heard.new.self c.args.self.now c.choose_touched.new.self holds m.was m.is (let count = c.hear_next-heard.ensures.count in omega (arith, count))
-    (λ k a at. c.hear_next-heard.ensures.starves k a (ap (λ (x : SpeakerState). x.moment) c.self.view_is ∙ at) starved) m.payloads m.moves
+    (λ k a at. c.hear_next-heard.ensures.starves config.cache_retry k a (ap (λ (x : SpeakerState). x.moment) c.self.view_is ∙ at) starved) m.payloads m.moves

@@ -74,6 +74,11 @@ returns-in_err-metrics-clause-told c =
     let needs = IsToldBy (table_view c.args.table.now) in
     in_memory needs _ (passes_on _ needs c.from_residual-in_err-metrics.result _ c.from_residual-in_err-metrics.ensures.1 c.in_err-metrics.ensures (λ none s told. none s.metrics told.metrics))
 
+pub returns-in_err-cache_retry-clause-told : goal.returns-in_err-cache_retry-clause-told
+returns-in_err-cache_retry-clause-told c =
+    let needs = IsToldBy (table_view c.args.table.now) in
+    in_memory needs _ (passes_on _ needs c.from_residual-in_err-cache_retry.result _ c.from_residual-in_err-cache_retry.ensures.1 c.in_err-cache_retry.ensures (λ none s told. none s.cache_retry told.cache_retry))
+
 pub returns-in_err-wait_for_cache-clause-told : goal.returns-in_err-wait_for_cache-clause-told
 returns-in_err-wait_for_cache-clause-told c =
     let needs = IsToldBy (table_view c.args.table.now) in
